@@ -1,0 +1,62 @@
+-- The class image `RCL1`: what a class is, and the one spelling of each.
+use Rattle.std.specs.Prelude.{◌≡◌, ℕ, ◌≤◌, List, [], ◌∷◌, ◌++◌, ◌⊎◌, length, codes}
+use Rattle.std.specs.Ordering.{nat_cmp}
+use Rattle.std.specs.List.{flat_map, AllByRecursion}
+use Rattle.std.specs.Cmp.Lexicographic.{slice_cmp}
+use Rattle.std.specs.declared.cmp.Ordering.TheVariants.{Less}
+use Rattle.byteorder.specs.Endian.{little_bytes}
+use Rattle.bpf_decode.specs.declared.insn.Insn.{Insn}
+use Rattle.bpf_decode.specs.Instruction.{AllFit, spelling, slot_total}
+
+-- a method without where it lies in memory
+pub record ClassMethod : Type 0 where
+  pub name : List ℕ
+  pub flags : ℕ
+  pub in_cap : ℕ
+  pub out_cap : ℕ
+  pub instructions : List Insn
+
+-- a letter of a method's name: a to z, 0 to 9, or _
+abbrev pub IsNameByte : ℕ → Type 0
+IsNameByte b = ((97 ≤ b) × (b ≤ 122)) ⊎ ((48 ≤ b) × (b ≤ 57)) ⊎ (b ≡ 95)
+
+-- a method within the limits
+pub record IsMethod (m : ClassMethod) : Type 0 where
+  pub named : 1 ≤ length m.name
+  pub short : length m.name ≤ 64
+  pub letters : AllByRecursion IsNameByte m.name
+  pub some_flag : 1 ≤ m.flags
+  pub known_flags : m.flags ≤ 3
+  pub in_cap : m.in_cap ≤ 4096
+  pub out_cap : m.out_cap ≤ 4096
+  pub some_slot : 1 ≤ slot_total m.instructions
+  pub slots : slot_total m.instructions ≤ 4096
+  pub fit : AllFit m.instructions
+
+-- the names strictly rise, by their bytes
+abbrev pub NamesRise : List ClassMethod → Type 0
+NamesRise [] = Unit {0}
+NamesRise (m ∷ []) = Unit {0}
+NamesRise (m ∷ n ∷ ms) = (slice_cmp nat_cmp m.name n.name ≡ Less) × NamesRise (n ∷ ms)
+
+-- a class: 1 to 32 methods within the limits, each name once and in order
+pub record IsClass (ms : List ClassMethod) : Type 0 where
+  pub some : 1 ≤ length ms
+  pub limit : length ms ≤ 32
+  pub methods : AllByRecursion IsMethod ms
+  pub names : NamesRise ms
+
+-- a method's bytes: its name behind its length, flags, in_cap, out_cap, the number of slots, and its code
+abbrev pub method_bytes : ClassMethod → List ℕ
+method_bytes m =
+    (length m.name ∷ m.name)
+    ++ (m.flags ∷ little_bytes 2 m.in_cap ++ little_bytes 2 m.out_cap ++ little_bytes 2 (slot_total m.instructions) ++ spelling m.instructions)
+
+-- a class's bytes: `RCL1`, the number of methods, a zero number, and each method
+abbrev pub image_bytes : List ClassMethod → List ℕ
+image_bytes ms = codes "RCL1" ++ little_bytes 2 (length ms) ++ (0 ∷ 0 ∷ flat_map method_bytes ms)
+
+-- The grammar of images: the bytes spell the class, and nothing else.
+pub record IsImage (bytes : List ℕ) (ms : List ClassMethod) : Type 0 where
+  pub class : IsClass ms
+  pub spelled : bytes ≡ image_bytes ms
