@@ -1,2 +1,3 @@
 pub mod Instruction
+pub mod Fields
 pub mod Class
