@@ -1,0 +1,15 @@
+//! The machine that runs methods: its definitions, flat and typed, and that what the typed machine does with
+//! instructions, the flat one does with their bytes wherever buffers lie.
+#![tactic(auto)]
+
+mod argument;
+mod caps;
+mod helper;
+mod region;
+mod value;
+
+pub use argument::{Argument, Signature};
+pub use caps::Caps;
+pub use helper::signature;
+pub use region::Region;
+pub use value::Value;
