@@ -1,0 +1,17 @@
+//! Calls of verified methods: `call` gives the machine's outcome, and the table of loaded classes.
+#![tactic(auto)]
+
+mod calls;
+mod change;
+mod class_table;
+mod object;
+mod object_name;
+mod outcome;
+
+pub use bpf_machine::{Region, Value};
+pub use calls::{CallError, call};
+pub use change::Change;
+pub use class_table::{ClassTable, TableError};
+pub use object::Object;
+pub use object_name::{ObjectName, StoreError};
+pub use outcome::Outcome;

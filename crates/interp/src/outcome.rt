@@ -1,0 +1,14 @@
+use crate::change::Change;
+
+/// What a call answers.
+#[derive(Drop)]
+pub struct Outcome {
+    /// The method's code; a negative one is an error, which changed nothing.
+    pub code: i64,
+    /// The output, at most out_cap bytes.
+    pub output: Vec<u8>,
+    /// What the object was and is.
+    pub change: Change,
+    /// The instructions executed, `exit` included.
+    pub steps: usize,
+}
