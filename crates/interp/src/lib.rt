@@ -4,9 +4,13 @@
 mod calls;
 mod change;
 mod class_table;
+mod helpers;
+mod memory;
 mod object;
 mod object_name;
 mod outcome;
+mod run;
+mod step;
 
 pub use bpf_machine::{Region, Value};
 pub use calls::{CallError, call};

@@ -1,5 +1,7 @@
-ghost use Rattle.std.specs.Prelude.{◌≡◌, ◌≤◌, IfOk, IfSome, IsSome, ◌↔◌, length};
+ghost use Rattle.std.specs.Prelude.{◌≡◌, ◌+◌, ◌-◌, ◌++◌, ◌≤◌, [], IfOk, IfSome, IsSome, OnErr, ◌↔◌, length, replicate};
+ghost use Rattle.bpf_machine.specs.Object.{spliced};
 
+use crate::memory::overwrite;
 use std::alloc::{AllocError, Global};
 use std::marker::Model;
 
@@ -51,4 +53,38 @@ impl Object {
             content: Vec::from_slice(alloc, &self.content)?,
         })
     }
+
+    /// An object without data. It takes no memory.
+    pub(crate) fn empty(alloc: Global) -> Object
+        ensures { result ≡ [] }
+    {
+        Object {
+            content: Vec::new(alloc),
+        }
+    }
+
+    /// Writes bytes at a place. Zeros fill a gap, and no bytes leave the data as it is.
+    pub(crate) fn write(&mut self, at: usize, text: &[u8]) -> Result<(), AllocError>
+        requires { at + length text.now ≤ 65536 }
+        ensures written { IfOk result (λ _. self.new ≡ spliced self.old at text.now) }
+        ensures refused { OnErr result (self.new ≡ self.old) }
+    {
+        if text.is_empty() {
+            return Ok(());
+        }
+        lengthen(&mut self.content, at + text.len())?;
+        overwrite(&mut self.content, at, text);
+        Ok(())
+    }
+}
+
+/// Adds zeros up to a length, where the bytes are fewer.
+fn lengthen(bytes: &mut Vec<u8>, len: usize) -> Result<(), AllocError>
+    ensures lengthened { IfOk result (λ _. bytes.new.items ≡ bytes.old.items ++ replicate (len - length bytes.old.items) 0) }
+    ensures refused { OnErr result (bytes.new.items ≡ bytes.old.items) }
+{
+    if len > bytes.len() {
+        bytes.resize(len, 0)?;
+    }
+    Ok(())
 }
