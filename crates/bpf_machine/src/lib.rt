@@ -5,11 +5,13 @@
 mod argument;
 mod caps;
 mod helper;
+mod laws;
 mod region;
 mod value;
 
 pub use argument::{Argument, Signature};
 pub use caps::Caps;
 pub use helper::signature;
+pub use laws::{chains, decoded, layouts, outcomes, simulation};
 pub use region::Region;
 pub use value::Value;
