@@ -9,3 +9,4 @@ pub mod Rows
 pub mod Fetch
 pub mod Counting
 pub mod Runs
+pub mod Going
