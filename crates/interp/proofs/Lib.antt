@@ -5,3 +5,5 @@ pub mod Access
 pub mod Splice
 pub mod Steps
 pub mod Effects
+pub mod Ops
+pub mod Runs

@@ -4,6 +4,7 @@
 mod calls;
 mod change;
 mod class_table;
+mod execute;
 mod helpers;
 mod memory;
 mod object;
