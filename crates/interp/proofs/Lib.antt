@@ -7,3 +7,4 @@ pub mod Steps
 pub mod Effects
 pub mod Ops
 pub mod Runs
+pub mod Answered

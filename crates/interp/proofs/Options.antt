@@ -1,6 +1,6 @@
 -- Values that may be missing, one after another.
 use Rattle.std.proofs.Common.{◌≡◌, ℕ, Option, Some, None, Bool, true, false, refl, ap, ◌∙◌, sym, subst}
-use Rattle.std.specs.Prelude.{if◌then◌else◌}
+use Rattle.std.specs.Prelude.{if◌then◌else◌, Result, Ok, Err, IfOk}
 use Rattle.bpf_machine.specs.State.{◌>>=◌, only}
 use Rattle.interp.specs.Run.{Gives, Exists}
 
@@ -32,3 +32,8 @@ gives_at None P x g h = cc
 gives_at (Some y) P x g h =
     let e : y ≡ x = cc in
     subst P e g
+
+-- what three facts of an `Ok` give
+pub ok_then : {T E : Type 0} (r : Result T E) (P Q R S : T → Type 0) → IfOk r P → IfOk r Q → IfOk r R → ((x : T) → P x → Q x → R x → S x) → IfOk r S
+ok_then (Ok x) P Q R S p q r h = h x p q r
+ok_then (Err e) P Q R S p q r h = tt
