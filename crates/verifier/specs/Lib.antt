@@ -1,2 +1,9 @@
 pub mod Op
 pub mod Verified
+pub mod Known
+pub mod Kind
+pub mod Frame
+pub mod Rules
+pub mod Verdict
+pub mod Pass
+pub mod RuleNumber
