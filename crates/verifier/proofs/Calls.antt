@@ -173,7 +173,6 @@ first_is_text : (texts : List (List ℕ)) → AreTexts texts → AreBytes (first
 first_is_text [] h = (tt, omega arith)
 first_is_text (t ∷ ts) h = h.0
 
-
 effect_left : (id : ℕ) (object : Object) (out_len : ℕ) (g : Given) → g.room < 2 ^ 64 → AreTexts g.texts → ObjectIsBytes object → Left (effect id object out_len g)
 effect_left id object out_len g room texts o =
     let t = first_is_text g.texts texts in

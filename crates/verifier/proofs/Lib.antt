@@ -8,3 +8,4 @@ pub mod Acts
 pub mod Flows
 pub mod Verdicts
 pub mod Runs
+pub mod Accepts

@@ -7,3 +7,4 @@ pub mod Rules
 pub mod Verdict
 pub mod Pass
 pub mod RuleNumber
+pub mod BySlot

@@ -102,6 +102,10 @@ abbrev pub verdict_from : ℕ → List ClassMethod → Option Refusal
 verdict_from k [] = None
 verdict_from k (m ∷ ms) = or_later k (method_verdict m) (verdict_from (k + 1) ms)
 
+-- the refusal of a method by its number in the class
+abbrev pub IsFirst : ℕ → ClassMethod → Refusal → Type 0
+IsFirst number m r = (r.method ≡ number) × (method_verdict m ≡ Some (r.slot, r.rule))
+
 -- The verdict: the first method with a refusal, its lowest refused slot, and at it the lowest rule.
 abbrev pub class_verdict : List ClassMethod → Option Refusal
 class_verdict ms = verdict_from 0 ms
