@@ -3,12 +3,19 @@
 
 mod access;
 mod class_image;
+mod code;
+mod decode_error;
+mod form;
+mod image_error;
 mod insn;
 mod method;
 mod register;
+mod slot;
 
 pub use access::Width;
 pub use class_image::ClassImage;
+pub use decode_error::DecodeError;
+pub use image_error::ImageError;
 pub use insn::{Insn, Operand, width};
 pub use method::Method;
 pub use register::Register;
