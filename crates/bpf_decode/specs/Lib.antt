@@ -4,3 +4,4 @@ pub mod Refusal
 pub mod Table
 pub mod Reading
 pub mod Class
+pub mod ImageReading

@@ -1,5 +1,5 @@
 -- Reading code from left to right, with the first refusal that is met.
-use Rattle.std.specs.Prelude.{◌≡◌, ℕ, zero, suc, ◌+◌, ◌*◌, ◌/◌, ◌%◌, ◌==◌, ◌&&◌, ◌⊎◌, nat_le, Bool, List, [], ◌∷◌, length, drop, Result, Ok, Err, if◌then◌else◌}
+use Rattle.std.specs.Prelude.{◌≡◌, ℕ, zero, suc, ◌+◌, ◌*◌, ◌/◌, ◌%◌, ◌==◌, ◌&&◌, ◌⊎◌, nat_le, Bool, List, [], ◌∷◌, ◌++◌, length, drop, Result, Ok, Err, if◌then◌else◌}
 use Rattle.std.specs.Option.{ok_or}
 use Rattle.bpf_decode.specs.declared.decode_error.DecodeError.{DecodeError}
 use Rattle.bpf_decode.specs.declared.decode_error.DecodeError.TheVariants as errors
@@ -40,6 +40,10 @@ insn_at slot bytes = do
   h ← checked (fields_allowed row f) (errors.NonzeroField slot) f
   high ← ok_or (high_half row (drop 8 bytes)) (errors.WideHalf slot)
   Ok (instruction row f high)
+
+-- the slots of an instruction that is read
+abbrev pub width_of : Result Insn DecodeError → Result ℕ DecodeError
+width_of read = read >>= λ i. Ok (slot_count i)
 
 -- at most n instructions, from that slot on
 unfoldable pub insns_at : ℕ → ℕ → List ℕ → Result (List Insn) DecodeError

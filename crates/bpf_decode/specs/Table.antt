@@ -54,9 +54,13 @@ fields_allowed Exit f = (f.dst == 0) && (f.src == 0) && (f.offset == 0) && (f.im
 fields_allowed MovImmediate f = (f.src == 0) && (f.offset == 0)
 fields_allowed MovRegister f = (f.offset == 0) && (f.imm == 0)
 
--- the high half of a wide load, from the bytes behind its first slot (section 5.4); every other row has 0
+-- the high half that a wide load's second slot has (section 5.4): all else in it is zero
+abbrev pub second_half : Fields → Option ℕ
+second_half f = if (f.opcode == 0) && (f.dst == 0) && (f.src == 0) && (f.offset == 0) then Some f.imm else None
+
+-- the high half of a row's number, from the bytes behind its first slot
 abbrev pub high_half : Form → List ℕ → Option ℕ
-high_half Wide bytes = option_and_then (λ f. if (f.opcode == 0) && (f.dst == 0) && (f.src == 0) && (f.offset == 0) then Some f.imm else None) (fields_of bytes)
+high_half Wide bytes = option_and_then second_half (fields_of bytes)
 high_half row bytes = Some 0
 
 -- the instruction of a row

@@ -23,6 +23,14 @@ impl Model for ClassImage {
 impl ClassImage {
     ghost use Rattle.bpf_decode.specs.Class.{IsClass};
 
+    /// A class of methods that are one.
+    pub(crate) fn of(methods: Vec<Method>) -> ClassImage
+        requires { IsClass methods.items }
+        ensures { result ≡ methods.items }
+    {
+        ClassImage { methods }
+    }
+
     /// Its methods, by rising names.
     pub fn methods(&self) -> &[Method]
         ensures methods { result.now ≡ self.now }

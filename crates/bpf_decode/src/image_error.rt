@@ -1,3 +1,5 @@
+ghost use Rattle.std.specs.Prelude.{◌≡◌};
+
 use crate::decode_error::DecodeError;
 use thiserror::Error;
 
@@ -8,6 +10,14 @@ use thiserror::Error;
 pub struct ImageError {
     pub methods: usize,
     pub error: DecodeError,
+}
+
+impl ImageError {
+    pub fn after(methods: usize, error: DecodeError) -> ImageError
+        ensures { result ≡ record { methods = methods; error = error } }
+    {
+        ImageError { methods, error }
+    }
 }
 
 /// Prints `, slot 3`, or nothing.

@@ -6,14 +6,17 @@ mod class_image;
 mod code;
 mod decode_error;
 mod form;
+mod image;
 mod image_error;
 mod insn;
+mod limits;
 mod method;
 mod register;
 mod slot;
 
 pub use access::Width;
 pub use class_image::ClassImage;
+pub use code::{check, decode, encode};
 pub use decode_error::DecodeError;
 pub use image_error::ImageError;
 pub use insn::{Insn, Operand, width};

@@ -1,0 +1,4 @@
+pub mod Bytes
+pub mod Insns
+pub mod Loop
+pub mod Laws
