@@ -1,7 +1,7 @@
 //! Code as bytes: reading, and the one spelling.
 
-ghost use Rattle.std.specs.Prelude.{◌≡◌, ◌≤◌, ◌<◌, ◌++◌, List, length, IfOk, IfErr, OnOk};
-ghost use Rattle.bpf_decode.specs.Instruction.{IsCode, AllFit, Fits, slot, bytes_of, spelling};
+ghost use Rattle.std.specs.Prelude.{◌≡◌, ◌≤◌, ◌<◌, ◌++◌, List, length, IfOk, IfErr, OnOk, true};
+ghost use Rattle.bpf_decode.specs.Instruction.{IsCode, AllFit, Fits, OperandFits, slot, bytes_of, spelling, slot_total};
 ghost use Rattle.bpf_decode.specs.Table.{opcode};
 ghost use Rattle.bpf_decode.specs.Reading.{Gives, width_of, insn_at, code_of, count_of};
 ghost use Rattle.bpf_decode.specs.declared.insn.Insn.{Insn};
@@ -221,6 +221,57 @@ fn put_wide(out: &mut Vec<u8>, dst: Register, value: u64) -> Result<(), AllocErr
         imm: high,
     }
     .put(out)
+}
+
+/// Whether its numbers are within their fields: they are, by their types.
+fn fits(insn: &Insn) -> bool
+    ensures always { result ≡ true }
+    ensures fit { Fits insn.now }
+{
+    match *insn {
+        Insn::Add { dst, imm } => dst.number() <= 10 && operand_fits(Operand::Immediate(imm)),
+        Insn::Mov { dst, source } => dst.number() <= 10 && operand_fits(source),
+        Insn::LoadWide { dst, value } => dst.number() <= 10 && value <= u64::MAX,
+        Insn::Load {
+            width: _,
+            dst,
+            base,
+            offset,
+        } => dst.number() <= 10 && base.number() <= 10 && offset <= i16::MAX,
+        Insn::Store {
+            width: _,
+            base,
+            offset,
+            source,
+        } => base.number() <= 10 && offset <= i16::MAX && operand_fits(source),
+        Insn::Jump { offset } => offset <= i16::MAX,
+        Insn::Call { helper } => helper <= u32::MAX,
+        Insn::CallLocal { distance } => operand_fits(Operand::Immediate(distance)),
+        Insn::Exit => true,
+    }
+}
+
+fn operand_fits(operand: Operand) -> bool
+    ensures always { result ≡ true }
+    ensures fit { OperandFits operand }
+{
+    match operand {
+        Operand::Immediate(_) => true,
+        Operand::Register(src) => src.number() <= 10,
+    }
+}
+
+/// How many slots the instructions take.
+pub fn slots(insns: &[Insn]) -> usize
+    ensures total { result ≡ slot_total insns.now }
+    ensures fit { AllFit insns.now }
+{
+    let mut total = 0;
+    for insn in insns {
+        prove!(fits(insn));
+        total += width(insn);
+    }
+    total
 }
 
 /// Writes code at the end.

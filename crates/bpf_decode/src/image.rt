@@ -1,13 +1,14 @@
 //! Class images as bytes: reading, and the one spelling.
 
 ghost use Rattle.std.specs.Prelude.{◌≡◌, ◌≤◌, ◌++◌, List, [], length, take, string_bytes, IsTrue, IfOk, IfErr, OnOk};
-ghost use Rattle.bpf_decode.specs.Class.{ClassMethod, IsClass, IsImage, method_bytes, image_bytes};
+ghost use Rattle.bpf_decode.specs.Class.{ClassMethod, IsMethod, IsImage, method_bytes};
+ghost use Rattle.byteorder.specs.Endian.{little_bytes};
 ghost use Rattle.bpf_decode.specs.Reading.{Reads, Gives};
 ghost use Rattle.bpf_decode.specs.ImageReading.{GivesImage, are_name_bytes, byte_at, number_at, bytes_at, name_at, flags_at, capacity_at, code_at, method_at, methods_at, header_at, image_of};
 ghost use Rattle.bpf_decode.specs.declared.decode_error.DecodeError.TheVariants.{NoMemory};
 
 use crate::class_image::ClassImage;
-use crate::code::{decode, put_code};
+use crate::code::{decode, put_code, slots};
 use crate::decode_error::DecodeError;
 use crate::image_error::ImageError;
 use crate::insn::{Insn, Operand};
@@ -45,7 +46,8 @@ fn bytes_at(count: usize, bytes: &[u8]) -> Result<(&[u8], &[u8]), DecodeError>
 
 #[tactic(auto, unfolding(crate::specs::ImageReading::name_at))]
 fn name_at<'a>(before: &[u8], bytes: &'a [u8]) -> Result<(&'a [u8], &'a [u8]), DecodeError>
-    ensures { Reads (λ x. (x.0.now, x.1.now)) result (name_at before.now bytes.now) }
+    ensures read { Reads (λ x. (x.0.now, x.1.now)) result (name_at before.now bytes.now) }
+    ensures letters { IfOk result (λ x. IsTrue (are_name_bytes x.0.now)) }
 {
     let (length, rest) = byte_at(bytes)?;
     if !limits::is_name_length(length as usize) {
@@ -187,6 +189,15 @@ fn read(alloc: Global, bytes: &[u8]) -> Result<Vec<Method>, ImageError>
     }
 }
 
+fn class(alloc: Global, bytes: &[u8]) -> Result<ClassImage, ImageError>
+    ensures { GivesImage (λ c. c) result (image_of bytes.now) }
+{
+    match read(alloc, bytes) {
+        Ok(methods) => Ok(ClassImage::of(methods)),
+        Err(error) => Err(error),
+    }
+}
+
 /// The class that the bytes are. Each field is read whole and tested before the next.
 ///
 /// Refusals, the first in reading order, with the number of methods that were read whole before: see `DecodeError`.
@@ -198,6 +209,44 @@ pub fn read_image(alloc: Global, bytes: &[u8]) -> Result<ClassImage, ImageError>
     // A class's spelling is read, unless memory runs out.
     ensures only { (ms : List ClassMethod) → IsImage bytes.now ms → GivesImage (λ c. c) result (Ok ms) }
 {
-    let methods = read(alloc, bytes)?;
-    Ok(ClassImage::of(methods))
+    class(alloc, bytes)
+}
+
+fn put_number(out: &mut Vec<u8>, number: u16) -> Result<(), AllocError>
+    ensures { OnOk result (out.new.items ≡ out.old.items ++ little_bytes 2 number) }
+{
+    let mut bytes = [0; 2];
+    LittleEndian::write_u16(&mut bytes, number);
+    out.extend_from_slice(&bytes)
+}
+
+fn put_method(out: &mut Vec<u8>, method: &Method) -> Result<(), AllocError>
+    requires { IsMethod method.now }
+    ensures { OnOk result (out.new.items ≡ out.old.items ++ method_bytes method.now) }
+{
+    let name = method.name().as_bytes();
+    let instructions = method.instructions();
+    out.push(name.len() as u8)?;
+    out.extend_from_slice(name)?;
+    out.push(method.flags())?;
+    put_number(out, method.in_cap())?;
+    put_number(out, method.out_cap())?;
+    put_number(out, slots(instructions) as u16)?;
+    put_code(out, instructions)
+}
+
+/// The one spelling of the class. Only memory may run out.
+pub fn write_image(alloc: Global, image: &ClassImage) -> Result<Vec<u8>, DecodeError>
+    ensures image { IfOk result (λ v. IsImage v.items image.now) }
+    ensures refused { IfErr result (λ e. e ≡ NoMemory) }
+{
+    let methods = image.methods();
+    let mut out = Vec::new(alloc);
+    out.extend_from_slice(b"RCL1")?;
+    put_number(&mut out, methods.len() as u16)?;
+    put_number(&mut out, 0)?;
+    for method in methods {
+        put_method(&mut out, method)?;
+    }
+    Ok(out)
 }

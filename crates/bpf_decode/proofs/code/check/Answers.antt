@@ -1,5 +1,5 @@
 use Rattle.std.proofs.Common.{◌∙◌, arith}
-use Rattle.bpf_decode.proofs.Laws.{count_found, count_only}
+use Rattle.bpf_decode.proofs.CodeLaws.{count_found, count_only}
 use Rattle.bpf_decode.proofs.code.check.Goals as goal
 
 pub returns-clause-found : goal.returns-clause-found

@@ -1,5 +1,5 @@
 use Rattle.std.proofs.Common.{arith}
-use Rattle.bpf_decode.proofs.Laws.{read_found, read_only}
+use Rattle.bpf_decode.proofs.CodeLaws.{read_found, read_only}
 use Rattle.bpf_decode.proofs.code.decode.Goals as goal
 
 pub returns-clause-found : goal.returns-clause-found

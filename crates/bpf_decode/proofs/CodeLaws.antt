@@ -7,6 +7,7 @@ use Rattle.std.proofs.lemmas.List.{append-nil, nil_from_length, drop_at, take_mo
 use Rattle.bpf_decode.specs.declared.decode_error.DecodeError.{DecodeError}
 use Rattle.bpf_decode.specs.declared.decode_error.DecodeError.TheVariants as errors
 use Rattle.bpf_decode.specs.declared.insn.Insn.{Insn}
+use Rattle.bpf_decode.specs.declared.insn.Insn.TheVariants as insns
 use Rattle.bpf_decode.specs.Instruction.{Fits, AllFit, bytes_of, spelling, slot_count, slot_total, IsCode}
 use Rattle.bpf_decode.specs.Reading.{◌>>=◌, Gives, checked, insn_at, insns_at, code_of, count_of}
 use Rattle.bpf_decode.proofs.Bytes.{IsBytes, IsBytes-drop, bind_ok, checked_ok}
@@ -43,10 +44,10 @@ code_again is fit =
 
 -- ---- what is read is spelled
 
-abbrev read_code : List Insn → Result (List Insn) DecodeError
+abbrev pub read_code : List Insn → Result (List Insn) DecodeError
 read_code is = Ok is
 
-ok_code : (is js : List Insn) → read_code is ≡ read_code js → is ≡ js
+pub ok_code : (is js : List Insn) → read_code is ≡ read_code js → is ≡ js
 ok_code is js e = cc
 
 -- the instruction at the front, with those behind it
@@ -95,7 +96,7 @@ pub read_found : (bytes : List ℕ) (r : Result (Vec Insn) DecodeError) → IsBy
 read_found bytes (Ok v) fits given = code_takes bytes v.items fits given
 read_found bytes (Err e) fits given = tt
 
-code_is : (bytes : List ℕ) (is : List Insn) → IsCode bytes is → code_of bytes ≡ Ok is
+pub code_is : (bytes : List ℕ) (is : List Insn) → IsCode bytes is → code_of bytes ≡ Ok is
 code_is bytes is code = ap code_of code.spelled ∙ code_again is code.fit
 
 pub read_only : (bytes : List ℕ) (is : List Insn) (r : Result (Vec Insn) DecodeError) → IsCode bytes is → Gives (λ v. v.items) r (code_of bytes) → Gives (λ v. v.items) r (Ok is)
@@ -120,3 +121,18 @@ spelling-push (j ∷ is) i = ap (λ (x : List ℕ). bytes_of j ++ x) (spelling-p
 pub AllFit-push : (is : List Insn) (i : Insn) → AllFit is → Fits i → AllFit (is ++ i ∷ [])
 AllFit-push [] i fit one = (one, tt)
 AllFit-push (j ∷ is) i fit one = (fit.0, AllFit-push is i fit.1 one)
+
+pub slot_total-push : (is : List Insn) (i : Insn) → slot_total (is ++ i ∷ []) ≡ slot_total is + slot_count i
+slot_total-push [] i = omega arith
+slot_total-push (j ∷ is) i = omega (arith, slot_total-push is i)
+
+pub few_slots : (i : Insn) → slot_count i ≤ 2
+few_slots (insns.Add dst imm) = omega arith
+few_slots (insns.Mov dst source) = omega arith
+few_slots (insns.LoadWide dst value) = omega arith
+few_slots (insns.Load width dst base offset) = omega arith
+few_slots (insns.Store width base offset source) = omega arith
+few_slots (insns.Jump offset) = omega arith
+few_slots (insns.Call helper) = omega arith
+few_slots (insns.CallLocal distance) = omega arith
+few_slots insns.Exit = omega arith
