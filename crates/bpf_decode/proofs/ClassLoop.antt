@@ -64,8 +64,8 @@ goes_on ms done before m lt is h fit p =
     let behind = drop (done + 1) ms in
     let more : take (done + 1) ms ≡ front ++ m ∷ [] = take_more ms done m lt ∙ ap (λ (x : ClassMethod). front ++ x ∷ []) (sym is) in
     let one : with_front front (methods_after done before (drop done ms)) ≡ with_front (take (done + 1) ms) (methods_after (done + 1) m.name behind) =
-        ap (λ (xs : List ClassMethod). with_front front (methods_after done before xs)) (here ms done m lt is) ∙ ap (with_front front) (one_more done before m behind (Ok m) h)
-        ∙ regroup front m (methods_after (done + 1) m.name behind) ∙ ap (λ (xs : List ClassMethod). with_front xs (methods_after (done + 1) m.name behind)) (sym more) in
+    ap (λ (xs : List ClassMethod). with_front front (methods_after done before xs)) (here ms done m lt is) ∙ ap (with_front front) (one_more done before m behind (Ok m) h)
+    ∙ regroup front m (methods_after (done + 1) m.name behind) ∙ ap (λ (xs : List ClassMethod). with_front xs (methods_after (done + 1) m.name behind)) (sym more) in
     record { so_far = sym one ∙ p.so_far; fit = subst (λ (xs : List ClassMethod). AllCodeFits xs) (sym more) (code_fits-push front m p.fit fit) }
 
 abbrev by_count : List ClassMethod → Bool → Tested
@@ -118,8 +118,15 @@ method_passes before m x fit e =
 
 method_again : (before : List ℕ) (m : ClassMethod) → IsMethod m → above before m.name → method_after before m ≡ Ok m
 method_again before m h rises =
-    rw (between-is 1 64 (length m.name) h.named h.short, letters_again m.name h.letters, above_again before m.name rises, between-is 1 3 m.flags h.some_flag h.known_flags,
-        between-is 0 4096 m.in_cap (omega arith) h.in_cap, between-is 0 4096 m.out_cap (omega arith) h.out_cap, between-is 1 4096 (slot_total m.instructions) h.some_slot h.slots) refl
+    rw (
+      between-is 1 64 (length m.name) h.named h.short,
+      letters_again m.name h.letters,
+      above_again before m.name rises,
+      between-is 1 3 m.flags h.some_flag h.known_flags,
+      between-is 0 4096 m.in_cap (omega arith) h.in_cap,
+      between-is 0 4096 m.out_cap (omega arith) h.out_cap,
+      between-is 1 4096 (slot_total m.instructions) h.some_slot h.slots,
+    ) refl
 
 methods_pass : (done : ℕ) (before : List ℕ) (ms xs : List ClassMethod) → AllCodeFits ms → methods_after done before ms ≡ Ok xs → AllByRecursion IsMethod ms × RisesFrom before ms
 unfolding methods_after

@@ -48,17 +48,17 @@ method_takes before bytes m rest fits e =
     let e14 = Takes-then a.0.1 (b.0.0 ∷ []) b.0.1 (little_bytes 2 c.0.0 ++ (little_bytes 2 d.0.0 ++ code_field f.0.0)) f.0.1 t1.0 e24 in
     let whole : Takes bytes (method_bytes (made a.0.0 b.0.0 c.0.0 d.0.0 f.0.0)) f.0.1 = Takes-then bytes (length a.0.0 ∷ a.0.0) a.0.1 ((b.0.0 ∷ []) ++ (little_bytes 2 c.0.0 ++ (little_bytes 2 d.0.0 ++ code_field f.0.0))) f.0.1 t0.0 e14 in
     let known : IsMethod (made a.0.0 b.0.0 c.0.0 d.0.0 f.0.0) = record {
-        named = t0.1.named;
-        short = t0.1.short;
-        letters = t0.1.letters;
-        some_flag = t1.1;
-        known_flags = t1.2;
-        in_cap = t2.1;
-        out_cap = t3.1;
-        some_slot = t4.1.some;
-        slots = t4.1.few;
-        fit = t4.1.fit;
-      } in
+      named = t0.1.named;
+      short = t0.1.short;
+      letters = t0.1.letters;
+      some_flag = t1.1;
+      known_flags = t1.2;
+      in_cap = t2.1;
+      out_cap = t3.1;
+      some_slot = t4.1.some;
+      slots = t4.1.few;
+      fit = t4.1.fit;
+    } in
     subst (λ (x : ClassMethod). Takes bytes (method_bytes x) rest × IsMethod x × above before x.name) last.0 (subst (λ (r : List ℕ). Takes bytes (method_bytes (made a.0.0 b.0.0 c.0.0 d.0.0 f.0.0)) r) last.1 whole, known, t0.1.above)
 
 -- the fields behind a method's name
@@ -126,7 +126,7 @@ methods_take (suc n) k before bytes x fits e =
     let both = Takes-then bytes (method_bytes m) a.0.1 (flat_map method_bytes b.0.0) b.0.1 first.0 second.0 in
     let built : List ClassMethod × List ℕ = (m ∷ b.0.0, b.0.1) in
     subst (λ (y : List ClassMethod × List ℕ). Takes bytes (flat_map method_bytes y.0) y.1 × (length y.0 ≡ suc n) × AllByRecursion IsMethod y.0 × RisesFrom before y.0) (ok_is built x b.2)
-      (rw flat_map-cons both, ap suc second.1, (first.1, second.2), (first.2, second.3))
+    (rw flat_map-cons both, ap suc second.1, (first.1, second.2), (first.2, second.3))
 
 pub methods_again : (k : ℕ) (before : List ℕ) (ms : List ClassMethod) (rest : List ℕ) → AllByRecursion IsMethod ms → RisesFrom before ms → methods_at (length ms) k before (flat_map method_bytes ms ++ rest) ≡ Ok (ms, rest)
 unfolding methods_at
@@ -186,8 +186,8 @@ image_takes bytes ms fits e =
     let all = flat_map method_bytes b.0.0 in
     let both = (Takes-then bytes (codes "RCL1" ++ (little_bytes 2 n ++ (0 ∷ 0 ∷ []))) a.0.1 all b.0.1 t.0 u.0).parts in
     let whole : bytes ≡ image_bytes b.0.0 =
-        both ∙ ap (λ (r : List ℕ). (codes "RCL1" ++ (little_bytes 2 n ++ (0 ∷ 0 ∷ []))) ++ all ++ r) nothing ∙ append-nil (codes "RCL1" ++ (little_bytes 2 n ++ (0 ∷ 0 ∷ all)))
-        ∙ ap (λ (k : ℕ). codes "RCL1" ++ (little_bytes 2 k ++ (0 ∷ 0 ∷ all))) (sym u.1) in
+    both ∙ ap (λ (r : List ℕ). (codes "RCL1" ++ (little_bytes 2 n ++ (0 ∷ 0 ∷ []))) ++ all ++ r) nothing ∙ append-nil (codes "RCL1" ++ (little_bytes 2 n ++ (0 ∷ 0 ∷ all)))
+    ∙ ap (λ (k : ℕ). codes "RCL1" ++ (little_bytes 2 k ++ (0 ∷ 0 ∷ all))) (sym u.1) in
     let class : IsClass b.0.0 = record { some = omega (arith, t.1, u.1); limit = omega (arith, t.2, u.1); methods = u.2; names = rises_on [] b.0.0 u.3 } in
     subst (λ (x : List ClassMethod). IsImage bytes x) last.1 (record { class = class; spelled = whole })
 

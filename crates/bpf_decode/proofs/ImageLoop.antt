@@ -47,7 +47,7 @@ goes_on count bytes front done before rest m behind lt h p =
     let n = count - (done + 1) in
     let more : count - done ≡ suc n = omega arith in
     let one : with_front front (methods_at (count - done) done before rest) ≡ with_front (front ++ m ∷ []) (methods_at n (done + 1) m.name behind) =
-        ap (λ (k : ℕ). with_front front (methods_at k done before rest)) more ∙ ap (with_front front) (one_more n done before rest (Ok (m, behind)) h) ∙ regroup front m (methods_at n (done + 1) m.name behind) in
+    ap (λ (k : ℕ). with_front front (methods_at k done before rest)) more ∙ ap (with_front front) (one_more n done before rest (Ok (m, behind)) h) ∙ regroup front m (methods_at n (done + 1) m.name behind) in
     record { so_far = sym one ∙ p.so_far }
 
 pub ends : (count : ℕ) (bytes : List ℕ) (front : List ClassMethod) (done : ℕ) (before rest : List ℕ) (e : DecodeError) → done < count → method_at before rest ≡ Err e

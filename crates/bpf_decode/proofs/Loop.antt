@@ -49,11 +49,11 @@ goes_on bytes front slot i fits lt h p =
     let one = some_slot i in
     let more : length bytes / 8 - length front ≡ suc n = omega (arith, length_push front i, p.few) in
     let e1 : insns_at (suc n) slot here ≡ (insns_at n (slot + slot_count i) (drop (8 * slot_count i) here) >>= λ is. Ok (i ∷ is)) =
-        some_more n slot here (left_over bytes slot lt) ∙ ap (λ (r : Result Insn DecodeError). r >>= λ j. insns_at n (slot + slot_count j) (drop (8 * slot_count j) here) >>= λ is. Ok (j ∷ is)) h in
+    some_more n slot here (left_over bytes slot lt) ∙ ap (λ (r : Result Insn DecodeError). r >>= λ j. insns_at n (slot + slot_count j) (drop (8 * slot_count j) here) >>= λ is. Ok (j ∷ is)) h in
     let place : drop (8 * slot_count i) here ≡ drop (8 * (slot + slot_count i)) bytes = drop-drop (8 * slot_count i) (8 * slot) bytes ∙ ap (λ (k : ℕ). drop k bytes) (omega arith) in
     let e2 : with_front front (insns_at (length bytes / 8 - length front) slot here) ≡ with_front (front ++ i ∷ []) (insns_at n (slot + slot_count i) (drop (8 * (slot + slot_count i)) bytes)) =
-        ap (λ (k : ℕ). with_front front (insns_at k slot here)) more ∙ ap (with_front front) e1 ∙ regroup front i (insns_at n (slot + slot_count i) (drop (8 * slot_count i) here))
-        ∙ ap (λ (xs : List ℕ). with_front (front ++ i ∷ []) (insns_at n (slot + slot_count i) xs)) place in
+    ap (λ (k : ℕ). with_front front (insns_at k slot here)) more ∙ ap (with_front front) e1 ∙ regroup front i (insns_at n (slot + slot_count i) (drop (8 * slot_count i) here))
+    ∙ ap (λ (xs : List ℕ). with_front (front ++ i ∷ []) (insns_at n (slot + slot_count i) xs)) place in
     record {
       within = omega (arith, length-drop (8 * slot) bytes, p.within);
       few = omega (arith, length_push front i, p.few);
@@ -88,7 +88,7 @@ pub is_done : (bytes : List ℕ) (front : List Insn) (slot : ℕ) → length byt
 is_done bytes front slot whole le p =
     let nothing : drop (8 * slot) bytes ≡ [] = nil_from_length (drop (8 * slot) bytes) (omega (arith, length-drop (8 * slot) bytes)) in
     let e : with_front front (insns_at (length bytes / 8 - length front) slot (drop (8 * slot) bytes)) ≡ Ok front =
-        ap (λ (xs : List ℕ). with_front front (insns_at (length bytes / 8 - length front) slot xs)) nothing ∙ ap (with_front front) (none_left (length bytes / 8 - length front) slot) ∙ ap (λ (xs : List Insn). Ok xs) (append-nil front) in
+    ap (λ (xs : List ℕ). with_front front (insns_at (length bytes / 8 - length front) slot xs)) nothing ∙ ap (with_front front) (none_left (length bytes / 8 - length front) slot) ∙ ap (λ (xs : List Insn). Ok xs) (append-nil front) in
     whole_code bytes whole ∙ sym p.rest ∙ e
 
 -- ---- counting

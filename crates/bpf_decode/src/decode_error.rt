@@ -1,5 +1,5 @@
 ghost use Rattle.std.specs.Prelude.{◌≡◌};
-ghost use Rattle.bpf_decode.specs.Refusal.{number_of, slot_of};
+ghost use Rattle.bpf_decode.specs.Refusal.{number_of, name_of, slot_of};
 ghost use Rattle.bpf_decode.specs.declared.decode_error.DecodeError.TheVariants.{NoMemory};
 
 use std::alloc::{AllocError, AllocFailed};
@@ -38,7 +38,8 @@ pub enum DecodeError {
 impl DecodeError {
     /// The table of refusals: number and name.
     fn row(self) -> (u8, &'static str)
-        ensures { result.0 ≡ number_of self }
+        ensures number { result.0 ≡ number_of self }
+        ensures name { result.1.now ≡ name_of self }
     {
         match self {
             DecodeError::Truncated => (1, "Truncated"),
@@ -64,7 +65,9 @@ impl DecodeError {
     }
 
     /// Its name.
-    pub fn name(self) -> &'static str {
+    pub fn name(self) -> &'static str
+        ensures { result.now ≡ name_of self }
+    {
         self.row().1
     }
 

@@ -149,11 +149,7 @@ fn header_at(bytes: &[u8]) -> Result<(u16, &[u8]), DecodeError>
     Ok((count, rest))
 }
 
-fn methods_at(
-    alloc: Global,
-    count: u16,
-    bytes: &[u8],
-) -> Result<(Vec<Method>, &[u8]), ImageError>
+fn methods_at(alloc: Global, count: u16, bytes: &[u8]) -> Result<(Vec<Method>, &[u8]), ImageError>
     ensures { GivesImage (λ x. (x.0.items, x.1.now)) result (methods_at count 0 [] bytes.now) }
 {
     let mut methods = Vec::new(alloc);
@@ -162,9 +158,10 @@ fn methods_at(
     for done in 0..count {
         match method_at(alloc, before, rest) {
             Ok((method, name, behind)) => {
-                methods
-                    .push(method)
-                    .map_err(|_| ImageError::after(done as usize, DecodeError::NoMemory))?;
+                methods.push(method).map_err(|_| ImageError::after(
+                    done as usize,
+                    DecodeError::NoMemory,
+                ))?;
                 before = name;
                 rest = behind;
             }

@@ -13,7 +13,8 @@ pub struct ImageError {
 }
 
 impl ImageError {
-    pub fn after(methods: usize, error: DecodeError) -> ImageError
+    /// That refusal after so many methods.
+    pub(crate) fn after(methods: usize, error: DecodeError) -> ImageError
         ensures { result ≡ record { methods = methods; error = error } }
     {
         ImageError { methods, error }

@@ -11,15 +11,13 @@ ghost use Rattle.bpf_decode.specs.ImageReading.{image_of};
 pub fn one_class()
     ensures code { (bytes : List ℕ) (is js : List Insn) → IsCode bytes is → IsCode bytes js → is ≡ js }
     ensures image { (bytes : List ℕ) (ms ns : List ClassMethod) → IsImage bytes ms → IsImage bytes ns → ms ≡ ns }
-{
-}
+{}
 
 /// A list of instructions has one spelling, and a class one image.
 pub fn one_spelling()
     ensures code { (a b : List ℕ) (is : List Insn) → IsCode a is → IsCode b is → a ≡ b }
     ensures image { (a b : List ℕ) (ms : List ClassMethod) → IsImage a ms → IsImage b ms → a ≡ b }
-{
-}
+{}
 
 /// What was written is read as the same class, and what was read is written as the same bytes.
 pub fn round_trip()
@@ -27,5 +25,4 @@ pub fn round_trip()
     ensures read { (bytes written : List ℕ) (ms : List ClassMethod) → ((i : ℕ) → get_or bytes i 0 < 256) → image_of bytes ≡ Ok ms → IsImage written ms → written ≡ bytes }
     ensures written_code { (bytes : List ℕ) (is : List Insn) → IsCode bytes is → code_of bytes ≡ Ok is }
     ensures read_code { (bytes written : List ℕ) (is : List Insn) → ((i : ℕ) → get_or bytes i 0 < 256) → code_of bytes ≡ Ok is → IsCode written is → written ≡ bytes }
-{
-}
+{}

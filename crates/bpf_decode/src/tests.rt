@@ -4,8 +4,8 @@ use std::test::Fail;
 
 /// One method `f`, flags 1, capacities 0, the code `mov r0, 0` and `exit`.
 const IMAGE: [u8; 33] = [
-    0x52, 0x43, 0x4c, 0x31, 1, 0, 0, 0, 1, 0x66, 1, 0, 0, 0, 0, 2, 0, 0xb7, 0, 0, 0, 0, 0, 0, 0, 0x95,
-    0, 0, 0, 0, 0, 0, 0,
+    0x52, 0x43, 0x4c, 0x31, 1, 0, 0, 0, 1, 0x66, 1, 0, 0, 0, 0, 2, 0, 0xb7, 0, 0, 0, 0, 0, 0, 0,
+    0x95, 0, 0, 0, 0, 0, 0, 0,
 ];
 
 /// A place of the image, the byte that is put there, the methods read whole, and the refusal.
@@ -137,13 +137,7 @@ fn changed(place: usize, value: u8) -> [u8; 33] {
 fn method(alloc: Global, name: &str, flags: u8, in_cap: u16) -> Result<Method, Fail> {
     let mut code = Vec::new(alloc);
     code.push(Insn::Exit)?;
-    Ok(Method::new(
-        String::from_str(alloc, name)?,
-        flags,
-        in_cap,
-        4096,
-        code,
-    ))
+    Ok(Method::new(String::from_str(alloc, name)?, flags, in_cap, 4096, code))
 }
 
 #[test]
@@ -168,7 +162,10 @@ fn code_alone(rt: HostRuntime) {
     assert_eq!(rt; check(&CODE[..7]), Err(DecodeError::Truncated));
     assert!(rt; matches!(decode(rt.alloc(), &CODE[..12]), Err(DecodeError::Truncated)));
     assert_eq!(rt; check(&CODE[24..32]), Err(DecodeError::WideHalf(0)));
-    assert_eq!(rt; check(&[0x95, 0, 0, 0, 0, 0, 0, 0, 0x85, 0x20, 0, 0, 0, 0, 0, 0]), Err(DecodeError::NonzeroField(1)));
+    assert_eq!(rt;
+        check(&[0x95, 0, 0, 0, 0, 0, 0, 0, 0x85, 0x20, 0, 0, 0, 0, 0, 0]),
+        Err(DecodeError::NonzeroField(1))
+    );
 }
 
 #[test]
@@ -199,15 +196,33 @@ fn refuses_images(rt: HostRuntime) -> Result<(), Fail> {
     }
     let none = read_image(rt.alloc(), &[]).err();
     let truncated = DecodeError::Truncated;
-    assert_eq!(rt; none, Some(ImageError { methods: 0, error: truncated }));
+    assert_eq!(rt;
+        none,
+        Some(ImageError {
+            methods: 0,
+            error: truncated
+        })
+    );
     let mut longer = Vec::from_slice(rt.alloc(), &IMAGE)?;
     longer.push(0)?;
     let trailing = DecodeError::Trailing;
-    assert_eq!(rt; read_image(rt.alloc(), &longer).err(), Some(ImageError { methods: 1, error: trailing }));
+    assert_eq!(rt;
+        read_image(rt.alloc(), &longer).err(),
+        Some(ImageError {
+            methods: 1,
+            error: trailing
+        })
+    );
     let mut twice = Vec::from_slice(rt.alloc(), &changed(4, 2))?;
     twice.extend_from_slice(&IMAGE[8..])?;
     let order = DecodeError::Order;
-    assert_eq!(rt; read_image(rt.alloc(), &twice).err(), Some(ImageError { methods: 1, error: order }));
+    assert_eq!(rt;
+        read_image(rt.alloc(), &twice).err(),
+        Some(ImageError {
+            methods: 1,
+            error: order
+        })
+    );
     Ok(())
 }
 
@@ -247,7 +262,13 @@ fn refuses_methods(rt: HostRuntime) -> Result<(), Fail> {
     let alloc = rt.alloc();
     let none = ClassImage::new(Vec::new(alloc)).err();
     let limit = DecodeError::Limit;
-    assert_eq!(rt; none, Some(ImageError { methods: 0, error: limit }));
+    assert_eq!(rt;
+        none,
+        Some(ImageError {
+            methods: 0,
+            error: limit
+        })
+    );
     let bad = [
         ("", 1, 0, DecodeError::Name),
         ("B", 1, 0, DecodeError::Name),
@@ -274,14 +295,23 @@ fn prints_refusals(rt: HostRuntime) -> Result<(), Fail> {
     assert_eq!(rt; error.name(), "Opcode");
     assert_eq!(rt; error.slot(), Some(3));
     assert_eq!(rt; format!(in alloc; "{error}")?.as_str(), "3 Opcode");
-    assert_eq!(rt; format!(in alloc; "{}", DecodeError::NoMemory)?.as_str(), "12 NoMemory");
+    assert_eq!(rt;
+        format!(in alloc; "{}", DecodeError::NoMemory)?.as_str(),
+        "12 NoMemory"
+    );
     let whole = ImageError {
         methods: 0,
         error: DecodeError::Truncated,
     };
-    assert_eq!(rt; format!(in alloc; "{whole}")?.as_str(), "image refused after 0 methods: 1 Truncated");
+    assert_eq!(rt;
+        format!(in alloc; "{whole}")?.as_str(),
+        "image refused after 0 methods: 1 Truncated"
+    );
     let at_slot = ImageError { methods: 0, error };
-    assert_eq!(rt; format!(in alloc; "{at_slot}")?.as_str(), "image refused after 0 methods, slot 3: 3 Opcode");
+    assert_eq!(rt;
+        format!(in alloc; "{at_slot}")?.as_str(),
+        "image refused after 0 methods, slot 3: 3 Opcode"
+    );
     Ok(())
 }
 

@@ -21,4 +21,4 @@ returns-clause-read c = all_pass c.args.methods.now c.loop-done.done c.loop-done
 pub returns-clause-class : goal.returns-clause-class
 returns-clause-class c =
     class_passes c.args.methods.now c.args.methods.now (all_fit c.args.methods.now c.loop-done.done c.loop-done.before.now c.loop-done-test.false c.loop-done.invariant)
-      (all_pass c.args.methods.now c.loop-done.done c.loop-done.before.now (sym c.if-not-is_method_count.ensures) c.loop-done-test.false c.loop-done.invariant)
+    (all_pass c.args.methods.now c.loop-done.done c.loop-done.before.now (sym c.if-not-is_method_count.ensures) c.loop-done-test.false c.loop-done.invariant)
