@@ -19,3 +19,6 @@ pub use laws::{chains, decoded, layouts, outcomes, simulation};
 pub use layout::{Layout, is_layout};
 pub use region::Region;
 pub use value::Value;
+
+#[cfg(test)]
+mod tests;
