@@ -20,3 +20,6 @@ pub use op::Op;
 pub use refusal::Refusal;
 pub use rule::Rule;
 pub use verified::{VerifiedClass, VerifiedMethod};
+
+#[cfg(test)]
+mod tests;
