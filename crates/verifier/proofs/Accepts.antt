@@ -9,8 +9,7 @@ use Rattle.bpf_decode.specs.declared.insn.Insn.TheVariants.{Add, Mov, LoadWide, 
 use Rattle.bpf_decode.specs.Instruction.{slots, slot_count, slot_total}
 use Rattle.bpf_decode.specs.Class.{ClassMethod, IsMethod}
 use Rattle.bpf_machine.specs.Typed.{fetch, typed_entry}
-use Rattle.bpf_machine.specs.Safe.{caps_of, IsCall, IsSafe, EndsAlways, EndsAlwaysIsSafe}
-use Rattle.verifier.specs.declared.op.Op.{Op}
+use Rattle.bpf_machine.specs.Safe.{caps_of, IsSafe, EndsAlways, EndsAlwaysIsSafe}
 use Rattle.verifier.specs.declared.op.Op.TheVariants.{Never}
 use Rattle.verifier.specs.declared.rule.Rule.{Rule}
 use Rattle.verifier.specs.declared.refusal.Refusal.{Refusal}

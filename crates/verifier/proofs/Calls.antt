@@ -1,29 +1,27 @@
 -- A helper's call that no rule refuses has its arguments, and what it leaves is what its frame says.
-use Rattle.std.proofs.Common.{◌≡◌, ◌≢◌, ℕ, zero, suc, ◌+◌, ◌-◌, ◌*◌, ◌/◌, ◌%◌, ◌^◌, ◌<◌, ◌≤◌, List, [], ◌∷◌, ◌++◌, Option, Some, None, Bool, true, false, cond, refl, ap, ◌∙◌, sym, subst, arith, length, take, drop, length-take}
-use Rattle.std.specs.Prelude.{slice_get, slice_index, ◌==◌, ◌&&◌, ◌||◌, not, nat_lt, nat_le, if◌then◌else◌, is_some}
+use Rattle.std.proofs.Common.{◌≡◌, ℕ, ◌+◌, ◌%◌, ◌^◌, ◌<◌, ◌≤◌, List, [], ◌∷◌, Option, Some, None, Bool, true, false, refl, ap, ◌∙◌, sym, arith, length, length-take}
+use Rattle.std.specs.Prelude.{◌==◌, ◌&&◌, ◌||◌, not, nat_lt, nat_le, if◌then◌else◌, is_some}
 use Rattle.std.proofs.lemmas.Bool.{leb-true, le-leb, false≢true, cond-true, cond_both}
-use Rattle.std.proofs.lemmas.Option.{none-some, same_Some}
+use Rattle.std.proofs.lemmas.Option.{same_Some}
 use Rattle.bpf_machine.specs.declared.region.Region.{Region}
 use Rattle.bpf_machine.specs.declared.value.Value.{Value}
 use Rattle.bpf_machine.specs.declared.value.Value.TheVariants as values
 use Rattle.bpf_machine.specs.declared.caps.Caps.{Caps}
 use Rattle.bpf_machine.specs.declared.argument.Argument.{Argument}
 use Rattle.bpf_machine.specs.declared.argument.Argument.TheVariants.{Number, OutputLength, Readable, Writable}
-use Rattle.bpf_machine.specs.Object.{Object, AreBytes, part, data_of, spliced}
-use Rattle.bpf_machine.specs.State.{◌>>=◌, only, Memory, cells, put, may_store, size, State, reg}
-use Rattle.bpf_machine.specs.Helper.{Takes, signature_of, Given, nothing_given, with_number, with_text, with_room, Effect, effect, refused, first_text, read_effect, write_effect, answered, bytes_in, write_room}
-use Rattle.bpf_machine.specs.Typed.{Typed, number, locate, typed_range, typed_arguments, typed_help}
-use Rattle.verifier.specs.declared.known.Known.{Known}
+use Rattle.bpf_machine.specs.Object.{Object, AreBytes, data_of}
+use Rattle.bpf_machine.specs.State.{◌>>=◌, only, Memory, cells, may_store, size, reg}
+use Rattle.bpf_machine.specs.Helper.{Takes, signature_of, Given, nothing_given, with_number, with_text, with_room, Effect, effect, first_text, read_effect, write_effect, answered, bytes_in, write_room}
+use Rattle.bpf_machine.specs.Typed.{Typed, number, typed_range, typed_arguments, typed_help}
 use Rattle.verifier.specs.declared.kind.Kind.{Kind}
 use Rattle.verifier.specs.declared.kind.Kind.TheVariants.{Unset, Num, Ptr}
-use Rattle.verifier.specs.declared.fault.Fault.{Fault}
-use Rattle.verifier.specs.declared.fault.Fault.TheVariants.{NotSet, OutOfRegion, ReadOnly, WrongKind}
-use Rattle.verifier.specs.Known.{HoldsKnown, any, upper}
-use Rattle.verifier.specs.Kind.{HoldsKind, is_unset, is_num, is_ptr, is_at_most, range_leaves, range_is_read_only}
-use Rattle.verifier.specs.Frame.{Frame, kind_at, after_call, HoldsEach, ObjectIsBytes, Holds}
-use Rattle.verifier.specs.Rules.{has_fault, register_count, some_fault, taken_fault, call_fault, writes_object}
+use Rattle.verifier.specs.declared.fault.Fault.TheVariants.{OutOfRegion, ReadOnly, WrongKind}
+use Rattle.verifier.specs.Known.{upper}
+use Rattle.verifier.specs.Kind.{is_num, is_ptr, is_at_most, range_leaves, range_is_read_only}
+use Rattle.verifier.specs.Frame.{Frame, kind_at, after_call, ObjectIsBytes, Holds}
+use Rattle.verifier.specs.Rules.{has_fault, some_fault, taken_fault, call_fault, writes_object}
 use Rattle.verifier.proofs.Numbers.{known_small, holds_upper, holds_any}
-use Rattle.verifier.proofs.Holding.{HoldsValue, Read, read, num_is_set, ptr_is_set, numbered, drop_each}
+use Rattle.verifier.proofs.Holding.{HoldsValue, read, num_is_set, ptr_is_set, numbered, drop_each}
 use Rattle.verifier.proofs.Bytes.{bytes_take, bytes_drop, bytes_put, bytes_spliced}
 use Rattle.verifier.proofs.Passed.{not_false, neither}
 

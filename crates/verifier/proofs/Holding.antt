@@ -1,6 +1,6 @@
 -- Kinds and frames: a join is true of what either part is true of, and a sum of the sums.
-use Rattle.std.proofs.Common.{◌≡◌, ◌≢◌, ℕ, zero, suc, ◌+◌, ◌-◌, ◌%◌, ◌^◌, ◌<◌, ◌≤◌, List, [], ◌∷◌, Option, Some, None, Bool, true, false, cond, refl, ap, ◌∙◌, sym, arith, drop}
-use Rattle.std.specs.Prelude.{slice_get, slice_set, if◌then◌else◌}
+use Rattle.std.proofs.Common.{◌≡◌, ℕ, zero, suc, ◌+◌, ◌%◌, ◌^◌, ◌<◌, List, [], ◌∷◌, Option, Some, None, true, false, refl, ◌∙◌, sym, drop}
+use Rattle.std.specs.Prelude.{slice_get, slice_set}
 use Rattle.std.proofs.lemmas.Bool.{false≢true, cond_both}
 use Rattle.bpf_machine.specs.declared.region.Region.{Region}
 use Rattle.bpf_machine.specs.declared.region.Region.TheVariants.{Input, Output, Stack}
@@ -8,10 +8,9 @@ use Rattle.bpf_machine.specs.declared.value.Value.{Value}
 use Rattle.bpf_machine.specs.declared.value.Value.TheVariants as values
 use Rattle.bpf_machine.specs.State.{◌>>=◌, reg}
 use Rattle.bpf_machine.specs.Typed.{Typed, number, add_values}
-use Rattle.verifier.specs.declared.known.Known.{Known}
 use Rattle.verifier.specs.declared.kind.Kind.{Kind}
 use Rattle.verifier.specs.declared.kind.Kind.TheVariants.{Unset, Num, Ptr}
-use Rattle.verifier.specs.Known.{HoldsKnown, constant, join_known, add_known, upper}
+use Rattle.verifier.specs.Known.{constant, join_known}
 use Rattle.verifier.specs.Kind.{HoldsKind, is_unset, is_num, is_ptr, same_region, join_kind, add_kind}
 use Rattle.verifier.specs.Frame.{Frame, or_unset, kind_at, join, HoldsEach, Holds}
 use Rattle.verifier.proofs.Numbers.{holds_constant, known_small, holds_join_left, holds_join_right, holds_add}

@@ -1,26 +1,25 @@
 -- A run from a slot whose frame is true of the state ends at an exit.
-use Rattle.std.proofs.Common.{◌≡◌, ◌≢◌, ℕ, zero, suc, ◌+◌, ◌-◌, ◌%◌, ◌^◌, ◌<◌, ◌≤◌, List, [], ◌∷◌, ◌++◌, Option, Some, None, refl, ap, ◌∙◌, sym, subst, arith, length, drop, length-append}
-use Rattle.std.specs.Prelude.{slice_get, replicate}
+use Rattle.std.proofs.Common.{◌≡◌, ◌≢◌, ℕ, zero, suc, ◌+◌, ◌-◌, ◌^◌, ◌<◌, ◌≤◌, List, [], ◌∷◌, ◌++◌, Option, Some, None, refl, ap, ◌∙◌, sym, subst, arith, length, drop}
+use Rattle.std.specs.Prelude.{replicate}
 use Rattle.std.proofs.lemmas.Option.{none-some, same_Some, slice_get_within}
 use Rattle.bpf_decode.specs.declared.insn.Insn.{Insn}
 use Rattle.bpf_decode.specs.declared.insn.Insn.TheVariants.{Add, Mov, LoadWide, Load, Store, Jump, Call, CallLocal, Exit}
-use Rattle.bpf_decode.specs.Instruction.{Fits, AllFit, slots, slot_count, slot_total}
+use Rattle.bpf_decode.specs.Instruction.{Fits, AllFit, slots, slot_count}
 use Rattle.bpf_machine.specs.declared.region.Region.{Region}
 use Rattle.bpf_machine.specs.declared.region.Region.TheVariants.{Input, Output, Stack}
 use Rattle.bpf_machine.specs.declared.caps.Caps.{Caps}
 use Rattle.bpf_machine.specs.Object.{Object, IsObject, AreBytes}
-use Rattle.bpf_machine.specs.State.{◌>>=◌, State, reg, cells, Memory, opening, Outcome, Ending, Ended, Stuck, Unfinished, outcome_of, one_more, goes_on, ends}
-use Rattle.bpf_machine.specs.Typed.{Typed, number, fetch, typed_act, typed_exit_of, typed_step, typed_exit, typed_run, typed_entry}
-use Rattle.verifier.specs.Known.{HoldsKnown, constant, any}
-use Rattle.verifier.specs.Frame.{Frame, entry_frame, flow, HoldsEach, ObjectIsBytes, Holds}
+use Rattle.bpf_machine.specs.State.{◌>>=◌, cells, opening, Outcome, Ended, Stuck, outcome_of, one_more, goes_on, ends}
+use Rattle.bpf_machine.specs.Typed.{Typed, fetch, typed_act, typed_exit_of, typed_run, typed_entry}
+use Rattle.verifier.specs.Frame.{Frame, entry_frame, ObjectIsBytes, Holds}
 use Rattle.verifier.specs.Rules.{rule_at}
-use Rattle.verifier.specs.Verdict.{edges, frame_at, whole_table, code_verdict}
+use Rattle.verifier.specs.Verdict.{frame_at, whole_table, code_verdict}
 use Rattle.verifier.proofs.Numbers.{holds_constant, holds_any}
 use Rattle.verifier.proofs.Bytes.{bytes_append, bytes_zeros}
 use Rattle.verifier.proofs.Passed.{Passed, passed}
-use Rattle.verifier.proofs.Acts.{Among, Arrives, acts, exits}
+use Rattle.verifier.proofs.Acts.{acts, exits}
 use Rattle.verifier.proofs.Tables.{whole_at}
-use Rattle.verifier.proofs.Flows.{Meets, arrives, Edge, edge}
+use Rattle.verifier.proofs.Flows.{arrives, edge}
 use Rattle.verifier.proofs.Verdicts.{passes}
 
 -- the instructions that begin in a part of the code

@@ -1,9 +1,9 @@
 -- The pass over the slots follows the whole table of frames.
-use Rattle.std.proofs.Common.{◌≡◌, ◌≢◌, ℕ, zero, suc, ◌+◌, ◌^◌, ◌<◌, ◌≤◌, List, [], ◌∷◌, ◌++◌, Option, Some, None, Bool, true, false, cond, refl, ap, ◌∙◌, sym, subst, arith, length, drop, ⊎_elim, length-append}
-use Rattle.std.specs.Prelude.{slice_get, slice_set, replicate, ◌==◌, if◌then◌else◌}
+use Rattle.std.proofs.Common.{◌≡◌, ◌≢◌, ℕ, zero, suc, ◌+◌, ◌<◌, List, [], ◌∷◌, ◌++◌, Option, Some, None, cond, refl, ap, ◌∙◌, sym, subst, arith, length, drop, ⊎_elim, length-append}
+use Rattle.std.specs.Prelude.{slice_get, slice_set, replicate, ◌==◌}
 use Rattle.std.proofs.lemmas.Bool.{cases_eq, cases_lt, eq-eqb, ne_eqb, cond-true, cond-false}
 use Rattle.std.proofs.lemmas.List.{length-set, length-replicate}
-use Rattle.std.proofs.lemmas.Option.{none-some, slice_get_within}
+use Rattle.std.proofs.lemmas.Option.{none-some}
 use Rattle.bpf_decode.specs.declared.insn.Insn.{Insn}
 use Rattle.bpf_machine.specs.declared.caps.Caps.{Caps}
 use Rattle.bpf_machine.specs.State.{◌>>=◌}
@@ -13,7 +13,7 @@ use Rattle.verifier.specs.declared.edges.Edges.{Edges}
 use Rattle.verifier.specs.declared.edges.Edges.TheVariants.{Leaves, One, Two}
 use Rattle.verifier.specs.Frame.{Frame, entry_frame, flow}
 use Rattle.verifier.specs.Rules.{rule_at}
-use Rattle.verifier.specs.Verdict.{edges, Table, frame_at, joined, along, unless_refused, flow_from, start, incoming, frames, whole_table, or_else, first_refused, code_verdict}
+use Rattle.verifier.specs.Verdict.{edges, Table, frame_at, joined, along, unless_refused, flow_from, start, incoming, frames, whole_table, IsTable, or_else, first_refused}
 use Rattle.verifier.specs.Pass.{merged, merged_each, passed_on, visited, first_table}
 
 get_left : {A : Type 0} (xs ys : List A) (p : ℕ) → p < length xs → slice_get (xs ++ ys) p ≡ slice_get xs p
@@ -77,6 +77,20 @@ module _ (caps : Caps) (code : List (Option Insn)) where
   whole_at q lt =
       frames_at (length code) q lt
       ∙ agree (frames caps code q) (whole_table caps code) q q (λ p less. frames_at q p less ∙ sym (frames_at (length code) p (omega arith)))
+
+  pub whole_is_table : IsTable caps code (whole_table caps code)
+  whole_is_table = record { long = length-frames (length code); each = whole_at }
+
+  only_below : (table : Table) → IsTable caps code table → (n q : ℕ) → q < n → q < length code → frame_at table q ≡ frame_at (whole_table caps code) q
+  only_below table t zero q below lt = absurd (omega arith)
+  only_below table t (suc n) q below lt =
+      t.each q lt
+      ∙ agree table (whole_table caps code) q q (λ p less. only_below table t n p (omega arith) (omega arith))
+      ∙ sym (whole_at q lt)
+
+  -- every table is the whole table
+  pub only_table : (table : Table) → IsTable caps code table → (q : ℕ) → q < length code → frame_at table q ≡ frame_at (whole_table caps code) q
+  only_table table t q lt = only_below table t (q + 1) q (omega arith) lt
 
   -- the pass's table before slot p has what the slots below p bring
   pub record Brought (p : ℕ) (table : Table) : Type 0 where

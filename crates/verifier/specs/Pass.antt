@@ -1,5 +1,5 @@
 -- What one slot's visit leaves of the table of frames.
-use Rattle.std.specs.Prelude.{ℕ, zero, suc, List, Option, Some, None, slice_set, replicate}
+use Rattle.std.specs.Prelude.{ℕ, List, Option, Some, None, slice_set, replicate}
 use Rattle.bpf_decode.specs.declared.insn.Insn.{Insn}
 use Rattle.bpf_machine.specs.declared.caps.Caps.{Caps}
 use Rattle.verifier.specs.declared.rule.Rule.{Rule}

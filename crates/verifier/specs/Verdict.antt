@@ -1,8 +1,8 @@
 -- The table of frames of a method, and the verdict on a class.
-use Rattle.std.specs.Prelude.{◌≡◌, ℕ, zero, suc, ◌+◌, List, [], ◌∷◌, ◌++◌, Option, Some, None, Bool, true, if◌then◌else◌, ◌==◌, slice_get, length, ◌⊎◌}
+use Rattle.std.specs.Prelude.{◌≡◌, ℕ, zero, suc, ◌+◌, ◌<◌, List, [], ◌∷◌, ◌++◌, Option, Some, None, true, if◌then◌else◌, ◌==◌, slice_get, length}
 use Rattle.bpf_decode.specs.declared.insn.Insn.{Insn}
 use Rattle.bpf_decode.specs.declared.insn.Insn.TheVariants.{Add, Mov, LoadWide, Load, Store, Jump, Call, CallLocal, Exit}
-use Rattle.bpf_decode.specs.Instruction.{slot_count, slots}
+use Rattle.bpf_decode.specs.Instruction.{slots}
 use Rattle.bpf_decode.specs.Class.{ClassMethod}
 use Rattle.bpf_machine.specs.declared.caps.Caps.{Caps}
 use Rattle.bpf_machine.specs.State.{◌>>=◌}
@@ -76,6 +76,18 @@ frames caps code (suc q) = frames caps code q ++ (incoming caps code (frames cap
 
 abbrev pub whole_table : Caps → List (Option Insn) → Table
 whole_table caps code = frames caps code (length code)
+
+-- A table of a method's frames: at each slot the join of all that flows into it from lower slots, and of what the
+-- method begins with at slot 0.
+pub record IsTable (caps : Caps) (code : List (Option Insn)) (table : Table) : Type 0 where
+  pub long : length table ≡ length code
+  pub each : (q : ℕ) → q < length code → frame_at table q ≡ incoming caps code table q q
+
+-- The whole table is one, and the only one.
+abbrev pub TableIsOne : Type 0
+TableIsOne =
+    (caps : Caps) (code : List (Option Insn)) →
+    IsTable caps code (whole_table caps code) × ((table : Table) → IsTable caps code table → (q : ℕ) → q < length code → frame_at table q ≡ frame_at (whole_table caps code) q)
 
 abbrev pub or_else : ℕ → Option Rule → Option (ℕ × Rule) → Option (ℕ × Rule)
 or_else p None later = later

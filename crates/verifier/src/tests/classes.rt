@@ -1,7 +1,7 @@
 //! Whole classes: which method is refused, what a verified one keeps, every byte of an image, and the largest class.
 
 use super::method;
-use crate::{Op, Refusal, Rule, verify};
+use crate::{Op, Refusal, Rule, one_table, verify};
 use bpf_decode::{ClassImage, Insn, Method, Operand, Register, encode, read_image};
 use bpf_machine::{Caps, Ending, Layout, flat_run, is_layout};
 use std::alloc::Global;
@@ -81,6 +81,7 @@ fn finds_the_first_method(rt: HostRuntime) -> Result<(), Fail> {
 fn keeps_what_a_run_takes(rt: HostRuntime) -> Result<(), Fail> {
     let mut methods = Vec::new(rt.alloc());
     methods.push(method(rt.alloc(), "f", &[JA_0, LDDW_R0, HALF, EXIT], 2, 3, 4)?)?;
+    one_table();
     let class = verify(rt.alloc(), &ClassImage::new(methods)?)?;
     assert_eq!(rt; class.methods().len(), 1);
     assert!(rt; class.method("g").is_none());

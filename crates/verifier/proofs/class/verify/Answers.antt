@@ -1,9 +1,8 @@
-use Rattle.std.proofs.Common.{◌≡◌, ◌≤◌, ap, ◌∙◌, sym, arith, length, ◌⊎◌, IfErr, Some, None, List, Result, Ok, Err, inl, inr, ⊎_elim}
+use Rattle.std.proofs.Common.{◌≡◌, ◌≤◌, ap, ◌∙◌, sym, arith, length, ◌⊎◌, IfErr, Some, List, Result, Ok, Err, inl, inr, ⊎_elim}
 use Rattle.std.proofs.lemmas.Grind.{common_steps}
 use Rattle.std.proofs.lemmas.List.{drop_all}
 use Rattle.std.specs.List.{AllByRecursion}
 use Rattle.bpf_decode.specs.Class.{ClassMethod, IsMethod}
-use Rattle.bpf_machine.specs.Safe.{IsSafe, EndsAlways}
 use Rattle.verifier.specs.declared.refusal.Refusal.{Refusal}
 use Rattle.verifier.specs.Verdict.{verdict_from, class_verdict, out_of_memory, IsDeserved}
 use Rattle.verifier.proofs.Verdicts.{deserved}
