@@ -1,2 +1,3 @@
 pub mod Plain
 pub mod Run
+pub mod Refusal

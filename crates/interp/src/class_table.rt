@@ -1,5 +1,6 @@
 ghost use Rattle.std.specs.Prelude.{◌≡◌, ◌==◌, ◌<◌, ◌≤◌, ◌++◌, ◌∷◌, ◌↔◌, [], IfOk, OnErr, length, Err, slice_get};
 ghost use Rattle.interp.specs.Plain.{given_class};
+ghost use Rattle.interp.specs.Refusal.{table_error_number};
 
 use std::alloc::Global;
 use std::marker::Model;
@@ -8,13 +9,31 @@ use verifier::VerifiedClass;
 
 /// Why a class can't be added.
 #[derive(Clone, Copy, Debug, PartialEq, Eq, Error)]
+#[error("{} {}", self.row().0, self.row().1)]
 pub enum TableError {
     /// 64 classes are loaded.
-    #[error("1 TooMany")]
     TooMany,
     /// Memory was refused.
-    #[error("2 NoMemory")]
     NoMemory,
+}
+
+impl TableError {
+    /// The table of refusals: number and name.
+    fn row(self) -> (u8, &'static str)
+        ensures { result.0 ≡ table_error_number self }
+    {
+        match self {
+            TableError::TooMany => (1, "TooMany"),
+            TableError::NoMemory => (2, "NoMemory"),
+        }
+    }
+
+    /// Its number, 1 or 2.
+    pub fn number(self) -> u8
+        ensures { result ≡ table_error_number self }
+    {
+        self.row().0
+    }
 }
 
 /// The loaded classes, at most 64, by ids from 0. Contracts see the list of them.

@@ -21,7 +21,11 @@ fn bytes_from(bytes: &[u8], at: u64, n: u64) -> &[u8]
         return &bytes[..0];
     }
     let rest = &bytes[at as usize..];
-    if n < rest.len() as u64 { &rest[..n as usize] } else { rest }
+    if n < rest.len() as u64 {
+        &rest[..n as usize]
+    } else {
+        rest
+    }
 }
 
 /// What `read` does to the memory, and its answer: the bytes that there are, or -2 (ENOENT) where the object is absent.

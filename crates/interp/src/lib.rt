@@ -20,3 +20,6 @@ pub use class_table::{ClassTable, TableError};
 pub use object::Object;
 pub use object_name::{ObjectName, StoreError};
 pub use outcome::Outcome;
+
+#[cfg(test)]
+mod tests;

@@ -1,4 +1,4 @@
-ghost use Rattle.std.specs.Prelude.{◌≡◌, ◌+◌, ◌-◌, ◌++◌, ◌≤◌, [], IfOk, IfSome, IsSome, OnErr, ◌↔◌, length, replicate};
+ghost use Rattle.std.specs.Prelude.{◌≡◌, ◌==◌, ◌+◌, ◌-◌, ◌++◌, ◌≤◌, [], IfOk, IfSome, IsSome, OnErr, ◌↔◌, length, replicate};
 ghost use Rattle.bpf_machine.specs.Object.{spliced};
 
 use crate::memory::overwrite;
@@ -43,6 +43,29 @@ impl Object {
         ensures within { length self.now ≤ 65536 }
     {
         &self.content
+    }
+
+    /// How many bytes of data it has.
+    pub fn len(&self) -> usize
+        ensures value { result ≡ length self.now }
+        ensures within { result ≤ 65536 }
+    {
+        self.content.len()
+    }
+
+    /// Whether it has no data.
+    pub fn is_empty(&self) -> bool
+        ensures { result ≡ (length self.now == 0) }
+    {
+        self.content.is_empty()
+    }
+
+    /// Its data, where the object is done with. It takes no memory.
+    pub fn into_bytes(self) -> Vec<u8>
+        ensures value { result.items ≡ self }
+        ensures within { length self ≤ 65536 }
+    {
+        self.content
     }
 
     /// An equal object.

@@ -1,4 +1,5 @@
 ghost use Rattle.std.specs.Prelude.{◌≡◌, ◌<◌, ◌≤◌, ◌↔◌, IfOk, length, Err, Ok};
+ghost use Rattle.interp.specs.Refusal.{store_error_number};
 
 use std::alloc::Global;
 use std::marker::Model;
@@ -6,13 +7,31 @@ use thiserror::Error;
 
 /// Why a name can't be had. The numbers are those of the object store's refusals.
 #[derive(Clone, Copy, Debug, PartialEq, Eq, Error)]
+#[error("{} {}", self.row().0, self.row().1)]
 pub enum StoreError {
     /// A name of no bytes, or of more than 255.
-    #[error("6 Range")]
     Range,
     /// Memory was refused.
-    #[error("7 NoMemory")]
     NoMemory,
+}
+
+impl StoreError {
+    /// Of the table of the object store's refusals: number and name.
+    fn row(self) -> (u8, &'static str)
+        ensures { result.0 ≡ store_error_number self }
+    {
+        match self {
+            StoreError::Range => (6, "Range"),
+            StoreError::NoMemory => (7, "NoMemory"),
+        }
+    }
+
+    /// Its number, 6 or 7.
+    pub fn number(self) -> u8
+        ensures { result ≡ store_error_number self }
+    {
+        self.row().0
+    }
 }
 
 /// An object's name: 1 to 255 bytes of text. Contracts see the bytes.

@@ -1,0 +1,281 @@
+//! Calls by their bytes, with answers computed by hand.
+
+use super::{call_f, changes, class_of, object_of};
+use crate::{CallError, call};
+use std::test::Fail;
+
+/// A call: the code's slots, what the method declares, the object, the input, and the answer: code, output, the object
+/// after and whether it was written, and steps.
+#[derive(Clone, Copy)]
+struct Row {
+    name: &'static str,
+    code: &'static [u8],
+    flags: u8,
+    in_cap: u16,
+    out_cap: u16,
+    object: Option<&'static [u8]>,
+    input: &'static [u8],
+    answer: i64,
+    output: &'static [u8],
+    after: Option<&'static [u8]>,
+    wrote: bool,
+    steps: usize,
+}
+
+const RETURNS_ZERO: Row = Row {
+    name: "returns zero",
+    code: &[
+        0xb7, 0, 0, 0, 0, 0, 0, 0, // mov r0, 0
+        0x95, 0, 0, 0, 0, 0, 0, 0, // exit
+    ],
+    flags: 1,
+    in_cap: 0,
+    out_cap: 0,
+    object: None,
+    input: &[],
+    answer: 0,
+    output: &[],
+    after: None,
+    wrote: false,
+    steps: 2,
+};
+
+const FAILS_AFTER_WRITE: Row = Row {
+    name: "a failed call's write is undone",
+    code: &[
+        0xbf, 0x12, 0, 0, 0, 0, 0, 0, // mov r2, r1
+        0xb7, 0x01, 0, 0, 0, 0, 0, 0, // mov r1, 0
+        0xb7, 0x03, 0, 0, 3, 0, 0, 0, // mov r3, 3
+        0x85, 0x00, 0, 0, 3, 0, 0, 0, // call 3
+        0xb7, 0x00, 0, 0, 0xfb, 0xff, 0xff, 0xff, // mov r0, -5
+        0x95, 0x00, 0, 0, 0, 0, 0, 0, // exit
+    ],
+    flags: 2,
+    in_cap: 3,
+    input: b"abc",
+    answer: -5,
+    steps: 6,
+    ..RETURNS_ZERO
+};
+
+const WRITES: Row = Row {
+    name: "writes its input",
+    code: &[
+        0xbf, 0x12, 0, 0, 0, 0, 0, 0, // mov r2, r1
+        0xb7, 0x01, 0, 0, 0, 0, 0, 0, // mov r1, 0
+        0xb7, 0x03, 0, 0, 3, 0, 0, 0, // mov r3, 3
+        0x85, 0x00, 0, 0, 3, 0, 0, 0, // call 3
+        0xb7, 0x00, 0, 0, 7, 0, 0, 0, // mov r0, 7
+        0x95, 0x00, 0, 0, 0, 0, 0, 0, // exit
+    ],
+    answer: 7,
+    after: Some(b"abc"),
+    wrote: true,
+    ..FAILS_AFTER_WRITE
+};
+
+const WRITES_BEHIND_A_GAP: Row = Row {
+    name: "zeros fill a gap",
+    code: &[
+        0xbf, 0x12, 0, 0, 0, 0, 0, 0, // mov r2, r1
+        0xb7, 0x01, 0, 0, 4, 0, 0, 0, // mov r1, 4
+        0xb7, 0x03, 0, 0, 2, 0, 0, 0, // mov r3, 2
+        0x85, 0x00, 0, 0, 3, 0, 0, 0, // call 3
+        0x95, 0x00, 0, 0, 0, 0, 0, 0, // exit
+    ],
+    object: Some(b"xy"),
+    answer: 2,
+    after: Some(b"xy\0\0ab"),
+    steps: 5,
+    ..WRITES
+};
+
+const WRITES_PAST_THE_LIMIT: Row = Row {
+    name: "no write past 65536 bytes",
+    code: &[
+        0xbf, 0x12, 0, 0, 0, 0, 0, 0, // mov r2, r1
+        0xb7, 0x01, 0, 0, 0xff, 0xff, 0, 0, // mov r1, 65535
+        0xb7, 0x03, 0, 0, 2, 0, 0, 0, // mov r3, 2
+        0x85, 0x00, 0, 0, 3, 0, 0, 0, // call 3
+        0x95, 0x00, 0, 0, 0, 0, 0, 0, // exit
+    ],
+    answer: -27,
+    after: Some(b"xy"),
+    wrote: false,
+    ..WRITES_BEHIND_A_GAP
+};
+
+const WRITES_NOTHING: Row = Row {
+    name: "a write of nothing creates the object",
+    code: &[
+        0xbf, 0x12, 0, 0, 0, 0, 0, 0, // mov r2, r1
+        0xb7, 0x01, 0, 0, 9, 0, 0, 0, // mov r1, 9
+        0xb7, 0x03, 0, 0, 0, 0, 0, 0, // mov r3, 0
+        0x85, 0x00, 0, 0, 3, 0, 0, 0, // call 3
+        0x95, 0x00, 0, 0, 0, 0, 0, 0, // exit
+    ],
+    answer: 0,
+    object: None,
+    after: Some(b""),
+    ..WRITES_BEHIND_A_GAP
+};
+
+const OUTPUT: Row = Row {
+    name: "output is cut to its length",
+    code: &[
+        0x72, 0x03, 0, 0, 0x41, 0, 0, 0, // stb [r3+0], 65
+        0x72, 0x03, 1, 0, 0x42, 0, 0, 0, // stb [r3+1], 66
+        0x72, 0x03, 2, 0, 0x43, 0, 0, 0, // stb [r3+2], 67
+        0xb7, 0x01, 0, 0, 2, 0, 0, 0, // mov r1, 2
+        0x85, 0x00, 0, 0, 13, 0, 0, 0, // call 13
+        0xb7, 0x00, 0, 0, 9, 0, 0, 0, // mov r0, 9
+        0x95, 0x00, 0, 0, 0, 0, 0, 0, // exit
+    ],
+    out_cap: 4,
+    answer: 9,
+    output: b"AB",
+    steps: 7,
+    ..RETURNS_ZERO
+};
+
+/// `mov r2, r3; mov r1, AT; mov r3, 4; call 2; mov r6, r0; mov r1, 4; call 13; mov r0, r6; exit`
+macro_rules! reads_at {
+    ($at:literal) => {
+        &[
+            0xbf, 0x32, 0, 0, 0, 0, 0, 0, 0xb7, 0x01, 0, 0, $at, 0, 0, 0, 0xb7, 0x03, 0, 0, 4, 0, 0,
+            0, 0x85, 0x00, 0, 0, 2, 0, 0, 0, 0xbf, 0x06, 0, 0, 0, 0, 0, 0, 0xb7, 0x01, 0, 0, 4, 0, 0,
+            0, 0x85, 0x00, 0, 0, 13, 0, 0, 0, 0xbf, 0x60, 0, 0, 0, 0, 0, 0, 0x95, 0x00, 0, 0, 0, 0,
+            0, 0,
+        ]
+    };
+}
+
+const READS: Row = Row {
+    name: "reads within the object",
+    code: reads_at!(1),
+    object: Some(b"hello"),
+    after: Some(b"hello"),
+    answer: 4,
+    output: b"ello",
+    steps: 9,
+    ..OUTPUT
+};
+
+const READS_TO_THE_END: Row = Row {
+    name: "reads what there is",
+    code: reads_at!(3),
+    answer: 2,
+    output: b"lo\0\0",
+    ..READS
+};
+
+const READS_AT_THE_END: Row = Row {
+    name: "reads at the end",
+    code: reads_at!(5),
+    answer: 0,
+    output: b"\0\0\0\0",
+    ..READS
+};
+
+const READS_PAST_THE_END: Row = Row {
+    name: "reads past the end",
+    code: reads_at!(6),
+    ..READS_AT_THE_END
+};
+
+const READS_NO_OBJECT: Row = Row {
+    name: "reads no object",
+    object: None,
+    after: None,
+    answer: -2,
+    output: b"",
+    ..READS
+};
+
+const LOADS_WIDE: Row = Row {
+    name: "a wide load is one step",
+    code: &[
+        0x18, 0, 0, 0, 8, 7, 6, 5, 0, 0, 0, 0, 4, 3, 2, 1, // lddw r0, 0x0102030405060708
+        0x95, 0, 0, 0, 0, 0, 0, 0, // exit
+    ],
+    answer: 0x0102_0304_0506_0708,
+    ..RETURNS_ZERO
+};
+
+const LOADS_UNALIGNED: Row = Row {
+    name: "a load need not be aligned",
+    code: &[
+        0x61, 0x10, 1, 0, 0, 0, 0, 0, // ldxw r0, [r1+1]
+        0x95, 0x00, 0, 0, 0, 0, 0, 0, // exit
+    ],
+    in_cap: 8,
+    input: &[1, 2, 3, 4, 5, 6],
+    answer: 0x0504_0302,
+    ..RETURNS_ZERO
+};
+
+const STACK: Row = Row {
+    name: "stores below the stack's end",
+    code: &[
+        0x7b, 0x2a, 0xf8, 0xff, 0, 0, 0, 0, // stxdw [r10-8], r2
+        0x05, 0x00, 1, 0, 0, 0, 0, 0, // ja +1
+        0x95, 0x00, 0, 0, 0, 0, 0, 0, // exit
+        0x79, 0xa0, 0xf8, 0xff, 0, 0, 0, 0, // ldxdw r0, [r10-8]
+        0x07, 0x00, 0, 0, 0xff, 0xff, 0xff, 0xff, // add r0, -1
+        0x95, 0x00, 0, 0, 0, 0, 0, 0, // exit
+    ],
+    answer: 5,
+    steps: 5,
+    ..LOADS_UNALIGNED
+};
+
+#[test]
+fn answers(rt: HostRuntime) -> Result<(), Fail> {
+    let alloc = rt.alloc();
+    for row in [
+        RETURNS_ZERO,
+        FAILS_AFTER_WRITE,
+        WRITES,
+        WRITES_BEHIND_A_GAP,
+        WRITES_PAST_THE_LIMIT,
+        WRITES_NOTHING,
+        OUTPUT,
+        READS,
+        READS_TO_THE_END,
+        READS_AT_THE_END,
+        READS_PAST_THE_END,
+        READS_NO_OBJECT,
+        LOADS_WIDE,
+        LOADS_UNALIGNED,
+        STACK,
+    ] {
+        let class = class_of(alloc, row.code, row.flags, row.in_cap, row.out_cap)?;
+        let object = object_of(alloc, row.object)?;
+        let outcome = call_f(alloc, &class, &object, row.input)?;
+        assert_eq!(rt; outcome.code, row.answer, "{}", row.name);
+        assert_eq!(rt; outcome.output.as_slice(), row.output, "{}", row.name);
+        assert_eq!(rt; outcome.steps, row.steps, "{}", row.name);
+        assert!(rt;
+            changes(&outcome.change, row.object, row.after, row.wrote),
+            "{}",
+            row.name
+        );
+    }
+    Ok(())
+}
+
+#[test]
+fn refuses(rt: HostRuntime) -> Result<(), Fail> {
+    let alloc = rt.alloc();
+    let class = class_of(alloc, WRITES.code, 2, 3, 0)?;
+    assert_eq!(rt;
+        call(alloc, &class, "g", None, 7, b"abcd").err(),
+        Some(CallError::NoMethod)
+    );
+    assert_eq!(rt;
+        call(alloc, &class, "f", None, 7, b"abcd").err(),
+        Some(CallError::InputTooLong)
+    );
+    assert_eq!(rt; call(alloc, &class, "f", None, 7, b"abc")?.code, 7);
+    Ok(())
+}

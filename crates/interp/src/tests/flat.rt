@@ -1,0 +1,158 @@
+//! Calls beside the plain run of raw bytes, on programs that a loop makes.
+
+use super::{call_f, changes, class_of, object_of, slot};
+use bpf_machine::{Caps, Ending, Layout, flat_run, is_layout};
+use std::alloc::Global;
+use std::test::Fail;
+
+/// What differs between the programs.
+#[derive(Clone, Copy)]
+struct Choice {
+    /// The size modifier of loads and stores, and the bytes that it moves.
+    size: (u8, i16),
+    /// How far accesses lie from a region's start.
+    at: i16,
+    number: i32,
+    /// Where the object is written and read.
+    place: i32,
+    /// How many bytes of it.
+    count: i32,
+    /// The code.
+    code: i32,
+}
+
+const CAPS: Caps = Caps {
+    in_cap: 24,
+    out_cap: 40,
+    writes: true,
+};
+
+/// Every opcode, at a width, offsets and numbers.
+fn program(alloc: Global, c: Choice) -> Result<Vec<u8>, Fail> {
+    let (size, bytes) = c.size;
+    let below = (-bytes).wrapping_sub(c.at);
+    let mut code = Vec::new(alloc);
+    for slot in [
+        slot(0xbf, 0x16, 0, 0), // mov r6, r1
+        slot(0xbf, 0x37, 0, 0), // mov r7, r3
+        slot(0x63 + size, 0x2a, below, 0), // stx [r10+below], r2
+        slot(0x62 + size, 0x07, c.at, c.number), // st [r7+at], number
+        slot(0x61 + size, 0x64, c.at, 0), // ldx r4, [r6+at]
+        slot(0x07, 0x04, 0, c.number), // add r4, number
+        slot(0x63 + size, 0x47, 20, 0), // stx [r7+20], r4
+        slot(0x18, 0x05, 0, c.number), // lddw r5, ..
+        slot(0x00, 0x00, 0, 0x7654_3210), // .. its high half
+        slot(0x7b, 0x57, 31, 0), // stxdw [r7+31], r5
+        slot(0xb7, 0x01, 0, c.place), // mov r1, place
+        slot(0xbf, 0x62, 0, 0), // mov r2, r6
+        slot(0xb7, 0x03, 0, c.count), // mov r3, count
+        slot(0x85, 0x00, 0, 3), // call 3
+        slot(0x7b, 0x0a, -16, 0), // stxdw [r10-16], r0
+        slot(0xb7, 0x01, 0, c.number), // mov r1, number
+        slot(0xbf, 0x72, 0, 0), // mov r2, r7
+        slot(0x07, 0x02, 0, 3), // add r2, 3
+        slot(0xb7, 0x03, 0, c.count), // mov r3, count
+        slot(0x85, 0x00, 0, 2), // call 2
+        slot(0x73, 0x07, 0, 0), // stxb [r7+0], r0
+        slot(0x05, 0x00, 1, 0), // ja +1
+        slot(0x95, 0x00, 0, 0), // exit
+        slot(0xb7, 0x01, 0, 37), // mov r1, 37
+        slot(0x85, 0x00, 0, 13), // call 13
+        slot(0x61 + size, 0xa0, below, 0), // ldx r0, [r10+below]
+        slot(0x07, 0x00, 0, c.code), // add r0, code
+        slot(0x95, 0x00, 0, 0), // exit
+    ] {
+        code.extend_from_slice(&slot)?;
+    }
+    Ok(code)
+}
+
+/// Whether a call of the code answers as the plain run does.
+fn agrees(
+    alloc: Global,
+    code: &[u8],
+    layout: Layout,
+    object: Option<&[u8]>,
+    input: &[u8],
+) -> Result<bool, Fail> {
+    let class = class_of(alloc, code, 3, CAPS.in_cap, CAPS.out_cap)?;
+    let outcome = call_f(alloc, &class, &object_of(alloc, object)?, input)?;
+    if !is_layout(&CAPS, &layout) || input.len() > usize::from(CAPS.in_cap) {
+        Err("no layout")?;
+    }
+    match flat_run(alloc, &CAPS, code, &layout, object, 7, input, 40)? {
+        Ending::Ended {
+            code,
+            output,
+            object: after,
+            steps,
+        } => {
+            let after = match &after {
+                None => None,
+                Some(bytes) => Some(bytes.as_slice()),
+            };
+            let fails = code.cast_signed() < 0;
+            Ok(
+                outcome.code == code.cast_signed()
+                    && outcome.output.as_slice() == output.as_slice()
+                    && outcome.steps == steps
+                    && (changes(&outcome.change, object, after, true)
+                        || changes(&outcome.change, object, after, false))
+                    && (!fails || output.is_empty()),
+            )
+        }
+        Ending::Stuck | Ending::Unfinished => Ok(false),
+    }
+}
+
+const OBJECTS: [Option<&[u8]>; 3] = [
+    None,
+    Some(b""),
+    Some(b"0123456789abcdefghijklmnopqrstuvwxyz"),
+];
+
+const HIGH: Layout = Layout {
+    input: 0x1000,
+    output: 0x2_0000,
+    stack: 0xffff_ffff_ffff_fdff,
+};
+
+const INPUT: [u8; 21] = [
+    0x80, 1, 0xff, 0x7f, 4, 0, 6, 0x87, 8, 9, 10, 0xfe, 12, 13, 14, 15, 16, 17, 18, 19, 20,
+];
+
+#[test]
+fn calls_are_plain_runs(rt: HostRuntime) -> Result<(), Fail> {
+    let alloc = rt.alloc();
+    let mut programs = 0u32;
+    for size in [(0x00, 4), (0x08, 2), (0x10, 1), (0x18, 8)] {
+        for (at, number) in [
+            (0, 0),
+            (1, -1),
+            (3, 7),
+            (7, 0x7fff_ffff),
+            (16, -0x8000_0000),
+        ] {
+            for (place, count, code) in [(0, 0, 0), (2, 5, 1), (40, 24, -30), (65520, 20, 5)] {
+                let choice = Choice {
+                    size,
+                    at,
+                    number,
+                    place,
+                    count,
+                    code,
+                };
+                let code = program(alloc, choice)?;
+                for object in OBJECTS {
+                    assert!(rt;
+                        agrees(alloc, &code, HIGH, object, &INPUT)?,
+                        "{at} {number} {place}"
+                    );
+                    programs = programs.wrapping_add(1);
+                }
+            }
+        }
+    }
+    assert_eq!(rt; programs, 240);
+    Ok(())
+}
