@@ -65,7 +65,8 @@ impl Object {
         ensures value { result.items ≡ self }
         ensures within { length self ≤ 65536 }
     {
-        self.content
+        let Object { content: data } = self;
+        data
     }
 
     /// An equal object.

@@ -2,6 +2,7 @@
 
 use super::{call_f, changes, class_of, object_of};
 use crate::{CallError, call};
+use std::alloc::Global;
 use std::test::Fail;
 
 /// A call: the code's slots, what the method declares, the object, the input, and the answer: code, output, the object
@@ -229,37 +230,41 @@ const STACK: Row = Row {
     ..LOADS_UNALIGNED
 };
 
+static ROWS: [Row; 15] = [
+    RETURNS_ZERO,
+    FAILS_AFTER_WRITE,
+    WRITES,
+    WRITES_BEHIND_A_GAP,
+    WRITES_PAST_THE_LIMIT,
+    WRITES_NOTHING,
+    OUTPUT,
+    READS,
+    READS_TO_THE_END,
+    READS_AT_THE_END,
+    READS_PAST_THE_END,
+    READS_NO_OBJECT,
+    LOADS_WIDE,
+    LOADS_UNALIGNED,
+    STACK,
+];
+
+/// Whether a call answers so.
+fn answers_row(alloc: Global, row: &Row) -> Result<bool, Fail> {
+    let class = class_of(alloc, row.code, row.flags, row.in_cap, row.out_cap)?;
+    let object = object_of(alloc, row.object)?;
+    let outcome = call_f(alloc, &class, &object, row.input)?;
+    Ok(
+        outcome.code == row.answer
+            && outcome.output.as_slice() == row.output
+            && outcome.steps == row.steps
+            && changes(&outcome.change, row.object, row.after, row.wrote),
+    )
+}
+
 #[test]
 fn answers(rt: HostRuntime) -> Result<(), Fail> {
-    let alloc = rt.alloc();
-    for row in [
-        RETURNS_ZERO,
-        FAILS_AFTER_WRITE,
-        WRITES,
-        WRITES_BEHIND_A_GAP,
-        WRITES_PAST_THE_LIMIT,
-        WRITES_NOTHING,
-        OUTPUT,
-        READS,
-        READS_TO_THE_END,
-        READS_AT_THE_END,
-        READS_PAST_THE_END,
-        READS_NO_OBJECT,
-        LOADS_WIDE,
-        LOADS_UNALIGNED,
-        STACK,
-    ] {
-        let class = class_of(alloc, row.code, row.flags, row.in_cap, row.out_cap)?;
-        let object = object_of(alloc, row.object)?;
-        let outcome = call_f(alloc, &class, &object, row.input)?;
-        assert_eq!(rt; outcome.code, row.answer, "{}", row.name);
-        assert_eq!(rt; outcome.output.as_slice(), row.output, "{}", row.name);
-        assert_eq!(rt; outcome.steps, row.steps, "{}", row.name);
-        assert!(rt;
-            changes(&outcome.change, row.object, row.after, row.wrote),
-            "{}",
-            row.name
-        );
+    for row in &ROWS {
+        assert!(rt; answers_row(rt.alloc(), row)?, "{}", row.name);
     }
     Ok(())
 }

@@ -30,16 +30,15 @@ const CAPS: Caps = Caps {
 /// Every opcode, at a width, offsets and numbers.
 fn program(alloc: Global, c: Choice) -> Result<Vec<u8>, Fail> {
     let (size, bytes) = c.size;
-    let below = (-bytes).wrapping_sub(c.at);
-    let mut code = Vec::new(alloc);
-    for slot in [
+    let below = 0i16.wrapping_sub(bytes).wrapping_sub(c.at);
+    let slots = [
         slot(0xbf, 0x16, 0, 0), // mov r6, r1
         slot(0xbf, 0x37, 0, 0), // mov r7, r3
-        slot(0x63 + size, 0x2a, below, 0), // stx [r10+below], r2
-        slot(0x62 + size, 0x07, c.at, c.number), // st [r7+at], number
-        slot(0x61 + size, 0x64, c.at, 0), // ldx r4, [r6+at]
+        slot(0x63 | size, 0x2a, below, 0), // stx [r10+below], r2
+        slot(0x62 | size, 0x07, c.at, c.number), // st [r7+at], number
+        slot(0x61 | size, 0x64, c.at, 0), // ldx r4, [r6+at]
         slot(0x07, 0x04, 0, c.number), // add r4, number
-        slot(0x63 + size, 0x47, 20, 0), // stx [r7+20], r4
+        slot(0x63 | size, 0x47, 20, 0), // stx [r7+20], r4
         slot(0x18, 0x05, 0, c.number), // lddw r5, ..
         slot(0x00, 0x00, 0, 0x7654_3210), // .. its high half
         slot(0x7b, 0x57, 31, 0), // stxdw [r7+31], r5
@@ -58,13 +57,20 @@ fn program(alloc: Global, c: Choice) -> Result<Vec<u8>, Fail> {
         slot(0x95, 0x00, 0, 0), // exit
         slot(0xb7, 0x01, 0, 37), // mov r1, 37
         slot(0x85, 0x00, 0, 13), // call 13
-        slot(0x61 + size, 0xa0, below, 0), // ldx r0, [r10+below]
+        slot(0x61 | size, 0xa0, below, 0), // ldx r0, [r10+below]
         slot(0x07, 0x00, 0, c.code), // add r0, code
         slot(0x95, 0x00, 0, 0), // exit
-    ] {
-        code.extend_from_slice(&slot)?;
-    }
+    ];
+    let mut code = Vec::new(alloc);
+    put(&mut code, &slots)?;
     Ok(code)
+}
+
+fn put(code: &mut Vec<u8>, slots: &[[u8; 8]]) -> Result<(), Fail> {
+    for slot in slots {
+        code.extend_from_slice(slot)?;
+    }
+    Ok(())
 }
 
 /// Whether a call of the code answers as the plain run does.
