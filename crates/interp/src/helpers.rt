@@ -117,6 +117,7 @@ fn out_len(run: &mut Run, memory: &[u8], given: Option<&Object>)
     requires { CanDo run.old.caps (given_object given) run.old memory.now (help run.old.caps (first_layout run.old.caps) 13) }
     ensures { Does run.old.caps (given_object given.entry) run.old memory.now run.new memory.now (help run.old.caps (first_layout run.old.caps) 13) }
 {
+    // The memory and the object stay as they are.
     let _ = memory;
     let _ = given;
     run.out_len = run.registers[1] as usize;

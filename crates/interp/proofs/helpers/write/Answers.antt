@@ -1,4 +1,4 @@
-use Rattle.std.proofs.Common.{◌≡◌, refl, ap, ◌∙◌}
+use Rattle.std.proofs.Common.{ap}
 use Rattle.std.specs.Prelude.{slice_set}
 use Rattle.interp.specs.declared.run.Run.{Run}
 use Rattle.interp.specs.Plain.{given_object}

@@ -1,4 +1,4 @@
-use Rattle.std.proofs.Common.{rules, ◌≡◌, ℕ, ap, ◌∙◌, sym, arith, length, tests}
+use Rattle.std.proofs.Common.{◌≡◌, ap, ◌∙◌, arith, length}
 use Rattle.std.proofs.lemmas.List.{take_at}
 use Rattle.bpf_machine.specs.Object.{spliced}
 use Rattle.bpf_machine.specs.State.{written}
