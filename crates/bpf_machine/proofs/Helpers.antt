@@ -1,5 +1,5 @@
 -- Helpers and their calls: what the typed machine takes and does, the flat machine takes and does.
-use Rattle.std.proofs.Common.{◌≡◌, ℕ, ◌+◌, ◌%◌, ◌^◌, ◌<◌, ◌≤◌, List, [], ◌∷◌, Some, None, Bool, true, false, cond, refl, ap, arith}
+use Rattle.std.proofs.Common.{◌≡◌, ℕ, ◌+◌, ◌%◌, ◌^◌, ◌<◌, ◌≤◌, List, [], ◌∷◌, Some, None, Bool, true, false, cond, refl, ap, arith, ◌++◌}
 use Rattle.std.specs.Prelude.{◌==◌, ◌||◌, not}
 use Rattle.std.specs.Option.{option_map}
 use Rattle.std.proofs.lemmas.List.{drop-map}
@@ -12,7 +12,7 @@ use Rattle.bpf_machine.specs.declared.value.Value.TheVariants.{Num, Ptr}
 use Rattle.bpf_machine.specs.declared.caps.Caps.{Caps}
 use Rattle.bpf_machine.specs.declared.argument.Argument.{Argument}
 use Rattle.bpf_machine.specs.declared.argument.Argument.TheVariants.{Number, OutputLength, Readable, Writable}
-use Rattle.bpf_machine.specs.State.{◌>>=◌, only, may_store, size}
+use Rattle.bpf_machine.specs.State.{◌>>=◌, only, may_store, size, State}
 use Rattle.bpf_machine.specs.Helper.{signature_of, nothing_given, with_number, with_text, with_room, effect, bytes_in, write_room}
 use Rattle.bpf_machine.specs.Flat.{Layout, IsLayout, base, find, range, arguments, help, act_on}
 use Rattle.bpf_machine.specs.Typed.{Typed, locate, typed_range, typed_arguments, typed_help, typed_act, address, image}

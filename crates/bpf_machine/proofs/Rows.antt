@@ -1,18 +1,16 @@
 -- The table, row by row: an instruction's bytes do what the instruction does, and that is the image of the typed step.
-use Rattle.std.proofs.Common.{◌≡◌, ℕ, ◌+◌, ◌%◌, ◌^◌, List, ◌++◌, Option, Some, None, refl, ap, ◌∙◌, arith}
-use Rattle.std.specs.Prelude.{ℤ, FitsSigned}
-use Rattle.std.specs.Int.{w16}
+use Rattle.std.proofs.Common.{◌≡◌, ℕ, List, ◌++◌, Option, Some, None, refl, arith}
 use Rattle.bpf_decode.specs.declared.access.Width.TheVariants.{Byte, Half, Word, Double}
 use Rattle.bpf_decode.specs.declared.insn.Operand.TheVariants.{Immediate, Register}
 use Rattle.bpf_decode.specs.declared.insn.Insn.{Insn}
 use Rattle.bpf_decode.specs.declared.insn.Insn.TheVariants.{Add, Mov, LoadWide, Load, Store, Jump, Call, CallLocal, Exit}
-use Rattle.bpf_decode.specs.Instruction.{bytes_of, offset_field, imm_field, Fits}
+use Rattle.bpf_decode.specs.Instruction.{bytes_of, imm_field, Fits}
 use Rattle.bpf_machine.specs.declared.caps.Caps.{Caps}
-use Rattle.bpf_machine.specs.State.{◌>>=◌, State, reg, go}
+use Rattle.bpf_machine.specs.State.{◌>>=◌, State, reg}
 use Rattle.bpf_machine.specs.Flat.{Layout, IsLayout, act_on, exit_on}
 use Rattle.bpf_machine.specs.Typed.{Typed, number, typed_act, typed_exit_of, address, image}
 use Rattle.bpf_machine.specs.Decoded.{insn_act, insn_exit_of}
-use Rattle.bpf_machine.proofs.Sim.{Sim, Any, same, sim_none, sim_some, sim_eq, sim_bind}
+use Rattle.bpf_machine.proofs.Sim.{Sim, Any, same, sim_none, sim_eq, sim_bind}
 use Rattle.bpf_machine.proofs.Slot.{by_row}
 use Rattle.bpf_machine.proofs.Registers.{register, numbers}
 use Rattle.bpf_machine.proofs.Arithmetic.{add_acts, mov_acts, wide_acts, add_sim, mov_sim, wide_sim}
