@@ -16,7 +16,7 @@ pub use argument::{Argument, Signature};
 pub use caps::Caps;
 pub use flat::{Ending, flat_run};
 pub use helper::signature;
-pub use laws::{chains, decoded, layouts, outcomes, simulation};
+pub use laws::{chains, decoded, layouts, other_runs, outcomes, simulation};
 pub use layout::{Layout, is_layout};
 pub use region::Region;
 pub use value::Value;
