@@ -1,5 +1,5 @@
 ghost use Rattle.std.specs.Prelude.{◌≡◌};
-ghost use Rattle.bpf_decode.specs.Instruction.{byte_count};
+ghost use Rattle.bpf_decode.specs.Instruction.{byte_count, size_code};
 
 /// How many bytes a load or store moves (RFC 9669 section 5, the size modifier).
 #[derive(Clone, Copy, Debug, PartialEq, Eq)]
@@ -20,6 +20,18 @@ impl Width {
             Width::Half => 2,
             Width::Word => 4,
             Width::Double => 8,
+        }
+    }
+
+    /// The size modifier, bits 3 and 4 of the opcode (RFC 9669 section 5).
+    pub fn size_code(self) -> u8
+        ensures { result ≡ size_code self }
+    {
+        match self {
+            Width::Word => 0,
+            Width::Half => 1,
+            Width::Byte => 2,
+            Width::Double => 3,
         }
     }
 }

@@ -1,5 +1,13 @@
-ghost use Rattle.std.specs.Prelude.{◌≡◌};
+ghost use Rattle.std.specs.Prelude.{◌≡◌, IfOk};
+ghost use Rattle.bpf_decode.specs.Class.{IsClass};
+ghost use Rattle.bpf_decode.specs.Instruction.{AllFit};
+ghost use Rattle.bpf_decode.specs.Reading.{Reads};
+ghost use Rattle.bpf_decode.specs.ImageReading.{method_after, class_of};
 
+use crate::code::slots;
+use crate::decode_error::DecodeError;
+use crate::image_error::ImageError;
+use crate::limits;
 use crate::method::Method;
 use std::marker::Model;
 
@@ -21,7 +29,30 @@ impl Model for ClassImage {
 }
 
 impl ClassImage {
-    ghost use Rattle.bpf_decode.specs.Class.{IsClass};
+    ghost use Rattle.std.specs.Prelude.{◌↔◌, IsOk};
+
+    /// The class of those methods. It takes no memory.
+    ///
+    /// Refusals, the first as its image would be read, with the number of methods that are right before it: `Limit` for
+    /// their count; of a method `Name`, `Order`, `Flags`, and `Limit` for a capacity or its slots.
+    pub fn new(methods: Vec<Method>) -> Result<ClassImage, ImageError>
+        ensures exact { result ≡ class_of methods.items }
+        ensures accepts { IsOk result ↔ IsClass methods.items }
+        ensures value { IfOk result (λ c. c ≡ methods.items) }
+    {
+        match check_methods(&methods) {
+            Ok(()) => Ok(ClassImage { methods }),
+            Err(error) => Err(error),
+        }
+    }
+
+    /// A class of methods that are one.
+    pub(crate) fn of(methods: Vec<Method>) -> ClassImage
+        requires { IsClass methods.items }
+        ensures { result ≡ methods.items }
+    {
+        ClassImage { methods }
+    }
 
     /// Its methods, by rising names.
     pub fn methods(&self) -> &[Method]
@@ -30,4 +61,54 @@ impl ClassImage {
     {
         &self.methods
     }
+}
+
+/// Whether they are a class, or the first refusal.
+fn check_methods(methods: &[Method]) -> Result<(), ImageError>
+    ensures read { Reads (λ _. methods.now) result (class_of methods.now) }
+    ensures class { IfOk result (λ _. IsClass methods.now) }
+{
+    if !limits::is_method_count(methods.len()) {
+        return Err(ImageError::after(0, DecodeError::Limit));
+    }
+    let mut before: &[u8] = &[];
+    for done in 0..methods.len() {
+        let method = &methods[done];
+        match check_method(before, method) {
+            Ok(()) => before = method.name().as_bytes(),
+            Err(error) => return Err(ImageError::after(done, error)),
+        }
+    }
+    Ok(())
+}
+
+/// Whether a method is right behind the name of the one before it, or its first refusal.
+fn check_method(before: &[u8], method: &Method) -> Result<(), DecodeError>
+    ensures read { Reads (λ _. method.now) result (method_after before.now method.now) }
+    ensures fit { AllFit method.now.instructions }
+{
+    let name = method.name().as_bytes();
+    let slots = slots(method.instructions());
+    if !limits::is_name_length(name.len()) {
+        return Err(DecodeError::Name);
+    }
+    if !limits::are_name_bytes(name) {
+        return Err(DecodeError::Name);
+    }
+    if !limits::is_above(before, name) {
+        return Err(DecodeError::Order);
+    }
+    if !limits::are_flags(method.flags()) {
+        return Err(DecodeError::Flags);
+    }
+    if !limits::is_capacity(method.in_cap()) {
+        return Err(DecodeError::Limit);
+    }
+    if !limits::is_capacity(method.out_cap()) {
+        return Err(DecodeError::Limit);
+    }
+    if !limits::is_slot_count(slots) {
+        return Err(DecodeError::Limit);
+    }
+    Ok(())
 }

@@ -3,12 +3,28 @@
 
 mod access;
 mod class_image;
+mod code;
+mod decode_error;
+mod form;
+mod image;
+mod image_error;
 mod insn;
+mod laws;
+mod limits;
 mod method;
 mod register;
+mod slot;
 
 pub use access::Width;
 pub use class_image::ClassImage;
+pub use code::{check, decode, encode};
+pub use decode_error::DecodeError;
+pub use image::{read_image, write_image};
+pub use image_error::ImageError;
 pub use insn::{Insn, Operand, width};
+pub use laws::{one_class, one_spelling, round_trip};
 pub use method::Method;
 pub use register::Register;
+
+#[cfg(test)]
+mod tests;

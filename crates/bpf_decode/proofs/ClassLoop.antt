@@ -1,0 +1,165 @@
+-- Testing one method after the other, as a loop does, and what methods that pass are.
+use Rattle.std.proofs.Common.{◌≡◌, ℕ, zero, suc, ◌+◌, ◌-◌, ◌<◌, ◌≤◌, Bool, true, false, cond, List, [], ◌∷◌, ◌++◌, length, get_or, take, drop, Result, Ok, Err, refl, sym, ap, subst, ◌∙◌, append_assoc, arith}
+use Rattle.std.specs.Prelude.{IfOk, ◌↔◌, IsOk}
+use Rattle.std.specs.List.{AllByRecursion}
+use Rattle.std.specs.Cmp.Lexicographic.{slice_cmp}
+use Rattle.std.specs.Ordering.{nat_cmp}
+use Rattle.std.specs.declared.cmp.Ordering.TheVariants.{Less}
+use Rattle.std.proofs.lemmas.List.{append-nil, drop_more, take_more, take_all, drop_all}
+use Rattle.bpf_decode.specs.declared.decode_error.DecodeError.{DecodeError}
+use Rattle.bpf_decode.specs.declared.decode_error.DecodeError.TheVariants.{Name, Order, Flags, Limit}
+use Rattle.bpf_decode.specs.declared.image_error.ImageError.{ImageError}
+use Rattle.bpf_decode.specs.Instruction.{AllFit, slot_total}
+use Rattle.bpf_decode.specs.Class.{ClassMethod, IsMethod, NamesRise, IsClass}
+use Rattle.bpf_decode.specs.Reading.{◌>>=◌, checked}
+use Rattle.bpf_decode.specs.ImageReading.{after, between, are_name_bytes, is_above, method_after, methods_after, class_of}
+use Rattle.bpf_decode.proofs.Bytes.{bind_ok, checked_ok}
+use Rattle.bpf_decode.proofs.ImageFields.{between-true, between-is, letters_are, letters_again, above_is, above_again}
+use Rattle.bpf_decode.proofs.ImageLaws.{RisesFrom, rises_on, rises_first, after_ok, ok_image}
+
+abbrev pub Tested : Type 0
+Tested = Result (List ClassMethod) ImageError
+
+-- what was tested before, and what is still tested
+abbrev pub with_front : List ClassMethod → Tested → Tested
+with_front front read = read >>= λ others. Ok (front ++ others)
+
+abbrev pub AllCodeFits : List ClassMethod → Type 0
+AllCodeFits ms = AllByRecursion (λ m. AllFit m.instructions) ms
+
+-- the methods before this one passed, the last of that name
+pub record Progress (ms : List ClassMethod) (done : ℕ) (before : List ℕ) : Type 0 where
+  pub so_far : with_front (take done ms) (methods_after done before (drop done ms)) ≡ methods_after 0 [] ms
+  pub fit : AllCodeFits (take done ms)
+
+regroup : (front : List ClassMethod) (m : ClassMethod) (read : Tested) → with_front front (read >>= λ others. Ok (m ∷ others)) ≡ with_front (front ++ m ∷ []) read
+regroup front m (Ok others) = ap (λ (ms : List ClassMethod). Ok ms) (sym (append_assoc front (m ∷ []) others))
+regroup front m (Err e) = refl
+
+nothing_before : (read : Tested) → with_front [] read ≡ read
+nothing_before (Ok x) = refl
+nothing_before (Err e) = refl
+
+pub begins : (ms : List ClassMethod) → Progress ms 0 []
+begins ms = record { so_far = nothing_before (methods_after 0 [] ms); fit = tt }
+
+code_fits-push : (ms : List ClassMethod) (m : ClassMethod) → AllCodeFits ms → AllFit m.instructions → AllCodeFits (ms ++ m ∷ [])
+code_fits-push [] m all one = (one, tt)
+code_fits-push (n ∷ ms) m all one = (all.0, code_fits-push ms m all.1 one)
+
+abbrev first_tested : ℕ → List ℕ → List ClassMethod → Result ClassMethod DecodeError → Tested
+first_tested done name ms read = after done read >>= λ first. methods_after (done + 1) name ms >>= λ others. Ok (first ∷ others)
+
+one_more : (done : ℕ) (before : List ℕ) (m : ClassMethod) (ms : List ClassMethod) (read : Result ClassMethod DecodeError) → method_after before m ≡ read → methods_after done before (m ∷ ms) ≡ first_tested done m.name ms read
+unfolding methods_after
+one_more done before m ms read h = ap (first_tested done m.name ms) h
+
+-- the method at that place and those behind it
+here : (ms : List ClassMethod) (done : ℕ) (m : ClassMethod) → done < length ms → m ≡ get_or ms done m → drop done ms ≡ m ∷ drop (done + 1) ms
+here ms done m lt is = drop_more ms done m lt ∙ ap (λ (x : ClassMethod). x ∷ drop (done + 1) ms) (sym is)
+
+pub goes_on : (ms : List ClassMethod) (done : ℕ) (before : List ℕ) (m : ClassMethod) → done < length ms → m ≡ get_or ms done m → method_after before m ≡ Ok m → AllFit m.instructions → Progress ms done before → Progress ms (done + 1) m.name
+goes_on ms done before m lt is h fit p =
+    let front = take done ms in
+    let behind = drop (done + 1) ms in
+    let more : take (done + 1) ms ≡ front ++ m ∷ [] = take_more ms done m lt ∙ ap (λ (x : ClassMethod). front ++ x ∷ []) (sym is) in
+    let one : with_front front (methods_after done before (drop done ms)) ≡ with_front (take (done + 1) ms) (methods_after (done + 1) m.name behind) =
+    ap (λ (xs : List ClassMethod). with_front front (methods_after done before xs)) (here ms done m lt is) ∙ ap (with_front front) (one_more done before m behind (Ok m) h)
+    ∙ regroup front m (methods_after (done + 1) m.name behind) ∙ ap (λ (xs : List ClassMethod). with_front xs (methods_after (done + 1) m.name behind)) (sym more) in
+    record { so_far = sym one ∙ p.so_far; fit = subst (λ (xs : List ClassMethod). AllCodeFits xs) (sym more) (code_fits-push front m p.fit fit) }
+
+abbrev by_count : List ClassMethod → Bool → Tested
+by_count ms b = after 0 (checked b Limit ms) >>= λ some. methods_after 0 [] ms
+
+counted : (ms : List ClassMethod) → between 1 32 (length ms) ≡ true → class_of ms ≡ methods_after 0 [] ms
+unfolding class_of
+counted ms some = ap (by_count ms) some
+
+pub not_counted : (ms : List ClassMethod) → between 1 32 (length ms) ≡ false → class_of ms ≡ Err (record { methods = 0; error = Limit })
+unfolding class_of
+not_counted ms none = ap (by_count ms) none
+
+pub is_refused : (ms : List ClassMethod) (done : ℕ) (before : List ℕ) (m : ClassMethod) (e : DecodeError) → between 1 32 (length ms) ≡ true → done < length ms → m ≡ get_or ms done m → method_after before m ≡ Err e → Progress ms done before
+    → class_of ms ≡ Err (record { methods = done; error = e })
+is_refused ms done before m e some lt is h p =
+    let front = take done ms in
+    let behind = drop (done + 1) ms in
+    counted ms some ∙ sym p.so_far ∙ ap (λ (xs : List ClassMethod). with_front front (methods_after done before xs)) (here ms done m lt is) ∙ ap (with_front front) (one_more done before m behind (Err e) h)
+
+pub all_pass : (ms : List ClassMethod) (done : ℕ) (before : List ℕ) → between 1 32 (length ms) ≡ true → length ms ≤ done → Progress ms done before → class_of ms ≡ Ok ms
+unfolding methods_after
+all_pass ms done before some le p =
+    counted ms some ∙ sym p.so_far ∙ ap (λ (xs : List ClassMethod). with_front (take done ms) (methods_after done before xs)) (drop_all done ms le) ∙ ap (λ (xs : List ClassMethod). Ok xs) (append-nil (take done ms) ∙ take_all done ms le)
+
+pub all_fit : (ms : List ClassMethod) (done : ℕ) (before : List ℕ) → length ms ≤ done → Progress ms done before → AllCodeFits ms
+all_fit ms done before le p = subst (λ (xs : List ClassMethod). AllCodeFits xs) (take_all done ms le) p.fit
+
+-- ---- methods that pass are a class
+
+abbrev above : List ℕ → List ℕ → Type 0
+above before name = slice_cmp nat_cmp before name ≡ Less
+
+method_passes : (before : List ℕ) (m x : ClassMethod) → AllFit m.instructions → method_after before m ≡ Ok x → IsMethod m × above before m.name
+method_passes before m x fit e =
+    let a = bind_ok (checked (between 1 64 (length m.name)) Name m) (λ y. checked (are_name_bytes m.name) Name m >>= λ y. checked (is_above before m.name) Order m >>= λ y. checked (between 1 3 m.flags) Flags m >>= λ y. checked (between 0 4096 m.in_cap) Limit m >>= λ y. checked (between 0 4096 m.out_cap) Limit m >>= λ y. checked (between 1 4096 (slot_total m.instructions)) Limit m) x e in
+    let b = bind_ok (checked (are_name_bytes m.name) Name m) (λ y. checked (is_above before m.name) Order m >>= λ y. checked (between 1 3 m.flags) Flags m >>= λ y. checked (between 0 4096 m.in_cap) Limit m >>= λ y. checked (between 0 4096 m.out_cap) Limit m >>= λ y. checked (between 1 4096 (slot_total m.instructions)) Limit m) x a.2 in
+    let c = bind_ok (checked (is_above before m.name) Order m) (λ y. checked (between 1 3 m.flags) Flags m >>= λ y. checked (between 0 4096 m.in_cap) Limit m >>= λ y. checked (between 0 4096 m.out_cap) Limit m >>= λ y. checked (between 1 4096 (slot_total m.instructions)) Limit m) x b.2 in
+    let d = bind_ok (checked (between 1 3 m.flags) Flags m) (λ y. checked (between 0 4096 m.in_cap) Limit m >>= λ y. checked (between 0 4096 m.out_cap) Limit m >>= λ y. checked (between 1 4096 (slot_total m.instructions)) Limit m) x c.2 in
+    let f = bind_ok (checked (between 0 4096 m.in_cap) Limit m) (λ y. checked (between 0 4096 m.out_cap) Limit m >>= λ y. checked (between 1 4096 (slot_total m.instructions)) Limit m) x d.2 in
+    let g = bind_ok (checked (between 0 4096 m.out_cap) Limit m) (λ y. checked (between 1 4096 (slot_total m.instructions)) Limit m) x f.2 in
+    let sized = between-true 1 64 (length m.name) (checked_ok (between 1 64 (length m.name)) Name m a.0 a.1).0 in
+    let letters = letters_are m.name (checked_ok (are_name_bytes m.name) Name m b.0 b.1).0 in
+    let rises = above_is before m.name (checked_ok (is_above before m.name) Order m c.0 c.1).0 in
+    let flags = between-true 1 3 m.flags (checked_ok (between 1 3 m.flags) Flags m d.0 d.1).0 in
+    let read = between-true 0 4096 m.in_cap (checked_ok (between 0 4096 m.in_cap) Limit m f.0 f.1).0 in
+    let written = between-true 0 4096 m.out_cap (checked_ok (between 0 4096 m.out_cap) Limit m g.0 g.1).0 in
+    let slots = between-true 1 4096 (slot_total m.instructions) (checked_ok (between 1 4096 (slot_total m.instructions)) Limit m x g.2).0 in
+    (record { named = sized.0; short = sized.1; letters = letters; some_flag = flags.0; known_flags = flags.1; in_cap = read.1; out_cap = written.1; some_slot = slots.0; slots = slots.1; fit = fit }, rises)
+
+method_again : (before : List ℕ) (m : ClassMethod) → IsMethod m → above before m.name → method_after before m ≡ Ok m
+method_again before m h rises =
+    rw (
+      between-is 1 64 (length m.name) h.named h.short,
+      letters_again m.name h.letters,
+      above_again before m.name rises,
+      between-is 1 3 m.flags h.some_flag h.known_flags,
+      between-is 0 4096 m.in_cap (omega arith) h.in_cap,
+      between-is 0 4096 m.out_cap (omega arith) h.out_cap,
+      between-is 1 4096 (slot_total m.instructions) h.some_slot h.slots,
+    ) refl
+
+methods_pass : (done : ℕ) (before : List ℕ) (ms xs : List ClassMethod) → AllCodeFits ms → methods_after done before ms ≡ Ok xs → AllByRecursion IsMethod ms × RisesFrom before ms
+unfolding methods_after
+methods_pass done before [] xs fit e = (tt, tt)
+methods_pass done before (m ∷ ms) xs fit e =
+    let a = bind_ok (after done (method_after before m)) (λ first. methods_after (done + 1) m.name ms >>= λ others. Ok (first ∷ others)) xs e in
+    let b = bind_ok (methods_after (done + 1) m.name ms) (λ others. Ok (a.0 ∷ others)) xs a.2 in
+    let first = method_passes before m a.0 fit.0 (after_ok done (method_after before m) a.0 a.1) in
+    let others = methods_pass (done + 1) m.name ms b.0 fit.1 b.1 in
+    ((first.0, others.0), (first.1, others.1))
+
+methods_again : (done : ℕ) (before : List ℕ) (ms : List ClassMethod) → AllByRecursion IsMethod ms → RisesFrom before ms → methods_after done before ms ≡ Ok ms
+unfolding methods_after
+methods_again done before [] all rises = refl
+methods_again done before (m ∷ ms) all rises =
+    ap (first_tested done m.name ms) (method_again before m all.0 rises.0) ∙ ap (λ (r : Tested). r >>= λ others. Ok (m ∷ others)) (methods_again (done + 1) m.name ms all.1 rises.1)
+
+pub class_again : (ms : List ClassMethod) → IsClass ms → class_of ms ≡ Ok ms
+class_again ms class = counted ms (between-is 1 32 (length ms) class.some class.limit) ∙ methods_again 0 [] ms class.methods (rises_first ms class.methods class.names)
+
+abbrev passed : List ClassMethod → Tested
+passed ms = Ok ms
+
+pub class_passes : (ms xs : List ClassMethod) → AllCodeFits ms → class_of ms ≡ Ok xs → IsClass ms
+unfolding class_of
+class_passes ms xs fit e =
+    let a = bind_ok (after 0 (checked (between 1 32 (length ms)) Limit ms)) (λ some. methods_after 0 [] ms) xs e in
+    let some = between-true 1 32 (length ms) (checked_ok (between 1 32 (length ms)) Limit ms a.0 (after_ok 0 (checked (between 1 32 (length ms)) Limit ms) a.0 a.1)).0 in
+    let all = methods_pass 0 [] ms xs fit a.2 in
+    record { some = some.0; limit = some.1; methods = all.0; names = rises_on [] ms all.1 }
+
+-- refused methods are no class
+pub refused_is_none : (ms : List ClassMethod) (e : ImageError) → class_of ms ≡ Err e → IsClass ms → ⊥
+refused_is_none ms e h class =
+    let both : Err e ≡ passed ms = sym h ∙ class_again ms class in
+    cc

@@ -1,0 +1,218 @@
+-- The two laws of images: what is read is spelled so, and what is spelled so is read.
+use Rattle.std.proofs.Common.{◌≡◌, ℕ, zero, suc, ◌+◌, ◌*◌, ◌^◌, ◌<◌, ◌≤◌, Bool, true, false, cond, eqb, List, [], ◌∷◌, ◌++◌, length, Result, Ok, Err, refl, sym, ap, subst, ◌∙◌, append_assoc, arith, eq-eqb}
+use Rattle.std.specs.Prelude.{nat_eq, codes, IfOk, ◌==◌, ◌⊎◌}
+use Rattle.std.specs.Global.{Vec}
+use Rattle.std.specs.List.{AllByRecursion, flat_map}
+use Rattle.std.specs.Cmp.Lexicographic.{slice_cmp, pointwise, same_text}
+use Rattle.std.specs.Ordering.{nat_cmp}
+use Rattle.std.specs.declared.cmp.Ordering.TheVariants.{Less}
+use Rattle.byteorder.specs.Endian.{little_bytes}
+use Rattle.std.proofs.lemmas.Bool.{eqb-true}
+use Rattle.std.proofs.lemmas.List.{append-nil, nil_from_length}
+use Rattle.std.proofs.lemmas.List.Concat.{flat_map-cons}
+use Rattle.bpf_decode.specs.declared.decode_error.DecodeError.{DecodeError}
+use Rattle.bpf_decode.specs.declared.decode_error.DecodeError.TheVariants.{Magic, Limit, Trailing, NoMemory}
+use Rattle.bpf_decode.specs.declared.image_error.ImageError.{ImageError}
+use Rattle.bpf_decode.specs.declared.insn.Insn.{Insn}
+use Rattle.bpf_decode.specs.Instruction.{spelling, slot_total}
+use Rattle.bpf_decode.specs.Class.{ClassMethod, IsMethod, NamesRise, IsClass, IsImage, method_bytes, image_bytes}
+use Rattle.bpf_decode.specs.Reading.{◌>>=◌, checked}
+use Rattle.bpf_decode.specs.ImageReading.{GivesImage, after, between, name_at, flags_at, capacity_at, code_at, method_at, methods_at, number_at, bytes_at, header_at, image_of}
+use Rattle.bpf_decode.proofs.Bytes.{IsBytes, IsBytes-rest, bind_ok, checked_ok}
+use Rattle.bpf_decode.proofs.ImageFields.{Takes, Takes-then, ok_is, same_value, tested, between-true, between-is, number_takes, number_again, bytes_take, bytes_again, IsNameAfter, name_takes, name_again, flags_take, flags_again, capacity_takes, capacity_again, IsCodeField, code_field, code_field_takes, code_field_again}
+
+-- ---- a method
+
+abbrev above : List ℕ → List ℕ → Type 0
+above before name = slice_cmp nat_cmp before name ≡ Less
+
+abbrev made : List ℕ → ℕ → ℕ → ℕ → List Insn → ClassMethod
+made name flags in_cap out_cap is = record { name = name; flags = flags; in_cap = in_cap; out_cap = out_cap; instructions = is }
+
+pub method_takes : (before bytes : List ℕ) (m : ClassMethod) (rest : List ℕ) → IsBytes bytes → method_at before bytes ≡ Ok (m, rest) → Takes bytes (method_bytes m) rest × IsMethod m × above before m.name
+unfolding method_at
+method_takes before bytes m rest fits e =
+    let a = bind_ok (name_at before bytes) (λ name. flags_at name.1 >>= λ flags. capacity_at flags.1 >>= λ in_cap. capacity_at in_cap.1 >>= λ out_cap. code_at out_cap.1 >>= λ code. Ok (made name.0 flags.0 in_cap.0 out_cap.0 code.0, code.1)) (m, rest) e in
+    let t0 = name_takes before bytes a.0.0 a.0.1 fits a.1 in
+    let b = bind_ok (flags_at a.0.1) (λ flags. capacity_at flags.1 >>= λ in_cap. capacity_at in_cap.1 >>= λ out_cap. code_at out_cap.1 >>= λ code. Ok (made a.0.0 flags.0 in_cap.0 out_cap.0 code.0, code.1)) (m, rest) a.2 in
+    let t1 = flags_take a.0.1 b.0.0 b.0.1 t0.0.rest_fits b.1 in
+    let c = bind_ok (capacity_at b.0.1) (λ in_cap. capacity_at in_cap.1 >>= λ out_cap. code_at out_cap.1 >>= λ code. Ok (made a.0.0 b.0.0 in_cap.0 out_cap.0 code.0, code.1)) (m, rest) b.2 in
+    let t2 = capacity_takes b.0.1 c.0.0 c.0.1 t1.0.rest_fits c.1 in
+    let d = bind_ok (capacity_at c.0.1) (λ out_cap. code_at out_cap.1 >>= λ code. Ok (made a.0.0 b.0.0 c.0.0 out_cap.0 code.0, code.1)) (m, rest) c.2 in
+    let t3 = capacity_takes c.0.1 d.0.0 d.0.1 t2.0.rest_fits d.1 in
+    let f = bind_ok (code_at d.0.1) (λ code. Ok (made a.0.0 b.0.0 c.0.0 d.0.0 code.0, code.1)) (m, rest) d.2 in
+    let t4 = code_field_takes d.0.1 f.0.0 f.0.1 t3.0.rest_fits f.1 in
+    let last = same_value (made a.0.0 b.0.0 c.0.0 d.0.0 f.0.0) m f.0.1 rest f.2 in
+    let e34 = Takes-then c.0.1 (little_bytes 2 d.0.0) d.0.1 (code_field f.0.0) f.0.1 t3.0 t4.0 in
+    let e24 = Takes-then b.0.1 (little_bytes 2 c.0.0) c.0.1 (little_bytes 2 d.0.0 ++ code_field f.0.0) f.0.1 t2.0 e34 in
+    let e14 = Takes-then a.0.1 (b.0.0 ∷ []) b.0.1 (little_bytes 2 c.0.0 ++ (little_bytes 2 d.0.0 ++ code_field f.0.0)) f.0.1 t1.0 e24 in
+    let whole : Takes bytes (method_bytes (made a.0.0 b.0.0 c.0.0 d.0.0 f.0.0)) f.0.1 = Takes-then bytes (length a.0.0 ∷ a.0.0) a.0.1 ((b.0.0 ∷ []) ++ (little_bytes 2 c.0.0 ++ (little_bytes 2 d.0.0 ++ code_field f.0.0))) f.0.1 t0.0 e14 in
+    let known : IsMethod (made a.0.0 b.0.0 c.0.0 d.0.0 f.0.0) = record {
+      named = t0.1.named;
+      short = t0.1.short;
+      letters = t0.1.letters;
+      some_flag = t1.1;
+      known_flags = t1.2;
+      in_cap = t2.1;
+      out_cap = t3.1;
+      some_slot = t4.1.some;
+      slots = t4.1.few;
+      fit = t4.1.fit;
+    } in
+    subst (λ (x : ClassMethod). Takes bytes (method_bytes x) rest × IsMethod x × above before x.name) last.0 (subst (λ (r : List ℕ). Takes bytes (method_bytes (made a.0.0 b.0.0 c.0.0 d.0.0 f.0.0)) r) last.1 whole, known, t0.1.above)
+
+-- the fields behind a method's name
+abbrev behind_name : ClassMethod → List ℕ
+behind_name m = m.flags ∷ little_bytes 2 m.in_cap ++ little_bytes 2 m.out_cap ++ little_bytes 2 (slot_total m.instructions) ++ spelling m.instructions
+
+pub method_again : (before : List ℕ) (m : ClassMethod) (rest : List ℕ) → IsMethod m → above before m.name → method_at before (method_bytes m ++ rest) ≡ Ok (m, rest)
+unfolding method_at
+method_again before m rest h rises =
+    let regrouped : method_bytes m ++ rest ≡ length m.name ∷ (m.name ++ (behind_name m ++ rest)) = ap (λ (x : List ℕ). length m.name ∷ x) (append_assoc m.name (behind_name m) rest) in
+    let code : IsCodeField m.instructions = record { some = h.some_slot; few = h.slots; fit = h.fit } in
+    let after_code : List ℕ = spelling m.instructions ++ rest in
+    let after_out : List ℕ = little_bytes 2 (slot_total m.instructions) ++ after_code in
+    let after_in : List ℕ = little_bytes 2 m.out_cap ++ after_out in
+    let after_flags : List ℕ = little_bytes 2 m.in_cap ++ after_in in
+    ap (method_at before) regrouped
+    ∙ ap (λ (r : Result (List ℕ × List ℕ) DecodeError). r >>= λ name. flags_at name.1 >>= λ flags. capacity_at flags.1 >>= λ in_cap. capacity_at in_cap.1 >>= λ out_cap. code_at out_cap.1 >>= λ code. Ok (made name.0 flags.0 in_cap.0 out_cap.0 code.0, code.1)) (name_again before m.name (m.flags ∷ after_flags) (record { named = h.named; short = h.short; letters = h.letters; above = rises }))
+    ∙ ap (λ (r : Result (ℕ × List ℕ) DecodeError). r >>= λ flags. capacity_at flags.1 >>= λ in_cap. capacity_at in_cap.1 >>= λ out_cap. code_at out_cap.1 >>= λ code. Ok (made m.name flags.0 in_cap.0 out_cap.0 code.0, code.1)) (flags_again m.flags after_flags h.some_flag h.known_flags)
+    ∙ ap (λ (r : Result (ℕ × List ℕ) DecodeError). r >>= λ in_cap. capacity_at in_cap.1 >>= λ out_cap. code_at out_cap.1 >>= λ code. Ok (made m.name m.flags in_cap.0 out_cap.0 code.0, code.1)) (capacity_again m.in_cap after_in h.in_cap)
+    ∙ ap (λ (r : Result (ℕ × List ℕ) DecodeError). r >>= λ out_cap. code_at out_cap.1 >>= λ code. Ok (made m.name m.flags m.in_cap out_cap.0 code.0, code.1)) (capacity_again m.out_cap after_out h.out_cap)
+    ∙ ap (λ (r : Result (List Insn × List ℕ) DecodeError). r >>= λ code. Ok (made m.name m.flags m.in_cap m.out_cap code.0, code.1)) (code_field_again m.instructions rest code)
+
+-- ---- methods
+
+-- each name is above the one before it
+abbrev pub RisesFrom : List ℕ → List ClassMethod → Type 0
+RisesFrom before [] = Unit {0}
+RisesFrom before (m ∷ ms) = above before m.name × RisesFrom m.name ms
+
+pub rises_on : (before : List ℕ) (ms : List ClassMethod) → RisesFrom before ms → NamesRise ms
+rises_on before [] h = tt
+rises_on before (m ∷ []) h = tt
+rises_on before (m ∷ n ∷ ms) h = (h.1.0, rises_on m.name (n ∷ ms) h.1)
+
+rises_behind : (m : ClassMethod) (ms : List ClassMethod) → NamesRise (m ∷ ms) → RisesFrom m.name ms
+rises_behind m [] h = tt
+rises_behind m (n ∷ ms) h = (h.0, rises_behind n ms h.1)
+
+named_above : (name : List ℕ) → 1 ≤ length name → above [] name
+named_above [] h = absurd (omega arith)
+named_above (b ∷ bs) h = refl
+
+pub rises_first : (ms : List ClassMethod) → AllByRecursion IsMethod ms → NamesRise ms → RisesFrom [] ms
+rises_first [] all h = tt
+rises_first (m ∷ ms) all h = (named_above m.name all.0.named, rises_behind m ms h)
+
+abbrev done_decode : {A : Type 0} → A → Result A DecodeError
+done_decode y = Ok y
+
+pub after_ok : {A : Type 0} (k : ℕ) (r : Result A DecodeError) (x : A) → after k r ≡ Ok x → r ≡ Ok x
+after_ok k (Ok y) x e = ap done_decode (ok_is y x e)
+after_ok k (Err d) x e = absurd cc
+
+pub methods_take : (n k : ℕ) (before bytes : List ℕ) (x : List ClassMethod × List ℕ) → IsBytes bytes → methods_at n k before bytes ≡ Ok x
+    → Takes bytes (flat_map method_bytes x.0) x.1 × (length x.0 ≡ n) × AllByRecursion IsMethod x.0 × RisesFrom before x.0
+unfolding methods_at
+methods_take zero k before bytes x fits e =
+    subst (λ (y : List ClassMethod × List ℕ). Takes bytes (flat_map method_bytes y.0) y.1 × (length y.0 ≡ 0) × AllByRecursion IsMethod y.0 × RisesFrom before y.0) (ok_is ([], bytes) x e) (record { parts = refl; rest_fits = fits }, refl, tt, tt)
+methods_take (suc n) k before bytes x fits e =
+    let a = bind_ok (after k (method_at before bytes)) (λ first. methods_at n (k + 1) first.0.name first.1 >>= λ others. Ok (first.0 ∷ others.0, others.1)) x e in
+    let m = a.0.0 in
+    let b = bind_ok (methods_at n (k + 1) m.name a.0.1) (λ others. Ok (m ∷ others.0, others.1)) x a.2 in
+    let first = method_takes before bytes m a.0.1 fits (after_ok k (method_at before bytes) a.0 a.1) in
+    let second = methods_take n (k + 1) m.name a.0.1 b.0 first.0.rest_fits b.1 in
+    let both = Takes-then bytes (method_bytes m) a.0.1 (flat_map method_bytes b.0.0) b.0.1 first.0 second.0 in
+    let built : List ClassMethod × List ℕ = (m ∷ b.0.0, b.0.1) in
+    subst (λ (y : List ClassMethod × List ℕ). Takes bytes (flat_map method_bytes y.0) y.1 × (length y.0 ≡ suc n) × AllByRecursion IsMethod y.0 × RisesFrom before y.0) (ok_is built x b.2)
+    (rw flat_map-cons both, ap suc second.1, (first.1, second.2), (first.2, second.3))
+
+pub methods_again : (k : ℕ) (before : List ℕ) (ms : List ClassMethod) (rest : List ℕ) → AllByRecursion IsMethod ms → RisesFrom before ms → methods_at (length ms) k before (flat_map method_bytes ms ++ rest) ≡ Ok (ms, rest)
+unfolding methods_at
+methods_again k before [] rest all rises = refl
+methods_again k before (m ∷ ms) rest all rises =
+    let behind : List ℕ = flat_map method_bytes ms ++ rest in
+    let regrouped : flat_map method_bytes (m ∷ ms) ++ rest ≡ method_bytes m ++ behind = ap (λ (x : List ℕ). x ++ rest) (flat_map-cons method_bytes m ms) ∙ append_assoc (method_bytes m) (flat_map method_bytes ms) rest in
+    ap (methods_at (suc (length ms)) k before) regrouped
+    ∙ ap (λ (r : Result (ClassMethod × List ℕ) DecodeError). after k r >>= λ first. methods_at (length ms) (k + 1) first.0.name first.1 >>= λ others. Ok (first.0 ∷ others.0, others.1)) (method_again before m behind all.0 rises.0)
+    ∙ ap (λ (r : Result (List ClassMethod × List ℕ) ImageError). r >>= λ others. Ok (m ∷ others.0, others.1)) (methods_again (k + 1) m.name ms rest all.1 rises.1)
+
+-- ---- the image
+
+pub header_takes : (bytes : List ℕ) (n : ℕ) (rest : List ℕ) → IsBytes bytes → header_at bytes ≡ Ok (n, rest) → Takes bytes (codes "RCL1" ++ (little_bytes 2 n ++ (0 ∷ 0 ∷ []))) rest × (1 ≤ n) × (n ≤ 32)
+unfolding header_at
+header_takes bytes n rest fits e =
+    let a = bind_ok (bytes_at 4 bytes) (λ magic. checked (pointwise nat_eq magic.0 (codes "RCL1")) Magic magic >>= λ known. number_at magic.1 >>= λ count. checked (between 1 32 count.0) Limit count >>= λ some. number_at count.1 >>= λ none. checked (none.0 == 0) Magic none >>= λ nothing. Ok (count.0, none.1)) (n, rest) e in
+    let t0 = bytes_take 4 bytes a.0.0 a.0.1 fits a.1 in
+    let b = bind_ok (checked (pointwise nat_eq a.0.0 (codes "RCL1")) Magic a.0) (λ known. number_at a.0.1 >>= λ count. checked (between 1 32 count.0) Limit count >>= λ some. number_at count.1 >>= λ none. checked (none.0 == 0) Magic none >>= λ nothing. Ok (count.0, none.1)) (n, rest) a.2 in
+    let magic : a.0.0 ≡ codes "RCL1" = same_text a.0.0 (codes "RCL1") (sym (checked_ok (pointwise nat_eq a.0.0 (codes "RCL1")) Magic a.0 b.0 b.1).0) in
+    let c = bind_ok (number_at a.0.1) (λ count. checked (between 1 32 count.0) Limit count >>= λ some. number_at count.1 >>= λ none. checked (none.0 == 0) Magic none >>= λ nothing. Ok (count.0, none.1)) (n, rest) b.2 in
+    let t1 = number_takes a.0.1 c.0.0 c.0.1 t0.0.rest_fits c.1 in
+    let d = bind_ok (checked (between 1 32 c.0.0) Limit c.0) (λ some. number_at c.0.1 >>= λ none. checked (none.0 == 0) Magic none >>= λ nothing. Ok (c.0.0, none.1)) (n, rest) c.2 in
+    let some = between-true 1 32 c.0.0 (checked_ok (between 1 32 c.0.0) Limit c.0 d.0 d.1).0 in
+    let f = bind_ok (number_at c.0.1) (λ none. checked (none.0 == 0) Magic none >>= λ nothing. Ok (c.0.0, none.1)) (n, rest) d.2 in
+    let t2 = number_takes c.0.1 f.0.0 f.0.1 t1.0.rest_fits f.1 in
+    let g = bind_ok (checked (f.0.0 == 0) Magic f.0) (λ nothing. Ok (c.0.0, f.0.1)) (n, rest) f.2 in
+    let none : f.0.0 ≡ 0 = eqb-true f.0.0 0 (checked_ok (f.0.0 == 0) Magic f.0 g.0 g.1).0 in
+    let last = same_value c.0.0 n f.0.1 rest g.2 in
+    let zero_field : Takes c.0.1 (0 ∷ 0 ∷ []) f.0.1 = subst (λ (k : ℕ). Takes c.0.1 (little_bytes 2 k) f.0.1) none t2.0 in
+    let first : Takes bytes (codes "RCL1") a.0.1 = subst (λ (x : List ℕ). Takes bytes x a.0.1) magic t0.0 in
+    let e12 = Takes-then a.0.1 (little_bytes 2 c.0.0) c.0.1 (0 ∷ 0 ∷ []) f.0.1 t1.0 zero_field in
+    let e02 = Takes-then bytes (codes "RCL1") a.0.1 (little_bytes 2 c.0.0 ++ (0 ∷ 0 ∷ [])) f.0.1 first e12 in
+    let here : Takes bytes (codes "RCL1" ++ (little_bytes 2 c.0.0 ++ (0 ∷ 0 ∷ []))) rest = subst (λ (r : List ℕ). Takes bytes (codes "RCL1" ++ (little_bytes 2 c.0.0 ++ (0 ∷ 0 ∷ []))) r) last.1 e02 in
+    (subst (λ (k : ℕ). Takes bytes (codes "RCL1" ++ (little_bytes 2 k ++ (0 ∷ 0 ∷ []))) rest) last.0 here, omega (arith, some.0, last.0), omega (arith, some.1, last.0))
+
+pub header_again : (n : ℕ) (rest : List ℕ) → 1 ≤ n → n ≤ 32 → header_at (codes "RCL1" ++ (little_bytes 2 n ++ (0 ∷ 0 ∷ rest))) ≡ Ok (n, rest)
+unfolding header_at
+header_again n rest h k =
+    let behind : List ℕ = little_bytes 2 n ++ (0 ∷ 0 ∷ rest) in
+    let counted : ℕ × List ℕ = (n, 0 ∷ 0 ∷ rest) in
+    ap (λ (r : Result (List ℕ × List ℕ) DecodeError). r >>= λ magic. checked (pointwise nat_eq magic.0 (codes "RCL1")) Magic magic >>= λ known. number_at magic.1 >>= λ count. checked (between 1 32 count.0) Limit count >>= λ some. number_at count.1 >>= λ none. checked (none.0 == 0) Magic none >>= λ nothing. Ok (count.0, none.1)) (bytes_again 4 (codes "RCL1") behind refl)
+    ∙ ap (λ (r : Result (ℕ × List ℕ) DecodeError). r >>= λ count. checked (between 1 32 count.0) Limit count >>= λ some. number_at count.1 >>= λ none. checked (none.0 == 0) Magic none >>= λ nothing. Ok (count.0, none.1)) (number_again n (0 ∷ 0 ∷ rest) (omega arith))
+    ∙ ap (λ (b : Bool). checked b Limit counted >>= λ some. number_at (0 ∷ 0 ∷ rest) >>= λ none. checked (none.0 == 0) Magic none >>= λ nothing. Ok (n, none.1)) (between-is 1 32 n h k)
+    ∙ ap (λ (r : Result (ℕ × List ℕ) DecodeError). r >>= λ none. checked (none.0 == 0) Magic none >>= λ nothing. Ok (n, none.1)) (number_again 0 rest (omega arith))
+
+pub image_takes : (bytes : List ℕ) (ms : List ClassMethod) → IsBytes bytes → image_of bytes ≡ Ok ms → IsImage bytes ms
+unfolding image_of
+image_takes bytes ms fits e =
+    let a = bind_ok (after 0 (header_at bytes)) (λ h. methods_at h.0 0 [] h.1 >>= λ x. after h.0 (checked (length x.1 == 0) Trailing x.0)) ms e in
+    let n = a.0.0 in
+    let t = header_takes bytes n a.0.1 fits (after_ok 0 (header_at bytes) a.0 a.1) in
+    let b = bind_ok (methods_at n 0 [] a.0.1) (λ x. after n (checked (length x.1 == 0) Trailing x.0)) ms a.2 in
+    let u = methods_take n 0 [] a.0.1 b.0 t.0.rest_fits b.1 in
+    let last = checked_ok (length b.0.1 == 0) Trailing b.0.0 ms (after_ok n (checked (length b.0.1 == 0) Trailing b.0.0) ms b.2) in
+    let nothing : b.0.1 ≡ [] = nil_from_length b.0.1 (eqb-true (length b.0.1) 0 last.0) in
+    let all = flat_map method_bytes b.0.0 in
+    let both = (Takes-then bytes (codes "RCL1" ++ (little_bytes 2 n ++ (0 ∷ 0 ∷ []))) a.0.1 all b.0.1 t.0 u.0).parts in
+    let whole : bytes ≡ image_bytes b.0.0 =
+    both ∙ ap (λ (r : List ℕ). (codes "RCL1" ++ (little_bytes 2 n ++ (0 ∷ 0 ∷ []))) ++ all ++ r) nothing ∙ append-nil (codes "RCL1" ++ (little_bytes 2 n ++ (0 ∷ 0 ∷ all)))
+    ∙ ap (λ (k : ℕ). codes "RCL1" ++ (little_bytes 2 k ++ (0 ∷ 0 ∷ all))) (sym u.1) in
+    let class : IsClass b.0.0 = record { some = omega (arith, t.1, u.1); limit = omega (arith, t.2, u.1); methods = u.2; names = rises_on [] b.0.0 u.3 } in
+    subst (λ (x : List ClassMethod). IsImage bytes x) last.1 (record { class = class; spelled = whole })
+
+pub image_again : (ms : List ClassMethod) → IsClass ms → image_of (image_bytes ms) ≡ Ok ms
+unfolding image_of
+image_again ms class =
+    let all = flat_map method_bytes ms in
+    let rest : methods_at (length ms) 0 [] all ≡ Ok (ms, []) = ap (methods_at (length ms) 0 []) (sym (append-nil all)) ∙ methods_again 0 [] ms [] class.methods (rises_first ms class.methods class.names) in
+    ap (λ (r : Result (ℕ × List ℕ) DecodeError). after 0 r >>= λ h. methods_at h.0 0 [] h.1 >>= λ x. after h.0 (checked (length x.1 == 0) Trailing x.0)) (header_again (length ms) all class.some class.limit)
+    ∙ ap (λ (r : Result (List ClassMethod × List ℕ) ImageError). r >>= λ x. after (length ms) (checked (length x.1 == 0) Trailing x.0)) rest
+
+pub image_is : (bytes : List ℕ) (ms : List ClassMethod) → IsImage bytes ms → image_of bytes ≡ Ok ms
+image_is bytes ms image = ap image_of image.spelled ∙ image_again ms image.class
+
+-- ---- for the callers
+
+pub read_found : (bytes : List ℕ) (r : Result (List ClassMethod) ImageError) → IsBytes bytes → GivesImage (λ c. c) r (image_of bytes) → IfOk r (λ c. IsImage bytes c)
+read_found bytes (Ok c) fits given = image_takes bytes c fits given
+read_found bytes (Err e) fits given = tt
+
+pub read_only : (bytes : List ℕ) (ms : List ClassMethod) (r : Result (List ClassMethod) ImageError) → IsImage bytes ms → GivesImage (λ c. c) r (image_of bytes) → GivesImage (λ c. c) r (Ok ms)
+read_only bytes ms r image given = subst (λ (x : Result (List ClassMethod) ImageError). GivesImage (λ (c : List ClassMethod). c) r x) (image_is bytes ms image) given
+
+abbrev pub read_image : List ClassMethod → Result (List ClassMethod) ImageError
+read_image ms = Ok ms
+
+pub ok_image : (ms ns : List ClassMethod) → read_image ms ≡ read_image ns → ms ≡ ns
+ok_image ms ns e = cc

@@ -1,0 +1,93 @@
+-- Reading one method after the other, as a loop does.
+use Rattle.std.proofs.Common.{◌≡◌, Bool, true, false, cond, eqb, length, eq-eqb, ℕ, zero, suc, ◌+◌, ◌-◌, ◌<◌, ◌≤◌, List, [], ◌∷◌, ◌++◌, Result, Ok, Err, refl, sym, ap, ◌∙◌, append_assoc, arith}
+use Rattle.std.proofs.lemmas.List.{append-nil}
+use Rattle.std.proofs.Math.Nat.{sub-zero}
+use Rattle.bpf_decode.specs.declared.decode_error.DecodeError.{DecodeError}
+use Rattle.bpf_decode.specs.declared.decode_error.DecodeError.TheVariants.{Trailing}
+use Rattle.bpf_decode.specs.declared.image_error.ImageError.{ImageError}
+use Rattle.bpf_decode.specs.Class.{ClassMethod}
+use Rattle.std.specs.Prelude.{◌==◌}
+use Rattle.std.proofs.lemmas.Bool.{ne_eqb}
+use Rattle.bpf_decode.specs.Reading.{◌>>=◌, checked}
+use Rattle.bpf_decode.specs.ImageReading.{after, method_at, methods_at, header_at, image_of}
+
+abbrev pub Methods : Type 0
+Methods = Result (List ClassMethod × List ℕ) ImageError
+
+-- what was read before, and what is still read
+abbrev pub with_front : List ClassMethod → Methods → Methods
+with_front front read = read >>= λ x. Ok (front ++ x.0, x.1)
+
+-- the methods so far, the name of the last one and the bytes behind it
+pub record Progress (count : ℕ) (bytes : List ℕ) (front : List ClassMethod) (done : ℕ) (before rest : List ℕ) : Type 0 where
+  pub so_far : with_front front (methods_at (count - done) done before rest) ≡ methods_at count 0 [] bytes
+
+regroup : (front : List ClassMethod) (m : ClassMethod) (read : Methods) → with_front front (read >>= λ x. Ok (m ∷ x.0, x.1)) ≡ with_front (front ++ m ∷ []) read
+regroup front m (Ok x) = let same : front ++ (m ∷ x.0) ≡ (front ++ m ∷ []) ++ x.0 = sym (append_assoc front (m ∷ []) x.0) in ap (λ (ms : List ClassMethod). Ok (ms, x.1)) same
+regroup front m (Err e) = refl
+
+nothing_before : (read : Methods) → with_front [] read ≡ read
+nothing_before (Ok x) = refl
+nothing_before (Err e) = refl
+
+pub begins : (count : ℕ) (bytes : List ℕ) → Progress count bytes [] 0 [] bytes
+begins count bytes = record { so_far = rw (sub-zero count) (nothing_before (methods_at count 0 [] bytes)) }
+
+-- what the first of the methods left gives
+abbrev first_read : ℕ → ℕ → Result (ClassMethod × List ℕ) DecodeError → Methods
+first_read n done read = after done read >>= λ first. methods_at n (done + 1) first.0.name first.1 >>= λ others. Ok (first.0 ∷ others.0, others.1)
+
+one_more : (n done : ℕ) (before rest : List ℕ) (read : Result (ClassMethod × List ℕ) DecodeError) → method_at before rest ≡ read → methods_at (suc n) done before rest ≡ first_read n done read
+unfolding methods_at
+one_more n done before rest read h = ap (first_read n done) h
+
+pub goes_on : (count : ℕ) (bytes : List ℕ) (front : List ClassMethod) (done : ℕ) (before rest : List ℕ) (m : ClassMethod) (behind : List ℕ) → done < count → method_at before rest ≡ Ok (m, behind)
+    → Progress count bytes front done before rest → Progress count bytes (front ++ m ∷ []) (done + 1) m.name behind
+goes_on count bytes front done before rest m behind lt h p =
+    let n = count - (done + 1) in
+    let more : count - done ≡ suc n = omega arith in
+    let one : with_front front (methods_at (count - done) done before rest) ≡ with_front (front ++ m ∷ []) (methods_at n (done + 1) m.name behind) =
+    ap (λ (k : ℕ). with_front front (methods_at k done before rest)) more ∙ ap (with_front front) (one_more n done before rest (Ok (m, behind)) h) ∙ regroup front m (methods_at n (done + 1) m.name behind) in
+    record { so_far = sym one ∙ p.so_far }
+
+pub ends : (count : ℕ) (bytes : List ℕ) (front : List ClassMethod) (done : ℕ) (before rest : List ℕ) (e : DecodeError) → done < count → method_at before rest ≡ Err e
+    → Progress count bytes front done before rest → methods_at count 0 [] bytes ≡ Err (record { methods = done; error = e })
+ends count bytes front done before rest e lt h p =
+    let n = count - (done + 1) in
+    let more : count - done ≡ suc n = omega arith in
+    sym p.so_far ∙ ap (λ (k : ℕ). with_front front (methods_at k done before rest)) more ∙ ap (with_front front) (one_more n done before rest (Err e) h)
+
+pub is_done : (count : ℕ) (bytes : List ℕ) (front : List ClassMethod) (done : ℕ) (before rest : List ℕ) → count ≤ done → Progress count bytes front done before rest → methods_at count 0 [] bytes ≡ Ok (front, rest)
+unfolding methods_at
+is_done count bytes front done before rest le p =
+    let none : count - done ≡ 0 = omega arith in
+    sym p.so_far ∙ ap (λ (k : ℕ). with_front front (methods_at k done before rest)) none ∙ ap (λ (ms : List ClassMethod). Ok (ms, rest)) (append-nil front)
+
+-- ---- the whole image
+
+abbrev by_header : Result (ℕ × List ℕ) DecodeError → Result (List ClassMethod) ImageError
+by_header read = after 0 read >>= λ h. methods_at h.0 0 [] h.1 >>= λ ms. after h.0 (checked (length ms.1 == 0) Trailing ms.0)
+
+abbrev by_methods : ℕ → Methods → Result (List ClassMethod) ImageError
+by_methods n read = read >>= λ ms. after n (checked (length ms.1 == 0) Trailing ms.0)
+
+pub header_refused : (bytes : List ℕ) (e : DecodeError) → header_at bytes ≡ Err e → image_of bytes ≡ Err (record { methods = 0; error = e })
+unfolding image_of
+header_refused bytes e h = ap by_header h
+
+pub methods_refused : (bytes : List ℕ) (n : ℕ) (rest : List ℕ) (e : ImageError) → header_at bytes ≡ Ok (n, rest) → methods_at n 0 [] rest ≡ Err e → image_of bytes ≡ Err e
+unfolding image_of
+methods_refused bytes n rest e h k = ap by_header h ∙ ap (by_methods n) k
+
+abbrev by_end : ℕ → List ClassMethod → Bool → Result (List ClassMethod) ImageError
+by_end n ms b = after n (checked b Trailing ms)
+
+pub trailing : (bytes : List ℕ) (n : ℕ) (rest : List ℕ) (ms : List ClassMethod) (behind : List ℕ) → header_at bytes ≡ Ok (n, rest) → methods_at n 0 [] rest ≡ Ok (ms, behind) → (length behind == 0) ≡ false
+    → image_of bytes ≡ Err (record { methods = n; error = Trailing })
+unfolding image_of
+trailing bytes n rest ms behind h k some = ap by_header h ∙ ap (by_methods n) k ∙ ap (by_end n ms) some
+
+pub all_read : (bytes : List ℕ) (n : ℕ) (rest : List ℕ) (ms : List ClassMethod) (behind : List ℕ) → header_at bytes ≡ Ok (n, rest) → methods_at n 0 [] rest ≡ Ok (ms, behind) → (length behind == 0) ≡ true
+    → image_of bytes ≡ Ok ms
+unfolding image_of
+all_read bytes n rest ms behind h k none = ap by_header h ∙ ap (by_methods n) k ∙ ap (by_end n ms) none

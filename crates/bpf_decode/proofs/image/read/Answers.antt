@@ -1,0 +1,21 @@
+use Rattle.std.proofs.Common.{◌≡◌, Err, sym, ap, ◌∙◌, inl, inr}
+use Rattle.std.proofs.lemmas.Result.{err_from_is_err_and}
+use Rattle.bpf_decode.proofs.ImageLoop.{header_refused, methods_refused, trailing, all_read}
+use Rattle.bpf_decode.proofs.image.read.Goals as goal
+
+pub returns-in_err-methods-in-Ok : goal.returns-in_err-methods-in-Ok
+returns-in_err-methods-in-Ok c =
+    let p = err_from_is_err_and c.from_residual.result c.from_residual.ensures.1 in
+    rw (p.1, p.2) (elim c.in_err-methods-in-Ok.ensures [
+      | inl none ↦ inl none
+      | inr h ↦ inr (methods_refused c.args.bytes.now c.in-Ok.count c.in-Ok.rest.now c.in_err-methods-in-Ok.field-0.0 c.in-Ok.ensures h)
+    ])
+
+pub returns-then-not-is_empty : goal.returns-then-not-is_empty
+returns-then-not-is_empty c = inr (trailing c.args.bytes.now c.in-Ok.count c.in-Ok.rest.now c.in_ok-methods-in-Ok.methods.items c.in_ok-methods-in-Ok.rest.now c.in-Ok.ensures c.in_ok-methods-in-Ok.ensures (sym c.if-not-is_empty.ensures) ∙ ap (λ e. Err e) (sym c.after.ensures))
+
+pub returns-else-not-is_empty : goal.returns-else-not-is_empty
+returns-else-not-is_empty c = all_read c.args.bytes.now c.in-Ok.count c.in-Ok.rest.now c.in_ok-methods-in-Ok.methods.items c.in_ok-methods-in-Ok.rest.now c.in-Ok.ensures c.in_ok-methods-in-Ok.ensures (sym c.if-not-is_empty.ensures)
+
+pub returns-in-Err : goal.returns-in-Err
+returns-in-Err c = inr (header_refused c.args.bytes.now c.in-Err.error c.in-Err.ensures ∙ ap (λ e. Err e) (sym c.after-in-Err.ensures))

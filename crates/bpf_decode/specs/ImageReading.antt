@@ -1,0 +1,133 @@
+-- Reading a class image from left to right, with the first refusal that is met.
+use Rattle.std.specs.Prelude.{◌≡◌, ℕ, zero, suc, ◌+◌, ◌*◌, ◌==◌, ◌&&◌, ◌||◌, ◌⊎◌, nat_le, nat_eq, Bool, true, List, [], ◌∷◌, length, take, drop, codes, Result, Ok, Err, if◌then◌else◌}
+use Rattle.std.specs.Cmp.Lexicographic.{slice_cmp, pointwise}
+use Rattle.std.specs.Ordering.{nat_cmp, is_lt}
+use Rattle.byteorder.specs.Endian.{little_number}
+use Rattle.bpf_decode.specs.declared.decode_error.DecodeError.{DecodeError}
+use Rattle.bpf_decode.specs.declared.decode_error.DecodeError.TheVariants.{Truncated, Magic, Name, Order, Flags, Limit, Trailing, NoMemory}
+use Rattle.bpf_decode.specs.declared.image_error.ImageError.{ImageError}
+use Rattle.bpf_decode.specs.declared.insn.Insn.{Insn}
+use Rattle.bpf_decode.specs.Instruction.{slot_total}
+use Rattle.bpf_decode.specs.Class.{ClassMethod}
+use Rattle.bpf_decode.specs.Reading.{◌>>=◌, checked, code_of}
+
+-- ---- tests of fields
+
+-- from low to high
+abbrev pub between : ℕ → ℕ → ℕ → Bool
+between low high n = nat_le low n && nat_le n high
+
+-- a to z, 0 to 9, or _
+abbrev pub is_name_byte : ℕ → Bool
+is_name_byte b = between 97 122 b || between 48 57 b || (b == 95)
+
+abbrev pub are_name_bytes : List ℕ → Bool
+are_name_bytes [] = true
+are_name_bytes (b ∷ bs) = is_name_byte b && are_name_bytes bs
+
+-- the name is above the one before it, by bytes; every name is above the empty one
+abbrev pub is_above : List ℕ → List ℕ → Bool
+is_above before name = is_lt (slice_cmp nat_cmp before name)
+
+-- ---- fields: each is read whole and then tested, and what is read is a value and the bytes after it
+
+abbrev pub byte_at : List ℕ → Result (ℕ × List ℕ) DecodeError
+byte_at [] = Err Truncated
+byte_at (b ∷ rest) = Ok (b, rest)
+
+abbrev pub number_at : List ℕ → Result (ℕ × List ℕ) DecodeError
+number_at bytes = checked (nat_le 2 (length bytes)) Truncated (little_number 2 bytes, drop 2 bytes)
+
+abbrev pub bytes_at : ℕ → List ℕ → Result (List ℕ × List ℕ) DecodeError
+bytes_at n bytes = checked (nat_le n (length bytes)) Truncated (take n bytes, drop n bytes)
+
+-- a name behind its length
+unfoldable pub name_at : List ℕ → List ℕ → Result (List ℕ × List ℕ) DecodeError
+name_at before bytes = do
+  n ← byte_at bytes
+  sized ← checked (between 1 64 n.0) Name n
+  name ← bytes_at n.0 n.1
+  lettered ← checked (are_name_bytes name.0) Name name
+  checked (is_above before name.0) Order name
+
+unfoldable pub flags_at : List ℕ → Result (ℕ × List ℕ) DecodeError
+flags_at bytes = do
+  flags ← byte_at bytes
+  checked (between 1 3 flags.0) Flags flags
+
+unfoldable pub capacity_at : List ℕ → Result (ℕ × List ℕ) DecodeError
+capacity_at bytes = do
+  n ← number_at bytes
+  checked (between 0 4096 n.0) Limit n
+
+-- code behind its number of slots
+unfoldable pub code_at : List ℕ → Result (List Insn × List ℕ) DecodeError
+code_at bytes = do
+  n ← number_at bytes
+  some ← checked (between 1 4096 n.0) Limit n
+  code ← bytes_at (8 * n.0) n.1
+  is ← code_of code.0
+  Ok (is, code.1)
+
+-- a method behind the name of the one before it
+unfoldable pub method_at : List ℕ → List ℕ → Result (ClassMethod × List ℕ) DecodeError
+method_at before bytes = do
+  name ← name_at before bytes
+  flags ← flags_at name.1
+  in_cap ← capacity_at flags.1
+  out_cap ← capacity_at in_cap.1
+  code ← code_at out_cap.1
+  Ok (record { name = name.0; flags = flags.0; in_cap = in_cap.0; out_cap = out_cap.0; instructions = code.0 }, code.1)
+
+-- the number of methods behind `RCL1`, and a zero number
+unfoldable pub header_at : List ℕ → Result (ℕ × List ℕ) DecodeError
+header_at bytes = do
+  magic ← bytes_at 4 bytes
+  known ← checked (pointwise nat_eq magic.0 (codes "RCL1")) Magic magic
+  count ← number_at magic.1
+  some ← checked (between 1 32 count.0) Limit count
+  none ← number_at count.1
+  nothing ← checked (none.0 == 0) Magic none
+  Ok (count.0, none.1)
+
+-- ---- the image
+
+-- what is read when so many methods were read whole before
+abbrev pub after : {A : Type 0} → ℕ → Result A DecodeError → Result A ImageError
+after methods (Ok x) = Ok x
+after methods (Err e) = Err (record { methods = methods; error = e })
+
+-- n methods, when so many were read before, the last of that name
+unfoldable pub methods_at : ℕ → ℕ → List ℕ → List ℕ → Result (List ClassMethod × List ℕ) ImageError
+methods_at zero done before bytes = Ok ([], bytes)
+methods_at (suc n) done before bytes = after done (method_at before bytes) >>= λ first. methods_at n (done + 1) first.0.name first.1 >>= λ others. Ok (first.0 ∷ others.0, others.1)
+
+-- all of the bytes
+unfoldable pub image_of : List ℕ → Result (List ClassMethod) ImageError
+image_of bytes = after 0 (header_at bytes) >>= λ h. methods_at h.0 0 [] h.1 >>= λ ms. after h.0 (checked (length ms.1 == 0) Trailing ms.0)
+
+-- What reading an image returned is what the definition gives, unless memory ran out.
+abbrev pub GivesImage : {X Y : Type 0} → (X → Y) → Result X ImageError → Result Y ImageError → Type 0
+GivesImage view (Ok x) read = read ≡ Ok (view x)
+GivesImage view (Err e) read = (e.error ≡ NoMemory) ⊎ (read ≡ Err e)
+
+-- ---- methods that are given
+
+-- a method behind the name of the one before it
+abbrev pub method_after : List ℕ → ClassMethod → Result ClassMethod DecodeError
+method_after before m = do
+  sized ← checked (between 1 64 (length m.name)) Name m
+  lettered ← checked (are_name_bytes m.name) Name m
+  above ← checked (is_above before m.name) Order m
+  flagged ← checked (between 1 3 m.flags) Flags m
+  read ← checked (between 0 4096 m.in_cap) Limit m
+  written ← checked (between 0 4096 m.out_cap) Limit m
+  checked (between 1 4096 (slot_total m.instructions)) Limit m
+
+unfoldable pub methods_after : ℕ → List ℕ → List ClassMethod → Result (List ClassMethod) ImageError
+methods_after done before [] = Ok []
+methods_after done before (m ∷ ms) = after done (method_after before m) >>= λ first. methods_after (done + 1) m.name ms >>= λ others. Ok (first ∷ others)
+
+-- a class of those methods, or the first refusal as its image would be read
+unfoldable pub class_of : List ClassMethod → Result (List ClassMethod) ImageError
+class_of ms = after 0 (checked (between 1 32 (length ms)) Limit ms) >>= λ some. methods_after 0 [] ms

@@ -1,0 +1,296 @@
+//! Code as bytes: reading, and the one spelling.
+
+ghost use Rattle.std.specs.Prelude.{◌≡◌, ◌≤◌, ◌<◌, ◌++◌, List, length, IfOk, IfErr, OnOk, true};
+ghost use Rattle.bpf_decode.specs.Instruction.{IsCode, AllFit, Fits, OperandFits, slot, bytes_of, spelling, slot_total};
+ghost use Rattle.bpf_decode.specs.Table.{opcode};
+ghost use Rattle.bpf_decode.specs.Reading.{Gives, width_of, insn_at, code_of, count_of};
+ghost use Rattle.bpf_decode.specs.declared.insn.Insn.{Insn};
+ghost use Rattle.bpf_decode.specs.declared.insn.Insn.TheVariants.{LoadWide};
+ghost use Rattle.bpf_decode.specs.declared.decode_error.DecodeError.TheVariants.{NoMemory};
+
+use crate::decode_error::DecodeError;
+use crate::form::Form;
+use crate::insn::{Insn, Operand, width};
+use crate::register::Register;
+use crate::slot::Slot;
+use std::alloc::{AllocError, Global};
+
+/// The instruction at the front of the bytes, which are those from that slot on.
+#[tactic(auto, unfolding(crate::specs::Reading::insn_at))]
+fn insn_at(slot: usize, bytes: &[u8]) -> Result<Insn, DecodeError>
+    ensures { result ≡ insn_at slot bytes.now }
+{
+    let Some(fields) = Slot::of(bytes) else {
+        return Err(DecodeError::Truncated);
+    };
+    let Some(form) = Form::of(fields.opcode) else {
+        return Err(DecodeError::Opcode(slot));
+    };
+    let (Some(dst), Some(src)) = (Register::new(fields.dst), Register::new(fields.src)) else {
+        return Err(DecodeError::Register(slot));
+    };
+    if !form.allows(&fields) {
+        return Err(DecodeError::NonzeroField(slot));
+    }
+    let Some(high) = form.high_half(&bytes[8..]) else {
+        return Err(DecodeError::WideHalf(slot));
+    };
+    Ok(form.instruction(dst, src, &fields, high))
+}
+
+/// How many slots that instruction takes.
+fn width_at(slot: usize, bytes: &[u8]) -> Result<usize, DecodeError>
+    ensures { result ≡ width_of (insn_at slot bytes.now) }
+{
+    match insn_at(slot, bytes) {
+        Ok(insn) => Ok(width(&insn)),
+        Err(error) => Err(error),
+    }
+}
+
+fn count(bytes: &[u8]) -> Result<usize, DecodeError>
+    ensures { result ≡ count_of bytes.now }
+{
+    if bytes.len() % 8 != 0 {
+        return Err(DecodeError::Truncated);
+    }
+    let slots = bytes.len() / 8;
+    let mut slot = 0;
+    let mut count = 0;
+    while slot < slots {
+        slot += width_at(slot, &bytes[8 * slot..])?;
+        count += 1;
+    }
+    Ok(count)
+}
+
+/// How many instructions the bytes are. It takes no memory.
+///
+/// Refusals, slot by slot: a length that is no multiple of 8 (`Truncated`, first of all), then `Opcode`, `Register`,
+/// `NonzeroField` and `WideHalf`.
+pub fn check(bytes: &[u8]) -> Result<usize, DecodeError>
+    ensures exact { result ≡ count_of bytes.now }
+    // What is counted is code.
+    ensures found { IfOk result (λ n. (is : List Insn) × IsCode bytes.now is × (n ≡ length is)) }
+    // Code is counted.
+    ensures only { (is : List Insn) → IsCode bytes.now is → result ≡ Ok (length is) }
+{
+    count(bytes)
+}
+
+fn read(alloc: Global, bytes: &[u8]) -> Result<Vec<Insn>, DecodeError>
+    ensures { Gives (λ v. v.items) result (code_of bytes.now) }
+{
+    if bytes.len() % 8 != 0 {
+        return Err(DecodeError::Truncated);
+    }
+    // The check looks for the types inside an instruction among those that a function names.
+    let _unused: Option<Operand> = None;
+    let slots = bytes.len() / 8;
+    let mut slot = 0;
+    let mut insns = Vec::new(alloc);
+    while slot < slots {
+        let insn = insn_at(slot, &bytes[8 * slot..])?;
+        insns.push(insn)?;
+        slot += width(&insn);
+    }
+    Ok(insns)
+}
+
+/// The instructions that the bytes are. It refuses as `check` does, and with `NoMemory`.
+pub fn decode(alloc: Global, bytes: &[u8]) -> Result<Vec<Insn>, DecodeError>
+    ensures exact { Gives (λ v. v.items) result (code_of bytes.now) }
+    // What is read is spelled so.
+    ensures found { IfOk result (λ v. IsCode bytes.now v.items) }
+    // What is spelled so is read, unless memory runs out.
+    ensures only { (is : List Insn) → IsCode bytes.now is → Gives (λ v. v.items) result (Ok is) }
+{
+    read(alloc, bytes)
+}
+
+fn put(
+    out: &mut Vec<u8>,
+    form: Form,
+    dst: u8,
+    src: u8,
+    offset: u16,
+    imm: u32,
+) -> Result<(), AllocError>
+    requires dst { dst < 16 }
+    requires src { src < 16 }
+    ensures { OnOk result (out.new.items ≡ out.old.items ++ slot (opcode form) dst src offset imm) }
+{
+    let opcode = form.opcode();
+    Slot {
+        opcode,
+        dst,
+        src,
+        offset,
+        imm,
+    }
+    .put(out)
+}
+
+fn put_insn(out: &mut Vec<u8>, insn: &Insn) -> Result<(), AllocError>
+    ensures spelled { OnOk result (out.new.items ≡ out.old.items ++ bytes_of insn.now) }
+    ensures fit { Fits insn.now }
+{
+    match *insn {
+        Insn::Add { dst, imm } => put(
+            out,
+            Form::AddImmediate,
+            dst.number(),
+            0,
+            0,
+            imm.cast_unsigned(),
+        ),
+        Insn::Mov {
+            dst,
+            source: Operand::Immediate(imm),
+        } => put(
+            out,
+            Form::MovImmediate,
+            dst.number(),
+            0,
+            0,
+            imm.cast_unsigned(),
+        ),
+        Insn::Mov {
+            dst,
+            source: Operand::Register(src),
+        } => put(out, Form::MovRegister, dst.number(), src.number(), 0, 0),
+        Insn::LoadWide { dst, value } => put_wide(out, dst, value),
+        Insn::Load {
+            width,
+            dst,
+            base,
+            offset,
+        } => put(
+            out,
+            Form::Load(width),
+            dst.number(),
+            base.number(),
+            offset.cast_unsigned(),
+            0,
+        ),
+        Insn::Store {
+            width,
+            base,
+            offset,
+            source: Operand::Immediate(imm),
+        } => put(
+            out,
+            Form::StoreImmediate(width),
+            base.number(),
+            0,
+            offset.cast_unsigned(),
+            imm.cast_unsigned(),
+        ),
+        Insn::Store {
+            width,
+            base,
+            offset,
+            source: Operand::Register(src),
+        } => put(
+            out,
+            Form::StoreRegister(width),
+            base.number(),
+            src.number(),
+            offset.cast_unsigned(),
+            0,
+        ),
+        Insn::Jump { offset } => put(out, Form::Jump, 0, 0, offset.cast_unsigned(), 0),
+        Insn::Call { helper } => put(out, Form::Call, 0, 0, 0, helper),
+        Insn::CallLocal { distance } => put(out, Form::Call, 0, 1, 0, distance.cast_unsigned()),
+        Insn::Exit => put(out, Form::Exit, 0, 0, 0, 0),
+    }
+}
+
+fn put_wide(out: &mut Vec<u8>, dst: Register, value: u64) -> Result<(), AllocError>
+    ensures spelled { OnOk result (out.new.items ≡ out.old.items ++ bytes_of (LoadWide dst value)) }
+    ensures fit { dst ≤ 10 }
+{
+    let low = (value & 0xffff_ffff) as u32;
+    let high = (value >> 32) as u32;
+    put(out, Form::Wide, dst.number(), 0, 0, low)?;
+    Slot {
+        opcode: 0,
+        dst: 0,
+        src: 0,
+        offset: 0,
+        imm: high,
+    }
+    .put(out)
+}
+
+/// Whether its numbers are within their fields: they are, by their types.
+fn fits(insn: &Insn) -> bool
+    ensures always { result ≡ true }
+    ensures fit { Fits insn.now }
+{
+    match *insn {
+        Insn::Add { dst, imm } => dst.number() <= 10 && operand_fits(Operand::Immediate(imm)),
+        Insn::Mov { dst, source } => dst.number() <= 10 && operand_fits(source),
+        Insn::LoadWide { dst, value } => dst.number() <= 10 && value <= u64::MAX,
+        Insn::Load {
+            width: _,
+            dst,
+            base,
+            offset,
+        } => dst.number() <= 10 && base.number() <= 10 && offset <= i16::MAX,
+        Insn::Store {
+            width: _,
+            base,
+            offset,
+            source,
+        } => base.number() <= 10 && offset <= i16::MAX && operand_fits(source),
+        Insn::Jump { offset } => offset <= i16::MAX,
+        Insn::Call { helper } => helper <= u32::MAX,
+        Insn::CallLocal { distance } => operand_fits(Operand::Immediate(distance)),
+        Insn::Exit => true,
+    }
+}
+
+fn operand_fits(operand: Operand) -> bool
+    ensures always { result ≡ true }
+    ensures fit { OperandFits operand }
+{
+    match operand {
+        Operand::Immediate(_) => true,
+        Operand::Register(src) => src.number() <= 10,
+    }
+}
+
+/// How many slots the instructions take.
+pub fn slots(insns: &[Insn]) -> usize
+    ensures total { result ≡ slot_total insns.now }
+    ensures fit { AllFit insns.now }
+{
+    let mut total = 0;
+    for insn in insns {
+        prove!(fits(insn));
+        total += width(insn);
+    }
+    total
+}
+
+/// Writes code at the end.
+pub fn put_code(out: &mut Vec<u8>, insns: &[Insn]) -> Result<(), AllocError>
+    ensures spelled { OnOk result (out.new.items ≡ out.old.items ++ spelling insns.now) }
+    ensures fit { OnOk result (AllFit insns.now) }
+{
+    for insn in insns {
+        put_insn(out, insn)?;
+    }
+    Ok(())
+}
+
+/// The one spelling of the instructions. Only memory may run out.
+pub fn encode(alloc: Global, insns: &[Insn]) -> Result<Vec<u8>, DecodeError>
+    ensures code { IfOk result (λ v. IsCode v.items insns.now) }
+    ensures refused { IfErr result (λ e. e ≡ NoMemory) }
+{
+    let mut out = Vec::new(alloc);
+    put_code(&mut out, insns)?;
+    Ok(out)
+}

@@ -1,0 +1,102 @@
+ghost use Rattle.std.specs.Prelude.{◌≡◌};
+ghost use Rattle.bpf_decode.specs.Refusal.{number_of, name_of, slot_of};
+ghost use Rattle.bpf_decode.specs.declared.decode_error.DecodeError.TheVariants.{NoMemory};
+
+use std::alloc::{AllocError, AllocFailed};
+use thiserror::Error;
+
+/// Why bytes are refused. It prints as number and name, as `3 Opcode`.
+#[derive(Clone, Copy, Debug, PartialEq, Eq, Error)]
+#[error("{} {}", self.number(), self.name())]
+pub enum DecodeError {
+    /// A field passes the end; of code alone, the length is no multiple of 8.
+    Truncated,
+    /// The first four bytes aren't `RCL1`, or the number behind the count of methods isn't 0.
+    Magic,
+    /// No instruction has the opcode of that slot.
+    Opcode(usize),
+    /// That slot names a register above 10.
+    Register(usize),
+    /// In that slot an unused field isn't zero, or a selecting field has a value of no instruction.
+    NonzeroField(usize),
+    /// The wide load at that slot has no second half, or one with an opcode, registers or an offset.
+    WideHalf(usize),
+    /// A name's length isn't 1 to 64, or a byte of it is none of a-z, 0-9 and `_`.
+    Name,
+    /// A name isn't above the one before it.
+    Order,
+    /// Flags are none of 1, 2 and 3.
+    Flags,
+    /// A count, a capacity or a number of slots is out of its range.
+    Limit,
+    /// Bytes follow the last method.
+    Trailing,
+    /// Memory ran out.
+    NoMemory,
+}
+
+impl DecodeError {
+    /// The table of refusals: number and name.
+    fn row(self) -> (u8, &'static str)
+        ensures number { result.0 ≡ number_of self }
+        ensures name { result.1.now ≡ name_of self }
+    {
+        match self {
+            DecodeError::Truncated => (1, "Truncated"),
+            DecodeError::Magic => (2, "Magic"),
+            DecodeError::Opcode(_) => (3, "Opcode"),
+            DecodeError::Register(_) => (4, "Register"),
+            DecodeError::NonzeroField(_) => (5, "NonzeroField"),
+            DecodeError::WideHalf(_) => (6, "WideHalf"),
+            DecodeError::Name => (7, "Name"),
+            DecodeError::Order => (8, "Order"),
+            DecodeError::Flags => (9, "Flags"),
+            DecodeError::Limit => (10, "Limit"),
+            DecodeError::Trailing => (11, "Trailing"),
+            DecodeError::NoMemory => (12, "NoMemory"),
+        }
+    }
+
+    /// Its number, 1 to 12.
+    pub fn number(self) -> u8
+        ensures { result ≡ number_of self }
+    {
+        self.row().0
+    }
+
+    /// Its name.
+    pub fn name(self) -> &'static str
+        ensures { result.now ≡ name_of self }
+    {
+        self.row().1
+    }
+
+    /// The slot that it names, counted within the code that was read; `None` for those that name none.
+    pub fn slot(self) -> Option<usize>
+        ensures { result ≡ slot_of self }
+    {
+        match self {
+            DecodeError::Opcode(slot)
+            | DecodeError::Register(slot)
+            | DecodeError::NonzeroField(slot)
+            | DecodeError::WideHalf(slot) => Some(slot),
+            _ => None,
+        }
+    }
+}
+
+impl From<AllocError> for DecodeError {
+    ghost from_gives = { λ _ e. e ≡ NoMemory };
+
+    fn from(_e: AllocError) -> DecodeError {
+        DecodeError::NoMemory
+    }
+}
+
+impl<T: Drop> From<AllocFailed<T>> for DecodeError {
+    ghost from_gives = { λ _ e. e ≡ NoMemory };
+
+    fn from(_e: AllocFailed<T>) -> DecodeError {
+        DecodeError::NoMemory
+    }
+}

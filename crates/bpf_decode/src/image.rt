@@ -1,0 +1,249 @@
+//! Class images as bytes: reading, and the one spelling.
+
+ghost use Rattle.std.specs.Prelude.{◌≡◌, ◌≤◌, ◌++◌, List, [], length, take, string_bytes, IsTrue, IfOk, IfErr, OnOk};
+ghost use Rattle.bpf_decode.specs.Class.{ClassMethod, IsMethod, IsImage, method_bytes};
+ghost use Rattle.byteorder.specs.Endian.{little_bytes};
+ghost use Rattle.bpf_decode.specs.Reading.{Reads, Gives};
+ghost use Rattle.bpf_decode.specs.ImageReading.{GivesImage, are_name_bytes, byte_at, number_at, bytes_at, name_at, flags_at, capacity_at, code_at, method_at, methods_at, header_at, image_of};
+ghost use Rattle.bpf_decode.specs.declared.decode_error.DecodeError.TheVariants.{NoMemory};
+
+use crate::class_image::ClassImage;
+use crate::code::{decode, put_code, slots};
+use crate::decode_error::DecodeError;
+use crate::image_error::ImageError;
+use crate::insn::{Insn, Operand};
+use crate::limits;
+use crate::method::Method;
+use byteorder::{ByteOrder, LittleEndian};
+use std::alloc::{AllocError, Global};
+
+fn byte_at(bytes: &[u8]) -> Result<(u8, &[u8]), DecodeError>
+    ensures { Reads (λ x. (x.0, x.1.now)) result (byte_at bytes.now) }
+{
+    match bytes {
+        [] => Err(DecodeError::Truncated),
+        [byte, rest @ ..] => Ok((*byte, rest)),
+    }
+}
+
+fn number_at(bytes: &[u8]) -> Result<(u16, &[u8]), DecodeError>
+    ensures { Reads (λ x. (x.0, x.1.now)) result (number_at bytes.now) }
+{
+    if bytes.len() < 2 {
+        return Err(DecodeError::Truncated);
+    }
+    Ok((LittleEndian::read_u16(bytes), &bytes[2..]))
+}
+
+fn bytes_at(count: usize, bytes: &[u8]) -> Result<(&[u8], &[u8]), DecodeError>
+    ensures { Reads (λ x. (x.0.now, x.1.now)) result (bytes_at count bytes.now) }
+{
+    if bytes.len() < count {
+        return Err(DecodeError::Truncated);
+    }
+    Ok(bytes.split_at(count))
+}
+
+#[tactic(auto, unfolding(crate::specs::ImageReading::name_at))]
+fn name_at<'a>(before: &[u8], bytes: &'a [u8]) -> Result<(&'a [u8], &'a [u8]), DecodeError>
+    ensures read { Reads (λ x. (x.0.now, x.1.now)) result (name_at before.now bytes.now) }
+    ensures letters { IfOk result (λ x. IsTrue (are_name_bytes x.0.now)) }
+{
+    let (length, rest) = byte_at(bytes)?;
+    if !limits::is_name_length(length as usize) {
+        return Err(DecodeError::Name);
+    }
+    let (name, rest) = bytes_at(length as usize, rest)?;
+    if !limits::are_name_bytes(name) {
+        return Err(DecodeError::Name);
+    }
+    if !limits::is_above(before, name) {
+        return Err(DecodeError::Order);
+    }
+    Ok((name, rest))
+}
+
+#[tactic(auto, unfolding(crate::specs::ImageReading::flags_at))]
+fn flags_at(bytes: &[u8]) -> Result<(u8, &[u8]), DecodeError>
+    ensures { Reads (λ x. (x.0, x.1.now)) result (flags_at bytes.now) }
+{
+    let (flags, rest) = byte_at(bytes)?;
+    if !limits::are_flags(flags) {
+        return Err(DecodeError::Flags);
+    }
+    Ok((flags, rest))
+}
+
+#[tactic(auto, unfolding(crate::specs::ImageReading::capacity_at))]
+fn capacity_at(bytes: &[u8]) -> Result<(u16, &[u8]), DecodeError>
+    ensures { Reads (λ x. (x.0, x.1.now)) result (capacity_at bytes.now) }
+{
+    let (capacity, rest) = number_at(bytes)?;
+    if !limits::is_capacity(capacity) {
+        return Err(DecodeError::Limit);
+    }
+    Ok((capacity, rest))
+}
+
+#[tactic(auto, unfolding(crate::specs::ImageReading::code_at))]
+fn code_at(alloc: Global, bytes: &[u8]) -> Result<(Vec<Insn>, &[u8]), DecodeError>
+    ensures { Gives (λ x. (x.0.items, x.1.now)) result (code_at bytes.now) }
+{
+    // The check looks for the types inside an instruction among those that a function names.
+    let _unused: Option<Operand> = None;
+    let (slots, rest) = number_at(bytes)?;
+    let slots = slots as usize;
+    if !limits::is_slot_count(slots) {
+        return Err(DecodeError::Limit);
+    }
+    let (code, rest) = bytes_at(8 * slots, rest)?;
+    Ok((decode(alloc, code)?, rest))
+}
+
+#[tactic(auto, unfolding(crate::specs::ImageReading::method_at))]
+fn method_at<'a>(
+    alloc: Global,
+    before: &[u8],
+    bytes: &'a [u8],
+) -> Result<(Method, &'a [u8], &'a [u8]), DecodeError>
+    ensures read { Gives (λ x. (x.0, x.2.now)) result (method_at before.now bytes.now) }
+    ensures name { IfOk result (λ x. x.1.now ≡ x.0.name) }
+{
+    let (name, rest) = name_at(before, bytes)?;
+    let (flags, rest) = flags_at(rest)?;
+    let (in_cap, rest) = capacity_at(rest)?;
+    let (out_cap, rest) = capacity_at(rest)?;
+    let (instructions, rest) = code_at(alloc, rest)?;
+    let text = text_of(alloc, name)?;
+    Ok((
+        Method::new(text, flags, in_cap, out_cap, instructions),
+        name,
+        rest,
+    ))
+}
+
+/// The bytes of a name as text.
+fn text_of(alloc: Global, name: &[u8]) -> Result<String, AllocError>
+    requires { IsTrue (are_name_bytes name.now) }
+    ensures { IfOk result (λ t. string_bytes t ≡ name.now) }
+{
+    String::from_utf8_lossy(alloc, name)
+}
+
+#[tactic(auto, unfolding(crate::specs::ImageReading::header_at))]
+fn header_at(bytes: &[u8]) -> Result<(u16, &[u8]), DecodeError>
+    ensures { Reads (λ x. (x.0, x.1.now)) result (header_at bytes.now) }
+{
+    let (magic, rest) = bytes_at(4, bytes)?;
+    if magic != b"RCL1".as_slice() {
+        return Err(DecodeError::Magic);
+    }
+    let (count, rest) = number_at(rest)?;
+    if !limits::is_method_count(count as usize) {
+        return Err(DecodeError::Limit);
+    }
+    let (zero, rest) = number_at(rest)?;
+    if zero != 0 {
+        return Err(DecodeError::Magic);
+    }
+    Ok((count, rest))
+}
+
+fn methods_at(alloc: Global, count: u16, bytes: &[u8]) -> Result<(Vec<Method>, &[u8]), ImageError>
+    ensures { GivesImage (λ x. (x.0.items, x.1.now)) result (methods_at count 0 [] bytes.now) }
+{
+    let mut methods = Vec::new(alloc);
+    let mut before: &[u8] = &[];
+    let mut rest = bytes;
+    for done in 0..count {
+        match method_at(alloc, before, rest) {
+            Ok((method, name, behind)) => {
+                methods.push(method).map_err(|_| ImageError::after(
+                    done as usize,
+                    DecodeError::NoMemory,
+                ))?;
+                before = name;
+                rest = behind;
+            }
+            Err(error) => return Err(ImageError::after(done as usize, error)),
+        }
+    }
+    Ok((methods, rest))
+}
+
+fn read(alloc: Global, bytes: &[u8]) -> Result<Vec<Method>, ImageError>
+    ensures { GivesImage (λ v. v.items) result (image_of bytes.now) }
+{
+    match header_at(bytes) {
+        Ok((count, rest)) => {
+            let (methods, rest) = methods_at(alloc, count, rest)?;
+            if !rest.is_empty() {
+                return Err(ImageError::after(count as usize, DecodeError::Trailing));
+            }
+            Ok(methods)
+        }
+        Err(error) => Err(ImageError::after(0, error)),
+    }
+}
+
+fn class(alloc: Global, bytes: &[u8]) -> Result<ClassImage, ImageError>
+    ensures { GivesImage (λ c. c) result (image_of bytes.now) }
+{
+    match read(alloc, bytes) {
+        Ok(methods) => Ok(ClassImage::of(methods)),
+        Err(error) => Err(error),
+    }
+}
+
+/// The class that the bytes are. Each field is read whole and tested before the next.
+///
+/// Refusals, the first in reading order, with the number of methods that were read whole before: see `DecodeError`.
+/// `NoMemory` may come in place of any answer.
+pub fn read_image(alloc: Global, bytes: &[u8]) -> Result<ClassImage, ImageError>
+    ensures exact { GivesImage (λ c. c) result (image_of bytes.now) }
+    // What is read is the class's spelling.
+    ensures found { IfOk result (λ c. IsImage bytes.now c) }
+    // A class's spelling is read, unless memory runs out.
+    ensures only { (ms : List ClassMethod) → IsImage bytes.now ms → GivesImage (λ c. c) result (Ok ms) }
+{
+    class(alloc, bytes)
+}
+
+fn put_number(out: &mut Vec<u8>, number: u16) -> Result<(), AllocError>
+    ensures { OnOk result (out.new.items ≡ out.old.items ++ little_bytes 2 number) }
+{
+    let mut bytes = [0; 2];
+    LittleEndian::write_u16(&mut bytes, number);
+    out.extend_from_slice(&bytes)
+}
+
+fn put_method(out: &mut Vec<u8>, method: &Method) -> Result<(), AllocError>
+    requires { IsMethod method.now }
+    ensures { OnOk result (out.new.items ≡ out.old.items ++ method_bytes method.now) }
+{
+    let name = method.name().as_bytes();
+    let instructions = method.instructions();
+    out.push(name.len() as u8)?;
+    out.extend_from_slice(name)?;
+    out.push(method.flags())?;
+    put_number(out, method.in_cap())?;
+    put_number(out, method.out_cap())?;
+    put_number(out, slots(instructions) as u16)?;
+    put_code(out, instructions)
+}
+
+/// The one spelling of the class. Only memory may run out.
+pub fn write_image(alloc: Global, image: &ClassImage) -> Result<Vec<u8>, DecodeError>
+    ensures image { IfOk result (λ v. IsImage v.items image.now) }
+    ensures refused { IfErr result (λ e. e ≡ NoMemory) }
+{
+    let methods = image.methods();
+    let mut out = Vec::new(alloc);
+    out.extend_from_slice(b"RCL1")?;
+    put_number(&mut out, methods.len() as u16)?;
+    put_number(&mut out, 0)?;
+    for method in methods {
+        put_method(&mut out, method)?;
+    }
+    Ok(out)
+}

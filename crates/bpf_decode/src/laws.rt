@@ -1,0 +1,28 @@
+//! Laws of the grammars, proved as contracts of functions that do nothing.
+
+ghost use Rattle.std.specs.Prelude.{◌≡◌, ◌<◌, ℕ, List, get_or, Ok};
+ghost use Rattle.bpf_decode.specs.declared.insn.Insn.{Insn};
+ghost use Rattle.bpf_decode.specs.Instruction.{IsCode};
+ghost use Rattle.bpf_decode.specs.Class.{ClassMethod, IsImage};
+ghost use Rattle.bpf_decode.specs.Reading.{code_of};
+ghost use Rattle.bpf_decode.specs.ImageReading.{image_of};
+
+/// Bytes are the code of one list of instructions, and the image of one class.
+pub fn one_class()
+    ensures code { (bytes : List ℕ) (is js : List Insn) → IsCode bytes is → IsCode bytes js → is ≡ js }
+    ensures image { (bytes : List ℕ) (ms ns : List ClassMethod) → IsImage bytes ms → IsImage bytes ns → ms ≡ ns }
+{}
+
+/// A list of instructions has one spelling, and a class one image.
+pub fn one_spelling()
+    ensures code { (a b : List ℕ) (is : List Insn) → IsCode a is → IsCode b is → a ≡ b }
+    ensures image { (a b : List ℕ) (ms : List ClassMethod) → IsImage a ms → IsImage b ms → a ≡ b }
+{}
+
+/// What was written is read as the same class, and what was read is written as the same bytes.
+pub fn round_trip()
+    ensures written { (bytes : List ℕ) (ms : List ClassMethod) → IsImage bytes ms → image_of bytes ≡ Ok ms }
+    ensures read { (bytes written : List ℕ) (ms : List ClassMethod) → ((i : ℕ) → get_or bytes i 0 < 256) → image_of bytes ≡ Ok ms → IsImage written ms → written ≡ bytes }
+    ensures written_code { (bytes : List ℕ) (is : List Insn) → IsCode bytes is → code_of bytes ≡ Ok is }
+    ensures read_code { (bytes written : List ℕ) (is : List Insn) → ((i : ℕ) → get_or bytes i 0 < 256) → code_of bytes ≡ Ok is → IsCode written is → written ≡ bytes }
+{}
