@@ -5,3 +5,4 @@ pub mod Flat
 pub mod Typed
 pub mod Decoded
 pub mod Safe
+pub mod View

@@ -4,12 +4,21 @@
 
 mod argument;
 mod caps;
+mod flat;
 mod helper;
+mod laws;
+mod layout;
 mod region;
 mod value;
 
 pub use argument::{Argument, Signature};
 pub use caps::Caps;
+pub use flat::{Ending, flat_run};
 pub use helper::signature;
+pub use laws::{chains, decoded, layouts, outcomes, simulation};
+pub use layout::{Layout, is_layout};
 pub use region::Region;
 pub use value::Value;
+
+#[cfg(test)]
+mod tests;

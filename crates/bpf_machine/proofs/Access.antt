@@ -1,0 +1,91 @@
+-- Loads and stores: each instruction's bytes, and its image.
+use Rattle.std.proofs.Common.{◌≡◌, ℕ, ◌+◌, ◌*◌, ◌%◌, ◌^◌, ◌<◌, ◌≤◌, List, ◌++◌, Some, refl, ap, ◌∙◌, arith}
+use Rattle.std.specs.Prelude.{ℤ, FitsSigned}
+use Rattle.std.specs.Int.{w16}
+use Rattle.bpf_decode.specs.declared.access.Width.{Width}
+use Rattle.bpf_decode.specs.declared.access.Width.TheVariants.{Byte, Half, Word, Double}
+use Rattle.bpf_decode.specs.declared.insn.Operand.{Operand}
+use Rattle.bpf_decode.specs.declared.insn.Operand.TheVariants.{Immediate, Register}
+use Rattle.bpf_decode.specs.declared.insn.Insn.TheVariants.{Load, Store}
+use Rattle.bpf_decode.specs.Instruction.{byte_count, size_code, bytes_of, slot, imm_field, offset_field, OperandFits}
+use Rattle.bpf_machine.specs.declared.value.Value.{Value}
+use Rattle.bpf_machine.specs.declared.value.Value.TheVariants.{Num}
+use Rattle.bpf_machine.specs.declared.caps.Caps.{Caps}
+use Rattle.bpf_machine.specs.Object.{part}
+use Rattle.bpf_machine.specs.State.{◌>>=◌, le_value, le_bytes, cells, put, may_store, State, reg}
+use Rattle.bpf_machine.specs.Flat.{Layout, IsLayout, load, store, signed16, signed32, act_on, flat_after}
+use Rattle.bpf_machine.specs.Typed.{Typed, extended, number, typed_load, typed_store, typed_act, address, image}
+use Rattle.bpf_machine.specs.Decoded.{insn_act}
+use Rattle.bpf_machine.proofs.Sim.{Sim, Any, same, sim_some, sim_if, sim_bind}
+use Rattle.bpf_machine.proofs.Place.{find_sim}
+use Rattle.bpf_machine.proofs.Slot.{by_row, offset_extended, imm_extended}
+use Rattle.bpf_machine.proofs.Registers.{register, sets, numbers, after_sim}
+
+module _ (caps : Caps) (lay : Layout) where
+  -- the row of a load, by its width
+  load_row : (width : Width) (dst base offset : ℕ) (rest : List ℕ) (s : State ℕ) → dst ≤ 10 → act_on caps lay (slot (0x61 + 8 * size_code width) dst base offset 0 ++ rest) s ≡ (reg s base >>= λ n. flat_after caps lay s (load caps lay (byte_count width) dst ((n + signed16 offset) % 2 ^ 64) s))
+  load_row Byte dst base offset rest s h = by_row caps lay 0x71 dst base offset 0 rest s h
+  load_row Half dst base offset rest s h = by_row caps lay 0x69 dst base offset 0 rest s h
+  load_row Word dst base offset rest s h = by_row caps lay 0x61 dst base offset 0 rest s h
+  load_row Double dst base offset rest s h = by_row caps lay 0x79 dst base offset 0 rest s h
+
+  -- of a store of an immediate
+  store_imm_row : (width : Width) (base offset imm : ℕ) (rest : List ℕ) (s : State ℕ) → base ≤ 10 → act_on caps lay (slot (0x62 + 8 * size_code width) base 0 offset imm ++ rest) s ≡ (reg s base >>= λ n. flat_after caps lay s (store caps lay (byte_count width) ((n + signed16 offset) % 2 ^ 64) (signed32 imm) s))
+  store_imm_row Byte base offset imm rest s h = by_row caps lay 0x72 base 0 offset imm rest s h
+  store_imm_row Half base offset imm rest s h = by_row caps lay 0x6a base 0 offset imm rest s h
+  store_imm_row Word base offset imm rest s h = by_row caps lay 0x62 base 0 offset imm rest s h
+  store_imm_row Double base offset imm rest s h = by_row caps lay 0x7a base 0 offset imm rest s h
+
+  -- and of a store of a register
+  store_row : (width : Width) (base src offset : ℕ) (rest : List ℕ) (s : State ℕ) → base ≤ 10 → act_on caps lay (slot (0x63 + 8 * size_code width) base src offset 0 ++ rest) s ≡ (reg s base >>= λ n. reg s src >>= λ y. flat_after caps lay s (store caps lay (byte_count width) ((n + signed16 offset) % 2 ^ 64) y s))
+  store_row Byte base src offset rest s h = by_row caps lay 0x73 base src offset 0 rest s h
+  store_row Half base src offset rest s h = by_row caps lay 0x6b base src offset 0 rest s h
+  store_row Word base src offset rest s h = by_row caps lay 0x63 base src offset 0 rest s h
+  store_row Double base src offset rest s h = by_row caps lay 0x7b base src offset 0 rest s h
+
+  pub load_acts : (width : Width) (dst base : ℕ) (offset : ℤ) (rest : List ℕ) (s : State ℕ) → dst ≤ 10 → FitsSigned w16 offset → act_on caps lay (bytes_of (Load width dst base offset) ++ rest) s ≡ insn_act caps lay (Load width dst base offset) s
+  load_acts width dst base offset rest s d f =
+      load_row width dst base (offset_field offset) rest s d
+      ∙ ap (λ z. reg s base >>= λ n. flat_after caps lay s (load caps lay (byte_count width) dst ((n + z) % 2 ^ 64) s)) (offset_extended offset f)
+
+  pub store_acts : (width : Width) (base : ℕ) (offset : ℤ) (source : Operand) (rest : List ℕ) (s : State ℕ) → base ≤ 10 → FitsSigned w16 offset → OperandFits source → act_on caps lay (bytes_of (Store width base offset source) ++ rest) s ≡ insn_act caps lay (Store width base offset source) s
+  store_acts width base offset (Immediate imm) rest s b f g =
+      store_imm_row width base (offset_field offset) (imm_field imm) rest s b
+      ∙ ap (λ z. reg s base >>= λ n. flat_after caps lay s (store caps lay (byte_count width) ((n + z) % 2 ^ 64) (signed32 (imm_field imm)) s)) (offset_extended offset f)
+      ∙ ap (λ y. reg s base >>= λ n. flat_after caps lay s (store caps lay (byte_count width) ((n + extended offset) % 2 ^ 64) y s)) (imm_extended imm g)
+  store_acts width base offset (Register src) rest s b f g =
+      store_row width base src (offset_field offset) rest s b
+      ∙ ap (λ z. reg s base >>= λ n. reg s src >>= λ y. flat_after caps lay s (store caps lay (byte_count width) ((n + z) % 2 ^ 64) y s)) (offset_extended offset f)
+
+positive : (width : Width) → 0 < byte_count width
+positive Byte = omega arith
+positive Half = omega arith
+positive Word = omega arith
+positive Double = omega arith
+
+module _ (caps : Caps) (lay : Layout) (ok : IsLayout caps lay) where
+  loads : (w d : ℕ) (v : Value) (o : ℕ) (s : Typed) → 0 < w → Sim Any (image lay) (typed_load caps w d v o s) (load caps lay w d ((address lay v + o) % 2 ^ 64) (image lay s))
+  loads w d v o s pos =
+      sim_bind _ _ Any (image lay) _ _ _ _ (find_sim caps lay ok v o w pos) (λ p _ _.
+      sets caps lay s d (Num (le_value (part (cells s.memory p.0) p.1 w))))
+
+  stores : (w : ℕ) (v : Value) (o n : ℕ) (s : Typed) → 0 < w → Sim Any (image lay) (typed_store caps w v o n s) (store caps lay w ((address lay v + o) % 2 ^ 64) n (image lay s))
+  stores w v o n s pos =
+      sim_bind _ _ Any (image lay) _ _ _ _ (find_sim caps lay ok v o w pos) (λ p _ h.
+      let t = record s { memory = put s.memory p.0 p.1 (le_bytes w n) } in
+      sim_if Any (image lay) (may_store p.0) (Some t) (Some (image lay t)) (λ _. sim_some Any (image lay) t (image lay t) tt refl))
+
+  pub load_sim : (width : Width) (dst base : ℕ) (offset : ℤ) (s : Typed) → Sim Any (image lay) (typed_act caps (Load width dst base offset) s) (insn_act caps lay (Load width dst base offset) (image lay s))
+  load_sim width dst base offset s =
+      sim_bind Any (address lay) Any (image lay) _ _ _ _ (register caps lay s base) (λ v _ _.
+      after_sim caps lay s _ _ (loads (byte_count width) dst v (extended offset) s (positive width)))
+
+  pub store_sim : (width : Width) (base : ℕ) (offset : ℤ) (source : Operand) (s : Typed) → Sim Any (image lay) (typed_act caps (Store width base offset source) s) (insn_act caps lay (Store width base offset source) (image lay s))
+  store_sim width base offset (Immediate imm) s =
+      sim_bind Any (address lay) Any (image lay) _ _ _ _ (register caps lay s base) (λ v _ _.
+      after_sim caps lay s _ _ (stores (byte_count width) v (extended offset) (extended imm) s (positive width)))
+  store_sim width base offset (Register src) s =
+      sim_bind Any (address lay) Any (image lay) _ _ _ _ (register caps lay s base) (λ v _ _.
+      sim_bind Any (address lay) Any (image lay) _ _ _ _ (register caps lay s src) (λ y _ _.
+      sim_bind Any same Any (image lay) (number y) (Some (address lay y)) _ (λ n. flat_after caps lay (image lay s) (store caps lay (byte_count width) ((address lay v + extended offset) % 2 ^ 64) n (image lay s))) (numbers caps lay y) (λ n _ _.
+      after_sim caps lay s _ _ (stores (byte_count width) v (extended offset) n s (positive width)))))

@@ -1,0 +1,12 @@
+pub mod Sim
+pub mod Place
+pub mod Slot
+pub mod Registers
+pub mod Arithmetic
+pub mod Access
+pub mod Helpers
+pub mod Rows
+pub mod Fetch
+pub mod Counting
+pub mod Runs
+pub mod Going

@@ -1,0 +1,92 @@
+ghost use Rattle.std.specs.Prelude.{◌≡◌, ◌≤◌, ◌<◌, ◌*◌, ◌+◌, length, IfSome};
+ghost use Rattle.std.specs.Option.{option_map};
+ghost use Rattle.bpf_decode.specs.Fields.{fields_of};
+ghost use Rattle.bpf_machine.specs.Flat.{signed16, signed32, width_of, at_slot};
+ghost use Rattle.bpf_machine.specs.View.{slot_fields};
+
+/// The fields of a slot of eight bytes (RFC 9669 section 3.1); the signed ones as two's complement.
+#[derive(Clone, Copy)]
+pub struct SlotFields {
+    pub opcode: u8,
+    pub dst: u8,
+    pub src: u8,
+    pub offset: u16,
+    pub imm: u32,
+}
+
+/// The fields of the first eight bytes, if there are so many.
+pub fn read_fields(bytes: &[u8]) -> Option<SlotFields>
+    ensures fields { option_map slot_fields result ≡ fields_of bytes.now }
+    ensures long { IfSome result (λ _. 8 ≤ length bytes.now) }
+{
+    match bytes {
+        [
+            opcode,
+            registers,
+            offset0,
+            offset1,
+            imm0,
+            imm1,
+            imm2,
+            imm3,
+            ..
+        ] => Some(SlotFields {
+            opcode: *opcode,
+            dst: *registers % 16,
+            src: *registers / 16,
+            offset: u16::from(*offset0) + 256 * u16::from(*offset1),
+            imm: u32::from(*imm0)
+                + 256 * u32::from(*imm1)
+                + 65_536 * u32::from(*imm2)
+                + 16_777_216 * u32::from(*imm3),
+        }),
+        _ => None,
+    }
+}
+
+/// The bytes from a slot on, none past the end.
+pub fn at_slot(code: &[u8], slot: u64) -> &[u8]
+    ensures bytes { result.now ≡ at_slot code.now slot }
+    ensures within { 0 < length result.now → 8 * slot + length result.now ≡ length code.now }
+{
+    if slot <= code.len() as u64 / 8 {
+        &code[8 * slot as usize..]
+    } else {
+        &code[..0]
+    }
+}
+
+/// A field of 16 bits with its sign, as a number of 64 bits.
+pub fn signed16(field: u16) -> u64
+    ensures { result ≡ signed16 field }
+{
+    if field < 0x8000 {
+        u64::from(field)
+    } else {
+        u64::from(field) + 0xffff_ffff_ffff_0000
+    }
+}
+
+/// A field of 32 bits with its sign, as a number of 64 bits.
+pub fn signed32(field: u32) -> u64
+    ensures { result ≡ signed32 field }
+{
+    if field < 0x8000_0000 {
+        u64::from(field)
+    } else {
+        u64::from(field) + 0xffff_ffff_0000_0000
+    }
+}
+
+/// The bytes that a load or store moves, by its size modifier (section 5): 1, 2, 4 or 8.
+pub fn width_of(opcode: u8) -> usize
+    ensures width { result ≡ width_of opcode }
+    ensures short { result ≤ 8 }
+{
+    match opcode / 8 % 4 {
+        0 => 4,
+        1 => 2,
+        2 => 1,
+        _ => 8,
+    }
+}

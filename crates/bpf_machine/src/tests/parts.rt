@@ -1,0 +1,69 @@
+use super::reads;
+use crate::{
+    Argument, Layout, Region, chains, decoded, is_layout, layouts, outcomes, signature, simulation,
+};
+use std::test::Fail;
+
+#[test]
+fn knows_regions(rt: HostRuntime) {
+    let caps = reads(3, 8);
+    assert_eq!(rt; caps.size(Region::Input), 3);
+    assert_eq!(rt; caps.size(Region::Output), 8);
+    assert_eq!(rt; caps.size(Region::Stack), 512);
+    assert!(rt; !Region::Input.is_writable());
+    assert!(rt; Region::Output.is_writable());
+    assert!(rt; Region::Stack.is_writable());
+}
+
+const fn layout(input: u64, output: u64, stack: u64) -> Layout {
+    Layout {
+        input,
+        output,
+        stack,
+    }
+}
+
+#[test]
+fn knows_layouts(rt: HostRuntime) {
+    let caps = reads(3, 8);
+    assert_eq!(rt; layout(0, 3, 11).base(Region::Output), 3);
+    assert!(rt; is_layout(&caps, &layout(0, 3, 11)));
+    assert!(rt; !is_layout(&caps, &layout(0, 2, 11)));
+    assert!(rt; !is_layout(&caps, &layout(0, 3, 10)));
+    assert!(rt; !is_layout(&caps, &layout(600, 3, 100)));
+    assert!(rt; is_layout(&caps, &layout(0, 3, u64::MAX - 512)));
+    assert!(rt; !is_layout(&caps, &layout(0, 3, u64::MAX - 511)));
+    // regions of no bytes lie anywhere
+    assert!(rt; is_layout(&reads(0, 0), &layout(50, 50, 0)));
+}
+
+#[test]
+fn knows_helpers(rt: HostRuntime) -> Result<(), Fail> {
+    let read = signature(2).ok_or("no helper")?;
+    assert!(rt; !read.writes);
+    assert_eq!(rt;
+        read.arguments,
+        [Argument::Number, Argument::Writable].as_slice()
+    );
+    let write = signature(3).ok_or("no helper")?;
+    assert!(rt; write.writes);
+    assert_eq!(rt;
+        write.arguments,
+        [Argument::Number, Argument::Readable].as_slice()
+    );
+    let out_len = signature(13).ok_or("no helper")?;
+    assert!(rt; !out_len.writes);
+    assert_eq!(rt; out_len.arguments, [Argument::OutputLength].as_slice());
+    assert!(rt; signature(1).is_none());
+    Ok(())
+}
+
+// The laws do nothing: they were proved when the crate was checked.
+#[test]
+fn has_laws() {
+    simulation();
+    chains();
+    decoded();
+    layouts();
+    outcomes();
+}
