@@ -13,7 +13,7 @@ use Rattle.bpf_machine.specs.Flat.{Layout, act, act_on, flat_after}
 use Rattle.bpf_machine.specs.Typed.{Typed, extended, add_values, typed_act, address, image}
 use Rattle.bpf_machine.specs.Decoded.{insn_act}
 use Rattle.bpf_machine.proofs.Sim.{Sim, Any, sim_some, sim_bind}
-use Rattle.bpf_machine.proofs.Slot.{row, slot_fields, by_row, imm_extended, wide_halves}
+use Rattle.bpf_machine.proofs.Slot.{row, fields_of-slot, by_row, imm_extended, wide_halves}
 use Rattle.bpf_machine.proofs.Registers.{register, sets, adds, after_sim}
 
 module _ (caps : Caps) (lay : Layout) where
@@ -30,7 +30,7 @@ module _ (caps : Caps) (lay : Layout) where
   pub wide_acts : (dst value : ℕ) (rest : List ℕ) (s : State ℕ) → dst ≤ 10 → act_on caps lay (bytes_of (LoadWide dst value) ++ rest) s ≡ insn_act caps lay (LoadWide dst value) s
   wide_acts dst value rest s d =
       by_row caps lay 0x18 dst 0 0 (value % 2 ^ 32) (slot 0 0 0 0 (value / 2 ^ 32) ++ rest) s d
-      ∙ ap (λ next. act caps lay (row 0x18 dst 0 0 (value % 2 ^ 32)) next s) (slot_fields 0 0 0 0 (value / 2 ^ 32) rest (omega arith))
+      ∙ ap (λ next. act caps lay (row 0x18 dst 0 0 (value % 2 ^ 32)) next s) (fields_of-slot 0 0 0 0 (value / 2 ^ 32) rest (omega arith))
       ∙ ap (λ v. set_reg s dst v >>= λ t. Some (go (s.slot + 2) t)) (wide_halves value)
 
   pub add_sim : (dst : ℕ) (imm : ℤ) (s : Typed) → Sim Any (image lay) (typed_act caps (Add dst imm) s) (insn_act caps lay (Add dst imm) (image lay s))

@@ -8,7 +8,7 @@ use Rattle.bpf_machine.specs.declared.caps.Caps.{Caps}
 use Rattle.bpf_machine.specs.Object.{Object}
 use Rattle.bpf_machine.specs.State.{◌>>=◌, only, State, reg, Outcome, outcome_of, Ending, Ended, Stuck, Unfinished, one_more, goes_on, ends}
 use Rattle.bpf_machine.specs.Flat.{Layout, at_slot, act, step, exit_code, IsStuck, Chain, EndsAtExit, run}
-use Rattle.bpf_machine.specs.Safe.{RunsAreChains}
+use Rattle.bpf_machine.specs.Safe.{RunsAreChains, StuckRunsAreChains, UnfinishedRunsAreChains}
 
 pub one_less : (e : Ending) (o : Outcome) (k : ℕ) → one_more e ≡ Ended o k → (j : ℕ) × (e ≡ Ended o j) × (suc j ≡ k)
 one_less (Ended p j) o k h =
@@ -43,6 +43,14 @@ module _ (caps : Caps) (lay : Layout) where
   exit_stops code s v h = stops (fields_of (at_slot code s.slot)) (fields_of (drop 8 (at_slot code s.slot))) s v h
 
   module _ (code : List ℕ) where
+    -- a state with a step is at no exit
+    goes_from : (s t : State ℕ) → step caps lay code s ≡ Some t → exit_code caps lay code s ≡ None
+    goes_from s t st = by_exit (exit_code caps lay code s) refl
+      where
+        by_exit : (x : Option ℕ) → exit_code caps lay code s ≡ x → exit_code caps lay code s ≡ None
+        by_exit None e = e
+        by_exit (Some v) e = absurd (none-some t (sym (exit_stops code s v e) ∙ st))
+
     -- on the way to an exit no state is stuck
     never : (k n : ℕ) (s last t : State ℕ) (v : ℕ) → Chain caps lay code k s last → exit_code caps lay code last ≡ Some v → Chain caps lay code n s t → IsStuck caps lay code t → ⊥
     never zero zero s last t v at_end is here stuck =
@@ -109,13 +117,9 @@ module _ (caps : Caps) (lay : Layout) where
           ap (λ x. ends before x (exit_code caps lay code x) (goes_on (step caps lay code x) (run caps lay code before n))) here
           ∙ ap (λ x. ends before last x (goes_on (step caps lay code last) (run caps lay code before n))) is
       chain_counts (suc n) (suc k) s last v h way is =
-          ap (λ x. ends before s x (goes_on (step caps lay code s) (run caps lay code before n))) (no_exit (exit_code caps lay code s) refl)
+          ap (λ x. ends before s x (goes_on (step caps lay code s) (run caps lay code before n))) (goes_from s way.0 way.1)
           ∙ ap (λ x. goes_on x (run caps lay code before n)) way.1
           ∙ ap one_more (chain_counts n k way.0 last v (omega arith) way.2 is)
-        where
-          no_exit : (x : Option ℕ) → exit_code caps lay code s ≡ x → exit_code caps lay code s ≡ None
-          no_exit None e = e
-          no_exit (Some c) e = absurd (none-some way.0 (sym (exit_stops code s c e) ∙ way.1))
 
       pub runs_to_exit : (n : ℕ) (s : State ℕ) (o : Outcome) (k : ℕ) → (k ≤ n) × EndsAtExit caps lay code before s o k → run caps lay code before n s ≡ Ended o k
       runs_to_exit n s o k h =
@@ -124,6 +128,73 @@ module _ (caps : Caps) (lay : Layout) where
           let b = h.0 in
           chain_counts n e.before_exit s e.last e.value (omega arith) e.chain e.exit ∙ ap (λ x. Ended x (suc e.before_exit)) (sym e.outcome_is) ∙ ap (Ended o) c
 
+-- the same of a run that is stuck, and of one that wants more steps
+one_less_stuck : (e : Ending) → one_more e ≡ Stuck → e ≡ Stuck
+one_less_stuck (Ended p j) h = cc
+one_less_stuck Stuck h = refl
+one_less_stuck Unfinished h = cc
+
+one_less_unfinished : (e : Ending) → one_more e ≡ Unfinished → e ≡ Unfinished
+one_less_unfinished (Ended p j) h = cc
+one_less_unfinished Stuck h = cc
+one_less_unfinished Unfinished h = refl
+
+module _ (caps : Caps) (lay : Layout) (code : List ℕ) (before : Object) where
+  abbrev GetsStuck : ℕ → State ℕ → Type 0
+  GetsStuck n s = (k : ℕ) × (t : State ℕ) × (k < n) × Chain caps lay code k s t × IsStuck caps lay code t
+
+  stuck_at : (n : ℕ) (s : State ℕ) → ((t : State ℕ) → run caps lay code before n t ≡ Stuck → GetsStuck n t) → (x : Option ℕ) → exit_code caps lay code s ≡ x → (y : Option (State ℕ)) → step caps lay code s ≡ y → ends before s x (goes_on y (run caps lay code before n)) ≡ Stuck → GetsStuck (suc n) s
+  stuck_at n s more (Some v) is y st h = cc
+  stuck_at n s more None is None st h = (0, s, omega arith, refl, record { no_exit = is; no_step = st })
+  stuck_at n s more None is (Some t) st h =
+      let g = more t (one_less_stuck (run caps lay code before n t) h) in
+      (suc g.0, g.1, omega (arith, g.2), (t, st, g.3), g.4)
+
+  stuck_chain : (n : ℕ) (s : State ℕ) → run caps lay code before n s ≡ Stuck → GetsStuck n s
+  stuck_chain zero s h = cc
+  stuck_chain (suc n) s h = stuck_at n s (stuck_chain n) (exit_code caps lay code s) refl (step caps lay code s) refl h
+
+  -- a run of one step and more goes on as the rest of it
+  goes_one : (n : ℕ) (s t : State ℕ) → step caps lay code s ≡ Some t → run caps lay code before (suc n) s ≡ one_more (run caps lay code before n t)
+  goes_one n s t st =
+      ap (λ x. ends before s x (goes_on (step caps lay code s) (run caps lay code before n))) (goes_from caps lay code s t st)
+      ∙ ap (λ x. goes_on x (run caps lay code before n)) st
+
+  stuck_counts : (n k : ℕ) (s t : State ℕ) → k < n → Chain caps lay code k s t → IsStuck caps lay code t → run caps lay code before n s ≡ Stuck
+  stuck_counts zero k s t h way is = absurd (omega arith)
+  stuck_counts (suc n) zero s t h here is =
+      ap (λ x. run caps lay code before (suc n) x) here
+      ∙ ap (λ x. ends before t x (goes_on (step caps lay code t) (run caps lay code before n))) is.no_exit
+      ∙ ap (λ x. goes_on x (run caps lay code before n)) is.no_step
+  stuck_counts (suc n) (suc k) s t h way is =
+      goes_one n s way.0 way.1 ∙ ap one_more (stuck_counts n k way.0 t (omega arith) way.2 is)
+
+  abbrev GoesOn : ℕ → State ℕ → Type 0
+  GoesOn n s = (t : State ℕ) × Chain caps lay code n s t
+
+  goes_at : (n : ℕ) (s : State ℕ) → ((t : State ℕ) → run caps lay code before n t ≡ Unfinished → GoesOn n t) → (x : Option ℕ) (y : Option (State ℕ)) → step caps lay code s ≡ y → ends before s x (goes_on y (run caps lay code before n)) ≡ Unfinished → GoesOn (suc n) s
+  goes_at n s more (Some v) y st h = cc
+  goes_at n s more None None st h = cc
+  goes_at n s more None (Some t) st h =
+      let g = more t (one_less_unfinished (run caps lay code before n t) h) in
+      (g.0, (t, st, g.1))
+
+  unfinished_chain : (n : ℕ) (s : State ℕ) → run caps lay code before n s ≡ Unfinished → GoesOn n s
+  unfinished_chain zero s h = (s, refl)
+  unfinished_chain (suc n) s h = goes_at n s (unfinished_chain n) (exit_code caps lay code s) (step caps lay code s) refl h
+
+  unfinished_counts : (n : ℕ) (s t : State ℕ) → Chain caps lay code n s t → run caps lay code before n s ≡ Unfinished
+  unfinished_counts zero s t way = refl
+  unfinished_counts (suc n) s t way = goes_one n s way.0 way.1 ∙ ap one_more (unfinished_counts n way.0 t way.2)
+
 pub runs_are_chains : RunsAreChains
 runs_are_chains caps lay code before n s o k =
     (counted_chain caps lay code before n s o k, runs_to_exit caps lay code before n s o k)
+
+pub stuck_runs_are_chains : StuckRunsAreChains
+stuck_runs_are_chains caps lay code before n s =
+    (stuck_chain caps lay code before n s, λ h. stuck_counts caps lay code before n h.0 s h.1 h.2 h.3 h.4)
+
+pub unfinished_runs_are_chains : UnfinishedRunsAreChains
+unfinished_runs_are_chains caps lay code before n s =
+    (unfinished_chain caps lay code before n s, λ h. unfinished_counts caps lay code before n s h.0 h.1)

@@ -4,6 +4,7 @@ pub mod Slot
 pub mod Registers
 pub mod Arithmetic
 pub mod Access
+pub mod Jumps
 pub mod Helpers
 pub mod Rows
 pub mod Fetch

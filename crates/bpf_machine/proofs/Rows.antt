@@ -1,41 +1,36 @@
 -- The table, row by row: an instruction's bytes do what the instruction does, and that is the image of the typed step.
-use Rattle.std.proofs.Common.{◌≡◌, ℕ, ◌+◌, ◌%◌, ◌^◌, List, ◌++◌, Option, Some, None, refl, ap, ◌∙◌, arith}
-use Rattle.std.specs.Prelude.{ℤ, FitsSigned}
-use Rattle.std.specs.Int.{w16}
+use Rattle.std.proofs.Common.{◌≡◌, ℕ, List, ◌++◌, Option, Some, None, refl, arith}
 use Rattle.bpf_decode.specs.declared.access.Width.TheVariants.{Byte, Half, Word, Double}
 use Rattle.bpf_decode.specs.declared.insn.Operand.TheVariants.{Immediate, Register}
 use Rattle.bpf_decode.specs.declared.insn.Insn.{Insn}
 use Rattle.bpf_decode.specs.declared.insn.Insn.TheVariants.{Add, Mov, LoadWide, Load, Store, Jump, Call, CallLocal, Exit}
-use Rattle.bpf_decode.specs.Instruction.{bytes_of, offset_field, imm_field, Fits}
+use Rattle.bpf_decode.specs.Instruction.{bytes_of, imm_field, Fits}
 use Rattle.bpf_machine.specs.declared.caps.Caps.{Caps}
-use Rattle.bpf_machine.specs.State.{◌>>=◌, State, reg, go}
+use Rattle.bpf_machine.specs.State.{◌>>=◌, State, reg}
 use Rattle.bpf_machine.specs.Flat.{Layout, IsLayout, act_on, exit_on}
 use Rattle.bpf_machine.specs.Typed.{Typed, number, typed_act, typed_exit_of, address, image}
 use Rattle.bpf_machine.specs.Decoded.{insn_act, insn_exit_of}
-use Rattle.bpf_machine.proofs.Sim.{Sim, Any, same, sim_none, sim_some, sim_eq, sim_bind}
-use Rattle.bpf_machine.proofs.Slot.{by_row, offset_extended}
-use Rattle.bpf_machine.proofs.Registers.{register, numbers, after_sim}
+use Rattle.bpf_machine.proofs.Sim.{Sim, Any, same, sim_none, sim_eq, sim_bind}
+use Rattle.bpf_machine.proofs.Slot.{by_row}
+use Rattle.bpf_machine.proofs.Registers.{register, numbers}
 use Rattle.bpf_machine.proofs.Arithmetic.{add_acts, mov_acts, wide_acts, add_sim, mov_sim, wide_sim}
 use Rattle.bpf_machine.proofs.Access.{load_acts, store_acts, load_sim, store_sim}
-use Rattle.bpf_machine.proofs.Helpers.{help_sim}
+use Rattle.bpf_machine.proofs.Jumps.{jump_acts, jump_sim}
+use Rattle.bpf_machine.proofs.Helpers.{call_acts, call_sim}
 
 bind_Some : {A : Type 0} (o : Option A) → o ≡ (o >>= λ x. Some x)
 bind_Some None = refl
 bind_Some (Some x) = refl
 
 module _ (caps : Caps) (lay : Layout) where
-  jump_acts : (offset : ℤ) (rest : List ℕ) (s : State ℕ) → FitsSigned w16 offset → act_on caps lay (bytes_of (Jump offset) ++ rest) s ≡ insn_act caps lay (Jump offset) s
-  jump_acts offset rest s f =
-      by_row caps lay 0x05 0 0 (offset_field offset) 0 rest s (omega arith) ∙ ap (λ z. Some (go ((s.slot + 1 + z) % 2 ^ 64) s)) (offset_extended offset f)
-
   pub act_spelled : (i : Insn) (rest : List ℕ) (s : State ℕ) → Fits i → act_on caps lay (bytes_of i ++ rest) s ≡ insn_act caps lay i s
   act_spelled (Add dst imm) rest s h = add_acts caps lay dst imm rest s h.0 h.1
   act_spelled (Mov dst source) rest s h = mov_acts caps lay dst source rest s h.0 h.1
   act_spelled (LoadWide dst value) rest s h = wide_acts caps lay dst value rest s h.0
   act_spelled (Load width dst base offset) rest s h = load_acts caps lay width dst base offset rest s h.0 h.2
   act_spelled (Store width base offset source) rest s h = store_acts caps lay width base offset source rest s h.0 h.1 h.2
-  act_spelled (Jump offset) rest s h = jump_acts offset rest s h
-  act_spelled (Call helper) rest s h = by_row caps lay 0x85 0 0 0 helper rest s (omega arith)
+  act_spelled (Jump offset) rest s h = jump_acts caps lay offset rest s h
+  act_spelled (Call helper) rest s h = call_acts caps lay helper rest s
   act_spelled (CallLocal distance) rest s h = by_row caps lay 0x85 0 1 0 (imm_field distance) rest s (omega arith)
   act_spelled Exit rest s h = by_row caps lay 0x95 0 0 0 0 rest s (omega arith)
 
@@ -81,7 +76,7 @@ module _ (caps : Caps) (lay : Layout) (ok : IsLayout caps lay) where
   act_sim (LoadWide dst value) s = wide_sim caps lay dst value s
   act_sim (Load width dst base offset) s = load_sim caps lay ok width dst base offset s
   act_sim (Store width base offset source) s = store_sim caps lay ok width base offset source s
-  act_sim (Jump offset) s = sim_some _ _ _ _ tt refl
-  act_sim (Call helper) s = after_sim caps lay s _ _ (help_sim caps lay ok helper s)
+  act_sim (Jump offset) s = jump_sim caps lay offset s
+  act_sim (Call helper) s = call_sim caps lay ok helper s
   act_sim (CallLocal distance) s = sim_none _ _ _
   act_sim Exit s = sim_none _ _ _

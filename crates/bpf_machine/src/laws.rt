@@ -1,4 +1,4 @@
-ghost use Rattle.bpf_machine.specs.Safe.{Simulates, EndsAlwaysIsSafe, RunsAreChains, BytesAreInstructions, HasLayout, OutcomesAreOne};
+ghost use Rattle.bpf_machine.specs.Safe.{Simulates, EndsAlwaysIsSafe, RunsAreChains, StuckRunsAreChains, UnfinishedRunsAreChains, BytesAreInstructions, HasLayout, OutcomesAreOne};
 
 /// A law, proved when the crate is checked; a call does nothing. What the typed machine does with instructions,
 /// the flat machine does with their bytes, wherever the regions lie: the outcome, and the number of steps.
@@ -11,6 +11,13 @@ pub fn simulation()
 /// A law. A run by counting ends exactly where the chain of its steps ends at an exit within the count, never stuck.
 pub fn chains()
     ensures { RunsAreChains }
+{}
+
+/// A law. A run by counting is stuck exactly where the chain of its steps reaches a stuck state within the count, and
+/// wants more steps exactly where there is a chain of as many as are counted.
+pub fn other_runs()
+    ensures stuck { StuckRunsAreChains }
+    ensures unfinished { UnfinishedRunsAreChains }
 {}
 
 /// A law. Where an instruction begins, the step on the bytes is the instruction's.

@@ -1,5 +1,6 @@
-//! The machine that runs methods: its definitions, flat and typed, and that what the typed machine does with
-//! instructions, the flat one does with their bytes wherever buffers lie.
+//! What a method's bytes mean. The flat machine reads raw slots and plain addresses; the typed machine runs decoded
+//! instructions over numbers and places. The laws: what the typed machine does, the flat one does wherever the regions
+//! lie, so a method whose typed runs end is safe. `flat_run` is the flat machine as a program, slow and plain.
 #![tactic(auto)]
 
 mod argument;
@@ -15,7 +16,7 @@ pub use argument::{Argument, Signature};
 pub use caps::Caps;
 pub use flat::{Ending, flat_run};
 pub use helper::signature;
-pub use laws::{chains, decoded, layouts, outcomes, simulation};
+pub use laws::{chains, decoded, layouts, other_runs, outcomes, simulation};
 pub use layout::{Layout, is_layout};
 pub use region::Region;
 pub use value::Value;

@@ -1,6 +1,7 @@
 use super::reads;
 use crate::{
-    Argument, Layout, Region, chains, decoded, is_layout, layouts, outcomes, signature, simulation,
+    Argument, Layout, Region, chains, decoded, is_layout, layouts, other_runs, outcomes, signature,
+    simulation,
 };
 use std::test::Fail;
 
@@ -63,6 +64,7 @@ fn knows_helpers(rt: HostRuntime) -> Result<(), Fail> {
 fn has_laws() {
     simulation();
     chains();
+    other_runs();
     decoded();
     layouts();
     outcomes();
