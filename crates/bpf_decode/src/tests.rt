@@ -136,6 +136,10 @@ fn changed(place: usize, value: u8) -> [u8; 33] {
 
 fn method(alloc: Global, name: &str, flags: u8, in_cap: u16) -> Result<Method, Fail> {
     let mut code = Vec::new(alloc);
+    code.push(Insn::Mov {
+        dst: register(0)?,
+        source: Operand::Immediate(0),
+    })?;
     code.push(Insn::Exit)?;
     Ok(Method::new(String::from_str(alloc, name)?, flags, in_cap, 4096, code))
 }
