@@ -1,0 +1,11 @@
+pub mod Numbers
+pub mod Bytes
+pub mod Holding
+pub mod Passed
+pub mod Tables
+pub mod Calls
+pub mod Acts
+pub mod Flows
+pub mod Verdicts
+pub mod Runs
+pub mod Accepts

@@ -1,2 +1,10 @@
 pub mod Op
 pub mod Verified
+pub mod Known
+pub mod Kind
+pub mod Frame
+pub mod Rules
+pub mod Verdict
+pub mod Pass
+pub mod RuleNumber
+pub mod BySlot

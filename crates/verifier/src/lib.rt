@@ -1,8 +1,31 @@
-//! Which classes are safe: what `verify` accepts runs to its exit on every object and input.
+//! Which classes are safe. `verify` follows each method once, slot by slot, with what is known of its registers, and
+//! accepts the class or gives the first refusal. Every method of an accepted class runs to its exit on every object and
+//! input, wherever its regions lie, never stuck, in at most as many steps as it has instructions. A refusal is the
+//! verdict of the rules in docs/VERIFIER.md, and its rule refuses the instruction at its slot.
+//! `VerifiedClass` can only be had from `verify`, and keeps that its methods are safe beside what a run takes.
 #![tactic(auto)]
 
+mod class;
+mod edges;
+mod fault;
+mod frame;
+mod kind;
+mod known;
+mod laws;
+mod method;
 mod op;
+mod pass;
+mod refusal;
+mod rule;
+mod rules;
 mod verified;
 
+pub use class::verify;
+pub use laws::one_table;
 pub use op::Op;
+pub use refusal::Refusal;
+pub use rule::Rule;
 pub use verified::{VerifiedClass, VerifiedMethod};
+
+#[cfg(test)]
+mod tests;

@@ -1,0 +1,113 @@
+-- A method that no rule refuses is verified, and so is each of a class.
+use Rattle.std.proofs.Common.{◌≡◌, ℕ, zero, suc, ◌+◌, ◌-◌, ◌^◌, ◌<◌, ◌≤◌, List, [], ◌∷◌, ◌++◌, Option, Some, None, refl, ap, ◌∙◌, sym, subst, arith, length, length-append}
+use Rattle.std.specs.Prelude.{slice_get, replicate}
+use Rattle.std.specs.List.{AllByRecursion}
+use Rattle.std.proofs.lemmas.List.{length-replicate}
+use Rattle.std.proofs.lemmas.Option.{none-some, same_Some}
+use Rattle.bpf_decode.specs.declared.insn.Insn.{Insn}
+use Rattle.bpf_decode.specs.declared.insn.Insn.TheVariants.{Add, Mov, LoadWide, Load, Store, Jump, Call, CallLocal, Exit}
+use Rattle.bpf_decode.specs.Instruction.{slots, slot_count, slot_total}
+use Rattle.bpf_decode.specs.Class.{ClassMethod, IsMethod}
+use Rattle.bpf_machine.specs.Typed.{fetch, typed_entry}
+use Rattle.bpf_machine.specs.Safe.{caps_of, IsSafe, EndsAlways, EndsAlwaysIsSafe}
+use Rattle.verifier.specs.declared.op.Op.TheVariants.{Never}
+use Rattle.verifier.specs.declared.rule.Rule.{Rule}
+use Rattle.verifier.specs.declared.refusal.Refusal.{Refusal}
+use Rattle.verifier.specs.Op.{op_of, ops_from}
+use Rattle.verifier.specs.BySlot.{ops_by_slot}
+use Rattle.verifier.specs.Verified.{IsVerified}
+use Rattle.verifier.specs.Verdict.{method_verdict, or_later, verdict_from, class_verdict}
+use Rattle.verifier.proofs.Runs.{ends_at_exit, entry_holds}
+
+length-slots : (is : List Insn) → length (slots is) ≡ slot_total is
+length-slots [] = refl
+length-slots (i ∷ is) =
+    let h = length-slots is in
+    let nothing : Option Insn = None in
+    let a = length-append (replicate (slot_count i - 1) nothing) (slots is) in
+    let b = length-replicate (slot_count i - 1) nothing in
+    let c = some_slot i in
+    omega arith
+  where
+    some_slot : (i : Insn) → 1 ≤ slot_count i
+    some_slot (Add dst imm) = omega arith
+    some_slot (Mov dst source) = omega arith
+    some_slot (LoadWide dst value) = omega arith
+    some_slot (Load width dst from offset) = omega arith
+    some_slot (Store width to offset source) = omega arith
+    some_slot (Jump offset) = omega arith
+    some_slot (Call helper) = omega arith
+    some_slot (CallLocal distance) = omega arith
+    some_slot Exit = omega arith
+
+first_begins : (is : List Insn) → 1 ≤ slot_total is → (i : Insn) × (fetch (slots is) 0 ≡ Some i)
+first_begins [] h = absurd (omega arith)
+first_begins (i ∷ is) h = (i, refl)
+
+pub slots_small : (m : ClassMethod) → IsMethod m → length (slots m.instructions) < 2 ^ 62
+slots_small m ok = let long = length-slots m.instructions in omega (arith, ok.slots)
+
+ends_always : (m : ClassMethod) → IsMethod m → method_verdict m ≡ None → EndsAlways m
+ends_always m ok clear object caller input call =
+    let first = first_begins m.instructions ok.some_slot in
+    let s = typed_entry (caps_of m) object caller input in
+    ends_at_exit (caps_of m) m.instructions ok.fit (slots_small m ok) clear object s first.0 refl first.1
+    (entry_holds (caps_of m) object caller input call.within_limits call.short (omega (arith, ok.in_cap)) call.bytes)
+
+pub accept : EndsAlwaysIsSafe → (m : ClassMethod) → IsMethod m → method_verdict m ≡ None → IsVerified m
+accept law m ok clear =
+    let ends = ends_always m ok clear in record { method = ok; safe = law m ok.fit ends; ends = ends }
+
+-- the operations by slot are those of the instructions in a row
+by_slot_none : (n p : ℕ) (xs : List (Option Insn)) → ops_by_slot p (replicate n None ++ xs) ≡ replicate n Never ++ ops_by_slot (p + n) xs
+by_slot_none zero p xs = let e : p ≡ p + zero = omega arith in ap (λ p. ops_by_slot p xs) e
+by_slot_none (suc n) p xs =
+    let e : p + 1 + n ≡ p + suc n = omega arith in
+    ap (λ t. Never ∷ t) (by_slot_none n (p + 1) xs ∙ ap (λ p. replicate n Never ++ ops_by_slot p xs) e)
+
+pub by_slot : (p : ℕ) (is : List Insn) → ops_by_slot p (slots is) ≡ ops_from p is
+by_slot p [] = refl
+by_slot p (i ∷ is) =
+    let e : p + 1 + (slot_count i - 1) ≡ p + slot_count i = whole p i in
+    ap (λ t. op_of p i ∷ t) (by_slot_none (slot_count i - 1) (p + 1) (slots is)
+    ∙ ap (λ q. replicate (slot_count i - 1) Never ++ ops_by_slot q (slots is)) e
+    ∙ ap (λ t. replicate (slot_count i - 1) Never ++ t) (by_slot (p + slot_count i) is))
+  where
+    whole : (p : ℕ) (i : Insn) → p + 1 + (slot_count i - 1) ≡ p + slot_count i
+    whole p (Add dst imm) = omega arith
+    whole p (Mov dst source) = omega arith
+    whole p (LoadWide dst value) = omega arith
+    whole p (Load width dst from offset) = omega arith
+    whole p (Store width to offset source) = omega arith
+    whole p (Jump offset) = omega arith
+    whole p (Call helper) = omega arith
+    whole p (CallLocal distance) = omega arith
+    whole p Exit = omega arith
+
+-- a fact of all elements, at one
+pub all_at : {A : Type 0} (P : A → Type 0) (xs : List A) (k : ℕ) (x : A) → AllByRecursion P xs → slice_get xs k ≡ Some x → P x
+all_at P [] k x h e = absurd (none-some x e)
+all_at P (y ∷ xs) zero x h e = subst P (same_Some y x e) h.0
+all_at P (y ∷ xs) (suc k) x h e = all_at P xs k x h.1 e
+
+clear_first : (k : ℕ) (o : Option (ℕ × Rule)) (later : Option Refusal) → or_later k o later ≡ None → (o ≡ None) × (later ≡ None)
+clear_first k None later h = (refl, h)
+clear_first k (Some at) later h = absurd (none-some _ (sym h))
+
+accept_from : EndsAlwaysIsSafe → (ms : List ClassMethod) (k : ℕ) → AllByRecursion IsMethod ms → verdict_from k ms ≡ None → AllByRecursion IsVerified ms
+accept_from law [] k ok h = tt
+accept_from law (m ∷ ms) k ok h =
+    let c = clear_first k (method_verdict m) (verdict_from (k + 1) ms) h in
+    (accept law m ok.0 c.0, accept_from law ms (k + 1) ok.1 c.1)
+
+-- each method of a class without refusal is verified
+pub accept_all : EndsAlwaysIsSafe → (ms : List ClassMethod) → AllByRecursion IsMethod ms → class_verdict ms ≡ None → AllByRecursion IsVerified ms
+accept_all law ms ok h = accept_from law ms 0 ok h
+
+pub all_safe : (ms : List ClassMethod) → AllByRecursion IsVerified ms → AllByRecursion IsSafe ms
+all_safe [] h = tt
+all_safe (m ∷ ms) h = (h.0.safe, all_safe ms h.1)
+
+pub all_end : (ms : List ClassMethod) → AllByRecursion IsVerified ms → AllByRecursion EndsAlways ms
+all_end [] h = tt
+all_end (m ∷ ms) h = (h.0.ends, all_end ms h.1)

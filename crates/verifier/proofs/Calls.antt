@@ -1,0 +1,218 @@
+-- A helper's call that no rule refuses has its arguments, and what it leaves is what its frame says.
+use Rattle.std.proofs.Common.{◌≡◌, ℕ, ◌+◌, ◌%◌, ◌^◌, ◌<◌, ◌≤◌, List, [], ◌∷◌, Option, Some, None, Bool, true, false, refl, ap, ◌∙◌, sym, arith, length, length-take}
+use Rattle.std.specs.Prelude.{◌==◌, ◌&&◌, ◌||◌, not, nat_lt, nat_le, if◌then◌else◌, is_some}
+use Rattle.std.proofs.lemmas.Bool.{leb-true, le-leb, false≢true, cond-true, cond_both}
+use Rattle.std.proofs.lemmas.Option.{same_Some}
+use Rattle.bpf_machine.specs.declared.region.Region.{Region}
+use Rattle.bpf_machine.specs.declared.value.Value.{Value}
+use Rattle.bpf_machine.specs.declared.value.Value.TheVariants as values
+use Rattle.bpf_machine.specs.declared.caps.Caps.{Caps}
+use Rattle.bpf_machine.specs.declared.argument.Argument.{Argument}
+use Rattle.bpf_machine.specs.declared.argument.Argument.TheVariants.{Number, OutputLength, Readable, Writable}
+use Rattle.bpf_machine.specs.Object.{Object, AreBytes, data_of}
+use Rattle.bpf_machine.specs.State.{◌>>=◌, only, Memory, cells, may_store, size, reg}
+use Rattle.bpf_machine.specs.Helper.{Takes, signature_of, Given, nothing_given, with_number, with_text, with_room, Effect, effect, first_text, read_effect, write_effect, answered, bytes_in, write_room}
+use Rattle.bpf_machine.specs.Typed.{Typed, number, locate, typed_range, typed_arguments, typed_help}
+use Rattle.verifier.specs.declared.kind.Kind.{Kind}
+use Rattle.verifier.specs.declared.kind.Kind.TheVariants.{Unset, Num, Ptr}
+use Rattle.verifier.specs.declared.fault.Fault.TheVariants.{OutOfRegion, ReadOnly, WrongKind}
+use Rattle.verifier.specs.Known.{upper}
+use Rattle.verifier.specs.Kind.{is_num, is_ptr, is_at_most, range_leaves, range_is_read_only}
+use Rattle.verifier.specs.Frame.{Frame, kind_at, after_call, ObjectIsBytes, Holds}
+use Rattle.verifier.specs.Rules.{has_fault, some_fault, taken_fault, call_fault, writes_object}
+use Rattle.verifier.proofs.Numbers.{known_small, holds_upper, holds_any}
+use Rattle.verifier.proofs.Holding.{HoldsValue, read, num_is_set, ptr_is_set, numbered, drop_each}
+use Rattle.verifier.proofs.Bytes.{bytes_take, bytes_drop, bytes_put, bytes_spliced}
+use Rattle.verifier.proofs.Passed.{not_false, neither}
+
+pub one_more : {A B : Type 0} (o : Option A) (x : A) (g : A → Option B) (y : B) → o ≡ Some x → g x ≡ Some y → (o >>= g) ≡ Some y
+one_more o x g y e h = ap (λ o. o >>= g) e ∙ h
+
+-- a register that has a number
+record Counted (f : Frame) (s : Typed) (k : ℕ) : Type 0 where
+  n : ℕ
+  value : Value
+  there : reg s k ≡ Some value
+  is : number value ≡ Some n
+  holds : HoldsValue (kind_at f k) value
+  small : n < 2 ^ 64
+
+counted : (f : Frame) (s : Typed) (k : ℕ) → Holds f s → is_num (kind_at f k) ≡ true → Counted f s k
+counted f s k h b =
+    let v = read f s k h (num_is_set _ b) in
+    let n = numbered (kind_at f k) v.value v.holds b in
+    record { n = n.0; value = v.value; there = v.there; is = n.1; holds = v.holds; small = n.2 }
+
+at_most_is_num : (n : ℕ) (x : Kind) → is_at_most n x ≡ true → is_num x ≡ true
+at_most_is_num n Unset h = h
+at_most_is_num n (Num k) h = refl
+at_most_is_num n (Ptr r k) h = h
+
+below_cap : (x : Kind) (v : Value) (n cap : ℕ) → HoldsValue x v → number v ≡ Some n → is_at_most cap x ≡ true → nat_le n cap ≡ true
+below_cap Unset v n cap h e b = absurd (false≢true b)
+below_cap (Ptr r k) v n cap h e b = absurd (false≢true b)
+below_cap (Num k) (values.Num m) n cap h e b =
+    let same = same_Some m n e in
+    let up = holds_upper k m h in
+    let le = leb-true (upper k) cap b in
+    le-leb n cap (omega arith)
+below_cap (Num k) (values.Ptr r at) n cap h e b = absurd h
+
+target_of : (none writes : Bool) (p : Region × ℕ) → (writes ≡ true → may_store p.0 ≡ true) → (t : Option (Region × ℕ)) × ((if none then Some None else if writes then only (may_store p.0) (Some (Some p)) else Some (Some p)) ≡ Some t)
+target_of true writes p h = (None, refl)
+target_of false true p h = (Some p, cond-true (may_store p.0) (Some (Some p)) None (h refl))
+target_of false false p h = (Some p, refl)
+
+range_made : (caps : Caps) (writes : Bool) (v : Value) (n : ℕ) (p : Region × ℕ) → locate caps v 0 n ≡ Some p → (writes ≡ true → may_store p.0 ≡ true) → (t : Option (Region × ℕ)) × (typed_range caps writes v n ≡ Some t)
+range_made caps writes v n p found h =
+    let t = target_of (n == 0) writes p h in
+    (t.0, ap (λ p. p >>= λ p. if n == 0 then Some None else if writes then only (may_store p.0) (Some (Some p)) else Some (Some p)) found ∙ t.1)
+
+-- a range that was not refused is one
+ranged : (caps : Caps) (writes : Bool) (x y : Kind) (v w : Value) (n : ℕ) → HoldsValue x v → HoldsValue y w → number w ≡ Some n → is_ptr x ≡ true → is_num y ≡ true → range_leaves caps x y ≡ false → (writes ≡ true → range_is_read_only x y ≡ false) → (p : Option (Region × ℕ)) × (typed_range caps writes v n ≡ Some p)
+ranged caps writes Unset y v w n h i e a b c d = absurd (false≢true a)
+ranged caps writes (Num k) y v w n h i e a b c d = absurd (false≢true a)
+ranged caps writes (Ptr r k) Unset v w n h i e a b c d = absurd (false≢true b)
+ranged caps writes (Ptr r k) (Ptr q l) v w n h i e a b c d = absurd (false≢true b)
+ranged caps writes (Ptr r k) (Num l) (values.Num m) w n h i e a b c d = absurd h
+ranged caps writes (Ptr r k) (Num l) (values.Ptr q at) (values.Ptr p o) n h i e a b c d = absurd i
+ranged caps writes (Ptr r k) (Num l) (values.Ptr q at) (values.Num m) n h i e a b c d =
+    let same = same_Some m n e in
+    let up = holds_upper k at h.1 in
+    let up' = holds_upper l m i in
+    let le = leb-true (upper k + upper l) (size caps r) (not_false _ c) in
+    let same_size : size caps r ≡ size caps q = ap (size caps) h.0 in
+    let at_small = known_small k at h.1 in
+    let whole : (at + 0) % 2 ^ 64 ≡ at = omega arith in
+    let fits : (at + 0) % 2 ^ 64 + n ≤ size caps q = omega arith in
+    let found = cond-true (nat_le ((at + 0) % 2 ^ 64 + n) (size caps q)) (Some (q, (at + 0) % 2 ^ 64)) None (le-leb _ _ fits) in
+    range_made caps writes (values.Ptr q at) n (q, (at + 0) % 2 ^ 64) found (λ t. ap may_store (sym h.0) ∙ not_false _ (d t))
+
+abbrev AreTexts : List (List ℕ) → Type 0
+AreTexts [] = Unit {0}
+AreTexts (t ∷ ts) = (AreBytes t × (length t < 2 ^ 64)) × AreTexts ts
+
+-- the arguments of a helper that was not refused
+record Gets (caps : Caps) (s : Typed) (arguments : List Argument) (k : ℕ) : Type 0 where
+  given : Given
+  is : typed_arguments caps s arguments k ≡ Some given
+  room : given.room < 2 ^ 64
+  texts : AreTexts given.texts
+
+bytes_of : (m : Memory) (p : Option (Region × ℕ)) (n : ℕ) → ((r : Region) → AreBytes (cells m r)) → n < 2 ^ 64 → AreBytes (bytes_in m p n) × (length (bytes_in m p n) < 2 ^ 64)
+bytes_of m None n h small = (tt, omega arith)
+bytes_of m (Some p) n h small = (bytes_take n _ (bytes_drop p.1 (cells m p.0) (h p.0)), simp length-take (omega arith))
+
+module _ (caps : Caps) (f : Frame) (s : Typed) (h : Holds f s) where
+  gets : (arguments : List Argument) (k : ℕ) → some_fault caps f OutOfRegion arguments k ≡ false → some_fault caps f ReadOnly arguments k ≡ false → some_fault caps f WrongKind arguments k ≡ false → Gets caps s arguments k
+  gets [] k a b c = record { given = nothing_given s.caller; is = refl; room = omega arith; texts = tt }
+  gets (Number ∷ more) k a b c =
+      let two = neither (has_fault caps f WrongKind Number k) (some_fault caps f WrongKind more (k + 1)) c in
+      let n = counted f s k h (not_false _ two.0) in
+      let g = gets more (k + 1) a b two.1 in
+      record { given = with_number n.n g.given; is = one_more _ _ _ _ n.there (one_more _ _ _ _ n.is (one_more _ _ _ _ g.is refl)); room = g.room; texts = g.texts }
+  gets (OutputLength ∷ more) k a b c =
+      let two = neither (has_fault caps f WrongKind OutputLength k) (some_fault caps f WrongKind more (k + 1)) c in
+      let most = not_false _ two.0 in
+      let n = counted f s k h (at_most_is_num _ _ most) in
+      let g = gets more (k + 1) a b two.1 in
+      let le = below_cap _ _ n.n caps.out_cap n.holds n.is most in
+      record { given = with_number n.n g.given; is = one_more _ _ _ _ n.there (one_more _ _ _ _ n.is (cond-true _ _ _ le ∙ one_more _ _ _ _ g.is refl)); room = g.room; texts = g.texts }
+  gets (Readable ∷ more) k a b c =
+      let a1 = neither (has_fault caps f OutOfRegion Readable k) (some_fault caps f OutOfRegion more (k + 2)) a in
+      let c1 = neither (has_fault caps f WrongKind Readable k) (some_fault caps f WrongKind more (k + 2)) c in
+      let c2 = neither (not (is_ptr (kind_at f k))) (not (is_num (kind_at f (k + 1)))) c1.0 in
+      let pointer = not_false _ c2.0 in
+      let count = not_false _ c2.1 in
+      let v = read f s k h (ptr_is_set _ pointer) in
+      let n = counted f s (k + 1) h count in
+      let p = ranged caps false _ _ v.value n.value n.n v.holds n.holds n.is pointer count a1.0 (λ e. absurd (false≢true e)) in
+      let g = gets more (k + 2) a1.1 b c1.1 in
+      record {
+        given = with_text (bytes_in s.memory p.0 n.n) g.given;
+        is = one_more _ _ _ _ v.there (one_more _ _ _ _ n.there (one_more _ _ _ _ n.is (one_more _ _ _ _ p.1 (one_more _ _ _ _ g.is refl))));
+        room = g.room;
+        texts = (bytes_of s.memory p.0 n.n h.memory n.small, g.texts);
+      }
+  gets (Writable ∷ more) k a b c =
+      let a1 = neither (has_fault caps f OutOfRegion Writable k) (some_fault caps f OutOfRegion more (k + 2)) a in
+      let b1 = neither (has_fault caps f ReadOnly Writable k) (some_fault caps f ReadOnly more (k + 2)) b in
+      let c1 = neither (has_fault caps f WrongKind Writable k) (some_fault caps f WrongKind more (k + 2)) c in
+      let c2 = neither (not (is_ptr (kind_at f k))) (not (is_num (kind_at f (k + 1)))) c1.0 in
+      let pointer = not_false _ c2.0 in
+      let count = not_false _ c2.1 in
+      let v = read f s k h (ptr_is_set _ pointer) in
+      let n = counted f s (k + 1) h count in
+      let p = ranged caps true _ _ v.value n.value n.n v.holds n.holds n.is pointer count a1.0 (λ e. b1.0) in
+      let g = gets more (k + 2) a1.1 b1.1 c1.1 in
+      record {
+        given = with_room n.n p.0 g.given;
+        is = one_more _ _ _ _ v.there (one_more _ _ _ _ n.there (one_more _ _ _ _ n.is (one_more _ _ _ _ p.1 (one_more _ _ _ _ g.is refl))));
+        room = n.small;
+        texts = g.texts;
+      }
+
+-- what a helper leaves
+record Left (e : Effect) : Type 0 where
+  answer : e.answer < 2 ^ 64
+  object : ObjectIsBytes e.object
+  bytes : AreBytes e.bytes
+
+read_left : (object : Object) (out_len at n : ℕ) → n < 2 ^ 64 → ObjectIsBytes object → Left (read_effect object out_len at n)
+read_left None out_len at n h o = record { answer = omega arith; object = tt; bytes = tt }
+read_left (Some bytes) out_len at n h o = record { answer = simp length-take (omega arith); object = o; bytes = bytes_take n _ (bytes_drop at bytes o) }
+
+data_is_bytes : (object : Object) → ObjectIsBytes object → AreBytes (data_of object)
+data_is_bytes None o = tt
+data_is_bytes (Some bytes) o = o
+
+write_left : (object : Object) (out_len at : ℕ) (text : List ℕ) → length text < 2 ^ 64 → AreBytes text → ObjectIsBytes object → Left (write_effect object out_len at text)
+write_left object out_len at text small b o =
+    cond_both (nat_lt 65536 (at + length text)) _ _ Left (λ _. record { answer = omega arith; object = o; bytes = tt })
+    (λ _. record { answer = small; object = bytes_spliced (data_of object) at text (data_is_bytes object o) b; bytes = tt })
+
+first_is_text : (texts : List (List ℕ)) → AreTexts texts → AreBytes (first_text texts) × (length (first_text texts) < 2 ^ 64)
+first_is_text [] h = (tt, omega arith)
+first_is_text (t ∷ ts) h = h.0
+
+effect_left : (id : ℕ) (object : Object) (out_len : ℕ) (g : Given) → g.room < 2 ^ 64 → AreTexts g.texts → ObjectIsBytes object → Left (effect id object out_len g)
+effect_left id object out_len g room texts o =
+    let t = first_is_text g.texts texts in
+    cond_both (id == 2) _ _ Left (λ _. read_left object out_len _ g.room room o)
+    (λ _. cond_both (id == 3) _ _ Left (λ _. write_left object out_len _ (first_text g.texts) t.1 t.0 o)
+    (λ _. record { answer = omega arith; object = o; bytes = tt }))
+
+room_bytes : (m : Memory) (p : Option (Region × ℕ)) (bytes : List ℕ) → ((r : Region) → AreBytes (cells m r)) → AreBytes bytes → (r : Region) → AreBytes (cells (write_room m p bytes) r)
+room_bytes m None bytes h b r = h r
+room_bytes m (Some p) bytes h b r = bytes_put m p.0 p.1 bytes h b r
+
+there : (o : Option Takes) → not (is_some o) ≡ false → (takes : Takes) × (o ≡ Some takes)
+there None h = absurd (false≢true (sym h))
+there (Some takes) h = (takes, refl)
+
+may_write : (w c : Bool) → (w && not c) ≡ false → (not w || c) ≡ true
+may_write true true h = refl
+may_write true false h = absurd (false≢true (sym h))
+may_write false c h = refl
+
+-- a call that no rule refuses is made, and the frame after it is true
+pub call_made : (caps : Caps) (helper : ℕ) (f : Frame) (s : Typed) → Holds f s → not (is_some (signature_of helper)) ≡ false → call_fault caps f OutOfRegion helper ≡ false → call_fault caps f ReadOnly helper ≡ false → call_fault caps f WrongKind helper ≡ false → (writes_object (signature_of helper) && not caps.writes) ≡ false → (t : Typed) × (typed_help caps helper s ≡ Some t) × Holds (after_call f) t
+call_made caps helper f s h known a b c w =
+    let sig = there (signature_of helper) known in
+    let takes = sig.0 in
+    let a' = sym (ap (taken_fault caps f OutOfRegion) sig.1) ∙ a in
+    let b' = sym (ap (taken_fault caps f ReadOnly) sig.1) ∙ b in
+    let c' = sym (ap (taken_fault caps f WrongKind) sig.1) ∙ c in
+    let w' = sym (ap (λ o. writes_object o && not caps.writes) sig.1) ∙ w in
+    let g = gets caps f s h takes.arguments 1 a' b' c' in
+    let e = effect helper s.object s.out_len g.given in
+    let l = effect_left helper s.object s.out_len g.given g.room g.texts h.object in
+    let t : Typed = record { slot = s.slot; regs = answered s.regs (values.Num e.answer); memory = write_room s.memory g.given.target e.bytes; object = e.object; out_len = e.out_len; caller = s.caller } in (
+      t,
+      one_more (signature_of helper) takes _ t sig.1 (cond-true _ _ _ (may_write takes.writes caps.writes w') ∙ one_more _ _ _ _ g.is refl),
+      record {
+        regs = (holds_any e.answer l.answer, (tt, (tt, (tt, (tt, (tt, drop_each 6 f s.regs h.regs))))));
+        memory = room_bytes s.memory g.given.target e.bytes h.memory l.bytes;
+        object = l.object;
+      },
+    )

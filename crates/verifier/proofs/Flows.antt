@@ -1,0 +1,123 @@
+-- A flow from a slot that no rule refuses is part of the frame at the slot to which it goes.
+use Rattle.std.proofs.Common.{◌≡◌, ℕ, ℤ, pos, negsuc, zero, suc, ◌+◌, ◌^◌, ◌<◌, List, Option, Some, None, true, refl, ap, ◌∙◌, sym, subst, arith, length, ⊎_elim}
+use Rattle.std.specs.Prelude.{◌==◌, is_some, if◌then◌else◌}
+use Rattle.std.proofs.Math.Nat.{mod-eq_of_lt}
+use Rattle.std.proofs.lemmas.Bool.{cases_lt, eq-eqb, cond-true, cond_both, false≢true}
+use Rattle.bpf_decode.specs.declared.insn.Insn.{Insn}
+use Rattle.bpf_decode.specs.declared.insn.Insn.TheVariants.{Add, Mov, LoadWide, Load, Store, Jump, Call, CallLocal, Exit}
+use Rattle.bpf_decode.specs.Instruction.{Fits}
+use Rattle.bpf_machine.specs.declared.value.Value.{Value}
+use Rattle.bpf_machine.specs.declared.caps.Caps.{Caps}
+use Rattle.bpf_machine.specs.Typed.{fetch}
+use Rattle.verifier.specs.declared.rule.Rule.{Rule}
+use Rattle.verifier.specs.declared.edges.Edges.{Edges}
+use Rattle.verifier.specs.declared.edges.Edges.TheVariants.{Leaves, One, Two}
+use Rattle.verifier.specs.Frame.{Frame, join, flow, HoldsEach}
+use Rattle.verifier.specs.Rules.{begins_at, target, rule_at}
+use Rattle.verifier.specs.Verdict.{edges, Table, frame_at, joined, along, unless_refused, flow_from, incoming, whole_table}
+use Rattle.verifier.proofs.Holding.{join_left, join_right}
+use Rattle.verifier.proofs.Passed.{not_false, Passed}
+use Rattle.verifier.proofs.Acts.{Among}
+use Rattle.verifier.proofs.Tables.{whole_at}
+
+-- a frame that is there and is true of the registers
+pub record Meets (inflow : Option Frame) (cs : List (Option Value)) : Type 0 where
+  pub frame : Frame
+  pub is : inflow ≡ Some frame
+  pub holds : HoldsEach frame cs
+
+meets_joined : (inflow : Option Frame) (g : Frame) (cs : List (Option Value)) → HoldsEach g cs → HoldsEach (joined inflow g) cs
+meets_joined None g cs h = h
+meets_joined (Some f) g cs h = join_right f g cs h
+
+meets_kept : (inflow : Option Frame) (g : Frame) (cs : List (Option Value)) → Meets inflow cs → Meets (Some (joined inflow g)) cs
+meets_kept inflow g cs h = record {
+  frame = join h.frame g;
+  is = ap (λ o. Some (joined o g)) h.is;
+  holds = join_left h.frame g cs h.holds;
+}
+
+-- a flow along an edge is joined in
+one_meets : (a q : ℕ) (g : Frame) (inflow : Option Frame) (cs : List (Option Value)) → HoldsEach g cs → q ≡ a → Meets (if a == q then Some (joined inflow g) else inflow) cs
+one_meets a q g inflow cs h e = record {
+  frame = joined inflow g;
+  is = cond-true (a == q) (Some (joined inflow g)) inflow (eq-eqb a q (sym e));
+  holds = meets_joined inflow g cs h;
+}
+
+-- and one along another edge leaves what is there
+one_keeps : (a q : ℕ) (g : Frame) (inflow : Option Frame) (cs : List (Option Value)) → Meets inflow cs → Meets (if a == q then Some (joined inflow g) else inflow) cs
+one_keeps a q g inflow cs h = cond_both (a == q) (Some (joined inflow g)) inflow (λ o. Meets o cs) (λ _. meets_kept inflow g cs h) (λ _. h)
+
+along_meets : (to : Edges) (q : ℕ) (g : Frame) (inflow : Option Frame) (cs : List (Option Value)) → HoldsEach g cs → Among q to → Meets (along to q g inflow) cs
+along_meets Leaves q g inflow cs h e = absurd e
+along_meets (One a) q g inflow cs h e = one_meets a q g inflow cs h e
+along_meets (Two a b) q g inflow cs h e =
+    let first = if a == q then Some (joined inflow g) else inflow in
+    ⊎_elim (λ e. one_keeps b q g first cs (one_meets a q g inflow cs h e)) (λ e. one_meets b q g first cs h e) e
+
+along_keeps : (to : Edges) (q : ℕ) (g : Frame) (inflow : Option Frame) (cs : List (Option Value)) → Meets inflow cs → Meets (along to q g inflow) cs
+along_keeps Leaves q g inflow cs h = h
+along_keeps (One a) q g inflow cs h = one_keeps a q g inflow cs h
+along_keeps (Two a b) q g inflow cs h = one_keeps b q g _ cs (one_keeps a q g inflow cs h)
+
+module _ (caps : Caps) (code : List (Option Insn)) where
+  unless_keeps : (r : Option Rule) (flown inflow : Option Frame) (cs : List (Option Value)) → Meets flown cs → Meets inflow cs → Meets (unless_refused r flown inflow) cs
+  unless_keeps None flown inflow cs a b = a
+  unless_keeps (Some rule) flown inflow cs a b = b
+
+  flow_keeps : (p q : ℕ) (o : Option Insn) (frame inflow : Option Frame) (cs : List (Option Value)) → Meets inflow cs → Meets (flow_from caps code p q o frame inflow) cs
+  flow_keeps p q None frame inflow cs h = h
+  flow_keeps p q (Some i) None inflow cs h = h
+  flow_keeps p q (Some i) (Some f) inflow cs h = unless_keeps (rule_at caps code p i (Some f)) (along (edges i p) q (flow i f) inflow) inflow cs (along_keeps (edges i p) q (flow i f) inflow cs h) h
+
+  -- the flow from slot p is in what the slots below n bring to q, where p is below n
+  flowed : (table : Table) (p q : ℕ) (i : Insn) (f : Frame) (cs : List (Option Value)) → fetch code p ≡ Some i → frame_at table p ≡ Some f → rule_at caps code p i (Some f) ≡ None → HoldsEach (flow i f) cs → Among q (edges i p) → (n : ℕ) → p < n → Meets (incoming caps code table q n) cs
+  flowed table p q i f cs at is none h to zero lt = absurd (omega arith)
+  flowed table p q i f cs at is none h to (suc n) lt =
+      ⊎_elim (λ less. flow_keeps n q (fetch code n) (frame_at table n) (incoming caps code table q n) cs (flowed table p q i f cs at is none h to n less))
+      (λ le. let same : p ≡ n = omega arith in subst (λ n. Meets (incoming caps code table q (suc n)) cs) same here) (cases_lt p n)
+    where
+      here : Meets (incoming caps code table q (suc p)) cs
+      here =
+          let inflow = incoming caps code table q p in
+          subst (λ o. Meets o cs) (sym (ap (λ o. flow_from caps code p q o (frame_at table p) inflow) at
+          ∙ ap (λ f. flow_from caps code p q (Some i) f inflow) is
+          ∙ ap (λ r. unless_refused r (along (edges i p) q (flow i f) inflow) inflow) none)) (along_meets (edges i p) q (flow i f) inflow cs h to)
+
+  -- so the frame at the slot is true of what the flow is true of
+  pub arrives : (p q : ℕ) (i : Insn) (f : Frame) (cs : List (Option Value)) → fetch code p ≡ Some i → frame_at (whole_table caps code) p ≡ Some f → rule_at caps code p i (Some f) ≡ None → HoldsEach (flow i f) cs → Among q (edges i p) → p < q → q < length code → Meets (frame_at (whole_table caps code) q) cs
+  arrives p q i f cs at is none h to lt inside =
+      subst (λ o. Meets o cs) (sym (whole_at caps code q inside)) (flowed (whole_table caps code) p q i f cs at is none h to q lt)
+
+  -- an edge goes forward, to an instruction
+  pub record Edge (p q : ℕ) : Type 0 where
+    pub forward : p < q
+    pub to : Insn
+    pub begins : fetch code q ≡ Some to
+
+  there : {A : Type 0} (o : Option A) → is_some o ≡ true → (x : A) × (o ≡ Some x)
+  there None h = absurd (false≢true h)
+  there (Some x) h = (x, refl)
+
+  edge_at : (p q : ℕ) → p < q → begins_at code q ≡ true → Edge p q
+  edge_at p q lt t = let b = there (fetch code q) t in record { forward = lt; to = b.0; begins = b.1 }
+
+  forward : (p : ℕ) (offset : ℤ) (f : Frame) → p < 2 ^ 62 → Fits (Jump offset) → Passed caps code p (Jump offset) f → Edge p (target p offset)
+  forward p (pos n) f small fit ok =
+      let near = fit.sfits in
+      let whole : p + 1 + n < 2 ^ 64 = omega arith in
+      let same : target p (pos n) ≡ p + 1 + n = mod-eq_of_lt whole in
+      edge_at p (target p (pos n)) (omega arith) (not_false _ ok.target)
+  forward p (negsuc n) f small fit ok = absurd (false≢true (sym ok.backward))
+
+  pub edge : (p q : ℕ) (i : Insn) (f : Frame) → p < 2 ^ 62 → Fits i → Passed caps code p i f → Among q (edges i p) → Edge p q
+  edge p q (Add d imm) f small fit ok e = subst (Edge p) (sym e) (edge_at p (p + 1) (omega arith) (not_false _ ok.falls))
+  edge p q (Mov d x) f small fit ok e = subst (Edge p) (sym e) (edge_at p (p + 1) (omega arith) (not_false _ ok.falls))
+  edge p q (LoadWide d value) f small fit ok e = subst (Edge p) (sym e) (edge_at p (p + 2) (omega arith) (not_false _ ok.falls))
+  edge p q (Load width d from offset) f small fit ok e = subst (Edge p) (sym e) (edge_at p (p + 1) (omega arith) (not_false _ ok.falls))
+  edge p q (Store width to offset x) f small fit ok e = subst (Edge p) (sym e) (edge_at p (p + 1) (omega arith) (not_false _ ok.falls))
+  edge p q (Jump offset) f small fit ok e = subst (Edge p) (sym e) (forward p offset f small fit ok)
+  edge p q (Call helper) f small fit ok e = subst (Edge p) (sym e) (edge_at p (p + 1) (omega arith) (not_false _ ok.falls))
+  edge p q (CallLocal distance) f small fit ok e = absurd e
+  edge p q Exit f small fit ok e = absurd e

@@ -1,0 +1,78 @@
+-- What is known of an instruction that no rule refuses, and of one that a rule does.
+use Rattle.std.proofs.Common.{◌≡◌, ℕ, List, [], ◌∷◌, Option, Some, None, Bool, true, false, refl, ap, ◌∙◌, sym}
+use Rattle.std.specs.Prelude.{not, ◌||◌, if◌then◌else◌}
+use Rattle.std.proofs.lemmas.Bool.{false≢true}
+use Rattle.std.proofs.lemmas.Option.{none-some, same_Some}
+use Rattle.bpf_decode.specs.declared.insn.Insn.{Insn}
+use Rattle.bpf_machine.specs.declared.caps.Caps.{Caps}
+use Rattle.verifier.specs.declared.rule.Rule.{Rule}
+use Rattle.verifier.specs.Frame.{Frame}
+use Rattle.verifier.specs.Rules.{is_backward, misses, falls_off, is_local_call, reads_unset, writes_r10, stores_pointer, leaves_region, writes_read_only, calls_unknown, passes_wrong_kind, writes_in_reader, returns_pointer, breaks, in_order, first_broken, rule_at}
+
+pub not_false : (b : Bool) → not b ≡ false → b ≡ true
+not_false true h = refl
+not_false false h = sym h
+
+pub neither : (a b : Bool) → (a || b) ≡ false → (a ≡ false) × (b ≡ false)
+neither true b h = absurd (false≢true (sym h))
+neither false b h = (refl, h)
+
+abbrev AllFalse : (Rule → Bool) → List Rule → Type 0
+AllFalse test [] = Unit {0}
+AllFalse test (rule ∷ rules) = (test rule ≡ false) × AllFalse test rules
+
+tested : (t : Bool) (rule : Rule) (rest : Option Rule) → (if t then Some rule else rest) ≡ None → (t ≡ false) × (rest ≡ None)
+tested true rule rest h = absurd (none-some rule (sym h))
+tested false rule rest h = (refl, h)
+
+all_false : (test : Rule → Bool) (rules : List Rule) → first_broken test rules ≡ None → AllFalse test rules
+all_false test [] h = tt
+all_false test (rule ∷ rules) h =
+    let t = tested (test rule) rule (first_broken test rules) h in (t.0, all_false test rules t.1)
+
+chosen : (test : Rule → Bool) (t : Bool) (rule r : Rule) (rest : Option Rule) → test rule ≡ t → (rest ≡ Some r → test r ≡ true) → (if t then Some rule else rest) ≡ Some r → test r ≡ true
+chosen test true rule r rest e later h = ap test (sym (same_Some rule r h)) ∙ e
+chosen test false rule r rest e later h = later h
+
+-- the rule that is found is broken
+pub first_is_broken : (test : Rule → Bool) (rules : List Rule) (r : Rule) → first_broken test rules ≡ Some r → test r ≡ true
+first_is_broken test [] r h = absurd (none-some r h)
+first_is_broken test (rule ∷ rules) r h =
+    chosen test (test rule) rule r (first_broken test rules) refl (first_is_broken test rules r) h
+
+-- no rule refuses it, under its frame
+pub record Passed (caps : Caps) (code : List (Option Insn)) (p : ℕ) (i : Insn) (f : Frame) : Type 0 where
+  pub backward : is_backward i ≡ false
+  pub target : misses code p i ≡ false
+  pub falls : falls_off code p i ≡ false
+  pub local : is_local_call i ≡ false
+  pub unset : reads_unset caps f i ≡ false
+  pub r10 : writes_r10 i ≡ false
+  pub stored : stores_pointer f i ≡ false
+  pub bounds : leaves_region caps f i ≡ false
+  pub read_only : writes_read_only caps f i ≡ false
+  pub unknown : calls_unknown i ≡ false
+  pub kinds : passes_wrong_kind caps f i ≡ false
+  pub writes : writes_in_reader caps i ≡ false
+  pub returns : returns_pointer f i ≡ false
+
+pub passed : (caps : Caps) (code : List (Option Insn)) (p : ℕ) (i : Insn) (f : Frame) → rule_at caps code p i (Some f) ≡ None → Passed caps code p i f
+passed caps code p i f h =
+    let a = all_false (breaks caps code p i (Some f)) in_order h in
+    let b = a.1.1.1.1 in
+    let c = b.1.1.1.1 in
+    record {
+      backward = a.0;
+      target = a.1.0;
+      falls = a.1.1.0;
+      local = a.1.1.1.0;
+      unset = b.0;
+      r10 = b.1.0;
+      stored = c.0;
+      bounds = c.1.0;
+      read_only = c.1.1.0;
+      unknown = c.1.1.1.0;
+      kinds = c.1.1.1.1.0;
+      writes = c.1.1.1.1.1.0;
+      returns = c.1.1.1.1.1.1.0;
+    }

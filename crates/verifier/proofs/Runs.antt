@@ -1,0 +1,162 @@
+-- A run from a slot whose frame is true of the state ends at an exit.
+use Rattle.std.proofs.Common.{◌≡◌, ◌≢◌, ℕ, zero, suc, ◌+◌, ◌-◌, ◌^◌, ◌<◌, ◌≤◌, List, [], ◌∷◌, ◌++◌, Option, Some, None, refl, ap, ◌∙◌, sym, subst, arith, length, drop}
+use Rattle.std.specs.Prelude.{replicate}
+use Rattle.std.proofs.lemmas.Option.{none-some, same_Some, slice_get_within}
+use Rattle.bpf_decode.specs.declared.insn.Insn.{Insn}
+use Rattle.bpf_decode.specs.declared.insn.Insn.TheVariants.{Add, Mov, LoadWide, Load, Store, Jump, Call, CallLocal, Exit}
+use Rattle.bpf_decode.specs.Instruction.{Fits, AllFit, slots, slot_count}
+use Rattle.bpf_machine.specs.declared.region.Region.{Region}
+use Rattle.bpf_machine.specs.declared.region.Region.TheVariants.{Input, Output, Stack}
+use Rattle.bpf_machine.specs.declared.caps.Caps.{Caps}
+use Rattle.bpf_machine.specs.Object.{Object, IsObject, AreBytes}
+use Rattle.bpf_machine.specs.State.{◌>>=◌, cells, opening, Outcome, Ended, Stuck, outcome_of, one_more, goes_on, ends}
+use Rattle.bpf_machine.specs.Typed.{Typed, fetch, typed_act, typed_exit_of, typed_run, typed_entry}
+use Rattle.verifier.specs.Frame.{Frame, entry_frame, ObjectIsBytes, Holds}
+use Rattle.verifier.specs.Rules.{rule_at}
+use Rattle.verifier.specs.Verdict.{frame_at, whole_table, code_verdict}
+use Rattle.verifier.proofs.Numbers.{holds_constant, holds_any}
+use Rattle.verifier.proofs.Bytes.{bytes_append, bytes_zeros}
+use Rattle.verifier.proofs.Passed.{Passed, passed}
+use Rattle.verifier.proofs.Acts.{acts, exits}
+use Rattle.verifier.proofs.Tables.{whole_at}
+use Rattle.verifier.proofs.Flows.{arrives, edge}
+use Rattle.verifier.proofs.Verdicts.{passes}
+
+-- the instructions that begin in a part of the code
+left : List (Option Insn) → ℕ
+left [] = 0
+left (None ∷ xs) = left xs
+left (Some i ∷ xs) = suc (left xs)
+
+left_drop : (n : ℕ) (xs : List (Option Insn)) → left (drop n xs) ≤ left xs
+unfolding left
+left_drop zero xs = omega arith
+left_drop (suc n) [] = omega arith
+left_drop (suc n) (None ∷ xs) = left_drop n xs
+left_drop (suc n) (Some i ∷ xs) = let h = left_drop n xs in omega arith
+
+left_further : (xs : List (Option Insn)) (p q : ℕ) (i : Insn) → fetch xs p ≡ Some i → p < q → left (drop q xs) < left (drop p xs)
+unfolding left
+left_further [] p q i e h = absurd (none-some i e)
+left_further (x ∷ xs) p zero i e h = absurd (omega arith)
+left_further (None ∷ xs) zero (suc q) i e h = absurd (none-some i e)
+left_further (Some j ∷ xs) zero (suc q) i e h = let l = left_drop q xs in omega arith
+left_further (x ∷ xs) (suc p) (suc q) i e h = left_further xs p q i e (omega arith)
+
+left_none : (n : ℕ) (xs : List (Option Insn)) → left (replicate n None ++ xs) ≡ left xs
+unfolding left
+left_none zero xs = refl
+left_none (suc n) xs = left_none n xs
+
+left_slots : (is : List Insn) → left (slots is) ≡ length is
+unfolding left
+left_slots [] = refl
+left_slots (i ∷ is) = ap suc (left_none (slot_count i - 1) (slots is) ∙ left_slots is)
+
+fit_past : (n : ℕ) (xs : List (Option Insn)) (p : ℕ) (i : Insn) → ((q : ℕ) → fetch xs q ≡ Some i → Fits i) → fetch (replicate n None ++ xs) p ≡ Some i → Fits i
+fit_past zero xs p i rec e = rec p e
+fit_past (suc n) xs zero i rec e = absurd (none-some i e)
+fit_past (suc n) xs (suc p) i rec e = fit_past n xs p i rec e
+
+fit_at : (is : List Insn) (p : ℕ) (i : Insn) → AllFit is → fetch (slots is) p ≡ Some i → Fits i
+fit_at [] p i fit e = absurd (none-some i e)
+fit_at (j ∷ is) zero i fit e = subst Fits (same_Some j i e) fit.0
+fit_at (j ∷ is) (suc p) i fit e = fit_past (slot_count j - 1) (slots is) p i (λ q. fit_at is q i fit.1) e
+
+-- an inner value that is there
+inner : {A : Type 0} (o : Option (Option A)) (x : A) → (o >>= λ c. c) ≡ Some x → o ≡ Some (Some x)
+inner None x h = absurd (none-some x h)
+inner (Some o) x h = ap Some h
+
+module _ (caps : Caps) (is : List Insn) (fit : AllFit is) (small : length (slots is) < 2 ^ 62) (clear : code_verdict caps (slots is) ≡ None) (before : Object) where
+  abbrev Ends : ℕ → Typed → Type 0
+  Ends n s = (o : Outcome) × (k : ℕ) × (typed_run caps (slots is) before n s ≡ Ended o k)
+
+  -- a state at an instruction, of which the frame there is true
+  record At (s : Typed) : Type 0 where
+    insn : Insn
+    there : fetch (slots is) s.slot ≡ Some insn
+    frame : Frame
+    is_frame : frame_at (whole_table caps (slots is)) s.slot ≡ Some frame
+    holds : Holds frame s
+
+  clear_at : (s : Typed) (a : At s) → rule_at caps (slots is) s.slot a.insn (Some a.frame) ≡ None
+  clear_at s a = sym (ap (rule_at caps (slots is) s.slot a.insn) a.is_frame) ∙ passes caps (slots is) s.slot a.insn clear a.there
+
+  abbrev Later : ℕ → Type 0
+  Later n = (t : Typed) → left (drop t.slot (slots is)) ≤ n → At t → Ends n t
+
+  on : (n : ℕ) (s : Typed) (a : At s) → left (drop s.slot (slots is)) ≤ suc n → Later n → a.insn ≢ Exit → typed_exit_of a.insn s ≡ None → Ends (suc n) s
+  on n s a le later not_exit no_code =
+      let rule = clear_at s a in
+      let ok = passed caps (slots is) s.slot a.insn a.frame rule in
+      let fits = fit_at is s.slot a.insn fit a.there in
+      let t = acts caps (slots is) s.slot a.insn a.frame s fits a.holds ok not_exit in
+      let inside = slice_get_within (slots is) s.slot (Some a.insn) (inner _ _ a.there) in
+      let e = edge caps (slots is) s.slot t.to.slot a.insn a.frame (omega arith) fits ok t.slot in
+      let inside' = slice_get_within (slots is) t.to.slot (Some e.to) (inner _ _ e.begins) in
+      let held = t.frame in
+      let meets = arrives caps (slots is) s.slot t.to.slot a.insn a.frame t.to.regs a.there a.is_frame rule held.regs t.slot e.forward inside' in
+      let fewer = left_further (slots is) s.slot t.to.slot a.insn a.there e.forward in
+      let le' : left (drop t.to.slot (slots is)) ≤ n = omega arith in
+      let rest = later t.to le' (record { insn = e.to; there = e.begins; frame = meets.frame; is_frame = meets.is; holds = record { regs = meets.holds; memory = held.memory; object = held.object } }) in (
+        rest.0,
+        suc rest.1,
+        ap (λ o. ends before s (o >>= λ i. typed_exit_of i s) (goes_on (o >>= λ i. typed_act caps i s) (typed_run caps (slots is) before n))) a.there
+            ∙ ap (λ c. ends before s c (goes_on (typed_act caps a.insn s) (typed_run caps (slots is) before n))) no_code
+            ∙ ap (λ o. goes_on o (typed_run caps (slots is) before n)) t.act
+            ∙ ap one_more rest.2,
+      )
+
+  out : (n : ℕ) (s : Typed) (a : At s) → a.insn ≡ Exit → Ends (suc n) s
+  out n s a exit =
+      let ok = subst (λ i. Passed caps (slots is) s.slot i a.frame) exit (passed caps (slots is) s.slot a.insn a.frame (clear_at s a)) in
+      let c = exits caps (slots is) s.slot a.frame s a.holds ok in (
+        outcome_of before c.0 s,
+        1,
+        ap (λ o. ends before s (o >>= λ i. typed_exit_of i s) (goes_on (o >>= λ i. typed_act caps i s) (typed_run caps (slots is) before n))) (a.there ∙ ap Some exit)
+            ∙ ap (λ c. ends before s c Stuck) c.1,
+      )
+
+  here : (n : ℕ) (s : Typed) (a : At s) (i : Insn) → a.insn ≡ i → left (drop s.slot (slots is)) ≤ suc n → Later n → Ends (suc n) s
+  here n s a Exit e le later = out n s a e
+  here n s a (Add d imm) e le later = on n s a le later (λ x. cc) (ap (λ i. typed_exit_of i s) e)
+  here n s a (Mov d x) e le later = on n s a le later (λ x. cc) (ap (λ i. typed_exit_of i s) e)
+  here n s a (LoadWide d value) e le later = on n s a le later (λ x. cc) (ap (λ i. typed_exit_of i s) e)
+  here n s a (Load width d from offset) e le later = on n s a le later (λ x. cc) (ap (λ i. typed_exit_of i s) e)
+  here n s a (Store width to offset x) e le later = on n s a le later (λ x. cc) (ap (λ i. typed_exit_of i s) e)
+  here n s a (Jump offset) e le later = on n s a le later (λ x. cc) (ap (λ i. typed_exit_of i s) e)
+  here n s a (Call helper) e le later = on n s a le later (λ x. cc) (ap (λ i. typed_exit_of i s) e)
+  here n s a (CallLocal distance) e le later = on n s a le later (λ x. cc) (ap (λ i. typed_exit_of i s) e)
+
+  ends_from : (n : ℕ) → Later n
+  ends_from zero s le a =
+      let none = left_further (slots is) s.slot (s.slot + 1) a.insn a.there (omega arith) in absurd (omega arith)
+  ends_from (suc n) s le a = here n s a a.insn refl le (ends_from n)
+
+  pub ends_at_exit : (s : Typed) (i : Insn) → s.slot ≡ 0 → fetch (slots is) 0 ≡ Some i → Holds entry_frame s → Ends (length is) s
+  ends_at_exit s i first at h =
+      let all = left_slots is in
+      let some = slice_get_within (slots is) 0 (Some i) (inner _ _ at) in
+      let whole : drop s.slot (slots is) ≡ slots is = ap (λ n. drop n (slots is)) first in
+      let le : left (drop s.slot (slots is)) ≤ length is = omega (arith, ap left whole) in
+      ends_from (length is) s le (record { insn = i; there = ap (fetch (slots is)) first ∙ at; frame = entry_frame; is_frame = ap (frame_at (whole_table caps (slots is))) first ∙ whole_at caps (slots is) 0 some; holds = h })
+
+object_is_bytes : (object : Object) → IsObject object → ObjectIsBytes object
+object_is_bytes None h = tt
+object_is_bytes (Some bytes) h = h.1
+
+pub entry_holds : (caps : Caps) (object : Object) (caller : ℕ) (input : List ℕ) → IsObject object → length input ≤ caps.in_cap → caps.in_cap < 2 ^ 64 → AreBytes input → Holds entry_frame (typed_entry caps object caller input)
+entry_holds caps object caller input ob le small bytes =
+    let zero_holds = holds_constant 0 (omega arith) in
+    let end_holds = holds_constant 512 (omega arith) in
+    record {
+      regs = (tt, ((refl, zero_holds), (holds_any (length input) (omega arith), ((refl, zero_holds), (tt, (tt, (tt, (tt, (tt, (tt, ((refl, end_holds), tt)))))))))));
+      memory = cells_are;
+      object = object_is_bytes object ob;
+    }
+  where
+    cells_are : (r : Region) → AreBytes (cells (opening caps input) r)
+    cells_are Input = bytes_append input _ bytes (bytes_zeros _)
+    cells_are Output = bytes_zeros caps.out_cap
+    cells_are Stack = bytes_zeros 512

@@ -1,0 +1,105 @@
+-- What a verdict says of the slots and methods below it.
+use Rattle.std.proofs.Common.{◌≡◌, ℕ, zero, suc, ◌+◌, List, [], ◌∷◌, Option, Some, None, refl, ap, ◌∙◌, sym, subst, arith, inl, inr, ◌⊎◌, ⊎_elim}
+use Rattle.std.specs.Prelude.{slice_get}
+use Rattle.std.proofs.lemmas.Option.{none-some, same_Some}
+use Rattle.bpf_decode.specs.declared.insn.Insn.{Insn}
+use Rattle.bpf_decode.specs.Instruction.{slots}
+use Rattle.bpf_decode.specs.Class.{ClassMethod}
+use Rattle.bpf_machine.specs.declared.caps.Caps.{Caps}
+use Rattle.bpf_machine.specs.Typed.{fetch}
+use Rattle.bpf_machine.specs.Safe.{caps_of}
+use Rattle.verifier.specs.declared.rule.Rule.{Rule}
+use Rattle.verifier.specs.declared.refusal.Refusal.{Refusal}
+use Rattle.verifier.specs.Rules.{breaks, in_order, rule_at}
+use Rattle.verifier.specs.Verdict.{Table, frame_at, whole_table, or_else, first_refused, code_verdict, method_verdict, or_later, verdict_from, class_verdict, Refuses, IsDeserved}
+use Rattle.verifier.proofs.Passed.{first_is_broken}
+
+none_left : (p : ℕ) (r : Option Rule) (later : Option (ℕ × Rule)) → or_else p r later ≡ None → (r ≡ None) × (later ≡ None)
+none_left p None later h = (refl, h)
+none_left p (Some rule) later h = absurd (none-some _ (sym h))
+
+came : (p : ℕ) (r : Option Rule) (later : Option (ℕ × Rule)) (at : ℕ × Rule) → or_else p r later ≡ Some at → ((r ≡ Some at.1) × (p ≡ at.0)) ⊎ (later ≡ Some at)
+came p None later at h = inr h
+came p (Some rule) later at h =
+    let same = same_Some (p, rule) at h in
+    inl (ap (λ (x : ℕ × Rule). Some x.1) same, ap (λ (x : ℕ × Rule). x.0) same)
+
+module _ (caps : Caps) (code : List (Option Insn)) (table : Table) where
+  -- no slot is refused
+  passes_from : (rest : List (Option Insn)) (p k : ℕ) (i : Insn) → first_refused caps code table p rest ≡ None → fetch rest k ≡ Some i → rule_at caps code (p + k) i (frame_at table (p + k)) ≡ None
+  passes_from [] p k i h at = absurd (none-some i at)
+  passes_from (None ∷ rest) p zero i h at = absurd (none-some i at)
+  passes_from (Some j ∷ rest) p zero i h at =
+      let l = none_left p (rule_at caps code p j (frame_at table p)) (first_refused caps code table (p + 1) rest) h in
+      let same = same_Some j i at in
+      let here : p ≡ p + zero = omega arith in
+      subst (λ n. rule_at caps code n i (frame_at table n) ≡ None) here (subst (λ i. rule_at caps code p i (frame_at table p) ≡ None) same l.0)
+  passes_from (None ∷ rest) p (suc k) i h at =
+      let next : p + 1 + k ≡ p + suc k = omega arith in
+      subst (λ n. rule_at caps code n i (frame_at table n) ≡ None) next (passes_from rest (p + 1) k i h at)
+  passes_from (Some j ∷ rest) p (suc k) i h at =
+      let l = none_left p (rule_at caps code p j (frame_at table p)) (first_refused caps code table (p + 1) rest) h in
+      let next : p + 1 + k ≡ p + suc k = omega arith in
+      subst (λ n. rule_at caps code n i (frame_at table n) ≡ None) next (passes_from rest (p + 1) k i l.1 at)
+
+  -- the slot that is refused, and its rule
+  record Slot (rest : List (Option Insn)) (p : ℕ) (at : ℕ × Rule) : Type 0 where
+    past : ℕ
+    is : at.0 ≡ p + past
+    insn : Insn
+    there : fetch rest past ≡ Some insn
+    rule : rule_at caps code at.0 insn (frame_at table at.0) ≡ Some at.1
+
+  refused_from : (rest : List (Option Insn)) (p : ℕ) (at : ℕ × Rule) → first_refused caps code table p rest ≡ Some at → Slot rest p at
+  refused_from [] p at h = absurd (none-some at h)
+  refused_from (None ∷ rest) p at h =
+      let r = refused_from rest (p + 1) at h in
+      record { past = suc r.past; is = omega (arith, r.is); insn = r.insn; there = r.there; rule = r.rule }
+  refused_from (Some i ∷ rest) p at h =
+      let c = came p (rule_at caps code p i (frame_at table p)) (first_refused caps code table (p + 1) rest) at h in
+      ⊎_elim
+      (λ here. record { past = zero; is = omega (arith, here.1); insn = i; there = refl; rule = subst (λ n. rule_at caps code n i (frame_at table n) ≡ Some at.1) here.1 here.0 })
+      (λ later.
+      let r = refused_from rest (p + 1) at later in
+      record { past = suc r.past; is = omega (arith, r.is); insn = r.insn; there = r.there; rule = r.rule }) c
+
+-- no rule refuses what begins at a slot
+pub passes : (caps : Caps) (code : List (Option Insn)) (p : ℕ) (i : Insn) → code_verdict caps code ≡ None → fetch code p ≡ Some i → rule_at caps code p i (frame_at (whole_table caps code) p) ≡ None
+passes caps code p i h at =
+    let same : 0 + p ≡ p = omega arith in
+    subst (λ n. rule_at caps code n i (frame_at (whole_table caps code) n) ≡ None) same (passes_from caps code (whole_table caps code) code 0 p i h at)
+
+-- a rule refuses the slot that is refused
+method_refuses : (m : ClassMethod) (at : ℕ × Rule) → method_verdict m ≡ Some at → Refuses m at.0 at.1
+method_refuses m at h =
+    let caps = caps_of m in
+    let code = slots m.instructions in
+    let r = refused_from caps code (whole_table caps code) code 0 at h in
+    let same : r.past ≡ at.0 = omega (arith, r.is) in
+    record { insn = r.insn; there = ap (fetch code) (sym same) ∙ r.there; refused = first_is_broken (breaks caps code at.0 r.insn (frame_at (whole_table caps code) at.0)) in_order at.1 r.rule }
+
+-- the method that is refused
+record Found (ms : List ClassMethod) (k : ℕ) (r : Refusal) : Type 0 where
+  past : ℕ
+  is : r.method ≡ k + past
+  method : ClassMethod
+  there : slice_get ms past ≡ Some method
+  refuses : Refuses method r.slot r.rule
+
+in_method : (m : ClassMethod) (ms : List ClassMethod) (k : ℕ) (r : Refusal) (o : Option (ℕ × Rule)) → method_verdict m ≡ o → (verdict_from (k + 1) ms ≡ Some r → Found ms (k + 1) r) → or_later k o (verdict_from (k + 1) ms) ≡ Some r → Found (m ∷ ms) k r
+in_method m ms k r None e later h =
+    let f = later h in record { past = suc f.past; is = omega (arith, f.is); method = f.method; there = f.there; refuses = f.refuses }
+in_method m ms k r (Some at) e later h =
+    let same = same_Some (record { method = k; slot = at.0; rule = at.1 }) r h in
+    record { past = 0; is = omega (arith, ap (λ (r : Refusal). r.method) same); method = m; there = refl; refuses = subst (λ (r : Refusal). Refuses m r.slot r.rule) same (method_refuses m at e) }
+
+found_from : (ms : List ClassMethod) (k : ℕ) (r : Refusal) → verdict_from k ms ≡ Some r → Found ms k r
+found_from [] k r h = absurd (none-some r h)
+found_from (m ∷ ms) k r h = in_method m ms k r (method_verdict m) refl (found_from ms (k + 1) r) h
+
+-- the rule of a refusal refuses the instruction at its slot of its method
+pub deserved : (ms : List ClassMethod) (r : Refusal) → class_verdict ms ≡ Some r → IsDeserved ms r
+deserved ms r h =
+    let f = found_from ms 0 r h in
+    let same : f.past ≡ r.method = omega (arith, f.is) in
+    record { method = f.method; there = ap (slice_get ms) (sym same) ∙ f.there; refuses = f.refuses }

@@ -1,0 +1,9 @@
+use Rattle.std.proofs.Common.{◌≡◌, take, drop}
+use Rattle.verifier.specs.Verdict.{verdict_from, class_verdict}
+use Rattle.verifier.proofs.class.verify.Given as goal
+
+abbrev pub invariant-loop-number : goal.invariant-loop-number
+invariant-loop-number l = record {
+  sofar : l.methods.items ≡ take l.number l.fn.image;
+  rest : verdict_from l.number (drop l.number l.fn.image) ≡ class_verdict l.fn.image;
+}

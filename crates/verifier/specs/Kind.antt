@@ -1,0 +1,98 @@
+-- What is known of a register: nothing, a number, or a pointer into a region.
+use Rattle.std.specs.Prelude.{◌≡◌, ℕ, ◌+◌, Option, Some, None, Bool, true, false, if◌then◌else◌, nat_le, not}
+use Rattle.bpf_machine.specs.declared.region.Region.{Region}
+use Rattle.bpf_machine.specs.declared.region.Region.TheVariants.{Input, Output, Stack}
+use Rattle.bpf_machine.specs.declared.value.Value.{Value}
+use Rattle.bpf_machine.specs.declared.value.Value.TheVariants as values
+use Rattle.bpf_machine.specs.declared.caps.Caps.{Caps}
+use Rattle.bpf_machine.specs.State.{may_store, size}
+use Rattle.verifier.specs.declared.known.Known.{Known}
+use Rattle.verifier.specs.declared.kind.Kind.{Kind}
+use Rattle.verifier.specs.declared.kind.Kind.TheVariants.{Unset, Num, Ptr}
+use Rattle.verifier.specs.Known.{HoldsKnown, constant, join_known, add_known, upper}
+
+-- the values that a register of a kind may have
+abbrev pub HoldsKind : Kind → Option Value → Type 0
+HoldsKind Unset c = Unit {0}
+HoldsKind (Num k) None = ⊥
+HoldsKind (Num k) (Some (values.Num n)) = HoldsKnown k n
+HoldsKind (Num k) (Some (values.Ptr r at)) = ⊥
+HoldsKind (Ptr r k) None = ⊥
+HoldsKind (Ptr r k) (Some (values.Num n)) = ⊥
+HoldsKind (Ptr r k) (Some (values.Ptr q at)) = (r ≡ q) × HoldsKnown k at
+
+abbrev pub is_unset : Kind → Bool
+is_unset Unset = true
+is_unset (Num k) = false
+is_unset (Ptr r k) = false
+
+abbrev pub is_num : Kind → Bool
+is_num Unset = false
+is_num (Num k) = true
+is_num (Ptr r k) = false
+
+abbrev pub is_ptr : Kind → Bool
+is_ptr Unset = false
+is_ptr (Num k) = false
+is_ptr (Ptr r k) = true
+
+abbrev pub same_region : Region → Region → Bool
+same_region Input Input = true
+same_region Input Output = false
+same_region Input Stack = false
+same_region Output Input = false
+same_region Output Output = true
+same_region Output Stack = false
+same_region Stack Input = false
+same_region Stack Output = false
+same_region Stack Stack = true
+
+-- a number joined with a pointer, two regions, and Unset with anything give Unset
+abbrev pub join_kind : Kind → Kind → Kind
+join_kind Unset y = Unset
+join_kind (Num k) Unset = Unset
+join_kind (Num k) (Num l) = Num (join_known k l)
+join_kind (Num k) (Ptr q l) = Unset
+join_kind (Ptr r k) Unset = Unset
+join_kind (Ptr r k) (Num l) = Unset
+join_kind (Ptr r k) (Ptr q l) = if same_region r q then Ptr r (join_known k l) else Unset
+
+-- a number added to a number, or to a pointer's place
+abbrev pub add_kind : Kind → Known → Kind
+add_kind Unset l = Unset
+add_kind (Num k) l = Num (add_known k l)
+add_kind (Ptr r k) l = Ptr r (add_known k l)
+
+-- all of the w bytes at a distance from it are in its region, whatever it points to
+abbrev pub access_fits : Caps → Kind → ℕ → ℕ → Bool
+access_fits caps Unset distance w = false
+access_fits caps (Num k) distance w = false
+access_fits caps (Ptr r k) distance w = nat_le (upper (add_known k (constant distance)) + w) (size caps r)
+
+-- it points into the region that is read only
+abbrev pub is_read_only : Kind → Bool
+is_read_only Unset = false
+is_read_only (Num k) = false
+is_read_only (Ptr r k) = not (may_store r)
+
+-- a number that is at most n
+abbrev pub is_at_most : ℕ → Kind → Bool
+is_at_most n Unset = false
+is_at_most n (Num k) = nat_le (upper k) n
+is_at_most n (Ptr r k) = false
+
+-- A range of a helper, by the kinds of its pointer and its length. One whose pointer is a number or whose length is
+-- a pointer is of the wrong kind, and neither of these.
+abbrev pub range_leaves : Caps → Kind → Kind → Bool
+range_leaves caps (Ptr r k) (Num l) = not (nat_le (upper k + upper l) (size caps r))
+range_leaves caps (Ptr r k) Unset = false
+range_leaves caps (Ptr r k) (Ptr q l) = false
+range_leaves caps (Num k) y = false
+range_leaves caps Unset y = false
+
+abbrev pub range_is_read_only : Kind → Kind → Bool
+range_is_read_only (Ptr r k) (Num l) = not (may_store r)
+range_is_read_only (Ptr r k) Unset = false
+range_is_read_only (Ptr r k) (Ptr q l) = false
+range_is_read_only (Num k) y = false
+range_is_read_only Unset y = false

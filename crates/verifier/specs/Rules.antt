@@ -1,0 +1,191 @@
+-- The rules: which instructions are refused, and where.
+use Rattle.std.specs.Prelude.{ℕ, ◌+◌, ◌%◌, ◌^◌, List, [], ◌∷◌, Option, Some, None, Bool, true, false, if◌then◌else◌, ◌==◌, ◌&&◌, ◌||◌, not, is_some, ℤ}
+use Rattle.std.specs.Int.{is_negative}
+use Rattle.bpf_decode.specs.declared.insn.Operand.{Operand}
+use Rattle.bpf_decode.specs.declared.insn.Operand.TheVariants.{Immediate, Register}
+use Rattle.bpf_decode.specs.declared.insn.Insn.{Insn}
+use Rattle.bpf_decode.specs.declared.insn.Insn.TheVariants.{Add, Mov, LoadWide, Load, Store, Jump, Call, CallLocal, Exit}
+use Rattle.bpf_decode.specs.Instruction.{byte_count, slot_count}
+use Rattle.bpf_machine.specs.declared.caps.Caps.{Caps}
+use Rattle.bpf_machine.specs.declared.argument.Argument.{Argument}
+use Rattle.bpf_machine.specs.declared.argument.Argument.TheVariants.{Number, OutputLength, Readable, Writable}
+use Rattle.bpf_machine.specs.Helper.{Takes, signature_of}
+use Rattle.bpf_machine.specs.Typed.{extended, fetch}
+use Rattle.verifier.specs.declared.rule.Rule.{Rule}
+use Rattle.verifier.specs.declared.rule.Rule.TheVariants.{Backward, Target, FallsOff, LocalCall, UnsetRead, WritesR10, PointerArithmetic, PointerCompare, PointerStored, Bounds, ReadOnlyRegion, UnknownHelper, HelperArgument, WriteHelperInReader, ReturnsPointer, NoMemory}
+use Rattle.verifier.specs.declared.fault.Fault.{Fault}
+use Rattle.verifier.specs.declared.fault.Fault.TheVariants.{NotSet, OutOfRegion, ReadOnly, WrongKind}
+use Rattle.verifier.specs.Kind.{is_unset, is_num, is_ptr, access_fits, is_read_only, is_at_most, range_leaves, range_is_read_only}
+use Rattle.verifier.specs.Frame.{Frame, kind_at}
+
+-- an instruction begins at the slot
+abbrev pub begins_at : List (Option Insn) → ℕ → Bool
+begins_at code q = is_some (fetch code q)
+
+-- where a jump at slot p goes: its offset counts from the slot after it (RFC 9669 section 4.3)
+abbrev pub target : ℕ → ℤ → ℕ
+target p offset = (p + 1 + extended offset) % 2 ^ 64
+
+abbrev pub is_backward : Insn → Bool
+is_backward (Jump offset) = is_negative offset
+is_backward i = false
+
+-- its target is past the last slot or in a wide load's second half
+abbrev pub misses : List (Option Insn) → ℕ → Insn → Bool
+misses code p (Jump offset) = not (begins_at code (target p offset))
+misses code p i = false
+
+-- the last instruction, which nothing begins behind, goes on to the slot behind it
+abbrev pub falls_off : List (Option Insn) → ℕ → Insn → Bool
+falls_off code p (Jump offset) = false
+falls_off code p Exit = false
+falls_off code p i = not (begins_at code (p + slot_count i))
+
+abbrev pub is_local_call : Insn → Bool
+is_local_call (CallLocal distance) = true
+is_local_call i = false
+
+-- A helper's argument that it takes from register k on, and what may be wrong with it.
+abbrev pub has_fault : Caps → Frame → Fault → Argument → ℕ → Bool
+has_fault caps f NotSet Number k = is_unset (kind_at f k)
+has_fault caps f NotSet OutputLength k = is_unset (kind_at f k)
+has_fault caps f NotSet Readable k = is_unset (kind_at f k) || is_unset (kind_at f (k + 1))
+has_fault caps f NotSet Writable k = is_unset (kind_at f k) || is_unset (kind_at f (k + 1))
+has_fault caps f OutOfRegion Number k = false
+has_fault caps f OutOfRegion OutputLength k = false
+has_fault caps f OutOfRegion Readable k = range_leaves caps (kind_at f k) (kind_at f (k + 1))
+has_fault caps f OutOfRegion Writable k = range_leaves caps (kind_at f k) (kind_at f (k + 1))
+has_fault caps f ReadOnly Number k = false
+has_fault caps f ReadOnly OutputLength k = false
+has_fault caps f ReadOnly Readable k = false
+has_fault caps f ReadOnly Writable k = range_is_read_only (kind_at f k) (kind_at f (k + 1))
+has_fault caps f WrongKind Number k = not (is_num (kind_at f k))
+has_fault caps f WrongKind OutputLength k = not (is_at_most caps.out_cap (kind_at f k))
+has_fault caps f WrongKind Readable k = not (is_ptr (kind_at f k)) || not (is_num (kind_at f (k + 1)))
+has_fault caps f WrongKind Writable k = not (is_ptr (kind_at f k)) || not (is_num (kind_at f (k + 1)))
+
+-- how many registers an argument takes
+abbrev pub register_count : Argument → ℕ
+register_count Number = 1
+register_count OutputLength = 1
+register_count Readable = 2
+register_count Writable = 2
+
+abbrev pub some_fault : Caps → Frame → Fault → List Argument → ℕ → Bool
+some_fault caps f fault [] k = false
+some_fault caps f fault (a ∷ more) k = has_fault caps f fault a k || some_fault caps f fault more (k + register_count a)
+
+abbrev pub taken_fault : Caps → Frame → Fault → Option Takes → Bool
+taken_fault caps f fault None = false
+taken_fault caps f fault (Some takes) = some_fault caps f fault takes.arguments 1
+
+-- an argument of the helper has the fault; an id that is no helper's takes none
+abbrev pub call_fault : Caps → Frame → Fault → ℕ → Bool
+call_fault caps f fault helper = taken_fault caps f fault (signature_of helper)
+
+abbrev pub operand_is_unset : Frame → Operand → Bool
+operand_is_unset f (Immediate imm) = false
+operand_is_unset f (Register r) = is_unset (kind_at f r)
+
+abbrev pub reads_unset : Caps → Frame → Insn → Bool
+reads_unset caps f (Add dst imm) = is_unset (kind_at f dst)
+reads_unset caps f (Mov dst source) = operand_is_unset f source
+reads_unset caps f (LoadWide dst value) = false
+reads_unset caps f (Load width dst from offset) = is_unset (kind_at f from)
+reads_unset caps f (Store width to offset source) = is_unset (kind_at f to) || operand_is_unset f source
+reads_unset caps f (Jump offset) = false
+reads_unset caps f (Call helper) = call_fault caps f NotSet helper
+reads_unset caps f (CallLocal distance) = false
+reads_unset caps f Exit = is_unset (kind_at f 0)
+
+abbrev pub writes_r10 : Insn → Bool
+writes_r10 (Add dst imm) = dst == 10
+writes_r10 (Mov dst source) = dst == 10
+writes_r10 (LoadWide dst value) = dst == 10
+writes_r10 (Load width dst from offset) = dst == 10
+writes_r10 i = false
+
+abbrev pub stores_pointer : Frame → Insn → Bool
+stores_pointer f (Store width to offset (Register src)) = is_ptr (kind_at f src)
+stores_pointer f i = false
+
+-- a load, a store or a helper's range that may leave its region; a load or store through a number
+abbrev pub leaves_region : Caps → Frame → Insn → Bool
+leaves_region caps f (Load width dst from offset) = not (access_fits caps (kind_at f from) (extended offset) (byte_count width))
+leaves_region caps f (Store width to offset source) = not (access_fits caps (kind_at f to) (extended offset) (byte_count width))
+leaves_region caps f (Call helper) = call_fault caps f OutOfRegion helper
+leaves_region caps f i = false
+
+abbrev pub writes_read_only : Caps → Frame → Insn → Bool
+writes_read_only caps f (Store width to offset source) = is_read_only (kind_at f to)
+writes_read_only caps f (Call helper) = call_fault caps f ReadOnly helper
+writes_read_only caps f i = false
+
+abbrev pub calls_unknown : Insn → Bool
+calls_unknown (Call helper) = not (is_some (signature_of helper))
+calls_unknown i = false
+
+abbrev pub passes_wrong_kind : Caps → Frame → Insn → Bool
+passes_wrong_kind caps f (Call helper) = call_fault caps f WrongKind helper
+passes_wrong_kind caps f i = false
+
+abbrev pub writes_object : Option Takes → Bool
+writes_object None = false
+writes_object (Some takes) = takes.writes
+
+-- a helper that may change the object, in a method that may not
+abbrev pub writes_in_reader : Caps → Insn → Bool
+writes_in_reader caps (Call helper) = writes_object (signature_of helper) && not caps.writes
+writes_in_reader caps i = false
+
+abbrev pub returns_pointer : Frame → Insn → Bool
+returns_pointer f Exit = is_ptr (kind_at f 0)
+returns_pointer f i = false
+
+-- a test of the frame, where there is one
+abbrev pub under : Option Frame → (Frame → Bool) → Bool
+under None test = false
+under (Some f) test = test f
+
+-- The table of rules: whether a rule refuses instruction i at slot p. Rules 5 to 15 hold under a frame.
+abbrev pub breaks : Caps → List (Option Insn) → ℕ → Insn → Option Frame → Rule → Bool
+breaks caps code p i frame Backward = is_backward i
+breaks caps code p i frame Target = misses code p i
+breaks caps code p i frame FallsOff = falls_off code p i
+breaks caps code p i frame LocalCall = is_local_call i
+breaks caps code p i frame UnsetRead = under frame (λ f. reads_unset caps f i)
+breaks caps code p i frame WritesR10 = under frame (λ f. writes_r10 i)
+-- the only addition so far is that of a number, which a pointer allows
+breaks caps code p i frame PointerArithmetic = false
+-- no comparison so far
+breaks caps code p i frame PointerCompare = false
+breaks caps code p i frame PointerStored = under frame (λ f. stores_pointer f i)
+breaks caps code p i frame Bounds = under frame (λ f. leaves_region caps f i)
+breaks caps code p i frame ReadOnlyRegion = under frame (λ f. writes_read_only caps f i)
+breaks caps code p i frame UnknownHelper = under frame (λ f. calls_unknown i)
+breaks caps code p i frame HelperArgument = under frame (λ f. passes_wrong_kind caps f i)
+breaks caps code p i frame WriteHelperInReader = under frame (λ f. writes_in_reader caps i)
+breaks caps code p i frame ReturnsPointer = under frame (λ f. returns_pointer f i)
+-- no rule of an instruction
+breaks caps code p i frame NoMemory = false
+
+-- the rules of frames, by their numbers
+abbrev pub frame_rules : List Rule
+frame_rules =
+    UnsetRead ∷ WritesR10 ∷ PointerArithmetic ∷ PointerCompare ∷ PointerStored ∷ Bounds ∷ ReadOnlyRegion ∷ UnknownHelper ∷ HelperArgument ∷ WriteHelperInReader ∷ ReturnsPointer ∷ []
+
+-- all rules, by their numbers
+abbrev pub in_order : List Rule
+in_order = Backward ∷ Target ∷ FallsOff ∷ LocalCall ∷ frame_rules
+
+abbrev pub first_broken : (Rule → Bool) → List Rule → Option Rule
+first_broken test [] = None
+first_broken test (rule ∷ rules) = if test rule then Some rule else first_broken test rules
+
+-- the lowest rule that refuses an instruction at a slot
+abbrev pub rule_at : Caps → List (Option Insn) → ℕ → Insn → Option Frame → Option Rule
+rule_at caps code p i frame = first_broken (breaks caps code p i frame) in_order
+
+-- of rules 5 to 15, which the frame and the instruction decide
+abbrev pub rule_under : Caps → Frame → Insn → Option Rule
+rule_under caps f i = first_broken (breaks caps [] 0 i (Some f)) frame_rules

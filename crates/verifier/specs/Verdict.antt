@@ -1,0 +1,138 @@
+-- The table of frames of a method, and the verdict on a class.
+use Rattle.std.specs.Prelude.{◌≡◌, ℕ, zero, suc, ◌+◌, ◌<◌, List, [], ◌∷◌, ◌++◌, Option, Some, None, true, if◌then◌else◌, ◌==◌, slice_get, length}
+use Rattle.bpf_decode.specs.declared.insn.Insn.{Insn}
+use Rattle.bpf_decode.specs.declared.insn.Insn.TheVariants.{Add, Mov, LoadWide, Load, Store, Jump, Call, CallLocal, Exit}
+use Rattle.bpf_decode.specs.Instruction.{slots}
+use Rattle.bpf_decode.specs.Class.{ClassMethod}
+use Rattle.bpf_machine.specs.declared.caps.Caps.{Caps}
+use Rattle.bpf_machine.specs.State.{◌>>=◌}
+use Rattle.bpf_machine.specs.Typed.{fetch}
+use Rattle.bpf_machine.specs.Safe.{caps_of}
+use Rattle.verifier.specs.declared.rule.Rule.{Rule}
+use Rattle.verifier.specs.declared.rule.Rule.TheVariants.{NoMemory}
+use Rattle.verifier.specs.declared.refusal.Refusal.{Refusal}
+use Rattle.verifier.specs.declared.edges.Edges.{Edges}
+use Rattle.verifier.specs.declared.edges.Edges.TheVariants.{Leaves, One, Two}
+use Rattle.verifier.specs.Frame.{Frame, join, entry_frame, flow}
+use Rattle.verifier.specs.Rules.{target, breaks, rule_at}
+
+-- where instruction i at slot p goes on
+abbrev pub edges : Insn → ℕ → Edges
+edges (Add dst imm) p = One (p + 1)
+edges (Mov dst source) p = One (p + 1)
+edges (LoadWide dst value) p = One (p + 2)
+edges (Load width dst from offset) p = One (p + 1)
+edges (Store width to offset source) p = One (p + 1)
+edges (Jump offset) p = One (target p offset)
+edges (Call helper) p = One (p + 1)
+edges (CallLocal distance) p = Leaves
+edges Exit p = Leaves
+
+-- the frames of a method by slot, none where no flow comes
+abbrev pub Table : Type 0
+Table = List (Option Frame)
+
+abbrev pub frame_at : Table → ℕ → Option Frame
+frame_at table p = slice_get table p >>= λ f. f
+
+-- one flow more
+abbrev pub joined : Option Frame → Frame → Frame
+joined None g = g
+joined (Some f) g = join f g
+
+-- what has flowed into slot q, and a flow along edges more
+abbrev pub along : Edges → ℕ → Frame → Option Frame → Option Frame
+along Leaves q g inflow = inflow
+along (One a) q g inflow = if a == q then Some (joined inflow g) else inflow
+along (Two a b) q g inflow =
+    let first = if a == q then Some (joined inflow g) else inflow in if b == q then Some (joined first g) else first
+
+-- a refused slot carries no flow
+abbrev pub unless_refused : Option Rule → Option Frame → Option Frame → Option Frame
+unless_refused None flown inflow = flown
+unless_refused (Some rule) flown inflow = inflow
+
+-- and the flow from slot p more, of the instruction and the frame there
+abbrev pub flow_from : Caps → List (Option Insn) → ℕ → ℕ → Option Insn → Option Frame → Option Frame → Option Frame
+flow_from caps code p q None frame inflow = inflow
+flow_from caps code p q (Some i) None inflow = inflow
+flow_from caps code p q (Some i) (Some f) inflow =
+    unless_refused (rule_at caps code p i (Some f)) (along (edges i p) q (flow i f) inflow) inflow
+
+-- what a method begins with, at slot 0
+abbrev pub start : ℕ → Option Frame
+start zero = Some entry_frame
+start (suc q) = None
+
+-- the join of all that flows into slot q from the slots below n
+abbrev pub incoming : Caps → List (Option Insn) → Table → ℕ → ℕ → Option Frame
+incoming caps code table q zero = start q
+incoming caps code table q (suc p) = flow_from caps code p q (fetch code p) (frame_at table p) (incoming caps code table q p)
+
+-- The frames of the first n slots: each is the join of all that flows into its slot from lower slots.
+abbrev pub frames : Caps → List (Option Insn) → ℕ → Table
+frames caps code zero = []
+frames caps code (suc q) = frames caps code q ++ (incoming caps code (frames caps code q) q q ∷ [])
+
+abbrev pub whole_table : Caps → List (Option Insn) → Table
+whole_table caps code = frames caps code (length code)
+
+-- A table of a method's frames: at each slot the join of all that flows into it from lower slots, and of what the
+-- method begins with at slot 0.
+pub record IsTable (caps : Caps) (code : List (Option Insn)) (table : Table) : Type 0 where
+  pub long : length table ≡ length code
+  pub each : (q : ℕ) → q < length code → frame_at table q ≡ incoming caps code table q q
+
+-- The whole table is one, and the only one.
+abbrev pub TableIsOne : Type 0
+TableIsOne =
+    (caps : Caps) (code : List (Option Insn)) →
+    IsTable caps code (whole_table caps code) × ((table : Table) → IsTable caps code table → (q : ℕ) → q < length code → frame_at table q ≡ frame_at (whole_table caps code) q)
+
+abbrev pub or_else : ℕ → Option Rule → Option (ℕ × Rule) → Option (ℕ × Rule)
+or_else p None later = later
+or_else p (Some rule) later = Some (p, rule)
+
+-- the first slot from p on that a rule refuses, and the lowest such rule
+abbrev pub first_refused : Caps → List (Option Insn) → Table → ℕ → List (Option Insn) → Option (ℕ × Rule)
+first_refused caps code table p [] = None
+first_refused caps code table p (None ∷ rest) = first_refused caps code table (p + 1) rest
+first_refused caps code table p (Some i ∷ rest) =
+    or_else p (rule_at caps code p i (frame_at table p)) (first_refused caps code table (p + 1) rest)
+
+abbrev pub code_verdict : Caps → List (Option Insn) → Option (ℕ × Rule)
+code_verdict caps code = first_refused caps code (whole_table caps code) 0 code
+
+abbrev pub method_verdict : ClassMethod → Option (ℕ × Rule)
+method_verdict m = code_verdict (caps_of m) (slots m.instructions)
+
+abbrev pub or_later : ℕ → Option (ℕ × Rule) → Option Refusal → Option Refusal
+or_later k None later = later
+or_later k (Some at) later = Some (record { method = k; slot = at.0; rule = at.1 })
+
+abbrev pub verdict_from : ℕ → List ClassMethod → Option Refusal
+verdict_from k [] = None
+verdict_from k (m ∷ ms) = or_later k (method_verdict m) (verdict_from (k + 1) ms)
+
+-- the refusal of a method by its number in the class
+abbrev pub IsFirst : ℕ → ClassMethod → Refusal → Type 0
+IsFirst number m r = (r.method ≡ number) × (method_verdict m ≡ Some (r.slot, r.rule))
+
+-- The verdict: the first method with a refusal, its lowest refused slot, and at it the lowest rule.
+abbrev pub class_verdict : List ClassMethod → Option Refusal
+class_verdict ms = verdict_from 0 ms
+
+abbrev pub out_of_memory : Refusal
+out_of_memory = record { method = 0; slot = 0; rule = NoMemory }
+
+-- A rule refuses the instruction at a slot of a method, by the table of rules and the frame there.
+pub record Refuses (m : ClassMethod) (slot : ℕ) (rule : Rule) : Type 0 where
+  pub insn : Insn
+  pub there : fetch (slots m.instructions) slot ≡ Some insn
+  pub refused : breaks (caps_of m) (slots m.instructions) slot insn (frame_at (whole_table (caps_of m) (slots m.instructions)) slot) rule ≡ true
+
+-- A refusal's rule refuses the instruction at its slot of its method.
+pub record IsDeserved (ms : List ClassMethod) (r : Refusal) : Type 0 where
+  pub method : ClassMethod
+  pub there : slice_get ms r.method ≡ Some method
+  pub refuses : Refuses method r.slot r.rule

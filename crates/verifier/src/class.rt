@@ -1,0 +1,32 @@
+ghost use Rattle.std.specs.Prelude.{◌≡◌, ◌⊎◌, IfOk, IfErr, Some, None};
+ghost use Rattle.std.specs.List.{AllByRecursion};
+ghost use Rattle.bpf_machine.specs.Safe.{IsSafe, EndsAlways};
+ghost use Rattle.verifier.specs.Verdict.{class_verdict, out_of_memory, IsDeserved};
+
+use crate::method::verify_method;
+use crate::refusal::Refusal;
+use crate::verified::VerifiedClass;
+use bpf_decode::ClassImage;
+use bpf_machine::simulation;
+use std::alloc::Global;
+
+/// Accepts a class, each of whose methods then runs to its exit on every object and input, or gives the first refusal:
+/// the first method with one, its lowest refused slot, and there the lowest rule. `Rule::NoMemory`, with method and
+/// slot 0, says that memory was refused. One pass over the slots of each method.
+pub fn verify(alloc: Global, image: &ClassImage) -> Result<VerifiedClass, Refusal>
+    ensures value { IfOk result (λ v. v ≡ image.now) }
+    // Accepted means safe: never stuck, in every layout of the regions.
+    ensures safe { IfOk result (λ _. AllByRecursion IsSafe image.now) }
+    ensures ends { IfOk result (λ _. AllByRecursion EndsAlways image.now) }
+    ensures accepted { IfOk result (λ _. class_verdict image.now ≡ None) }
+    // The refusal is the verdict, and its rule refuses the instruction at its slot.
+    ensures refused { IfErr result (λ r. (r ≡ out_of_memory) ⊎ (class_verdict image.now ≡ Some r)) }
+    ensures deserved { IfErr result (λ r. (r ≡ out_of_memory) ⊎ IsDeserved image.now r) }
+{
+    let mut methods = Vec::new(alloc);
+    for (number, method) in image.methods().iter().enumerate() {
+        methods.push(verify_method(alloc, number, method)?)?;
+    }
+    simulation();
+    Ok(VerifiedClass::new(methods))
+}

@@ -1,0 +1,38 @@
+ghost use Rattle.std.specs.Prelude.{◌≡◌};
+ghost use Rattle.verifier.specs.Verdict.{out_of_memory};
+
+use crate::rule::Rule;
+use std::alloc::{AllocError, AllocFailed};
+use thiserror::Error;
+
+/// Why a class is refused: the first method with a refusal, its lowest refused slot, and there the lowest rule.
+/// Methods and slots count from 0; where memory was refused both are 0.
+#[derive(Clone, Copy, Debug, PartialEq, Eq, Error)]
+#[error("refused method {method} slot {slot}: {rule}")]
+pub struct Refusal {
+    pub method: usize,
+    pub slot: usize,
+    pub rule: Rule,
+}
+
+impl From<AllocError> for Refusal {
+    ghost from_gives = { λ _ e. e ≡ out_of_memory };
+
+    fn from(_error: AllocError) -> Refusal {
+        NO_MEMORY
+    }
+}
+
+impl<T: Drop> From<AllocFailed<T>> for Refusal {
+    ghost from_gives = { λ _ e. e ≡ out_of_memory };
+
+    fn from(_error: AllocFailed<T>) -> Refusal {
+        NO_MEMORY
+    }
+}
+
+const NO_MEMORY: Refusal = Refusal {
+    method: 0,
+    slot: 0,
+    rule: Rule::NoMemory,
+};
