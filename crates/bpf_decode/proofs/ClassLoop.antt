@@ -1,6 +1,5 @@
 -- Testing one method after the other, as a loop does, and what methods that pass are.
-use Rattle.std.proofs.Common.{◌≡◌, ℕ, zero, suc, ◌+◌, ◌-◌, ◌<◌, ◌≤◌, Bool, true, false, cond, List, [], ◌∷◌, ◌++◌, length, get_or, take, drop, Result, Ok, Err, refl, sym, ap, subst, ◌∙◌, append_assoc, arith}
-use Rattle.std.specs.Prelude.{IfOk, ◌↔◌, IsOk}
+use Rattle.std.proofs.Common.{◌≡◌, ℕ, ◌+◌, ◌<◌, ◌≤◌, Bool, true, false, List, [], ◌∷◌, ◌++◌, length, get_or, take, drop, Result, Ok, Err, refl, sym, ap, subst, ◌∙◌, append_assoc, arith}
 use Rattle.std.specs.List.{AllByRecursion}
 use Rattle.std.specs.Cmp.Lexicographic.{slice_cmp}
 use Rattle.std.specs.Ordering.{nat_cmp}
@@ -10,12 +9,12 @@ use Rattle.bpf_decode.specs.declared.decode_error.DecodeError.{DecodeError}
 use Rattle.bpf_decode.specs.declared.decode_error.DecodeError.TheVariants.{Name, Order, Flags, Limit}
 use Rattle.bpf_decode.specs.declared.image_error.ImageError.{ImageError}
 use Rattle.bpf_decode.specs.Instruction.{AllFit, slot_total}
-use Rattle.bpf_decode.specs.Class.{ClassMethod, IsMethod, NamesRise, IsClass}
+use Rattle.bpf_decode.specs.Class.{ClassMethod, IsMethod, IsClass}
 use Rattle.bpf_decode.specs.Reading.{◌>>=◌, checked}
 use Rattle.bpf_decode.specs.ImageReading.{after, between, are_name_bytes, is_above, method_after, methods_after, class_of}
 use Rattle.bpf_decode.proofs.Bytes.{bind_ok, checked_ok}
 use Rattle.bpf_decode.proofs.ImageFields.{between-true, between-is, letters_are, letters_again, above_is, above_again}
-use Rattle.bpf_decode.proofs.ImageLaws.{RisesFrom, rises_on, rises_first, after_ok, ok_image}
+use Rattle.bpf_decode.proofs.ImageLaws.{RisesFrom, rises_on, rises_first, after_ok}
 
 abbrev pub Tested : Type 0
 Tested = Result (List ClassMethod) ImageError

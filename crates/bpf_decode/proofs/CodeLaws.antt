@@ -1,17 +1,17 @@
 -- The two laws of code: what is read is spelled so, and what is spelled so is read.
-use Rattle.std.proofs.Common.{◌≡◌, ℕ, zero, suc, ◌+◌, ◌*◌, ◌/◌, ◌%◌, ◌<◌, ◌≤◌, Bool, true, false, cond, eqb, List, [], ◌∷◌, ◌++◌, length, drop, take, get_or, Result, Ok, Err, refl, sym, ap, subst, ◌∙◌, append_assoc, arith, length-append, length-drop, inl, inr}
-use Rattle.std.specs.Prelude.{◌⊎◌, IfOk, vec_len}
+use Rattle.std.proofs.Common.{◌≡◌, ℕ, zero, suc, ◌+◌, ◌*◌, ◌/◌, ◌%◌, ◌≤◌, Bool, true, false, cond, eqb, List, [], ◌∷◌, ◌++◌, length, drop, Result, Ok, Err, refl, sym, ap, subst, ◌∙◌, append_assoc, arith, length-append, length-drop}
+use Rattle.std.specs.Prelude.{IfOk}
 use Rattle.std.specs.Global.{Vec}
 use Rattle.std.proofs.lemmas.Bool.{eqb-true, ne_eqb}
-use Rattle.std.proofs.lemmas.List.{append-nil, nil_from_length, drop_at, take_more}
+use Rattle.std.proofs.lemmas.List.{append-nil, nil_from_length, drop_at}
 use Rattle.bpf_decode.specs.declared.decode_error.DecodeError.{DecodeError}
 use Rattle.bpf_decode.specs.declared.decode_error.DecodeError.TheVariants as errors
 use Rattle.bpf_decode.specs.declared.insn.Insn.{Insn}
 use Rattle.bpf_decode.specs.declared.insn.Insn.TheVariants as insns
 use Rattle.bpf_decode.specs.Instruction.{Fits, AllFit, bytes_of, spelling, slot_count, slot_total, IsCode}
-use Rattle.bpf_decode.specs.Reading.{◌>>=◌, Gives, checked, insn_at, insns_at, code_of, count_of}
-use Rattle.bpf_decode.proofs.Bytes.{IsBytes, IsBytes-drop, bind_ok, checked_ok}
-use Rattle.bpf_decode.proofs.Insns.{some_slot, length-bytes_of, insn_takes, insn_again, fits_in}
+use Rattle.bpf_decode.specs.Reading.{◌>>=◌, Gives, insn_at, insns_at, code_of, count_of}
+use Rattle.bpf_decode.proofs.Bytes.{IsBytes, IsBytes-drop, bind_ok}
+use Rattle.bpf_decode.proofs.Insns.{some_slot, length-bytes_of, insn_takes, insn_again}
 
 -- ---- what is spelled is read
 

@@ -1,7 +1,6 @@
 -- The two laws of images: what is read is spelled so, and what is spelled so is read.
-use Rattle.std.proofs.Common.{◌≡◌, ℕ, zero, suc, ◌+◌, ◌*◌, ◌^◌, ◌<◌, ◌≤◌, Bool, true, false, cond, eqb, List, [], ◌∷◌, ◌++◌, length, Result, Ok, Err, refl, sym, ap, subst, ◌∙◌, append_assoc, arith, eq-eqb}
-use Rattle.std.specs.Prelude.{nat_eq, codes, IfOk, ◌==◌, ◌⊎◌}
-use Rattle.std.specs.Global.{Vec}
+use Rattle.std.proofs.Common.{◌≡◌, ℕ, zero, suc, ◌+◌, ◌≤◌, Bool, List, [], ◌∷◌, ◌++◌, length, Result, Ok, Err, refl, sym, ap, subst, ◌∙◌, append_assoc, arith}
+use Rattle.std.specs.Prelude.{nat_eq, codes, IfOk, ◌==◌}
 use Rattle.std.specs.List.{AllByRecursion, flat_map}
 use Rattle.std.specs.Cmp.Lexicographic.{slice_cmp, pointwise, same_text}
 use Rattle.std.specs.Ordering.{nat_cmp}
@@ -11,15 +10,15 @@ use Rattle.std.proofs.lemmas.Bool.{eqb-true}
 use Rattle.std.proofs.lemmas.List.{append-nil, nil_from_length}
 use Rattle.std.proofs.lemmas.List.Concat.{flat_map-cons}
 use Rattle.bpf_decode.specs.declared.decode_error.DecodeError.{DecodeError}
-use Rattle.bpf_decode.specs.declared.decode_error.DecodeError.TheVariants.{Magic, Limit, Trailing, NoMemory}
+use Rattle.bpf_decode.specs.declared.decode_error.DecodeError.TheVariants.{Magic, Limit, Trailing}
 use Rattle.bpf_decode.specs.declared.image_error.ImageError.{ImageError}
 use Rattle.bpf_decode.specs.declared.insn.Insn.{Insn}
 use Rattle.bpf_decode.specs.Instruction.{spelling, slot_total}
 use Rattle.bpf_decode.specs.Class.{ClassMethod, IsMethod, NamesRise, IsClass, IsImage, method_bytes, image_bytes}
 use Rattle.bpf_decode.specs.Reading.{◌>>=◌, checked}
 use Rattle.bpf_decode.specs.ImageReading.{GivesImage, after, between, name_at, flags_at, capacity_at, code_at, method_at, methods_at, number_at, bytes_at, header_at, image_of}
-use Rattle.bpf_decode.proofs.Bytes.{IsBytes, IsBytes-rest, bind_ok, checked_ok}
-use Rattle.bpf_decode.proofs.ImageFields.{Takes, Takes-then, ok_is, same_value, tested, between-true, between-is, number_takes, number_again, bytes_take, bytes_again, IsNameAfter, name_takes, name_again, flags_take, flags_again, capacity_takes, capacity_again, IsCodeField, code_field, code_field_takes, code_field_again}
+use Rattle.bpf_decode.proofs.Bytes.{IsBytes, bind_ok, checked_ok}
+use Rattle.bpf_decode.proofs.ImageFields.{Takes, Takes-then, ok_is, same_value, between-true, between-is, number_takes, number_again, bytes_take, bytes_again, name_takes, name_again, flags_take, flags_again, capacity_takes, capacity_again, IsCodeField, code_field, code_field_takes, code_field_again}
 
 -- ---- a method
 

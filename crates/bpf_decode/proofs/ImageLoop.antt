@@ -1,5 +1,5 @@
 -- Reading one method after the other, as a loop does.
-use Rattle.std.proofs.Common.{◌≡◌, Bool, true, false, cond, eqb, length, eq-eqb, ℕ, zero, suc, ◌+◌, ◌-◌, ◌<◌, ◌≤◌, List, [], ◌∷◌, ◌++◌, Result, Ok, Err, refl, sym, ap, ◌∙◌, append_assoc, arith}
+use Rattle.std.proofs.Common.{◌≡◌, Bool, true, false, length, ℕ, suc, ◌+◌, ◌-◌, ◌<◌, ◌≤◌, List, [], ◌∷◌, ◌++◌, Result, Ok, Err, refl, sym, ap, ◌∙◌, append_assoc, arith}
 use Rattle.std.proofs.lemmas.List.{append-nil}
 use Rattle.std.proofs.Math.Nat.{sub-zero}
 use Rattle.bpf_decode.specs.declared.decode_error.DecodeError.{DecodeError}
@@ -7,7 +7,6 @@ use Rattle.bpf_decode.specs.declared.decode_error.DecodeError.TheVariants.{Trail
 use Rattle.bpf_decode.specs.declared.image_error.ImageError.{ImageError}
 use Rattle.bpf_decode.specs.Class.{ClassMethod}
 use Rattle.std.specs.Prelude.{◌==◌}
-use Rattle.std.proofs.lemmas.Bool.{ne_eqb}
 use Rattle.bpf_decode.specs.Reading.{◌>>=◌, checked}
 use Rattle.bpf_decode.specs.ImageReading.{after, method_at, methods_at, header_at, image_of}
 

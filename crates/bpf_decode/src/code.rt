@@ -5,9 +5,10 @@ ghost use Rattle.bpf_decode.specs.Instruction.{IsCode, AllFit, Fits, OperandFits
 ghost use Rattle.bpf_decode.specs.Table.{opcode};
 ghost use Rattle.bpf_decode.specs.Reading.{Gives, width_of, insn_at, code_of, count_of};
 ghost use Rattle.bpf_decode.specs.declared.insn.Insn.{Insn};
-ghost use Rattle.bpf_decode.specs.declared.insn.Insn.TheVariants.{LoadWide};
+ghost use Rattle.bpf_decode.specs.declared.insn.Insn.TheVariants.{Mov, LoadWide, Store};
 ghost use Rattle.bpf_decode.specs.declared.decode_error.DecodeError.TheVariants.{NoMemory};
 
+use crate::access::Width;
 use crate::decode_error::DecodeError;
 use crate::form::Form;
 use crate::insn::{Insn, Operand, width};
@@ -136,73 +137,79 @@ fn put_insn(out: &mut Vec<u8>, insn: &Insn) -> Result<(), AllocError>
     ensures fit { Fits insn.now }
 {
     match *insn {
-        Insn::Add { dst, imm } => put(
-            out,
-            Form::AddImmediate,
-            dst.number(),
-            0,
-            0,
-            imm.cast_unsigned(),
-        ),
-        Insn::Mov {
-            dst,
-            source: Operand::Immediate(imm),
-        } => put(
-            out,
-            Form::MovImmediate,
-            dst.number(),
-            0,
-            0,
-            imm.cast_unsigned(),
-        ),
-        Insn::Mov {
-            dst,
-            source: Operand::Register(src),
-        } => put(out, Form::MovRegister, dst.number(), src.number(), 0, 0),
+        Insn::Add { dst, imm } => {
+            let imm = imm.cast_unsigned();
+            put(out, Form::AddImmediate, dst.number(), 0, 0, imm)
+        }
+        Insn::Mov { dst, source } => put_mov(out, dst, source),
         Insn::LoadWide { dst, value } => put_wide(out, dst, value),
         Insn::Load {
             width,
             dst,
             base,
             offset,
-        } => put(
-            out,
-            Form::Load(width),
-            dst.number(),
-            base.number(),
-            offset.cast_unsigned(),
-            0,
-        ),
+        } => {
+            let offset = offset.cast_unsigned();
+            put(
+                out,
+                Form::Load(width),
+                dst.number(),
+                base.number(),
+                offset,
+                0,
+            )
+        }
         Insn::Store {
             width,
             base,
             offset,
-            source: Operand::Immediate(imm),
-        } => put(
-            out,
-            Form::StoreImmediate(width),
-            base.number(),
-            0,
-            offset.cast_unsigned(),
-            imm.cast_unsigned(),
-        ),
-        Insn::Store {
-            width,
-            base,
-            offset,
-            source: Operand::Register(src),
-        } => put(
-            out,
-            Form::StoreRegister(width),
-            base.number(),
-            src.number(),
-            offset.cast_unsigned(),
-            0,
-        ),
+            source,
+        } => put_store(out, width, base, offset, source),
         Insn::Jump { offset } => put(out, Form::Jump, 0, 0, offset.cast_unsigned(), 0),
         Insn::Call { helper } => put(out, Form::Call, 0, 0, 0, helper),
         Insn::CallLocal { distance } => put(out, Form::Call, 0, 1, 0, distance.cast_unsigned()),
         Insn::Exit => put(out, Form::Exit, 0, 0, 0, 0),
+    }
+}
+
+fn put_mov(out: &mut Vec<u8>, dst: Register, source: Operand) -> Result<(), AllocError>
+    ensures spelled { OnOk result (out.new.items ≡ out.old.items ++ bytes_of (Mov dst source)) }
+    ensures fit { Fits (Mov dst source) }
+{
+    match source {
+        Operand::Immediate(imm) => {
+            let imm = imm.cast_unsigned();
+            put(out, Form::MovImmediate, dst.number(), 0, 0, imm)
+        }
+        Operand::Register(src) => put(out, Form::MovRegister, dst.number(), src.number(), 0, 0),
+    }
+}
+
+fn put_store(
+    out: &mut Vec<u8>,
+    width: Width,
+    base: Register,
+    offset: i16,
+    source: Operand,
+) -> Result<(), AllocError>
+    ensures spelled { OnOk result (out.new.items ≡ out.old.items ++ bytes_of (Store width base offset source)) }
+    ensures fit { Fits (Store width base offset source) }
+{
+    let dst = base.number();
+    let offset = offset.cast_unsigned();
+    match source {
+        Operand::Immediate(imm) => {
+            let imm = imm.cast_unsigned();
+            put(out, Form::StoreImmediate(width), dst, 0, offset, imm)
+        }
+        Operand::Register(src) => put(
+            out,
+            Form::StoreRegister(width),
+            dst,
+            src.number(),
+            offset,
+            0,
+        ),
     }
 }
 

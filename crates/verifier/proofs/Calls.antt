@@ -12,7 +12,7 @@ use Rattle.bpf_machine.specs.declared.argument.Argument.TheVariants.{Number, Out
 use Rattle.bpf_machine.specs.Object.{Object, AreBytes, data_of}
 use Rattle.bpf_machine.specs.State.{◌>>=◌, only, Memory, cells, may_store, size, reg}
 use Rattle.bpf_machine.specs.Helper.{Takes, signature_of, Given, nothing_given, with_number, with_text, with_room, Effect, effect, first_text, read_effect, write_effect, answered, bytes_in, write_room}
-use Rattle.bpf_machine.specs.Typed.{Typed, number, typed_range, typed_arguments, typed_help}
+use Rattle.bpf_machine.specs.Typed.{Typed, number, locate, typed_range, typed_arguments, typed_help}
 use Rattle.verifier.specs.declared.kind.Kind.{Kind}
 use Rattle.verifier.specs.declared.kind.Kind.TheVariants.{Unset, Num, Ptr}
 use Rattle.verifier.specs.declared.fault.Fault.TheVariants.{OutOfRegion, ReadOnly, WrongKind}
@@ -63,6 +63,11 @@ target_of true writes p h = (None, refl)
 target_of false true p h = (Some p, cond-true (may_store p.0) (Some (Some p)) None (h refl))
 target_of false false p h = (Some p, refl)
 
+range_made : (caps : Caps) (writes : Bool) (v : Value) (n : ℕ) (p : Region × ℕ) → locate caps v 0 n ≡ Some p → (writes ≡ true → may_store p.0 ≡ true) → (t : Option (Region × ℕ)) × (typed_range caps writes v n ≡ Some t)
+range_made caps writes v n p found h =
+    let t = target_of (n == 0) writes p h in
+    (t.0, ap (λ p. p >>= λ p. if n == 0 then Some None else if writes then only (may_store p.0) (Some (Some p)) else Some (Some p)) found ∙ t.1)
+
 -- a range that was not refused is one
 ranged : (caps : Caps) (writes : Bool) (x y : Kind) (v w : Value) (n : ℕ) → HoldsValue x v → HoldsValue y w → number w ≡ Some n → is_ptr x ≡ true → is_num y ≡ true → range_leaves caps x y ≡ false → (writes ≡ true → range_is_read_only x y ≡ false) → (p : Option (Region × ℕ)) × (typed_range caps writes v n ≡ Some p)
 ranged caps writes Unset y v w n h i e a b c d = absurd (false≢true a)
@@ -81,8 +86,7 @@ ranged caps writes (Ptr r k) (Num l) (values.Ptr q at) (values.Num m) n h i e a 
     let whole : (at + 0) % 2 ^ 64 ≡ at = omega arith in
     let fits : (at + 0) % 2 ^ 64 + n ≤ size caps q = omega arith in
     let found = cond-true (nat_le ((at + 0) % 2 ^ 64 + n) (size caps q)) (Some (q, (at + 0) % 2 ^ 64)) None (le-leb _ _ fits) in
-    let rest = target_of (n == 0) writes (q, (at + 0) % 2 ^ 64) (λ t. ap may_store (sym h.0) ∙ not_false _ (d t)) in
-    (rest.0, ap (λ p. p >>= λ p. if n == 0 then Some None else if writes then only (may_store p.0) (Some (Some p)) else Some (Some p)) found ∙ rest.1)
+    range_made caps writes (values.Ptr q at) n (q, (at + 0) % 2 ^ 64) found (λ t. ap may_store (sym h.0) ∙ not_false _ (d t))
 
 abbrev AreTexts : List (List ℕ) → Type 0
 AreTexts [] = Unit {0}

@@ -13,6 +13,7 @@ pub enum Kind {
 }
 
 impl Kind {
+    /// Whether nothing is known of it.
     pub fn is_unset(self) -> bool
         ensures { result ≡ is_unset self }
     {
@@ -22,6 +23,7 @@ impl Kind {
         }
     }
 
+    /// Whether it is a number.
     pub fn is_num(self) -> bool
         ensures { result ≡ is_num self }
     {
@@ -31,6 +33,7 @@ impl Kind {
         }
     }
 
+    /// Whether it is a pointer.
     pub fn is_ptr(self) -> bool
         ensures { result ≡ is_ptr self }
     {

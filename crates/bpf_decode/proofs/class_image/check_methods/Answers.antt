@@ -1,5 +1,5 @@
-use Rattle.std.proofs.Common.{◌≡◌, Err, sym, ap, ◌∙◌}
-use Rattle.bpf_decode.proofs.ClassLoop.{begins, goes_on, not_counted, is_refused, all_pass, all_fit, class_passes}
+use Rattle.std.proofs.Common.{Err, sym, ap, ◌∙◌}
+use Rattle.bpf_decode.proofs.ClassLoop.{goes_on, not_counted, is_refused, all_pass, all_fit, class_passes}
 use Rattle.bpf_decode.proofs.class_image.check_methods.Goals as goal
 
 pub returns-then-not-is_method_count-clause-read :

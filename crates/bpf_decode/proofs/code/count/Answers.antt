@@ -1,7 +1,7 @@
 use Rattle.std.proofs.Common.{◌*◌, arith}
 use Rattle.std.proofs.lemmas.List.{take_rest}
 use Rattle.std.proofs.lemmas.Result.{err_from_is_err_and}
-use Rattle.bpf_decode.proofs.Loop.{cut_code, begins, count_refused, count_goes_on, count_ends, count_done}
+use Rattle.bpf_decode.proofs.Loop.{cut_code, count_refused, count_goes_on, count_ends, count_done}
 use Rattle.bpf_decode.proofs.code.count.Goals as goal
 
 pub returns-then-bytes-ne0 : goal.returns-then-bytes-ne0

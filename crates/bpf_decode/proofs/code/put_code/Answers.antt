@@ -1,6 +1,6 @@
-use Rattle.std.proofs.Common.{◌≡◌, ◌+◌, ◌++◌, ◌∷◌, [], take, get_or, sym, ap, ◌∙◌, append_assoc, arith}
+use Rattle.std.proofs.Common.{◌≡◌, ◌+◌, ◌++◌, ◌∷◌, [], take, sym, ap, ◌∙◌, append_assoc}
 use Rattle.std.proofs.lemmas.List.{take_more}
-use Rattle.bpf_decode.specs.Instruction.{AllFit, spelling, bytes_of}
+use Rattle.bpf_decode.specs.Instruction.{spelling, bytes_of}
 use Rattle.bpf_decode.proofs.CodeLaws.{spelling-push, AllFit-push}
 use Rattle.bpf_decode.proofs.code.put_code.Goals as goal
 

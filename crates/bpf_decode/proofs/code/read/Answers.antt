@@ -1,8 +1,8 @@
-use Rattle.std.proofs.Common.{◌*◌, ap, sym, ◌∙◌, arith, inl, inr}
+use Rattle.std.proofs.Common.{◌*◌, ap, sym, ◌∙◌, arith, inr}
 use Rattle.std.proofs.lemmas.List.{take_rest}
 use Rattle.std.proofs.lemmas.Result.{err_from_is_err_and}
 use Rattle.bpf_decode.specs.Reading.{insn_at}
-use Rattle.bpf_decode.proofs.Loop.{cut_code, begins, goes_on, is_refused, is_done}
+use Rattle.bpf_decode.proofs.Loop.{cut_code, goes_on, is_refused, is_done}
 use Rattle.bpf_decode.proofs.code.read.Goals as goal
 
 pub returns-then-bytes-ne0 : goal.returns-then-bytes-ne0

@@ -1,6 +1,6 @@
-use Rattle.std.proofs.Common.{◌≡◌, ◌++◌, ◌∷◌, [], Bool, true, cond, Ok, Err, sym, ap, ◌∙◌, inl, inr}
+use Rattle.std.proofs.Common.{◌≡◌, ◌++◌, ◌∷◌, [], Bool, true, cond, Err, sym, ap, ◌∙◌, inl, inr}
 use Rattle.std.specs.Result.{is_ok}
-use Rattle.bpf_decode.proofs.ImageLoop.{begins, goes_on, ends, is_done}
+use Rattle.bpf_decode.proofs.ImageLoop.{goes_on, ends, is_done}
 use Rattle.bpf_decode.proofs.image.methods_at.Goals as goal
 
 pub returns-in-Err : goal.returns-in-Err

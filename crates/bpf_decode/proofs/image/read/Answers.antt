@@ -1,4 +1,4 @@
-use Rattle.std.proofs.Common.{◌≡◌, Err, sym, ap, ◌∙◌, inl, inr}
+use Rattle.std.proofs.Common.{Err, sym, ap, ◌∙◌, inl, inr}
 use Rattle.std.proofs.lemmas.Result.{err_from_is_err_and}
 use Rattle.bpf_decode.proofs.ImageLoop.{header_refused, methods_refused, trailing, all_read}
 use Rattle.bpf_decode.proofs.image.read.Goals as goal
