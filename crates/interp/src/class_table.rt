@@ -1,4 +1,4 @@
-ghost use Rattle.std.specs.Prelude.{◌≡◌, ◌==◌, ◌<◌, ◌≤◌, ◌++◌, ◌∷◌, ◌↔◌, [], IfOk, OnErr, length, Err, slice_get};
+ghost use Rattle.std.specs.Prelude.{◌≡◌, ◌==◌, ◌≤◌, ◌++◌, ◌∷◌, ◌↔◌, [], IfOk, OnErr, length, Err, slice_get};
 ghost use Rattle.interp.specs.Plain.{given_class};
 ghost use Rattle.interp.specs.Refusal.{table_error_number};
 

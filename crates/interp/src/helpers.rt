@@ -1,4 +1,4 @@
-ghost use Rattle.std.specs.Prelude.{◌≡◌, ℕ, ◌+◌, ◌-◌, ◌^◌, ◌<◌, ◌≤◌, ◌==◌, if◌then◌else◌, [], Option, None, Some, length, slice_set, IfOk};
+ghost use Rattle.std.specs.Prelude.{◌≡◌, ◌+◌, ◌-◌, ◌<◌, ◌≤◌, ◌==◌, if◌then◌else◌, [], length, IfOk};
 ghost use Rattle.bpf_machine.specs.Object.{part};
 ghost use Rattle.bpf_machine.specs.State.{written};
 ghost use Rattle.bpf_machine.specs.Helper.{read_effect, write_effect};
