@@ -11,7 +11,8 @@ use Rattle.bpf_decode.specs.declared.insn.Insn.TheVariants as insns
 use Rattle.bpf_decode.specs.Instruction.{Fits, AllFit, bytes_of, spelling, slot_count, slot_total, IsCode}
 use Rattle.bpf_decode.specs.Reading.{◌>>=◌, Gives, insn_at, insns_at, code_of, count_of}
 use Rattle.bpf_decode.proofs.Bytes.{IsBytes, IsBytes-drop, bind_ok}
-use Rattle.bpf_decode.proofs.Insns.{some_slot, length-bytes_of, insn_takes, insn_again}
+use Rattle.bpf_decode.proofs.Spelled.{insn_again}
+use Rattle.bpf_decode.proofs.Insns.{some_slot, length-bytes_of, insn_takes}
 
 -- ---- what is spelled is read
 
@@ -127,12 +128,18 @@ slot_total-push [] i = omega arith
 slot_total-push (j ∷ is) i = omega (arith, slot_total-push is i)
 
 pub few_slots : (i : Insn) → slot_count i ≤ 2
-few_slots (insns.Add dst imm) = omega arith
-few_slots (insns.Mov dst source) = omega arith
+few_slots (insns.Alu bits operation dst source) = omega arith
+few_slots (insns.Neg bits dst) = omega arith
+few_slots (insns.Mov bits dst source) = omega arith
+few_slots (insns.MovSigned extension dst src) = omega arith
+few_slots (insns.End order width dst) = omega arith
 few_slots (insns.LoadWide dst value) = omega arith
 few_slots (insns.Load width dst base offset) = omega arith
+few_slots (insns.LoadSigned width dst base offset) = omega arith
 few_slots (insns.Store width base offset source) = omega arith
 few_slots (insns.Jump offset) = omega arith
+few_slots (insns.JumpLong distance) = omega arith
+few_slots (insns.Branch bits comparison dst source offset) = omega arith
 few_slots (insns.Call helper) = omega arith
 few_slots (insns.CallLocal distance) = omega arith
 few_slots insns.Exit = omega arith

@@ -1,139 +1,33 @@
--- An instruction that is read is spelled so, and what is spelled so is read.
-use Rattle.std.proofs.Common.{◌≡◌, ℕ, ℤ, ◌+◌, ◌*◌, ◌/◌, ◌%◌, ◌^◌, ◌<◌, ◌≤◌, Bool, true, false, cond, List, [], ◌∷◌, ◌++◌, length, drop, Option, Some, None, Result, Ok, refl, sym, ap, subst, ◌∙◌, append_assoc, arith, length-append, inl, inr, eq-eqb}
-use Rattle.std.specs.Prelude.{◌&&◌, ◌==◌, nat_le, option_and_then}
+-- What is read is spelled: what an instruction takes from the bytes, and how many slots.
+use Rattle.std.proofs.Common.{◌≡◌, ℕ, zero, suc, ◌+◌, ◌*◌, ◌/◌, ◌%◌, ◌^◌, ◌<◌, ◌≤◌, Bool, true, false, cond, List, ◌++◌, length, drop, Option, Some, None, Result, Ok, refl, sym, ap, subst, ◌∙◌, append_assoc, arith, length-append, inl, inr, eq-eqb}
+use Rattle.std.specs.Prelude.{◌&&◌, ◌||◌, ◌==◌, option_and_then}
 use Rattle.std.specs.Option.{ok_or}
-use Rattle.std.specs.List.{find}
 use Rattle.std.specs.Int.{w16, w32, cast_signed}
 use Rattle.std.specs.Int.RustNames.{FitsSigned}
-use Rattle.std.proofs.lemmas.Int.{to_z-of_z, of_z-to_z}
+use Rattle.std.proofs.lemmas.Int.{of_z-to_z}
 use Rattle.std.proofs.Math.Facts.{sfits_to_z}
 use Rattle.std.proofs.lemmas.List.{drop-drop}
-use Rattle.std.proofs.lemmas.Bool.{eqb-true, leb-true, le-leb, ne_eqb, cases_eq}
+use Rattle.std.proofs.lemmas.Bool.{eqb-true, leb-true, ne_eqb, cases_eq}
 use Rattle.bpf_decode.specs.declared.decode_error.DecodeError.{DecodeError}
 use Rattle.bpf_decode.specs.declared.decode_error.DecodeError.TheVariants as errors
-use Rattle.bpf_decode.specs.declared.access.Width.TheVariants.{Byte, Half, Word, Double}
 use Rattle.bpf_decode.specs.declared.insn.Operand.TheVariants.{Immediate, Register}
 use Rattle.bpf_decode.specs.declared.insn.Insn.{Insn}
 use Rattle.bpf_decode.specs.declared.insn.Insn.TheVariants as insns
 use Rattle.bpf_decode.specs.declared.form.Form.{Form}
-use Rattle.bpf_decode.specs.declared.form.Form.TheVariants.{Jump, AddImmediate, Wide, Load, StoreImmediate, StoreRegister, Call, Exit, MovImmediate, MovRegister}
+use Rattle.bpf_decode.specs.declared.form.Form.TheVariants.{AluImmediate, AluRegister, Neg, MovImmediate, MovRegister, End, Wide, Load, LoadSigned, StoreImmediate, StoreRegister, Jump, JumpLong, BranchImmediate, BranchRegister, Call, Exit}
+use Rattle.bpf_decode.specs.declared.operation.Bits.{Bits}
+use Rattle.bpf_decode.specs.declared.operation.Bits.TheVariants.{Bits32, Bits64}
+use Rattle.bpf_decode.specs.declared.operation.Arithmetic.{Arithmetic}
+use Rattle.bpf_decode.specs.declared.operation.Arithmetic.TheVariants.{Add, Sub, Mul, Div, SignedDiv, Or, And, Lsh, Rsh, Mod, SignedMod, Xor, Arsh}
+use Rattle.bpf_decode.specs.Opcodes.{offset_selects, selected, imm_selects, end_width_of, move_selects, signed_move_of}
+use Rattle.std.proofs.lemmas.Bool.{cases_Bool}
 use Rattle.bpf_decode.specs.Fields.{Fields, fields_of}
-use Rattle.bpf_decode.specs.Instruction.{Fits, slot, bytes_of, slot_count, imm_field, offset_field, size_code}
-use Rattle.bpf_decode.specs.Table.{opcode, rows, form, fields_allowed, second_half, high_half, instruction}
-use Rattle.bpf_decode.specs.Reading.{◌>>=◌, checked, are_registers, insn_at}
-use Rattle.bpf_decode.proofs.Bytes.{IsBytes, IsBytes-drop, bind_ok, checked_ok, ok_or_ok, both_true, fields_are, fields_of-slot, same_slot, TakesSlot, fields_take}
-
--- ---- what is spelled is read
-
--- the steps of reading an instruction, from what each step gives
-abbrev by_half : ℕ → Fields → Form → Option ℕ → Result Insn DecodeError
-by_half n f row o = ok_or o (errors.WideHalf n) >>= λ high. Ok (instruction row f high)
-
-abbrev by_allowed : ℕ → Fields → Form → List ℕ → Bool → Result Insn DecodeError
-by_allowed n f row behind b = checked b (errors.NonzeroField n) f >>= λ h. by_half n f row (high_half row behind)
-
-abbrev by_registers : ℕ → Fields → Form → List ℕ → Bool → Result Insn DecodeError
-by_registers n f row behind b = checked b (errors.Register n) f >>= λ g. by_allowed n f row behind (fields_allowed row f)
-
-abbrev by_row : ℕ → Fields → List ℕ → Option Form → Result Insn DecodeError
-by_row n f behind o = ok_or o (errors.Opcode n) >>= λ row. by_registers n f row behind (are_registers f)
-
-abbrev by_fields : ℕ → List ℕ → Option Fields → Result Insn DecodeError
-by_fields n behind o = ok_or o errors.Truncated >>= λ f. by_row n f behind (form f.opcode)
-
-pub insn_by : (n op d s o k : ℕ) (rest : List ℕ) (row : Form) (high : ℕ) → d ≤ 10 → s ≤ 10 → form op ≡ Some row → fields_allowed row (fields_are op d s o k) ≡ true → high_half row rest ≡ Some high
-    → insn_at n (slot op d s o k ++ rest) ≡ Ok (instruction row (fields_are op d s o k) high)
-unfolding insn_at
-insn_by n op d s o k rest row high hd hs found allowed half =
-    let f : Fields = fields_are op d s o k in
-    let e2 : (nat_le d 10 && nat_le s 10) ≡ true = rw (le-leb d 10 hd, le-leb s 10 hs) refl in
-    ap (by_fields n rest) (fields_of-slot op d s o k rest hd)
-    ∙ ap (by_row n f rest) found
-    ∙ ap (by_registers n f row rest) e2
-    ∙ ap (by_allowed n f row rest) allowed
-    ∙ ap (by_half n f row) half
-
-signed16 : (z : ℤ) → FitsSigned w16 z → cast_signed w16 (offset_field z) ≡ z
-signed16 z h = to_z-of_z w16 z h
-
-signed32 : (z : ℤ) → FitsSigned w32 z → cast_signed w32 (imm_field z) ≡ z
-signed32 z h = to_z-of_z w32 z h
-
-low_and_high : (v : ℕ) → v % 2 ^ 32 + v / 2 ^ 32 * 2 ^ 32 ≡ v
-low_and_high v = omega arith
-
--- the form of an opcode, for each row
-pub form-opcode : (row : Form) → form (opcode row) ≡ Some row
-unfolding form
-form-opcode Jump = refl
-form-opcode AddImmediate = refl
-form-opcode Wide = refl
-form-opcode (Load Byte) = refl
-form-opcode (Load Half) = refl
-form-opcode (Load Word) = refl
-form-opcode (Load Double) = refl
-form-opcode (StoreImmediate Byte) = refl
-form-opcode (StoreImmediate Half) = refl
-form-opcode (StoreImmediate Word) = refl
-form-opcode (StoreImmediate Double) = refl
-form-opcode (StoreRegister Byte) = refl
-form-opcode (StoreRegister Half) = refl
-form-opcode (StoreRegister Word) = refl
-form-opcode (StoreRegister Double) = refl
-form-opcode Call = refl
-form-opcode Exit = refl
-form-opcode MovImmediate = refl
-form-opcode MovRegister = refl
-
-pub insn_again : (n : ℕ) (i : Insn) (rest : List ℕ) → Fits i → insn_at n (bytes_of i ++ rest) ≡ Ok i
-insn_again n (insns.Add dst imm) rest h =
-    insn_by n 0x07 dst 0 0 (imm_field imm) rest AddImmediate 0 h.0 (omega arith) (form-opcode AddImmediate) refl refl
-    ∙ ap (λ (z : ℤ). Ok (insns.Add dst z)) (signed32 imm h.1)
-insn_again n (insns.Mov dst (Immediate imm)) rest h =
-    insn_by n 0xb7 dst 0 0 (imm_field imm) rest MovImmediate 0 h.0 (omega arith) (form-opcode MovImmediate) refl refl
-    ∙ ap (λ (z : ℤ). Ok (insns.Mov dst (Immediate z))) (signed32 imm h.1)
-insn_again n (insns.Mov dst (Register src)) rest h =
-    insn_by n 0xbf dst src 0 0 rest MovRegister 0 h.0 h.1 (form-opcode MovRegister) refl refl
-insn_again n (insns.LoadWide dst value) rest h =
-    let half : high_half Wide (slot 0 0 0 0 (value / 2 ^ 32) ++ rest) ≡ Some (value / 2 ^ 32) = ap (λ (o : Option Fields). option_and_then second_half o) (fields_of-slot 0 0 0 0 (value / 2 ^ 32) rest (omega arith)) in
-    insn_by n 0x18 dst 0 0 (value % 2 ^ 32) (slot 0 0 0 0 (value / 2 ^ 32) ++ rest) Wide (value / 2 ^ 32) h.0 (omega arith) (form-opcode Wide) refl half
-    ∙ ap (λ (v : ℕ). Ok (insns.LoadWide dst v)) (low_and_high value)
-insn_again n (insns.Load width dst base offset) rest h =
-    insn_by n (0x61 + 8 * size_code width) dst base (offset_field offset) 0 rest (Load width) 0 h.0 h.1 (form-opcode (Load width)) refl refl
-    ∙ ap (λ (z : ℤ). Ok (insns.Load width dst base z)) (signed16 offset h.2)
-insn_again n (insns.Store width base offset (Immediate imm)) rest h =
-    insn_by n (0x62 + 8 * size_code width) base 0 (offset_field offset) (imm_field imm) rest (StoreImmediate width) 0 h.0 (omega arith) (form-opcode (StoreImmediate width)) refl refl
-    ∙ ap (λ (z : ℤ). Ok (insns.Store width base z (Immediate (cast_signed w32 (imm_field imm))))) (signed16 offset h.1)
-    ∙ ap (λ (z : ℤ). Ok (insns.Store width base offset (Immediate z))) (signed32 imm h.2)
-insn_again n (insns.Store width base offset (Register src)) rest h =
-    insn_by n (0x63 + 8 * size_code width) base src (offset_field offset) 0 rest (StoreRegister width) 0 h.0 h.2 (form-opcode (StoreRegister width)) refl refl
-    ∙ ap (λ (z : ℤ). Ok (insns.Store width base z (Register src))) (signed16 offset h.1)
-insn_again n (insns.Jump offset) rest h =
-    insn_by n 0x05 0 0 (offset_field offset) 0 rest Jump 0 (omega arith) (omega arith) (form-opcode Jump) refl refl
-    ∙ ap (λ (z : ℤ). Ok (insns.Jump z)) (signed16 offset h)
-insn_again n (insns.Call helper) rest h =
-    insn_by n 0x85 0 0 0 helper rest Call 0 (omega arith) (omega arith) (form-opcode Call) refl refl
-insn_again n (insns.CallLocal distance) rest h =
-    insn_by n 0x85 0 1 0 (imm_field distance) rest Call 0 (omega arith) (omega arith) (form-opcode Call) refl refl
-    ∙ ap (λ (z : ℤ). Ok (insns.CallLocal z)) (signed32 distance h)
-insn_again n insns.Exit rest h =
-    insn_by n 0x95 0 0 0 0 rest Exit 0 (omega arith) (omega arith) (form-opcode Exit) refl refl
-
--- ---- what is read is spelled
-
-head_or_tail : (test : Form → Bool) (y : Form) (ys : List Form) (x : Form) (b : Bool) → test y ≡ b → (find test ys ≡ Some x → test x ≡ true) → cond b (Some y) (find test ys) ≡ Some x → test x ≡ true
-head_or_tail test y ys x true t later e =
-    let same : y ≡ x = cc in
-    subst (λ (z : Form). test z ≡ true) same t
-head_or_tail test y ys x false t later e = later e
-
-find_true : (test : Form → Bool) (xs : List Form) (x : Form) → find test xs ≡ Some x → test x ≡ true
-find_true test [] x e = absurd cc
-find_true test (y ∷ ys) x e = head_or_tail test y ys x (test y) refl (find_true test ys x) e
-
-pub opcode_of : (n : ℕ) (row : Form) → form n ≡ Some row → n ≡ opcode row
-unfolding form
-opcode_of n row e = sym (eqb-true (opcode row) n (find_true (λ r. opcode r == n) rows row e))
+use Rattle.bpf_decode.specs.Instruction.{Fits, slot, bytes_of, slot_count, imm_field, offset_field, size_code, signed_size_code, alu_class, jump_class, operation_code, operation_offset, signed_move_bits, signed_move_offset, order_opcode, end_bits, comparison_code}
+use Rattle.bpf_decode.specs.Table.{opcode, form, fields_allowed, second_half, high_half, instruction}
+use Rattle.bpf_decode.specs.Reading.{checked, are_registers, insn_at}
+use Rattle.bpf_decode.proofs.Bytes.{IsBytes, IsBytes-drop, bind_ok, checked_ok, ok_or_ok, both_true, same_slot, TakesSlot, fields_take}
+use Rattle.bpf_decode.proofs.Spelled.{by_half, by_allowed, by_registers, by_row}
+use Rattle.bpf_decode.proofs.Rows.{opcode_of}
 
 unsigned16 : (n : ℕ) → n < 2 ^ 16 → offset_field (cast_signed w16 n) ≡ n
 unsigned16 n h = of_z-to_z w16 n h
@@ -153,25 +47,39 @@ zero_from n e = eqb-true n 0 e
 -- ---- lengths
 
 pub some_slot : (i : Insn) → 1 ≤ slot_count i
-some_slot (insns.Add dst imm) = omega arith
-some_slot (insns.Mov dst source) = omega arith
+some_slot (insns.Alu bits operation dst source) = omega arith
+some_slot (insns.Neg bits dst) = omega arith
+some_slot (insns.Mov bits dst source) = omega arith
+some_slot (insns.MovSigned extension dst src) = omega arith
+some_slot (insns.End order width dst) = omega arith
 some_slot (insns.LoadWide dst value) = omega arith
-some_slot (insns.Load width dst base offset) = omega arith
-some_slot (insns.Store width base offset source) = omega arith
+some_slot (insns.Load width dst from offset) = omega arith
+some_slot (insns.LoadSigned width dst from offset) = omega arith
+some_slot (insns.Store width to offset source) = omega arith
 some_slot (insns.Jump offset) = omega arith
+some_slot (insns.JumpLong distance) = omega arith
+some_slot (insns.Branch bits comparison dst source offset) = omega arith
 some_slot (insns.Call helper) = omega arith
 some_slot (insns.CallLocal distance) = omega arith
 some_slot insns.Exit = omega arith
 
 pub length-bytes_of : (i : Insn) → length (bytes_of i) ≡ 8 * slot_count i
-length-bytes_of (insns.Add dst imm) = refl
-length-bytes_of (insns.Mov dst (Immediate imm)) = refl
-length-bytes_of (insns.Mov dst (Register src)) = refl
+length-bytes_of (insns.Alu bits operation dst (Immediate imm)) = refl
+length-bytes_of (insns.Alu bits operation dst (Register src)) = refl
+length-bytes_of (insns.Neg bits dst) = refl
+length-bytes_of (insns.Mov bits dst (Immediate imm)) = refl
+length-bytes_of (insns.Mov bits dst (Register src)) = refl
+length-bytes_of (insns.MovSigned extension dst src) = refl
+length-bytes_of (insns.End order width dst) = refl
 length-bytes_of (insns.LoadWide dst value) = refl
-length-bytes_of (insns.Load width dst base offset) = refl
-length-bytes_of (insns.Store width base offset (Immediate imm)) = refl
-length-bytes_of (insns.Store width base offset (Register src)) = refl
+length-bytes_of (insns.Load width dst from offset) = refl
+length-bytes_of (insns.LoadSigned width dst from offset) = refl
+length-bytes_of (insns.Store width to offset (Immediate imm)) = refl
+length-bytes_of (insns.Store width to offset (Register src)) = refl
 length-bytes_of (insns.Jump offset) = refl
+length-bytes_of (insns.JumpLong distance) = refl
+length-bytes_of (insns.Branch bits comparison dst (Immediate imm) offset) = refl
+length-bytes_of (insns.Branch bits comparison dst (Register src) offset) = refl
 length-bytes_of (insns.Call helper) = refl
 length-bytes_of (insns.CallLocal distance) = refl
 length-bytes_of insns.Exit = refl
@@ -222,6 +130,66 @@ second_takes bytes high fits half = by (fields_of bytes) refl half
         let same = same_slot g.opcode 0 g.dst 0 g.src 0 g.offset 0 g.imm high (zero_from g.opcode c.0) (zero_from g.dst c.1) (zero_from g.src b.1) (zero_from g.offset a.1) s.1 in
         (omega (arith, t.imm, s.1), t.parts ∙ ap (λ (x : List ℕ). x ++ drop 8 bytes) same)
 
+-- what a selecting field selects has that field
+selects : (operation : Arithmetic) (offset : ℕ) → offset_selects operation offset ≡ true → (operation_code (selected operation offset) ≡ operation_code operation) × (operation_offset (selected operation offset) ≡ offset)
+selects Div offset h = two offset (leb-true offset 1 h)
+  where
+    two : (offset : ℕ) → offset ≤ 1 → (operation_code (selected Div offset) ≡ 0x3) × (operation_offset (selected Div offset) ≡ offset)
+    two zero h = (refl, refl)
+    two (suc zero) h = (refl, refl)
+    two (suc (suc n)) h = absurd (omega arith)
+selects Mod offset h = two offset (leb-true offset 1 h)
+  where
+    two : (offset : ℕ) → offset ≤ 1 → (operation_code (selected Mod offset) ≡ 0x9) × (operation_offset (selected Mod offset) ≡ offset)
+    two zero h = (refl, refl)
+    two (suc zero) h = (refl, refl)
+    two (suc (suc n)) h = absurd (omega arith)
+selects SignedDiv offset h = (refl, sym (eqb-true offset 1 h))
+selects SignedMod offset h = (refl, sym (eqb-true offset 1 h))
+selects Add offset h = (refl, sym (zero_from offset h))
+selects Sub offset h = (refl, sym (zero_from offset h))
+selects Mul offset h = (refl, sym (zero_from offset h))
+selects Or offset h = (refl, sym (zero_from offset h))
+selects And offset h = (refl, sym (zero_from offset h))
+selects Lsh offset h = (refl, sym (zero_from offset h))
+selects Rsh offset h = (refl, sym (zero_from offset h))
+selects Xor offset h = (refl, sym (zero_from offset h))
+selects Arsh offset h = (refl, sym (zero_from offset h))
+
+or_right : (a b : Bool) → (a || b) ≡ true → a ≡ false → b ≡ true
+or_right true b e f = absurd cc
+or_right false b e f = e
+
+or_third : (a b c : Bool) → (a || b || c) ≡ true → a ≡ false → b ≡ false → c ≡ true
+or_third true b c e f g = absurd cc
+or_third false true c e f g = absurd cc
+or_third false false c e f g = e
+
+imm_kept : (imm : ℕ) → imm_selects imm ≡ true → end_bits (end_width_of imm) ≡ imm
+imm_kept imm h =
+    elim (cases_Bool (imm == 16)) as (λ _. end_bits (end_width_of imm) ≡ imm) [
+      | inl b ↦ let e = eqb-true imm 16 b in subst (λ k. end_bits (end_width_of k) ≡ k) (sym e) refl
+      | inr b ↦ elim (cases_Bool (imm == 32)) as (λ _. end_bits (end_width_of imm) ≡ imm) [
+        | inl c ↦ let e = eqb-true imm 32 c in subst (λ k. end_bits (end_width_of k) ≡ k) (sym e) refl
+        | inr c ↦ let e = eqb-true imm 64 (or_third _ _ _ h b c) in subst (λ k. end_bits (end_width_of k) ≡ k) (sym e) refl
+      ]
+    ]
+
+move_kept : (bits : Bits) (offset : ℕ) → move_selects bits offset ≡ true → (signed_move_bits (signed_move_of bits offset) ≡ bits) × (signed_move_offset (signed_move_of bits offset) ≡ offset)
+move_kept Bits64 offset h =
+    elim (cases_Bool (offset == 8)) as (λ _. (signed_move_bits (signed_move_of Bits64 offset) ≡ Bits64) × (signed_move_offset (signed_move_of Bits64 offset) ≡ offset)) [
+      | inl b ↦ subst (λ k. (signed_move_bits (signed_move_of Bits64 k) ≡ Bits64) × (signed_move_offset (signed_move_of Bits64 k) ≡ k)) (sym (eqb-true offset 8 b)) (refl, refl)
+      | inr b ↦ elim (cases_Bool (offset == 16)) as (λ _. (signed_move_bits (signed_move_of Bits64 offset) ≡ Bits64) × (signed_move_offset (signed_move_of Bits64 offset) ≡ offset)) [
+        | inl c ↦ subst (λ k. (signed_move_bits (signed_move_of Bits64 k) ≡ Bits64) × (signed_move_offset (signed_move_of Bits64 k) ≡ k)) (sym (eqb-true offset 16 c)) (refl, refl)
+        | inr c ↦ subst (λ k. (signed_move_bits (signed_move_of Bits64 k) ≡ Bits64) × (signed_move_offset (signed_move_of Bits64 k) ≡ k)) (sym (eqb-true offset 32 (or_third _ _ _ h b c))) (refl, refl)
+      ]
+    ]
+move_kept Bits32 offset h =
+    elim (cases_Bool (offset == 8)) as (λ _. (signed_move_bits (signed_move_of Bits32 offset) ≡ Bits32) × (signed_move_offset (signed_move_of Bits32 offset) ≡ offset)) [
+      | inl b ↦ subst (λ k. (signed_move_bits (signed_move_of Bits32 k) ≡ Bits32) × (signed_move_offset (signed_move_of Bits32 k) ≡ k)) (sym (eqb-true offset 8 b)) (refl, refl)
+      | inr b ↦ subst (λ k. (signed_move_bits (signed_move_of Bits32 k) ≡ Bits32) × (signed_move_offset (signed_move_of Bits32 k) ≡ k)) (sym (eqb-true offset 16 (or_right _ _ h b))) (refl, refl)
+    ]
+
 module _ (bytes : List ℕ) (f : Fields) (t : TakesSlot bytes f) (dst : f.dst ≤ 10) (src : f.src ≤ 10) (fits : IsBytes bytes) where
   wide_takes : (high : ℕ) → f.opcode ≡ 0x18 → fields_allowed Wide f ≡ true → high_half Wide (drop 8 bytes) ≡ Some high → TakesInsn bytes (insns.LoadWide f.dst (f.imm + high * 2 ^ 32))
   wide_takes high op allowed half =
@@ -244,9 +212,34 @@ module _ (bytes : List ℕ) (f : Fields) (t : TakesSlot bytes f) (dst : f.dst �
       let a = both_true _ _ allowed in
       let b = both_true _ _ a.0 in
       one_slot bytes f (insns.Jump (cast_signed w16 f.offset)) 0x05 0 0 (offset_field (cast_signed w16 f.offset)) 0 t refl (fits16 f.offset t.offset) refl op (zero_from f.dst b.0) (zero_from f.src b.1) (sym (unsigned16 f.offset t.offset)) (zero_from f.imm a.1)
-  row_takes AddImmediate high op allowed half =
+  row_takes JumpLong high op allowed half =
       let a = both_true _ _ allowed in
-      one_slot bytes f (insns.Add f.dst (cast_signed w32 f.imm)) 0x07 f.dst 0 0 (imm_field (cast_signed w32 f.imm)) t refl (dst, fits32 f.imm t.imm) refl op refl (zero_from f.src a.0) (zero_from f.offset a.1) (sym (unsigned32 f.imm t.imm))
+      let b = both_true _ _ a.0 in
+      one_slot bytes f (insns.JumpLong (cast_signed w32 f.imm)) 0x06 0 0 0 (imm_field (cast_signed w32 f.imm)) t refl (fits32 f.imm t.imm) refl op (zero_from f.dst b.0) (zero_from f.src b.1) (zero_from f.offset a.1) (sym (unsigned32 f.imm t.imm))
+  row_takes (AluImmediate bits operation) high op allowed half =
+      let a = both_true _ _ allowed in
+      let s = selects operation f.offset a.1 in
+      one_slot bytes f (insns.Alu bits (selected operation f.offset) f.dst (Immediate (cast_signed w32 f.imm))) (alu_class bits + 16 * operation_code (selected operation f.offset)) f.dst 0 (operation_offset (selected operation f.offset)) (imm_field (cast_signed w32 f.imm)) t refl (dst, fits32 f.imm t.imm) refl
+      (op ∙ ap (λ k. alu_class bits + 16 * k) (sym s.0)) refl (zero_from f.src a.0) (sym s.1) (sym (unsigned32 f.imm t.imm))
+  row_takes (AluRegister bits operation) high op allowed half =
+      let a = both_true _ _ allowed in
+      let s = selects operation f.offset a.1 in
+      one_slot bytes f (insns.Alu bits (selected operation f.offset) f.dst (Register f.src)) (alu_class bits + 8 + 16 * operation_code (selected operation f.offset)) f.dst f.src (operation_offset (selected operation f.offset)) 0 t refl (dst, src) refl
+      (op ∙ ap (λ k. alu_class bits + 8 + 16 * k) (sym s.0)) refl refl (sym s.1) (zero_from f.imm a.0)
+  row_takes (Neg bits) high op allowed half =
+      let a = both_true _ _ allowed in
+      let b = both_true _ _ a.0 in
+      one_slot bytes f (insns.Neg bits f.dst) (alu_class bits + 0x80) f.dst 0 0 0 t refl dst refl op refl (zero_from f.src b.0) (zero_from f.offset b.1) (zero_from f.imm a.1)
+  row_takes (End order) high op allowed half =
+      let a = both_true _ _ allowed in
+      let b = both_true _ _ a.0 in
+      one_slot bytes f (insns.End order (end_width_of f.imm) f.dst) (order_opcode order) f.dst 0 0 (end_bits (end_width_of f.imm)) t refl dst refl op refl (zero_from f.src b.0) (zero_from f.offset b.1) (sym (imm_kept f.imm a.1))
+  row_takes (BranchImmediate bits comparison) high op allowed half =
+      one_slot bytes f (insns.Branch bits comparison f.dst (Immediate (cast_signed w32 f.imm)) (cast_signed w16 f.offset)) (jump_class bits + 16 * comparison_code comparison) f.dst 0 (offset_field (cast_signed w16 f.offset)) (imm_field (cast_signed w32 f.imm)) t refl (dst, fits16 f.offset t.offset, fits32 f.imm t.imm) refl op refl (zero_from f.src allowed) (sym (unsigned16 f.offset t.offset)) (sym (unsigned32 f.imm t.imm))
+  row_takes (BranchRegister bits comparison) high op allowed half =
+      one_slot bytes f (insns.Branch bits comparison f.dst (Register f.src) (cast_signed w16 f.offset)) (jump_class bits + 8 + 16 * comparison_code comparison) f.dst f.src (offset_field (cast_signed w16 f.offset)) 0 t refl (dst, fits16 f.offset t.offset, src) refl op refl refl (sym (unsigned16 f.offset t.offset)) (zero_from f.imm allowed)
+  row_takes (LoadSigned width) high op allowed half =
+      one_slot bytes f (insns.LoadSigned width f.dst f.src (cast_signed w16 f.offset)) (0x81 + 8 * signed_size_code width) f.dst f.src (offset_field (cast_signed w16 f.offset)) 0 t refl (dst, src, fits16 f.offset t.offset) refl op refl refl (sym (unsigned16 f.offset t.offset)) (zero_from f.imm allowed)
   row_takes (Load width) high op allowed half =
       one_slot bytes f (insns.Load width f.dst f.src (cast_signed w16 f.offset)) (0x61 + 8 * size_code width) f.dst f.src (offset_field (cast_signed w16 f.offset)) 0 t refl (dst, src, fits16 f.offset t.offset) refl op refl refl (sym (unsigned16 f.offset t.offset)) (zero_from f.imm allowed)
   row_takes (StoreImmediate width) high op allowed half =
@@ -258,12 +251,20 @@ module _ (bytes : List ℕ) (f : Fields) (t : TakesSlot bytes f) (dst : f.dst �
       let b = both_true _ _ a.0 in
       let c = both_true _ _ b.0 in
       one_slot bytes f insns.Exit 0x95 0 0 0 0 t refl tt refl op (zero_from f.dst c.0) (zero_from f.src c.1) (zero_from f.offset b.1) (zero_from f.imm a.1)
-  row_takes MovImmediate high op allowed half =
+  row_takes (MovImmediate bits) high op allowed half =
       let a = both_true _ _ allowed in
-      one_slot bytes f (insns.Mov f.dst (Immediate (cast_signed w32 f.imm))) 0xb7 f.dst 0 0 (imm_field (cast_signed w32 f.imm)) t refl (dst, fits32 f.imm t.imm) refl op refl (zero_from f.src a.0) (zero_from f.offset a.1) (sym (unsigned32 f.imm t.imm))
-  row_takes MovRegister high op allowed half =
+      one_slot bytes f (insns.Mov bits f.dst (Immediate (cast_signed w32 f.imm))) (alu_class bits + 0xb0) f.dst 0 0 (imm_field (cast_signed w32 f.imm)) t refl (dst, fits32 f.imm t.imm) refl op refl (zero_from f.src a.0) (zero_from f.offset a.1) (sym (unsigned32 f.imm t.imm))
+  row_takes (MovRegister bits) high op allowed half =
       let a = both_true _ _ allowed in
-      one_slot bytes f (insns.Mov f.dst (Register f.src)) 0xbf f.dst f.src 0 0 t refl (dst, src) refl op refl refl (zero_from f.offset a.0) (zero_from f.imm a.1)
+      elim (cases_Bool (f.offset == 0)) as (λ _. TakesInsn bytes (instruction (MovRegister bits) f high)) [
+        | inl b ↦ subst (λ (i : Insn). TakesInsn bytes i) (sym (moved true b)) (one_slot bytes f (insns.Mov bits f.dst (Register f.src)) (alu_class bits + 0xb8) f.dst f.src 0 0 t refl (dst, src) refl op refl refl (zero_from f.offset b) (zero_from f.imm a.0))
+        | inr b ↦ let m = move_kept bits f.offset (or_right _ _ a.1 b) in
+            subst (λ (i : Insn). TakesInsn bytes i) (sym (moved false b)) (one_slot bytes f (insns.MovSigned (signed_move_of bits f.offset) f.dst f.src) (alu_class (signed_move_bits (signed_move_of bits f.offset)) + 0xb8) f.dst f.src (signed_move_offset (signed_move_of bits f.offset)) 0 t refl (dst, src) refl
+            (op ∙ ap (λ k. alu_class k + 0xb8) (sym m.0)) refl refl (sym m.1) (zero_from f.imm a.0))
+      ]
+    where
+      moved : (b : Bool) → (f.offset == 0) ≡ b → instruction (MovRegister bits) f high ≡ cond b (insns.Mov bits f.dst (Register f.src)) (insns.MovSigned (signed_move_of bits f.offset) f.dst f.src)
+      moved b e = ap (λ (x : Bool). cond x (insns.Mov bits f.dst (Register f.src)) (insns.MovSigned (signed_move_of bits f.offset) f.dst f.src)) e
   row_takes Call high op allowed half =
       let a = both_true _ _ allowed in
       let b = both_true _ _ a.0 in

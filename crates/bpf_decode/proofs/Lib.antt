@@ -1,4 +1,6 @@
 pub mod Bytes
+pub mod Spelled
+pub mod Rows
 pub mod Insns
 pub mod Loop
 pub mod CodeLaws

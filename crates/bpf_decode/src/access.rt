@@ -1,5 +1,5 @@
 ghost use Rattle.std.specs.Prelude.{◌≡◌};
-ghost use Rattle.bpf_decode.specs.Instruction.{byte_count, size_code};
+ghost use Rattle.bpf_decode.specs.Instruction.{byte_count, signed_byte_count, size_code, signed_size_code};
 
 /// How many bytes a load or store moves (RFC 9669 section 5, the size modifier).
 #[derive(Clone, Copy, Debug, PartialEq, Eq)]
@@ -32,6 +32,38 @@ impl Width {
             Width::Half => 1,
             Width::Byte => 2,
             Width::Double => 3,
+        }
+    }
+}
+
+/// How many bytes a load with sign extension moves (RFC 9669 section 5.2).
+#[derive(Clone, Copy, Debug, PartialEq, Eq)]
+pub enum SignedWidth {
+    Byte,
+    Half,
+    Word,
+}
+
+impl SignedWidth {
+    /// 1, 2 or 4.
+    pub fn bytes(self) -> usize
+        ensures { result ≡ signed_byte_count self }
+    {
+        match self {
+            SignedWidth::Byte => 1,
+            SignedWidth::Half => 2,
+            SignedWidth::Word => 4,
+        }
+    }
+
+    /// The size modifier.
+    pub fn size_code(self) -> u8
+        ensures { result ≡ signed_size_code self }
+    {
+        match self {
+            SignedWidth::Word => 0,
+            SignedWidth::Half => 1,
+            SignedWidth::Byte => 2,
         }
     }
 }

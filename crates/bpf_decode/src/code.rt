@@ -2,13 +2,12 @@
 
 ghost use Rattle.std.specs.Prelude.{◌≡◌, ◌≤◌, ◌<◌, ◌++◌, List, length, IfOk, IfErr, OnOk, true};
 ghost use Rattle.bpf_decode.specs.Instruction.{IsCode, AllFit, Fits, OperandFits, slot, bytes_of, spelling, slot_total};
-ghost use Rattle.bpf_decode.specs.Table.{opcode};
+ghost use Rattle.bpf_decode.specs.Table.{opcode, operand_slot};
 ghost use Rattle.bpf_decode.specs.Reading.{Gives, width_of, insn_at, code_of, count_of};
 ghost use Rattle.bpf_decode.specs.declared.insn.Insn.{Insn};
-ghost use Rattle.bpf_decode.specs.declared.insn.Insn.TheVariants.{Mov, LoadWide, Store};
+ghost use Rattle.bpf_decode.specs.declared.insn.Insn.TheVariants.{LoadWide};
 ghost use Rattle.bpf_decode.specs.declared.decode_error.DecodeError.TheVariants.{NoMemory};
 
-use crate::access::Width;
 use crate::decode_error::DecodeError;
 use crate::form::Form;
 use crate::insn::{Insn, Operand, width};
@@ -132,84 +131,132 @@ fn put(
     .put(out)
 }
 
+/// Writes an operation on a register and an operand: by one row for a number, by another for a register.
+fn put_operand(
+    out: &mut Vec<u8>,
+    immediate: Form,
+    register: Form,
+    dst: Register,
+    source: Operand,
+    offset: u16,
+) -> Result<(), AllocError>
+    ensures spelled { OnOk result (out.new.items ≡ out.old.items ++ operand_slot (opcode immediate) (opcode register) dst source offset) }
+    ensures fit { (dst ≤ 10) × OperandFits source }
+{
+    match source {
+        Operand::Immediate(imm) => put(
+            out,
+            immediate,
+            dst.number(),
+            0,
+            offset,
+            imm.cast_unsigned(),
+        ),
+        Operand::Register(src) => put(out, register, dst.number(), src.number(), offset, 0),
+    }
+}
+
 fn put_insn(out: &mut Vec<u8>, insn: &Insn) -> Result<(), AllocError>
     ensures spelled { OnOk result (out.new.items ≡ out.old.items ++ bytes_of insn.now) }
     ensures fit { Fits insn.now }
 {
     match *insn {
-        Insn::Add { dst, imm } => {
-            let imm = imm.cast_unsigned();
-            put(out, Form::AddImmediate, dst.number(), 0, 0, imm)
+        Insn::Alu {
+            bits,
+            operation,
+            dst,
+            source,
+        } => put_operand(
+            out,
+            Form::AluImmediate(bits, operation),
+            Form::AluRegister(bits, operation),
+            dst,
+            source,
+            operation.offset(),
+        ),
+        Insn::Neg { bits, dst } => put(out, Form::Neg(bits), dst.number(), 0, 0, 0),
+        Insn::Mov { bits, dst, source } => put_operand(
+            out,
+            Form::MovImmediate(bits),
+            Form::MovRegister(bits),
+            dst,
+            source,
+            0,
+        ),
+        Insn::MovSigned {
+            extension,
+            dst,
+            src,
+        } => put(
+            out,
+            Form::MovRegister(extension.bits()),
+            dst.number(),
+            src.number(),
+            extension.offset(),
+            0,
+        ),
+        Insn::End { order, width, dst } => {
+            put(out, Form::End(order), dst.number(), 0, 0, width.bits())
         }
-        Insn::Mov { dst, source } => put_mov(out, dst, source),
         Insn::LoadWide { dst, value } => put_wide(out, dst, value),
         Insn::Load {
             width,
             dst,
             base,
             offset,
-        } => {
-            let offset = offset.cast_unsigned();
-            put(
-                out,
-                Form::Load(width),
-                dst.number(),
-                base.number(),
-                offset,
-                0,
-            )
-        }
+        } => put(
+            out,
+            Form::Load(width),
+            dst.number(),
+            base.number(),
+            offset.cast_unsigned(),
+            0,
+        ),
+        Insn::LoadSigned {
+            width,
+            dst,
+            base,
+            offset,
+        } => put(
+            out,
+            Form::LoadSigned(width),
+            dst.number(),
+            base.number(),
+            offset.cast_unsigned(),
+            0,
+        ),
         Insn::Store {
             width,
             base,
             offset,
             source,
-        } => put_store(out, width, base, offset, source),
+        } => put_operand(
+            out,
+            Form::StoreImmediate(width),
+            Form::StoreRegister(width),
+            base,
+            source,
+            offset.cast_unsigned(),
+        ),
         Insn::Jump { offset } => put(out, Form::Jump, 0, 0, offset.cast_unsigned(), 0),
+        Insn::JumpLong { distance } => put(out, Form::JumpLong, 0, 0, 0, distance.cast_unsigned()),
+        Insn::Branch {
+            bits,
+            comparison,
+            dst,
+            source,
+            offset,
+        } => put_operand(
+            out,
+            Form::BranchImmediate(bits, comparison),
+            Form::BranchRegister(bits, comparison),
+            dst,
+            source,
+            offset.cast_unsigned(),
+        ),
         Insn::Call { helper } => put(out, Form::Call, 0, 0, 0, helper),
         Insn::CallLocal { distance } => put(out, Form::Call, 0, 1, 0, distance.cast_unsigned()),
         Insn::Exit => put(out, Form::Exit, 0, 0, 0, 0),
-    }
-}
-
-fn put_mov(out: &mut Vec<u8>, dst: Register, source: Operand) -> Result<(), AllocError>
-    ensures spelled { OnOk result (out.new.items ≡ out.old.items ++ bytes_of (Mov dst source)) }
-    ensures fit { Fits (Mov dst source) }
-{
-    match source {
-        Operand::Immediate(imm) => {
-            let imm = imm.cast_unsigned();
-            put(out, Form::MovImmediate, dst.number(), 0, 0, imm)
-        }
-        Operand::Register(src) => put(out, Form::MovRegister, dst.number(), src.number(), 0, 0),
-    }
-}
-
-fn put_store(
-    out: &mut Vec<u8>,
-    width: Width,
-    base: Register,
-    offset: i16,
-    source: Operand,
-) -> Result<(), AllocError>
-    ensures spelled { OnOk result (out.new.items ≡ out.old.items ++ bytes_of (Store width base offset source)) }
-    ensures fit { Fits (Store width base offset source) }
-{
-    let dst = base.number();
-    let offset = offset.cast_unsigned();
-    match source {
-        Operand::Immediate(imm) => {
-            let imm = imm.cast_unsigned();
-            put(out, Form::StoreImmediate(width), dst, 0, offset, imm)
-        }
-        Operand::Register(src) => put(
-            out,
-            Form::StoreRegister(width),
-            dst,
-            src.number(),
-            offset,
-            0,
-        ),
     }
 }
 
@@ -230,16 +277,63 @@ fn put_wide(out: &mut Vec<u8>, dst: Register, value: u64) -> Result<(), AllocErr
     .put(out)
 }
 
+/// Writes code at the end.
+pub fn put_code(out: &mut Vec<u8>, insns: &[Insn]) -> Result<(), AllocError>
+    ensures spelled { OnOk result (out.new.items ≡ out.old.items ++ spelling insns.now) }
+    ensures fit { OnOk result (AllFit insns.now) }
+{
+    for insn in insns {
+        put_insn(out, insn)?;
+    }
+    Ok(())
+}
+
+/// The one spelling of the instructions. Only memory may run out.
+pub fn encode(alloc: Global, insns: &[Insn]) -> Result<Vec<u8>, DecodeError>
+    ensures code { IfOk result (λ v. IsCode v.items insns.now) }
+    ensures refused { IfErr result (λ e. e ≡ NoMemory) }
+{
+    let mut out = Vec::new(alloc);
+    put_code(&mut out, insns)?;
+    Ok(out)
+}
+
 /// Whether its numbers are within their fields: they are, by their types.
 fn fits(insn: &Insn) -> bool
     ensures always { result ≡ true }
     ensures fit { Fits insn.now }
 {
     match *insn {
-        Insn::Add { dst, imm } => dst.number() <= 10 && operand_fits(Operand::Immediate(imm)),
-        Insn::Mov { dst, source } => dst.number() <= 10 && operand_fits(source),
+        Insn::Alu {
+            bits: _,
+            operation: _,
+            dst,
+            source,
+        } => dst.number() <= 10 && operand_fits(source),
+        Insn::Neg { bits: _, dst } => dst.number() <= 10,
+        Insn::Mov {
+            bits: _,
+            dst,
+            source,
+        } => dst.number() <= 10 && operand_fits(source),
+        Insn::MovSigned {
+            extension: _,
+            dst,
+            src,
+        } => dst.number() <= 10 && src.number() <= 10,
+        Insn::End {
+            order: _,
+            width: _,
+            dst,
+        } => dst.number() <= 10,
         Insn::LoadWide { dst, value } => dst.number() <= 10 && value <= u64::MAX,
         Insn::Load {
+            width: _,
+            dst,
+            base,
+            offset,
+        } => dst.number() <= 10 && base.number() <= 10 && offset <= i16::MAX,
+        Insn::LoadSigned {
             width: _,
             dst,
             base,
@@ -252,6 +346,14 @@ fn fits(insn: &Insn) -> bool
             source,
         } => base.number() <= 10 && offset <= i16::MAX && operand_fits(source),
         Insn::Jump { offset } => offset <= i16::MAX,
+        Insn::JumpLong { distance } => operand_fits(Operand::Immediate(distance)),
+        Insn::Branch {
+            bits: _,
+            comparison: _,
+            dst,
+            source,
+            offset,
+        } => dst.number() <= 10 && offset <= i16::MAX && operand_fits(source),
         Insn::Call { helper } => helper <= u32::MAX,
         Insn::CallLocal { distance } => operand_fits(Operand::Immediate(distance)),
         Insn::Exit => true,
@@ -279,25 +381,4 @@ pub fn slots(insns: &[Insn]) -> usize
         total += width(insn);
     }
     total
-}
-
-/// Writes code at the end.
-pub fn put_code(out: &mut Vec<u8>, insns: &[Insn]) -> Result<(), AllocError>
-    ensures spelled { OnOk result (out.new.items ≡ out.old.items ++ spelling insns.now) }
-    ensures fit { OnOk result (AllFit insns.now) }
-{
-    for insn in insns {
-        put_insn(out, insn)?;
-    }
-    Ok(())
-}
-
-/// The one spelling of the instructions. Only memory may run out.
-pub fn encode(alloc: Global, insns: &[Insn]) -> Result<Vec<u8>, DecodeError>
-    ensures code { IfOk result (λ v. IsCode v.items insns.now) }
-    ensures refused { IfErr result (λ e. e ≡ NoMemory) }
-{
-    let mut out = Vec::new(alloc);
-    put_code(&mut out, insns)?;
-    Ok(out)
 }

@@ -1,7 +1,8 @@
 ghost use Rattle.std.specs.Prelude.{◌≡◌};
 ghost use Rattle.bpf_decode.specs.Instruction.{slot_count};
 
-use crate::access::Width;
+use crate::access::{SignedWidth, Width};
+use crate::operation::{Arithmetic, Bits, ByteOrder, Comparison, EndWidth, SignedMove};
 use crate::register::Register;
 
 /// What an instruction reads beside its destination: a number in the instruction, or a register.
@@ -14,15 +15,35 @@ pub enum Operand {
 /// One instruction (RFC 9669 sections 4 and 5). The wide load takes two slots, every other one.
 #[derive(Clone, Copy, Debug, PartialEq, Eq)]
 pub enum Insn {
-    /// 64-bit addition of a number to a register.
-    Add {
-        dst: Register,
-        imm: i32,
-    },
-    /// A copy of 64 bits; a number is sign-extended.
-    Mov {
+    /// Arithmetic on a register; a number is sign-extended.
+    Alu {
+        bits: Bits,
+        operation: Arithmetic,
         dst: Register,
         source: Operand,
+    },
+    /// The negative of a register.
+    Neg {
+        bits: Bits,
+        dst: Register,
+    },
+    /// A copy; a number is sign-extended.
+    Mov {
+        bits: Bits,
+        dst: Register,
+        source: Operand,
+    },
+    /// A copy with sign extension.
+    MovSigned {
+        extension: SignedMove,
+        dst: Register,
+        src: Register,
+    },
+    /// A change of byte order.
+    End {
+        order: ByteOrder,
+        width: EndWidth,
+        dst: Register,
     },
     /// The wide load of a 64-bit number.
     LoadWide {
@@ -36,6 +57,13 @@ pub enum Insn {
         base: Register,
         offset: i16,
     },
+    /// A load from the address that is offset from `base`, sign-extended.
+    LoadSigned {
+        width: SignedWidth,
+        dst: Register,
+        base: Register,
+        offset: i16,
+    },
     /// A store to the address that is offset from `base`.
     Store {
         width: Width,
@@ -45,6 +73,18 @@ pub enum Insn {
     },
     /// A jump, in slots from the slot after it.
     Jump {
+        offset: i16,
+    },
+    /// A jump whose distance is the immediate.
+    JumpLong {
+        distance: i32,
+    },
+    /// A conditional jump: the register is compared with the operand.
+    Branch {
+        bits: Bits,
+        comparison: Comparison,
+        dst: Register,
+        source: Operand,
         offset: i16,
     },
     /// A call of the helper of that id.

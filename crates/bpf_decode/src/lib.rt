@@ -17,10 +17,11 @@ mod insn;
 mod laws;
 mod limits;
 mod method;
+mod operation;
 mod register;
 mod slot;
 
-pub use access::Width;
+pub use access::{SignedWidth, Width};
 pub use class_image::ClassImage;
 pub use code::{check, decode, encode};
 pub use decode_error::DecodeError;
@@ -29,6 +30,7 @@ pub use image_error::ImageError;
 pub use insn::{Insn, Operand, width};
 pub use laws::{one_class, one_spelling, round_trip};
 pub use method::Method;
+pub use operation::{Arithmetic, Bits, ByteOrder, Comparison, EndWidth, SignedMove};
 pub use register::Register;
 
 #[cfg(test)]

@@ -1,3 +1,5 @@
+mod opcodes;
+
 use super::*;
 use std::alloc::Global;
 use std::test::Fail;
@@ -76,32 +78,39 @@ fn store(width: Width, base: Register, offset: i16, source: Operand) -> Insn {
     }
 }
 
-fn register(number: u8) -> Result<Register, Fail> {
+fn mov(dst: Register, source: Operand) -> Insn {
+    Insn::Mov {
+        bits: Bits::Bits64,
+        dst,
+        source,
+    }
+}
+
+fn register_of(number: u8) -> Result<Register, Fail> {
     Ok(Register::new(number).ok_or("a register")?)
 }
 
 fn insns(alloc: Global) -> Result<Vec<Insn>, Fail> {
-    let r0 = register(0)?;
-    let r1 = register(1)?;
-    let r2 = register(2)?;
-    let r3 = register(3)?;
-    let r4 = register(4)?;
-    let r5 = register(5)?;
-    let r6 = register(6)?;
-    let r7 = register(7)?;
-    let r8 = register(8)?;
-    let r9 = register(9)?;
-    let r10 = register(10)?;
+    let r0 = register_of(0)?;
+    let r1 = register_of(1)?;
+    let r2 = register_of(2)?;
+    let r3 = register_of(3)?;
+    let r4 = register_of(4)?;
+    let r5 = register_of(5)?;
+    let r6 = register_of(6)?;
+    let r7 = register_of(7)?;
+    let r8 = register_of(8)?;
+    let r9 = register_of(9)?;
+    let r10 = register_of(10)?;
     let mut list = Vec::new(alloc);
-    list.push(Insn::Add { dst: r1, imm: -4 })?;
-    list.push(Insn::Mov {
-        dst: r2,
-        source: Operand::Immediate(5),
+    list.push(Insn::Alu {
+        bits: Bits::Bits64,
+        operation: Arithmetic::Add,
+        dst: r1,
+        source: Operand::Immediate(-4),
     })?;
-    list.push(Insn::Mov {
-        dst: r3,
-        source: Operand::Register(r4),
-    })?;
+    list.push(mov(r2, Operand::Immediate(5)))?;
+    list.push(mov(r3, Operand::Register(r4)))?;
     list.push(Insn::LoadWide {
         dst: r5,
         value: 0x1122_3344_5566_7788,
@@ -136,10 +145,7 @@ fn changed(place: usize, value: u8) -> [u8; 33] {
 
 fn method(alloc: Global, name: &str, flags: u8, in_cap: u16) -> Result<Method, Fail> {
     let mut code = Vec::new(alloc);
-    code.push(Insn::Mov {
-        dst: register(0)?,
-        source: Operand::Immediate(0),
-    })?;
+    code.push(mov(register_of(0)?, Operand::Immediate(0)))?;
     code.push(Insn::Exit)?;
     Ok(Method::new(String::from_str(alloc, name)?, flags, in_cap, 4096, code))
 }
@@ -182,10 +188,7 @@ fn reads_the_image(rt: HostRuntime) -> Result<(), Fail> {
     assert_eq!(rt; method.flags(), 1);
     assert_eq!(rt; method.in_cap(), 0);
     assert_eq!(rt; method.out_cap(), 0);
-    let mov = Insn::Mov {
-        dst: register(0)?,
-        source: Operand::Immediate(0),
-    };
+    let mov = mov(register_of(0)?, Operand::Immediate(0));
     assert_eq!(rt; method.instructions(), [mov, Insn::Exit].as_slice());
     let bytes = write_image(rt.alloc(), &class)?;
     assert_eq!(rt; bytes.as_slice(), IMAGE.as_slice());

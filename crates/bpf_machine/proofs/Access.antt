@@ -6,20 +6,23 @@ use Rattle.bpf_decode.specs.declared.access.Width.{Width}
 use Rattle.bpf_decode.specs.declared.access.Width.TheVariants.{Byte, Half, Word, Double}
 use Rattle.bpf_decode.specs.declared.insn.Operand.{Operand}
 use Rattle.bpf_decode.specs.declared.insn.Operand.TheVariants.{Immediate, Register}
-use Rattle.bpf_decode.specs.declared.insn.Insn.TheVariants.{Load, Store}
-use Rattle.bpf_decode.specs.Instruction.{byte_count, size_code, bytes_of, slot, imm_field, offset_field, OperandFits}
+use Rattle.bpf_decode.specs.declared.insn.Insn.TheVariants.{Load, LoadSigned, Store}
+use Rattle.bpf_decode.specs.declared.access.SignedWidth.{SignedWidth}
+use Rattle.bpf_decode.specs.declared.access.SignedWidth.TheVariants as signed
+use Rattle.bpf_decode.specs.Instruction.{byte_count, signed_byte_count, size_code, signed_size_code, bytes_of, slot, imm_field, offset_field, OperandFits}
 use Rattle.bpf_machine.specs.declared.value.Value.{Value}
 use Rattle.bpf_machine.specs.declared.value.Value.TheVariants.{Num}
 use Rattle.bpf_machine.specs.declared.caps.Caps.{Caps}
 use Rattle.bpf_machine.specs.Object.{part}
 use Rattle.bpf_machine.specs.State.{◌>>=◌, le_value, le_bytes, cells, put, may_store, State, reg}
-use Rattle.bpf_machine.specs.Flat.{Layout, IsLayout, load, store, signed16, signed32, act_on, flat_after}
-use Rattle.bpf_machine.specs.Typed.{Typed, extended, number, typed_load, typed_store, typed_act, address, image}
+use Rattle.bpf_machine.specs.Flat.{Layout, IsLayout, load, load_signed, store, signed16, signed32, act_on, flat_after}
+use Rattle.bpf_machine.specs.Typed.{Typed, extended, number, typed_load, typed_load_signed, typed_store, typed_act, address, image}
 use Rattle.bpf_machine.specs.Decoded.{insn_act}
 use Rattle.bpf_machine.proofs.Sim.{Sim, Any, same, sim_some, sim_if, sim_bind}
 use Rattle.bpf_machine.proofs.Place.{find_sim}
 use Rattle.bpf_machine.proofs.Slot.{by_row, offset_extended, imm_extended}
-use Rattle.bpf_machine.proofs.Registers.{register, sets, numbers, after_sim}
+use Rattle.bpf_machine.proofs.Registers.{register, operand, sets, numbers, after_sim}
+use Rattle.bpf_machine.specs.Arithmetic.{signed_load_value}
 
 module _ (caps : Caps) (lay : Layout) where
   -- the row of a load, by its width
@@ -28,6 +31,12 @@ module _ (caps : Caps) (lay : Layout) where
   load_row Half dst base offset rest s h = by_row caps lay 0x69 dst base offset 0 rest s h
   load_row Word dst base offset rest s h = by_row caps lay 0x61 dst base offset 0 rest s h
   load_row Double dst base offset rest s h = by_row caps lay 0x79 dst base offset 0 rest s h
+
+  -- of a load with sign extension
+  signed_load_row : (width : SignedWidth) (dst base offset : ℕ) (rest : List ℕ) (s : State ℕ) → dst ≤ 10 → act_on caps lay (slot (0x81 + 8 * signed_size_code width) dst base offset 0 ++ rest) s ≡ (reg s base >>= λ n. flat_after caps lay s (load_signed caps lay width dst ((n + signed16 offset) % 2 ^ 64) s))
+  signed_load_row signed.Byte dst base offset rest s h = by_row caps lay 0x91 dst base offset 0 rest s h
+  signed_load_row signed.Half dst base offset rest s h = by_row caps lay 0x89 dst base offset 0 rest s h
+  signed_load_row signed.Word dst base offset rest s h = by_row caps lay 0x81 dst base offset 0 rest s h
 
   -- of a store of an immediate
   store_imm_row : (width : Width) (base offset imm : ℕ) (rest : List ℕ) (s : State ℕ) → base ≤ 10 → act_on caps lay (slot (0x62 + 8 * size_code width) base 0 offset imm ++ rest) s ≡ (reg s base >>= λ n. flat_after caps lay s (store caps lay (byte_count width) ((n + signed16 offset) % 2 ^ 64) (signed32 imm) s))
@@ -48,6 +57,11 @@ module _ (caps : Caps) (lay : Layout) where
       load_row width dst base (offset_field offset) rest s d
       ∙ ap (λ z. reg s base >>= λ n. flat_after caps lay s (load caps lay (byte_count width) dst ((n + z) % 2 ^ 64) s)) (offset_extended offset f)
 
+  pub signed_load_acts : (width : SignedWidth) (dst base : ℕ) (offset : ℤ) (rest : List ℕ) (s : State ℕ) → dst ≤ 10 → FitsSigned w16 offset → act_on caps lay (bytes_of (LoadSigned width dst base offset) ++ rest) s ≡ insn_act caps lay (LoadSigned width dst base offset) s
+  signed_load_acts width dst base offset rest s d f =
+      signed_load_row width dst base (offset_field offset) rest s d
+      ∙ ap (λ z. reg s base >>= λ n. flat_after caps lay s (load_signed caps lay width dst ((n + z) % 2 ^ 64) s)) (offset_extended offset f)
+
   pub store_acts : (width : Width) (base : ℕ) (offset : ℤ) (source : Operand) (rest : List ℕ) (s : State ℕ) → base ≤ 10 → FitsSigned w16 offset → OperandFits source → act_on caps lay (bytes_of (Store width base offset source) ++ rest) s ≡ insn_act caps lay (Store width base offset source) s
   store_acts width base offset (Immediate imm) rest s b f g =
       store_imm_row width base (offset_field offset) (imm_field imm) rest s b
@@ -63,11 +77,21 @@ positive Half = omega arith
 positive Word = omega arith
 positive Double = omega arith
 
+positive_signed : (width : SignedWidth) → 0 < signed_byte_count width
+positive_signed signed.Byte = omega arith
+positive_signed signed.Half = omega arith
+positive_signed signed.Word = omega arith
+
 module _ (caps : Caps) (lay : Layout) (ok : IsLayout caps lay) where
   loads : (w d : ℕ) (v : Value) (o : ℕ) (s : Typed) → 0 < w → Sim Any (image lay) (typed_load caps w d v o s) (load caps lay w d ((address lay v + o) % 2 ^ 64) (image lay s))
   loads w d v o s pos =
       sim_bind _ _ Any (image lay) _ _ _ _ (find_sim caps lay ok v o w pos) (λ p _ _.
       sets caps lay s d (Num (le_value (part (cells s.memory p.0) p.1 w))))
+
+  signed_loads : (width : SignedWidth) (d : ℕ) (v : Value) (o : ℕ) (s : Typed) → Sim Any (image lay) (typed_load_signed caps width d v o s) (load_signed caps lay width d ((address lay v + o) % 2 ^ 64) (image lay s))
+  signed_loads width d v o s =
+      sim_bind _ _ Any (image lay) _ _ _ _ (find_sim caps lay ok v o (signed_byte_count width) (positive_signed width)) (λ p _ _.
+      sets caps lay s d (Num (signed_load_value width (le_value (part (cells s.memory p.0) p.1 (signed_byte_count width))))))
 
   stores : (w : ℕ) (v : Value) (o n : ℕ) (s : Typed) → 0 < w → Sim Any (image lay) (typed_store caps w v o n s) (store caps lay w ((address lay v + o) % 2 ^ 64) n (image lay s))
   stores w v o n s pos =
@@ -80,12 +104,14 @@ module _ (caps : Caps) (lay : Layout) (ok : IsLayout caps lay) where
       sim_bind Any (address lay) Any (image lay) _ _ _ _ (register caps lay s base) (λ v _ _.
       after_sim caps lay s _ _ (loads (byte_count width) dst v (extended offset) s (positive width)))
 
+  pub signed_load_sim : (width : SignedWidth) (dst base : ℕ) (offset : ℤ) (s : Typed) → Sim Any (image lay) (typed_act caps (LoadSigned width dst base offset) s) (insn_act caps lay (LoadSigned width dst base offset) (image lay s))
+  signed_load_sim width dst base offset s =
+      sim_bind Any (address lay) Any (image lay) _ _ _ _ (register caps lay s base) (λ v _ _.
+      after_sim caps lay s _ _ (signed_loads width dst v (extended offset) s))
+
   pub store_sim : (width : Width) (base : ℕ) (offset : ℤ) (source : Operand) (s : Typed) → Sim Any (image lay) (typed_act caps (Store width base offset source) s) (insn_act caps lay (Store width base offset source) (image lay s))
-  store_sim width base offset (Immediate imm) s =
+  store_sim width base offset source s =
       sim_bind Any (address lay) Any (image lay) _ _ _ _ (register caps lay s base) (λ v _ _.
-      after_sim caps lay s _ _ (stores (byte_count width) v (extended offset) (extended imm) s (positive width)))
-  store_sim width base offset (Register src) s =
-      sim_bind Any (address lay) Any (image lay) _ _ _ _ (register caps lay s base) (λ v _ _.
-      sim_bind Any (address lay) Any (image lay) _ _ _ _ (register caps lay s src) (λ y _ _.
+      sim_bind Any (address lay) Any (image lay) _ _ _ _ (operand caps lay s source) (λ y _ _.
       sim_bind Any same Any (image lay) (number y) (Some (address lay y)) _ (λ n. flat_after caps lay (image lay s) (store caps lay (byte_count width) ((address lay v + extended offset) % 2 ^ 64) n (image lay s))) (numbers caps lay y) (λ n _ _.
       after_sim caps lay s _ _ (stores (byte_count width) v (extended offset) n s (positive width)))))

@@ -1,26 +1,22 @@
--- Helpers and their calls: what the typed machine takes and does, the flat machine takes and does.
-use Rattle.std.proofs.Common.{◌≡◌, ℕ, ◌+◌, ◌%◌, ◌^◌, ◌<◌, ◌≤◌, List, [], ◌∷◌, Some, None, Bool, true, false, cond, refl, ap, arith, ◌++◌}
+-- Helpers: what the typed machine takes and does, the flat machine takes and does.
+use Rattle.std.proofs.Common.{◌≡◌, ℕ, ◌+◌, ◌%◌, ◌^◌, ◌<◌, ◌≤◌, List, [], ◌∷◌, Some, None, Bool, true, false, cond, refl, ap, arith}
 use Rattle.std.specs.Prelude.{◌==◌, ◌||◌, not}
 use Rattle.std.specs.Option.{option_map}
 use Rattle.std.proofs.lemmas.List.{drop-map}
 use Rattle.std.proofs.lemmas.Bool.{eqb-false}
-use Rattle.bpf_decode.specs.declared.insn.Insn.TheVariants.{Call}
-use Rattle.bpf_decode.specs.Instruction.{bytes_of}
 use Rattle.bpf_machine.specs.declared.region.Region.{Region}
 use Rattle.bpf_machine.specs.declared.value.Value.{Value}
 use Rattle.bpf_machine.specs.declared.value.Value.TheVariants.{Num, Ptr}
 use Rattle.bpf_machine.specs.declared.caps.Caps.{Caps}
 use Rattle.bpf_machine.specs.declared.argument.Argument.{Argument}
 use Rattle.bpf_machine.specs.declared.argument.Argument.TheVariants.{Number, OutputLength, Readable, Writable}
-use Rattle.bpf_machine.specs.State.{◌>>=◌, only, may_store, size, State}
+use Rattle.bpf_machine.specs.State.{◌>>=◌, only, may_store, size}
 use Rattle.bpf_machine.specs.Helper.{signature_of, nothing_given, with_number, with_text, with_room, effect, bytes_in, write_room}
-use Rattle.bpf_machine.specs.Flat.{Layout, IsLayout, base, find, range, arguments, help, act_on}
-use Rattle.bpf_machine.specs.Typed.{Typed, locate, typed_range, typed_arguments, typed_help, typed_act, address, image}
-use Rattle.bpf_machine.specs.Decoded.{insn_act}
+use Rattle.bpf_machine.specs.Flat.{Layout, IsLayout, base, find, range, arguments, help}
+use Rattle.bpf_machine.specs.Typed.{Typed, locate, typed_range, typed_arguments, typed_help, address, image}
 use Rattle.bpf_machine.proofs.Sim.{Sim, Any, same, sim_none, sim_some, sim_if, sim_eq, sim_bind, sim_drop, sim_same}
 use Rattle.bpf_machine.proofs.Place.{find_sim}
-use Rattle.bpf_machine.proofs.Registers.{register, number_in, after_sim}
-use Rattle.bpf_machine.proofs.Slot.{by_row}
+use Rattle.bpf_machine.proofs.Registers.{register, number_in}
 
 module _ (caps : Caps) (lay : Layout) (ok : IsLayout caps lay) where
   -- a range of some length is found at its address
@@ -60,7 +56,7 @@ module _ (caps : Caps) (lay : Layout) (ok : IsLayout caps lay) where
       sim_bind _ _ _ _ _ _ _ _ (range_sim true at n) (λ p _ _.
       sim_bind _ _ _ _ _ _ _ _ (arguments_sim s more (k + 2)) (λ g _ _. sim_same (Some (with_room n p g))))))
 
-  help_sim : (id : ℕ) (s : Typed) → Sim Any (image lay) (typed_help caps id s) (help caps lay id (image lay s))
+  pub help_sim : (id : ℕ) (s : Typed) → Sim Any (image lay) (typed_help caps id s) (help caps lay id (image lay s))
   help_sim id s =
       sim_bind Any same Any (image lay) _ _ _ _ (sim_same (signature_of id)) (λ takes _ _.
       sim_if Any (image lay) (not takes.writes || caps.writes) _ _ (λ _.
@@ -68,10 +64,3 @@ module _ (caps : Caps) (lay : Layout) (ok : IsLayout caps lay) where
       let e = effect id s.object s.out_len given in
       sim_some Any (image lay) _ _ tt
       (ap (λ regs. record { slot = s.slot; regs = Some e.answer ∷ None ∷ None ∷ None ∷ None ∷ None ∷ regs; memory = write_room s.memory given.target e.bytes; object = e.object; out_len = e.out_len; caller = s.caller }) (drop-map (option_map (address lay)) 6 s.regs)))))
-
-  pub call_sim : (id : ℕ) (s : Typed) → Sim Any (image lay) (typed_act caps (Call id) s) (insn_act caps lay (Call id) (image lay s))
-  call_sim id s = after_sim caps lay s _ _ (help_sim id s)
-
-module _ (caps : Caps) (lay : Layout) where
-  pub call_acts : (id : ℕ) (rest : List ℕ) (s : State ℕ) → act_on caps lay (bytes_of (Call id) ++ rest) s ≡ insn_act caps lay (Call id) s
-  call_acts id rest s = by_row caps lay 0x85 0 0 0 id rest s (omega arith)

@@ -2,7 +2,7 @@ pub mod Sim
 pub mod Place
 pub mod Slot
 pub mod Registers
-pub mod Arithmetic
+pub mod Alu
 pub mod Access
 pub mod Jumps
 pub mod Helpers

@@ -34,8 +34,8 @@ two_bytes o = omega arith
 four_bytes : (k : ℕ) → k % 256 + 256 * (k / 256 % 256) + 65536 * (k / 65536 % 256) + 16777216 * (k / 16777216) ≡ k
 four_bytes k = omega arith
 
-pub fields_of-slot : (op d s o k : ℕ) (rest : List ℕ) → d ≤ 10 → fields_of (slot op d s o k ++ rest) ≡ Some (row op d s o k)
-fields_of-slot op d s o k rest h =
+pub slot_fields : (op d s o k : ℕ) (rest : List ℕ) → d ≤ 10 → fields_of (slot op d s o k ++ rest) ≡ Some (row op d s o k)
+slot_fields op d s o k rest h =
     let e1 = low_nibble d s h in
     let e2 = high_nibble d s h in
     let e3 = two_bytes o in
@@ -48,4 +48,4 @@ wide_halves v = omega arith
 -- any spelled slot acts by its row, and exits by it
 module _ (caps : Caps) (lay : Layout) where
   pub by_row : (op d s o k : ℕ) (rest : List ℕ) (st : State ℕ) → d ≤ 10 → act_on caps lay (slot op d s o k ++ rest) st ≡ act caps lay (row op d s o k) (fields_of rest) st
-  by_row op d s o k rest st h = ap (λ f. f >>= λ f. act caps lay f (fields_of rest) st) (fields_of-slot op d s o k rest h)
+  by_row op d s o k rest st h = ap (λ f. f >>= λ f. act caps lay f (fields_of rest) st) (slot_fields op d s o k rest h)

@@ -4,6 +4,7 @@
 #![tactic(auto)]
 
 mod argument;
+pub mod arithmetic;
 mod caps;
 mod flat;
 mod helper;

@@ -1,5 +1,12 @@
+mod branches;
+mod bytes;
 mod helpers;
+mod memory;
+mod operations;
 mod parts;
+mod programs;
+mod rows_32;
+mod rows_64;
 
 use crate::{Caps, Ending, Layout, Region, flat_run, is_layout};
 use std::alloc::Global;

@@ -37,3 +37,12 @@ gives_at (Some y) P x g h =
 pub ok_then : {T E : Type 0} (r : Result T E) (P Q R S : T → Type 0) → IfOk r P → IfOk r Q → IfOk r R → ((x : T) → P x → Q x → R x → S x) → IfOk r S
 ok_then (Ok x) P Q R S p q r h = h x p q r
 ok_then (Err e) P Q R S p q r h = tt
+
+-- the same value under another name
+pub same_gives : {A : Type 0} (o p : Option A) (P : A → Type 0) → o ≡ p → Gives o P → Gives p P
+same_gives None None P e g = tt
+same_gives (Some x) (Some y) P e g =
+    let f : x ≡ y = cc in
+    subst P f g
+same_gives None (Some y) P e g = cc
+same_gives (Some x) None P e g = cc

@@ -1,5 +1,7 @@
 mod calls;
 mod flat;
+mod operations;
+mod rows;
 mod tables;
 
 use crate::{Change, Object, Outcome, call};

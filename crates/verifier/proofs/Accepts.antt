@@ -5,7 +5,7 @@ use Rattle.std.specs.List.{AllByRecursion}
 use Rattle.std.proofs.lemmas.List.{length-replicate}
 use Rattle.std.proofs.lemmas.Option.{none-some, same_Some}
 use Rattle.bpf_decode.specs.declared.insn.Insn.{Insn}
-use Rattle.bpf_decode.specs.declared.insn.Insn.TheVariants.{Add, Mov, LoadWide, Load, Store, Jump, Call, CallLocal, Exit}
+use Rattle.bpf_decode.specs.declared.insn.Insn.TheVariants.{Alu, Neg, Mov, MovSigned, End, LoadWide, Load, LoadSigned, Store, Jump, JumpLong, Branch, Call, CallLocal, Exit}
 use Rattle.bpf_decode.specs.Instruction.{slots, slot_count, slot_total}
 use Rattle.bpf_decode.specs.Class.{ClassMethod, IsMethod}
 use Rattle.bpf_machine.specs.Typed.{fetch, typed_entry}
@@ -30,12 +30,18 @@ length-slots (i ∷ is) =
     omega arith
   where
     some_slot : (i : Insn) → 1 ≤ slot_count i
-    some_slot (Add dst imm) = omega arith
-    some_slot (Mov dst source) = omega arith
+    some_slot (Alu bits operation dst source) = omega arith
+    some_slot (Neg bits dst) = omega arith
+    some_slot (Mov bits dst source) = omega arith
+    some_slot (MovSigned extension dst src) = omega arith
+    some_slot (End order width dst) = omega arith
     some_slot (LoadWide dst value) = omega arith
     some_slot (Load width dst from offset) = omega arith
+    some_slot (LoadSigned width dst from offset) = omega arith
     some_slot (Store width to offset source) = omega arith
     some_slot (Jump offset) = omega arith
+    some_slot (JumpLong distance) = omega arith
+    some_slot (Branch bits comparison dst source offset) = omega arith
     some_slot (Call helper) = omega arith
     some_slot (CallLocal distance) = omega arith
     some_slot Exit = omega arith
@@ -74,12 +80,18 @@ by_slot p (i ∷ is) =
     ∙ ap (λ t. replicate (slot_count i - 1) Never ++ t) (by_slot (p + slot_count i) is))
   where
     whole : (p : ℕ) (i : Insn) → p + 1 + (slot_count i - 1) ≡ p + slot_count i
-    whole p (Add dst imm) = omega arith
-    whole p (Mov dst source) = omega arith
+    whole p (Alu bits operation dst source) = omega arith
+    whole p (Neg bits dst) = omega arith
+    whole p (Mov bits dst source) = omega arith
+    whole p (MovSigned extension dst src) = omega arith
+    whole p (End order width dst) = omega arith
     whole p (LoadWide dst value) = omega arith
     whole p (Load width dst from offset) = omega arith
+    whole p (LoadSigned width dst from offset) = omega arith
     whole p (Store width to offset source) = omega arith
     whole p (Jump offset) = omega arith
+    whole p (JumpLong distance) = omega arith
+    whole p (Branch bits comparison dst source offset) = omega arith
     whole p (Call helper) = omega arith
     whole p (CallLocal distance) = omega arith
     whole p Exit = omega arith

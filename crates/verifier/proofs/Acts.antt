@@ -1,5 +1,5 @@
 -- An instruction that no rule refuses makes its step, and the frame after it is true of the state after it.
-use Rattle.std.proofs.Common.{◌≡◌, ◌≢◌, ℕ, ℤ, pos, negsuc, ◌+◌, ◌%◌, ◌^◌, ◌<◌, ◌≤◌, List, Option, Some, true, false, refl, ap, ◌∙◌, sym, subst, arith, ◌⊎◌}
+use Rattle.std.proofs.Common.{◌≡◌, ◌≢◌, ℕ, ℤ, pos, negsuc, zero, suc, ◌+◌, ◌-◌, ◌%◌, ◌^◌, ◌<◌, ◌≤◌, List, [], ◌∷◌, Option, Some, None, Bool, true, false, cond, refl, inl, inr, ap, ◌∙◌, sym, subst, arith, length, take, drop, ◌⊎◌}
 use Rattle.std.specs.Prelude.{slice_set, ◌==◌, nat_lt, FitsSigned}
 use Rattle.std.specs.Int.{w16, w32}
 use Rattle.std.proofs.lemmas.Bool.{leb-true, le-leb, false≢true, cond-true}
@@ -8,28 +8,37 @@ use Rattle.bpf_decode.specs.declared.access.Width.TheVariants.{Byte, Half, Word,
 use Rattle.bpf_decode.specs.declared.insn.Operand.{Operand}
 use Rattle.bpf_decode.specs.declared.insn.Operand.TheVariants.{Immediate, Register}
 use Rattle.bpf_decode.specs.declared.insn.Insn.{Insn}
-use Rattle.bpf_decode.specs.declared.insn.Insn.TheVariants.{Add, Mov, LoadWide, Load, Store, Jump, Call, CallLocal, Exit}
-use Rattle.bpf_decode.specs.Instruction.{byte_count, Fits, OperandFits}
+use Rattle.bpf_decode.specs.declared.insn.Insn.TheVariants.{Alu, Neg, Mov, MovSigned, End, LoadWide, Load, LoadSigned, Store, Jump, JumpLong, Branch, Call, CallLocal, Exit}
+use Rattle.bpf_decode.specs.Instruction.{byte_count, signed_byte_count, Fits, OperandFits}
+use Rattle.bpf_decode.specs.declared.access.SignedWidth.{SignedWidth}
+use Rattle.bpf_decode.specs.declared.operation.Bits.{Bits}
+use Rattle.bpf_decode.specs.declared.operation.Arithmetic.{Arithmetic}
+use Rattle.bpf_decode.specs.declared.operation.SignedMove.{SignedMove}
+use Rattle.bpf_decode.specs.declared.operation.ByteOrder.{ByteOrder}
+use Rattle.bpf_decode.specs.declared.operation.EndWidth.{EndWidth}
+use Rattle.bpf_decode.specs.declared.operation.Comparison.{Comparison}
+use Rattle.bpf_machine.specs.Arithmetic.{neg_value, signed_move_value, end_value, signed_load_value, is_taken, branch_to}
 use Rattle.bpf_machine.specs.declared.region.Region.{Region}
 use Rattle.bpf_machine.specs.declared.value.Value.{Value}
 use Rattle.bpf_machine.specs.declared.value.Value.TheVariants as values
 use Rattle.bpf_machine.specs.declared.caps.Caps.{Caps}
 use Rattle.bpf_machine.specs.Object.{part}
-use Rattle.bpf_machine.specs.State.{le_value, le_bytes, cells, put, may_store, size, set_reg, go}
-use Rattle.bpf_machine.specs.Typed.{Typed, number, extended, operand_value, locate, typed_after, typed_act, typed_exit_of}
+use Rattle.bpf_machine.specs.State.{◌>>=◌, only, le_value, le_bytes, cells, put, may_store, size, State, reg, set_reg, go}
+use Rattle.bpf_machine.specs.Typed.{Typed, number, extended, operand_value, locate, typed_load, typed_load_signed, typed_store, typed_after, typed_act, typed_exit_of}
 use Rattle.verifier.specs.declared.kind.Kind.{Kind}
 use Rattle.verifier.specs.declared.kind.Kind.TheVariants.{Unset, Num, Ptr}
 use Rattle.verifier.specs.declared.edges.Edges.{Edges}
 use Rattle.verifier.specs.declared.edges.Edges.TheVariants.{Leaves, One, Two}
-use Rattle.verifier.specs.Known.{constant, any, add_known}
-use Rattle.verifier.specs.Kind.{is_unset, is_ptr, add_kind, access_fits, is_read_only}
-use Rattle.verifier.specs.Frame.{Frame, kind_at, with_kind, flow, Holds}
-use Rattle.verifier.specs.Rules.{operand_is_unset}
+use Rattle.verifier.specs.Known.{constant, any, add_known, upper}
+use Rattle.verifier.specs.Kind.{HoldsKind, is_unset, is_num, is_ptr, alu_kind, neg_kind, mov_kind, signed_move_kind, end_kind, access_fits, is_read_only}
+use Rattle.verifier.specs.Frame.{Frame, kind_at, operand_kind, with_kind, flow, HoldsEach, Holds}
+use Rattle.verifier.specs.Rules.{operand_is_unset, target}
 use Rattle.verifier.specs.Verdict.{edges}
-use Rattle.verifier.proofs.Numbers.{holds_constant, holds_any, holds_add, holds_upper}
-use Rattle.verifier.proofs.Holding.{HoldsValue, read, set_each, not_ptr_is_num, numbered, adds}
-use Rattle.verifier.proofs.Bytes.{bytes_put, bytes_of_number, value_fits, bytes_drop}
-use Rattle.verifier.proofs.Passed.{not_false, neither, Passed}
+use Rattle.verifier.proofs.Numbers.{holds_constant, holds_any, holds_add, holds_upper, holds_neg, holds_signed_move, holds_end}
+use Rattle.verifier.proofs.Results.{signed_load_small}
+use Rattle.verifier.proofs.Holding.{HoldsValue, Read, read, set_each, not_ptr_is_num, numbered, operand_read, operand_is_set, computes, copies, extended_small16, not_false}
+use Rattle.verifier.proofs.Bytes.{value_in, bytes_put, bytes_of_number, value_fits, bytes_drop}
+use Rattle.verifier.proofs.Passed.{neither, Passed}
 use Rattle.verifier.proofs.Calls.{one_more, call_made}
 
 -- one of the slots to which edges lead
@@ -44,14 +53,6 @@ pub record Arrives (caps : Caps) (i : Insn) (f : Frame) (s : Typed) : Type 0 whe
   pub act : typed_act caps i s ≡ Some to
   pub frame : Holds (flow i f) to
   pub slot : Among to.slot (edges i s.slot)
-
-extended_small16 : (z : ℤ) → FitsSigned w16 z → extended z < 2 ^ 64
-extended_small16 (pos n) h = let s = h.sfits in omega arith
-extended_small16 (negsuc n) h = omega arith
-
-extended_small32 : (z : ℤ) → FitsSigned w32 z → extended z < 2 ^ 64
-extended_small32 (pos n) h = let s = h.sfits in omega arith
-extended_small32 (negsuc n) h = omega arith
 
 below_ten : (d : ℕ) → d ≤ 10 → (d == 10) ≡ false → nat_lt d 10 ≡ true
 below_ten d le e = grind arith
@@ -89,22 +90,84 @@ found caps (Ptr r k) (values.Ptr q at) distance w small h b =
 set_to : (f : Frame) (s : Typed) (d : ℕ) (x : Kind) (v : Value) → Holds f s → HoldsValue x v → d ≤ 10 → (d == 10) ≡ false → (t : Typed) × (set_reg s d v ≡ Some t) × Holds (with_kind f d x) t × (t.slot ≡ s.slot)
 set_to f s d x v h i le ok = (record s { regs = slice_set s.regs d (Some v) }, cond-true _ _ _ (below_ten d le ok), set_holds f s d x v h i, refl)
 
-add_acts : (caps : Caps) (code : List (Option Insn)) (p d : ℕ) (imm : ℤ) (f : Frame) (s : Typed) → Fits (Add d imm) → Holds f s → Passed caps code p (Add d imm) f → Arrives caps (Add d imm) f s
-add_acts caps code p d imm f s fit h ok =
-    let v = read f s d h ok.unset in
-    let w = adds (kind_at f d) v.value (extended imm) (extended_small32 imm fit.1) v.holds ok.unset in
-    let t = set_to f s d (add_kind (kind_at f d) (constant (extended imm))) w.0 h w.2 fit.0 ok.r10 in
-    record { to = go (s.slot + 1) t.0; act = ap (typed_after s) (one_more _ _ _ _ v.there (one_more _ _ _ _ w.1 t.1)); frame = go_holds _ t.0 (s.slot + 1) t.2; slot = refl }
+alu_acts : (caps : Caps) (code : List (Option Insn)) (p : ℕ) (bits : Bits) (operation : Arithmetic) (d : ℕ) (x : Operand) (f : Frame) (s : Typed) → Fits (Alu bits operation d x) → Holds f s → Passed caps code p (Alu bits operation d x) f → Arrives caps (Alu bits operation d x) f s
+alu_acts caps code p bits operation d x f s fit h ok =
+    let unset = neither (is_unset (kind_at f d)) (operand_is_unset f x) ok.unset in
+    let y = operand_read f s x fit.1 h unset.1 in
+    let v = read f s d h unset.0 in
+    let w = computes bits operation (kind_at f d) (operand_kind f x) v.value y.0 v.holds y.2 unset.0 (operand_is_set f x unset.1) ok.computed in
+    let t = set_to f s d (alu_kind bits operation (kind_at f d) (operand_kind f x)) w.0 h w.2 fit.0 ok.r10 in
+    record { to = go (s.slot + 1) t.0; act = one_more _ _ _ _ y.1 (one_more _ _ _ _ v.there (ap (typed_after s) (one_more _ _ _ _ w.1 t.1))); frame = go_holds _ t.0 (s.slot + 1) t.2; slot = refl }
 
-mov_acts : (caps : Caps) (code : List (Option Insn)) (p d : ℕ) (x : Operand) (f : Frame) (s : Typed) → Fits (Mov d x) → Holds f s → Passed caps code p (Mov d x) f → Arrives caps (Mov d x) f s
-mov_acts caps code p d (Immediate imm) f s fit h ok =
-    let n = extended imm in
-    let t = set_to f s d (Num (constant n)) (values.Num n) h (holds_constant n (extended_small32 imm fit.1)) fit.0 ok.r10 in
-    record { to = go (s.slot + 1) t.0; act = ap (typed_after s) t.1; frame = go_holds _ t.0 (s.slot + 1) t.2; slot = refl }
-mov_acts caps code p d (Register src) f s fit h ok =
+-- the number of a value that is set and no pointer
+number_held : (x : Kind) (v : Value) → HoldsValue x v → is_unset x ≡ false → is_ptr x ≡ false → (n : ℕ) × (number v ≡ Some n) × HoldsValue x (values.Num n)
+number_held Unset v h e g = absurd (false≢true (sym e))
+number_held (Num k) (values.Num n) h e g = (n, refl, h)
+number_held (Num k) (values.Ptr q at) h e g = absurd h
+number_held (Ptr q k) v h e g = absurd (false≢true (sym g))
+
+neg_holds : (bits : Bits) (x : Kind) (n : ℕ) → HoldsValue x (values.Num n) → HoldsValue (neg_kind bits x) (values.Num (neg_value bits n))
+neg_holds bits Unset n h = tt
+neg_holds bits (Num k) n h = holds_neg bits k n h
+neg_holds bits (Ptr q k) n h = absurd h
+
+signed_move_holds : (extension : SignedMove) (x : Kind) (n : ℕ) → HoldsValue x (values.Num n) → HoldsValue (signed_move_kind extension x) (values.Num (signed_move_value extension n))
+signed_move_holds extension Unset n h = tt
+signed_move_holds extension (Num k) n h = holds_signed_move extension k n h
+signed_move_holds extension (Ptr q k) n h = absurd h
+
+end_holds : (order : ByteOrder) (width : EndWidth) (x : Kind) (n : ℕ) → HoldsValue x (values.Num n) → HoldsValue (end_kind order width x) (values.Num (end_value order width n))
+end_holds order width Unset n h = tt
+end_holds order width (Num k) n h = holds_end order width k n h
+end_holds order width (Ptr q k) n h = absurd h
+
+neg_acts : (caps : Caps) (code : List (Option Insn)) (p : ℕ) (bits : Bits) (d : ℕ) (f : Frame) (s : Typed) → Fits (Neg bits d) → Holds f s → Passed caps code p (Neg bits d) f → Arrives caps (Neg bits d) f s
+neg_acts caps code p bits d f s fit h ok =
+    let v = read f s d h ok.unset in
+    let n = number_held (kind_at f d) v.value v.holds ok.unset ok.computed in
+    let t = set_to f s d (neg_kind bits (kind_at f d)) (values.Num (neg_value bits n.0)) h (neg_holds bits (kind_at f d) n.0 n.2) fit ok.r10 in
+    record { to = go (s.slot + 1) t.0; act = one_more _ _ _ _ v.there (one_more _ _ _ _ n.1 (ap (typed_after s) t.1)); frame = go_holds _ t.0 (s.slot + 1) t.2; slot = refl }
+
+mov_acts : (caps : Caps) (code : List (Option Insn)) (p : ℕ) (bits : Bits) (d : ℕ) (x : Operand) (f : Frame) (s : Typed) → Fits (Mov bits d x) → Holds f s → Passed caps code p (Mov bits d x) f → Arrives caps (Mov bits d x) f s
+mov_acts caps code p bits d x f s fit h ok =
+    let y = operand_read f s x fit.1 h ok.unset in
+    let w = copies bits (operand_kind f x) y.0 y.2 (operand_is_set f x ok.unset) ok.computed in
+    let t = set_to f s d (mov_kind bits (operand_kind f x)) w.0 h w.2 fit.0 ok.r10 in
+    record { to = go (s.slot + 1) t.0; act = one_more _ _ _ _ y.1 (ap (typed_after s) (one_more _ _ _ _ w.1 t.1)); frame = go_holds _ t.0 (s.slot + 1) t.2; slot = refl }
+
+signed_move_acts : (caps : Caps) (code : List (Option Insn)) (p : ℕ) (extension : SignedMove) (d src : ℕ) (f : Frame) (s : Typed) → Fits (MovSigned extension d src) → Holds f s → Passed caps code p (MovSigned extension d src) f → Arrives caps (MovSigned extension d src) f s
+signed_move_acts caps code p extension d src f s fit h ok =
     let v = read f s src h ok.unset in
-    let t = set_to f s d (kind_at f src) v.value h v.holds fit.0 ok.r10 in
-    record { to = go (s.slot + 1) t.0; act = one_more _ _ _ _ v.there (ap (typed_after s) t.1); frame = go_holds _ t.0 (s.slot + 1) t.2; slot = refl }
+    let n = number_held (kind_at f src) v.value v.holds ok.unset ok.computed in
+    let t = set_to f s d (signed_move_kind extension (kind_at f src)) (values.Num (signed_move_value extension n.0)) h (signed_move_holds extension (kind_at f src) n.0 n.2) fit.0 ok.r10 in
+    record { to = go (s.slot + 1) t.0; act = one_more _ _ _ _ v.there (one_more _ _ _ _ n.1 (ap (typed_after s) t.1)); frame = go_holds _ t.0 (s.slot + 1) t.2; slot = refl }
+
+end_acts : (caps : Caps) (code : List (Option Insn)) (p : ℕ) (order : ByteOrder) (width : EndWidth) (d : ℕ) (f : Frame) (s : Typed) → Fits (End order width d) → Holds f s → Passed caps code p (End order width d) f → Arrives caps (End order width d) f s
+end_acts caps code p order width d f s fit h ok =
+    let v = read f s d h ok.unset in
+    let n = number_held (kind_at f d) v.value v.holds ok.unset ok.computed in
+    let t = set_to f s d (end_kind order width (kind_at f d)) (values.Num (end_value order width n.0)) h (end_holds order width (kind_at f d) n.0 n.2) fit ok.r10 in
+    record { to = go (s.slot + 1) t.0; act = one_more _ _ _ _ v.there (one_more _ _ _ _ n.1 (ap (typed_after s) t.1)); frame = go_holds _ t.0 (s.slot + 1) t.2; slot = refl }
+
+branch_acts : (caps : Caps) (code : List (Option Insn)) (p : ℕ) (bits : Bits) (comparison : Comparison) (d : ℕ) (x : Operand) (offset : ℤ) (f : Frame) (s : Typed) → Fits (Branch bits comparison d x offset) → Holds f s → Passed caps code p (Branch bits comparison d x offset) f → Arrives caps (Branch bits comparison d x offset) f s
+branch_acts caps code p bits comparison d x offset f s fit h ok =
+    let unset = neither (is_unset (kind_at f d)) (operand_is_unset f x) ok.unset in
+    let pointers = neither (is_ptr (kind_at f d)) (is_ptr (operand_kind f x)) ok.compared in
+    let v = read f s d h unset.0 in
+    let m = number_held (kind_at f d) v.value v.holds unset.0 pointers.0 in
+    let y = operand_read f s x fit.2 h unset.1 in
+    let n = number_held (operand_kind f x) y.0 y.2 (operand_is_set f x unset.1) pointers.1 in
+    let b = is_taken bits comparison m.0 n.0 in
+    record {
+      to = go (branch_to b s.slot (extended offset)) s;
+      act = one_more _ _ _ _ v.there (one_more _ _ _ _ m.1 (one_more _ _ _ _ y.1 (one_more _ _ _ _ n.1 refl)));
+      frame = go_holds f s _ h;
+      slot = two_ways b s.slot offset;
+    }
+  where
+    two_ways : (b : Bool) (p : ℕ) (offset : ℤ) → Among (branch_to b p (extended offset)) (Two (target p offset) (p + 1))
+    two_ways true p offset = inl refl
+    two_ways false p offset = inr refl
 
 wide_acts : (caps : Caps) (code : List (Option Insn)) (p d value : ℕ) (f : Frame) (s : Typed) → Fits (LoadWide d value) → Holds f s → Passed caps code p (LoadWide d value) f → Arrives caps (LoadWide d value) f s
 wide_acts caps code p d value f s fit h ok =
@@ -119,6 +182,16 @@ load_acts caps code p width d from offset f s fit h ok =
     let n = le_value (part (cells s.memory at.at.0) at.at.1 w) in
     let small = value_fits w _ (byte_count_at_most width) (bytes_drop at.at.1 (cells s.memory at.at.0) (h.memory at.at.0)) in
     let t = set_to f s d (Num any) (values.Num n) h (holds_any n small) fit.0 ok.r10 in
+    record { to = go (s.slot + 1) t.0; act = one_more _ _ _ _ v.there (ap (typed_after s) (one_more _ _ _ _ at.is t.1)); frame = go_holds _ t.0 (s.slot + 1) t.2; slot = refl }
+
+signed_load_acts : (caps : Caps) (code : List (Option Insn)) (p : ℕ) (width : SignedWidth) (d from : ℕ) (offset : ℤ) (f : Frame) (s : Typed) → Fits (LoadSigned width d from offset) → Holds f s → Passed caps code p (LoadSigned width d from offset) f → Arrives caps (LoadSigned width d from offset) f s
+signed_load_acts caps code p width d from offset f s fit h ok =
+    let v = read f s from h ok.unset in
+    let w = signed_byte_count width in
+    let at = found caps (kind_at f from) v.value (extended offset) w (extended_small16 offset fit.2) v.holds (not_false _ ok.bounds) in
+    let n = le_value (part (cells s.memory at.at.0) at.at.1 w) in
+    let small = signed_load_small width n (value_in w (drop at.at.1 (cells s.memory at.at.0)) (bytes_drop at.at.1 (cells s.memory at.at.0) (h.memory at.at.0))) in
+    let t = set_to f s d (Num any) (values.Num (signed_load_value width n)) h (holds_any (signed_load_value width n) small) fit.0 ok.r10 in
     record { to = go (s.slot + 1) t.0; act = one_more _ _ _ _ v.there (ap (typed_after s) (one_more _ _ _ _ at.is t.1)); frame = go_holds _ t.0 (s.slot + 1) t.2; slot = refl }
 
 -- what a store stores is a number
@@ -156,12 +229,18 @@ call_acts caps code p helper f s h ok =
     record { to = go (s.slot + 1) t.0; act = ap (typed_after s) t.1; frame = go_holds _ t.0 (s.slot + 1) t.2; slot = refl }
 
 pub acts : (caps : Caps) (code : List (Option Insn)) (p : ℕ) (i : Insn) (f : Frame) (s : Typed) → Fits i → Holds f s → Passed caps code p i f → i ≢ Exit → Arrives caps i f s
-acts caps code p (Add d imm) f s fit h ok go_on = add_acts caps code p d imm f s fit h ok
-acts caps code p (Mov d x) f s fit h ok go_on = mov_acts caps code p d x f s fit h ok
+acts caps code p (Alu bits operation d x) f s fit h ok go_on = alu_acts caps code p bits operation d x f s fit h ok
+acts caps code p (Neg bits d) f s fit h ok go_on = neg_acts caps code p bits d f s fit h ok
+acts caps code p (Mov bits d x) f s fit h ok go_on = mov_acts caps code p bits d x f s fit h ok
+acts caps code p (MovSigned extension d src) f s fit h ok go_on = signed_move_acts caps code p extension d src f s fit h ok
+acts caps code p (End order width d) f s fit h ok go_on = end_acts caps code p order width d f s fit h ok
 acts caps code p (LoadWide d value) f s fit h ok go_on = wide_acts caps code p d value f s fit h ok
 acts caps code p (Load width d from offset) f s fit h ok go_on = load_acts caps code p width d from offset f s fit h ok
+acts caps code p (LoadSigned width d from offset) f s fit h ok go_on = signed_load_acts caps code p width d from offset f s fit h ok
 acts caps code p (Store width to offset x) f s fit h ok go_on = store_acts caps code p width to offset x f s fit h ok
 acts caps code p (Jump offset) f s fit h ok go_on = record { to = go _ s; act = refl; frame = go_holds f s _ h; slot = refl }
+acts caps code p (JumpLong distance) f s fit h ok go_on = record { to = go _ s; act = refl; frame = go_holds f s _ h; slot = refl }
+acts caps code p (Branch bits comparison d x offset) f s fit h ok go_on = branch_acts caps code p bits comparison d x offset f s fit h ok
 acts caps code p (Call helper) f s fit h ok go_on = call_acts caps code p helper f s h ok
 acts caps code p (CallLocal distance) f s fit h ok go_on = absurd (false≢true (sym ok.local))
 acts caps code p Exit f s fit h ok go_on = absurd (go_on refl)

@@ -53,6 +53,13 @@ value_fits w xs h a =
     let le : 256 ^ length (take w xs) ≤ 256 ^ 8 = pow-le-pow_right {n = 256} (omega arith) short in
     omega (arith, small, le)
 
+pub value_in : (w : ℕ) (xs : List ℕ) → AreBytes xs → le_value (take w xs) < 256 ^ w
+value_in w xs a =
+    let small = le_value_below (take w xs) (bytes_take w xs a) in
+    let short : length (take w xs) ≤ w = simp length-take (omega arith) in
+    let le : 256 ^ length (take w xs) ≤ 256 ^ w = pow-le-pow_right {n = 256} (omega arith) short in
+    omega (arith, small, le)
+
 pub bytes_put : (m : Memory) (r : Region) (at : ℕ) (bytes : List ℕ) → ((q : Region) → AreBytes (cells m q)) → AreBytes bytes → (q : Region) → AreBytes (cells (put m r at bytes) q)
 bytes_put m r at bytes a b q = each m r q at bytes a (bytes_append (take at (cells m r)) _ (bytes_take at (cells m r) (a r)) (bytes_append bytes _ b (bytes_drop (at + length bytes) (cells m r) (a r))))
   where

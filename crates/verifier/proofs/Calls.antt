@@ -21,9 +21,9 @@ use Rattle.verifier.specs.Kind.{is_num, is_ptr, is_at_most, range_leaves, range_
 use Rattle.verifier.specs.Frame.{Frame, kind_at, after_call, ObjectIsBytes, Holds}
 use Rattle.verifier.specs.Rules.{has_fault, some_fault, taken_fault, call_fault, writes_object}
 use Rattle.verifier.proofs.Numbers.{known_small, holds_upper, holds_any}
-use Rattle.verifier.proofs.Holding.{HoldsValue, read, num_is_set, ptr_is_set, numbered, drop_each}
+use Rattle.verifier.proofs.Holding.{not_false, HoldsValue, read, num_is_set, ptr_is_set, numbered, drop_each}
 use Rattle.verifier.proofs.Bytes.{bytes_take, bytes_drop, bytes_put, bytes_spliced}
-use Rattle.verifier.proofs.Passed.{not_false, neither}
+use Rattle.verifier.proofs.Passed.{neither}
 
 pub one_more : {A B : Type 0} (o : Option A) (x : A) (g : A → Option B) (y : B) → o ≡ Some x → g x ≡ Some y → (o >>= g) ≡ Some y
 one_more o x g y e h = ap (λ o. o >>= g) e ∙ h

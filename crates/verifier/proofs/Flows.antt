@@ -1,10 +1,10 @@
 -- A flow from a slot that no rule refuses is part of the frame at the slot to which it goes.
-use Rattle.std.proofs.Common.{◌≡◌, ℕ, ℤ, pos, negsuc, zero, suc, ◌+◌, ◌^◌, ◌<◌, List, Option, Some, None, true, refl, ap, ◌∙◌, sym, subst, arith, length, ⊎_elim}
+use Rattle.std.proofs.Common.{◌≡◌, ℕ, ℤ, pos, negsuc, zero, suc, ◌+◌, ◌^◌, ◌<◌, List, Option, Some, None, true, refl, ap, ◌∙◌, sym, subst, arith, length, ⊎_elim, Bool, false}
 use Rattle.std.specs.Prelude.{◌==◌, is_some, if◌then◌else◌}
 use Rattle.std.proofs.Math.Nat.{mod-eq_of_lt}
 use Rattle.std.proofs.lemmas.Bool.{cases_lt, eq-eqb, cond-true, cond_both, false≢true}
 use Rattle.bpf_decode.specs.declared.insn.Insn.{Insn}
-use Rattle.bpf_decode.specs.declared.insn.Insn.TheVariants.{Add, Mov, LoadWide, Load, Store, Jump, Call, CallLocal, Exit}
+use Rattle.bpf_decode.specs.declared.insn.Insn.TheVariants.{Alu, Neg, Mov, MovSigned, End, LoadWide, Load, LoadSigned, Store, Jump, JumpLong, Branch, Call, CallLocal, Exit}
 use Rattle.bpf_decode.specs.Instruction.{Fits}
 use Rattle.bpf_machine.specs.declared.value.Value.{Value}
 use Rattle.bpf_machine.specs.declared.caps.Caps.{Caps}
@@ -16,7 +16,11 @@ use Rattle.verifier.specs.Frame.{Frame, join, flow, HoldsEach}
 use Rattle.verifier.specs.Rules.{begins_at, target, rule_at}
 use Rattle.verifier.specs.Verdict.{edges, Table, frame_at, joined, along, unless_refused, flow_from, incoming, whole_table}
 use Rattle.verifier.proofs.Holding.{join_left, join_right}
-use Rattle.verifier.proofs.Passed.{not_false, Passed}
+use Rattle.verifier.proofs.Passed.{Passed}
+use Rattle.verifier.proofs.Holding.{not_false}
+use Rattle.std.specs.Prelude.{FitsSigned}
+use Rattle.std.specs.Int.{w16, is_negative}
+use Rattle.std.specs.Int.Signed.{mag}
 use Rattle.verifier.proofs.Acts.{Among}
 use Rattle.verifier.proofs.Tables.{whole_at}
 
@@ -103,21 +107,31 @@ module _ (caps : Caps) (code : List (Option Insn)) where
   edge_at : (p q : ℕ) → p < q → begins_at code q ≡ true → Edge p q
   edge_at p q lt t = let b = there (fetch code q) t in record { forward = lt; to = b.0; begins = b.1 }
 
-  forward : (p : ℕ) (offset : ℤ) (f : Frame) → p < 2 ^ 62 → Fits (Jump offset) → Passed caps code p (Jump offset) f → Edge p (target p offset)
-  forward p (pos n) f small fit ok =
-      let near = fit.sfits in
+  forward : (p : ℕ) (distance : ℤ) → p < 2 ^ 62 → mag distance < 2 ^ 31 → is_negative distance ≡ false → begins_at code (target p distance) ≡ true → Edge p (target p distance)
+  forward p (pos n) small near ok there =
       let whole : p + 1 + n < 2 ^ 64 = omega arith in
       let same : target p (pos n) ≡ p + 1 + n = mod-eq_of_lt whole in
-      edge_at p (target p (pos n)) (omega arith) (not_false _ ok.target)
-  forward p (negsuc n) f small fit ok = absurd (false≢true (sym ok.backward))
+      edge_at p (target p (pos n)) (omega arith) there
+  forward p (negsuc n) small near ok there = absurd (false≢true (sym ok))
+
+  near16 : (z : ℤ) → FitsSigned w16 z → mag z < 2 ^ 31
+  near16 z h = let s = h.sfits in omega arith
 
   pub edge : (p q : ℕ) (i : Insn) (f : Frame) → p < 2 ^ 62 → Fits i → Passed caps code p i f → Among q (edges i p) → Edge p q
-  edge p q (Add d imm) f small fit ok e = subst (Edge p) (sym e) (edge_at p (p + 1) (omega arith) (not_false _ ok.falls))
-  edge p q (Mov d x) f small fit ok e = subst (Edge p) (sym e) (edge_at p (p + 1) (omega arith) (not_false _ ok.falls))
+  edge p q (Alu bits operation d x) f small fit ok e = subst (Edge p) (sym e) (edge_at p (p + 1) (omega arith) (not_false _ ok.falls))
+  edge p q (Neg bits d) f small fit ok e = subst (Edge p) (sym e) (edge_at p (p + 1) (omega arith) (not_false _ ok.falls))
+  edge p q (Mov bits d x) f small fit ok e = subst (Edge p) (sym e) (edge_at p (p + 1) (omega arith) (not_false _ ok.falls))
+  edge p q (MovSigned extension d src) f small fit ok e = subst (Edge p) (sym e) (edge_at p (p + 1) (omega arith) (not_false _ ok.falls))
+  edge p q (End order width d) f small fit ok e = subst (Edge p) (sym e) (edge_at p (p + 1) (omega arith) (not_false _ ok.falls))
   edge p q (LoadWide d value) f small fit ok e = subst (Edge p) (sym e) (edge_at p (p + 2) (omega arith) (not_false _ ok.falls))
   edge p q (Load width d from offset) f small fit ok e = subst (Edge p) (sym e) (edge_at p (p + 1) (omega arith) (not_false _ ok.falls))
+  edge p q (LoadSigned width d from offset) f small fit ok e = subst (Edge p) (sym e) (edge_at p (p + 1) (omega arith) (not_false _ ok.falls))
   edge p q (Store width to offset x) f small fit ok e = subst (Edge p) (sym e) (edge_at p (p + 1) (omega arith) (not_false _ ok.falls))
-  edge p q (Jump offset) f small fit ok e = subst (Edge p) (sym e) (forward p offset f small fit ok)
+  edge p q (Jump offset) f small fit ok e = subst (Edge p) (sym e) (forward p offset small (near16 offset fit) ok.backward (not_false _ ok.target))
+  edge p q (JumpLong distance) f small fit ok e = subst (Edge p) (sym e) (forward p distance small fit.sfits ok.backward (not_false _ ok.target))
+  edge p q (Branch bits comparison d x offset) f small fit ok e =
+      ⊎_elim (λ e. subst (Edge p) (sym e) (forward p offset small (near16 offset fit.1) ok.backward (not_false _ ok.target)))
+      (λ e. subst (Edge p) (sym e) (edge_at p (p + 1) (omega arith) (not_false _ ok.falls))) e
   edge p q (Call helper) f small fit ok e = subst (Edge p) (sym e) (edge_at p (p + 1) (omega arith) (not_false _ ok.falls))
   edge p q (CallLocal distance) f small fit ok e = absurd e
   edge p q Exit f small fit ok e = absurd e

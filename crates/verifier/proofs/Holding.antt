@@ -1,5 +1,5 @@
 -- Kinds and frames: a join is true of what either part is true of, and a sum of the sums.
-use Rattle.std.proofs.Common.{◌≡◌, ℕ, zero, suc, ◌+◌, ◌%◌, ◌^◌, ◌<◌, List, [], ◌∷◌, Option, Some, None, true, false, refl, ◌∙◌, sym, drop}
+use Rattle.std.proofs.Common.{◌≡◌, ℕ, zero, suc, ◌+◌, ◌%◌, ◌^◌, ◌<◌, List, [], ◌∷◌, Option, Some, None, true, false, refl, ◌∙◌, sym, drop, arith, Bool}
 use Rattle.std.specs.Prelude.{slice_get, slice_set}
 use Rattle.std.proofs.lemmas.Bool.{false≢true, cond_both}
 use Rattle.bpf_machine.specs.declared.region.Region.{Region}
@@ -7,13 +7,38 @@ use Rattle.bpf_machine.specs.declared.region.Region.TheVariants.{Input, Output, 
 use Rattle.bpf_machine.specs.declared.value.Value.{Value}
 use Rattle.bpf_machine.specs.declared.value.Value.TheVariants as values
 use Rattle.bpf_machine.specs.State.{◌>>=◌, reg}
-use Rattle.bpf_machine.specs.Typed.{Typed, number, add_values}
+use Rattle.bpf_machine.specs.Typed.{Typed, number, extended, operand_value, moves_pointer, is_addition, alu_values, mov_values}
+use Rattle.std.proofs.lemmas.Bool.{cond-true}
+use Rattle.std.specs.Prelude.{FitsSigned, not}
+use Rattle.std.specs.Int.{w16, w32}
+use Rattle.std.proofs.Common.{ℤ, pos, negsuc}
+use Rattle.bpf_decode.specs.declared.operation.Bits.{Bits}
+use Rattle.bpf_decode.specs.declared.operation.Bits.TheVariants.{Bits32, Bits64}
+use Rattle.bpf_decode.specs.declared.operation.Arithmetic.{Arithmetic}
+use Rattle.bpf_decode.specs.declared.insn.Operand.{Operand}
+use Rattle.bpf_decode.specs.declared.insn.Operand.TheVariants.{Immediate, Register}
+use Rattle.bpf_decode.specs.Instruction.{OperandFits}
+use Rattle.bpf_machine.specs.Arithmetic.{alu_value, mov_value}
+use Rattle.verifier.specs.Rules.{operand_is_unset}
+use Rattle.verifier.specs.declared.known.Known.{Known}
 use Rattle.verifier.specs.declared.kind.Kind.{Kind}
 use Rattle.verifier.specs.declared.kind.Kind.TheVariants.{Unset, Num, Ptr}
-use Rattle.verifier.specs.Known.{constant, join_known}
-use Rattle.verifier.specs.Kind.{HoldsKind, is_unset, is_num, is_ptr, same_region, join_kind, add_kind}
-use Rattle.verifier.specs.Frame.{Frame, or_unset, kind_at, join, HoldsEach, Holds}
-use Rattle.verifier.proofs.Numbers.{holds_constant, known_small, holds_join_left, holds_join_right, holds_add}
+use Rattle.verifier.specs.Known.{HoldsKnown, constant, join_known, add_known, upper}
+use Rattle.verifier.specs.Kind.{HoldsKind, is_unset, is_num, is_ptr, same_region, join_kind, alu_kind, mov_kind, alu_refused, mov_refused}
+use Rattle.verifier.specs.Frame.{Frame, or_unset, kind_at, operand_kind, join, HoldsEach, Holds}
+use Rattle.verifier.proofs.Numbers.{holds_constant, known_small, holds_join_left, holds_join_right, holds_alu, holds_mov}
+
+pub extended_small16 : (z : ℤ) → FitsSigned w16 z → extended z < 2 ^ 64
+extended_small16 (pos n) h = let s = h.sfits in omega arith
+extended_small16 (negsuc n) h = omega arith
+
+pub extended_small32 : (z : ℤ) → FitsSigned w32 z → extended z < 2 ^ 64
+extended_small32 (pos n) h = let s = h.sfits in omega arith
+extended_small32 (negsuc n) h = omega arith
+
+pub not_false : (b : Bool) → not b ≡ false → b ≡ true
+not_false true h = refl
+not_false false h = sym h
 
 -- a kind that is true of a value
 abbrev pub HoldsValue : Kind → Value → Type 0
@@ -127,9 +152,38 @@ numbered (Ptr r k) v h b = absurd (false≢true b)
 numbered (Num k) (values.Num n) h b = (n, refl, known_small k n h)
 numbered (Num k) (values.Ptr r at) h b = absurd h
 
-pub adds : (x : Kind) (v : Value) (n : ℕ) → n < 2 ^ 64 → HoldsValue x v → is_unset x ≡ false → (w : Value) × (add_values v (values.Num n) ≡ Some w) × HoldsValue (add_kind x (constant n)) w
-adds Unset v n small h e = absurd (false≢true (sym e))
-adds (Num k) (values.Num m) n small h e = (values.Num ((m + n) % 2 ^ 64), refl, holds_add k (constant n) m n h (holds_constant n small))
-adds (Num k) (values.Ptr r at) n small h e = absurd h
-adds (Ptr r k) (values.Num m) n small h e = absurd h
-adds (Ptr r k) (values.Ptr q at) n small h e = (values.Ptr q ((at + n) % 2 ^ 64), refl, (h.0, holds_add k (constant n) at n h.1 (holds_constant n small)))
+-- what an instruction reads beside its destination
+pub operand_read : (f : Frame) (s : Typed) (source : Operand) → OperandFits source → Holds f s → operand_is_unset f source ≡ false → (v : Value) × (operand_value s source ≡ Some v) × HoldsValue (operand_kind f source) v
+operand_read f s (Immediate imm) fit h e = (values.Num (extended imm), refl, holds_constant (extended imm) (extended_small32 imm fit))
+operand_read f s (Register r) fit h e = let v = read f s r h e in (v.value, v.there, v.holds)
+
+pub operand_is_set : (f : Frame) (source : Operand) → operand_is_unset f source ≡ false → is_unset (operand_kind f source) ≡ false
+operand_is_set f (Immediate imm) e = refl
+operand_is_set f (Register r) e = e
+
+-- arithmetic that no rule refuses gives a value of its kind
+pub computes : (bits : Bits) (operation : Arithmetic) (x y : Kind) (v u : Value) → HoldsValue x v → HoldsValue y u → is_unset x ≡ false → is_unset y ≡ false → alu_refused bits operation x y ≡ false → (w : Value) × (alu_values bits operation v u ≡ Some w) × HoldsValue (alu_kind bits operation x y) w
+computes bits operation Unset y v u h i e g r = absurd (false≢true (sym e))
+computes bits operation (Num k) Unset v u h i e g r = absurd (false≢true (sym g))
+computes bits operation (Ptr q k) Unset v u h i e g r = absurd (false≢true (sym g))
+computes bits operation (Num k) (Num l) (values.Num m) (values.Num n) h i e g r = (values.Num (alu_value bits operation m n), refl, holds_alu bits operation k l m n h i)
+computes bits operation (Num k) (Num l) (values.Ptr p m) u h i e g r = absurd h
+computes bits operation (Num k) (Num l) (values.Num m) (values.Ptr p n) h i e g r = absurd i
+computes bits operation (Ptr q k) (Num l) (values.Ptr p m) (values.Num n) h i e g r =
+    (values.Ptr p (alu_value bits operation m n), cond-true (moves_pointer bits operation) _ None (not_false _ r), (h.0, holds_alu bits operation k l m n h.1 i))
+computes bits operation (Ptr q k) (Num l) (values.Num m) u h i e g r = absurd h
+computes bits operation (Ptr q k) (Num l) (values.Ptr p m) (values.Ptr o n) h i e g r = absurd i
+computes bits operation (Num k) (Ptr q l) (values.Num m) (values.Ptr p n) h i e g r =
+    (values.Ptr p (alu_value bits operation m n), cond-true (is_addition bits operation) _ None (not_false _ r), (i.0, holds_alu bits operation k l m n h i.1))
+computes bits operation (Num k) (Ptr q l) (values.Ptr p m) u h i e g r = absurd h
+computes bits operation (Num k) (Ptr q l) (values.Num m) (values.Num n) h i e g r = absurd i
+computes bits operation (Ptr q k) (Ptr o l) v u h i e g r = absurd (false≢true (sym r))
+
+-- so does a copy
+pub copies : (bits : Bits) (x : Kind) (v : Value) → HoldsValue x v → is_unset x ≡ false → mov_refused bits x ≡ false → (w : Value) × (mov_values bits v ≡ Some w) × HoldsValue (mov_kind bits x) w
+copies bits Unset v h e r = absurd (false≢true (sym e))
+copies bits (Num k) (values.Num n) h e r = (values.Num (mov_value bits n), refl, holds_mov bits k n h)
+copies bits (Num k) (values.Ptr p n) h e r = absurd h
+copies Bits64 (Ptr q k) (values.Ptr p n) h e r = (values.Ptr p n, refl, h)
+copies Bits32 (Ptr q k) (values.Ptr p n) h e r = absurd (false≢true (sym r))
+copies bits (Ptr q k) (values.Num n) h e r = absurd h

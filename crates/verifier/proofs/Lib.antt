@@ -1,3 +1,4 @@
+pub mod Results
 pub mod Numbers
 pub mod Bytes
 pub mod Holding

@@ -4,7 +4,14 @@ use Rattle.std.specs.Prelude.{◌==◌}
 use Rattle.std.proofs.lemmas.Bool.{eqb-true, cond_both}
 use Rattle.verifier.specs.declared.known.Known.{Known}
 use Rattle.verifier.specs.declared.known.Known.TheVariants.{Exactly, Any}
-use Rattle.verifier.specs.Known.{HoldsKnown, constant, any, join_known, add_known, upper}
+use Rattle.verifier.specs.Known.{HoldsKnown, constant, any, join_known, add_known, upper, alu_known, neg_known, mov_known, signed_move_known, end_known}
+use Rattle.bpf_decode.specs.declared.operation.Bits.{Bits}
+use Rattle.bpf_decode.specs.declared.operation.Arithmetic.{Arithmetic}
+use Rattle.bpf_decode.specs.declared.operation.SignedMove.{SignedMove}
+use Rattle.bpf_decode.specs.declared.operation.ByteOrder.{ByteOrder}
+use Rattle.bpf_decode.specs.declared.operation.EndWidth.{EndWidth}
+use Rattle.bpf_machine.specs.Arithmetic.{alu_value, neg_value, mov_value, signed_move_value, end_value}
+use Rattle.verifier.proofs.Results.{alu_small, neg_value_small, mov_value_small, signed_move_small, end_value_small}
 
 pub holds_constant : (n : ℕ) → n < 2 ^ 64 → HoldsKnown (constant n) n
 holds_constant n h = (refl, h)
@@ -35,3 +42,25 @@ holds_add Any l m n h i = omega arith
 pub holds_upper : (k : Known) (n : ℕ) → HoldsKnown k n → n ≤ upper k
 holds_upper (Exactly a) n h = omega (arith, h.0)
 holds_upper Any n h = omega arith
+
+pub holds_alu : (bits : Bits) (operation : Arithmetic) (k l : Known) (m n : ℕ) → HoldsKnown k m → HoldsKnown l n → HoldsKnown (alu_known bits operation k l) (alu_value bits operation m n)
+holds_alu bits operation (Exactly a) (Exactly b) m n h i =
+    (ap (λ x. alu_value bits operation x n) h.0 ∙ ap (λ y. alu_value bits operation a y) i.0, alu_small bits operation m n h.1 i.1)
+holds_alu bits operation (Exactly a) Any m n h i = alu_small bits operation m n h.1 i
+holds_alu bits operation Any l m n h i = alu_small bits operation m n h (known_small l n i)
+
+pub holds_neg : (bits : Bits) (k : Known) (m : ℕ) → HoldsKnown k m → HoldsKnown (neg_known bits k) (neg_value bits m)
+holds_neg bits (Exactly a) m h = (ap (neg_value bits) h.0, neg_value_small bits m)
+holds_neg bits Any m h = neg_value_small bits m
+
+pub holds_mov : (bits : Bits) (k : Known) (m : ℕ) → HoldsKnown k m → HoldsKnown (mov_known bits k) (mov_value bits m)
+holds_mov bits (Exactly a) m h = (ap (mov_value bits) h.0, mov_value_small bits m h.1)
+holds_mov bits Any m h = mov_value_small bits m h
+
+pub holds_signed_move : (extension : SignedMove) (k : Known) (m : ℕ) → HoldsKnown k m → HoldsKnown (signed_move_known extension k) (signed_move_value extension m)
+holds_signed_move extension (Exactly a) m h = (ap (signed_move_value extension) h.0, signed_move_small extension m)
+holds_signed_move extension Any m h = signed_move_small extension m
+
+pub holds_end : (order : ByteOrder) (width : EndWidth) (k : Known) (m : ℕ) → HoldsKnown k m → HoldsKnown (end_known order width k) (end_value order width m)
+holds_end order width (Exactly a) m h = (ap (end_value order width) h.0, end_value_small order width m)
+holds_end order width Any m h = end_value_small order width m

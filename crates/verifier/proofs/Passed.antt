@@ -7,11 +7,7 @@ use Rattle.bpf_decode.specs.declared.insn.Insn.{Insn}
 use Rattle.bpf_machine.specs.declared.caps.Caps.{Caps}
 use Rattle.verifier.specs.declared.rule.Rule.{Rule}
 use Rattle.verifier.specs.Frame.{Frame}
-use Rattle.verifier.specs.Rules.{is_backward, misses, falls_off, is_local_call, reads_unset, writes_r10, stores_pointer, leaves_region, writes_read_only, calls_unknown, passes_wrong_kind, writes_in_reader, returns_pointer, breaks, in_order, first_broken, rule_at}
-
-pub not_false : (b : Bool) → not b ≡ false → b ≡ true
-not_false true h = refl
-not_false false h = sym h
+use Rattle.verifier.specs.Rules.{is_backward, misses, falls_off, is_local_call, reads_unset, writes_r10, computes_with_pointer, compares_pointer, stores_pointer, leaves_region, writes_read_only, calls_unknown, passes_wrong_kind, writes_in_reader, returns_pointer, breaks, in_order, first_broken, rule_at}
 
 pub neither : (a b : Bool) → (a || b) ≡ false → (a ≡ false) × (b ≡ false)
 neither true b h = absurd (false≢true (sym h))
@@ -48,6 +44,8 @@ pub record Passed (caps : Caps) (code : List (Option Insn)) (p : ℕ) (i : Insn)
   pub local : is_local_call i ≡ false
   pub unset : reads_unset caps f i ≡ false
   pub r10 : writes_r10 i ≡ false
+  pub computed : computes_with_pointer f i ≡ false
+  pub compared : compares_pointer f i ≡ false
   pub stored : stores_pointer f i ≡ false
   pub bounds : leaves_region caps f i ≡ false
   pub read_only : writes_read_only caps f i ≡ false
@@ -68,6 +66,8 @@ passed caps code p i f h =
       local = a.1.1.1.0;
       unset = b.0;
       r10 = b.1.0;
+      computed = b.1.1.0;
+      compared = b.1.1.1.0;
       stored = c.0;
       bounds = c.1.0;
       read_only = c.1.1.0;

@@ -1,10 +1,10 @@
 -- A run from a slot whose frame is true of the state ends at an exit.
-use Rattle.std.proofs.Common.{◌≡◌, ◌≢◌, ℕ, zero, suc, ◌+◌, ◌-◌, ◌^◌, ◌<◌, ◌≤◌, List, [], ◌∷◌, ◌++◌, Option, Some, None, refl, ap, ◌∙◌, sym, subst, arith, length, drop}
+use Rattle.std.proofs.Common.{◌≡◌, ◌≢◌, ℕ, zero, suc, ◌+◌, ◌-◌, ◌^◌, ◌<◌, ◌≤◌, List, [], ◌∷◌, ◌++◌, Option, Some, None, refl, ap, ◌∙◌, sym, subst, arith, length, drop, Bool, true, false}
 use Rattle.std.specs.Prelude.{replicate}
 use Rattle.std.proofs.lemmas.Option.{none-some, same_Some, slice_get_within}
 use Rattle.bpf_decode.specs.declared.insn.Insn.{Insn}
-use Rattle.bpf_decode.specs.declared.insn.Insn.TheVariants.{Add, Mov, LoadWide, Load, Store, Jump, Call, CallLocal, Exit}
-use Rattle.bpf_decode.specs.Instruction.{Fits, AllFit, slots, slot_count}
+use Rattle.bpf_decode.specs.declared.insn.Insn.TheVariants.{Alu, Neg, Mov, MovSigned, End, LoadWide, Load, LoadSigned, Store, Jump, JumpLong, Branch, Call, CallLocal, Exit}
+use Rattle.bpf_decode.specs.Instruction.{Fits, AllFit, slots, slot_count, slot_total}
 use Rattle.bpf_machine.specs.declared.region.Region.{Region}
 use Rattle.bpf_machine.specs.declared.region.Region.TheVariants.{Input, Output, Stack}
 use Rattle.bpf_machine.specs.declared.caps.Caps.{Caps}
@@ -120,12 +120,18 @@ module _ (caps : Caps) (is : List Insn) (fit : AllFit is) (small : length (slots
 
   here : (n : ℕ) (s : Typed) (a : At s) (i : Insn) → a.insn ≡ i → left (drop s.slot (slots is)) ≤ suc n → Later n → Ends (suc n) s
   here n s a Exit e le later = out n s a e
-  here n s a (Add d imm) e le later = on n s a le later (λ x. cc) (ap (λ i. typed_exit_of i s) e)
-  here n s a (Mov d x) e le later = on n s a le later (λ x. cc) (ap (λ i. typed_exit_of i s) e)
-  here n s a (LoadWide d value) e le later = on n s a le later (λ x. cc) (ap (λ i. typed_exit_of i s) e)
-  here n s a (Load width d from offset) e le later = on n s a le later (λ x. cc) (ap (λ i. typed_exit_of i s) e)
-  here n s a (Store width to offset x) e le later = on n s a le later (λ x. cc) (ap (λ i. typed_exit_of i s) e)
+  here n s a (Alu bits operation dst source) e le later = on n s a le later (λ x. cc) (ap (λ i. typed_exit_of i s) e)
+  here n s a (Neg bits dst) e le later = on n s a le later (λ x. cc) (ap (λ i. typed_exit_of i s) e)
+  here n s a (Mov bits dst source) e le later = on n s a le later (λ x. cc) (ap (λ i. typed_exit_of i s) e)
+  here n s a (MovSigned extension dst src) e le later = on n s a le later (λ x. cc) (ap (λ i. typed_exit_of i s) e)
+  here n s a (End order width dst) e le later = on n s a le later (λ x. cc) (ap (λ i. typed_exit_of i s) e)
+  here n s a (LoadWide dst value) e le later = on n s a le later (λ x. cc) (ap (λ i. typed_exit_of i s) e)
+  here n s a (Load width dst from offset) e le later = on n s a le later (λ x. cc) (ap (λ i. typed_exit_of i s) e)
+  here n s a (LoadSigned width dst from offset) e le later = on n s a le later (λ x. cc) (ap (λ i. typed_exit_of i s) e)
+  here n s a (Store width to offset source) e le later = on n s a le later (λ x. cc) (ap (λ i. typed_exit_of i s) e)
   here n s a (Jump offset) e le later = on n s a le later (λ x. cc) (ap (λ i. typed_exit_of i s) e)
+  here n s a (JumpLong distance) e le later = on n s a le later (λ x. cc) (ap (λ i. typed_exit_of i s) e)
+  here n s a (Branch bits comparison dst source offset) e le later = on n s a le later (λ x. cc) (ap (λ i. typed_exit_of i s) e)
   here n s a (Call helper) e le later = on n s a le later (λ x. cc) (ap (λ i. typed_exit_of i s) e)
   here n s a (CallLocal distance) e le later = on n s a le later (λ x. cc) (ap (λ i. typed_exit_of i s) e)
 

@@ -1,8 +1,9 @@
 -- Frames: what is known of the eleven registers before an instruction.
-use Rattle.std.specs.Prelude.{ℕ, List, [], ◌∷◌, Option, Some, None, slice_get, slice_set, drop}
+use Rattle.std.specs.Prelude.{◌≡◌, ℕ, List, [], ◌∷◌, Option, Some, None, slice_get, slice_set, drop}
+use Rattle.bpf_decode.specs.declared.insn.Operand.{Operand}
 use Rattle.bpf_decode.specs.declared.insn.Operand.TheVariants.{Immediate, Register}
 use Rattle.bpf_decode.specs.declared.insn.Insn.{Insn}
-use Rattle.bpf_decode.specs.declared.insn.Insn.TheVariants.{Add, Mov, LoadWide, Load, Store, Jump, Call, CallLocal, Exit}
+use Rattle.bpf_decode.specs.declared.insn.Insn.TheVariants.{Alu, Neg, Mov, MovSigned, End, LoadWide, Load, LoadSigned, Store, Jump, JumpLong, Branch, Call, CallLocal, Exit}
 use Rattle.bpf_machine.specs.declared.region.Region.{Region}
 use Rattle.bpf_machine.specs.declared.region.Region.TheVariants.{Input, Output, Stack}
 use Rattle.bpf_machine.specs.declared.value.Value.{Value}
@@ -12,7 +13,7 @@ use Rattle.bpf_machine.specs.Typed.{Typed, extended}
 use Rattle.verifier.specs.declared.kind.Kind.{Kind}
 use Rattle.verifier.specs.declared.kind.Kind.TheVariants.{Unset, Num, Ptr}
 use Rattle.verifier.specs.Known.{constant, any}
-use Rattle.verifier.specs.Kind.{HoldsKind, join_kind, add_kind}
+use Rattle.verifier.specs.Kind.{HoldsKind, join_kind, alu_kind, neg_kind, mov_kind, signed_move_kind, end_kind}
 
 abbrev pub Frame : Type 0
 Frame = List Kind
@@ -42,15 +43,25 @@ entry_frame =
 abbrev pub after_call : Frame → Frame
 after_call f = Num any ∷ Unset ∷ Unset ∷ Unset ∷ Unset ∷ Unset ∷ drop 6 f
 
+-- the kind of what an instruction reads beside its destination
+abbrev pub operand_kind : Frame → Operand → Kind
+operand_kind f (Immediate imm) = Num (constant (extended imm))
+operand_kind f (Register r) = kind_at f r
+
 -- The flow: the frame after an instruction that no rule refuses.
 abbrev pub flow : Insn → Frame → Frame
-flow (Add dst imm) f = with_kind f dst (add_kind (kind_at f dst) (constant (extended imm)))
-flow (Mov dst (Immediate imm)) f = with_kind f dst (Num (constant (extended imm)))
-flow (Mov dst (Register src)) f = with_kind f dst (kind_at f src)
+flow (Alu bits operation dst source) f = with_kind f dst (alu_kind bits operation (kind_at f dst) (operand_kind f source))
+flow (Neg bits dst) f = with_kind f dst (neg_kind bits (kind_at f dst))
+flow (Mov bits dst source) f = with_kind f dst (mov_kind bits (operand_kind f source))
+flow (MovSigned extension dst src) f = with_kind f dst (signed_move_kind extension (kind_at f src))
+flow (End order width dst) f = with_kind f dst (end_kind order width (kind_at f dst))
 flow (LoadWide dst value) f = with_kind f dst (Num (constant value))
 flow (Load width dst from offset) f = with_kind f dst (Num any)
+flow (LoadSigned width dst from offset) f = with_kind f dst (Num any)
 flow (Store width to offset source) f = f
 flow (Jump offset) f = f
+flow (JumpLong distance) f = f
+flow (Branch bits comparison dst source offset) f = f
 flow (Call helper) f = after_call f
 flow (CallLocal distance) f = f
 flow Exit f = f

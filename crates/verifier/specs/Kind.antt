@@ -6,10 +6,17 @@ use Rattle.bpf_machine.specs.declared.value.Value.{Value}
 use Rattle.bpf_machine.specs.declared.value.Value.TheVariants as values
 use Rattle.bpf_machine.specs.declared.caps.Caps.{Caps}
 use Rattle.bpf_machine.specs.State.{may_store, size}
+use Rattle.bpf_decode.specs.declared.operation.Bits.{Bits}
+use Rattle.bpf_decode.specs.declared.operation.Bits.TheVariants.{Bits32, Bits64}
+use Rattle.bpf_decode.specs.declared.operation.Arithmetic.{Arithmetic}
+use Rattle.bpf_decode.specs.declared.operation.SignedMove.{SignedMove}
+use Rattle.bpf_decode.specs.declared.operation.ByteOrder.{ByteOrder}
+use Rattle.bpf_decode.specs.declared.operation.EndWidth.{EndWidth}
+use Rattle.bpf_machine.specs.Typed.{moves_pointer, is_addition}
 use Rattle.verifier.specs.declared.known.Known.{Known}
 use Rattle.verifier.specs.declared.kind.Kind.{Kind}
 use Rattle.verifier.specs.declared.kind.Kind.TheVariants.{Unset, Num, Ptr}
-use Rattle.verifier.specs.Known.{HoldsKnown, constant, join_known, add_known, upper}
+use Rattle.verifier.specs.Known.{HoldsKnown, constant, join_known, add_known, upper, alu_known, neg_known, mov_known, signed_move_known, end_known}
 
 -- the values that a register of a kind may have
 abbrev pub HoldsKind : Kind → Option Value → Type 0
@@ -57,11 +64,51 @@ join_kind (Ptr r k) Unset = Unset
 join_kind (Ptr r k) (Num l) = Unset
 join_kind (Ptr r k) (Ptr q l) = if same_region r q then Ptr r (join_known k l) else Unset
 
--- a number added to a number, or to a pointer's place
-abbrev pub add_kind : Kind → Known → Kind
-add_kind Unset l = Unset
-add_kind (Num k) l = Num (add_known k l)
-add_kind (Ptr r k) l = Ptr r (add_known k l)
+-- what an instruction that no rule refuses computes: arithmetic of numbers, or a pointer that moves
+abbrev pub alu_kind : Bits → Arithmetic → Kind → Kind → Kind
+alu_kind bits operation (Num k) (Num l) = Num (alu_known bits operation k l)
+alu_kind bits operation (Ptr r k) (Num l) = Ptr r (alu_known bits operation k l)
+alu_kind bits operation (Num k) (Ptr r l) = Ptr r (alu_known bits operation k l)
+alu_kind bits operation (Ptr r k) (Ptr q l) = Unset
+alu_kind bits operation Unset y = Unset
+alu_kind bits operation (Num k) Unset = Unset
+alu_kind bits operation (Ptr r k) Unset = Unset
+
+abbrev pub neg_kind : Bits → Kind → Kind
+neg_kind bits Unset = Unset
+neg_kind bits (Num k) = Num (neg_known bits k)
+neg_kind bits (Ptr r k) = Unset
+
+abbrev pub mov_kind : Bits → Kind → Kind
+mov_kind bits Unset = Unset
+mov_kind bits (Num k) = Num (mov_known bits k)
+mov_kind Bits64 (Ptr r k) = Ptr r k
+mov_kind Bits32 (Ptr r k) = Unset
+
+abbrev pub signed_move_kind : SignedMove → Kind → Kind
+signed_move_kind extension Unset = Unset
+signed_move_kind extension (Num k) = Num (signed_move_known extension k)
+signed_move_kind extension (Ptr r k) = Unset
+
+abbrev pub end_kind : ByteOrder → EndWidth → Kind → Kind
+end_kind order width Unset = Unset
+end_kind order width (Num k) = Num (end_known order width k)
+end_kind order width (Ptr r k) = Unset
+
+-- arithmetic with a pointer other than a number added to it or subtracted from it, in 64 bits
+abbrev pub alu_refused : Bits → Arithmetic → Kind → Kind → Bool
+alu_refused bits operation (Ptr r k) (Num l) = not (moves_pointer bits operation)
+alu_refused bits operation (Num k) (Ptr r l) = not (is_addition bits operation)
+alu_refused bits operation (Ptr r k) (Ptr q l) = true
+alu_refused bits operation (Num k) (Num l) = false
+alu_refused bits operation Unset y = false
+alu_refused bits operation (Num k) Unset = false
+alu_refused bits operation (Ptr r k) Unset = false
+
+-- a copy of a pointer in 32 bits
+abbrev pub mov_refused : Bits → Kind → Bool
+mov_refused Bits64 x = false
+mov_refused Bits32 x = is_ptr x
 
 -- all of the w bytes at a distance from it are in its region, whatever it points to
 abbrev pub access_fits : Caps → Kind → ℕ → ℕ → Bool

@@ -4,8 +4,8 @@ use Rattle.std.specs.Int.{is_negative}
 use Rattle.bpf_decode.specs.declared.insn.Operand.{Operand}
 use Rattle.bpf_decode.specs.declared.insn.Operand.TheVariants.{Immediate, Register}
 use Rattle.bpf_decode.specs.declared.insn.Insn.{Insn}
-use Rattle.bpf_decode.specs.declared.insn.Insn.TheVariants.{Add, Mov, LoadWide, Load, Store, Jump, Call, CallLocal, Exit}
-use Rattle.bpf_decode.specs.Instruction.{byte_count, slot_count}
+use Rattle.bpf_decode.specs.declared.insn.Insn.TheVariants.{Alu, Neg, Mov, MovSigned, End, LoadWide, Load, LoadSigned, Store, Jump, JumpLong, Branch, Call, CallLocal, Exit}
+use Rattle.bpf_decode.specs.Instruction.{byte_count, signed_byte_count, slot_count}
 use Rattle.bpf_machine.specs.declared.caps.Caps.{Caps}
 use Rattle.bpf_machine.specs.declared.argument.Argument.{Argument}
 use Rattle.bpf_machine.specs.declared.argument.Argument.TheVariants.{Number, OutputLength, Readable, Writable}
@@ -15,8 +15,8 @@ use Rattle.verifier.specs.declared.rule.Rule.{Rule}
 use Rattle.verifier.specs.declared.rule.Rule.TheVariants.{Backward, Target, FallsOff, LocalCall, UnsetRead, WritesR10, PointerArithmetic, PointerCompare, PointerStored, Bounds, ReadOnlyRegion, UnknownHelper, HelperArgument, WriteHelperInReader, ReturnsPointer, NoMemory}
 use Rattle.verifier.specs.declared.fault.Fault.{Fault}
 use Rattle.verifier.specs.declared.fault.Fault.TheVariants.{NotSet, OutOfRegion, ReadOnly, WrongKind}
-use Rattle.verifier.specs.Kind.{is_unset, is_num, is_ptr, access_fits, is_read_only, is_at_most, range_leaves, range_is_read_only}
-use Rattle.verifier.specs.Frame.{Frame, kind_at}
+use Rattle.verifier.specs.Kind.{is_unset, is_num, is_ptr, alu_refused, mov_refused, access_fits, is_read_only, is_at_most, range_leaves, range_is_read_only}
+use Rattle.verifier.specs.Frame.{Frame, kind_at, operand_kind}
 
 -- an instruction begins at the slot
 abbrev pub begins_at : List (Option Insn) → ℕ → Bool
@@ -28,16 +28,21 @@ target p offset = (p + 1 + extended offset) % 2 ^ 64
 
 abbrev pub is_backward : Insn → Bool
 is_backward (Jump offset) = is_negative offset
+is_backward (JumpLong distance) = is_negative distance
+is_backward (Branch bits comparison dst source offset) = is_negative offset
 is_backward i = false
 
 -- its target is past the last slot or in a wide load's second half
 abbrev pub misses : List (Option Insn) → ℕ → Insn → Bool
 misses code p (Jump offset) = not (begins_at code (target p offset))
+misses code p (JumpLong distance) = not (begins_at code (target p distance))
+misses code p (Branch bits comparison dst source offset) = not (begins_at code (target p offset))
 misses code p i = false
 
 -- the last instruction, which nothing begins behind, goes on to the slot behind it
 abbrev pub falls_off : List (Option Insn) → ℕ → Insn → Bool
 falls_off code p (Jump offset) = false
+falls_off code p (JumpLong distance) = false
 falls_off code p Exit = false
 falls_off code p i = not (begins_at code (p + slot_count i))
 
@@ -88,22 +93,45 @@ operand_is_unset f (Immediate imm) = false
 operand_is_unset f (Register r) = is_unset (kind_at f r)
 
 abbrev pub reads_unset : Caps → Frame → Insn → Bool
-reads_unset caps f (Add dst imm) = is_unset (kind_at f dst)
-reads_unset caps f (Mov dst source) = operand_is_unset f source
+reads_unset caps f (Alu bits operation dst source) = is_unset (kind_at f dst) || operand_is_unset f source
+reads_unset caps f (Neg bits dst) = is_unset (kind_at f dst)
+reads_unset caps f (Mov bits dst source) = operand_is_unset f source
+reads_unset caps f (MovSigned extension dst src) = is_unset (kind_at f src)
+reads_unset caps f (End order width dst) = is_unset (kind_at f dst)
 reads_unset caps f (LoadWide dst value) = false
 reads_unset caps f (Load width dst from offset) = is_unset (kind_at f from)
+reads_unset caps f (LoadSigned width dst from offset) = is_unset (kind_at f from)
 reads_unset caps f (Store width to offset source) = is_unset (kind_at f to) || operand_is_unset f source
 reads_unset caps f (Jump offset) = false
+reads_unset caps f (JumpLong distance) = false
+reads_unset caps f (Branch bits comparison dst source offset) = is_unset (kind_at f dst) || operand_is_unset f source
 reads_unset caps f (Call helper) = call_fault caps f NotSet helper
 reads_unset caps f (CallLocal distance) = false
 reads_unset caps f Exit = is_unset (kind_at f 0)
 
 abbrev pub writes_r10 : Insn → Bool
-writes_r10 (Add dst imm) = dst == 10
-writes_r10 (Mov dst source) = dst == 10
+writes_r10 (Alu bits operation dst source) = dst == 10
+writes_r10 (Neg bits dst) = dst == 10
+writes_r10 (Mov bits dst source) = dst == 10
+writes_r10 (MovSigned extension dst src) = dst == 10
+writes_r10 (End order width dst) = dst == 10
 writes_r10 (LoadWide dst value) = dst == 10
 writes_r10 (Load width dst from offset) = dst == 10
+writes_r10 (LoadSigned width dst from offset) = dst == 10
 writes_r10 i = false
+
+-- arithmetic on a pointer other than a copy, or a number added to it or subtracted from it, each in 64 bits
+abbrev pub computes_with_pointer : Frame → Insn → Bool
+computes_with_pointer f (Alu bits operation dst source) = alu_refused bits operation (kind_at f dst) (operand_kind f source)
+computes_with_pointer f (Neg bits dst) = is_ptr (kind_at f dst)
+computes_with_pointer f (Mov bits dst source) = mov_refused bits (operand_kind f source)
+computes_with_pointer f (MovSigned extension dst src) = is_ptr (kind_at f src)
+computes_with_pointer f (End order width dst) = is_ptr (kind_at f dst)
+computes_with_pointer f i = false
+
+abbrev pub compares_pointer : Frame → Insn → Bool
+compares_pointer f (Branch bits comparison dst source offset) = is_ptr (kind_at f dst) || is_ptr (operand_kind f source)
+compares_pointer f i = false
 
 abbrev pub stores_pointer : Frame → Insn → Bool
 stores_pointer f (Store width to offset (Register src)) = is_ptr (kind_at f src)
@@ -112,6 +140,7 @@ stores_pointer f i = false
 -- a load, a store or a helper's range that may leave its region; a load or store through a number
 abbrev pub leaves_region : Caps → Frame → Insn → Bool
 leaves_region caps f (Load width dst from offset) = not (access_fits caps (kind_at f from) (extended offset) (byte_count width))
+leaves_region caps f (LoadSigned width dst from offset) = not (access_fits caps (kind_at f from) (extended offset) (signed_byte_count width))
 leaves_region caps f (Store width to offset source) = not (access_fits caps (kind_at f to) (extended offset) (byte_count width))
 leaves_region caps f (Call helper) = call_fault caps f OutOfRegion helper
 leaves_region caps f i = false
@@ -155,10 +184,8 @@ breaks caps code p i frame FallsOff = falls_off code p i
 breaks caps code p i frame LocalCall = is_local_call i
 breaks caps code p i frame UnsetRead = under frame (λ f. reads_unset caps f i)
 breaks caps code p i frame WritesR10 = under frame (λ f. writes_r10 i)
--- the only addition so far is that of a number, which a pointer allows
-breaks caps code p i frame PointerArithmetic = false
--- no comparison so far
-breaks caps code p i frame PointerCompare = false
+breaks caps code p i frame PointerArithmetic = under frame (λ f. computes_with_pointer f i)
+breaks caps code p i frame PointerCompare = under frame (λ f. compares_pointer f i)
 breaks caps code p i frame PointerStored = under frame (λ f. stores_pointer f i)
 breaks caps code p i frame Bounds = under frame (λ f. leaves_region caps f i)
 breaks caps code p i frame ReadOnlyRegion = under frame (λ f. writes_read_only caps f i)

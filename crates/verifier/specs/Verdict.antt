@@ -1,8 +1,8 @@
 -- The table of frames of a method, and the verdict on a class.
 use Rattle.std.specs.Prelude.{◌≡◌, ℕ, zero, suc, ◌+◌, ◌<◌, List, [], ◌∷◌, ◌++◌, Option, Some, None, true, if◌then◌else◌, ◌==◌, slice_get, length}
 use Rattle.bpf_decode.specs.declared.insn.Insn.{Insn}
-use Rattle.bpf_decode.specs.declared.insn.Insn.TheVariants.{Add, Mov, LoadWide, Load, Store, Jump, Call, CallLocal, Exit}
-use Rattle.bpf_decode.specs.Instruction.{slots}
+use Rattle.bpf_decode.specs.declared.insn.Insn.TheVariants.{Alu, Neg, Mov, MovSigned, End, LoadWide, Load, LoadSigned, Store, Jump, JumpLong, Branch, Call, CallLocal, Exit}
+use Rattle.bpf_decode.specs.Instruction.{slot_count, slots}
 use Rattle.bpf_decode.specs.Class.{ClassMethod}
 use Rattle.bpf_machine.specs.declared.caps.Caps.{Caps}
 use Rattle.bpf_machine.specs.State.{◌>>=◌}
@@ -18,12 +18,18 @@ use Rattle.verifier.specs.Rules.{target, breaks, rule_at}
 
 -- where instruction i at slot p goes on
 abbrev pub edges : Insn → ℕ → Edges
-edges (Add dst imm) p = One (p + 1)
-edges (Mov dst source) p = One (p + 1)
+edges (Alu bits operation dst source) p = One (p + 1)
+edges (Neg bits dst) p = One (p + 1)
+edges (Mov bits dst source) p = One (p + 1)
+edges (MovSigned extension dst src) p = One (p + 1)
+edges (End order width dst) p = One (p + 1)
 edges (LoadWide dst value) p = One (p + 2)
 edges (Load width dst from offset) p = One (p + 1)
+edges (LoadSigned width dst from offset) p = One (p + 1)
 edges (Store width to offset source) p = One (p + 1)
 edges (Jump offset) p = One (target p offset)
+edges (JumpLong distance) p = One (target p distance)
+edges (Branch bits comparison dst source offset) p = Two (target p offset) (p + 1)
 edges (Call helper) p = One (p + 1)
 edges (CallLocal distance) p = Leaves
 edges Exit p = Leaves

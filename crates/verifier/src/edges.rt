@@ -12,12 +12,12 @@ pub enum Edges {
     Two(usize, usize),
 }
 
-/// The slot to which a jump goes: its offset counts from the slot after it (RFC 9669 section 4.3).
-pub fn jump_target(slot: usize, offset: i16) -> usize
+/// The slot to which a jump goes: its distance counts from the slot after it (RFC 9669 section 4.3).
+pub fn jump_target(slot: usize, distance: i64) -> usize
     requires { slot < 2 ^ 62 }
-    ensures { result ≡ target slot offset }
+    ensures { result ≡ target slot distance }
 {
-    ((slot + 1) as u64).wrapping_add(i64::from(offset).cast_unsigned()) as usize
+    ((slot + 1) as u64).wrapping_add(distance.cast_unsigned()) as usize
 }
 
 impl Edges {
@@ -27,7 +27,11 @@ impl Edges {
         ensures { result ≡ edges insn.now slot }
     {
         match *insn {
-            Insn::Jump { offset } => Edges::One(jump_target(slot, offset)),
+            Insn::Jump { offset } => Edges::One(jump_target(slot, i64::from(offset))),
+            Insn::JumpLong { distance } => Edges::One(jump_target(slot, i64::from(distance))),
+            Insn::Branch { offset, .. } => {
+                Edges::Two(jump_target(slot, i64::from(offset)), slot + 1)
+            }
             Insn::Exit | Insn::CallLocal { distance: _ } => Edges::Leaves,
             _ => Edges::One(slot + width(insn)),
         }

@@ -1,9 +1,9 @@
 ghost use Rattle.std.specs.Prelude.{◌≡◌, ◌<◌};
-ghost use Rattle.verifier.specs.Frame.{kind_at, with_kind, join, entry_frame, after_call, flow};
+ghost use Rattle.verifier.specs.Frame.{operand_kind, kind_at, with_kind, join, entry_frame, after_call, flow};
 
 use crate::kind::Kind;
 use crate::known::Known;
-use bpf_decode::{Insn, Operand};
+use bpf_decode::{Insn, Operand, Register};
 use bpf_machine::Region;
 use std::marker::Model;
 
@@ -84,45 +84,67 @@ impl Frame {
         Frame { kinds }
     }
 
+    /// The kind of what an instruction reads beside its destination.
+    pub fn operand(&self, source: Operand) -> Kind
+        ensures { result ≡ operand_kind self.now source }
+    {
+        match source {
+            Operand::Immediate(imm) => {
+                Kind::Num(Known::constant(i64::from(imm).cast_unsigned()))
+            }
+            Operand::Register(src) => self.kind(usize::from(src.number())),
+        }
+    }
+
+    /// The frame with another kind of a register.
+    fn after(self, dst: Register, kind: Kind) -> Frame
+        ensures { result ≡ with_kind self dst kind }
+    {
+        self.with(usize::from(dst.number()), kind)
+    }
+
     /// The frame after an instruction that no rule refuses.
     pub fn flow(self, insn: &Insn) -> Frame
         ensures { result ≡ flow insn.now self }
     {
         match *insn {
-            Insn::Add { dst, imm } => {
-                let d = usize::from(dst.number());
-                let by = Known::constant(i64::from(imm).cast_unsigned());
-                self.with(d, self.kind(d).add(by))
-            }
-            Insn::Mov { dst, source } => {
-                let d = usize::from(dst.number());
-                match source {
-                    Operand::Immediate(imm) => {
-                        let n = Known::constant(i64::from(imm).cast_unsigned());
-                        self.with(d, Kind::Num(n))
-                    }
-                    Operand::Register(src) => self.with(d, self.kind(usize::from(src.number()))),
-                }
-            }
-            Insn::LoadWide { dst, value } => {
-                self.with(usize::from(dst.number()), Kind::Num(Known::constant(value)))
-            }
-            Insn::Load {
-                width: _,
+            Insn::Alu {
+                bits,
+                operation,
                 dst,
-                base: _,
-                offset: _,
-            } => self.with(usize::from(dst.number()), Kind::Num(Known::any())),
-            Insn::Call { helper: _ } => self.after_call(),
-            Insn::Store {
-                width: _,
-                base: _,
-                offset: _,
-                source: _,
-            } => self,
-            Insn::Jump { offset: _ } => self,
-            Insn::CallLocal { distance: _ } => self,
-            Insn::Exit => self,
+                source,
+            } => {
+                let x = self.kind(usize::from(dst.number()));
+                self.after(dst, Kind::alu(bits, operation, x, self.operand(source)))
+            }
+            Insn::Neg { bits, dst } => {
+                let x = self.kind(usize::from(dst.number()));
+                self.after(dst, x.neg(bits))
+            }
+            Insn::Mov { bits, dst, source } => self.after(dst, self.operand(source).mov(bits)),
+            Insn::MovSigned {
+                extension,
+                dst,
+                src,
+            } => {
+                let y = self.kind(usize::from(src.number()));
+                self.after(dst, y.mov_signed(extension))
+            }
+            Insn::End { order, width, dst } => {
+                let x = self.kind(usize::from(dst.number()));
+                self.after(dst, x.end(order, width))
+            }
+            Insn::LoadWide { dst, value } => { self.after(dst, Kind::Num(Known::constant(value))) }
+            Insn::Load { dst, .. } | Insn::LoadSigned { dst, .. } => {
+                self.after(dst, Kind::Num(Known::any()))
+            }
+            Insn::Call { .. } => self.after_call(),
+            Insn::Store { .. }
+            | Insn::Jump { .. }
+            | Insn::JumpLong { .. }
+            | Insn::Branch { .. }
+            | Insn::CallLocal { .. }
+            | Insn::Exit => self,
         }
     }
 }

@@ -1,7 +1,9 @@
 ghost use Rattle.std.specs.Prelude.{◌≡◌, ◌≤◌};
-ghost use Rattle.verifier.specs.Kind.{is_unset, is_num, is_ptr, same_region, join_kind, add_kind, access_fits, is_read_only, is_at_most, range_leaves, range_is_read_only};
+ghost use Rattle.bpf_machine.specs.Typed.{moves_pointer, is_addition};
+ghost use Rattle.verifier.specs.Kind.{is_unset, is_num, is_ptr, same_region, join_kind, alu_kind, neg_kind, mov_kind, signed_move_kind, end_kind, alu_refused, mov_refused, access_fits, is_read_only, is_at_most, range_leaves, range_is_read_only};
 
 use crate::known::Known;
+use bpf_decode::{Arithmetic, Bits, ByteOrder, EndWidth, SignedMove};
 use bpf_machine::{Caps, Region};
 
 /// What is known of a register: nothing, not even that it is set; that it is a number; or that it points into a region.
@@ -62,14 +64,85 @@ impl Kind {
         }
     }
 
-    /// A number added to a number, or to a pointer's place.
-    pub fn add(self, by: Known) -> Kind
-        ensures { result ≡ add_kind self by }
+    /// What arithmetic that no rule refuses computes.
+    pub fn alu(bits: Bits, operation: Arithmetic, x: Kind, y: Kind) -> Kind
+        ensures { result ≡ alu_kind bits operation x y }
+    {
+        match (x, y) {
+            (Kind::Num(a), Kind::Num(b)) => Kind::Num(Known::alu(bits, operation, a, b)),
+            (Kind::Ptr(r, a), Kind::Num(b)) => Kind::Ptr(r, Known::alu(bits, operation, a, b)),
+            (Kind::Num(a), Kind::Ptr(r, b)) => Kind::Ptr(r, Known::alu(bits, operation, a, b)),
+            (Kind::Ptr(_, _), Kind::Ptr(_, _)) => Kind::Unset,
+            (Kind::Unset, _) => Kind::Unset,
+            (Kind::Num(_) | Kind::Ptr(_, _), Kind::Unset) => Kind::Unset,
+        }
+    }
+
+    /// The negative of a number.
+    pub fn neg(self, bits: Bits) -> Kind
+        ensures { result ≡ neg_kind bits self }
+    {
+        match self {
+            Kind::Num(a) => Kind::Num(a.neg(bits)),
+            Kind::Unset | Kind::Ptr(_, _) => Kind::Unset,
+        }
+    }
+
+    /// A copy: of a pointer in 64 bits alone.
+    pub fn mov(self, bits: Bits) -> Kind
+        ensures { result ≡ mov_kind bits self }
     {
         match self {
             Kind::Unset => Kind::Unset,
-            Kind::Num(a) => Kind::Num(a.add(by)),
-            Kind::Ptr(r, a) => Kind::Ptr(r, a.add(by)),
+            Kind::Num(a) => Kind::Num(a.mov(bits)),
+            Kind::Ptr(r, a) => match bits {
+                Bits::Bits64 => Kind::Ptr(r, a),
+                Bits::Bits32 => Kind::Unset,
+            },
+        }
+    }
+
+    /// A copy of a number with sign extension.
+    pub fn mov_signed(self, extension: SignedMove) -> Kind
+        ensures { result ≡ signed_move_kind extension self }
+    {
+        match self {
+            Kind::Num(a) => Kind::Num(a.mov_signed(extension)),
+            Kind::Unset | Kind::Ptr(_, _) => Kind::Unset,
+        }
+    }
+
+    /// A number's low bits in an order of bytes.
+    pub fn end(self, order: ByteOrder, width: EndWidth) -> Kind
+        ensures { result ≡ end_kind order width self }
+    {
+        match self {
+            Kind::Num(a) => Kind::Num(a.end(order, width)),
+            Kind::Unset | Kind::Ptr(_, _) => Kind::Unset,
+        }
+    }
+
+    /// Whether it is arithmetic with a pointer other than a number added to it or subtracted from it, in 64 bits.
+    pub fn is_alu_refused(bits: Bits, operation: Arithmetic, x: Kind, y: Kind) -> bool
+        ensures { result ≡ alu_refused bits operation x y }
+    {
+        match (x, y) {
+            (Kind::Ptr(_, _), Kind::Num(_)) => !moves_pointer(bits, operation),
+            (Kind::Num(_), Kind::Ptr(_, _)) => !is_addition(bits, operation),
+            (Kind::Ptr(_, _), Kind::Ptr(_, _)) => true,
+            (Kind::Num(_), Kind::Num(_)) => false,
+            (Kind::Unset, _) => false,
+            (Kind::Num(_) | Kind::Ptr(_, _), Kind::Unset) => false,
+        }
+    }
+
+    /// Whether it is a pointer that is copied in 32 bits.
+    pub fn is_mov_refused(self, bits: Bits) -> bool
+        ensures { result ≡ mov_refused bits self }
+    {
+        match bits {
+            Bits::Bits64 => false,
+            Bits::Bits32 => self.is_ptr(),
         }
     }
 
@@ -146,5 +219,30 @@ fn is_same_region(r: Region, q: Region) -> bool
         (Region::Input, Region::Output | Region::Stack) => false,
         (Region::Output, Region::Input | Region::Stack) => false,
         (Region::Stack, Region::Input | Region::Output) => false,
+    }
+}
+
+/// Whether a number may be added to a pointer by it, or subtracted.
+fn moves_pointer(bits: Bits, operation: Arithmetic) -> bool
+    ensures { result ≡ moves_pointer bits operation }
+{
+    match bits {
+        Bits::Bits64 => match operation {
+            Arithmetic::Add | Arithmetic::Sub => true,
+            _ => false,
+        },
+        Bits::Bits32 => false,
+    }
+}
+
+fn is_addition(bits: Bits, operation: Arithmetic) -> bool
+    ensures { result ≡ is_addition bits operation }
+{
+    match bits {
+        Bits::Bits64 => match operation {
+            Arithmetic::Add => true,
+            _ => false,
+        },
+        Bits::Bits32 => false,
     }
 }

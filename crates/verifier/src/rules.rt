@@ -1,15 +1,15 @@
-ghost use Rattle.std.specs.Prelude.{◌≡◌, ◌<◌, ◌^◌, length};
-ghost use Rattle.verifier.specs.Rules.{begins_at, is_backward, misses, falls_off, is_local_call, reads_unset, writes_r10, stores_pointer, leaves_region, writes_read_only, calls_unknown, passes_wrong_kind, writes_in_reader, returns_pointer, operand_is_unset, rule_at, rule_under};
-ghost use Rattle.verifier.specs.Kind.{is_unset, access_fits};
+ghost use Rattle.std.specs.Prelude.{◌≡◌, ◌<◌, ◌≤◌, ◌^◌, length};
+ghost use Rattle.verifier.specs.Rules.{begins_at, is_backward, misses, falls_off, is_local_call, reads_unset, writes_r10, computes_with_pointer, compares_pointer, stores_pointer, leaves_region, writes_read_only, calls_unknown, passes_wrong_kind, writes_in_reader, returns_pointer, operand_is_unset, rule_at, rule_under};
+ghost use Rattle.verifier.specs.Kind.{is_unset, is_ptr, access_fits};
 ghost use Rattle.verifier.specs.Frame.{kind_at};
-ghost use Rattle.bpf_decode.specs.Instruction.{byte_count};
 ghost use Rattle.bpf_machine.specs.Typed.{extended};
 
 use crate::edges::jump_target;
 use crate::fault::Fault;
 use crate::frame::Frame;
+use crate::kind::Kind;
 use crate::rule::Rule;
-use bpf_decode::{Insn, Operand, Register, Width, width};
+use bpf_decode::{Insn, Operand, Register, width};
 use bpf_machine::{Caps, signature};
 
 /// The lowest rule that refuses the instruction at a slot; rules 5 to 15 under a frame alone.
@@ -49,6 +49,10 @@ fn rule_under(caps: &Caps, frame: &Frame, insn: &Insn) -> Option<Rule>
         Some(Rule::UnsetRead)
     } else if writes_r10(insn) {
         Some(Rule::WritesR10)
+    } else if computes_with_pointer(frame, insn) {
+        Some(Rule::PointerArithmetic)
+    } else if compares_pointer(frame, insn) {
+        Some(Rule::PointerCompare)
     } else if stores_pointer(frame, insn) {
         Some(Rule::PointerStored)
     } else if leaves_region(caps, frame, insn) {
@@ -83,15 +87,9 @@ fn is_backward(insn: &Insn) -> bool
     ensures { result ≡ is_backward insn.now }
 {
     match *insn {
-        Insn::Jump { offset } => offset.is_negative(),
-        Insn::Add { .. }
-        | Insn::Mov { .. }
-        | Insn::LoadWide { .. }
-        | Insn::Load { .. }
-        | Insn::Store { .. }
-        | Insn::Call { .. }
-        | Insn::CallLocal { .. }
-        | Insn::Exit => false,
+        Insn::Jump { offset } | Insn::Branch { offset, .. } => offset.is_negative(),
+        Insn::JumpLong { distance } => distance.is_negative(),
+        _ => false,
     }
 }
 
@@ -100,15 +98,11 @@ fn misses(code: &[Option<Insn>], slot: usize, insn: &Insn) -> bool
     ensures { result ≡ misses code.now slot insn.now }
 {
     match *insn {
-        Insn::Jump { offset } => !begins_at(code, jump_target(slot, offset)),
-        Insn::Add { .. }
-        | Insn::Mov { .. }
-        | Insn::LoadWide { .. }
-        | Insn::Load { .. }
-        | Insn::Store { .. }
-        | Insn::Call { .. }
-        | Insn::CallLocal { .. }
-        | Insn::Exit => false,
+        Insn::Jump { offset } | Insn::Branch { offset, .. } => {
+            !begins_at(code, jump_target(slot, i64::from(offset)))
+        }
+        Insn::JumpLong { distance } => !begins_at(code, jump_target(slot, i64::from(distance))),
+        _ => false,
     }
 }
 
@@ -117,14 +111,8 @@ fn falls_off(code: &[Option<Insn>], slot: usize, insn: &Insn) -> bool
     ensures { result ≡ falls_off code.now slot insn.now }
 {
     match *insn {
-        Insn::Jump { .. } | Insn::Exit => false,
-        Insn::Add { .. }
-        | Insn::Mov { .. }
-        | Insn::LoadWide { .. }
-        | Insn::Load { .. }
-        | Insn::Store { .. }
-        | Insn::Call { .. }
-        | Insn::CallLocal { .. } => !begins_at(code, slot + width(insn)),
+        Insn::Jump { .. } | Insn::JumpLong { .. } | Insn::Exit => false,
+        _ => !begins_at(code, slot + width(insn)),
     }
 }
 
@@ -133,14 +121,7 @@ fn is_local_call(insn: &Insn) -> bool
 {
     match *insn {
         Insn::CallLocal { .. } => true,
-        Insn::Add { .. }
-        | Insn::Mov { .. }
-        | Insn::LoadWide { .. }
-        | Insn::Load { .. }
-        | Insn::Store { .. }
-        | Insn::Jump { .. }
-        | Insn::Call { .. }
-        | Insn::Exit => false,
+        _ => false,
     }
 }
 
@@ -149,15 +130,22 @@ fn reads_unset(caps: &Caps, frame: &Frame, insn: &Insn) -> bool
     ensures { result ≡ reads_unset caps.now frame.now insn.now }
 {
     match *insn {
-        Insn::Add { dst, .. } => is_unset(frame, dst),
+        Insn::Alu { dst, source, .. } | Insn::Branch { dst, source, .. } => {
+            is_unset(frame, dst) || is_operand_unset(frame, source)
+        }
+        Insn::Neg { dst, .. } | Insn::End { dst, .. } => is_unset(frame, dst),
         Insn::Mov { source, .. } => is_operand_unset(frame, source),
-        Insn::Load { base, .. } => is_unset(frame, base),
+        Insn::MovSigned { src, .. } => is_unset(frame, src),
+        Insn::Load { base, .. } | Insn::LoadSigned { base, .. } => is_unset(frame, base),
         Insn::Store { base, source, .. } => {
             is_unset(frame, base) || is_operand_unset(frame, source)
         }
         Insn::Call { helper } => Fault::NotSet.is_in_call(caps, frame, helper),
         Insn::Exit => frame.kind(0).is_unset(),
-        Insn::LoadWide { .. } | Insn::Jump { .. } | Insn::CallLocal { .. } => false,
+        Insn::LoadWide { .. }
+        | Insn::Jump { .. }
+        | Insn::JumpLong { .. }
+        | Insn::CallLocal { .. } => false,
     }
 }
 
@@ -181,16 +169,53 @@ fn writes_r10(insn: &Insn) -> bool
     ensures { result ≡ writes_r10 insn.now }
 {
     match *insn {
-        Insn::Add { dst, .. }
+        Insn::Alu { dst, .. }
+        | Insn::Neg { dst, .. }
         | Insn::Mov { dst, .. }
+        | Insn::MovSigned { dst, .. }
+        | Insn::End { dst, .. }
         | Insn::LoadWide { dst, .. }
-        | Insn::Load { dst, .. } => dst.number() == 10,
-        Insn::Store { .. }
-        | Insn::Jump { .. }
-        | Insn::Call { .. }
-        | Insn::CallLocal { .. }
-        | Insn::Exit => false,
+        | Insn::Load { dst, .. }
+        | Insn::LoadSigned { dst, .. } => dst.number() == 10,
+        _ => false,
     }
+}
+
+/// It computes with a pointer, other than a copy, or a number added to it or subtracted from it, each in 64 bits.
+fn computes_with_pointer(frame: &Frame, insn: &Insn) -> bool
+    ensures { result ≡ computes_with_pointer frame.now insn.now }
+{
+    match *insn {
+        Insn::Alu {
+            bits,
+            operation,
+            dst,
+            source,
+        } => {
+            let x = frame.kind(usize::from(dst.number()));
+            Kind::is_alu_refused(bits, operation, x, frame.operand(source))
+        }
+        Insn::Neg { dst, .. } | Insn::End { dst, .. } => is_ptr(frame, dst),
+        Insn::Mov { bits, source, .. } => frame.operand(source).is_mov_refused(bits),
+        Insn::MovSigned { src, .. } => is_ptr(frame, src),
+        _ => false,
+    }
+}
+
+/// It compares a pointer.
+fn compares_pointer(frame: &Frame, insn: &Insn) -> bool
+    ensures { result ≡ compares_pointer frame.now insn.now }
+{
+    match *insn {
+        Insn::Branch { dst, source, .. } => is_ptr(frame, dst) || frame.operand(source).is_ptr(),
+        _ => false,
+    }
+}
+
+fn is_ptr(frame: &Frame, register: Register) -> bool
+    ensures { result ≡ is_ptr (kind_at frame.now register) }
+{
+    frame.kind(usize::from(register.number())).is_ptr()
 }
 
 /// It stores a pointer.
@@ -202,14 +227,7 @@ fn stores_pointer(frame: &Frame, insn: &Insn) -> bool
             Operand::Immediate(_) => false,
             Operand::Register(src) => frame.kind(usize::from(src.number())).is_ptr(),
         },
-        Insn::Add { .. }
-        | Insn::Mov { .. }
-        | Insn::LoadWide { .. }
-        | Insn::Load { .. }
-        | Insn::Jump { .. }
-        | Insn::Call { .. }
-        | Insn::CallLocal { .. }
-        | Insn::Exit => false,
+        _ => false,
     }
 }
 
@@ -223,30 +241,32 @@ fn leaves_region(caps: &Caps, frame: &Frame, insn: &Insn) -> bool
             base,
             offset,
             ..
-        } => !access_fits(caps, frame, base, offset, width),
+        } => !access_fits(caps, frame, base, offset, width.bytes()),
+        Insn::LoadSigned {
+            width,
+            base,
+            offset,
+            ..
+        } => !access_fits(caps, frame, base, offset, width.bytes()),
         Insn::Store {
             width,
             base,
             offset,
             ..
-        } => !access_fits(caps, frame, base, offset, width),
+        } => !access_fits(caps, frame, base, offset, width.bytes()),
         Insn::Call { helper } => Fault::OutOfRegion.is_in_call(caps, frame, helper),
-        Insn::Add { .. }
-        | Insn::Mov { .. }
-        | Insn::LoadWide { .. }
-        | Insn::Jump { .. }
-        | Insn::CallLocal { .. }
-        | Insn::Exit => false,
+        _ => false,
     }
 }
 
-fn access_fits(caps: &Caps, frame: &Frame, base: Register, offset: i16, width: Width) -> bool
-    ensures { result ≡ access_fits caps.now (kind_at frame.now base) (extended offset) (byte_count width) }
+fn access_fits(caps: &Caps, frame: &Frame, base: Register, offset: i16, bytes: usize) -> bool
+    requires { bytes ≤ 8 }
+    ensures { result ≡ access_fits caps.now (kind_at frame.now base) (extended offset) bytes }
 {
     let distance = i64::from(offset).cast_unsigned();
     frame
         .kind(usize::from(base.number()))
-        .access_fits(caps, distance, width.bytes())
+        .access_fits(caps, distance, bytes)
 }
 
 /// It writes into the region that is read only.
@@ -256,13 +276,7 @@ fn writes_read_only(caps: &Caps, frame: &Frame, insn: &Insn) -> bool
     match *insn {
         Insn::Store { base, .. } => frame.kind(usize::from(base.number())).is_read_only(),
         Insn::Call { helper } => Fault::ReadOnly.is_in_call(caps, frame, helper),
-        Insn::Add { .. }
-        | Insn::Mov { .. }
-        | Insn::LoadWide { .. }
-        | Insn::Load { .. }
-        | Insn::Jump { .. }
-        | Insn::CallLocal { .. }
-        | Insn::Exit => false,
+        _ => false,
     }
 }
 
@@ -272,14 +286,7 @@ fn calls_unknown(insn: &Insn) -> bool
 {
     match *insn {
         Insn::Call { helper } => signature(helper).is_none(),
-        Insn::Add { .. }
-        | Insn::Mov { .. }
-        | Insn::LoadWide { .. }
-        | Insn::Load { .. }
-        | Insn::Store { .. }
-        | Insn::Jump { .. }
-        | Insn::CallLocal { .. }
-        | Insn::Exit => false,
+        _ => false,
     }
 }
 
@@ -289,14 +296,7 @@ fn passes_wrong_kind(caps: &Caps, frame: &Frame, insn: &Insn) -> bool
 {
     match *insn {
         Insn::Call { helper } => Fault::WrongKind.is_in_call(caps, frame, helper),
-        Insn::Add { .. }
-        | Insn::Mov { .. }
-        | Insn::LoadWide { .. }
-        | Insn::Load { .. }
-        | Insn::Store { .. }
-        | Insn::Jump { .. }
-        | Insn::CallLocal { .. }
-        | Insn::Exit => false,
+        _ => false,
     }
 }
 
@@ -309,14 +309,7 @@ fn writes_in_reader(caps: &Caps, insn: &Insn) -> bool
             None => false,
             Some(takes) => takes.writes && !caps.writes,
         },
-        Insn::Add { .. }
-        | Insn::Mov { .. }
-        | Insn::LoadWide { .. }
-        | Insn::Load { .. }
-        | Insn::Store { .. }
-        | Insn::Jump { .. }
-        | Insn::CallLocal { .. }
-        | Insn::Exit => false,
+        _ => false,
     }
 }
 
@@ -326,13 +319,6 @@ fn returns_pointer(frame: &Frame, insn: &Insn) -> bool
 {
     match *insn {
         Insn::Exit => frame.kind(0).is_ptr(),
-        Insn::Add { .. }
-        | Insn::Mov { .. }
-        | Insn::LoadWide { .. }
-        | Insn::Load { .. }
-        | Insn::Store { .. }
-        | Insn::Jump { .. }
-        | Insn::Call { .. }
-        | Insn::CallLocal { .. } => false,
+        _ => false,
     }
 }

@@ -1,8 +1,11 @@
+mod arithmetic;
+mod branches;
 mod classes;
 mod methods;
+mod ops;
 
 use crate::{Refusal, Rule, verify};
-use bpf_decode::{ClassImage, Insn, Method, decode};
+use bpf_decode::{ClassImage, Method, decode};
 use std::alloc::Global;
 use std::test::Fail;
 

@@ -1,8 +1,10 @@
 ghost use Rattle.std.specs.Prelude.{◌≡◌, ◌≤◌, ◌<◌, ◌*◌, ◌+◌, length, IfSome};
 ghost use Rattle.std.specs.Option.{option_map};
 ghost use Rattle.bpf_decode.specs.Fields.{fields_of};
-ghost use Rattle.bpf_machine.specs.Flat.{signed16, signed32, width_of, at_slot};
+ghost use Rattle.bpf_machine.specs.Flat.{signed16, signed32, width_of, signed_width_of, at_slot};
 ghost use Rattle.bpf_machine.specs.View.{slot_fields};
+
+use bpf_decode::SignedWidth;
 
 /// The fields of a slot of eight bytes (RFC 9669 section 3.1); the signed ones as two's complement.
 #[derive(Clone, Copy)]
@@ -88,5 +90,17 @@ pub fn width_of(opcode: u8) -> usize
         1 => 2,
         2 => 1,
         _ => 8,
+    }
+}
+
+/// The width of a load with sign extension (section 5.2); there is none of eight bytes.
+pub fn signed_width_of(opcode: u8) -> Option<SignedWidth>
+    ensures { result ≡ signed_width_of opcode }
+{
+    match opcode / 8 % 4 {
+        0 => Some(SignedWidth::Word),
+        1 => Some(SignedWidth::Half),
+        2 => Some(SignedWidth::Byte),
+        _ => None,
     }
 }

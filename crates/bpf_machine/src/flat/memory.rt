@@ -1,13 +1,15 @@
 ghost use Rattle.std.specs.Prelude.{◌≡◌, ◌<◌, ◌≤◌, ◌+◌, ◌^◌, ◌-◌, Some, None, if◌then◌else◌, length, take, IfSome};
 ghost use Rattle.bpf_machine.specs.State.{le_value, le_bytes, cells, written, put, size};
 ghost use Rattle.bpf_machine.specs.Helper.{write_room};
-ghost use Rattle.bpf_machine.specs.Flat.{base, holds, find, range, load, store};
+ghost use Rattle.bpf_machine.specs.Flat.{base, holds, find, range, load, load_signed, store};
 ghost use Rattle.bpf_machine.specs.View.{layout_of, memory_of, flat_state, GivesState, IsSized};
 
+use crate::arithmetic::sign_extended_load;
 use crate::caps::Caps;
 use crate::flat::state::{FlatState, set};
 use crate::layout::Layout;
 use crate::region::Region;
+use bpf_decode::SignedWidth;
 
 /// The regions' bytes.
 #[derive(Drop)]
@@ -145,6 +147,27 @@ pub fn load(
     let (region, place) = find(caps, layout, at, w as u64)?;
     let bytes = region_bytes(&s.memory, region);
     let value = read_number(&bytes[place..place + w]);
+    set(caps, s, dst, value)
+}
+
+/// A load with sign extension (section 5.2).
+pub fn load_signed(
+    caps: &Caps,
+    layout: &Layout,
+    width: SignedWidth,
+    dst: u8,
+    at: u64,
+    s: &mut FlatState,
+) -> Option<()>
+    requires sized { IsSized caps.now s.old.memory }
+    ensures load { GivesState result (flat_state s.new) (load_signed caps.now (layout_of layout.now) width dst at (flat_state s.old)) }
+    ensures slot { s.new.slot ≡ s.old.slot }
+    ensures sized { IsSized caps.now s.new.memory }
+{
+    let w = width.bytes();
+    let (region, place) = find(caps, layout, at, w as u64)?;
+    let bytes = region_bytes(&s.memory, region);
+    let value = sign_extended_load(width, read_number(&bytes[place..place + w]));
     set(caps, s, dst, value)
 }
 

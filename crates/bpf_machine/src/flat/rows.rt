@@ -1,67 +1,131 @@
 ghost use Rattle.std.specs.Prelude.{◌≡◌, ◌<◌, ◌≤◌, ◌+◌, ◌*◌, ◌^◌, length, IfOk};
 ghost use Rattle.std.specs.Option.{option_map};
-ghost use Rattle.bpf_machine.specs.Flat.{alu64, alu64_row, ldx_row, st_row, stx_row, wide_row, ja_row, call_row, act, step, exit_code, at_base};
+ghost use Rattle.bpf_machine.specs.Flat.{operand, operation_row, neg_row, mov_row, end_row, alu_row, mem_row, memsx_row, ldx_row, st_row, stx_row, wide_row, ja_row, ja32_row, branch_row, call_row, act, step, exit_code, at_base};
 ghost use Rattle.bpf_machine.specs.View.{layout_of, flat_state, slot_fields, GivesState, IsSized};
 
+use crate::arithmetic::{alu, copied, negative, ordered, sign_extended, taken};
 use crate::caps::Caps;
-use crate::flat::fields::{SlotFields, at_slot, read_fields, signed16, signed32, width_of};
+use crate::flat::fields::{
+    SlotFields, at_slot, read_fields, signed_width_of, signed16, signed32, width_of,
+};
 use crate::flat::helpers::help;
-use crate::flat::memory::{load, store};
+use crate::flat::memory::{load, load_signed, store};
 use crate::flat::state::{FlatState, get, set};
 use crate::layout::Layout;
+use bpf_decode::{Arithmetic, Bits, ByteOrder, Comparison, EndWidth, SignedMove};
 use std::alloc::{AllocError, Global};
 
-/// 64-bit arithmetic by operation and source bit (RFC 9669 section 4.1).
-fn alu64(
+/// What an instruction reads beside its destination: the immediate, or a register.
+fn operand(f: SlotFields, s: &FlatState) -> Option<u64>
+    ensures { result ≡ operand (slot_fields f) (flat_state s.now) }
+{
+    if f.opcode / 8 % 2 == 0 {
+        if f.src == 0 {
+            Some(signed32(f.imm))
+        } else {
+            None
+        }
+    } else if f.imm == 0 {
+        get(s, f.src)
+    } else {
+        None
+    }
+}
+
+/// An operation; the offset tells signed division and modulo apart.
+fn operation_row(
     caps: &Caps,
     layout: &Layout,
-    operation: u8,
-    source: u8,
-    dst: u8,
-    y: u64,
+    bits: Bits,
+    f: SlotFields,
     s: &mut FlatState,
 ) -> Option<()>
     requires sized { IsSized caps.now s.old.memory }
-    ensures alu { GivesState result (flat_state s.new) (alu64 caps.now (layout_of layout.now) operation source dst y (flat_state s.old)) }
-    ensures slot { s.new.slot ≡ s.old.slot }
-    ensures sized { IsSized caps.now s.new.memory }
-{
-    if operation == 11 {
-        return set(caps, s, dst, y);
-    }
-    if operation == 0 && source == 0 {
-        let x = get(s, dst)?;
-        return set(caps, s, dst, x.wrapping_add(y));
-    }
-    None
-}
-
-/// ALU64: by the immediate, or by a register.
-fn alu64_row(caps: &Caps, layout: &Layout, f: SlotFields, s: &mut FlatState) -> Option<()>
-    requires sized { IsSized caps.now s.old.memory }
     requires slot { s.old.slot < 2 ^ 62 }
-    ensures row { GivesState result (flat_state s.new) (alu64_row caps.now (layout_of layout.now) (slot_fields f) (flat_state s.old)) }
+    ensures row { GivesState result (flat_state s.new) (operation_row caps.now (layout_of layout.now) bits (slot_fields f) (flat_state s.old)) }
     ensures sized { IsSized caps.now s.new.memory }
 {
-    let source = f.opcode / 8 % 2;
-    let operation = f.opcode / 16;
-    if f.offset != 0 {
+    let row = Arithmetic::of(f.opcode / 16)?;
+    if !row.allows(f.offset) {
         return None;
     }
-    let y = if source == 0 {
-        if f.src != 0 {
-            return None;
-        }
-        signed32(f.imm)
-    } else {
-        if f.imm != 0 {
-            return None;
-        }
-        get(s, f.src)?
-    };
-    alu64(caps, layout, operation, source, f.dst, y, s)?;
+    let y = operand(f, s)?;
+    let x = get(s, f.dst)?;
+    set(caps, s, f.dst, alu(bits, row.selected(f.offset), x, y))?;
     s.slot += 1;
     Some(())
+}
+
+/// NEG.
+fn neg_row(caps: &Caps, layout: &Layout, bits: Bits, f: SlotFields, s: &mut FlatState) -> Option<()>
+    requires sized { IsSized caps.now s.old.memory }
+    requires slot { s.old.slot < 2 ^ 62 }
+    ensures row { GivesState result (flat_state s.new) (neg_row caps.now (layout_of layout.now) bits (slot_fields f) (flat_state s.old)) }
+    ensures sized { IsSized caps.now s.new.memory }
+{
+    let _ = layout;
+    if f.opcode / 8 % 2 != 0 || f.src != 0 || f.offset != 0 || f.imm != 0 {
+        return None;
+    }
+    let x = get(s, f.dst)?;
+    set(caps, s, f.dst, negative(bits, x))?;
+    s.slot += 1;
+    Some(())
+}
+
+/// MOV, and MOVSX of a register.
+fn mov_row(caps: &Caps, layout: &Layout, bits: Bits, f: SlotFields, s: &mut FlatState) -> Option<()>
+    requires sized { IsSized caps.now s.old.memory }
+    requires slot { s.old.slot < 2 ^ 62 }
+    ensures row { GivesState result (flat_state s.new) (mov_row caps.now (layout_of layout.now) bits (slot_fields f) (flat_state s.old)) }
+    ensures sized { IsSized caps.now s.new.memory }
+{
+    if f.offset == 0 {
+        let y = operand(f, s)?;
+        set(caps, s, f.dst, copied(bits, y))?;
+    } else {
+        if f.opcode / 8 % 2 != 1 || f.imm != 0 || !SignedMove::exists(bits, f.offset) {
+            return None;
+        }
+        let y = get(s, f.src)?;
+        let extension = SignedMove::selected(bits, f.offset);
+        set(caps, s, f.dst, sign_extended(extension, y))?;
+    }
+    s.slot += 1;
+    Some(())
+}
+
+/// END: the order by the class and the source bit, the bits kept by the immediate.
+fn end_row(caps: &Caps, layout: &Layout, bits: Bits, f: SlotFields, s: &mut FlatState) -> Option<()>
+    requires sized { IsSized caps.now s.old.memory }
+    requires slot { s.old.slot < 2 ^ 62 }
+    ensures row { GivesState result (flat_state s.new) (end_row caps.now (layout_of layout.now) bits (slot_fields f) (flat_state s.old)) }
+    ensures sized { IsSized caps.now s.new.memory }
+{
+    let _ = layout;
+    let order = ByteOrder::of(bits, f.opcode / 8 % 2)?;
+    if f.src != 0 || f.offset != 0 || !EndWidth::exists(f.imm) {
+        return None;
+    }
+    let x = get(s, f.dst)?;
+    set(caps, s, f.dst, ordered(order, EndWidth::selected(f.imm), x))?;
+    s.slot += 1;
+    Some(())
+}
+
+/// ALU and ALU64.
+fn alu_row(caps: &Caps, layout: &Layout, bits: Bits, f: SlotFields, s: &mut FlatState) -> Option<()>
+    requires sized { IsSized caps.now s.old.memory }
+    requires slot { s.old.slot < 2 ^ 62 }
+    ensures row { GivesState result (flat_state s.new) (alu_row caps.now (layout_of layout.now) bits (slot_fields f) (flat_state s.old)) }
+    ensures sized { IsSized caps.now s.new.memory }
+{
+    match f.opcode / 16 {
+        0x8 => neg_row(caps, layout, bits, f, s),
+        0xb => mov_row(caps, layout, bits, f, s),
+        0xd => end_row(caps, layout, bits, f, s),
+        _ => operation_row(caps, layout, bits, f, s),
+    }
 }
 
 /// The address that is offset from a base.
@@ -72,19 +136,47 @@ fn at_base(f: SlotFields, base: u64) -> u64
 }
 
 /// LDX in the mode MEM.
+fn mem_row(caps: &Caps, layout: &Layout, f: SlotFields, s: &mut FlatState) -> Option<()>
+    requires sized { IsSized caps.now s.old.memory }
+    requires slot { s.old.slot < 2 ^ 62 }
+    ensures row { GivesState result (flat_state s.new) (mem_row caps.now (layout_of layout.now) (slot_fields f) (flat_state s.old)) }
+    ensures sized { IsSized caps.now s.new.memory }
+{
+    let base = get(s, f.src)?;
+    load(caps, layout, width_of(f.opcode), f.dst, at_base(f, base), s)?;
+    s.slot += 1;
+    Some(())
+}
+
+/// LDX in the mode MEMSX.
+fn memsx_row(caps: &Caps, layout: &Layout, f: SlotFields, s: &mut FlatState) -> Option<()>
+    requires sized { IsSized caps.now s.old.memory }
+    requires slot { s.old.slot < 2 ^ 62 }
+    ensures row { GivesState result (flat_state s.new) (memsx_row caps.now (layout_of layout.now) (slot_fields f) (flat_state s.old)) }
+    ensures sized { IsSized caps.now s.new.memory }
+{
+    let width = signed_width_of(f.opcode)?;
+    let base = get(s, f.src)?;
+    load_signed(caps, layout, width, f.dst, at_base(f, base), s)?;
+    s.slot += 1;
+    Some(())
+}
+
+/// LDX in the modes MEM and MEMSX.
 fn ldx_row(caps: &Caps, layout: &Layout, f: SlotFields, s: &mut FlatState) -> Option<()>
     requires sized { IsSized caps.now s.old.memory }
     requires slot { s.old.slot < 2 ^ 62 }
     ensures row { GivesState result (flat_state s.new) (ldx_row caps.now (layout_of layout.now) (slot_fields f) (flat_state s.old)) }
     ensures sized { IsSized caps.now s.new.memory }
 {
-    if f.opcode / 32 != 3 || f.imm != 0 {
+    if f.imm != 0 {
         return None;
     }
-    let base = get(s, f.src)?;
-    load(caps, layout, width_of(f.opcode), f.dst, at_base(f, base), s)?;
-    s.slot += 1;
-    Some(())
+    match f.opcode / 32 {
+        3 => mem_row(caps, layout, f, s),
+        4 => memsx_row(caps, layout, f, s),
+        _ => None,
+    }
 }
 
 /// ST in the mode MEM.
@@ -167,6 +259,44 @@ fn ja_row(caps: &Caps, layout: &Layout, f: SlotFields, s: &mut FlatState) -> Opt
     Some(())
 }
 
+/// JA by the immediate.
+fn ja32_row(caps: &Caps, layout: &Layout, f: SlotFields, s: &mut FlatState) -> Option<()>
+    requires sized { IsSized caps.now s.old.memory }
+    requires slot { s.old.slot < 2 ^ 62 }
+    ensures row { GivesState result (flat_state s.new) (ja32_row caps.now (layout_of layout.now) (slot_fields f) (flat_state s.old)) }
+    ensures sized { IsSized caps.now s.new.memory }
+{
+    if f.dst != 0 || f.src != 0 || f.offset != 0 {
+        return None;
+    }
+    s.slot = (s.slot + 1).wrapping_add(signed32(f.imm));
+    Some(())
+}
+
+/// A comparison of JMP and JMP32.
+fn branch_row(
+    caps: &Caps,
+    layout: &Layout,
+    bits: Bits,
+    f: SlotFields,
+    s: &mut FlatState,
+) -> Option<()>
+    requires sized { IsSized caps.now s.old.memory }
+    requires slot { s.old.slot < 2 ^ 62 }
+    ensures row { GivesState result (flat_state s.new) (branch_row caps.now (layout_of layout.now) bits (slot_fields f) (flat_state s.old)) }
+    ensures sized { IsSized caps.now s.new.memory }
+{
+    let comparison = Comparison::of(f.opcode / 16)?;
+    let x = get(s, f.dst)?;
+    let y = operand(f, s)?;
+    s.slot = if taken(bits, comparison, x, y) {
+        (s.slot + 1).wrapping_add(signed16(f.offset))
+    } else {
+        s.slot + 1
+    };
+    Some(())
+}
+
 /// CALL of a helper.
 fn call_row(
     alloc: Global,
@@ -207,15 +337,21 @@ fn act(
     ensures sized { IsSized caps.now s.new.memory }
 {
     match f.opcode % 8 {
-        7 => Ok(alu64_row(caps, layout, f, s)),
+        4 => Ok(alu_row(caps, layout, Bits::Bits32, f, s)),
+        7 => Ok(alu_row(caps, layout, Bits::Bits64, f, s)),
         1 => Ok(ldx_row(caps, layout, f, s)),
         2 => Ok(st_row(caps, layout, f, s)),
         3 => Ok(stx_row(caps, layout, f, s)),
-        _ => match f.opcode {
+        class => match f.opcode {
             0x18 => Ok(wide_row(caps, layout, f, next, s)),
             0x05 => Ok(ja_row(caps, layout, f, s)),
+            0x06 => Ok(ja32_row(caps, layout, f, s)),
             0x85 => call_row(alloc, caps, layout, f, s),
-            _ => Ok(None),
+            _ => match class {
+                5 => Ok(branch_row(caps, layout, Bits::Bits64, f, s)),
+                6 => Ok(branch_row(caps, layout, Bits::Bits32, f, s)),
+                _ => Ok(None),
+            },
         },
     }
 }

@@ -66,7 +66,7 @@ fn program(alloc: Global, c: Choice) -> Result<Vec<u8>, Fail> {
     Ok(code)
 }
 
-fn put(code: &mut Vec<u8>, slots: &[[u8; 8]]) -> Result<(), Fail> {
+pub fn put(code: &mut Vec<u8>, slots: &[[u8; 8]]) -> Result<(), Fail> {
     for slot in slots {
         code.extend_from_slice(slot)?;
     }
@@ -74,7 +74,7 @@ fn put(code: &mut Vec<u8>, slots: &[[u8; 8]]) -> Result<(), Fail> {
 }
 
 /// Whether a call of the code answers as the plain run does.
-fn agrees(
+pub fn agrees(
     alloc: Global,
     code: &[u8],
     layout: Layout,
@@ -86,7 +86,7 @@ fn agrees(
     if !is_layout(&CAPS, &layout) || input.len() > usize::from(CAPS.in_cap) {
         Err("no layout")?;
     }
-    match flat_run(alloc, &CAPS, code, &layout, object, 7, input, 40)? {
+    match flat_run(alloc, &CAPS, code, &layout, object, 7, input, 100)? {
         Ending::Ended {
             code,
             output,

@@ -2,7 +2,7 @@
 
 use super::method;
 use crate::{Op, Refusal, Rule, one_table, verify};
-use bpf_decode::{ClassImage, Insn, Method, Operand, Register, encode, read_image};
+use bpf_decode::{Bits, ClassImage, Insn, Method, Operand, Register, encode, read_image};
 use bpf_machine::{Caps, Ending, Layout, flat_run, is_layout};
 use std::alloc::Global;
 use std::process::Abort;
@@ -163,6 +163,7 @@ fn runs_what_it_accepts(rt: HostRuntime) -> Result<(), Fail> {
 fn verifies_the_largest_class(rt: HostRuntime) -> Result<(), Fail> {
     let alloc = rt.alloc();
     let zero = Insn::Mov {
+        bits: Bits::Bits64,
         dst: Register::new(0).ok_or("no register")?,
         source: Operand::Immediate(0),
     };
