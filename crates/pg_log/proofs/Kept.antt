@@ -1,0 +1,115 @@
+-- What a group keeps of its list, where it is read and where a request is added.
+use Rattle.std.proofs.Common.{◌≡◌, ℕ, zero, suc, true, false, List, [], ◌∷◌, ◌++◌, length, take, drop, ◌+◌, Some, None, Result, Ok, Err, is_err, OnErr, OnOk, option_map, refl, ap, sym, ◌∙◌, subst, arith}
+use Rattle.std.specs.List.{slice_get}
+use Rattle.std.specs.Int.{w64, cast_unsigned}
+use Rattle.std.specs.FinMap as fin
+use Rattle.std.proofs.lemmas.Option.{none-some, same_Some, slice_get-map, slice_get_within}
+use Rattle.pg_log.specs.declared.entry.Entry.{Entry}
+use Rattle.pg_log.specs.declared.places.Places.{Places}
+use Rattle.pg_log.specs.Requests.{ClientRequest}
+use Rattle.pg_log.specs.Log.{Classes, Objects, Legal, after, store, fold, fold_from, reply_to, reply_at}
+use Rattle.pg_log.specs.Refusals.{place_of}
+use Rattle.pg_log.specs.Objects.{changed}
+use Rattle.pg_log.specs.Places.{ArePlaces}
+use Rattle.pg_log.specs.Entries.{IsOutcomeOn, AreEntries, requests_of, Keeps}
+use Rattle.std.proofs.lemmas.List.{length-map, take-append-drop}
+use Rattle.pg_log.proofs.Lists.{get_before, get_last, take_get}
+use Rattle.pg_log.proofs.Legal.{legal_beginning}
+use Rattle.pg_log.proofs.Fold.{fold_from-append}
+use Rattle.pg_log.proofs.Standing.{same_place, place_of-has}
+use Rattle.pg_log.proofs.Named.{changed-store}
+
+pub on_err : {T E P : Type 0} (r : Result T E) → is_err r ≡ true → OnErr r P → P
+on_err (Ok x) e h = absurd (cc)
+on_err (Err x) e h = h
+
+pub on_ok : {T E P : Type 0} (r : Result T E) → is_err r ≡ false → OnOk r P → P
+on_ok (Ok x) e h = h
+on_ok (Err x) e h = absurd (cc)
+
+pub requests_of-push : (es : List Entry) (e : Entry) → requests_of (es ++ e ∷ []) ≡ requests_of es ++ e.request ∷ []
+requests_of-push [] e = refl
+requests_of-push (x ∷ es) e = ap (λ l. x.request ∷ l) (requests_of-push es e)
+
+pub entry_at : (classes : Classes) (objects : Objects) (es : List Entry) (k : ℕ) (e : Entry) → AreEntries classes objects es → slice_get es k ≡ Some e →
+    IsOutcomeOn classes (fold_from classes objects (take k (requests_of es))) e.request e.code e.output.items e.change
+entry_at classes objects [] k e h p = absurd (none-some e p)
+entry_at classes objects (x ∷ es) zero e h p =
+    let P : Entry → Type 0 = λ w. IsOutcomeOn classes objects w.request w.code w.output.items w.change in
+    subst P (same_Some x e p) h.0
+entry_at classes objects (x ∷ es) (suc k) e h p = entry_at classes (after classes objects x.request) es k e h.1 p
+
+pub reply_made : (classes : Classes) (es : List Entry) (k : ℕ) (e : Entry) → AreEntries classes fin.empty es → slice_get es k ≡ Some e →
+    Some (record { code = cast_unsigned w64 e.code; output = e.output.items }) ≡ reply_at classes (requests_of es) k
+reply_made classes es k e h p =
+    ap (λ o. Some (record { code = o.code; output = o.output })) (entry_at classes fin.empty es k e h p).made
+    ∙ ap (reply_to classes (fold classes (take k (requests_of es)))) (sym (slice_get-map (λ (w : Entry). w.request) es k ∙ ap (λ o. option_map (λ (w : Entry). w.request) o) p))
+
+pub no_entry : (classes : Classes) (es : List Entry) (k : ℕ) → slice_get es k ≡ None → None ≡ reply_at classes (requests_of es) k
+no_entry classes es k p =
+    ap (reply_to classes (fold classes (take k (requests_of es)))) (sym (slice_get-map (λ (w : Entry). w.request) es k ∙ ap (λ o. option_map (λ (w : Entry). w.request) o) p))
+
+kept_push : (classes : Classes) (objects : Objects) (es : List Entry) (e : Entry) → AreEntries classes objects es →
+    IsOutcomeOn classes (fold_from classes objects (requests_of es)) e.request e.code e.output.items e.change → AreEntries classes objects (es ++ e ∷ [])
+kept_push classes objects [] e h o = (o, tt)
+kept_push classes objects (x ∷ es) e h o = (h.0, kept_push classes (after classes objects x.request) es e h.1 o)
+
+folded_push : (classes : Classes) (xs : List ClientRequest) (e : Entry) → IsOutcomeOn classes (fold classes xs) e.request e.code e.output.items e.change →
+    changed (fold classes xs) e.request.object e.change ≡ fold classes (xs ++ e.request ∷ [])
+folded_push classes xs e o =
+    changed-store (fold classes xs) e.request.object e.change
+    ∙ ap (λ w. store (fold classes xs) e.request.object w.object) o.made
+    ∙ sym (fold_from-append classes fin.empty xs (e.request ∷ []))
+
+-- what is kept, with one entry more
+pub keeps_push : (classes : Classes) (es : List Entry) (objects next : Objects) (places more : Places) (e : Entry) →
+    Keeps classes es objects places → Legal classes (requests_of es ++ e.request ∷ []) →
+    IsOutcomeOn classes (fold classes (requests_of es)) e.request e.code e.output.items e.change →
+    next ≡ changed objects e.request.object e.change → ArePlaces more (requests_of es ++ e.request ∷ []) →
+    Keeps classes (es ++ e ∷ []) next more
+keeps_push classes es objects next places more e k l o is at =
+    let P : List ClientRequest → Type 0 = Legal classes in
+    let Q : List ClientRequest → Type 0 = ArePlaces more in
+    let q = sym (requests_of-push es e) in
+    record {
+      legal = subst P q l;
+      kept = kept_push classes fin.empty es e k.kept o;
+      folded = is ∙ ap (λ w. changed w e.request.object e.change) k.folded ∙ folded_push classes (requests_of es) e o ∙ ap (fold classes) q;
+      indexed = subst Q q at;
+    }
+
+-- what is kept, where nothing was added
+pub keeps_same : (classes : Classes) (es fs : List Entry) (objects next : Objects) (places more : Places) →
+    Keeps classes es objects places → fs ≡ es → next ≡ objects → ArePlaces more (requests_of es) → Keeps classes fs next more
+keeps_same classes es fs objects next places more k p q at =
+    let P : List Entry → Type 0 = λ w. Keeps classes w next more in
+    subst P (sym p) (record { legal = k.legal; kept = k.kept; folded = q ∙ k.folded; indexed = at })
+
+-- what may follow a list isn't of a logged pair
+pub fresh : (classes : Classes) (xs : List ClientRequest) (r : ClientRequest) → Legal classes (xs ++ r ∷ []) → place_of r.client r.number xs ≡ None
+fresh classes xs r l =
+    elim (place_of r.client r.number xs) as (λ o. place_of r.client r.number xs ≡ o → o ≡ None) [
+      | None ↦ λ p. refl
+      | Some k ↦ λ p.
+          let w = place_of-has xs r.client r.number k p in
+          let within = slice_get_within xs k w.0 w.1 in
+          let same = same_place classes (xs ++ r ∷ []) l k (length xs) w.0 r (get_before xs (r ∷ []) k within ∙ w.1) (get_last xs r) w.2 w.3 in
+          absurd (omega (arith, within, same))
+    ] refl
+
+pub length-requests : (es : List Entry) (xs : List ClientRequest) → requests_of es ≡ xs → length es ≡ length xs
+length-requests es xs e = sym (length-map es (λ (w : Entry). w.request)) ∙ ap (λ l. length l) e
+
+requests_at : (es : List Entry) (k : ℕ) (e : Entry) → slice_get es k ≡ Some e → slice_get (requests_of es) k ≡ Some e.request
+requests_at es k e p = slice_get-map (λ (w : Entry). w.request) es k ∙ ap (λ o. option_map (λ (w : Entry). w.request) o) p
+
+-- the entry at a place may follow those before it
+pub entry_follows : (classes : Classes) (es : List Entry) (k : ℕ) (e : Entry) → Legal classes (requests_of es) → slice_get es k ≡ Some e →
+    Legal classes (take k (requests_of es) ++ e.request ∷ [])
+entry_follows classes es k e l p =
+    let P : List ClientRequest → Type 0 = Legal classes in
+    subst P (take_get (requests_of es) k e.request (requests_at es k e p))
+    (legal_beginning classes (take (k + 1) (requests_of es)) (drop (k + 1) (requests_of es)) (subst P (sym (take-append-drop (k + 1) (requests_of es))) l))
+
+pub entry_next : (es : List Entry) (k : ℕ) (e : Entry) → slice_get es k ≡ Some e → take k (requests_of es) ++ e.request ∷ [] ≡ take (k + 1) (requests_of es)
+entry_next es k e p = sym (take_get (requests_of es) k e.request (requests_at es k e p))

@@ -1,0 +1,10 @@
+pub mod Lists
+pub mod Legal
+pub mod Fold
+pub mod Standing
+pub mod Tables
+pub mod Exact
+pub mod Indexed
+pub mod Named
+pub mod Kept
+pub mod Ran

@@ -1,0 +1,89 @@
+-- What running a request tells: refusals, one by one, and the outcome.
+use Rattle.std.proofs.Common.{◌≡◌, ℕ, ℤ, ◌<◌, ◌≤◌, true, false, cond, nat_lt, nat_le, List, [], ◌∷◌, ◌++◌, length, Option, Some, None, ap, sym, ◌∙◌, subst, arith}
+use Rattle.std.specs.List.{slice_get, AllByRecursion}
+use Rattle.std.specs.FinMap as fin
+use Rattle.std.specs.Str.{bytes_eq}
+use Rattle.std.proofs.lemmas.Option.{none-some, same_Some}
+use Rattle.std.proofs.lemmas.Bool.Decides.{nat_tests}
+use mathlib.Core.List.{IsPrefix}
+use Rattle.bpf_decode.specs.Class.{ClassMethod, IsMethod, IsClass}
+use Rattle.bpf_machine.specs.Object.{Object}
+use Rattle.bpf_machine.specs.Safe.{OutcomesAreOne}
+use Rattle.verifier.specs.Verified.{method_named}
+use Rattle.interp.specs.declared.change.Change.{Change}
+use Rattle.interp.specs.declared.outcome.Outcome.{Outcome}
+use Rattle.interp.specs.Plain.{Answers}
+use Rattle.pg_log.specs.declared.log_error.LogError.TheVariants.{LogFull, StaleNumber, InputTooLong}
+use Rattle.pg_log.specs.Requests.{ClientRequest}
+use Rattle.pg_log.specs.Log.{Classes, Objects, Legal, CanRun, method_in, outcome_of_method}
+use Rattle.pg_log.specs.Refusals.{refusal_of_method, refusal_of_class, refusal, is_reached}
+use Rattle.pg_log.specs.Entries.{IsOutcome, IsOutcomeOn}
+use Rattle.pg_log.proofs.Legal.{legal_push}
+use Rattle.pg_log.proofs.Exact.{follows_unrefused}
+use Rattle.pg_log.proofs.Tables.{CanRun-more, loaded-more}
+
+pub refusal-full : (classes : Classes) (xs : List ClientRequest) (r : ClientRequest) → 65536 ≤ length xs → refusal classes xs r ≡ Some LogFull
+refusal-full classes xs r h =
+    let t : nat_le 65536 (length xs) ≡ true = grind (arith, nat_tests) in
+    ap (λ b. cond b (Some LogFull) (cond (is_reached r.client r.number xs) (Some StaleNumber) (refusal_of_class (slice_get classes r.class) r))) t
+
+refusal-room : (classes : Classes) (xs : List ClientRequest) (r : ClientRequest) → length xs < 65536 →
+    refusal classes xs r ≡ cond (is_reached r.client r.number xs) (Some StaleNumber) (refusal_of_class (slice_get classes r.class) r)
+refusal-room classes xs r h =
+    let t : nat_le 65536 (length xs) ≡ false = grind (arith, nat_tests) in
+    ap (λ b. cond b (Some LogFull) (cond (is_reached r.client r.number xs) (Some StaleNumber) (refusal_of_class (slice_get classes r.class) r))) t
+
+pub refusal-stale : (classes : Classes) (xs : List ClientRequest) (r : ClientRequest) → length xs < 65536 → is_reached r.client r.number xs ≡ true → refusal classes xs r ≡ Some StaleNumber
+refusal-stale classes xs r h e =
+    refusal-room classes xs r h ∙ ap (λ b. cond b (Some StaleNumber) (refusal_of_class (slice_get classes r.class) r)) e
+
+pub refusal-class : (classes : Classes) (xs : List ClientRequest) (r : ClientRequest) → length xs < 65536 → is_reached r.client r.number xs ≡ false →
+    refusal classes xs r ≡ refusal_of_class (slice_get classes r.class) r
+refusal-class classes xs r h e =
+    refusal-room classes xs r h ∙ ap (λ b. cond b (Some StaleNumber) (refusal_of_class (slice_get classes r.class) r)) e
+
+method_named-is : (class : List ClassMethod) (name : List ℕ) (m : ClassMethod) → AllByRecursion IsMethod class → method_named class name ≡ Some m → IsMethod m
+method_named-is [] name m h e = absurd (none-some m e)
+method_named-is (x ∷ class) name m h e =
+    let P : ClassMethod → Type 0 = IsMethod in
+    elim (bytes_eq x.name name) as (λ b. cond b (Some x) (method_named class name) ≡ Some m → IsMethod m) [
+      | true ↦ λ q. subst P (same_Some x m q) h.0
+      | false ↦ λ q. method_named-is class name m h.1 q
+    ] e
+
+unrefused-method : (o : Option ClassMethod) (m : ClassMethod) (r : ClientRequest) → o ≡ Some m → length r.input ≤ m.in_cap → refusal_of_method o r ≡ None
+unrefused-method o m r e h =
+    let t : nat_lt m.in_cap (length r.input) ≡ false = grind (arith, nat_tests) in
+    ap (λ w. refusal_of_method w r) e ∙ ap (λ b. cond b (Some InputTooLong) None) t
+
+-- an answered call is the outcome of the method
+pub ran : OutcomesAreOne → (class : List ClassMethod) → IsClass class → (object : Object) (r : ClientRequest) (o : Outcome) →
+    Answers class r.method object r.client r.input o →
+    (refusal_of_method (method_named class r.method) r ≡ None) × IsOutcome (method_named class r.method) object r o.code o.output.items o.change
+unfolding outcome_of_method
+ran one class is object r o a =
+    let m = method_named-is class r.method a.method is.methods a.named in
+    let same = one a.method (omega (arith, m.in_cap)) (omega (arith, m.out_cap)) object r.client r.input _ o.steps a.bounded a.runs in (
+      unrefused-method (method_named class r.method) a.method r a.named a.short,
+      record { made = sym same ∙ ap (λ w. outcome_of_method w object r) (sym a.named); from_before = a.change },
+    )
+
+more-outcome : (classes more : Classes) (objects : Objects) (r : ClientRequest) (code : ℤ) (output : List ℕ) (change : Change) → CanRun classes r →
+    IsOutcomeOn classes objects r code output change → IsOutcomeOn (classes ++ more) objects r code output change
+more-outcome classes more objects r code output change c o =
+    let P : Option (List ClassMethod) → Type 0 = λ w. IsOutcome (method_in w r.method) (fin.get objects r.object) r code output change in
+    subst P (sym (loaded-more classes more r c)) o
+
+-- what may follow by the given table may follow by the named one, with the same outcome
+pub next_legal : (table classes : Classes) (xs : List ClientRequest) (r : ClientRequest) → IsPrefix table classes → Legal classes xs → refusal table xs r ≡ None → Legal classes (xs ++ r ∷ [])
+next_legal table classes xs r pre l e =
+    let f = follows_unrefused table xs r e in
+    let P : Classes → Type 0 = λ w. CanRun w r in
+    legal_push classes xs r l (record { room = f.room; run = subst P pre.1 (CanRun-more table pre.0 r f.run); above = f.above })
+
+pub next_outcome : (table classes : Classes) (xs : List ClientRequest) (objects : Objects) (r : ClientRequest) (code : ℤ) (output : List ℕ) (change : Change) →
+    IsPrefix table classes → refusal table xs r ≡ None → IsOutcomeOn table objects r code output change → IsOutcomeOn classes objects r code output change
+next_outcome table classes xs objects r code output change pre e o =
+    let f = follows_unrefused table xs r e in
+    let P : Classes → Type 0 = λ w. IsOutcomeOn w objects r code output change in
+    subst P pre.1 (more-outcome table pre.0 objects r code output change f.run o)

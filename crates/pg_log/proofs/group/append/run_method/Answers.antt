@@ -1,0 +1,16 @@
+use Rattle.std.proofs.Common.{◌∙◌, ℕ, List, subst}
+use Rattle.interp.specs.Plain.{given_object, Answers}
+use Rattle.pg_log.proofs.Ran.{ran}
+use Rattle.pg_log.proofs.group.append.run_method.Goals as goal
+
+pub returns-in-Ok-clause-ok : goal.returns-in-Ok-clause-ok
+returns-in-Ok-clause-ok c =
+    let class = c.args.class.now in
+    let r = c.args.request.now in
+    let object = given_object c.args.object in
+    let o = c.in-Ok.outcome in
+    let P : List ℕ → Type 0 = λ w. Answers class w object c.get.result c.input.result.now o in
+    let Q : ℕ → Type 0 = λ w. Answers class r.method object w c.input.result.now o in
+    let R : List ℕ → Type 0 = λ w. Answers class r.method object r.client w o in
+    ran c.outcomes.ensures class c.methods.ensures.class object r o
+    (subst R c.input.ensures (subst Q (c.get.ensures.value ∙ c.client.ensures) (subst P c.method.ensures c.in-Ok.ensures.ok)))

@@ -1,0 +1,49 @@
+-- What a group keeps of its list.
+use Rattle.std.specs.Prelude.{◌≡◌, ℕ, ℤ, List, [], ◌∷◌, Option, Some, None, map}
+use Rattle.std.specs.Borrow.{Bor}
+use Rattle.std.specs.FinMap as fin
+use Rattle.std.specs.Int.{w64, cast_unsigned}
+use Rattle.bpf_decode.specs.Class.{ClassMethod}
+use Rattle.bpf_machine.specs.Object.{Object}
+use Rattle.bpf_machine.specs.State.{Outcome}
+use Rattle.interp.specs.declared.change.Change.{Change}
+use Rattle.interp.specs.Plain.{after_change, IsChangeOf}
+use Rattle.pg_log.specs.declared.entry.Entry.{Entry}
+use Rattle.pg_log.specs.declared.places.Places.{Places}
+use Rattle.pg_log.specs.Requests.{ClientRequest}
+use Rattle.pg_log.specs.Log.{Classes, Objects, Reply, Legal, method_of, outcome_of_method, after, fold}
+use Rattle.pg_log.specs.Places.{ArePlaces}
+
+-- a reply and a change as the machine's outcome beside an object
+abbrev pub outcome_made : Object → ℤ → List ℕ → Change → Outcome
+outcome_made object code output change = record { code = cast_unsigned w64 code; output = output; object = after_change object change }
+
+-- code, output and change are the machine's outcome of a method beside an object
+pub record IsOutcome (method : Option ClassMethod) (object : Object) (r : ClientRequest) (code : ℤ) (output : List ℕ) (change : Change) : Type 0 where
+  pub made : outcome_made object code output change ≡ outcome_of_method method object r
+  pub from_before : IsChangeOf object change
+
+-- those of the request on these objects
+abbrev pub IsOutcomeOn : Classes → Objects → ClientRequest → ℤ → List ℕ → Change → Type 0
+IsOutcomeOn classes objects r code output change = IsOutcome (method_of classes r) (fin.get objects r.object) r code output change
+
+-- each entry's reply and change are those of its request on the objects that the requests before it made
+abbrev pub AreEntries : Classes → Objects → List Entry → Type 0
+AreEntries classes objects [] = Unit {0}
+AreEntries classes objects (e ∷ es) =
+    IsOutcomeOn classes objects e.request e.code e.output.items e.change × AreEntries classes (after classes objects e.request) es
+
+abbrev pub requests_of : List Entry → List ClientRequest
+requests_of es = map (λ e. e.request) es
+
+-- what the code gives of a reply
+abbrev pub given_reply : Option (ℤ × Bor (List ℕ)) → Option Reply
+given_reply None = None
+given_reply (Some p) = Some (record { code = cast_unsigned w64 p.0; output = p.1.now })
+
+-- What a group keeps: a legal log, replies and changes of its requests, their fold, and their places.
+pub record Keeps (classes : Classes) (entries : List Entry) (objects : Objects) (places : Places) : Type 0 where
+  pub legal : Legal classes (requests_of entries)
+  pub kept : AreEntries classes fin.empty entries
+  pub folded : objects ≡ fold classes (requests_of entries)
+  pub indexed : ArePlaces places (requests_of entries)

@@ -1,0 +1,67 @@
+-- The laws of legal lists, of their objects and of their replies.
+use Rattle.std.specs.Prelude.{◌≡◌, ℕ, ◌<◌, ◌≤◌, List, [], ◌∷◌, ◌++◌, ◌↔◌, Some, None, slice_get, length}
+use Rattle.pg_log.specs.Requests.{ClientRequest}
+use Rattle.pg_log.specs.Log.{Classes, Legal, after, fold, reply_at, reply_to}
+use Rattle.pg_log.specs.Refusals.{Follows, place_of, refusal, first_refusal}
+
+-- every beginning of a legal list is legal
+abbrev pub BeginningsAreLegal : Type 0
+BeginningsAreLegal = (classes : Classes) (xs ys : List ClientRequest) → Legal classes (xs ++ ys) → Legal classes xs
+
+abbrev pub EmptyIsLegal : Type 0
+EmptyIsLegal = (classes : Classes) → Legal classes []
+
+-- a list with one request more is legal exactly where the list is and the request may follow it
+abbrev pub AppendIsAStep : Type 0
+AppendIsAStep = (classes : Classes) (xs : List ClientRequest) (r : ClientRequest) → Legal classes (xs ++ r ∷ []) ↔ (Legal classes xs × Follows classes xs r)
+
+-- the objects after one request more
+abbrev pub FoldIsAStep : Type 0
+FoldIsAStep = (classes : Classes) (xs : List ClientRequest) (r : ClientRequest) → fold classes (xs ++ r ∷ []) ≡ after classes (fold classes xs) r
+
+-- the replies of a beginning don't depend on what follows
+abbrev pub RepliesStay : Type 0
+RepliesStay = (classes : Classes) (xs ys : List ClientRequest) (k : ℕ) → k < length xs → reply_at classes (xs ++ ys) k ≡ reply_at classes xs k
+
+-- the reply of one request more is that of the request on the objects before it
+abbrev pub LastReply : Type 0
+LastReply = (classes : Classes) (xs : List ClientRequest) (r : ClientRequest) → reply_at classes (xs ++ r ∷ []) (length xs) ≡ reply_to classes (fold classes xs) (Some r)
+
+-- there is a reply at each place of a list, and at no other
+abbrev pub RepliesAreThere : Type 0
+RepliesAreThere = (classes : Classes) (xs : List ClientRequest) (k : ℕ) → (reply_at classes xs k ≡ None) ↔ (length xs ≤ k)
+
+-- each pair of client and number stands at most once in a legal list
+abbrev pub PairsStandOnce : Type 0
+PairsStandOnce =
+    (classes : Classes) (xs : List ClientRequest) → Legal classes xs → (i j : ℕ) (a b : ClientRequest) →
+    slice_get xs i ≡ Some a → slice_get xs j ≡ Some b → a.client ≡ b.client → a.number ≡ b.number → i ≡ j
+
+-- so the place of a pair is the one at which it stands
+abbrev pub PlaceIsThePairs : Type 0
+PlaceIsThePairs =
+    (classes : Classes) (xs : List ClientRequest) → Legal classes xs → (i : ℕ) (a : ClientRequest) →
+    slice_get xs i ≡ Some a → place_of a.client a.number xs ≡ Some i
+
+-- the request at the place of a pair has that client and number
+abbrev pub PlaceHasThePair : Type 0
+PlaceHasThePair =
+    (xs : List ClientRequest) (client number place : ℕ) → place_of client number xs ≡ Some place →
+    (a : ClientRequest) × (slice_get xs place ≡ Some a) × (a.client ≡ client) × (a.number ≡ number)
+
+-- What a table with classes added makes of a legal list: it is legal, with the same objects and replies.
+pub record SameWithMore (classes more : Classes) (xs : List ClientRequest) : Type 0 where
+  pub legal : Legal (classes ++ more) xs
+  pub same_objects : fold (classes ++ more) xs ≡ fold classes xs
+  pub same_replies : (k : ℕ) → reply_at (classes ++ more) xs k ≡ reply_at classes xs k
+
+abbrev pub ClassesAdded : Type 0
+ClassesAdded = (classes more : Classes) (xs : List ClientRequest) → Legal classes xs → SameWithMore classes more xs
+
+-- a request may follow a list exactly where there is no refusal
+abbrev pub RefusalsAreExact : Type 0
+RefusalsAreExact = (classes : Classes) (xs : List ClientRequest) (r : ClientRequest) → (refusal classes xs r ≡ None) ↔ Follows classes xs r
+
+-- a list is legal exactly where each of its requests can follow those before it
+abbrev pub ListsAreExact : Type 0
+ListsAreExact = (classes : Classes) (xs : List ClientRequest) → (first_refusal classes xs ≡ None) ↔ Legal classes xs

@@ -1,0 +1,117 @@
+ghost use Rattle.std.specs.Prelude.{◌≡◌, ◌≤◌, ◌==◌, [], length, IfSome, IfNone, MatchOption, Some, None};
+ghost use Rattle.std.specs.Int.{w64, cast_unsigned};
+ghost use Rattle.std.specs.FinMap as fin;
+ghost use Rattle.interp.specs.Plain.{given_object};
+ghost use Rattle.pg_log.specs.Log.{Legal, fold, reply_at};
+ghost use Rattle.pg_log.specs.Refusals.{place_of};
+ghost use Rattle.pg_log.specs.Entries.{AreEntries, requests_of, given_reply};
+
+mod append;
+mod replay;
+
+use crate::classes::Classes;
+use crate::client_id::ClientId;
+use crate::entry::Entry;
+use crate::objects::Objects;
+use crate::places::Places;
+use crate::request_number::RequestNumber;
+use interp::{Object, ObjectName};
+use std::alloc::Global;
+use std::marker::{Model, PhantomData};
+
+/// The log of a group with the objects that it makes, for the classes that `C` names. Contracts see the list of its
+/// requests, which is legal: objects, replies and the index by client are always that list's.
+#[derive(Drop)]
+pub struct Group<C: Classes> {
+    of: PhantomData<C>,
+    alloc: Global,
+    entries: Vec<Entry>,
+    objects: Objects,
+    places: Places,
+}
+
+impl<C: Classes> Model for Group<C> {
+    ghost use Rattle.std.specs.Prelude.{List};
+    ghost use Rattle.pg_log.specs.Requests.{ClientRequest};
+    ghost use Rattle.pg_log.specs.Entries.{Keeps, requests_of};
+
+    ghost Value = { List ClientRequest };
+
+    ghost view = { λ g. requests_of g.entries.items };
+
+    ghost invariant = { λ g. Keeps C.classes g.entries.items g.objects g.places };
+}
+
+/// The most entries that a log has.
+pub const LOG_LIMIT: usize = 65_536;
+
+impl<C: Classes> Group<C> {
+    /// A group with an empty log, and so without objects.
+    pub fn new(alloc: Global) -> Group<C>
+        ensures { result ≡ [] }
+    {
+        Group {
+            of: PhantomData,
+            alloc,
+            entries: Vec::new(alloc),
+            objects: Objects::new(alloc),
+            places: Places::new(alloc),
+        }
+    }
+
+    /// The entries, by place.
+    pub fn entries(&self) -> &[Entry]
+        ensures requests { requests_of result.now ≡ self.now }
+        ensures kept { AreEntries C.classes fin.empty result.now }
+        ensures legal { Legal C.classes self.now }
+    {
+        &self.entries
+    }
+
+    /// How many entries the log has, at most 65,536.
+    pub fn len(&self) -> usize
+        ensures value { result ≡ length self.now }
+        ensures limit { length self.now ≤ 65536 }
+    {
+        self.entries.len()
+    }
+
+    /// Whether the log has no entry.
+    pub fn is_empty(&self) -> bool
+        ensures { result ≡ (length self.now == 0) }
+    {
+        self.entries.is_empty()
+    }
+
+    /// The code and output of the request at a place. It is kept, and costs the same at each place.
+    pub fn reply_at(&self, place: usize) -> Option<(i64, &[u8])>
+        ensures { given_reply result ≡ reply_at C.classes self.now place }
+    {
+        match self.entries.get(place) {
+            Some(entry) => {
+                let code = entry.code;
+                Some((code, entry.output.as_slice()))
+            }
+            None => None,
+        }
+    }
+
+    /// The place of the client's request of that number, with its code and output. It costs a logarithm of the log's
+    /// length.
+    pub fn reply_of(&self, client: ClientId, number: RequestNumber) -> Option<(usize, i64, &[u8])>
+        ensures { MatchOption result
+            (place_of client number self.now ≡ None)
+            (λ r. (place_of client number self.now ≡ Some r.0) × (reply_at C.classes self.now r.0 ≡ Some (record { code = cast_unsigned w64 r.1; output = r.2.now }))) }
+    {
+        let place = self.places.place(client, number)?;
+        let (code, output) = self.reply_at(place)?;
+        Some((place, code, output))
+    }
+
+    /// The object of a name, if it exists. It costs a logarithm of the number of objects.
+    pub fn object(&self, name: &ObjectName) -> Option<&Object>
+        ensures { given_object result ≡ fin.get (fold C.classes self.now) name.now }
+    {
+        self.objects.get(name)
+    }
+}

@@ -1,0 +1,42 @@
+//! Laws of legal lists, of their objects and of their replies, for the proofs of the crates above. Each function does nothing.
+ghost use Rattle.pg_log.specs.Laws.{BeginningsAreLegal, EmptyIsLegal, AppendIsAStep, FoldIsAStep, RepliesStay, LastReply, RepliesAreThere, PairsStandOnce, PlaceIsThePairs, PlaceHasThePair, ClassesAdded, RefusalsAreExact, ListsAreExact};
+
+/// Every beginning of a legal list is legal, the empty list too; a list with one request more is legal exactly where
+/// the list is and the request may follow it.
+pub fn legal_lists()
+    ensures beginnings { BeginningsAreLegal }
+    ensures empty { EmptyIsLegal }
+    ensures append { AppendIsAStep }
+{}
+
+/// The objects of a list with one request more are those after that request.
+pub fn folds()
+    ensures { FoldIsAStep }
+{}
+
+/// The replies of a list: one at each place, that of the last request on the objects before it, and the same whatever
+/// follows.
+pub fn replies()
+    ensures there { RepliesAreThere }
+    ensures last { LastReply }
+    ensures stay { RepliesStay }
+{}
+
+/// A pair of client and number stands at most once in a legal list, and its place is the one at which it stands.
+pub fn pairs()
+    ensures once { PairsStandOnce }
+    ensures place { PlaceIsThePairs }
+    ensures there { PlaceHasThePair }
+{}
+
+/// A table with classes added makes the same of a legal list.
+pub fn classes_added()
+    ensures { ClassesAdded }
+{}
+
+/// A request may follow a list exactly where nothing refuses it, and a list is legal exactly where none of its requests
+/// is refused.
+pub fn refusals()
+    ensures requests { RefusalsAreExact }
+    ensures lists { ListsAreExact }
+{}

@@ -1,0 +1,71 @@
+ghost use Rattle.std.specs.Prelude.{◌≡◌};
+ghost use Rattle.pg_log.specs.Refusals.{number_of, name_of};
+ghost use Rattle.pg_log.specs.declared.log_error.LogError.TheVariants.{NoMemory};
+
+use std::alloc::{AllocError, AllocFailed};
+use thiserror::Error;
+
+/// Why a request isn't logged. It prints as number and name, as `2 StaleNumber`. Of several the first in the order 1, 2, 4, 5, 6, 3.
+#[derive(Clone, Copy, Debug, PartialEq, Eq, Error)]
+#[error("{} {}", self.number(), self.name())]
+pub enum LogError {
+    /// The log has 65,536 entries.
+    LogFull,
+    /// A greater number of the client is logged.
+    StaleNumber,
+    /// Memory was refused.
+    NoMemory,
+    /// No class of that id is loaded.
+    NoClass,
+    /// The class has no method of that name.
+    NoMethod,
+    /// The input is longer than the method's in_cap.
+    InputTooLong,
+}
+
+impl LogError {
+    /// The table of refusals: number and name.
+    fn row(self) -> (u8, &'static str)
+        ensures number { result.0 ≡ number_of self }
+        ensures name { result.1.now ≡ name_of self }
+    {
+        match self {
+            LogError::LogFull => (1, "LogFull"),
+            LogError::StaleNumber => (2, "StaleNumber"),
+            LogError::NoMemory => (3, "NoMemory"),
+            LogError::NoClass => (4, "NoClass"),
+            LogError::NoMethod => (5, "NoMethod"),
+            LogError::InputTooLong => (6, "InputTooLong"),
+        }
+    }
+
+    /// Its number, 1 to 6.
+    pub fn number(self) -> u8
+        ensures { result ≡ number_of self }
+    {
+        self.row().0
+    }
+
+    /// Its name.
+    pub fn name(self) -> &'static str
+        ensures { result.now ≡ name_of self }
+    {
+        self.row().1
+    }
+}
+
+impl From<AllocError> for LogError {
+    ghost from_gives = { λ _ e. e ≡ NoMemory };
+
+    fn from(_error: AllocError) -> LogError {
+        LogError::NoMemory
+    }
+}
+
+impl<T: Drop> From<AllocFailed<T>> for LogError {
+    ghost from_gives = { λ _ e. e ≡ NoMemory };
+
+    fn from(_error: AllocFailed<T>) -> LogError {
+        LogError::NoMemory
+    }
+}
