@@ -152,6 +152,7 @@ pub fn ordered(order: ByteOrder, width: EndWidth, m: u64) -> u64
     }
 }
 
+/// The low bits, as they are.
 #[inline(always)]
 fn kept(width: EndWidth, m: u64) -> u64
     ensures { result ≡ end_value ByteOrder.ToLittle width m }
@@ -163,6 +164,7 @@ fn kept(width: EndWidth, m: u64) -> u64
     }
 }
 
+/// The low bits, with their bytes in reverse.
 #[inline(always)]
 fn swapped(width: EndWidth, m: u64) -> u64
     ensures { result ≡ end_value ByteOrder.ToBig width m }

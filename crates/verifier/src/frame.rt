@@ -47,14 +47,11 @@ impl Frame {
         }
     }
 
-    /// The frame with another kind at that register.
-    fn with(self, register: usize, kind: Kind) -> Frame
-        requires { register < 11 }
-        ensures { result ≡ with_kind self register kind }
+    /// Gives a register another kind.
+    fn set(&mut self, dst: Register, kind: Kind)
+        ensures { self.new ≡ with_kind self.old dst kind }
     {
-        let mut kinds = self.kinds;
-        kinds[register] = kind;
-        Frame { kinds }
+        self.kinds[usize::from(dst.number())] = kind;
     }
 
     /// What two flows that meet leave.
@@ -71,17 +68,15 @@ impl Frame {
     }
 
     /// A helper answers any number in register 0 and leaves registers 1 to 5 unset.
-    fn after_call(self) -> Frame
-        ensures { result ≡ after_call self }
+    fn end_call(&mut self)
+        ensures { self.new ≡ after_call self.old }
     {
-        let mut kinds = self.kinds;
-        kinds[0] = Kind::Num(Known::any());
-        kinds[1] = Kind::Unset;
-        kinds[2] = Kind::Unset;
-        kinds[3] = Kind::Unset;
-        kinds[4] = Kind::Unset;
-        kinds[5] = Kind::Unset;
-        Frame { kinds }
+        self.kinds[0] = Kind::Num(Known::any());
+        self.kinds[1] = Kind::Unset;
+        self.kinds[2] = Kind::Unset;
+        self.kinds[3] = Kind::Unset;
+        self.kinds[4] = Kind::Unset;
+        self.kinds[5] = Kind::Unset;
     }
 
     /// The kind of what an instruction reads beside its destination.
@@ -96,16 +91,9 @@ impl Frame {
         }
     }
 
-    /// The frame with another kind of a register.
-    fn after(self, dst: Register, kind: Kind) -> Frame
-        ensures { result ≡ with_kind self dst kind }
-    {
-        self.with(usize::from(dst.number()), kind)
-    }
-
-    /// The frame after an instruction that no rule refuses.
-    pub fn flow(self, insn: &Insn) -> Frame
-        ensures { result ≡ flow insn.now self }
+    /// Goes on to the frame after an instruction that no rule refuses.
+    pub fn flow(&mut self, insn: &Insn)
+        ensures { self.new ≡ flow insn.now self.old }
     {
         match *insn {
             Insn::Alu {
@@ -115,36 +103,40 @@ impl Frame {
                 source,
             } => {
                 let x = self.kind(usize::from(dst.number()));
-                self.after(dst, Kind::alu(bits, operation, x, self.operand(source)))
+                let y = self.operand(source);
+                self.set(dst, Kind::alu(bits, operation, x, y));
             }
             Insn::Neg { bits, dst } => {
                 let x = self.kind(usize::from(dst.number()));
-                self.after(dst, x.neg(bits))
+                self.set(dst, x.neg(bits));
             }
-            Insn::Mov { bits, dst, source } => self.after(dst, self.operand(source).mov(bits)),
+            Insn::Mov { bits, dst, source } => {
+                let y = self.operand(source);
+                self.set(dst, y.mov(bits));
+            }
             Insn::MovSigned {
                 extension,
                 dst,
                 src,
             } => {
                 let y = self.kind(usize::from(src.number()));
-                self.after(dst, y.mov_signed(extension))
+                self.set(dst, y.mov_signed(extension));
             }
             Insn::End { order, width, dst } => {
                 let x = self.kind(usize::from(dst.number()));
-                self.after(dst, x.end(order, width))
+                self.set(dst, x.end(order, width));
             }
-            Insn::LoadWide { dst, value } => { self.after(dst, Kind::Num(Known::constant(value))) }
+            Insn::LoadWide { dst, value } => self.set(dst, Kind::Num(Known::constant(value))),
             Insn::Load { dst, .. } | Insn::LoadSigned { dst, .. } => {
-                self.after(dst, Kind::Num(Known::any()))
+                self.set(dst, Kind::Num(Known::any()));
             }
-            Insn::Call { .. } => self.after_call(),
+            Insn::Call { .. } => self.end_call(),
             Insn::Store { .. }
             | Insn::Jump { .. }
             | Insn::JumpLong { .. }
             | Insn::Branch { .. }
             | Insn::CallLocal { .. }
-            | Insn::Exit => self,
+            | Insn::Exit => {}
         }
     }
 }

@@ -55,22 +55,23 @@ fn visit(
     ensures rule { result ≡ rule_at caps.now code.now slot insn.now (frame_at table.old.items slot) }
     ensures table { table.new.items ≡ visited caps.now code.now slot insn.now table.old.items }
 {
-    let frame = match table.get(slot) {
+    let mut frame = match table.get(slot) {
         None => None,
         Some(frame) => *frame,
     };
     let refused = refusing_rule(caps, code, slot, insn, &frame);
     if let None = refused {
-        if let Some(frame) = frame {
-            merge_each(table, Edges::of(insn, slot), frame.flow(insn));
+        if let Some(frame) = &mut frame {
+            frame.flow(insn);
+            merge_each(table, Edges::of(insn, slot), frame);
         }
     }
     refused
 }
 
 /// A flow along each edge.
-fn merge_each(table: &mut Vec<Option<Frame>>, edges: Edges, flow: Frame)
-    ensures { table.new.items ≡ merged_each table.old.items edges flow }
+fn merge_each(table: &mut Vec<Option<Frame>>, edges: Edges, flow: &Frame)
+    ensures { table.new.items ≡ merged_each table.old.items edges flow.now }
 {
     match edges {
         Edges::Leaves => {}
@@ -83,13 +84,13 @@ fn merge_each(table: &mut Vec<Option<Frame>>, edges: Edges, flow: Frame)
 }
 
 /// A flow into a slot, joined with what has flowed into it.
-fn merge(table: &mut Vec<Option<Frame>>, slot: usize, flow: Frame)
-    ensures { table.new.items ≡ merged table.old.items slot flow }
+fn merge(table: &mut Vec<Option<Frame>>, slot: usize, flow: &Frame)
+    ensures { table.new.items ≡ merged table.old.items slot flow.now }
 {
     if let Some(place) = table.get_mut(slot) {
-        *place = match *place {
-            None => Some(flow),
-            Some(frame) => Some(frame.join(flow)),
-        };
+        match place {
+            None => *place = Some(*flow),
+            Some(frame) => *frame = frame.join(*flow),
+        }
     }
 }
