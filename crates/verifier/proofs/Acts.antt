@@ -1,7 +1,6 @@
 -- An instruction that no rule refuses makes its step, and the frame after it is true of the state after it.
-use Rattle.std.proofs.Common.{◌≡◌, ◌≢◌, ℕ, ℤ, pos, negsuc, zero, suc, ◌+◌, ◌-◌, ◌%◌, ◌^◌, ◌<◌, ◌≤◌, List, [], ◌∷◌, Option, Some, None, Bool, true, false, cond, refl, inl, inr, ap, ◌∙◌, sym, subst, arith, length, take, drop, ◌⊎◌}
-use Rattle.std.specs.Prelude.{slice_set, ◌==◌, nat_lt, FitsSigned}
-use Rattle.std.specs.Int.{w16, w32}
+use Rattle.std.proofs.Common.{◌≡◌, ◌≢◌, ℕ, ℤ, ◌+◌, ◌%◌, ◌^◌, ◌<◌, ◌≤◌, List, Option, Some, Bool, true, false, refl, inl, inr, ap, ◌∙◌, sym, subst, arith, drop, ◌⊎◌}
+use Rattle.std.specs.Prelude.{slice_set, ◌==◌, nat_lt}
 use Rattle.std.proofs.lemmas.Bool.{leb-true, le-leb, false≢true, cond-true}
 use Rattle.bpf_decode.specs.declared.access.Width.{Width}
 use Rattle.bpf_decode.specs.declared.access.Width.TheVariants.{Byte, Half, Word, Double}
@@ -23,20 +22,20 @@ use Rattle.bpf_machine.specs.declared.value.Value.{Value}
 use Rattle.bpf_machine.specs.declared.value.Value.TheVariants as values
 use Rattle.bpf_machine.specs.declared.caps.Caps.{Caps}
 use Rattle.bpf_machine.specs.Object.{part}
-use Rattle.bpf_machine.specs.State.{◌>>=◌, only, le_value, le_bytes, cells, put, may_store, size, State, reg, set_reg, go}
-use Rattle.bpf_machine.specs.Typed.{Typed, number, extended, operand_value, locate, typed_load, typed_load_signed, typed_store, typed_after, typed_act, typed_exit_of}
+use Rattle.bpf_machine.specs.State.{le_value, le_bytes, cells, put, may_store, size, set_reg, go}
+use Rattle.bpf_machine.specs.Typed.{Typed, number, extended, operand_value, locate, typed_after, typed_act, typed_exit_of}
 use Rattle.verifier.specs.declared.kind.Kind.{Kind}
 use Rattle.verifier.specs.declared.kind.Kind.TheVariants.{Unset, Num, Ptr}
 use Rattle.verifier.specs.declared.edges.Edges.{Edges}
 use Rattle.verifier.specs.declared.edges.Edges.TheVariants.{Leaves, One, Two}
-use Rattle.verifier.specs.Known.{constant, any, add_known, upper}
-use Rattle.verifier.specs.Kind.{HoldsKind, is_unset, is_num, is_ptr, alu_kind, neg_kind, mov_kind, signed_move_kind, end_kind, access_fits, is_read_only}
-use Rattle.verifier.specs.Frame.{Frame, kind_at, operand_kind, with_kind, flow, HoldsEach, Holds}
+use Rattle.verifier.specs.Known.{constant, any, add_known}
+use Rattle.verifier.specs.Kind.{is_unset, is_ptr, alu_kind, neg_kind, mov_kind, signed_move_kind, end_kind, access_fits, is_read_only}
+use Rattle.verifier.specs.Frame.{Frame, kind_at, operand_kind, with_kind, flow, Holds}
 use Rattle.verifier.specs.Rules.{operand_is_unset, target}
 use Rattle.verifier.specs.Verdict.{edges}
 use Rattle.verifier.proofs.Numbers.{holds_constant, holds_any, holds_add, holds_upper, holds_neg, holds_signed_move, holds_end}
 use Rattle.verifier.proofs.Results.{signed_load_small}
-use Rattle.verifier.proofs.Holding.{HoldsValue, Read, read, set_each, not_ptr_is_num, numbered, operand_read, operand_is_set, computes, copies, extended_small16, not_false}
+use Rattle.verifier.proofs.Holding.{HoldsValue, read, set_each, not_ptr_is_num, numbered, operand_read, operand_is_set, computes, copies, extended_small16, not_false}
 use Rattle.verifier.proofs.Bytes.{value_in, bytes_put, bytes_of_number, value_fits, bytes_drop}
 use Rattle.verifier.proofs.Passed.{neither, Passed}
 use Rattle.verifier.proofs.Calls.{one_more, call_made}

@@ -1,5 +1,5 @@
 -- Kinds and frames: a join is true of what either part is true of, and a sum of the sums.
-use Rattle.std.proofs.Common.{◌≡◌, ℕ, zero, suc, ◌+◌, ◌%◌, ◌^◌, ◌<◌, List, [], ◌∷◌, Option, Some, None, true, false, refl, ◌∙◌, sym, drop, arith, Bool}
+use Rattle.std.proofs.Common.{◌≡◌, ℕ, zero, suc, ◌^◌, ◌<◌, List, [], ◌∷◌, Option, Some, None, true, false, refl, ◌∙◌, sym, drop, arith, Bool}
 use Rattle.std.specs.Prelude.{slice_get, slice_set}
 use Rattle.std.proofs.lemmas.Bool.{false≢true, cond_both}
 use Rattle.bpf_machine.specs.declared.region.Region.{Region}
@@ -20,10 +20,9 @@ use Rattle.bpf_decode.specs.declared.insn.Operand.TheVariants.{Immediate, Regist
 use Rattle.bpf_decode.specs.Instruction.{OperandFits}
 use Rattle.bpf_machine.specs.Arithmetic.{alu_value, mov_value}
 use Rattle.verifier.specs.Rules.{operand_is_unset}
-use Rattle.verifier.specs.declared.known.Known.{Known}
 use Rattle.verifier.specs.declared.kind.Kind.{Kind}
 use Rattle.verifier.specs.declared.kind.Kind.TheVariants.{Unset, Num, Ptr}
-use Rattle.verifier.specs.Known.{HoldsKnown, constant, join_known, add_known, upper}
+use Rattle.verifier.specs.Known.{join_known}
 use Rattle.verifier.specs.Kind.{HoldsKind, is_unset, is_num, is_ptr, same_region, join_kind, alu_kind, mov_kind, alu_refused, mov_refused}
 use Rattle.verifier.specs.Frame.{Frame, or_unset, kind_at, operand_kind, join, HoldsEach, Holds}
 use Rattle.verifier.proofs.Numbers.{holds_constant, known_small, holds_join_left, holds_join_right, holds_alu, holds_mov}

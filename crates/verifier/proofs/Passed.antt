@@ -1,6 +1,6 @@
 -- What is known of an instruction that no rule refuses, and of one that a rule does.
 use Rattle.std.proofs.Common.{◌≡◌, ℕ, List, [], ◌∷◌, Option, Some, None, Bool, true, false, refl, ap, ◌∙◌, sym}
-use Rattle.std.specs.Prelude.{not, ◌||◌, if◌then◌else◌}
+use Rattle.std.specs.Prelude.{◌||◌, if◌then◌else◌}
 use Rattle.std.proofs.lemmas.Bool.{false≢true}
 use Rattle.std.proofs.lemmas.Option.{none-some, same_Some}
 use Rattle.bpf_decode.specs.declared.insn.Insn.{Insn}

@@ -1,10 +1,10 @@
 -- A run from a slot whose frame is true of the state ends at an exit.
-use Rattle.std.proofs.Common.{◌≡◌, ◌≢◌, ℕ, zero, suc, ◌+◌, ◌-◌, ◌^◌, ◌<◌, ◌≤◌, List, [], ◌∷◌, ◌++◌, Option, Some, None, refl, ap, ◌∙◌, sym, subst, arith, length, drop, Bool, true, false}
+use Rattle.std.proofs.Common.{◌≡◌, ◌≢◌, ℕ, zero, suc, ◌+◌, ◌-◌, ◌^◌, ◌<◌, ◌≤◌, List, [], ◌∷◌, ◌++◌, Option, Some, None, refl, ap, ◌∙◌, sym, subst, arith, length, drop}
 use Rattle.std.specs.Prelude.{replicate}
 use Rattle.std.proofs.lemmas.Option.{none-some, same_Some, slice_get_within}
 use Rattle.bpf_decode.specs.declared.insn.Insn.{Insn}
 use Rattle.bpf_decode.specs.declared.insn.Insn.TheVariants.{Alu, Neg, Mov, MovSigned, End, LoadWide, Load, LoadSigned, Store, Jump, JumpLong, Branch, Call, CallLocal, Exit}
-use Rattle.bpf_decode.specs.Instruction.{Fits, AllFit, slots, slot_count, slot_total}
+use Rattle.bpf_decode.specs.Instruction.{Fits, AllFit, slots, slot_count}
 use Rattle.bpf_machine.specs.declared.region.Region.{Region}
 use Rattle.bpf_machine.specs.declared.region.Region.TheVariants.{Input, Output, Stack}
 use Rattle.bpf_machine.specs.declared.caps.Caps.{Caps}

@@ -13,7 +13,6 @@ use Rattle.bpf_decode.specs.declared.operation.SignedMove.{SignedMove}
 use Rattle.bpf_decode.specs.declared.operation.ByteOrder.{ByteOrder}
 use Rattle.bpf_decode.specs.declared.operation.EndWidth.{EndWidth}
 use Rattle.bpf_machine.specs.Typed.{moves_pointer, is_addition}
-use Rattle.verifier.specs.declared.known.Known.{Known}
 use Rattle.verifier.specs.declared.kind.Kind.{Kind}
 use Rattle.verifier.specs.declared.kind.Kind.TheVariants.{Unset, Num, Ptr}
 use Rattle.verifier.specs.Known.{HoldsKnown, constant, join_known, add_known, upper, alu_known, neg_known, mov_known, signed_move_known, end_known}

@@ -1,0 +1,26 @@
+-- Lemmas on the reading of a method's lines.
+use Rattle.std.proofs.Common.{◌≡◌, ℕ, ◌+◌, ◌≤◌, ◌<◌, List, [], ◌∷◌, ◌++◌, length, get_or, take, cond, count_by, refl, sym, ap, ◌∙◌, arith, lit≤}
+use Rattle.std.proofs.lemmas.List.Sums.{sum_by-append}
+use Rattle.std.proofs.lemmas.List.{take_more}
+use Rattle.bpf_decode.specs.declared.insn.Insn.{Insn}
+use Rattle.bpf_decode.specs.declared.insn.Insn.TheVariants.{Alu, Neg, Mov, MovSigned, End, LoadWide, Load, LoadSigned, Store, Jump, JumpLong, Branch, Call, CallLocal, Exit}
+use Rattle.bpf_decode.specs.Instruction.{slot_total, slot_count}
+use Rattle.bpf_asm.specs.declared.statement.Statement.{Statement}
+use Rattle.bpf_asm.specs.Bodies.{is_instruction}
+
+-- an instruction takes a slot at least
+pub one_slot : (i : Insn) → 1 ≤ slot_count i
+one_slot (LoadWide dst value) = lit≤ tt
+one_slot _ = lit≤ tt
+
+pub slot_total_push : (is : List Insn) (i : Insn) → slot_total (is ++ (i ∷ [])) ≡ slot_total is + slot_count i
+slot_total_push [] i = omega arith
+slot_total_push (x ∷ xs) i = omega (arith, slot_total_push xs i)
+
+count_push : (xs : List Statement) (x : Statement) → count_by is_instruction (xs ++ (x ∷ [])) ≡ count_by is_instruction xs + cond (is_instruction x) 1 0
+count_push xs x = omega (arith, sum_by-append (λ y. cond (is_instruction y) 1 0) xs (x ∷ []))
+
+-- the instructions among one line more
+pub counted_more : (xs : List Statement) (n : ℕ) (x : Statement) → n < length xs → x ≡ get_or xs n x → count_by is_instruction (take (n + 1) xs) ≡ count_by is_instruction (take n xs) + cond (is_instruction x) 1 0
+counted_more xs n x h e =
+    ap (count_by is_instruction) (take_more xs n x h ∙ ap (λ y. take n xs ++ (y ∷ [])) (sym e)) ∙ count_push (take n xs) x

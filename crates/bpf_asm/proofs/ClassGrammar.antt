@@ -1,0 +1,208 @@
+-- What is read as a class is in the grammar, and what is in the grammar is read.
+use Rattle.std.proofs.Common.{◌≡◌, ℕ, ◌==◌, ◌||◌, ◌+◌, ◌≤◌, ◌<◌, not, Bool, true, false, List, [], ◌∷◌, ◌++◌, length, cond, Option, Some, None, Result, Ok, Err, refl, sym, ap, ◌∙◌, arith, append_assoc, nat_le, nat_lt, count_by, subst, take, drop}
+use Rattle.std.proofs.lemmas.List.Sums.{sum_by-append}
+use Rattle.bpf_asm.proofs.BodyTexts.{some_instruction}
+use Rattle.std.specs.List.{before_first}
+use Rattle.std.proofs.lemmas.Bool.Decides.{nat_tests}
+use Rattle.std.proofs.lemmas.List.{append-nil, length-append, take-append-drop}
+use Rattle.bpf_decode.specs.declared.insn.Insn.{Insn}
+use Rattle.bpf_decode.specs.Instruction.{slot_total}
+use Rattle.bpf_decode.specs.Class.{ClassMethod}
+use Rattle.bpf_decode.specs.ImageReading.{is_above}
+use Rattle.bpf_asm.specs.declared.fault.AsmFault.{AsmFault}
+use Rattle.bpf_asm.specs.declared.fault.AsmFault.TheVariants as faults
+use Rattle.bpf_asm.specs.declared.fault.AsmError.{AsmError}
+use Rattle.bpf_asm.specs.declared.statement.Statement.{Statement}
+use Rattle.bpf_asm.specs.declared.statement.Statement.TheVariants.{Empty, Label, Directive, Instruction}
+use Rattle.bpf_asm.specs.Headers.{MethodHeader}
+use Rattle.bpf_asm.specs.Statements.{statements_of}
+use Rattle.bpf_asm.specs.Bodies.{body, is_instruction, has_instruction}
+use Rattle.bpf_asm.specs.Classes.{is_directive, last_name, opening_fault, method_with, with_body, unless_fault, method_at, next_method, class_from, bare_class_fault, class_assembled, read_class_text}
+use Rattle.bpf_asm.specs.Grammar.{AreMethodLines, BeginsWithMethod, HasHeader, SayMethods, NamesAbove, IsClassText}
+use Rattle.bpf_asm.proofs.GrammarLemmas.{lines_read, read_lines, lines_have}
+
+-- behind a method anything may stand, before the first nothing
+abbrev Begun : List ClassMethod → List Statement → Type 0
+Begun [] ss = BeginsWithMethod ss
+Begun (d ∷ ds) ss = Unit {0}
+
+begun_push : (done : List ClassMethod) (m : ClassMethod) (ss : List Statement) → Begun (done ++ (m ∷ [])) ss
+begun_push [] m ss = tt
+begun_push (d ∷ ds) m ss = tt
+
+begun_end : (done : List ClassMethod) → Begun done []
+begun_end [] = tt
+begun_end (d ∷ ds) = tt
+
+begun_at : (done : List ClassMethod) (h : Result MethodHeader AsmFault) (ss : List Statement) → Begun done (Directive h ∷ ss)
+begun_at [] h ss = tt
+begun_at (d ∷ ds) h ss = tt
+
+last_push : (before : List ℕ) (ms : List ClassMethod) (m : ClassMethod) → last_name before (ms ++ (m ∷ [])) ≡ m.name
+last_push before [] m = refl
+last_push before (x ∷ xs) m = last_push x.name xs m
+
+some_methods : (d : ClassMethod) (ds : List ClassMethod) → (length (d ∷ ds) == 0) ≡ false
+some_methods d ds = grind (arith, nat_tests)
+
+-- ---- what is in the grammar is read
+
+opens : (done : List ClassMethod) (line : ℕ) (h : MethodHeader) (m : ClassMethod) (lines : List Statement) → length done < 32 → is_above (last_name [] done) m.name ≡ true → m ≡ method_with h m.instructions → AreMethodLines lines m.instructions → method_at done line (Ok h) lines ≡ Ok m
+opens done line h m lines room above head r =
+    let test : nat_le 32 (length done) ≡ false = grind (arith, nat_tests) in
+    let name : m.name ≡ h.name = ap (λ (x : ClassMethod). x.name) head in
+    let above_header : is_above (last_name [] done) h.name ≡ true = ap (is_above (last_name [] done)) (sym name) ∙ above in
+    rw (test, lines_have lines m.instructions r, above_header, lines_read (line + 1) lines m.instructions r) (ap (λ x. Ok x) (sym head))
+
+class_reads : (done ms : List ClassMethod) (ss : List Statement) (line : ℕ) → SayMethods ss ms → Begun done ss → NamesAbove (last_name [] done) ms → length done + length ms ≤ 32 → 1 ≤ length done + length ms → class_from done line ss ≡ Ok (done ++ ms)
+unfolding class_from
+class_reads done [] [] line s b n few some =
+    let test : (length done == 0) ≡ false = grind (arith, nat_tests) in
+    rw test (ap (λ r. Ok r) (sym (append-nil done)))
+class_reads done (m ∷ ms) [] line s b n few some = absurd s
+class_reads [] ms (Empty ∷ ss) line s b n few some = class_reads [] ms ss (line + 1) s b n few some
+class_reads (d ∷ ds) ms (Empty ∷ ss) line s b n few some = class_reads (d ∷ ds) ms ss (line + 1) s tt n few some
+class_reads [] ms (Label name ∷ ss) line s b n few some = absurd b
+class_reads (d ∷ ds) ms (Label name ∷ ss) line s b n few some = rw (some_methods d ds) (class_reads (d ∷ ds) ms ss (line + 1) s tt n few some)
+class_reads [] ms (Instruction i ∷ ss) line s b n few some = absurd b
+class_reads (d ∷ ds) ms (Instruction i ∷ ss) line s b n few some = rw (some_methods d ds) (class_reads (d ∷ ds) ms ss (line + 1) s tt n few some)
+class_reads done [] (Directive h ∷ ss) line s b n few some = absurd s
+class_reads done (m ∷ ms) (Directive (Err f) ∷ ss) line s b n few some = absurd s.0
+class_reads done (m ∷ ms) (Directive (Ok h) ∷ ss) line s b n few some =
+    let pushed = length-append done (m ∷ []) in
+    let next : NamesAbove (last_name [] (done ++ (m ∷ []))) ms = rw (last_push [] done m) n.1 in
+    rw (opens done line h m (before_first is_directive ss) (omega arith) n.0 s.0 s.1)
+        (class_reads (done ++ (m ∷ [])) ms ss (line + 1) s.2 (begun_push done m ss) next (omega arith) (omega arith) ∙ ap (λ r. Ok r) (append_assoc done (m ∷ []) ms))
+
+-- ---- what is read is in the grammar
+
+record IsRead (done : List ClassMethod) (ss : List Statement) (r : List ClassMethod) : Type 0 where
+  methods : List ClassMethod
+  whole : r ≡ done ++ methods
+  says : SayMethods ss methods
+  begins : Begun done ss
+  names : NamesAbove (last_name [] done) methods
+  limit : length done + length methods ≤ 32
+  some : 1 ≤ length done + length methods
+
+record IsOpened (done : List ClassMethod) (h : MethodHeader) (lines : List Statement) (m : ClassMethod) : Type 0 where
+  head : m ≡ method_with h m.instructions
+  lines_are : AreMethodLines lines m.instructions
+  above : is_above (last_name [] done) m.name ≡ true
+  room : length done < 32
+
+fault_none : (full bare above : Bool) → cond (full || not bare) (Some faults.Range) (cond above None (Some faults.Label)) ≡ None → (full ≡ false) × (bare ≡ true) × (above ≡ true)
+fault_none true bare above h = absurd cc
+fault_none false false above h = absurd cc
+fault_none false true false h = absurd cc
+fault_none false true true h = (refl, refl, refl)
+
+unfaulted : (o : Option AsmFault) (line : ℕ) (b : Result ClassMethod AsmError) (m : ClassMethod) → unless_fault o line b ≡ Ok m → (o ≡ None) × (b ≡ Ok m)
+unfaulted None line b m h = (refl, h)
+unfaulted (Some f) line b m h = absurd cc
+
+bodied : (h : MethodHeader) (b : Result (List Insn) AsmError) (m : ClassMethod) → with_body h b ≡ Ok m → (b ≡ Ok m.instructions) × (m ≡ method_with h m.instructions)
+bodied h (Err e) m k = absurd cc
+bodied h (Ok is) m k =
+    let same : method_with h is ≡ m = cc in
+    let insns : is ≡ m.instructions = ap (λ (x : ClassMethod). x.instructions) same in
+    (ap (λ x. Ok x) insns, sym same ∙ ap (method_with h) insns)
+
+opened : (done : List ClassMethod) (line : ℕ) (h : MethodHeader) (lines : List Statement) (m : ClassMethod) → method_at done line (Ok h) lines ≡ Ok m → IsOpened done h lines m
+opened done line h lines m k =
+    let a = unfaulted (opening_fault done (not (has_instruction lines)) h) line (with_body h (body (line + 1) lines)) m k in
+    let t = fault_none (nat_le 32 (length done)) (has_instruction lines) (is_above (last_name [] done) h.name) a.0 in
+    let b = bodied h (body (line + 1) lines) m a.1 in
+    let full = t.0 in
+    let name : m.name ≡ h.name = ap (λ (x : ClassMethod). x.name) b.1 in
+    record { head = b.1; lines_are = read_lines (line + 1) lines m.instructions t.1 b.0; above = ap (is_above (last_name [] done)) name ∙ t.2; room = grind (arith, nat_tests) }
+
+next_read : (r : Result ClassMethod AsmError) (f : ClassMethod → Result (List ClassMethod) AsmError) (all : List ClassMethod) → next_method r f ≡ Ok all → (m : ClassMethod) × ((r ≡ Ok m) × (f m ≡ Ok all))
+next_read (Ok m) f all h = (m, (refl, h))
+next_read (Err e) f all h = absurd cc
+
+ended : (done r : List ClassMethod) (b : Bool) (e : AsmError) → b ≡ (length done == 0) → cond b (Err e) (Ok done) ≡ Ok r → (done ≡ r) × (1 ≤ length done)
+ended done r true e t h = absurd cc
+ended done r false e t h = let same : done ≡ r = cc in (same, grind (arith, nat_tests))
+
+was_class : (done : List ClassMethod) (line : ℕ) (ss : List Statement) (r : List ClassMethod) → length done ≤ 32 → class_from done line ss ≡ Ok r → IsRead done ss r
+unfolding class_from
+was_class done line [] r few h =
+    let e = ended done r (length done == 0) (record { line = 1; fault = faults.Range }) refl h in
+    record { methods = []; whole = sym e.0 ∙ sym (append-nil done); says = tt; begins = begun_end done; names = tt; limit = omega arith; some = omega (arith, e.1) }
+was_class [] line (Empty ∷ ss) r few h =
+    let rest = was_class [] (line + 1) ss r few h in
+    record { methods = rest.methods; whole = rest.whole; says = rest.says; begins = rest.begins; names = rest.names; limit = rest.limit; some = rest.some }
+was_class (d ∷ ds) line (Empty ∷ ss) r few h =
+    let rest = was_class (d ∷ ds) (line + 1) ss r few h in
+    record { methods = rest.methods; whole = rest.whole; says = rest.says; begins = tt; names = rest.names; limit = rest.limit; some = rest.some }
+was_class [] line (Label name ∷ ss) r few h = absurd cc
+was_class (d ∷ ds) line (Label name ∷ ss) r few h =
+    let rest = was_class (d ∷ ds) (line + 1) ss r few (rw (some_methods d ds) at h) in
+    record { methods = rest.methods; whole = rest.whole; says = rest.says; begins = tt; names = rest.names; limit = rest.limit; some = rest.some }
+was_class [] line (Instruction i ∷ ss) r few h = absurd cc
+was_class (d ∷ ds) line (Instruction i ∷ ss) r few h =
+    let rest = was_class (d ∷ ds) (line + 1) ss r few (rw (some_methods d ds) at h) in
+    record { methods = rest.methods; whole = rest.whole; says = rest.says; begins = tt; names = rest.names; limit = rest.limit; some = rest.some }
+was_class done line (Directive (Err f) ∷ ss) r few h = absurd cc
+was_class done line (Directive (Ok k) ∷ ss) r few h =
+    let lines = before_first is_directive ss in
+    let n = next_read (method_at done line (Ok k) lines) (λ m. class_from (done ++ (m ∷ [])) (line + 1) ss) r h in
+    let m = n.0 in
+    let o = opened done line k lines m n.1.0 in
+    let room = o.room in
+    let pushed = length-append done (m ∷ []) in
+    let rest = was_class (done ++ (m ∷ [])) (line + 1) ss r (omega arith) n.1.1 in
+    record {
+      methods = m ∷ rest.methods;
+      whole = rest.whole ∙ append_assoc done (m ∷ []) rest.methods;
+      says = (o.head, o.lines_are, rest.says);
+      begins = begun_at done (Ok k) ss;
+      names = (o.above, rw (last_push [] done m) at rest.names);
+      limit = omega (arith, rest.limit);
+      some = omega arith;
+    }
+
+-- ---- both ways
+
+if_then : (b : Bool) (x : Result (List ClassMethod) AsmError) (e : AsmError) (ms : List ClassMethod) → cond b x (Err e) ≡ Ok ms → (b ≡ true) × (x ≡ Ok ms)
+if_then true x e ms h = (refl, h)
+if_then false x e ms h = absurd cc
+
+pub read_is_class_text : (text : List ℕ) (ms : List ClassMethod) → read_class_text text ≡ Ok ms → IsClassText text ms
+unfolding read_class_text
+read_is_class_text text ms h =
+    let ss = statements_of text in
+    let p = if_then (has_instruction ss) (class_from [] 1 ss) (record { line = 1; fault = bare_class_fault ss }) ms h in
+    let w = was_class [] 1 ss ms (omega arith) p.1 in
+    let P : List ClassMethod → Type 0 = λ v. SayMethods ss v × NamesAbove [] v × (1 ≤ length v) × (length v ≤ 32) in
+    let all = subst P (sym w.whole) (w.says, w.names, omega (arith, w.some), omega (arith, w.limit)) in
+    record { begins = w.begins; methods = all.0; names = all.1; some = all.2; limit = all.3 }
+
+prefix_has : (n : ℕ) (xs : List Statement) → has_instruction (take n xs) ≡ true → has_instruction xs ≡ true
+prefix_has n xs h =
+    let parts = sum_by-append (λ y. cond (is_instruction y) 1 0) (take n xs) (drop n xs) in
+    let whole : count_by is_instruction xs ≡ count_by is_instruction (take n xs ++ drop n xs) = ap (count_by is_instruction) (sym (take-append-drop n xs)) in
+    let few : 1 ≤ count_by is_instruction (take n xs) = grind (arith, nat_tests) in
+    let many : 1 ≤ count_by is_instruction xs = omega (arith, parts, whole) in
+    grind (arith, nat_tests)
+
+says_have : (ss : List Statement) (ms : List ClassMethod) → SayMethods ss ms → 1 ≤ length ms → has_instruction ss ≡ true
+says_have [] [] s n = absurd (omega arith)
+says_have [] (m ∷ ms) s n = absurd s
+says_have (Empty ∷ ss) ms s n = says_have ss ms s n
+says_have (Label name ∷ ss) ms s n = says_have ss ms s n
+says_have (Instruction i ∷ ss) ms s n = some_instruction i ss
+says_have (Directive h ∷ ss) [] s n = absurd s
+says_have (Directive h ∷ ss) (m ∷ ms) s n = prefix_has _ ss (lines_have (before_first is_directive ss) m.instructions s.1)
+
+pub class_text_is_read : (text : List ℕ) (ms : List ClassMethod) → IsClassText text ms → read_class_text text ≡ Ok ms
+unfolding read_class_text
+class_text_is_read text ms h =
+    let some = h.some in
+    let limit = h.limit in
+    rw (says_have (statements_of text) ms h.methods some) (class_reads [] ms (statements_of text) 1 h.methods h.begins h.names (omega arith) (omega arith))
+
+-- a text that is refused is none of the grammar
+pub refused_is_no_class : (text : List ℕ) (e : AsmError) (ms : List ClassMethod) → read_class_text text ≡ Err e → IsClassText text ms → ⊥
+refused_is_no_class text e ms h t = let read = class_text_is_read text ms t in absurd cc

@@ -1,0 +1,94 @@
+-- Lemmas on the reading of classes.
+use Rattle.std.proofs.Common.{◌≡◌, ℕ, ◌+◌, ◌≤◌, ◌<◌, Bool, true, false, ◌&&◌, IsTrue, nat_le, not, List, [], ◌∷◌, ◌++◌, length, take, drop, get_or, ◌-◌, cond, Result, Ok, Err, Option, Some, None, refl, sym, ap, ◌∙◌, arith, rules, tests}
+use Rattle.std.specs.Str.{IsAscii, IsUtf8}
+use Rattle.std.proofs.lemmas.Str.{IsUtf8-from_ascii}
+use Rattle.std.proofs.lemmas.Str.Ascii.{IsAscii-nil, IsAscii-cons}
+use Rattle.std.proofs.lemmas.List.{drop_more, take_all, length-drop}
+use Rattle.std.specs.List.{before_first}
+use Rattle.bpf_asm.specs.declared.statement.Statement.{Statement}
+use Rattle.bpf_asm.specs.declared.statement.Statement.TheVariants.{Directive}
+use Rattle.bpf_asm.specs.declared.fault.AsmError.{AsmError}
+use Rattle.std.proofs.lemmas.Bool.Decides.{nat_tests}
+use Rattle.bpf_decode.specs.Instruction.{slot_total}
+use Rattle.bpf_decode.specs.Class.{ClassMethod}
+use Rattle.bpf_decode.specs.declared.image_error.ImageError.{ImageError}
+use Rattle.bpf_decode.specs.Reading.{◌>>=◌, checked}
+use Rattle.bpf_decode.specs.ImageReading.{after, between, is_name_byte, are_name_bytes, is_above, method_after, methods_after, class_of}
+use Rattle.bpf_asm.specs.declared.fault.AsmFault.{AsmFault}
+use Rattle.bpf_asm.specs.Headers.{MethodHeader, is_header}
+use Rattle.bpf_asm.specs.Texts.{is_method_name}
+use Rattle.bpf_asm.specs.Classes.{last_name, is_directive, method_at, next_method, class_from}
+
+and_left : (a b : Bool) → IsTrue (a && b) → a ≡ true
+and_left true b h = refl
+and_left false b h = absurd cc
+
+and_right : (a b : Bool) → IsTrue (a && b) → b ≡ true
+and_right true b h = h
+and_right false b h = absurd cc
+
+name_byte_small : (b : ℕ) → is_name_byte b ≡ true → b < 128
+name_byte_small b h = grind (arith, nat_tests)
+
+names_ascii : (name : List ℕ) → are_name_bytes name ≡ true → IsAscii name
+names_ascii [] h = IsAscii-nil
+names_ascii (b ∷ bs) h = IsAscii-cons b bs (name_byte_small b (and_left (is_name_byte b) (are_name_bytes bs) h)) (names_ascii bs (and_right (is_name_byte b) (are_name_bytes bs) h))
+
+-- a name is text
+pub names_text : (name : List ℕ) → IsTrue (are_name_bytes name) → IsUtf8 name
+names_text name h = IsUtf8-from_ascii name (names_ascii name h)
+
+-- a method whose fields pass each test is right behind that name
+pub passes : (before : List ℕ) (m : ClassMethod) → between 1 64 (length m.name) ≡ true → are_name_bytes m.name ≡ true → is_above before m.name ≡ true → between 1 3 m.flags ≡ true → between 0 4096 m.in_cap ≡ true → between 0 4096 m.out_cap ≡ true → between 1 4096 (slot_total m.instructions) ≡ true → method_after before m ≡ Ok m
+passes before m a b c d e f g = rw (a, b, c, d, e, f, g) refl
+
+onto : (r : Result ClassMethod ImageError) (s t : Result (List ClassMethod) ImageError) (x : ClassMethod) (xs ys : List ClassMethod) → (r >>= λ first. s >>= λ others. Ok (first ∷ others)) ≡ Ok (x ∷ xs) → (s ≡ Ok xs → t ≡ Ok ys) → (r >>= λ first. t >>= λ others. Ok (first ∷ others)) ≡ Ok (x ∷ ys)
+onto (Err e) s t x xs ys h g = absurd cc
+onto (Ok f) (Err e) t x xs ys h g = absurd cc
+onto (Ok f) (Ok others) t x xs ys h g =
+    let first : f ≡ x = cc in
+    let rest : others ≡ xs = cc in
+    rw (g (ap (λ v. Ok v) rest), first) refl
+
+-- one method more behind right ones
+pub one_more : (done : ℕ) (before : List ℕ) (ms : List ClassMethod) (m : ClassMethod) → methods_after done before ms ≡ Ok ms → method_after (last_name before ms) m ≡ Ok m → methods_after done before (ms ++ (m ∷ [])) ≡ Ok (ms ++ (m ∷ []))
+unfolding methods_after
+one_more done before [] m h k = rw k refl
+one_more done before (x ∷ xs) m h k =
+    onto (after done (method_after before x)) (methods_after (done + 1) x.name xs) (methods_after (done + 1) x.name (xs ++ (m ∷ []))) x xs (xs ++ (m ∷ [])) h (λ e. one_more (done + 1) x.name xs m e k)
+
+-- a method of a header within the limits, whose slots are within theirs, is right behind the name of the last one
+pub header_passes : (before : List ℕ) (h : MethodHeader) (m : ClassMethod) → IsTrue (is_header h) → is_above before h.name ≡ true → m.name ≡ h.name → m.flags ≡ h.flags → m.in_cap ≡ h.in_cap → m.out_cap ≡ h.out_cap → 1 ≤ slot_total m.instructions → slot_total m.instructions ≤ 4096 → method_after before m ≡ Ok m
+header_passes before h m valid above a b c d some few =
+    let in_all = and_left (is_method_name h.name && between 1 3 h.flags && between 0 4096 h.in_cap) (between 0 4096 h.out_cap) valid in
+    let in_three = and_left (is_method_name h.name && between 1 3 h.flags) (between 0 4096 h.in_cap) in_all in
+    let in_two = and_left (is_method_name h.name) (between 1 3 h.flags) in_three in
+    passes before m
+    (ap (λ n. between 1 64 (length n)) a ∙ and_left (between 1 64 (length h.name)) (are_name_bytes h.name) in_two)
+    (ap are_name_bytes a ∙ and_right (between 1 64 (length h.name)) (are_name_bytes h.name) in_two)
+    (ap (is_above before) a ∙ above)
+    (ap (between 1 3) b ∙ and_right (is_method_name h.name) (between 1 3 h.flags) in_three)
+    (ap (between 0 4096) c ∙ and_right (is_method_name h.name && between 1 3 h.flags) (between 0 4096 h.in_cap) in_all)
+    (ap (between 0 4096) d ∙ and_right (is_method_name h.name && between 1 3 h.flags && between 0 4096 h.in_cap) (between 0 4096 h.out_cap) valid)
+    (grind (arith, nat_tests))
+
+-- 1 to 32 right methods are a class
+pub is_class : (ms : List ClassMethod) → methods_after 0 [] ms ≡ Ok ms → 1 ≤ length ms → length ms ≤ 32 → class_of ms ≡ Ok ms
+unfolding class_of
+is_class ms h some few =
+    let counted : between 1 32 (length ms) ≡ true = grind (arith, nat_tests) in
+    rw counted h
+
+class_step : (ms : List ClassMethod) (m : ClassMethod) (line : ℕ) (header : Result MethodHeader AsmFault) (rest : List Statement) → method_at ms line header (before_first is_directive rest) ≡ Ok m → class_from ms line (Directive header ∷ rest) ≡ class_from (ms ++ (m ∷ [])) (line + 1) rest
+unfolding class_from
+class_step ms m line header rest h = ap (λ r. next_method r (λ n. class_from (ms ++ (n ∷ [])) (line + 1) rest)) h
+
+-- reading goes on behind a method that was read
+pub class_goes_on : (ms : List ClassMethod) (m : ClassMethod) (line i : ℕ) (header : Result MethodHeader AsmFault) (lines : List Statement) (x : Statement) → i < length lines → x ≡ get_or lines i x → x ≡ Directive header → method_at ms line header (before_first is_directive (drop (i + 1) lines)) ≡ Ok m → class_from ms line (drop i lines) ≡ class_from (ms ++ (m ∷ [])) (line + 1) (drop (i + 1) lines)
+class_goes_on ms m line i header lines x inside at is read =
+    let parts : drop i lines ≡ Directive header ∷ drop (i + 1) lines = drop_more lines i x inside ∙ ap (λ y. y ∷ drop (i + 1) lines) (sym at ∙ is) in
+    ap (class_from ms line) parts ∙ class_step ms m line header (drop (i + 1) lines) read
+
+-- a rest of known length is the rest
+pub rest_whole : (lines : List Statement) (k : ℕ) → take (length lines - k) (drop k lines) ≡ drop k lines
+rest_whole lines k = take_all (length lines - k) (drop k lines) (omega (arith, length-drop {A = Statement} k lines))

@@ -1,0 +1,16 @@
+pub mod NumberLemmas
+pub mod TextLemmas
+pub mod StatementLemmas
+pub mod BodyLemmas
+pub mod ClassLemmas
+pub mod PlainBytes
+pub mod WordLemmas
+pub mod NumberTexts
+pub mod HexTexts
+pub mod OperandTexts
+pub mod LineTexts
+pub mod InsnTexts
+pub mod BodyTexts
+pub mod ClassTexts
+pub mod GrammarLemmas
+pub mod ClassGrammar

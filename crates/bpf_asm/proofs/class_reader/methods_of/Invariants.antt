@@ -1,0 +1,17 @@
+use Rattle.std.proofs.Common.{◌≡◌, ◌≤◌, ◌+◌, ◌-◌, [], drop, length, Ok}
+use Rattle.bpf_decode.specs.ImageReading.{methods_after}
+use Rattle.bpf_asm.specs.Classes.{class_from}
+use Rattle.bpf_asm.proofs.class_reader.methods_of.Given as goal
+
+-- reading goes on behind the methods so far, which are right
+abbrev pub invariant-loop-index : goal.invariant-loop-index
+invariant-loop-index l =
+    record {
+      inside : l.index ≤ length l.lines;
+      right : methods_after 0 [] l.methods.items ≡ Ok l.methods.items;
+      few : length l.methods.items ≤ 32;
+      same : class_from l.methods.items (l.index + 1) (drop l.index l.lines) ≡ class_from [] 1 l.lines;
+    }
+
+abbrev pub decreases-loop-index : goal.decreases-loop-index
+decreases-loop-index l = length l.initial.lines - l.index

@@ -1,0 +1,80 @@
+-- Classes: methods read one behind the other, up to the first line that is refused.
+use Rattle.std.specs.Prelude.{ℕ, ◌+◌, ◌==◌, ◌||◌, not, nat_le, nat_lt, Bool, true, false, List, [], ◌∷◌, ◌++◌, length, count_by, if◌then◌else◌, Option, Some, None, Result, Ok, Err}
+use Rattle.std.specs.List.{before_first}
+use Rattle.bpf_decode.specs.declared.insn.Insn.{Insn}
+use Rattle.bpf_decode.specs.Class.{ClassMethod}
+use Rattle.bpf_decode.specs.ImageReading.{is_above}
+use Rattle.bpf_asm.specs.declared.fault.AsmFault.{AsmFault}
+use Rattle.bpf_asm.specs.declared.fault.AsmFault.TheVariants as faults
+use Rattle.bpf_asm.specs.declared.fault.AsmError.{AsmError}
+use Rattle.bpf_asm.specs.Headers.{MethodHeader}
+use Rattle.bpf_asm.specs.declared.statement.Statement.{Statement}
+use Rattle.bpf_asm.specs.declared.statement.Statement.TheVariants.{Empty, Label, Directive, Instruction}
+use Rattle.bpf_asm.specs.Operands.{least}
+use Rattle.bpf_asm.specs.Statements.{statements_of}
+use Rattle.bpf_asm.specs.Bodies.{body, has_instruction}
+
+abbrev pub is_directive : Statement → Bool
+is_directive Empty = false
+is_directive (Label name) = false
+is_directive (Directive header) = true
+is_directive (Instruction d) = false
+
+-- the name of the last method, or no name
+-- the name of the last method, or the one before them
+abbrev pub last_name : List ℕ → List ClassMethod → List ℕ
+last_name before [] = before
+last_name before (m ∷ ms) = last_name m.name ms
+
+-- the fault of a method's first line behind other methods: 3 Range for a 33rd or one without instruction, 4 Label for a
+-- name that isn't above the one before
+abbrev pub opening_fault : List ClassMethod → Bool → MethodHeader → Option AsmFault
+opening_fault done bare h = if nat_le 32 (length done) || bare then Some faults.Range else (if is_above (last_name [] done) h.name then None else Some faults.Label)
+
+-- a method of that header and those instructions
+abbrev pub method_with : MethodHeader → List Insn → ClassMethod
+method_with h insns = record { name = h.name; flags = h.flags; in_cap = h.in_cap; out_cap = h.out_cap; instructions = insns }
+
+abbrev pub with_body : MethodHeader → Result (List Insn) AsmError → Result ClassMethod AsmError
+with_body h (Ok insns) = Ok (method_with h insns)
+with_body h (Err e) = Err e
+
+abbrev pub unless_fault : Option AsmFault → ℕ → Result ClassMethod AsmError → Result ClassMethod AsmError
+unless_fault None line m = m
+unless_fault (Some fault) line m = Err (record { line = line; fault = fault })
+
+-- the method that begins at a line, with its lines below
+abbrev pub method_at : List ClassMethod → ℕ → Result MethodHeader AsmFault → List Statement → Result ClassMethod AsmError
+method_at done line (Err fault) lines = Err (record { line = line; fault = fault })
+method_at done line (Ok h) lines = unless_fault (opening_fault done (not (has_instruction lines)) h) line (with_body h (body (line + 1) lines))
+
+abbrev pub next_method : Result ClassMethod AsmError → (ClassMethod → Result (List ClassMethod) AsmError) → Result (List ClassMethod) AsmError
+next_method (Err e) others = Err e
+next_method (Ok m) others = others m
+
+-- The methods of lines in order: `line` is the number of the next, `done` the methods above it. A method's lines reach
+-- to the next `.method`, and are read with it. Before the first one nothing may stand.
+unfoldable pub class_from : List ClassMethod → ℕ → List Statement → Result (List ClassMethod) AsmError
+class_from done line [] = if length done == 0 then Err (record { line = 1; fault = faults.Range }) else Ok done
+class_from done line (Directive header ∷ rest) =
+    next_method (method_at done line header (before_first is_directive rest)) (λ m. class_from (done ++ (m ∷ [])) (line + 1) rest)
+class_from done line (Empty ∷ rest) = class_from done (line + 1) rest
+class_from done line (Label name ∷ rest) = if length done == 0 then Err (record { line = line; fault = faults.Word }) else class_from done (line + 1) rest
+class_from done line (Instruction d ∷ rest) = if length done == 0 then Err (record { line = line; fault = faults.Word }) else class_from done (line + 1) rest
+
+-- the fault on the first line of a text without instructions: a label before the first `.method` is 1 Word, and a
+-- `.method` of the wrong form 2 Operand
+abbrev pub bare_class_fault : List Statement → AsmFault
+bare_class_fault [] = faults.Range
+bare_class_fault (Empty ∷ rest) = faults.Range
+bare_class_fault (Label name ∷ rest) = faults.Word
+bare_class_fault (Directive (Ok header) ∷ rest) = faults.Range
+bare_class_fault (Directive (Err fault) ∷ rest) = least fault faults.Range
+bare_class_fault (Instruction d ∷ rest) = faults.Range
+
+abbrev pub class_assembled : List Statement → Result (List ClassMethod) AsmError
+class_assembled lines = if has_instruction lines then class_from [] 1 lines else Err (record { line = 1; fault = bare_class_fault lines })
+
+-- Reading a class's text: its methods, or the first line that is refused and the least fault there.
+unfoldable pub read_class_text : List ℕ → Result (List ClassMethod) AsmError
+read_class_text text = class_assembled (statements_of text)

@@ -1,0 +1,16 @@
+-- Laws of the texts.
+use Rattle.std.specs.Prelude.{◌≡◌, ℕ, ◌≤◌, List, length, Ok}
+use Rattle.bpf_decode.specs.declared.insn.Insn.{Insn}
+use Rattle.bpf_decode.specs.Instruction.{AllFit, slot_total}
+use Rattle.bpf_asm.specs.Canonical.{canonical_text, class_text}
+use Rattle.bpf_asm.specs.Bodies.{read_text}
+use Rattle.bpf_asm.specs.Classes.{read_class_text}
+use Rattle.bpf_decode.specs.Class.{ClassMethod, IsClass}
+
+-- the canonical text of instructions is read as those instructions
+abbrev pub TextsGiveBack : Type 0
+TextsGiveBack = (is : List Insn) → AllFit is → 1 ≤ slot_total is → slot_total is ≤ 4096 → read_text (canonical_text is) ≡ Ok is
+
+-- the canonical text of a class is read as that class
+abbrev pub ClassTextsGiveBack : Type 0
+ClassTextsGiveBack = (ms : List ClassMethod) → IsClass ms → read_class_text (class_text ms) ≡ Ok ms

@@ -1,0 +1,13 @@
+pub mod Words
+pub mod Fault
+pub mod Canonical
+pub mod Numbers
+pub mod Texts
+pub mod Operands
+pub mod Drafts
+pub mod Statements
+pub mod Bodies
+pub mod Classes
+pub mod Headers
+pub mod Laws
+pub mod Grammar

@@ -1,0 +1,51 @@
+ghost use Rattle.std.specs.Prelude.{◌≡◌, ◌⊎◌, ◌+◌, ◌<◌, ◌^◌, Ok, Err, IfOk, IfErr, MatchResult, length};
+ghost use Rattle.bpf_asm.specs.Fault.{no_memory};
+ghost use Rattle.std.specs.Prelude.{List};
+ghost use Rattle.bpf_decode.specs.declared.insn.Insn.{Insn as Instruction};
+ghost use Rattle.bpf_asm.specs.Grammar.{IsMethodText};
+ghost use Rattle.bpf_asm.specs.Bodies.{bare_fault, assembled, read_text};
+
+use crate::body::{has_instruction, read_body};
+use crate::fault::{AsmError, AsmFault};
+use crate::statement::{Statement, statements};
+use bpf_decode::Insn;
+use std::alloc::Global;
+
+/// The fault on the first line of a text without instructions.
+fn bare_fault(lines: &[Statement]) -> AsmFault
+    ensures { result ≡ bare_fault lines.now }
+{
+    match lines {
+        [Statement::Directive(_), ..] => AsmFault::Word,
+        _ => AsmFault::Range,
+    }
+}
+
+/// One method's instructions, from what its lines say.
+fn assembled(alloc: Global, lines: &[Statement]) -> Result<Vec<Insn>, AsmError>
+    requires { length lines.now + 1 < 2 ^ 64 }
+    ensures { MatchResult result (λ v. assembled lines.now ≡ Ok v.items) (λ e. (e ≡ no_memory) ⊎ (assembled lines.now ≡ Err e)) }
+{
+    if has_instruction(lines) {
+        return read_body(alloc, 1, lines);
+    }
+    Err(AsmError {
+        line: 1,
+        fault: bare_fault(lines),
+    })
+}
+
+/// The instructions of one method's text. What is refused is the lowest line that has a fault, with the least fault
+/// there; want of memory may come in place of any answer.
+///
+/// Labels cost time: each jump to one goes over the lines up to it.
+#[tactic(auto, using(crate::proofs::GrammarLemmas::read_is_text, crate::proofs::GrammarLemmas::refused_is_none), unfolding(crate::specs::Bodies::read_text))]
+pub fn assemble(alloc: Global, text: &str) -> Result<Vec<Insn>, AsmError>
+    ensures found { IfOk result (λ v. read_text text.now ≡ Ok v.items) }
+    ensures refused { IfErr result (λ e. (e ≡ no_memory) ⊎ (read_text text.now ≡ Err e)) }
+    ensures grammar { IfOk result (λ v. IsMethodText text.now v.items) }
+    ensures only { IfErr result (λ e. (e ≡ no_memory) ⊎ ((is : List Instruction) → ¬ IsMethodText text.now is)) }
+{
+    let lines = statements(alloc, text)?;
+    assembled(alloc, &lines)
+}

@@ -1,0 +1,231 @@
+ghost use Rattle.std.specs.Prelude.{◌≡◌, ◌≤◌, ◌<◌, ◌^◌, ◌+◌, ◌*◌, ◌⊎◌, ◌≤ℤ◌, IfOk, MatchResult, length, IfSome, is_some, count_by};
+ghost use Rattle.std.specs.Option.{ForSome};
+ghost use Rattle.bpf_decode.specs.Instruction.{slot_count, slot_total};
+ghost use Rattle.std.specs.List.{list_any};
+ghost use Rattle.bpf_asm.specs.Fault.{no_memory};
+ghost use Rattle.bpf_asm.specs.Bodies.{draft_slots, line_slots, is_label, slot_of_label, distance_within, resolved, near, far, finished, instruction_at, line_at, body, is_instruction, has_instruction};
+
+use crate::draft::Draft;
+use crate::fault::{AsmError, AsmFault};
+use crate::statement::Statement;
+use crate::target::Target;
+use bpf_decode::{Insn, width};
+use std::alloc::Global;
+
+/// How many slots an instruction takes; one that is refused counts for one.
+fn draft_slots(draft: &Result<Draft, AsmFault>) -> usize
+    ensures slots { result ≡ draft_slots draft.now }
+    ensures few { result ≤ 2 }
+{
+    match draft {
+        Ok(Draft::Plain(insn)) => width(insn),
+        _ => 1,
+    }
+}
+
+fn line_slots(line: &Statement) -> usize
+    ensures slots { result ≡ line_slots line.now }
+    ensures few { result ≤ 2 }
+{
+    match line {
+        Statement::Instruction(draft) => draft_slots(draft),
+        _ => 0,
+    }
+}
+
+/// Whether a line is the label of that name.
+fn is_label(name: &[u8], line: &Statement) -> bool
+    ensures { result ≡ is_label name.now line.now }
+{
+    match line {
+        Statement::Label(other) => other.as_bytes() == name,
+        _ => false,
+    }
+}
+
+/// The slot at which the first label of that name stands.
+#[tactic(auto, unfolding(crate::specs::Bodies::slot_of_label))]
+fn slot_of_label(name: &[u8], lines: &[Statement]) -> Option<usize>
+    ensures found { result ≡ slot_of_label name.now 0 lines.now }
+    ensures small { IfSome result (λ slot. slot ≤ 2 * length lines.now) }
+{
+    let mut slot = 0;
+    for line in lines {
+        if is_label(name, line) {
+            return Some(slot);
+        }
+        slot += line_slots(line);
+    }
+    None
+}
+
+/// A distance from `low` to `high`.
+fn distance_within(low: i128, high: i128, distance: i128) -> Result<i128, AsmFault>
+    ensures read { result ≡ distance_within low high distance }
+    ensures low { IfOk result (λ z. low ≤ℤ z) }
+    ensures high { IfOk result (λ z. z ≤ℤ high) }
+{
+    if low <= distance && distance <= high {
+        Ok(distance)
+    } else {
+        Err(AsmFault::Range)
+    }
+}
+
+/// The distance from the slot after a jump to a target.
+fn resolved(
+    low: i128,
+    high: i128,
+    all: &[Statement],
+    slot: usize,
+    target: &Target,
+) -> Result<i128, AsmFault>
+    requires { slot ≤ 4096 }
+    ensures read { result ≡ resolved low high all.now slot target.now }
+    ensures low { IfOk result (λ z. low ≤ℤ z) }
+    ensures high { IfOk result (λ z. z ≤ℤ high) }
+{
+    match target {
+        Target::Slots(slots) => distance_within(low, high, i128::from(*slots)),
+        Target::Label(name) => match slot_of_label(name.as_bytes(), all) {
+            None => Err(AsmFault::Label),
+            Some(at) => distance_within(low, high, at as i128 - (slot + 1) as i128),
+        },
+    }
+}
+
+/// Where a jump by an offset goes.
+fn near(all: &[Statement], slot: usize, target: &Target) -> Result<i16, AsmFault>
+    requires { slot ≤ 4096 }
+    ensures { result ≡ near all.now slot target.now }
+{
+    Ok(resolved(-32768, 32767, all, slot, target)? as i16)
+}
+
+/// Where a jump by an immediate goes.
+fn far(all: &[Statement], slot: usize, target: &Target) -> Result<i32, AsmFault>
+    requires { slot ≤ 4096 }
+    ensures { result ≡ far all.now slot target.now }
+{
+    Ok(resolved(-2147483648, 2147483647, all, slot, target)? as i32)
+}
+
+/// The instruction at a slot.
+fn finished(all: &[Statement], slot: usize, draft: &Draft) -> Result<Insn, AsmFault>
+    requires { slot ≤ 4096 }
+    ensures { result ≡ finished all.now slot draft.now }
+{
+    match draft {
+        Draft::Plain(insn) => Ok(*insn),
+        Draft::Jump(target) => Ok(Insn::Jump {
+            offset: near(all, slot, target)?,
+        }),
+        Draft::JumpLong(target) => Ok(Insn::JumpLong {
+            distance: far(all, slot, target)?,
+        }),
+        Draft::Branch(bits, comparison, dst, source, target) => Ok(Insn::Branch {
+            bits: *bits,
+            comparison: *comparison,
+            dst: *dst,
+            source: *source,
+            offset: near(all, slot, target)?,
+        }),
+        Draft::CallLocal(target) => Ok(Insn::CallLocal {
+            distance: far(all, slot, target)?,
+        }),
+    }
+}
+
+/// What an instruction's line gives at a slot.
+fn instruction_at(
+    all: &[Statement],
+    slot: usize,
+    draft: &Result<Draft, AsmFault>,
+) -> Result<Option<Insn>, AsmFault>
+    requires { slot ≤ 4096 }
+    ensures { result ≡ instruction_at all.now slot draft.now }
+{
+    match draft {
+        Err(fault) => Err(*fault),
+        Ok(line) => {
+            if slot + draft_slots(draft) > 4096 {
+                return Err(AsmFault::Range);
+            }
+            Ok(Some(finished(all, slot, line)?))
+        }
+    }
+}
+
+/// What a line gives at a slot, behind those before it.
+fn line_at(
+    all: &[Statement],
+    before: &[Statement],
+    slot: usize,
+    line: &Statement,
+) -> Result<Option<Insn>, AsmFault>
+    requires { slot ≤ 4096 }
+    ensures read { result ≡ line_at all.now before.now slot line.now }
+    ensures room { IfOk result (λ found. ForSome found (λ insn. slot + slot_count insn ≤ 4096)) }
+    ensures some { IfOk result (λ found. is_instruction line.now ≡ is_some found) }
+{
+    match line {
+        Statement::Empty => Ok(None),
+        Statement::Label(name) => match slot_of_label(name.as_bytes(), before) {
+            Some(_) => Err(AsmFault::Label),
+            None => Ok(None),
+        },
+        Statement::Directive(_) => Err(AsmFault::Word),
+        Statement::Instruction(draft) => instruction_at(all, slot, draft),
+    }
+}
+
+/// A method's instructions, whose first line has that number; or the first line that is refused, and its least fault.
+#[tactic(auto, unfolding(crate::specs::Bodies::body_from))]
+pub(crate) fn read_body(
+    alloc: Global,
+    first: usize,
+    lines: &[Statement],
+) -> Result<Vec<Insn>, AsmError>
+    requires { first + length lines.now < 2 ^ 64 }
+    ensures read { MatchResult result (λ v. body first lines.now ≡ Ok v.items) (λ e. (e ≡ no_memory) ⊎ (body first lines.now ≡ Err e)) }
+    ensures slots { IfOk result (λ v. slot_total v.items ≤ 4096) }
+    ensures some { IfOk result (λ v. count_by is_instruction lines.now ≤ slot_total v.items) }
+{
+    let mut insns = Vec::new(alloc);
+    let mut slot = 0;
+    let mut index = 0;
+    while index < lines.len() {
+        match line_at(lines, &lines[..index], slot, &lines[index]) {
+            Err(fault) => {
+                return Err(AsmError {
+                    line: first + index,
+                    fault,
+                });
+            }
+            Ok(None) => {}
+            Ok(Some(insn)) => {
+                slot += width(&insn);
+                insns.push(insn)?;
+            }
+        }
+        index += 1;
+    }
+    Ok(insns)
+}
+
+/// Whether a line is an instruction's.
+fn is_instruction(line: &Statement) -> bool
+    ensures { result ≡ is_instruction line.now }
+{
+    match line {
+        Statement::Instruction(_) => true,
+        _ => false,
+    }
+}
+
+/// Whether one of the lines is an instruction's.
+pub(crate) fn has_instruction(lines: &[Statement]) -> bool
+    ensures { result ≡ has_instruction lines.now }
+{
+    0 < lines.iter().filter(|line| is_instruction(line)).count()
+}

@@ -1,0 +1,203 @@
+ghost use Rattle.std.specs.Prelude.{◌≡◌, ◌⊎◌, ◌+◌, ◌<◌, ◌≤◌, ◌^◌, List, [], Ok, Err, IfOk, IfErr, IsTrue, MatchResult, length, string_bytes};
+ghost use Rattle.std.specs.List.{position_or_len};
+ghost use Rattle.bpf_decode.specs.ImageReading.{are_name_bytes, method_after, methods_after};
+ghost use Rattle.bpf_decode.specs.Class.{ClassMethod};
+ghost use Rattle.bpf_asm.specs.Grammar.{IsClassText};
+ghost use Rattle.bpf_asm.specs.Fault.{no_memory};
+ghost use Rattle.bpf_asm.specs.Classes.{is_directive, last_name, opening_fault, method_at, class_from, bare_class_fault, class_assembled, read_class_text};
+
+use crate::body::{has_instruction, read_body};
+use crate::fault::{AsmError, AsmFault};
+use crate::header::Header;
+use crate::statement::{Statement, statements};
+use bpf_decode::{ClassImage, Method};
+use std::alloc::{AllocError, Global};
+
+/// Whether a line begins a method.
+fn is_directive(line: &Statement) -> bool
+    ensures { result ≡ is_directive line.now }
+{
+    match line {
+        Statement::Directive(_) => true,
+        _ => false,
+    }
+}
+
+/// How many lines stand before the next method.
+fn lines_of_method(lines: &[Statement]) -> usize
+    ensures place { result ≡ position_or_len is_directive lines.now }
+    ensures bound { result ≤ length lines.now }
+{
+    lines
+        .iter()
+        .position(|line| is_directive(line))
+        .unwrap_or(lines.len())
+}
+
+/// The last method's name, or none.
+fn last_name(methods: &[Method]) -> &[u8]
+    ensures { result.now ≡ last_name [] methods.now }
+{
+    let mut name: &[u8] = &[];
+    for method in methods {
+        name = method.name().as_bytes();
+    }
+    name
+}
+
+/// The fault of a method's first line behind other methods.
+fn opening_fault(done: &[Method], bare: bool, header: &Header) -> Option<AsmFault>
+    ensures { result ≡ opening_fault done.now bare header.now }
+{
+    if 32 <= done.len() || bare {
+        return Some(AsmFault::Range);
+    }
+    if last_name(done).cmp(&header.name()).is_lt() {
+        None
+    } else {
+        Some(AsmFault::Label)
+    }
+}
+
+/// The bytes of a name as text.
+fn text_of(alloc: Global, name: &[u8]) -> Result<String, AllocError>
+    requires { IsTrue (are_name_bytes name.now) }
+    ensures { IfOk result (λ t. string_bytes t ≡ name.now) }
+{
+    String::from_utf8_lossy(alloc, name)
+}
+
+/// The method that begins at a line, with its lines below, behind other methods.
+#[tactic(auto, using(crate::proofs::ClassLemmas::header_passes))]
+fn method_at(
+    alloc: Global,
+    done: &[Method],
+    line: usize,
+    header: &Result<Header, AsmFault>,
+    lines: &[Statement],
+) -> Result<Method, AsmError>
+    requires { line + 1 + length lines.now < 2 ^ 64 }
+    ensures read { MatchResult result (λ m. method_at done.now line header.now lines.now ≡ Ok m) (λ e. (e ≡ no_memory) ⊎ (method_at done.now line header.now lines.now ≡ Err e)) }
+    ensures right { IfOk result (λ m. method_after (last_name [] done.now) m ≡ Ok m) }
+    ensures room { IfOk result (λ _. length done.now < 32) }
+{
+    let header = match header {
+        Ok(header) => header,
+        Err(fault) => {
+            return Err(AsmError {
+                line,
+                fault: *fault,
+            });
+        }
+    };
+    let bare = !has_instruction(lines);
+    if let Some(fault) = opening_fault(done, bare, header) {
+        return Err(AsmError { line, fault });
+    }
+    let insns = match read_body(alloc, line + 1, lines) {
+        Ok(insns) => insns,
+        Err(error) => return Err(error),
+    };
+    let name = text_of(alloc, header.name())?;
+    Ok(Method::new(
+        name,
+        header.flags(),
+        header.in_cap(),
+        header.out_cap(),
+        insns,
+    ))
+}
+
+/// The fault on the first line of a class's text without instructions.
+fn bare_class_fault(lines: &[Statement]) -> AsmFault
+    ensures { result ≡ bare_class_fault lines.now }
+{
+    match lines {
+        [Statement::Label(_), ..] => AsmFault::Word,
+        [Statement::Directive(Err(fault)), ..] => fault.least(AsmFault::Range),
+        _ => AsmFault::Range,
+    }
+}
+
+/// The methods of lines, as `class_from` reads them.
+#[tactic(auto, using(crate::proofs::ClassLemmas::one_more), unfolding(crate::specs::Classes::class_from, bpf_decode::specs::ImageReading::methods_after))]
+fn methods_of(alloc: Global, lines: &[Statement]) -> Result<Vec<Method>, AsmError>
+    requires { length lines.now + 2 < 2 ^ 64 }
+    ensures read { MatchResult result (λ v. class_from [] 1 lines.now ≡ Ok v.items) (λ e. (e ≡ no_memory) ⊎ (class_from [] 1 lines.now ≡ Err e)) }
+    ensures right { IfOk result (λ v. methods_after 0 [] v.items ≡ Ok v.items) }
+    ensures some { IfOk result (λ v. 1 ≤ length v.items) }
+    ensures few { IfOk result (λ v. length v.items ≤ 32) }
+{
+    let mut methods = Vec::new(alloc);
+    let mut index = 0;
+    while index < lines.len() {
+        let line = index + 1;
+        match &lines[index] {
+            Statement::Empty => {}
+            Statement::Directive(header) => {
+                let below = &lines[line..];
+                let method = method_at(
+                    alloc,
+                    &methods,
+                    line,
+                    header,
+                    &below[..lines_of_method(below)],
+                );
+                match method {
+                    Ok(method) => methods.push(method)?,
+                    Err(error) => return Err(error),
+                }
+            }
+            _ => {
+                if methods.is_empty() {
+                    return Err(AsmError {
+                        line,
+                        fault: AsmFault::Word,
+                    });
+                }
+            }
+        }
+        index = line;
+    }
+    if methods.is_empty() {
+        return Err(AsmError {
+            line: 1,
+            fault: AsmFault::Range,
+        });
+    }
+    Ok(methods)
+}
+
+/// A class, from what its lines say.
+#[tactic(auto, using(crate::proofs::ClassLemmas::is_class))]
+fn class_assembled(alloc: Global, lines: &[Statement]) -> Result<ClassImage, AsmError>
+    requires { length lines.now + 2 < 2 ^ 64 }
+    ensures { MatchResult result (λ c. class_assembled lines.now ≡ Ok c) (λ e. (e ≡ no_memory) ⊎ (class_assembled lines.now ≡ Err e)) }
+{
+    if !has_instruction(lines) {
+        return Err(AsmError {
+            line: 1,
+            fault: bare_class_fault(lines),
+        });
+    }
+    match methods_of(alloc, lines) {
+        Ok(methods) => match ClassImage::new(methods) {
+            Ok(class) => Ok(class),
+            Err(_) => unreachable!(),
+        },
+        Err(error) => Err(error),
+    }
+}
+
+/// The class of a text. What is refused is the lowest line that has a fault, with the least fault there; want of memory
+/// may come in place of any answer.
+#[tactic(auto, using(crate::proofs::ClassGrammar::read_is_class_text, crate::proofs::ClassGrammar::refused_is_no_class), unfolding(crate::specs::Classes::read_class_text))]
+pub fn assemble_class(alloc: Global, text: &str) -> Result<ClassImage, AsmError>
+    ensures found { IfOk result (λ c. read_class_text text.now ≡ Ok c) }
+    ensures refused { IfErr result (λ e. (e ≡ no_memory) ⊎ (read_class_text text.now ≡ Err e)) }
+    ensures grammar { IfOk result (λ c. IsClassText text.now c) }
+    ensures only { IfErr result (λ e. (e ≡ no_memory) ⊎ ((ms : List ClassMethod) → ¬ IsClassText text.now ms)) }
+{
+    let lines = statements(alloc, text)?;
+    class_assembled(alloc, &lines)
+}

@@ -1,0 +1,32 @@
+ghost use Rattle.std.specs.Prelude.{◌≡◌, ◌≤◌, IfOk, IfErr, string_bytes};
+ghost use Rattle.bpf_decode.specs.Instruction.{slot_total};
+ghost use Rattle.bpf_asm.specs.Canonical.{canonical_text, class_text};
+ghost use Rattle.bpf_asm.specs.Fault.{no_memory};
+
+use crate::fault::AsmError;
+use crate::print::{push_insns, push_methods};
+use bpf_decode::{ClassImage, Insn};
+use std::alloc::Global;
+
+/// The canonical text of a method's instructions, which take 1 to 4,096 slots.
+/// It is refused for want of memory alone.
+pub fn disassemble(alloc: Global, insns: &[Insn]) -> Result<String, AsmError>
+    requires some { 1 ≤ slot_total insns.now }
+    requires limit { slot_total insns.now ≤ 4096 }
+    ensures text { IfOk result (λ s. string_bytes s ≡ canonical_text insns.now) }
+    ensures memory { IfErr result (λ e. e ≡ no_memory) }
+{
+    let mut out = String::new(alloc);
+    push_insns(&mut out, insns)?;
+    Ok(out)
+}
+
+/// The canonical text of a class. It is refused for want of memory alone.
+pub fn disassemble_class(alloc: Global, class: &ClassImage) -> Result<String, AsmError>
+    ensures text { IfOk result (λ s. string_bytes s ≡ class_text class.now) }
+    ensures memory { IfErr result (λ e. e ≡ no_memory) }
+{
+    let mut out = String::new(alloc);
+    push_methods(&mut out, class.methods())?;
+    Ok(out)
+}

@@ -1,0 +1,16 @@
+//! Laws of the definitions that the contracts cite.
+
+ghost use Rattle.bpf_asm.specs.Laws.{TextsGiveBack, ClassTextsGiveBack};
+
+/// The canonical text of instructions within the limits is read as those instructions, so that what `disassemble`
+/// prints `assemble` gives back, and no two lists have one canonical text.
+pub fn one_text()
+    ensures { TextsGiveBack }
+{}
+
+/// The canonical text of a class is read as that class, so that what `disassemble_class` prints `assemble_class` gives
+/// back, and no two classes have one canonical text.
+pub fn one_class_text()
+    ensures { ClassTextsGiveBack }
+{
+}

@@ -1,0 +1,276 @@
+ghost use Rattle.std.specs.Prelude.{◌≡◌, ◌++◌, ◌<◌, ◌^◌, OnOk, string_bytes, codes};
+ghost use Rattle.bpf_asm.specs.Canonical.{register_text, source_text, offset_text, memory_text, hex_digits, wide_text, line_of, canonical_text, with_one, with_two, with_three, flags_text, directive_line, class_text};
+ghost use Rattle.std.specs.Fmt.{decimal};
+ghost use Rattle.bpf_asm.specs.Words.{word_of};
+
+use crate::form::Form;
+use bpf_decode::{Insn, Method, Operand, Register};
+use std::alloc::AllocError;
+
+fn push_register(out: &mut String, register: Register) -> Result<(), AllocError>
+    ensures { OnOk result (string_bytes out.new ≡ string_bytes out.old ++ register_text register) }
+{
+    write!(out, "r{}", register.number())
+}
+
+fn push_source(out: &mut String, source: Operand) -> Result<(), AllocError>
+    ensures { OnOk result (string_bytes out.new ≡ string_bytes out.old ++ source_text source) }
+{
+    match source {
+        Operand::Immediate(imm) => write!(out, "{imm}"),
+        Operand::Register(src) => push_register(out, src),
+    }
+}
+
+/// An offset or a distance, with its sign.
+fn push_offset(out: &mut String, offset: i32) -> Result<(), AllocError>
+    ensures { OnOk result (string_bytes out.new ≡ string_bytes out.old ++ offset_text offset) }
+{
+    if offset >= 0 {
+        write!(out, "+{offset}")
+    } else {
+        write!(out, "{offset}")
+    }
+}
+
+fn push_memory(out: &mut String, base: Register, offset: i16) -> Result<(), AllocError>
+    ensures { OnOk result (string_bytes out.new ≡ string_bytes out.old ++ memory_text base offset) }
+{
+    out.push_str("[")?;
+    push_register(out, base)?;
+    push_offset(out, i32::from(offset))?;
+    out.push_str("]")
+}
+
+/// The low `count` digits to base 16, in lower case.
+#[tactic(auto, unfolding(crate::specs::Canonical::hex_digits))]
+fn push_hex(out: &mut String, count: usize, n: u64) -> Result<(), AllocError>
+    ensures { OnOk result (string_bytes out.new ≡ string_bytes out.old ++ hex_digits count n) }
+{
+    if count == 0 {
+        return Ok(());
+    }
+    push_hex(out, count - 1, n / 16)?;
+    let digit = (n % 16) as u8;
+    let letter = if digit < 10 { 48 + digit } else { 87 + digit };
+    out.push(char::from(letter))
+}
+
+/// A form's word and a space.
+fn push_word(out: &mut String, form: Form) -> Result<(), AllocError>
+    ensures { OnOk result (string_bytes out.new ≡ string_bytes out.old ++ word_of form ++ codes " ") }
+{
+    out.push_str(form.word())?;
+    out.push_str(" ")
+}
+
+fn push_comma(out: &mut String) -> Result<(), AllocError>
+    ensures { OnOk result (string_bytes out.new ≡ string_bytes out.old ++ codes ", ") }
+{
+    out.push_str(", ")
+}
+
+/// A word and a register.
+fn push_one(out: &mut String, form: Form, dst: Register) -> Result<(), AllocError>
+    ensures { OnOk result (string_bytes out.new ≡ string_bytes out.old ++ with_one (word_of form) (register_text dst)) }
+{
+    push_word(out, form)?;
+    push_register(out, dst)
+}
+
+/// A word, a register and a source.
+fn push_two(out: &mut String, form: Form, dst: Register, source: Operand) -> Result<(), AllocError>
+    ensures { OnOk result (string_bytes out.new ≡ string_bytes out.old ++ with_two (word_of form) (register_text dst) (source_text source)) }
+{
+    push_one(out, form, dst)?;
+    push_comma(out)?;
+    push_source(out, source)
+}
+
+/// A wide load.
+fn push_wide(out: &mut String, dst: Register, value: u64) -> Result<(), AllocError>
+    ensures { OnOk result (string_bytes out.new ≡ string_bytes out.old ++ with_two (word_of Form.LoadWide) (register_text dst) (wide_text value)) }
+{
+    push_one(out, Form::LoadWide, dst)?;
+    push_comma(out)?;
+    out.push_str("0x")?;
+    push_hex(out, 16, value)
+}
+
+/// A load's word, register and place.
+fn push_load(
+    out: &mut String,
+    form: Form,
+    dst: Register,
+    base: Register,
+    offset: i16,
+) -> Result<(), AllocError>
+    ensures { OnOk result (string_bytes out.new ≡ string_bytes out.old ++ with_two (word_of form) (register_text dst) (memory_text base offset)) }
+{
+    push_one(out, form, dst)?;
+    push_comma(out)?;
+    push_memory(out, base, offset)
+}
+
+/// A store's word, place and source.
+fn push_store(
+    out: &mut String,
+    form: Form,
+    base: Register,
+    offset: i16,
+    source: Operand,
+) -> Result<(), AllocError>
+    ensures { OnOk result (string_bytes out.new ≡ string_bytes out.old ++ with_two (word_of form) (memory_text base offset) (source_text source)) }
+{
+    push_word(out, form)?;
+    push_memory(out, base, offset)?;
+    push_comma(out)?;
+    push_source(out, source)
+}
+
+/// A jump's word and distance.
+fn push_jump(out: &mut String, form: Form, distance: i32) -> Result<(), AllocError>
+    ensures { OnOk result (string_bytes out.new ≡ string_bytes out.old ++ with_one (word_of form) (offset_text distance)) }
+{
+    push_word(out, form)?;
+    push_offset(out, distance)
+}
+
+/// A local call's word and distance.
+fn push_local(out: &mut String, distance: i32) -> Result<(), AllocError>
+    ensures { OnOk result (string_bytes out.new ≡ string_bytes out.old ++ with_one (word_of Form.Call) (codes "local " ++ offset_text distance)) }
+{
+    push_word(out, Form::Call)?;
+    out.push_str("local ")?;
+    push_offset(out, distance)
+}
+
+/// A helper's call.
+fn push_call(out: &mut String, helper: u32) -> Result<(), AllocError>
+    ensures { OnOk result (string_bytes out.new ≡ string_bytes out.old ++ with_one (word_of Form.Call) (decimal helper)) }
+{
+    push_word(out, Form::Call)?;
+    write!(out, "{helper}")
+}
+
+/// A conditional jump.
+fn push_branch(
+    out: &mut String,
+    form: Form,
+    dst: Register,
+    source: Operand,
+    offset: i16,
+) -> Result<(), AllocError>
+    ensures { OnOk result (string_bytes out.new ≡ string_bytes out.old ++ with_three (word_of form) (register_text dst) (source_text source) (offset_text offset)) }
+{
+    push_two(out, form, dst, source)?;
+    push_comma(out)?;
+    push_offset(out, i32::from(offset))
+}
+
+/// An instruction's line, without its end.
+fn push_insn(out: &mut String, insn: Insn) -> Result<(), AllocError>
+    ensures { OnOk result (string_bytes out.new ≡ string_bytes out.old ++ line_of insn) }
+{
+    match insn {
+        Insn::Alu {
+            bits,
+            operation,
+            dst,
+            source,
+        } => push_two(out, Form::Alu(bits, operation), dst, source),
+        Insn::Neg { bits, dst } => push_one(out, Form::Neg(bits), dst),
+        Insn::Mov { bits, dst, source } => push_two(out, Form::Mov(bits), dst, source),
+        Insn::MovSigned {
+            extension,
+            dst,
+            src,
+        } => push_two(out, Form::MovSigned(extension), dst, Operand::Register(src)),
+        Insn::End { order, width, dst } => push_one(out, Form::End(order, width), dst),
+        Insn::LoadWide { dst, value } => push_wide(out, dst, value),
+        Insn::Load {
+            width,
+            dst,
+            base,
+            offset,
+        } => push_load(out, Form::Load(width), dst, base, offset),
+        Insn::LoadSigned {
+            width,
+            dst,
+            base,
+            offset,
+        } => push_load(out, Form::LoadSigned(width), dst, base, offset),
+        Insn::Store {
+            width,
+            base,
+            offset,
+            source,
+        } => {
+            let form = match source {
+                Operand::Immediate(_) => Form::StoreNumber(width),
+                Operand::Register(_) => Form::StoreRegister(width),
+            };
+            push_store(out, form, base, offset, source)
+        }
+        Insn::Jump { offset } => push_jump(out, Form::Jump, i32::from(offset)),
+        Insn::JumpLong { distance } => push_jump(out, Form::JumpLong, distance),
+        Insn::Branch {
+            bits,
+            comparison,
+            dst,
+            source,
+            offset,
+        } => push_branch(out, Form::Branch(bits, comparison), dst, source, offset),
+        Insn::Call { helper } => push_call(out, helper),
+        Insn::CallLocal { distance } => push_local(out, distance),
+        Insn::Exit => out.push_str(Form::Exit.word()),
+    }
+}
+
+/// The canonical text of instructions.
+pub(crate) fn push_insns(out: &mut String, insns: &[Insn]) -> Result<(), AllocError>
+    ensures { OnOk result (string_bytes out.new ≡ string_bytes out.old ++ canonical_text insns.now) }
+{
+    for insn in insns {
+        push_insn(out, *insn)?;
+        out.push_str("\n")?;
+    }
+    Ok(())
+}
+
+/// A method's flags.
+fn flags_word(flags: u8) -> &'static str
+    ensures { result.now ≡ flags_text flags }
+{
+    match flags {
+        1 => "r",
+        2 => "w",
+        _ => "rw",
+    }
+}
+
+/// The line that begins a method, without its end.
+fn push_directive(out: &mut String, method: &Method) -> Result<(), AllocError>
+    ensures { OnOk result (string_bytes out.new ≡ string_bytes out.old ++ directive_line method.now) }
+{
+    out.push_str(".method ")?;
+    out.push_str(method.name())?;
+    out.push_str(" ")?;
+    out.push_str(flags_word(method.flags()))?;
+    out.push_str(" ")?;
+    let in_cap = method.in_cap();
+    let out_cap = method.out_cap();
+    write!(out, "{in_cap} {out_cap}")
+}
+
+/// The canonical text of methods.
+pub(crate) fn push_methods(out: &mut String, methods: &[Method]) -> Result<(), AllocError>
+    ensures { OnOk result (string_bytes out.new ≡ string_bytes out.old ++ class_text methods.now) }
+{
+    for method in methods {
+        push_directive(out, method)?;
+        out.push_str("\n")?;
+        push_insns(out, method.instructions())?;
+    }
+    Ok(())
+}
