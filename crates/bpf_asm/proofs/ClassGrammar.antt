@@ -72,7 +72,7 @@ class_reads done (m ∷ ms) (Directive (Ok h) ∷ ss) line s b n few some =
     let pushed = length-append done (m ∷ []) in
     let next : NamesAbove (last_name [] (done ++ (m ∷ []))) ms = rw (last_push [] done m) n.1 in
     rw (opens done line h m (before_first is_directive ss) (omega arith) n.0 s.0 s.1)
-        (class_reads (done ++ (m ∷ [])) ms ss (line + 1) s.2 (begun_push done m ss) next (omega arith) (omega arith) ∙ ap (λ r. Ok r) (append_assoc done (m ∷ []) ms))
+    (class_reads (done ++ (m ∷ [])) ms ss (line + 1) s.2 (begun_push done m ss) next (omega arith) (omega arith) ∙ ap (λ r. Ok r) (append_assoc done (m ∷ []) ms))
 
 -- ---- what is read is in the grammar
 

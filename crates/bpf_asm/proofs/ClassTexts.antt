@@ -127,7 +127,7 @@ header_reads m h =
     let name_plain = names_plain m.name h.letters in
     let caps = decimal m.in_cap ++ (32 ∷ decimal m.out_cap) in
     rw (word_first m.name (flags_text m.flags ++ (32 ∷ caps)) name_plain, word_behind m.name (flags_text m.flags) (32 ∷ caps) name_plain (flags_some m.flags) (flags_plain m.flags), word_first (flags_text m.flags) caps (flags_plain m.flags), word_behind (flags_text m.flags) (decimal m.in_cap) (32 ∷ decimal m.out_cap) (flags_plain m.flags) in_some in_plain)
-        (rw (method_name m h, flags_read m.flags h.some_flag h.known_flags, word_first (decimal m.in_cap) (decimal m.out_cap) in_plain, word_last (decimal m.in_cap) (decimal m.out_cap) in_plain out_some out_plain, cap_reads m.in_cap h.in_cap, cap_reads m.out_cap h.out_cap) refl)
+    (rw (method_name m h, flags_read m.flags h.some_flag h.known_flags, word_first (decimal m.in_cap) (decimal m.out_cap) in_plain, word_last (decimal m.in_cap) (decimal m.out_cap) in_plain out_some out_plain, cap_reads m.in_cap h.in_cap, cap_reads m.out_cap h.out_cap) refl)
 
 shape : (m : ClassMethod) → directive_line m ≡ codes ".method " ++ words m
 shape m = simp append_assoc
@@ -145,8 +145,8 @@ words_quiet m h =
     let in_quiet = quiet_where (decimal m.in_cap) (decimal_plain m.in_cap (omega (arith, h.in_cap))) in
     let out_quiet = quiet_where (decimal m.out_cap) (decimal_plain m.out_cap (omega (arith, h.out_cap))) in
     all_append is_quiet m.name (32 ∷ (flags_text m.flags ++ (32 ∷ (decimal m.in_cap ++ (32 ∷ decimal m.out_cap))))) (quiet_where m.name (names_plain m.name h.letters))
-        (all_append is_quiet (flags_text m.flags) (32 ∷ (decimal m.in_cap ++ (32 ∷ decimal m.out_cap))) (quiet_where (flags_text m.flags) (flags_plain m.flags))
-            (all_append is_quiet (decimal m.in_cap) (32 ∷ decimal m.out_cap) in_quiet out_quiet))
+    (all_append is_quiet (flags_text m.flags) (32 ∷ (decimal m.in_cap ++ (32 ∷ decimal m.out_cap))) (quiet_where (flags_text m.flags) (flags_plain m.flags))
+    (all_append is_quiet (decimal m.in_cap) (32 ∷ decimal m.out_cap) in_quiet out_quiet))
 
 directive_quiet : (m : ClassMethod) → IsMethod m → list_all is_quiet (directive_line m) ≡ true
 directive_quiet m h = ap (list_all is_quiet) (shape m) ∙ words_quiet m h
@@ -210,7 +210,7 @@ body_said all before line slot done [] h room = ap (λ r. Ok r) (sym (append-nil
 body_said all before line slot done (i ∷ is) h room =
     let this = Instruction (Ok (unresolved i)) in
     rw (stands all before slot i h.0 (omega arith))
-        (body_said all (before ++ (this ∷ [])) (line + 1) (slot + slot_count i) (done ++ (i ∷ [])) is h.1 (omega arith) ∙ ap (λ r. Ok r) (append_assoc done (i ∷ []) is))
+    (body_said all (before ++ (this ∷ [])) (line + 1) (slot + slot_count i) (done ++ (i ∷ [])) is h.1 (omega arith) ∙ ap (λ r. Ok r) (append_assoc done (i ∷ []) is))
 
 -- the lines of a method, in which it reads as itself
 record Holds (m : ClassMethod) (lines : List Statement) : Type 0 where
@@ -282,9 +282,9 @@ class_reads done (m ∷ ms) h few above some line =
     let pushed = length-append done (m ∷ []) in
     let next : NamesAbove (last_name [] (done ++ (m ∷ []))) ms = rw (last_push [] done m) above.1 in
     rw (method_reads done line m (before_first is_directive (said m.instructions ++ said_class ms)) (omega arith) above.0 (holds m ms h.0))
-        (skip (done ++ (m ∷ [])) (Ok (done ++ (m ∷ ms))) (said_class ms) (push_some done m)
-            (λ l. class_reads (done ++ (m ∷ [])) ms h.1 (omega arith) next (omega arith) l ∙ ap (λ r. Ok r) (append_assoc done (m ∷ []) ms))
-            m.instructions (line + 1))
+    (skip (done ++ (m ∷ [])) (Ok (done ++ (m ∷ ms))) (said_class ms) (push_some done m)
+    (λ l. class_reads (done ++ (m ∷ [])) ms h.1 (omega arith) next (omega arith) l ∙ ap (λ r. Ok r) (append_assoc done (m ∷ []) ms))
+    m.instructions (line + 1))
 
 directive_has : (d : Result MethodHeader AsmFault) (rest : List Statement) → has_instruction rest ≡ true → has_instruction (Directive d ∷ rest) ≡ true
 directive_has d rest h = h

@@ -49,7 +49,7 @@ reads all before line slot done [] (Instruction d ∷ ss) l s room = absurd s
 reads all before line slot done (i ∷ is) (Instruction (Err f) ∷ ss) l s room = absurd s.0
 reads all before line slot done (i ∷ is) (Instruction (Ok d) ∷ ss) l s room =
     rw (stands_at all slot d i s.0 (omega arith))
-        (reads all (before ++ (Instruction (Ok d) ∷ [])) (line + 1) (slot + slot_count i) (done ++ (i ∷ [])) is ss l.1 s.1 (omega arith) ∙ ap (λ r. Ok r) (append_assoc done (i ∷ []) is))
+    (reads all (before ++ (Instruction (Ok d) ∷ [])) (line + 1) (slot + slot_count i) (done ++ (i ∷ [])) is ss l.1 s.1 (omega arith) ∙ ap (λ r. Ok r) (append_assoc done (i ∷ []) is))
 
 -- ---- what is read is in the grammar
 

@@ -12,5 +12,4 @@ pub fn one_text()
 /// back, and no two classes have one canonical text.
 pub fn one_class_text()
     ensures { ClassTextsGiveBack }
-{
-}
+{}

@@ -406,7 +406,10 @@ fn memory(rt: HostRuntime) {
     match assemble_class(rt.alloc(), text) {
         Ok(class) => match disassemble_class(rt.alloc(), &class) {
             Ok(printed) => {
-                assert_eq!(rt; printed.as_str(), ".method f r 0 0\nmov r0, 1\njeq r0, r1, -2\nexit\n")
+                assert_eq!(rt;
+                    printed.as_str(),
+                    ".method f r 0 0\nmov r0, 1\njeq r0, r1, -2\nexit\n"
+                )
             }
             Err(error) => assert_eq!(rt; error, lack),
         },
