@@ -1,8 +1,8 @@
 -- The canonical text of instructions is read as those instructions.
-use Rattle.std.proofs.Common.{◌≡◌, ℕ, ℤ, pos, negsuc, ◌==◌, ◌&&◌, ◌+◌, ◌≤◌, ◌<◌, ◌^◌, Bool, true, false, List, [], ◌∷◌, ◌++◌, length, map, Option, Some, None, Result, Ok, Err, refl, sym, ap, ◌∙◌, arith, rules, tests, codes, append_assoc, FitsSigned, nat_le, nat_lt, int_le, count_by, cond}
+use Rattle.std.proofs.Common.{◌≡◌, ℕ, ℤ, pos, negsuc, ◌==◌, ◌&&◌, ◌+◌, ◌≤◌, true, List, [], ◌∷◌, ◌++◌, Some, Result, Ok, refl, sym, ap, ◌∙◌, arith, codes, append_assoc, FitsSigned, nat_le, nat_lt, int_le, count_by, cond}
 use Rattle.std.proofs.lemmas.List.Sums.{sum_by-append}
 use Rattle.bpf_asm.specs.declared.fault.AsmFault.{AsmFault}
-use Rattle.std.specs.List.{list_all, slice_split, onto_first}
+use Rattle.std.specs.List.{list_all, slice_split}
 use Rattle.std.specs.Int.{w16, w32}
 use Rattle.std.proofs.lemmas.Bool.Decides.{nat_tests}
 use Rattle.std.proofs.lemmas.List.{append-nil}
@@ -13,12 +13,11 @@ use Rattle.bpf_asm.specs.declared.draft.Draft.{Draft}
 use Rattle.bpf_asm.specs.declared.statement.Statement.{Statement}
 use Rattle.bpf_asm.specs.declared.statement.Statement.TheVariants.{Empty, Instruction}
 use Rattle.bpf_asm.specs.Texts.{content, trim, trim_start, trim_end}
-use Rattle.bpf_asm.specs.Operands.{filled}
-use Rattle.bpf_asm.specs.Statements.{statement_of, lines_of, statements_of}
+use Rattle.bpf_asm.specs.Statements.{statement_of, statements_of}
 use Rattle.bpf_asm.specs.Canonical.{line_of, canonical_text}
-use Rattle.bpf_asm.specs.Bodies.{draft_slots, finished, instruction_at, line_at, proceed, body_from, body, is_instruction, assembled, read_text}
+use Rattle.bpf_asm.specs.Bodies.{draft_slots, finished, line_at, body_from, is_instruction, assembled, read_text}
 use Rattle.bpf_asm.specs.Laws.{TextsGiveBack}
-use Rattle.bpf_asm.proofs.PlainBytes.{is_plain, is_quiet, Free, free_where, quiet_feed}
+use Rattle.bpf_asm.proofs.PlainBytes.{is_quiet, Free, free_where, quiet_feed}
 use Rattle.bpf_asm.proofs.InsnTexts.{unresolved, line_says, line_quiet}
 
 -- a line feed ends a line that has none

@@ -1,12 +1,11 @@
 -- What is read as a class is in the grammar, and what is in the grammar is read.
-use Rattle.std.proofs.Common.{◌≡◌, ℕ, ◌==◌, ◌||◌, ◌+◌, ◌≤◌, ◌<◌, not, Bool, true, false, List, [], ◌∷◌, ◌++◌, length, cond, Option, Some, None, Result, Ok, Err, refl, sym, ap, ◌∙◌, arith, append_assoc, nat_le, nat_lt, count_by, subst, take, drop}
+use Rattle.std.proofs.Common.{◌≡◌, ℕ, ◌==◌, ◌||◌, ◌+◌, ◌≤◌, ◌<◌, not, Bool, true, false, List, [], ◌∷◌, ◌++◌, length, cond, Option, Some, None, Result, Ok, Err, refl, sym, ap, ◌∙◌, arith, append_assoc, nat_le, count_by, subst, take, drop}
 use Rattle.std.proofs.lemmas.List.Sums.{sum_by-append}
 use Rattle.bpf_asm.proofs.BodyTexts.{some_instruction}
 use Rattle.std.specs.List.{before_first}
 use Rattle.std.proofs.lemmas.Bool.Decides.{nat_tests}
 use Rattle.std.proofs.lemmas.List.{append-nil, length-append, take-append-drop}
 use Rattle.bpf_decode.specs.declared.insn.Insn.{Insn}
-use Rattle.bpf_decode.specs.Instruction.{slot_total}
 use Rattle.bpf_decode.specs.Class.{ClassMethod}
 use Rattle.bpf_decode.specs.ImageReading.{is_above}
 use Rattle.bpf_asm.specs.declared.fault.AsmFault.{AsmFault}
@@ -17,8 +16,8 @@ use Rattle.bpf_asm.specs.declared.statement.Statement.TheVariants.{Empty, Label,
 use Rattle.bpf_asm.specs.Headers.{MethodHeader}
 use Rattle.bpf_asm.specs.Statements.{statements_of}
 use Rattle.bpf_asm.specs.Bodies.{body, is_instruction, has_instruction}
-use Rattle.bpf_asm.specs.Classes.{is_directive, last_name, opening_fault, method_with, with_body, unless_fault, method_at, next_method, class_from, bare_class_fault, class_assembled, read_class_text}
-use Rattle.bpf_asm.specs.Grammar.{AreMethodLines, BeginsWithMethod, HasHeader, SayMethods, NamesAbove, IsClassText}
+use Rattle.bpf_asm.specs.Classes.{is_directive, last_name, opening_fault, method_with, with_body, unless_fault, method_at, next_method, class_from, bare_class_fault, read_class_text}
+use Rattle.bpf_asm.specs.Grammar.{AreMethodLines, BeginsWithMethod, SayMethods, NamesAbove, IsClassText}
 use Rattle.bpf_asm.proofs.GrammarLemmas.{lines_read, read_lines, lines_have}
 
 -- behind a method anything may stand, before the first nothing

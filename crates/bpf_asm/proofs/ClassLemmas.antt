@@ -1,5 +1,5 @@
 -- Lemmas on the reading of classes.
-use Rattle.std.proofs.Common.{◌≡◌, ℕ, ◌+◌, ◌≤◌, ◌<◌, Bool, true, false, ◌&&◌, IsTrue, nat_le, not, List, [], ◌∷◌, ◌++◌, length, take, drop, get_or, ◌-◌, cond, Result, Ok, Err, Option, Some, None, refl, sym, ap, ◌∙◌, arith, rules, tests}
+use Rattle.std.proofs.Common.{◌≡◌, ℕ, ◌+◌, ◌≤◌, ◌<◌, Bool, true, false, ◌&&◌, IsTrue, List, [], ◌∷◌, ◌++◌, length, take, drop, get_or, ◌-◌, Result, Ok, Err, refl, sym, ap, ◌∙◌, arith}
 use Rattle.std.specs.Str.{IsAscii, IsUtf8}
 use Rattle.std.proofs.lemmas.Str.{IsUtf8-from_ascii}
 use Rattle.std.proofs.lemmas.Str.Ascii.{IsAscii-nil, IsAscii-cons}
@@ -7,12 +7,11 @@ use Rattle.std.proofs.lemmas.List.{drop_more, take_all, length-drop}
 use Rattle.std.specs.List.{before_first}
 use Rattle.bpf_asm.specs.declared.statement.Statement.{Statement}
 use Rattle.bpf_asm.specs.declared.statement.Statement.TheVariants.{Directive}
-use Rattle.bpf_asm.specs.declared.fault.AsmError.{AsmError}
 use Rattle.std.proofs.lemmas.Bool.Decides.{nat_tests}
 use Rattle.bpf_decode.specs.Instruction.{slot_total}
 use Rattle.bpf_decode.specs.Class.{ClassMethod}
 use Rattle.bpf_decode.specs.declared.image_error.ImageError.{ImageError}
-use Rattle.bpf_decode.specs.Reading.{◌>>=◌, checked}
+use Rattle.bpf_decode.specs.Reading.{◌>>=◌}
 use Rattle.bpf_decode.specs.ImageReading.{after, between, is_name_byte, are_name_bytes, is_above, method_after, methods_after, class_of}
 use Rattle.bpf_asm.specs.declared.fault.AsmFault.{AsmFault}
 use Rattle.bpf_asm.specs.Headers.{MethodHeader, is_header}

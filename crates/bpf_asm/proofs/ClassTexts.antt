@@ -1,29 +1,26 @@
 -- The canonical text of a class is read as that class.
-use Rattle.std.proofs.Common.{◌≡◌, ℕ, ◌==◌, ◌||◌, ◌&&◌, ◌+◌, ◌≤◌, ◌<◌, ◌^◌, ◌⊎◌, not, Bool, true, false, List, [], ◌∷◌, ◌++◌, length, take, drop, cond, Option, Some, None, Result, Ok, Err, refl, sym, ap, ◌∙◌, arith, rules, tests, codes, append_assoc, nat_le, nat_lt, lit≤, subst, zero, suc}
+use Rattle.std.proofs.Common.{◌≡◌, ℕ, ◌==◌, ◌+◌, ◌≤◌, ◌<◌, Bool, true, false, List, [], ◌∷◌, ◌++◌, length, cond, Some, Result, Ok, refl, sym, ap, ◌∙◌, arith, codes, append_assoc, nat_le, lit≤, subst}
 use Rattle.std.specs.List.{list_all, before_first, AllByRecursion}
 use Rattle.std.specs.Fmt.{decimal}
-use Rattle.std.specs.Cmp.Lexicographic.{slice_cmp}
-use Rattle.std.specs.Ordering.{nat_cmp, is_lt}
-use Rattle.std.specs.declared.cmp.Ordering.TheVariants.{Less}
+use Rattle.std.specs.Ordering.{is_lt}
 use Rattle.std.proofs.lemmas.Bool.Decides.{nat_tests}
 use Rattle.std.proofs.lemmas.Fmt.{decimal_nonempty}
 use Rattle.std.proofs.lemmas.List.{append-nil, length-append}
 use Rattle.bpf_decode.specs.declared.insn.Insn.{Insn}
-use Rattle.bpf_decode.specs.Instruction.{Fits, AllFit, slot_total, slot_count}
-use Rattle.bpf_decode.specs.Class.{ClassMethod, IsNameByte, IsMethod, NamesRise, IsClass}
+use Rattle.bpf_decode.specs.Instruction.{AllFit, slot_total, slot_count}
+use Rattle.bpf_decode.specs.Class.{ClassMethod, IsNameByte, IsMethod, NamesRise}
 use Rattle.bpf_decode.specs.ImageReading.{between, is_name_byte, are_name_bytes, is_above}
 use Rattle.bpf_asm.specs.declared.fault.AsmFault.{AsmFault}
 use Rattle.bpf_asm.specs.declared.fault.AsmError.{AsmError}
 use Rattle.bpf_asm.specs.declared.statement.Statement.{Statement}
-use Rattle.bpf_asm.specs.declared.statement.Statement.TheVariants.{Empty, Label, Directive, Instruction}
+use Rattle.bpf_asm.specs.declared.statement.Statement.TheVariants.{Empty, Directive, Instruction}
 use Rattle.bpf_asm.specs.Headers.{MethodHeader}
 use Rattle.bpf_asm.specs.Texts.{is_blank, trim_start, trim_end, content, first_word, after_word, is_method_name}
-use Rattle.bpf_asm.specs.Numbers.{plain_within}
-use Rattle.bpf_asm.specs.Operands.{filled, both, unsigned_of}
-use Rattle.bpf_asm.specs.Statements.{flags_of, header_with, header_of, is_label_line, statement_of, statements_of}
-use Rattle.bpf_asm.specs.Canonical.{flags_text, directive_line, canonical_text, method_text, class_text, line_of}
-use Rattle.bpf_asm.specs.Bodies.{body_from, body, is_instruction, has_instruction}
-use Rattle.bpf_asm.specs.Classes.{is_directive, last_name, opening_fault, method_with, with_body, unless_fault, method_at, next_method, class_from, class_assembled, read_class_text}
+use Rattle.bpf_asm.specs.Operands.{unsigned_of}
+use Rattle.bpf_asm.specs.Statements.{flags_of, header_of, statement_of, statements_of}
+use Rattle.bpf_asm.specs.Canonical.{flags_text, directive_line, canonical_text, class_text, line_of}
+use Rattle.bpf_asm.specs.Bodies.{body_from, body, has_instruction}
+use Rattle.bpf_asm.specs.Classes.{is_directive, last_name, method_at, class_from, read_class_text}
 use Rattle.bpf_asm.specs.Laws.{ClassTextsGiveBack}
 use Rattle.bpf_asm.proofs.PlainBytes.{is_plain, is_quiet, Free, and_left, plain_blank, before_at, before_none, drop_seam, trim_end_free, trim_end_behind, trim_start_stays, trim_start_space, blanks_free, quiet_where, all_append}
 use Rattle.bpf_asm.proofs.NumberTexts.{plain_decimal, decimal_plain}

@@ -1,5 +1,5 @@
 -- What is read is in the grammar, and what is in the grammar is read.
-use Rattle.std.proofs.Common.{◌≡◌, ℕ, ℤ, ◌==◌, ◌+◌, ◌≤◌, ◌<◌, Bool, true, false, List, [], ◌∷◌, ◌++◌, length, cond, Option, Some, None, is_some, Result, Ok, Err, refl, sym, ap, ◌∙◌, arith, append_assoc, nat_le, nat_lt, count_by, ◌*◌, subst, lit≤}
+use Rattle.std.proofs.Common.{◌≡◌, ℕ, ℤ, ◌+◌, ◌≤◌, Bool, true, false, List, [], ◌∷◌, ◌++◌, length, cond, Option, Some, None, is_some, Result, Ok, Err, refl, sym, ap, ◌∙◌, arith, append_assoc, nat_le, count_by, ◌*◌, subst, lit≤}
 use Rattle.std.proofs.lemmas.List.Sums.{sum_by-append}
 use Rattle.std.proofs.lemmas.Bool.Decides.{nat_tests}
 use Rattle.std.proofs.lemmas.List.{append-nil}
@@ -15,8 +15,8 @@ use Rattle.bpf_asm.specs.declared.statement.Statement.{Statement}
 use Rattle.bpf_asm.specs.declared.statement.Statement.TheVariants.{Empty, Label, Directive, Instruction}
 use Rattle.bpf_asm.specs.Operands.{filled}
 use Rattle.bpf_asm.specs.Statements.{statements_of}
-use Rattle.bpf_asm.specs.Bodies.{draft_slots, slot_of_label, near, far, finished, instruction_at, line_at, proceed, body_from, body, bare_fault, is_instruction, has_instruction, assembled, read_text}
-use Rattle.bpf_asm.specs.Grammar.{IsFirst, LabelsOnce, SaysInsn, Says, IsMethodText, AreMethodLines}
+use Rattle.bpf_asm.specs.Bodies.{draft_slots, slot_of_label, near, far, finished, instruction_at, proceed, body_from, body, bare_fault, is_instruction, has_instruction, read_text}
+use Rattle.bpf_asm.specs.Grammar.{LabelsOnce, SaysInsn, Says, IsMethodText, AreMethodLines}
 use Rattle.bpf_asm.proofs.BodyLemmas.{one_slot}
 
 one_by : (f : ℤ → Insn) → ((z : ℤ) → slot_count (f z) ≡ 1) → (r : Result ℤ AsmFault) (i : Insn) → filled f r ≡ Ok i → 1 ≡ slot_count i

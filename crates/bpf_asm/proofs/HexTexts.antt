@@ -1,11 +1,11 @@
 -- The number of a wide load is read from its sixteen digits.
-use Rattle.std.proofs.Common.{◌≡◌, ℕ, ◌==◌, ◌&&◌, ◌+◌, ◌*◌, ◌/◌, ◌%◌, ◌^◌, ◌≤◌, ◌<◌, zero, suc, Bool, true, false, List, [], ◌∷◌, ◌++◌, length, Some, Result, Ok, refl, sym, ap, ◌∙◌, arith, rules, tests, nat_le, lit<, length-append, slice_index}
+use Rattle.std.proofs.Common.{◌≡◌, ℕ, ◌+◌, ◌*◌, ◌/◌, ◌%◌, ◌^◌, ◌<◌, zero, suc, true, List, [], ◌∷◌, ◌++◌, length, Some, Ok, refl, arith, nat_le, length-append}
 use Rattle.std.specs.List.{list_all}
 use Rattle.std.proofs.Math.Nat.{pow-succ'}
 use Rattle.std.specs.Char.{digit_value, is_digit, digit_char}
 use Rattle.std.specs.Str.Parse.{digits_value, digits_value_after}
 use Rattle.std.proofs.lemmas.Bool.Decides.{nat_tests}
-use Rattle.bpf_asm.specs.Numbers.{all_digits, hex_number, natural, plus_within, plain_within}
+use Rattle.bpf_asm.specs.Numbers.{hex_number, natural, plus_within, plain_within}
 use Rattle.bpf_asm.specs.Canonical.{hex_digits, wide_text}
 use Rattle.bpf_asm.specs.Operands.{unsigned_of}
 use Rattle.bpf_asm.proofs.PlainBytes.{is_plain, all_append}

@@ -1,8 +1,8 @@
 -- Each instruction's line is read as that instruction.
-use Rattle.std.proofs.Common.{◌≡◌, ℕ, ℤ, pos, negsuc, ◌==◌, ◌+◌, ◌≤◌, ◌<◌, ◌^◌, Bool, true, false, List, [], ◌∷◌, ◌++◌, length, Option, Some, None, Result, Ok, Err, refl, sym, ap, ◌∙◌, arith, rules, tests, codes, append_assoc, FitsSigned, slice_index, suc, lit<, inr}
+use Rattle.std.proofs.Common.{◌≡◌, ℕ, ℤ, pos, negsuc, ◌==◌, ◌≤◌, ◌<◌, ◌^◌, true, false, List, [], ◌∷◌, ◌++◌, length, Ok, refl, ap, ◌∙◌, arith, codes, append_assoc, FitsSigned, slice_index, suc, lit<, inr}
 use Rattle.std.proofs.lemmas.Fmt.{decimal_nonempty}
 use Rattle.std.specs.List.{list_all}
-use Rattle.std.specs.Int.{w16, w32}
+use Rattle.std.specs.Int.{w32}
 use Rattle.std.specs.Str.{bytes_eq}
 use Rattle.std.specs.Fmt.{decimal, signed_decimal}
 use Rattle.bpf_decode.specs.declared.insn.Operand.{Operand}
@@ -15,15 +15,14 @@ use Rattle.bpf_asm.specs.declared.form.Form.{Form}
 use Rattle.bpf_asm.specs.declared.form.Form.TheVariants as forms
 use Rattle.bpf_asm.specs.declared.draft.Draft.{Draft}
 use Rattle.bpf_asm.specs.declared.draft.Draft.TheVariants as drafts
-use Rattle.bpf_asm.specs.declared.statement.Statement.{Statement}
-use Rattle.bpf_asm.specs.declared.statement.Statement.TheVariants.{Empty, Label, Directive, Instruction}
+use Rattle.bpf_asm.specs.declared.statement.Statement.TheVariants.{Instruction}
 use Rattle.bpf_asm.specs.Words.{word_of, form_of, arithmetic_word, comparison_word, signed_move_word, end_word}
-use Rattle.bpf_asm.specs.Texts.{is_blank, trim_start, trim_end, trim, content, first_word, after_word, lone, pair, triple, cut, is_label_name}
-use Rattle.bpf_asm.specs.Operands.{filled, of_one, of_two, of_three, register_of, immediate_of, unsigned_of, source_of, memory_of, near_target_of, far_target_of}
+use Rattle.bpf_asm.specs.Texts.{is_blank, trim_start, trim_end, trim, content, first_word, after_word, lone, is_label_name}
+use Rattle.bpf_asm.specs.Operands.{far_target_of}
 use Rattle.bpf_asm.specs.Drafts.{draft, call_of, instruction_of}
 use Rattle.bpf_asm.specs.Statements.{statement_of, is_label_line}
 use Rattle.bpf_asm.specs.Canonical.{register_text, source_text, offset_text, memory_text, wide_text, with_one, with_two, with_three, line_of}
-use Rattle.bpf_asm.proofs.PlainBytes.{is_plain, is_quiet, Free, and_left, plain_blank, before_at, before_none, drop_seam, trim_end_free, trim_end_behind, trim_start_stays, trim_start_space, blanks_free, commas_free, quiet_where, all_append, cut_none, lone_piece, pair_pieces, triple_pieces}
+use Rattle.bpf_asm.proofs.PlainBytes.{is_plain, is_quiet, Free, and_left, plain_blank, before_none, trim_end_free, trim_end_behind, trim_start_stays, trim_start_space, blanks_free, commas_free, quiet_where, all_append, cut_none, lone_piece, pair_pieces, triple_pieces}
 use Rattle.bpf_asm.proofs.NumberTexts.{decimal_not, decimal_plain, helper_reads, immediate_reads, register_reads, register_plain, signed_plain, offset_plain}
 use Rattle.bpf_asm.proofs.HexTexts.{wide_plain, wide_reads}
 use Rattle.bpf_asm.proofs.OperandTexts.{source_reads, source_plain, near_plain, memory_reads, memory_plain, near_reads, far_reads}

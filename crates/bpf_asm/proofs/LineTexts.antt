@@ -1,18 +1,15 @@
 -- The lines of instructions are read as those instructions.
-use Rattle.std.proofs.Common.{◌≡◌, ℕ, ℤ, ◌==◌, ◌||◌, ◌&&◌, ◌+◌, ◌-◌, ◌≤◌, ◌<◌, not, Bool, true, false, List, [], ◌∷◌, ◌++◌, length, drop, cond, Option, Some, None, Result, Ok, Err, refl, sym, ap, ◌∙◌, arith, slice_index, codes, append_assoc, zero, suc}
+use Rattle.std.proofs.Common.{◌≡◌, ℕ, ◌==◌, ◌-◌, Bool, true, false, List, [], ◌∷◌, ◌++◌, length, Some, None, refl, sym, ap, ◌∙◌, slice_index, codes, zero, suc}
 use Rattle.std.specs.List.{list_all, before_first}
 use Rattle.std.specs.Str.{bytes_eq}
 use Rattle.std.proofs.lemmas.Slice.Eq.{bytes_eq-Decides}
 use Rattle.bpf_asm.specs.declared.form.Form.{Form}
-use Rattle.bpf_asm.specs.declared.draft.Draft.{Draft}
-use Rattle.bpf_asm.specs.declared.statement.Statement.{Statement}
-use Rattle.bpf_asm.specs.declared.statement.Statement.TheVariants.{Empty, Label, Directive, Instruction}
+use Rattle.bpf_asm.specs.declared.statement.Statement.TheVariants.{Instruction}
 use Rattle.bpf_asm.specs.Words.{arithmetic_word, comparison_word, signed_move_word, end_word, word_of, form_of}
-use Rattle.bpf_asm.specs.Texts.{is_blank, trim_start, trim_end, trim, content, first_word, after_word, is_label_name}
-use Rattle.bpf_asm.specs.Drafts.{draft, draft_of, instruction_of}
-use Rattle.bpf_asm.specs.Statements.{is_label_line, statement_of, header_of}
-use Rattle.bpf_asm.specs.Canonical.{with_one, with_two, with_three}
-use Rattle.bpf_asm.proofs.PlainBytes.{is_plain, is_quiet, Free, and_left, and_right, plain_blank, free_where, before_at, before_none, drop_seam, trim_end_free, trim_end_behind, trim_start_stays, trim_start_space, blanks_free, quiet_where, all_append, quiet_comment, quiet_colon}
+use Rattle.bpf_asm.specs.Texts.{is_blank, trim_start, trim_end, trim, content, first_word, after_word}
+use Rattle.bpf_asm.specs.Drafts.{draft, instruction_of}
+use Rattle.bpf_asm.specs.Statements.{is_label_line, statement_of}
+use Rattle.bpf_asm.proofs.PlainBytes.{is_plain, is_quiet, Free, and_left, plain_blank, free_where, before_at, before_none, drop_seam, trim_end_behind, trim_start_stays, trim_start_space, blanks_free, quiet_where, all_append, quiet_comment, quiet_colon}
 use Rattle.bpf_asm.proofs.OperandTexts.{length_some}
 use Rattle.bpf_asm.proofs.WordLemmas.{form_known, word_plain}
 

@@ -1,18 +1,15 @@
 -- The texts of numbers are read as those numbers.
-use Rattle.std.proofs.Common.{◌≡◌, ℕ, ℤ, pos, negsuc, ◌==◌, ◌||◌, ◌&&◌, ◌+◌, ◌*◌, ◌^◌, ◌≤◌, ◌<◌, ◌⊎◌, inl, inr, not, zero, suc, Bool, true, false, List, [], ◌∷◌, ◌++◌, length, take, drop, cond, Option, Some, None, Result, Ok, Err, refl, sym, ap, ◌∙◌, arith, rules, tests, slice_index, get_or, nat_lt, nat_le, lit<, lit≤, FitsSigned}
+use Rattle.std.proofs.Common.{◌≡◌, ℕ, ℤ, pos, negsuc, ◌==◌, ◌||◌, ◌&&◌, ◌^◌, ◌≤◌, ◌<◌, ◌⊎◌, inl, inr, not, zero, suc, Bool, true, false, List, [], ◌∷◌, length, Some, Ok, refl, ap, ◌∙◌, arith, slice_index, nat_le, lit<, FitsSigned}
 use Rattle.std.specs.List.{list_all}
 use Rattle.std.specs.Int.{w16, w32}
-use Rattle.std.specs.Char.{digit_value, is_digit, digit_char}
+use Rattle.std.specs.Char.{digit_value, is_digit}
 use Rattle.std.specs.Fmt.{decimal, signed_decimal}
-use Rattle.std.specs.Str.Parse.{AllDigits, digits_value, digits_value_after, IsNumeral}
+use Rattle.std.specs.Str.Parse.{AllDigits, digits_value}
 use Rattle.std.proofs.lemmas.Fmt.{decimal_is_IsNumeral, first_decimal, decimal_digit}
 use Rattle.std.proofs.lemmas.Bool.Decides.{nat_tests}
-use Rattle.bpf_asm.specs.declared.number.Number.{Number}
-use Rattle.bpf_asm.specs.declared.fault.AsmFault.{AsmFault}
-use Rattle.bpf_asm.specs.declared.fault.AsmFault.TheVariants as faults
-use Rattle.bpf_asm.specs.Numbers.{all_digits, decimal_number, hex_number, natural, natural_within, as_negative, as_nonnegative, minus_within, plus_within, plain_within, signed_within, value_of}
-use Rattle.bpf_asm.specs.Canonical.{register_text, source_text, offset_text, memory_text, hex_digits, wide_text}
-use Rattle.bpf_asm.specs.Operands.{filled, both, register_of, immediate_of, offset_of, distance_of, unsigned_of}
+use Rattle.bpf_asm.specs.Numbers.{decimal_number, natural, minus_within, plus_within, plain_within, signed_within, value_of}
+use Rattle.bpf_asm.specs.Canonical.{register_text, offset_text}
+use Rattle.bpf_asm.specs.Operands.{filled, register_of, immediate_of, offset_of, distance_of, unsigned_of}
 use Rattle.bpf_asm.proofs.PlainBytes.{is_plain}
 
 pub digit_range : (c : ℕ) → digit_value c < 10 → (48 ≤ c) × (c ≤ 57)

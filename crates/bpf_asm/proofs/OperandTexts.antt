@@ -1,9 +1,8 @@
 -- The texts of operands are read as those operands.
-use Rattle.std.proofs.Common.{◌≡◌, ℕ, ℤ, pos, negsuc, ◌==◌, ◌||◌, ◌&&◌, ◌+◌, ◌-◌, ◌^◌, ◌≤◌, ◌<◌, ◌⊎◌, inl, inr, not, zero, suc, Bool, true, false, List, [], ◌∷◌, ◌++◌, length, take, drop, cond, Option, Some, None, Result, Ok, Err, refl, sym, ap, ◌∙◌, arith, rules, tests, slice_index, get_or, nat_lt, nat_le, lit<, FitsSigned, codes, length-append}
-use Rattle.std.specs.List.{list_all, before_first}
-use Rattle.std.specs.Str.{bytes_eq}
+use Rattle.std.proofs.Common.{◌≡◌, ℕ, ℤ, pos, negsuc, ◌==◌, ◌+◌, ◌-◌, ◌≤◌, inr, suc, Bool, true, false, List, [], ◌∷◌, ◌++◌, length, cond, Ok, refl, ap, ◌∙◌, arith, get_or, lit<, FitsSigned, length-append}
+use Rattle.std.specs.List.{list_all}
 use Rattle.std.specs.Int.{w16, w32}
-use Rattle.std.specs.Fmt.{decimal, signed_decimal}
+use Rattle.std.specs.Fmt.{decimal}
 use Rattle.std.specs.Str.Parse.{AllDigits}
 use Rattle.std.proofs.Math.Seq.{take-append_seam}
 use Rattle.std.proofs.lemmas.Fmt.{decimal_is_IsNumeral}
@@ -11,11 +10,10 @@ use Rattle.std.proofs.lemmas.Bool.Decides.{nat_tests}
 use Rattle.bpf_decode.specs.declared.insn.Operand.{Operand}
 use Rattle.bpf_decode.specs.declared.insn.Operand.TheVariants.{Immediate, Register}
 use Rattle.bpf_decode.specs.Instruction.{OperandFits}
-use Rattle.bpf_asm.specs.declared.fault.AsmFault.{AsmFault}
 use Rattle.bpf_asm.specs.declared.target.Target.TheVariants.{Slots}
-use Rattle.bpf_asm.specs.Texts.{is_label_name, is_blank}
+use Rattle.bpf_asm.specs.Texts.{is_label_name}
 use Rattle.bpf_asm.specs.Canonical.{register_text, source_text, offset_text, memory_text}
-use Rattle.bpf_asm.specs.Operands.{filled, both, register_of, offset_of, source_of, is_sign, offset_or_zero, place_within, memory_of, near_target_of, far_target_of}
+use Rattle.bpf_asm.specs.Operands.{filled, offset_of, source_of, is_sign, offset_or_zero, place_within, memory_of, near_target_of, far_target_of}
 use Rattle.bpf_asm.proofs.PlainBytes.{is_plain, Free, before_at, drop_seam, all_append}
 use Rattle.bpf_asm.proofs.NumberTexts.{digit_range, decimal_not, decimal_plain, immediate_reads, offset_reads, distance_reads, register_reads, register_plain, signed_plain}
 

@@ -1,9 +1,9 @@
 -- Bytes that cut no line: neither blank nor one of `,`, `:`, `;` and the line feed.
-use Rattle.std.proofs.Common.{◌≡◌, ℕ, ◌==◌, ◌||◌, ◌&&◌, ◌+◌, ◌≤◌, ◌<◌, not, suc, Bool, true, false, List, [], ◌∷◌, ◌++◌, length, take, drop, cond, Option, Some, None, refl, sym, ap, ◌∙◌, arith, rules, tests, slice_index, get_or, add-one, nat_lt, length-append}
-use Rattle.std.specs.List.{list_all, position_or_len, before_first, after_first}
+use Rattle.std.proofs.Common.{◌≡◌, ℕ, ◌==◌, ◌||◌, ◌&&◌, ◌+◌, ◌≤◌, ◌<◌, not, suc, Bool, true, false, List, [], ◌∷◌, ◌++◌, length, take, drop, Some, None, refl, ap, ◌∙◌, arith, add-one, nat_lt, length-append}
+use Rattle.std.specs.List.{list_all, position_or_len, before_first}
 use Rattle.std.proofs.Math.Seq.{take-length, take-append_seam}
 use Rattle.std.proofs.lemmas.Bool.Decides.{nat_tests}
-use Rattle.bpf_asm.specs.Texts.{is_blank, onto_trimmed, trim_start, trim_end, trim, content, first_word, after_word, cut, lone, pair, triple}
+use Rattle.bpf_asm.specs.Texts.{is_blank, onto_trimmed, trim_start, trim_end, trim, cut, lone, pair, triple}
 
 abbrev pub is_plain : ℕ → Bool
 is_plain c = not (is_blank c || c == 44 || c == 58 || c == 59 || c == 10)

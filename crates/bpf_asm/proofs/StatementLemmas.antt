@@ -1,6 +1,5 @@
 -- Lemmas on the lines of a text.
 use Rattle.std.proofs.Common.{◌≡◌, ℕ, List, [], ◌∷◌, map, Bor, refl, ap, ◌∙◌}
-use Rattle.bpf_asm.specs.declared.statement.Statement.{Statement}
 use Rattle.bpf_asm.specs.Texts.{content}
 use Rattle.bpf_asm.specs.Statements.{statement_of, lines_of, statements_of}
 

@@ -1,10 +1,10 @@
 -- Lemmas on the cutting of texts.
-use Rattle.std.proofs.Common.{◌≡◌, ℕ, ◌==◌, ◌+◌, ◌≤◌, ◌<◌, suc, Bool, true, false, ◌&&◌, List, [], ◌∷◌, ◌++◌, length, refl, ap, arith, rules, tests, cond, eqb, ◌-◌, take, get_or, ltb, not, sym, ◌∙◌, Option, Some, None, unwrap_or}
+use Rattle.std.proofs.Common.{◌≡◌, ℕ, ◌≤◌, suc, Bool, true, false, List, [], ◌∷◌, ◌++◌, length, refl, ap, arith, cond, ◌-◌, take, get_or, ltb, not, sym, ◌∙◌, Option, Some, None, unwrap_or}
 use Rattle.std.proofs.Math.Seq.{take-length, take-suc}
 use Rattle.std.proofs.lemmas.Bool.Decides.{nat_tests}
 use Rattle.std.proofs.lemmas.List.Sums.{prefix_len-le-length}
 use Rattle.std.specs.List.{position_or_len}
-use Rattle.bpf_asm.specs.Texts.{is_blank, onto_trimmed, trim_start, trim_end}
+use Rattle.bpf_asm.specs.Texts.{is_blank, onto_trimmed, trim_end}
 
 -- a blank at the end is cut off
 pub trim_end_blank : (text : List ℕ) (c : ℕ) → is_blank c ≡ true → trim_end (text ++ (c ∷ [])) ≡ trim_end text

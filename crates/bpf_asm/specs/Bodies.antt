@@ -1,7 +1,6 @@
 -- Methods: labels are resolved, and the lines read in order up to the first that is refused.
-use Rattle.std.specs.Prelude.{ℕ, ℤ, pos, negsuc, ◌+◌, ◌-ℤ◌, ◌==◌, ◌&&◌, nat_le, nat_lt, int_le, Bool, true, false, List, [], ◌∷◌, ◌++◌, length, is_some, count_by, if◌then◌else◌, Option, Some, None, Result, Ok, Err}
+use Rattle.std.specs.Prelude.{ℕ, ℤ, pos, negsuc, ◌+◌, ◌-ℤ◌, ◌&&◌, nat_le, nat_lt, int_le, Bool, true, false, List, [], ◌∷◌, ◌++◌, is_some, count_by, if◌then◌else◌, Option, Some, None, Result, Ok, Err}
 use Rattle.std.specs.Str.{bytes_eq}
-use Rattle.std.specs.List.{list_any}
 use Rattle.bpf_decode.specs.declared.insn.Insn.{Insn}
 use Rattle.bpf_decode.specs.declared.insn.Insn.TheVariants as insns
 use Rattle.bpf_decode.specs.Instruction.{slot_count}

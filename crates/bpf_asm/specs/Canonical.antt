@@ -1,5 +1,5 @@
 -- The one text of a method's instructions, and of a class.
-use Rattle.std.specs.Prelude.{ℕ, ℤ, pos, negsuc, ◌+◌, ◌/◌, ◌%◌, suc, zero, List, [], ◌∷◌, ◌++◌, ◌==◌, if◌then◌else◌, codes}
+use Rattle.std.specs.Prelude.{ℕ, ℤ, pos, negsuc, ◌/◌, ◌%◌, suc, zero, List, [], ◌∷◌, ◌++◌, ◌==◌, if◌then◌else◌, codes}
 use Rattle.std.specs.List.{flat_map}
 use Rattle.std.specs.Fmt.{decimal, signed_decimal}
 use Rattle.std.specs.Char.{digit_char}

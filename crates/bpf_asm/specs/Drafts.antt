@@ -1,13 +1,11 @@
 -- Instructions as their lines have them: labels aren't resolved yet.
 use Rattle.std.specs.Prelude.{ℕ, Bool, true, false, List, length, Option, Some, None, if◌then◌else◌, Result, Ok, Err}
 use Rattle.std.specs.Str.{bytes_eq}
-use Rattle.std.specs.Prelude.{codes, ◌==◌, take, drop, ◌-◌}
-use Rattle.bpf_decode.specs.declared.insn.Insn.{Insn}
+use Rattle.std.specs.Prelude.{codes, ◌==◌}
 use Rattle.bpf_decode.specs.declared.insn.Insn.TheVariants as insns
 use Rattle.bpf_decode.specs.declared.insn.Operand.TheVariants.{Immediate, Register}
 use Rattle.bpf_asm.specs.declared.fault.AsmFault.{AsmFault}
 use Rattle.bpf_asm.specs.declared.fault.AsmFault.TheVariants as faults
-use Rattle.bpf_asm.specs.declared.target.Target.{Target}
 use Rattle.bpf_asm.specs.declared.draft.Draft.{Draft}
 use Rattle.bpf_asm.specs.declared.draft.Draft.TheVariants as drafts
 use Rattle.bpf_asm.specs.declared.form.Form.{Form}

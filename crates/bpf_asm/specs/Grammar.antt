@@ -1,5 +1,5 @@
 -- The grammar of one method's text, as a relation: what each line says, labels that stand once, and distances that reach them.
-use Rattle.std.specs.Prelude.{◌≡◌, ℕ, ◌+◌, ◌≤◌, true, length, List, [], ◌∷◌, ◌++◌, Option, None, Result, Ok, Err}
+use Rattle.std.specs.Prelude.{◌≡◌, ℕ, ◌+◌, ◌≤◌, true, length, List, [], ◌∷◌, ◌++◌, None, Result, Ok, Err}
 use Rattle.bpf_decode.specs.declared.insn.Insn.{Insn}
 use Rattle.bpf_decode.specs.Instruction.{slot_count, slot_total}
 use Rattle.bpf_asm.specs.declared.fault.AsmFault.{AsmFault}

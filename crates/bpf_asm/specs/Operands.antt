@@ -5,7 +5,6 @@ use Rattle.bpf_decode.specs.declared.insn.Operand.{Operand}
 use Rattle.bpf_decode.specs.declared.insn.Operand.TheVariants.{Immediate, Register}
 use Rattle.bpf_asm.specs.declared.fault.AsmFault.{AsmFault}
 use Rattle.bpf_asm.specs.declared.fault.AsmFault.TheVariants as faults
-use Rattle.bpf_asm.specs.declared.number.Number.{Number}
 use Rattle.bpf_asm.specs.declared.target.Target.{Target}
 use Rattle.bpf_asm.specs.declared.target.Target.TheVariants.{Slots, Label}
 use Rattle.bpf_asm.specs.Fault.{fault_number}

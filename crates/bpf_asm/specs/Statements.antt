@@ -1,5 +1,5 @@
 -- What a line says.
-use Rattle.std.specs.Prelude.{ℕ, ◌==◌, ◌&&◌, ◌-◌, Bool, List, length, take, slice_index, if◌then◌else◌, Option, Some, None, Result, Ok, Err, codes, map}
+use Rattle.std.specs.Prelude.{ℕ, ◌==◌, ◌&&◌, ◌-◌, Bool, List, length, take, slice_index, if◌then◌else◌, Option, Some, None, Result, Err, codes, map}
 use Rattle.std.specs.Str.{bytes_eq}
 use Rattle.std.specs.List.{slice_split}
 use Rattle.bpf_asm.specs.declared.fault.AsmFault.{AsmFault}

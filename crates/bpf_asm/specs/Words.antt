@@ -2,9 +2,7 @@
 use Rattle.std.specs.Prelude.{ℕ, List, [], ◌∷◌, Option, codes}
 use Rattle.std.specs.List.{find}
 use Rattle.std.specs.Str.{bytes_eq}
-use Rattle.bpf_decode.specs.declared.access.Width.{Width}
 use Rattle.bpf_decode.specs.declared.access.Width.TheVariants.{Byte, Half, Word, Double}
-use Rattle.bpf_decode.specs.declared.access.SignedWidth.{SignedWidth}
 use Rattle.bpf_decode.specs.declared.access.SignedWidth.TheVariants as signed
 use Rattle.bpf_decode.specs.declared.operation.Bits.{Bits}
 use Rattle.bpf_decode.specs.declared.operation.Bits.TheVariants.{Bits32, Bits64}

@@ -10,7 +10,7 @@ use crate::operand::{
 };
 use crate::target::Target;
 use crate::text::{after_word, first_word, lone, pair, triple};
-use bpf_decode::{Bits, Comparison, Insn, Operand, Register};
+use bpf_decode::{Bits, Comparison, Insn, Operand, Register, SignedWidth, Width};
 use std::alloc::{AllocError, Global};
 
 /// An instruction as its line has it: where a jump goes may be a label.
@@ -148,6 +148,58 @@ fn call(alloc: Global, text: &[u8]) -> Result<Result<Draft, AsmFault>, AllocErro
     }
 }
 
+/// A load.
+fn load(width: Width, rest: &[u8]) -> Result<Insn, AsmFault>
+    ensures { filled Draft.Plain result ≡ draft (Form.Load width) rest.now }
+{
+    let (dst, (base, offset)) = register_and_memory(rest)?;
+    Ok(Insn::Load {
+        width,
+        dst,
+        base,
+        offset,
+    })
+}
+
+/// A load with sign extension.
+fn load_signed(width: SignedWidth, rest: &[u8]) -> Result<Insn, AsmFault>
+    ensures { filled Draft.Plain result ≡ draft (Form.LoadSigned width) rest.now }
+{
+    let (dst, (base, offset)) = register_and_memory(rest)?;
+    Ok(Insn::LoadSigned {
+        width,
+        dst,
+        base,
+        offset,
+    })
+}
+
+/// A store of a number.
+fn store_number(width: Width, rest: &[u8]) -> Result<Insn, AsmFault>
+    ensures { filled Draft.Plain result ≡ draft (Form.StoreNumber width) rest.now }
+{
+    let ((base, offset), imm) = memory_and_number(rest)?;
+    Ok(Insn::Store {
+        width,
+        base,
+        offset,
+        source: Operand::Immediate(imm),
+    })
+}
+
+/// A store of a register.
+fn store_register(width: Width, rest: &[u8]) -> Result<Insn, AsmFault>
+    ensures { filled Draft.Plain result ≡ draft (Form.StoreRegister width) rest.now }
+{
+    let ((base, offset), src) = memory_and_register(rest)?;
+    Ok(Insn::Store {
+        width,
+        base,
+        offset,
+        source: Operand::Register(src),
+    })
+}
+
 /// A form without a target, with its operands.
 fn plain(form: Form, rest: &[u8]) -> Result<Insn, AsmFault>
     requires { IsFalse (has_target form) }
@@ -188,42 +240,10 @@ fn plain(form: Form, rest: &[u8]) -> Result<Insn, AsmFault>
             let (dst, value) = register_and_wide(rest)?;
             Ok(Insn::LoadWide { dst, value })
         }
-        Form::Load(width) => {
-            let (dst, (base, offset)) = register_and_memory(rest)?;
-            Ok(Insn::Load {
-                width,
-                dst,
-                base,
-                offset,
-            })
-        }
-        Form::LoadSigned(width) => {
-            let (dst, (base, offset)) = register_and_memory(rest)?;
-            Ok(Insn::LoadSigned {
-                width,
-                dst,
-                base,
-                offset,
-            })
-        }
-        Form::StoreNumber(width) => {
-            let ((base, offset), imm) = memory_and_number(rest)?;
-            Ok(Insn::Store {
-                width,
-                base,
-                offset,
-                source: Operand::Immediate(imm),
-            })
-        }
-        Form::StoreRegister(width) => {
-            let ((base, offset), src) = memory_and_register(rest)?;
-            Ok(Insn::Store {
-                width,
-                base,
-                offset,
-                source: Operand::Register(src),
-            })
-        }
+        Form::Load(width) => load(width, rest),
+        Form::LoadSigned(width) => load_signed(width, rest),
+        Form::StoreNumber(width) => store_number(width, rest),
+        Form::StoreRegister(width) => store_register(width, rest),
         Form::Exit => {
             if rest.is_empty() {
                 Ok(Insn::Exit)

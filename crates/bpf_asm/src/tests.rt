@@ -1,8 +1,11 @@
+mod class_texts;
+
 use super::*;
 use bpf_decode::{
     Arithmetic, Bits, ByteOrder, Comparison, EndWidth, Insn, Operand, Register, SignedMove,
-    SignedWidth, Width,
+    SignedWidth, Width, decode, encode,
 };
+use class_texts::{LOCK, LOCK_PLAIN};
 use std::alloc::Global;
 use std::process::Abort;
 use std::test::Fail;
@@ -11,9 +14,10 @@ fn register(rt: &impl Abort, number: u8) -> Register {
     Register::new(number).expect(rt, "a register")
 }
 
-/// The text is assembled, and what it gives is printed as `canonical`.
+/// The text is assembled, and the bytes that it gives are read and printed as `canonical`.
 fn reads(rt: &impl Abort, alloc: Global, text: &str, canonical: &str) -> Result<(), Fail> {
-    let insns = assemble(alloc, text)?;
+    let bytes = encode(alloc, &assemble(alloc, text)?)?;
+    let insns = decode(alloc, &bytes)?;
     let printed = push_all(alloc, &insns)?;
     assert_eq!(rt; printed.as_str(), canonical);
     Ok(())
@@ -32,6 +36,19 @@ fn refuses(rt: &impl Abort, alloc: Global, text: &str, line: usize, fault: AsmFa
         Ok(_) => panic!(rt; "read: {text}"),
         Err(error) => assert_eq!(rt; error, AsmError { line, fault }),
     }
+}
+
+#[test]
+fn bytes_of_lines(rt: HostRuntime) -> Result<(), Fail> {
+    let bytes = encode(
+        rt.alloc(),
+        &assemble(rt.alloc(), "ldxw r0, [r1+4]\njgt r2, 15, +3\n")?,
+    )?;
+    let wanted: [u8; 16] = [
+        0x61, 0x10, 0x04, 0, 0, 0, 0, 0, 0x25, 0x02, 0x03, 0, 0x0f, 0, 0, 0,
+    ];
+    assert!(rt; bytes.as_slice() == wanted.as_slice());
+    Ok(())
 }
 
 #[test]
@@ -245,64 +262,6 @@ fn prints(rt: HostRuntime) -> Result<(), Fail> {
     );
     Ok(())
 }
-
-const LOCK: &str = ".method lock rw 0 0
-call 15
-mov r6, r0
-stw [r10-4], 0x6b636f6c
-mov r1, r10
-add r1, -4
-mov r2, 4
-mov r3, r10
-add r3, -16
-mov r4, 8
-call 6
-jsge r0, 0, held
-stxdw [r10-16], r6
-mov r1, r10
-add r1, -4
-mov r2, 4
-mov r3, r10
-add r3, -16
-mov r4, 8
-call 7
-exit
-held:
-ldxdw r1, [r10-16]
-mov r0, 0
-jeq r1, r6, done
-mov r0, -16
-done:
-exit
-";
-
-const LOCK_PLAIN: &str = ".method lock rw 0 0
-call 15
-mov r6, r0
-stw [r10-4], 1801678700
-mov r1, r10
-add r1, -4
-mov r2, 4
-mov r3, r10
-add r3, -16
-mov r4, 8
-call 6
-jsge r0, 0, +9
-stxdw [r10-16], r6
-mov r1, r10
-add r1, -4
-mov r2, 4
-mov r3, r10
-add r3, -16
-mov r4, 8
-call 7
-exit
-ldxdw r1, [r10-16]
-mov r0, 0
-jeq r1, r6, +1
-mov r0, -16
-exit
-";
 
 #[test]
 fn classes(rt: HostRuntime) -> Result<(), Fail> {

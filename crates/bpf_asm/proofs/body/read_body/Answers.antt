@@ -1,6 +1,5 @@
-use Rattle.std.proofs.Common.{◌≡◌, ◌≤◌, ◌+◌, arith}
+use Rattle.std.proofs.Common.{arith}
 use Rattle.std.proofs.lemmas.Grind.{common_steps}
-use Rattle.bpf_decode.specs.Instruction.{slot_total, slot_count}
 use Rattle.bpf_asm.specs.Bodies.{body_from}
 use Rattle.bpf_asm.proofs.BodyLemmas.{one_slot, slot_total_push, counted_more}
 use Rattle.bpf_asm.proofs.body.read_body.Goals as goal

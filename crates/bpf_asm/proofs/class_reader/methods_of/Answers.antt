@@ -1,10 +1,9 @@
-use Rattle.std.proofs.Common.{◌≡◌, ◌++◌, ◌∷◌, ◌+◌, [], List, Ok, sym, ap, ◌∙◌, arith, rules}
+use Rattle.std.proofs.Common.{◌≡◌, ◌++◌, ◌∷◌, ◌+◌, [], Ok, sym, ◌∙◌, arith, rules}
 use Rattle.std.proofs.lemmas.Grind.{common_steps}
 use Rattle.std.specs.List.{before_first}
 use Rattle.std.proofs.Common.{drop}
-use Rattle.bpf_decode.specs.Class.{ClassMethod}
-use Rattle.bpf_decode.specs.ImageReading.{method_after, methods_after}
-use Rattle.bpf_asm.specs.Classes.{last_name, is_directive, method_at, class_from}
+use Rattle.bpf_decode.specs.ImageReading.{method_after}
+use Rattle.bpf_asm.specs.Classes.{last_name, is_directive, method_at}
 use Rattle.bpf_asm.proofs.ClassLemmas.{one_more, class_goes_on, rest_whole}
 use Rattle.bpf_asm.proofs.class_reader.methods_of.Goals as goal
 

@@ -1,7 +1,6 @@
-use Rattle.std.proofs.Common.{rules, tests, ◌≡◌, ◌∙◌, arith, ◌==◌, ℕ}
+use Rattle.std.proofs.Common.{rules, tests, ◌∙◌, ◌==◌, ℕ}
 use Rattle.std.proofs.lemmas.Iterator.{YieldsList-from_slice}
 use Rattle.std.proofs.lemmas.Iterator.Search.{position_from_yields_List}
-use Rattle.std.proofs.lemmas.List.Sums.{prefix_len-le-length}
 use Rattle.bpf_asm.proofs.TextLemmas.{place_found}
 use Rattle.bpf_asm.proofs.text.place_of.Goals as goal
 

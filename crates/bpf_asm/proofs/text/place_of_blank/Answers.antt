@@ -1,8 +1,7 @@
-use Rattle.std.proofs.Common.{rules, tests, ◌≡◌, ◌∙◌, arith}
+use Rattle.std.proofs.Common.{rules, tests, ◌∙◌}
 use Rattle.bpf_asm.specs.Texts.{is_blank}
 use Rattle.std.proofs.lemmas.Iterator.{YieldsList-from_slice}
 use Rattle.std.proofs.lemmas.Iterator.Search.{position_from_yields_List}
-use Rattle.std.proofs.lemmas.List.Sums.{prefix_len-le-length}
 use Rattle.bpf_asm.proofs.TextLemmas.{place_found}
 use Rattle.bpf_asm.proofs.text.place_of_blank.Goals as goal
 
