@@ -1,0 +1,20 @@
+//! `bench` measures an instruction of `call`, a slot of `verify` and an `append` of a group, over methods of its own.
+#![tactic(auto)]
+
+mod measure;
+mod mode;
+mod report;
+#[cfg(test)]
+mod tests;
+mod workload;
+
+use crate::mode::Mode;
+use crate::report::report;
+use anyhow::{Context, Result};
+use std::env;
+
+fn main(rt: HostRuntime) -> Result<()> {
+    let words: Vec<String> = env::args(&rt)?.collect(rt.alloc())?;
+    let mode = Mode::of(&words).context("usage: bench [--dry]")?;
+    report(rt.alloc(), &rt, mode, &mut rt.stdout())
+}

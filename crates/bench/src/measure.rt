@@ -1,0 +1,114 @@
+ghost use Rattle.std.specs.Prelude.{◌≡◌, ◌≤◌};
+ghost use Rattle.bench.specs.Measure.{picos_each};
+
+use crate::workload::{Ready, steps};
+use anyhow::{Context, Result};
+use interp::{ClassTable, ObjectName};
+use pg_log::{Classes, ClientId, Group, GroupWork, Request, RequestNumber, with_group};
+use std::alloc::Global;
+use std::time::{Clock, Instant};
+use verifier::{VerifiedClass, verify};
+
+/// How often each time is taken for the table, of which the least counts.
+pub const RUNS: usize = 50;
+
+/// How many instructions or slots a measurement has, about.
+const UNITS: usize = 100_000;
+
+/// The requests of a measurement of `append`.
+const REQUESTS: u32 = 4_096;
+
+/// The picoseconds that each of `count` took, where all took so many nanoseconds; at most 2^64 - 1.
+pub fn picos_each(nanos: u128, count: usize) -> u64
+    requires { 1 ≤ count }
+    ensures { result ≡ picos_each nanos count }
+{
+    let picos = nanos.saturating_mul(1000) / count as u128;
+    picos.min(u128::from(u64::MAX)) as u64
+}
+
+/// The least picoseconds that a call of a method took, of so many runs.
+pub fn time_call<C: Clock>(alloc: Global, clock: &C, ready: &Ready, runs: usize) -> Result<u64> {
+    let calls = UNITS / ready.steps.max(1) + 1;
+    let mut least = u64::MAX;
+    for _ in 0..runs {
+        let start = Instant::now(clock)?;
+        for _ in 0..calls {
+            let _ = steps(alloc, &ready.class)?;
+        }
+        least = least.min(picos_each(start.elapsed(clock)?.as_nanos(), calls));
+    }
+    Ok(least)
+}
+
+/// The least picoseconds that `verify` took of a method's class, of so many runs.
+pub fn time_verify<C: Clock>(alloc: Global, clock: &C, ready: &Ready, runs: usize) -> Result<u64> {
+    let passes = UNITS / ready.instructions.max(1) / 10 + 1;
+    let mut least = u64::MAX;
+    for _ in 0..runs {
+        let start = Instant::now(clock)?;
+        for _ in 0..passes {
+            let _ = verify(alloc, &ready.image)?;
+        }
+        least = least.min(picos_each(start.elapsed(clock)?.as_nanos(), passes));
+    }
+    Ok(least)
+}
+
+/// The least picoseconds that an `append` to a group took, of so many runs: of requests of one client for the method
+/// `f` of a class.
+pub fn time_append<C: Clock>(
+    alloc: Global,
+    clock: &C,
+    class: VerifiedClass,
+    runs: usize,
+) -> Result<u64> {
+    let mut table = ClassTable::new(alloc);
+    let class = table.add(class)?;
+    let mut least = u64::MAX;
+    for _ in 0..runs {
+        let requests = requests(alloc, class)?;
+        let taken = with_group(alloc, &table, Appends { clock, requests })?;
+        least = least.min(picos_each(taken, REQUESTS as usize));
+    }
+    Ok(least)
+}
+
+/// Requests for the method `f` of a class, numbered from 1 on, the last first.
+fn requests(alloc: Global, class: usize) -> Result<Vec<Request>> {
+    let mut requests = Vec::new(alloc);
+    for number in 0..REQUESTS {
+        requests.push(Request::new(
+            ClientId::new(1).context("a client")?,
+            RequestNumber::new(REQUESTS - number).context("a number")?,
+            ObjectName::new(alloc, "o")?,
+            class,
+            String::from_str(alloc, "f")?,
+            Vec::new(alloc),
+        ))?;
+    }
+    Ok(requests)
+}
+
+/// Appends requests to a group, and gives the nanoseconds that it took.
+#[derive(Drop)]
+struct Appends<'a, C> {
+    clock: &'a C,
+    requests: Vec<Request>,
+}
+
+impl<T: Clock> GroupWork for Appends<'_, T> {
+    type Output = Result<u128>;
+
+    ghost gives = { λ _ _. Unit {0} };
+
+    fn work<C: Classes>(mut self, table: &ClassTable, mut group: Group<C>) -> Result<u128> {
+        let start = Instant::now(self.clock)?;
+        for _ in 0..REQUESTS {
+            if let Some(request) = self.requests.pop() {
+                let _ = group.append(table, request)?;
+            }
+        }
+        Ok(start.elapsed(self.clock)?.as_nanos())
+    }
+}
