@@ -149,7 +149,7 @@ fn wide(code: &mut Vec<u8>, register: u8, number: u64) -> Result<(), Fail> {
 fn row(random: &mut Random, n: usize) -> [u8; 8] {
     let dst = random.register();
     let src = random.register();
-    let both = dst | (src * 16);
+    let both = dst | src.wrapping_mul(16);
     let imm = random.small();
     if let Some((operation, offset)) = ARITHMETIC.get(n / 4) {
         let class = if n % 2 == 0 { 0x07 } else { 0x04 };
@@ -161,20 +161,20 @@ fn row(random: &mut Random, n: usize) -> [u8; 8] {
     } else if let Some((opcode, offset, imm, reads)) = UNARY.get(n.wrapping_sub(52)) {
         slot(*opcode, if *reads { both } else { dst }, *offset, *imm)
     } else if let Some((opcode, bytes)) = LOADS.get(n.wrapping_sub(72)) {
-        let [base, start, len] = place(random, true);
+        let (base, start, len) = place(random, true);
         slot(
             *opcode,
-            dst | (base as u8 * 16),
+            dst | base.wrapping_mul(16),
             within(random, start, len, *bytes),
             0,
         )
     } else if let Some((opcode, bytes)) = STORES.get(n.wrapping_sub(79)) {
-        let [base, start, len] = place(random, false);
+        let (base, start, len) = place(random, false);
         let at = within(random, start, len, *bytes);
         if opcode % 2 == 0 {
-            slot(*opcode, base as u8, at, imm)
+            slot(*opcode, base, at, imm)
         } else {
-            slot(*opcode, base as u8 | (src * 16), at, 0)
+            slot(*opcode, base | src.wrapping_mul(16), at, 0)
         }
     } else {
         slot(0xbf, both, 0, 0)
@@ -182,11 +182,11 @@ fn row(random: &mut Random, n: usize) -> [u8; 8] {
 }
 
 /// A register that points to a region, where the region starts beside it, and how long it is.
-fn place(random: &mut Random, read: bool) -> [u16; 3] {
+fn place(random: &mut Random, read: bool) -> (u8, u16, u16) {
     match random.next() % 3 {
-        0 if read => [6, 0, 24],
-        1 => [7, 0, 40],
-        _ => [10, 512, 512],
+        0 if read => (6, 0, 24),
+        1 => (7, 0, 40),
+        _ => (10, 512, 512),
     }
 }
 
@@ -196,7 +196,8 @@ fn within(random: &mut Random, before: u16, len: u16, bytes: i16) -> i16 {
     let at = match random.next() % 4 {
         0 => 0,
         1 => last,
-        _ => (random.next() % 65_536) as u16 % (last | 1),
+        _ if last == 0 => 0,
+        _ => (random.next() % 65_536) as u16 % last,
     };
     at.wrapping_sub(before).cast_signed()
 }
@@ -213,7 +214,12 @@ fn branch(random: &mut Random, n: usize, over: i16) -> [u8; 8] {
     if n / 2 % 2 == 0 {
         slot(comparison | class, dst, over, random.small())
     } else {
-        slot(comparison | class | 0x08, dst | (src * 16), over, 0)
+        slot(
+            comparison | class | 0x08,
+            dst | src.wrapping_mul(16),
+            over,
+            0,
+        )
     }
 }
 
