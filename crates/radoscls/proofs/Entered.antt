@@ -1,15 +1,15 @@
 -- What the subcommand that a parse entered asks for.
-use Rattle.std.proofs.Common.{◌≡◌, ◌∙◌, refl, sym, ap₂, List, Option, Some, None, option_map, codes}
+use Rattle.std.proofs.Common.{◌≡◌, ◌∙◌, sym, ap₂, List, Option, Some, None, option_map, codes}
 use Rattle.std.specs.Prelude.{IfSome}
 use Rattle.std.proofs.lemmas.Option.{none-some, same_Some}
-use Rattle.clap.specs.Words.{Row, Text, first_of, first_value, found_of, rows_of, subcommand_name_of, subcommand_rows_of}
+use Rattle.clap.specs.Words.{Row, Text, first_value, found_of, rows_of, subcommand_name_of, subcommand_rows_of}
 use Rattle.clap.specs.declared.parser.matches.ArgMatches.{ArgMatches}
 use Rattle.clap.specs.declared.parser.matches.ArgMatches.TheViews.{out-ArgMatches}
 use Rattle.clap.proofs.WalkLemmas.{first_value-rows}
-use Rattle.radoscls.specs.Arguments.{AsksCall, AsksVerdict}
-use Rattle.radoscls.specs.CommandLine.{Asks, AsksBy}
+use Rattle.radoscls.specs.Arguments.{AsksBy, Takes}
+use Rattle.radoscls.specs.CommandLine.{Asks}
 use Rattle.radoscls.specs.declared.arguments.Action.{Action}
-use Rattle.radoscls.specs.declared.arguments.Action.TheVariants.{Verify, Run}
+use Rattle.radoscls.specs.declared.arguments.Action.TheVariants.{Verify, Run, Assemble, Disassemble}
 
 -- two parts of an optional value make the pair of them
 both_parts : {A B C : Type 0} (f : C → A) (g : C → B) (o : Option C) (a : A) (b : B) → option_map f o ≡ Some a
@@ -25,47 +25,25 @@ entered : (m : ArgMatches) (name : Text) (rows : List Row) → subcommand_name_o
 entered m name rows named found = both_parts _ _ (out-ArgMatches m).subcommand name rows named found
 
 -- values that are read in two ways ask for the same
-same_verdict : (u v : Text → Option Text) → ((id : Text) → u id ≡ v id) → (a : Action) → AsksVerdict u a → AsksVerdict v a
-same_verdict u v same (Verify image) asks = sym (same (codes "IN")) ∙ asks
-same_verdict u v same (Run call) asks = asks
-
-same_call : (u v : Text → Option Text) → ((id : Text) → u id ≡ v id) → (a : Action) → AsksCall u a → AsksCall v a
-same_call u v same (Verify image) asks = asks
-same_call u v same (Run call) asks = (
-  sym (same (codes "IN")) ∙ asks.0,
-  sym (same (codes "METHOD")) ∙ asks.1,
-  sym (same (codes "input")) ∙ asks.2,
-  (asks.3.0, sym (same (codes "caller")) ∙ asks.3.1, asks.3.2),
+same_values : (u v : Text → Option Text) → ((id : Text) → u id ≡ v id) → (a : Action) → Takes u a → Takes v a
+same_values u v same (Verify image) takes = sym (same (codes "IN")) ∙ takes
+same_values u v same (Run call) takes = (
+  sym (same (codes "IN")) ∙ takes.0,
+  sym (same (codes "METHOD")) ∙ takes.1,
+  sym (same (codes "input")) ∙ takes.2,
+  (takes.3.0, sym (same (codes "caller")) ∙ takes.3.1, takes.3.2),
 )
+same_values u v same (Assemble text image) takes = (sym (same (codes "IN")) ∙ takes.0, sym (same (codes "OUT")) ∙ takes.1)
+same_values u v same (Disassemble image) takes = sym (same (codes "IN")) ∙ takes
 
-by_verify : (rows : List Row) (a : Action) → AsksVerdict (λ id. first_of id rows) a → AsksBy (codes "verify") rows a
-by_verify rows (Verify image) asks = (refl, asks)
-by_verify rows (Run call) asks = absurd asks
-
-by_run : (rows : List Row) (a : Action) → AsksCall (λ id. first_of id rows) a → AsksBy (codes "run") rows a
-by_run rows (Verify image) asks = absurd asks
-by_run rows (Run call) asks = (refl, asks)
-
--- a verdict, where `verify` was entered
-pub Asks-verify : (m found : ArgMatches) → subcommand_name_of m ≡ Some (codes "verify")
+-- the action of the subcommand that was entered
+pub Asks-entered : (name : Text) (m found : ArgMatches) → subcommand_name_of m ≡ Some name
     → option_map (λ (p : Text × List Row). p.1) (subcommand_rows_of m) ≡ Some (rows_of (found_of found))
-    → (o : Option Action) → IfSome o (AsksVerdict (first_value (found_of found))) → IfSome o (Asks (subcommand_rows_of m))
-Asks-verify m found named rows None asks = tt
-Asks-verify m found named rows (Some a) asks = record {
-  name = codes "verify";
+    → (o : Option Action) → IfSome o (AsksBy name (first_value (found_of found))) → IfSome o (Asks (subcommand_rows_of m))
+Asks-entered name m found named rows None asks = tt
+Asks-entered name m found named rows (Some a) asks = record {
+  name = name;
   rows = rows_of (found_of found);
-  entered = entered m (codes "verify") (rows_of (found_of found)) named rows;
-  asked = by_verify (rows_of (found_of found)) a (same_verdict (first_value (found_of found)) _ (first_value-rows (found_of found)) a asks);
-}
-
--- a call, where `run` was
-pub Asks-run : (m found : ArgMatches) → subcommand_name_of m ≡ Some (codes "run")
-    → option_map (λ (p : Text × List Row). p.1) (subcommand_rows_of m) ≡ Some (rows_of (found_of found))
-    → (o : Option Action) → IfSome o (AsksCall (first_value (found_of found))) → IfSome o (Asks (subcommand_rows_of m))
-Asks-run m found named rows None asks = tt
-Asks-run m found named rows (Some a) asks = record {
-  name = codes "run";
-  rows = rows_of (found_of found);
-  entered = entered m (codes "run") (rows_of (found_of found)) named rows;
-  asked = by_run (rows_of (found_of found)) a (same_call (first_value (found_of found)) _ (first_value-rows (found_of found)) a asks);
+  entered = entered m name (rows_of (found_of found)) named rows;
+  asked = (asks.0, same_values (first_value (found_of found)) _ (first_value-rows (found_of found)) a asks.1);
 }

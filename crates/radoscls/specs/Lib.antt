@@ -1,5 +1,6 @@
 pub mod Answer
 pub mod Arguments
+pub mod Assembly
 pub mod CommandLine
 pub mod Files
 pub mod Program

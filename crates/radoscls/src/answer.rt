@@ -6,6 +6,7 @@ ghost use Rattle.radoscls.specs.Files.{IsImageIn};
 ghost use Rattle.radoscls.specs.Reply.{Reports};
 
 use crate::arguments::{Action, Call};
+use crate::assembly::{assemble, disassemble, read_class};
 use crate::failure::Failure;
 use crate::files::Files;
 use crate::input::decode_input;
@@ -23,6 +24,10 @@ pub enum Answer {
     Accepted(VerifiedClass),
     /// The method ran.
     Ran(Reply),
+    /// The image was written.
+    Assembled,
+    /// The class has that text.
+    Disassembled(String),
 }
 
 /// The class of the image in that file, where it is safe.
@@ -30,8 +35,7 @@ fn load<F: Files>(alloc: Global, files: &F, image: &str) -> Result<VerifiedClass
     ensures safe { IfOk result (AllByRecursion IsSafe) }
     ensures read { IfOk result (IsImageIn (F.held files.now image.now)) }
 {
-    let bytes = files.read(alloc, image).map_err(|e| Failure::of_read(&e))?;
-    let class = bpf_decode::read_image(alloc, &bytes).map_err(Failure::Image)?;
+    let class = read_class(alloc, files, image)?;
     verifier::verify(alloc, &class).map_err(Failure::Verdict)
 }
 
@@ -67,15 +71,22 @@ impl Answer {
 
     /// Does what is asked for. A safe class is one whose methods run to their exits on every object and input.
     pub fn find<F: Files>(alloc: Global, files: &F, action: &Action<'_>) -> Result<Answer, Failure>
-        ensures { IfOk result (Settles (F.held files.now) action.now) }
+        ensures { IfOk result (Settles (F.held files.now) (F.wrote files.now) action.now) }
     {
         match action {
             Action::Verify { image } => Ok(Answer::Accepted(load(alloc, files, image)?)),
             Action::Run(asked) => Ok(Answer::Ran(run(alloc, files, asked)?)),
+            Action::Assemble { text, image } => {
+                assemble(alloc, files, text, image)?;
+                Ok(Answer::Assembled)
+            }
+            Action::Disassemble { image } => {
+                Ok(Answer::Disassembled(disassemble(alloc, files, image)?))
+            }
         }
     }
 
-    /// Writes its lines.
+    /// Writes its lines; there are none where an image was written.
     pub fn print<W: io::Write>(&self, out: &mut W) -> io::Result<()> {
         match self {
             Answer::Accepted(class) => {
@@ -85,6 +96,8 @@ impl Answer {
                 Ok(())
             }
             Answer::Ran(reply) => reply.print(out),
+            Answer::Assembled => Ok(()),
+            Answer::Disassembled(text) => write!(out, "{text}"),
         }
     }
 }

@@ -1,8 +1,8 @@
 ghost use Rattle.std.specs.Prelude.{◌≡◌, ◌↔◌, [], false, IfOk, IfSome, IsNone, IsSome, None, codes, map};
 ghost use Rattle.clap.specs.declared.builder.command.Command.TheViews.{out-Command};
 ghost use Rattle.clap.specs.Words.{app_of, fault_of, first_value, found_of, rule_of, subcommand_of, subcommand_rows_of};
-ghost use Rattle.radoscls.specs.CommandLine.{Asks, caller_rule, command_line, option_rule, plain_line, required_rule, run_line, verify_line};
-ghost use Rattle.radoscls.specs.Arguments.{AsksCall, AsksVerdict, IsClientNumber, NamesCall, number_in};
+ghost use Rattle.radoscls.specs.CommandLine.{Asks, asm_line, caller_rule, command_line, dis_line, image_line, option_rule, plain_line, required_rule, run_line, verify_line};
+ghost use Rattle.radoscls.specs.Arguments.{AsksBy, IsClientNumber, NamesCall, NamesFiles, number_in};
 
 use clap::error::{Error, ErrorKind};
 use clap::{Arg, ArgMatches, Command, value_parser};
@@ -30,6 +30,10 @@ pub enum Action<'a> {
     Verify { image: &'a str },
     /// A call.
     Run(Call<'a>),
+    /// The image of the class whose text is in a file, into another file.
+    Assemble { text: &'a str, image: &'a str },
+    /// The canonical text of the class in a file.
+    Disassemble { image: &'a str },
 }
 
 /// An argument that has to be there, by its place.
@@ -89,6 +93,25 @@ fn run_command<'a>(alloc: Global) -> Result<Command<'a>, AllocError>
         .arg(caller_option(alloc))
 }
 
+fn asm_command<'a>(alloc: Global) -> Result<Command<'a>, AllocError>
+    ensures line { IfOk result (λ c. app_of c ≡ asm_line) }
+    ensures local { IfOk result (λ c. (out-Command c).has_globals ≡ false) }
+{
+    Command::new(alloc, "asm")
+        .about("Writes the image of a class from its text")
+        .arg(required(alloc, "IN", "The file of the text"))?
+        .arg(required(alloc, "OUT", "The file of the image"))
+}
+
+fn dis_command<'a>(alloc: Global) -> Result<Command<'a>, AllocError>
+    ensures line { IfOk result (λ c. app_of c ≡ dis_line) }
+    ensures local { IfOk result (λ c. (out-Command c).has_globals ≡ false) }
+{
+    Command::new(alloc, "dis")
+        .about("Prints the text of a class image")
+        .arg(required(alloc, "IN", "The file of the image"))
+}
+
 /// The command without its subcommands, of which one has to be there.
 fn plain_command<'a>(alloc: Global) -> Command<'a>
     ensures line { app_of result ≡ plain_line }
@@ -100,12 +123,21 @@ fn plain_command<'a>(alloc: Global) -> Command<'a>
         .arg_required_else_help(true)
 }
 
-fn root_command<'a>(alloc: Global) -> Result<Command<'a>, AllocError>
-    ensures { IfOk result (λ c. app_of c ≡ command_line) }
+/// The command with the subcommands of images alone.
+fn image_command<'a>(alloc: Global) -> Result<Command<'a>, AllocError>
+    ensures { IfOk result (λ c. app_of c ≡ image_line) }
 {
     plain_command(alloc)
         .subcommand(verify_command(alloc)?)?
         .subcommand(run_command(alloc)?)
+}
+
+fn root_command<'a>(alloc: Global) -> Result<Command<'a>, AllocError>
+    ensures { IfOk result (λ c. app_of c ≡ command_line) }
+{
+    image_command(alloc)?
+        .subcommand(asm_command(alloc)?)?
+        .subcommand(dis_command(alloc)?)
 }
 
 /// The client of the number that a text writes in decimal digits, behind a plus or none: 1 to 4294967295.
@@ -121,7 +153,7 @@ fn caller_of(text: &str) -> Option<ClientId>
 
 /// What `verify` asks for.
 fn verify_action<'a>(matches: &ArgMatches<'a>) -> Option<Action<'a>>
-    ensures value { IfSome result (AsksVerdict (first_value (found_of matches.now))) }
+    ensures value { IfSome result (AsksBy (codes "verify") (first_value (found_of matches.now))) }
     ensures missing { IsNone result ↔ (first_value (found_of matches.now) (codes "IN") ≡ None) }
 {
     Some(Action::Verify {
@@ -131,7 +163,7 @@ fn verify_action<'a>(matches: &ArgMatches<'a>) -> Option<Action<'a>>
 
 /// What `run` asks for, where its caller is a client's number.
 fn run_action<'a>(matches: &ArgMatches<'a>) -> Option<Action<'a>>
-    ensures value { IfSome result (AsksCall (first_value (found_of matches.now))) }
+    ensures value { IfSome result (AsksBy (codes "run") (first_value (found_of matches.now))) }
     ensures answered { IsSome result ↔ NamesCall (first_value (found_of matches.now)) }
 {
     Some(Action::Run(Call {
@@ -142,14 +174,41 @@ fn run_action<'a>(matches: &ArgMatches<'a>) -> Option<Action<'a>>
     }))
 }
 
+/// What `asm` asks for.
+fn asm_action<'a>(matches: &ArgMatches<'a>) -> Option<Action<'a>>
+    ensures value { IfSome result (AsksBy (codes "asm") (first_value (found_of matches.now))) }
+    ensures answered { IsSome result ↔ NamesFiles (first_value (found_of matches.now)) }
+{
+    Some(Action::Assemble {
+        text: matches.get_str("IN")?,
+        image: matches.get_str("OUT")?,
+    })
+}
+
+/// What `dis` asks for.
+fn dis_action<'a>(matches: &ArgMatches<'a>) -> Option<Action<'a>>
+    ensures value { IfSome result (AsksBy (codes "dis") (first_value (found_of matches.now))) }
+    ensures missing { IsNone result ↔ (first_value (found_of matches.now) (codes "IN") ≡ None) }
+{
+    Some(Action::Disassemble {
+        image: matches.get_str("IN")?,
+    })
+}
+
 /// What the subcommand that was entered asks for.
 fn action_of<'a>(matches: &ArgMatches<'a>) -> Option<Action<'a>>
     ensures { IfSome result (Asks (subcommand_rows_of matches.now)) }
 {
-    match matches.subcommand_matches("verify") {
-        Some(found) => verify_action(found),
-        None => run_action(matches.subcommand_matches("run")?),
+    if let Some(found) = matches.subcommand_matches("verify") {
+        return verify_action(found);
     }
+    if let Some(found) = matches.subcommand_matches("run") {
+        return run_action(found);
+    }
+    if let Some(found) = matches.subcommand_matches("asm") {
+        return asm_action(found);
+    }
+    dis_action(matches.subcommand_matches("dis")?)
 }
 
 impl<'a> Action<'a> {

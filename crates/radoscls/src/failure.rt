@@ -2,6 +2,7 @@ ghost use Rattle.std.specs.Prelude.{◌≡◌, ◌≢◌, ◌↔◌};
 ghost use Rattle.std.specs.IoError.{error_kind};
 ghost use Rattle.radoscls.specs.declared.failure.Failure.TheVariants.{NoMemory};
 
+use bpf_asm::AsmError;
 use bpf_decode::ImageError;
 use interp::CallError;
 use std::alloc::{AllocError, AllocFailed};
@@ -21,6 +22,9 @@ pub enum Failure {
     /// The program itself ran out of memory.
     #[error("no memory")]
     NoMemory,
+    /// The file is no class's text.
+    #[error("{0}")]
+    Text(AsmError),
     /// The file is no class image.
     #[error("{0}")]
     Image(ImageError),

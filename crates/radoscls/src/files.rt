@@ -1,4 +1,4 @@
-ghost use Rattle.std.specs.Prelude.{ℕ, List, Option, None, IfOk};
+ghost use Rattle.std.specs.Prelude.{◌≡◌, ⊤, ℕ, List, Option, None, Ok, IfOk};
 ghost use Rattle.radoscls.specs.Files.{Holds};
 
 use std::alloc::Global;
@@ -9,12 +9,16 @@ pub trait Files {
     // The bytes of the file of a name, where they are known.
     ghost held: { Self → List ℕ → Option (List ℕ) } = { λ _ _. None };
 
+    // The file of a name was made of those bytes, where that is known.
+    ghost wrote: { Self → List ℕ → List ℕ → Type 0 } = { λ _ _ _. ⊤ };
+
     /// All bytes of the file of that name.
     fn read(&self, alloc: Global, name: &str) -> io::Result<Vec<u8>>
         ensures { IfOk result (λ bytes. Holds (held self.now name.now) bytes.items) };
 
     /// Makes those bytes the whole of the file of that name.
-    fn write(&self, name: &str, bytes: &[u8]) -> io::Result<()>;
+    fn write(&self, name: &str, bytes: &[u8]) -> io::Result<()>
+        ensures { IfOk result (λ _. wrote self.now name.now bytes.now) };
 }
 
 /// The files of the system.

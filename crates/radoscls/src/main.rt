@@ -1,8 +1,10 @@
-//! `radoscls` tells whether the classes of an image are safe, and runs a method of one.
+//! `radoscls` tells whether the class of an image is safe, runs a method of one, and turns texts of classes into images
+//! and back.
 #![tactic(auto)]
 
 mod answer;
 mod arguments;
+mod assembly;
 mod failure;
 mod files;
 mod input;

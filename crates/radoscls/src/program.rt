@@ -45,7 +45,7 @@ fn perform<S: AsStr, F: Files, O: io::Write, E: io::Write>(
     out: &mut O,
     err: &mut E,
 ) -> Status
-    ensures { result ≡ Status.Done → IsAnswered (F.held files.now) (map S.text words.now) }
+    ensures { result ≡ Status.Done → IsAnswered (F.held files.now) (F.wrote files.now) (map S.text words.now) }
 {
     match Action::parse(alloc, words) {
         Ok(action) => respond(Answer::find(alloc, files, &action), out),
@@ -79,7 +79,7 @@ pub fn program<S: AsStr, F: Files, O: io::Write, E: io::Write>(
     err: &mut E,
 ) -> u8
     ensures status { (status : Ending) × (result ≡ code_of status) }
-    ensures done { result ≡ 0 → IsAnswered (F.held files.now) (map S.text words.now) }
+    ensures done { result ≡ 0 → IsAnswered (F.held files.now) (F.wrote files.now) (map S.text words.now) }
 {
     perform(alloc, words, files, out, err).code()
 }

@@ -1,3 +1,5 @@
+mod assembly;
+
 use crate::failure::Failure;
 use crate::files::Files;
 use crate::program::program;
@@ -288,13 +290,16 @@ fn runs(rt: HostRuntime) -> Result<(), Fail> {
 }
 
 /// Words that ask for nothing that the program does, or for help.
-static USAGES: [&[&str]; 9] = [
+static USAGES: [&[&str]; 12] = [
     &[],
     &["--help"],
     &["help"],
     &["verify"],
     &["verify", "image", "more"],
     &["erase", "image"],
+    &["asm", "image"],
+    &["asm", "image", "out", "more"],
+    &["dis"],
     &["run", "image", "f", "--caller", "0"],
     &["run", "image", "f", "--caller", "4294967296"],
     &["run", "image", "f", "--caller", "one"],

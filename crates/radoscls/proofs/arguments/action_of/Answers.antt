@@ -1,13 +1,23 @@
-use Rattle.std.proofs.Common.{refl}
-use Rattle.radoscls.proofs.Entered.{Asks-verify, Asks-run}
+use Rattle.std.proofs.Common.{refl, codes}
+use Rattle.radoscls.proofs.Entered.{Asks-entered}
 use Rattle.radoscls.proofs.arguments.action_of.Goals as goal
 
 pub returns-in-Some : goal.returns-in-Some
 returns-in-Some c =
     let entered = c.in-Some.ensures in
-    Asks-verify c.args.matches.now c.in-Some.found.now (entered.found.0 refl) entered.rows c.verify_action.result c.verify_action.ensures.value
+    Asks-entered (codes "verify") c.args.matches.now c.in-Some.found.now (entered.found.0 refl) entered.rows c.verify_action.result c.verify_action.ensures.value
 
-pub returns-in_ok-subcommand_matches-in-None : goal.returns-in_ok-subcommand_matches-in-None
-returns-in_ok-subcommand_matches-in-None c =
-    let found = c.in_ok-subcommand_matches-in-None in
-    Asks-run c.args.matches.now found.field-0.now (found.ensures.found.0 refl) found.ensures.rows c.run_action.result c.run_action.ensures.value
+pub returns-in-Some-subcommand_matches : goal.returns-in-Some-subcommand_matches
+returns-in-Some-subcommand_matches c =
+    let entered = c.in-Some-subcommand_matches.ensures in
+    Asks-entered (codes "run") c.args.matches.now c.in-Some-subcommand_matches.found.now (entered.found.0 refl) entered.rows c.run_action.result c.run_action.ensures.value
+
+pub returns-in-Some-subcommand_matches-2 : goal.returns-in-Some-subcommand_matches-2
+returns-in-Some-subcommand_matches-2 c =
+    let entered = c.in-Some-subcommand_matches-2.ensures in
+    Asks-entered (codes "asm") c.args.matches.now c.in-Some-subcommand_matches-2.found.now (entered.found.0 refl) entered.rows c.asm_action.result c.asm_action.ensures.value
+
+pub returns : goal.returns
+returns c =
+    let entered = c.in_ok-subcommand_matches.ensures in
+    Asks-entered (codes "dis") c.args.matches.now c.in_ok-subcommand_matches.field-0.now (entered.found.0 refl) entered.rows c.dis_action.result c.dis_action.ensures.value
