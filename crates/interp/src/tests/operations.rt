@@ -1,4 +1,4 @@
-//! What single operations answer, computed by hand from RFC 9669.
+//! What single operations answer by RFC 9669.
 
 use super::flat::put;
 use super::{call_f, class_of, slot};
