@@ -21,7 +21,7 @@ use Rattle.bpf_asm.proofs.PlainBytes.{is_quiet, Free, free_where, quiet_feed}
 use Rattle.bpf_asm.proofs.InsnTexts.{unresolved, line_says, line_quiet}
 
 -- a line feed ends a line that has none
-split_line : (xs ys : List ℕ) → Free (λ c. c == 10) xs → slice_split (λ c. c == 10) (xs ++ (10 ∷ ys)) ≡ xs ∷ slice_split (λ c. c == 10) ys
+pub split_line : (xs ys : List ℕ) → Free (λ c. c == 10) xs → slice_split (λ c. c == 10) (xs ++ (10 ∷ ys)) ≡ xs ∷ slice_split (λ c. c == 10) ys
 split_line [] ys f = refl
 split_line (x ∷ xs) ys f = rw (f.0, split_line xs ys f.1) refl
 
@@ -48,11 +48,11 @@ text_says : (is : List Insn) → AllFit is → statements_of (canonical_text is)
 text_says [] h = no_line
 text_says (i ∷ is) h = one_line (line_of i) (canonical_text is) (Instruction (Ok (unresolved i))) (line_quiet i h.0) (line_says i h.0) ∙ ap (λ r. Instruction (Ok (unresolved i)) ∷ r) (text_says is h.1)
 
-near_within : (z : ℤ) → FitsSigned w16 z → (int_le (negsuc 32767) z && int_le z (pos 32767)) ≡ true
+pub near_within : (z : ℤ) → FitsSigned w16 z → (int_le (negsuc 32767) z && int_le z (pos 32767)) ≡ true
 near_within (pos n) h = grind (arith, nat_tests)
 near_within (negsuc n) h = grind (arith, nat_tests)
 
-far_within : (z : ℤ) → FitsSigned w32 z → (int_le (negsuc 2147483647) z && int_le z (pos 2147483647)) ≡ true
+pub far_within : (z : ℤ) → FitsSigned w32 z → (int_le (negsuc 2147483647) z && int_le z (pos 2147483647)) ≡ true
 far_within (pos n) h = grind (arith, nat_tests)
 far_within (negsuc n) h = grind (arith, nat_tests)
 

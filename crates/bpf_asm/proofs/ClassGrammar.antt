@@ -1,8 +1,8 @@
 -- What is read as a class is in the grammar, and what is in the grammar is read.
-use Rattle.std.proofs.Common.{◌≡◌, ℕ, ◌==◌, ◌||◌, ◌+◌, ◌≤◌, ◌<◌, not, Bool, true, false, List, [], ◌∷◌, ◌++◌, length, cond, Option, Some, None, Result, Ok, Err, refl, sym, ap, ◌∙◌, arith, append_assoc, nat_le, count_by, subst, take, drop}
+use Rattle.std.proofs.Common.{◌≡◌, ◌⊎◌, inl, inr, IfOk, IfErr, ℕ, suc, ◌==◌, ◌||◌, ◌+◌, ◌≤◌, ◌<◌, not, Bool, true, false, List, [], ◌∷◌, ◌++◌, length, cond, Option, Some, None, Result, Ok, Err, refl, sym, ap, ◌∙◌, arith, append_assoc, nat_le, count_by, subst, take, drop}
 use Rattle.std.proofs.lemmas.List.Sums.{sum_by-append}
 use Rattle.bpf_asm.proofs.BodyTexts.{some_instruction}
-use Rattle.std.specs.List.{before_first}
+use Rattle.std.specs.List.{before_first, position_or_len}
 use Rattle.std.proofs.lemmas.Bool.Decides.{nat_tests}
 use Rattle.std.proofs.lemmas.List.{append-nil, length-append, take-append-drop}
 use Rattle.bpf_decode.specs.declared.insn.Insn.{Insn}
@@ -17,8 +17,13 @@ use Rattle.bpf_asm.specs.Headers.{MethodHeader}
 use Rattle.bpf_asm.specs.Statements.{statements_of}
 use Rattle.bpf_asm.specs.Bodies.{body, is_instruction, has_instruction}
 use Rattle.bpf_asm.specs.Classes.{is_directive, last_name, opening_fault, method_with, with_body, unless_fault, method_at, next_method, class_from, bare_class_fault, read_class_text}
-use Rattle.bpf_asm.specs.Grammar.{AreMethodLines, BeginsWithMethod, SayMethods, NamesAbove, IsClassText}
-use Rattle.bpf_asm.proofs.GrammarLemmas.{lines_read, read_lines, lines_have}
+use Rattle.bpf_asm.specs.Fault.{no_memory}
+use Rattle.bpf_asm.specs.Canonical.{class_text}
+use Rattle.bpf_asm.specs.Laws.{ClassTextsAreInGrammar}
+use Rattle.bpf_asm.specs.Grammar.{AreMethodLines, BeginsWithMethod, SayMethods, NamesAbove, AreClassLines, IsClassText}
+use Rattle.bpf_asm.proofs.StatementRelations.{AllSound, text_says, says_text}
+use Rattle.bpf_asm.proofs.ClassTexts.{class_texts_give_back}
+use Rattle.bpf_asm.proofs.GrammarLemmas.{says_sound, lines_read, read_lines, lines_have}
 
 -- behind a method anything may stand, before the first nothing
 abbrev Begun : List ClassMethod → List Statement → Type 0
@@ -168,6 +173,30 @@ if_then : (b : Bool) (x : Result (List ClassMethod) AsmError) (e : AsmError) (ms
 if_then true x e ms h = (refl, h)
 if_then false x e ms h = absurd cc
 
+before_other : (s : Statement) (ss : List Statement) → is_directive s ≡ false → before_first is_directive (s ∷ ss) ≡ s ∷ before_first is_directive ss
+before_other s ss h =
+    let next : 1 + position_or_len is_directive ss ≡ suc (position_or_len is_directive ss) = omega arith in
+    rw (h, next) refl
+
+-- lines above the first method are empty
+begins_sound : (ss : List Statement) → BeginsWithMethod ss → AllSound (before_first is_directive ss)
+begins_sound [] b = tt
+begins_sound (Empty ∷ ss) b = rw (before_other Empty ss refl) (tt, begins_sound ss b)
+begins_sound (Label name ∷ ss) b = absurd b
+begins_sound (Directive h ∷ ss) b = tt
+begins_sound (Instruction d ∷ ss) b = absurd b
+
+class_sound : (ss : List Statement) (ms : List ClassMethod) → SayMethods ss ms → AllSound (before_first is_directive ss) → AllSound ss
+class_sound [] ms s a = tt
+class_sound (Empty ∷ ss) ms s a = (tt, class_sound ss ms s (rw (before_other Empty ss refl) at a).1)
+class_sound (Label name ∷ ss) ms s a = (tt, class_sound ss ms s (rw (before_other (Label name) ss refl) at a).1)
+class_sound (Instruction d ∷ ss) ms s a = let both = rw (before_other (Instruction d) ss refl) at a in (both.0, class_sound ss ms s both.1)
+class_sound (Directive h ∷ ss) [] s a = absurd s
+class_sound (Directive (Err f) ∷ ss) (m ∷ ms) s a = absurd s.0
+class_sound (Directive (Ok h) ∷ ss) (m ∷ ms) s a =
+    let lines = before_first is_directive ss in
+    (tt, class_sound ss ms s.2 (says_sound lines 0 lines m.instructions s.1.says))
+
 pub read_is_class_text : (text : List ℕ) (ms : List ClassMethod) → read_class_text text ≡ Ok ms → IsClassText text ms
 unfolding read_class_text
 read_is_class_text text ms h =
@@ -176,7 +205,8 @@ read_is_class_text text ms h =
     let w = was_class [] 1 ss ms (omega arith) p.1 in
     let P : List ClassMethod → Type 0 = λ v. SayMethods ss v × NamesAbove [] v × (1 ≤ length v) × (length v ≤ 32) in
     let all = subst P (sym w.whole) (w.says, w.names, omega (arith, w.some), omega (arith, w.limit)) in
-    record { begins = w.begins; methods = all.0; names = all.1; some = all.2; limit = all.3 }
+    let lines : AreClassLines ss ms = record { begins = w.begins; methods = all.0; names = all.1; some = all.2; limit = all.3 } in
+    record { lines = ss; say = text_says text (class_sound ss ms all.0 (begins_sound ss w.begins)); class = lines }
 
 prefix_has : (n : ℕ) (xs : List Statement) → has_instruction (take n xs) ≡ true → has_instruction xs ≡ true
 prefix_has n xs h =
@@ -198,10 +228,28 @@ says_have (Directive h ∷ ss) (m ∷ ms) s n = prefix_has _ ss (lines_have (bef
 pub class_text_is_read : (text : List ℕ) (ms : List ClassMethod) → IsClassText text ms → read_class_text text ≡ Ok ms
 unfolding read_class_text
 class_text_is_read text ms h =
-    let some = h.some in
-    let limit = h.limit in
-    rw (says_have (statements_of text) ms h.methods some) (class_reads [] ms (statements_of text) 1 h.methods h.begins h.names (omega arith) (omega arith))
+    let c = h.class in
+    let some = c.some in
+    let limit = c.limit in
+    rw (says_text text h.lines h.say, says_have h.lines ms c.methods some) (class_reads [] ms h.lines 1 c.methods c.begins c.names (omega arith) (omega arith))
 
 -- a text that is refused is none of the grammar
-pub refused_is_no_class : (text : List ℕ) (e : AsmError) (ms : List ClassMethod) → read_class_text text ≡ Err e → IsClassText text ms → ⊥
+refused_is_no_class : (text : List ℕ) (e : AsmError) (ms : List ClassMethod) → read_class_text text ≡ Err e → IsClassText text ms → ⊥
 refused_is_no_class text e ms h t = let read = class_text_is_read text ms t in absurd cc
+
+pub no_class_if_refused : {V : Type 0} (r : Result V AsmError) (text : List ℕ) → IfErr r (λ e. (e ≡ no_memory) ⊎ (read_class_text text ≡ Err e)) → IfErr r (λ e. (e ≡ no_memory) ⊎ ((ms : List ClassMethod) → ¬ IsClassText text ms))
+no_class_if_refused (Ok v) text h = tt
+no_class_if_refused (Err e) text (inl h) = inl h
+no_class_if_refused (Err e) text (inr h) = inr (λ ms t. refused_is_no_class text e ms h t)
+
+-- a text is of one class alone
+one_class_reading : (text : List ℕ) (v ms : List ClassMethod) → read_class_text text ≡ Ok v → IsClassText text ms → ms ≡ v
+one_class_reading text v ms h t = let read = class_text_is_read text ms t in cc
+
+pub one_class_if_read : (r : Result (List ClassMethod) AsmError) (text : List ℕ) → IfOk r (λ c. read_class_text text ≡ Ok c) → IfOk r (λ c. (ms : List ClassMethod) → IsClassText text ms → ms ≡ c)
+one_class_if_read (Err e) text h = tt
+one_class_if_read (Ok v) text h = λ ms t. one_class_reading text v ms h t
+
+-- the canonical text of a class is in the grammar
+pub class_texts_in_grammar : ClassTextsAreInGrammar
+class_texts_in_grammar ms h = read_is_class_text (class_text ms) ms (class_texts_give_back ms h)

@@ -81,7 +81,7 @@ flags_at false false f = refl
 flags_number : (f : ℕ) → 1 ≤ f → f ≤ 3 → cond (f == 1) 1 (cond (f == 2) 2 3) ≡ f
 flags_number f a b = grind (arith, nat_tests)
 
-flags_read : (f : ℕ) → 1 ≤ f → f ≤ 3 → flags_of (flags_text f) ≡ Some f
+pub flags_read : (f : ℕ) → 1 ≤ f → f ≤ 3 → flags_of (flags_text f) ≡ Some f
 flags_read f a b = flags_at (f == 1) (f == 2) f ∙ ap (λ n. Some n) (flags_number f a b)
 
 flags_some_at : (a b : Bool) → 1 ≤ length (cond a (codes "r") (cond b (codes "w") (codes "rw")))

@@ -1,5 +1,5 @@
 -- What is read is in the grammar, and what is in the grammar is read.
-use Rattle.std.proofs.Common.{◌≡◌, ℕ, ℤ, ◌+◌, ◌≤◌, Bool, true, false, List, [], ◌∷◌, ◌++◌, length, cond, Option, Some, None, is_some, Result, Ok, Err, refl, sym, ap, ◌∙◌, arith, append_assoc, nat_le, count_by, ◌*◌, subst, lit≤}
+use Rattle.std.proofs.Common.{◌≡◌, ◌⊎◌, inl, inr, IfOk, IfErr, ℕ, ℤ, ◌+◌, ◌≤◌, Bool, true, false, List, [], ◌∷◌, ◌++◌, length, cond, Option, Some, None, is_some, Result, Ok, Err, refl, sym, ap, ◌∙◌, arith, append_assoc, nat_le, count_by, ◌*◌, subst, lit≤}
 use Rattle.std.proofs.lemmas.List.Sums.{sum_by-append}
 use Rattle.std.proofs.lemmas.Bool.Decides.{nat_tests}
 use Rattle.std.proofs.lemmas.List.{append-nil}
@@ -16,8 +16,14 @@ use Rattle.bpf_asm.specs.declared.statement.Statement.TheVariants.{Empty, Label,
 use Rattle.bpf_asm.specs.Operands.{filled}
 use Rattle.bpf_asm.specs.Statements.{statements_of}
 use Rattle.bpf_asm.specs.Bodies.{draft_slots, slot_of_label, near, far, finished, instruction_at, proceed, body_from, body, bare_fault, is_instruction, has_instruction, read_text}
+use Rattle.bpf_asm.specs.Fault.{no_memory}
+use Rattle.bpf_asm.specs.Canonical.{canonical_text}
+use Rattle.bpf_asm.specs.Laws.{TextsAreInGrammar}
 use Rattle.bpf_asm.specs.Grammar.{LabelsOnce, SaysInsn, Says, IsMethodText, AreMethodLines}
 use Rattle.bpf_asm.proofs.BodyLemmas.{one_slot}
+use Rattle.bpf_asm.proofs.BodyTexts.{texts_give_back}
+use Rattle.bpf_asm.proofs.StatementRelations.{AllSound, text_says, says_text}
+use Rattle.bpf_asm.proofs.JumpRelations.{says_insn, insn_said}
 
 one_by : (f : ℤ → Insn) → ((z : ℤ) → slot_count (f z) ≡ 1) → (r : Result ℤ AsmFault) (i : Insn) → filled f r ≡ Ok i → 1 ≡ slot_count i
 one_by f g (Ok z) i h = let same : f z ≡ i = cc in sym (g z) ∙ ap slot_count same
@@ -48,7 +54,7 @@ reads all before line slot done is (Directive h ∷ ss) l s room = absurd s
 reads all before line slot done [] (Instruction d ∷ ss) l s room = absurd s
 reads all before line slot done (i ∷ is) (Instruction (Err f) ∷ ss) l s room = absurd s.0
 reads all before line slot done (i ∷ is) (Instruction (Ok d) ∷ ss) l s room =
-    rw (stands_at all slot d i s.0 (omega arith))
+    rw (stands_at all slot d i (insn_said all slot d i s.0) (omega arith))
     (reads all (before ++ (Instruction (Ok d) ∷ [])) (line + 1) (slot + slot_count i) (done ++ (i ∷ [])) is ss l.1 s.1 (omega arith) ∙ ap (λ r. Ok r) (append_assoc done (i ∷ []) is))
 
 -- ---- what is read is in the grammar
@@ -88,7 +94,7 @@ stood all line slot (Ok d) x y r h =
     let same = slots_of all slot d p.insn p.found in
     let within = p.room in
     let room : slot + draft_slots (Ok d) ≤ 4096 = grind (arith, nat_tests) in
-    record { insn = p.insn; says = p.found; room = omega arith; next = p.next }
+    record { insn = p.insn; says = says_insn all slot d p.insn p.found; room = omega arith; next = p.next }
 
 was_read : (all before : List Statement) (line slot : ℕ) (done : List Insn) (ss : List Statement) (r : List Insn) → slot ≤ 4096 → body_from all before line slot done ss ≡ Ok r → IsRead all before slot done ss r
 unfolding body_from
@@ -161,33 +167,48 @@ lines_have ss is h =
 pub lines_read : (line : ℕ) (ss : List Statement) (is : List Insn) → AreMethodLines ss is → body line ss ≡ Ok is
 lines_read line ss is h = let limit = h.limit in reads ss [] line 0 [] is ss h.labels h.says (omega arith)
 
+-- lines that say instructions have no fault
+pub says_sound : (all : List Statement) (slot : ℕ) (ss : List Statement) (is : List Insn) → Says all slot ss is → AllSound ss
+says_sound all slot [] [] s = tt
+says_sound all slot [] (i ∷ is) s = absurd s
+says_sound all slot (Empty ∷ ss) is s = (tt, says_sound all slot ss is s)
+says_sound all slot (Label name ∷ ss) is s = (tt, says_sound all slot ss is s)
+says_sound all slot (Directive d ∷ ss) is s = absurd s
+says_sound all slot (Instruction d ∷ ss) [] s = absurd s
+says_sound all slot (Instruction (Err f) ∷ ss) (i ∷ is) s = absurd s.0
+says_sound all slot (Instruction (Ok d) ∷ ss) (i ∷ is) s = (tt, says_sound all (slot + slot_count i) ss is s.1)
+
 -- what is read is in the grammar
 pub read_is_text : (text : List ℕ) (is : List Insn) → read_text text ≡ Ok is → IsMethodText text is
 unfolding read_text
 read_is_text text is h =
     let ss = statements_of text in
     let p = if_then (has_instruction ss) (body 1 ss) (record { line = 1; fault = bare_fault ss }) is h in
-    let w = was_read ss [] 1 0 [] ss is (omega arith) p.1 in
-    let same = w.whole in
-    let says : Says ss 0 ss is = subst (λ (v : List Insn). Says ss 0 ss v) (sym same) w.says in
-    let limit : slot_total is ≤ 4096 = omega (arith, w.limit, ap slot_total same) in
-    let counted = counts ss 0 ss is says in
-    let has = p.0 in
-    let many : 1 ≤ count_by is_instruction ss = grind (arith, nat_tests) in
-    record { labels = w.labels; says = says; some = omega (arith, total_low is); limit = limit }
+    let method = read_lines 1 ss is p.0 p.1 in
+    record { lines = ss; say = text_says text (says_sound ss 0 ss is method.says); method = method }
 
 -- and what is in the grammar is read
 pub text_is_read : (text : List ℕ) (is : List Insn) → IsMethodText text is → read_text text ≡ Ok is
 unfolding read_text
-text_is_read text is h =
-    let ss = statements_of text in
-    let some = h.some in
-    let limit = h.limit in
-    let counted = counts ss 0 ss is h.says in
-    let many : 1 ≤ count_by is_instruction ss = omega (arith, total_high is) in
-    let has : has_instruction ss ≡ true = grind (arith, nat_tests) in
-    rw has (reads ss [] 1 0 [] is ss h.labels h.says (omega arith))
+text_is_read text is h = rw (says_text text h.lines h.say, lines_have h.lines is h.method, lines_read 1 h.lines is h.method) refl
 
 -- a text that is refused is none of the grammar
-pub refused_is_none : (text : List ℕ) (e : AsmError) (is : List Insn) → read_text text ≡ Err e → IsMethodText text is → ⊥
+refused_is_none : (text : List ℕ) (e : AsmError) (is : List Insn) → read_text text ≡ Err e → IsMethodText text is → ⊥
 refused_is_none text e is h t = let read = text_is_read text is t in absurd cc
+
+pub none_if_refused : {V : Type 0} (r : Result V AsmError) (text : List ℕ) → IfErr r (λ e. (e ≡ no_memory) ⊎ (read_text text ≡ Err e)) → IfErr r (λ e. (e ≡ no_memory) ⊎ ((is : List Insn) → ¬ IsMethodText text is))
+none_if_refused (Ok v) text h = tt
+none_if_refused (Err e) text (inl h) = inl h
+none_if_refused (Err e) text (inr h) = inr (λ is t. refused_is_none text e is h t)
+
+-- a text is of one list of instructions alone
+one_reading : (text : List ℕ) (v is : List Insn) → read_text text ≡ Ok v → IsMethodText text is → is ≡ v
+one_reading text v is h t = let read = text_is_read text is t in cc
+
+pub one_if_read : {V : Type 0} (items : V → List Insn) (r : Result V AsmError) (text : List ℕ) → IfOk r (λ v. read_text text ≡ Ok (items v)) → IfOk r (λ v. (is : List Insn) → IsMethodText text is → is ≡ items v)
+one_if_read items (Err e) text h = tt
+one_if_read items (Ok v) text h = λ is t. one_reading text (items v) is h t
+
+-- the canonical text is in the grammar
+pub texts_in_grammar : TextsAreInGrammar
+texts_in_grammar is fit some limit = read_is_text (canonical_text is) is (texts_give_back is fit some limit)

@@ -9,8 +9,15 @@ pub mod NumberTexts
 pub mod HexTexts
 pub mod OperandTexts
 pub mod LineTexts
+pub mod NumberRelations
+pub mod OperandRelations
+pub mod CutRelations
+pub mod OperandCuts
+pub mod LineRelations
 pub mod InsnTexts
 pub mod BodyTexts
 pub mod ClassTexts
+pub mod StatementRelations
+pub mod JumpRelations
 pub mod GrammarLemmas
 pub mod ClassGrammar

@@ -33,7 +33,7 @@ content_same x xs q s e =
     let all = before_none (λ c. c == 59) (x ∷ xs) (free_where (λ c. c == 59) is_quiet quiet_comment (x ∷ xs) q) in
     ap (λ t. trim_end (trim_start t)) all ∙ ap trim_end (trim_start_stays x xs s) ∙ e
 
-form_of_nil : form_of [] ≡ None
+pub form_of_nil : form_of [] ≡ None
 unfolding form_of word_of arithmetic_word comparison_word signed_move_word end_word
 form_of_nil = refl
 
@@ -41,7 +41,7 @@ form_of_directive : form_of (codes ".method") ≡ None
 unfolding form_of word_of arithmetic_word comparison_word signed_move_word end_word
 form_of_directive = refl
 
-none_is_some : (f : Form) → None ≡ Some f → ⊥
+pub none_is_some : (f : Form) → None ≡ Some f → ⊥
 none_is_some f h = absurd cc
 
 not_directive_by : (w : List ℕ) (f : Form) → form_of w ≡ Some f → (b : Bool) → b ≡ bytes_eq w (codes ".method") → b ≡ false
@@ -50,7 +50,7 @@ not_directive_by w f known true e =
     let same : w ≡ codes ".method" = (bytes_eq-Decides w (codes ".method")).0 (sym e) in
     absurd (none_is_some f (sym form_of_directive ∙ sym (ap form_of same) ∙ known))
 
-not_directive : (w : List ℕ) (f : Form) → form_of w ≡ Some f → bytes_eq w (codes ".method") ≡ false
+pub not_directive : (w : List ℕ) (f : Form) → form_of w ≡ Some f → bytes_eq w (codes ".method") ≡ false
 not_directive w f known = not_directive_by w f known (bytes_eq w (codes ".method")) refl
 
 space_stays : (x : ℕ) (xs : List ℕ) → trim_end (x ∷ xs) ≡ x ∷ xs → trim_end (32 ∷ x ∷ xs) ≡ 32 ∷ x ∷ xs

@@ -29,12 +29,12 @@ digits_plain [] h = refl
 digits_plain (c ∷ cs) h = rw (digit_plain c h.0, digits_plain cs h.1) refl
 
 -- a byte of digits, or the 0 behind them
-at_range : (ds : List ℕ) → AllDigits 10 ds → (k : ℕ) → (slice_index ds k ≡ 0) ⊎ ((48 ≤ slice_index ds k) × (slice_index ds k ≤ 57))
+pub at_range : (ds : List ℕ) → AllDigits 10 ds → (k : ℕ) → (slice_index ds k ≡ 0) ⊎ ((48 ≤ slice_index ds k) × (slice_index ds k ≤ 57))
 at_range [] a k = inl refl
 at_range (c ∷ cs) a zero = inr (digit_range c a.0)
 at_range (c ∷ cs) a (suc k) = at_range cs a.1 k
 
-not_at : (v b : ℕ) → (v ≡ 0) ⊎ ((48 ≤ v) × (v ≤ 57)) → 0 < b → (b < 48) ⊎ (57 < b) → (v == b) ≡ false
+pub not_at : (v b : ℕ) → (v ≡ 0) ⊎ ((48 ≤ v) × (v ≤ 57)) → 0 < b → (b < 48) ⊎ (57 < b) → (v == b) ≡ false
 not_at v b r some out = grind (arith, nat_tests)
 
 pub decimal_not : (n : ℕ) → n < 2 ^ 64 → (k b : ℕ) → 0 < b → (b < 48) ⊎ (57 < b) → (slice_index (decimal n) k == b) ≡ false

@@ -32,7 +32,7 @@ pub near_plain : (z : ℤ) → FitsSigned w16 z → list_all is_plain (offset_te
 near_plain (pos n) h = decimal_plain n (omega arith)
 near_plain (negsuc n) h = decimal_plain (suc n) (omega arith)
 
-signs_free : (ds : List ℕ) → AllDigits 10 ds → Free is_sign ds
+pub signs_free : (ds : List ℕ) → AllDigits 10 ds → Free is_sign ds
 signs_free [] a = tt
 signs_free (c ∷ cs) a =
     let r = digit_range c a.0 in
@@ -45,7 +45,7 @@ register_free n h = (refl, signs_free (decimal n) (decimal_is_IsNumeral n (omega
 pub length_some : (x : ℕ) (xs : List ℕ) → (length (x ∷ xs) == 0) ≡ false
 length_some x xs = grind (arith, nat_tests)
 
-if_some : {A : Type 0} (x : ℕ) (xs : List ℕ) (a b : A) → cond (length (x ∷ xs) == 0) a b ≡ b
+pub if_some : {A : Type 0} (x : ℕ) (xs : List ℕ) (a b : A) → cond (length (x ∷ xs) == 0) a b ≡ b
 if_some x xs a b =
     let other : (length (x ∷ xs) == 0) ≡ false = grind (arith, nat_tests) in
     rw other refl
@@ -60,11 +60,11 @@ place_reads : (base : ℕ) (z : ℤ) → base ≤ 10 → FitsSigned w16 z → pl
 place_reads base (pos n) h f = place_reads_at base 43 (decimal n) (pos n) h refl (offset_reads (pos n) f)
 place_reads base (negsuc n) h f = place_reads_at base 45 (decimal (suc n)) (negsuc n) h refl (offset_reads (negsuc n) f)
 
-last_byte : (xs : List ℕ) (c : ℕ) → get_or (xs ++ (c ∷ [])) (length xs) 0 ≡ c
+pub last_byte : (xs : List ℕ) (c : ℕ) → get_or (xs ++ (c ∷ [])) (length xs) 0 ≡ c
 last_byte [] c = refl
 last_byte (x ∷ xs) c = last_byte xs c
 
-in_brackets : (inner : List ℕ) → memory_of (91 ∷ (inner ++ (93 ∷ []))) ≡ place_within inner
+pub in_brackets : (inner : List ℕ) → memory_of (91 ∷ (inner ++ (93 ∷ []))) ≡ place_within inner
 unfolding memory_of
 in_brackets inner =
     let whole : length (91 ∷ (inner ++ (93 ∷ []))) ≡ length inner + 2 = omega (arith, length-append inner (93 ∷ [])) in
@@ -80,7 +80,7 @@ memory_plain base z h f =
     all_append is_plain (register_text base ++ offset_text z) (93 ∷ []) (all_append is_plain (register_text base) (offset_text z) (register_plain base h) (near_plain z f)) refl
 
 -- a distance is no label's name
-if_same : (b : Bool) → cond b false false ≡ false
+pub if_same : (b : Bool) → cond b false false ≡ false
 if_same true = refl
 if_same false = refl
 

@@ -23,7 +23,7 @@ trim_end_stays [] c h = rw h refl
 trim_end_stays (x ∷ xs) c h = rw (trim_end_stays xs c h) (onto_more xs x c)
 
 -- a list is its front and its last element
-front : (s : List ℕ) → 1 ≤ length s → s ≡ take (length s - 1) s ++ (get_or s (length s - 1) 0 ∷ [])
+pub front : (s : List ℕ) → 1 ≤ length s → s ≡ take (length s - 1) s ++ (get_or s (length s - 1) 0 ∷ [])
 front s h =
     let e : suc (length s - 1) ≡ length s = omega arith in
     sym (take-length s) ∙ sym (ap (λ n. take n s) e) ∙ take-suc s (length s - 1) 0 (omega arith)

@@ -1,9 +1,15 @@
--- The grammar of one method's text, as a relation: what each line says, labels that stand once, and distances that reach them.
-use Rattle.std.specs.Prelude.{◌≡◌, ℕ, ◌+◌, ◌≤◌, true, length, List, [], ◌∷◌, ◌++◌, None, Result, Ok, Err}
+-- The grammar of one method's text and of a class's, as relations: what each line says, labels that stand once, and
+-- distances that reach them.
+use Rattle.std.specs.Prelude.{◌≡◌, ℕ, ℤ, pos, ◌+◌, ◌-ℤ◌, ◌≤◌, true, length, List, [], ◌∷◌, ◌++◌, Some, None, Result, Ok, Err, FitsSigned}
+use Rattle.std.specs.Int.{w16, w32}
 use Rattle.bpf_decode.specs.declared.insn.Insn.{Insn}
+use Rattle.bpf_decode.specs.declared.insn.Insn.TheVariants as insns
 use Rattle.bpf_decode.specs.Instruction.{slot_count, slot_total}
 use Rattle.bpf_asm.specs.declared.fault.AsmFault.{AsmFault}
+use Rattle.bpf_asm.specs.declared.target.Target.{Target}
+use Rattle.bpf_asm.specs.declared.target.Target.TheVariants as targets
 use Rattle.bpf_asm.specs.declared.draft.Draft.{Draft}
+use Rattle.bpf_asm.specs.declared.draft.Draft.TheVariants as drafts
 use Rattle.bpf_asm.specs.declared.statement.Statement.{Statement}
 use Rattle.bpf_asm.specs.declared.statement.Statement.TheVariants.{Empty, Label, Directive, Instruction}
 use Rattle.std.specs.List.{before_first}
@@ -11,8 +17,8 @@ use Rattle.bpf_decode.specs.Class.{ClassMethod}
 use Rattle.bpf_decode.specs.ImageReading.{is_above}
 use Rattle.bpf_asm.specs.Headers.{MethodHeader}
 use Rattle.bpf_asm.specs.Classes.{is_directive, method_with}
-use Rattle.bpf_asm.specs.Statements.{statements_of}
-use Rattle.bpf_asm.specs.Bodies.{slot_of_label, finished}
+use Rattle.bpf_asm.specs.Syntax.{TextSays}
+use Rattle.bpf_asm.specs.Bodies.{slot_of_label}
 
 -- a label that stands on no line above
 abbrev pub IsFirst : List Statement → Statement → Type 0
@@ -26,11 +32,33 @@ abbrev pub LabelsOnce : List Statement → List Statement → Type 0
 LabelsOnce before [] = Unit {0}
 LabelsOnce before (s ∷ ss) = IsFirst before s × LabelsOnce (before ++ (s ∷ [])) ss
 
--- the lines from a slot on say these instructions; jumps to labels are resolved among all the method's lines
+-- how far a jump at a slot goes: as it is written, or from the slot behind it to its label
+pub record ReachesLabel (all : List Statement) (slot : ℕ) (name : List ℕ) (distance : ℤ) : Type 0 where
+  pub at : ℕ
+  pub stands : slot_of_label name 0 all ≡ Some at
+  pub is_distance : distance ≡ pos at -ℤ pos (slot + 1)
+
+abbrev pub Reaches : List Statement → ℕ → Target → ℤ → Type 0
+Reaches all slot (targets.Slots z) distance = z ≡ distance
+Reaches all slot (targets.Label name) distance = ReachesLabel all slot name distance
+
+-- an instruction with a distance that fits
+pub record GoesBy (all : List Statement) (slot : ℕ) (target : Target) (Fits : ℤ → Type 0) (with_distance : ℤ → Insn) (i : Insn) : Type 0 where
+  pub distance : ℤ
+  pub is_insn : with_distance distance ≡ i
+  pub reaches : Reaches all slot target distance
+  pub fits : Fits distance
+
+-- the instruction that a line says; jumps to labels are resolved among all the method's lines
 abbrev pub SaysInsn : List Statement → ℕ → Result Draft AsmFault → Insn → Type 0
-SaysInsn all slot (Ok d) i = finished all slot d ≡ Ok i
+SaysInsn all slot (Ok (drafts.Plain insn)) i = insn ≡ i
+SaysInsn all slot (Ok (drafts.Jump target)) i = GoesBy all slot target (FitsSigned w16) insns.Jump i
+SaysInsn all slot (Ok (drafts.JumpLong target)) i = GoesBy all slot target (FitsSigned w32) insns.JumpLong i
+SaysInsn all slot (Ok (drafts.Branch bits comparison dst source target)) i = GoesBy all slot target (FitsSigned w16) (insns.Branch bits comparison dst source) i
+SaysInsn all slot (Ok (drafts.CallLocal target)) i = GoesBy all slot target (FitsSigned w32) insns.CallLocal i
 SaysInsn all slot (Err fault) i = ⊥
 
+-- the lines from a slot on say these instructions
 abbrev pub Says : List Statement → ℕ → List Statement → List Insn → Type 0
 Says all slot [] [] = Unit {0}
 Says all slot [] (i ∷ is) = ⊥
@@ -40,19 +68,18 @@ Says all slot (Directive header ∷ ss) is = ⊥
 Says all slot (Instruction d ∷ ss) [] = ⊥
 Says all slot (Instruction d ∷ ss) (i ∷ is) = SaysInsn all slot d i × Says all (slot + slot_count i) ss is
 
--- The text of a method's instructions.
-pub record IsMethodText (text : List ℕ) (is : List Insn) : Type 0 where
-  pub labels : LabelsOnce [] (statements_of text)
-  pub says : Says (statements_of text) 0 (statements_of text) is
-  pub some : 1 ≤ slot_total is
-  pub limit : slot_total is ≤ 4096
-
 -- The lines of one method: its instructions.
 pub record AreMethodLines (lines : List Statement) (is : List Insn) : Type 0 where
   pub labels : LabelsOnce [] lines
   pub says : Says lines 0 lines is
   pub some : 1 ≤ slot_total is
   pub limit : slot_total is ≤ 4096
+
+-- The text of a method's instructions.
+pub record IsMethodText (text : List ℕ) (is : List Insn) : Type 0 where
+  pub lines : List Statement
+  pub say : TextSays text lines
+  pub method : AreMethodLines lines is
 
 -- nothing stands above the first `.method`
 abbrev pub BeginsWithMethod : List Statement → Type 0
@@ -82,10 +109,16 @@ abbrev pub NamesAbove : List ℕ → List ClassMethod → Type 0
 NamesAbove before [] = Unit {0}
 NamesAbove before (m ∷ ms) = (is_above before m.name ≡ true) × NamesAbove m.name ms
 
--- The text of a class.
-pub record IsClassText (text : List ℕ) (ms : List ClassMethod) : Type 0 where
-  pub begins : BeginsWithMethod (statements_of text)
-  pub methods : SayMethods (statements_of text) ms
+-- The lines of a class: its methods.
+pub record AreClassLines (lines : List Statement) (ms : List ClassMethod) : Type 0 where
+  pub begins : BeginsWithMethod lines
+  pub methods : SayMethods lines ms
   pub names : NamesAbove [] ms
   pub some : 1 ≤ length ms
   pub limit : length ms ≤ 32
+
+-- The text of a class.
+pub record IsClassText (text : List ℕ) (ms : List ClassMethod) : Type 0 where
+  pub lines : List Statement
+  pub say : TextSays text lines
+  pub class : AreClassLines lines ms

@@ -3,6 +3,7 @@ use Rattle.std.specs.Prelude.{◌≡◌, ◌≤◌, List, Ok}
 use Rattle.bpf_decode.specs.declared.insn.Insn.{Insn}
 use Rattle.bpf_decode.specs.Instruction.{AllFit, slot_total}
 use Rattle.bpf_asm.specs.Canonical.{canonical_text, class_text}
+use Rattle.bpf_asm.specs.Grammar.{IsMethodText, IsClassText}
 use Rattle.bpf_asm.specs.Bodies.{read_text}
 use Rattle.bpf_asm.specs.Classes.{read_class_text}
 use Rattle.bpf_decode.specs.Class.{ClassMethod, IsClass}
@@ -11,6 +12,14 @@ use Rattle.bpf_decode.specs.Class.{ClassMethod, IsClass}
 abbrev pub TextsGiveBack : Type 0
 TextsGiveBack = (is : List Insn) → AllFit is → 1 ≤ slot_total is → slot_total is ≤ 4096 → read_text (canonical_text is) ≡ Ok is
 
+-- and is in the grammar
+abbrev pub TextsAreInGrammar : Type 0
+TextsAreInGrammar = (is : List Insn) → AllFit is → 1 ≤ slot_total is → slot_total is ≤ 4096 → IsMethodText (canonical_text is) is
+
 -- the canonical text of a class is read as that class
 abbrev pub ClassTextsGiveBack : Type 0
 ClassTextsGiveBack = (ms : List ClassMethod) → IsClass ms → read_class_text (class_text ms) ≡ Ok ms
+
+-- and is in the grammar
+abbrev pub ClassTextsAreInGrammar : Type 0
+ClassTextsAreInGrammar = (ms : List ClassMethod) → IsClass ms → IsClassText (class_text ms) ms

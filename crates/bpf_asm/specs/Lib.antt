@@ -10,4 +10,5 @@ pub mod Bodies
 pub mod Classes
 pub mod Headers
 pub mod Laws
+pub mod Syntax
 pub mod Grammar

@@ -39,11 +39,12 @@ fn assembled(alloc: Global, lines: &[Statement]) -> Result<Vec<Insn>, AsmError>
 /// there; want of memory may come in place of any answer.
 ///
 /// Labels cost time: each jump to one goes over the lines up to it.
-#[tactic(auto, using(crate::proofs::GrammarLemmas::read_is_text, crate::proofs::GrammarLemmas::refused_is_none), unfolding(crate::specs::Bodies::read_text))]
+#[tactic(auto, using(crate::proofs::GrammarLemmas::read_is_text), unfolding(crate::specs::Bodies::read_text))]
 pub fn assemble(alloc: Global, text: &str) -> Result<Vec<Insn>, AsmError>
     ensures found { IfOk result (λ v. read_text text.now ≡ Ok v.items) }
     ensures refused { IfErr result (λ e. (e ≡ no_memory) ⊎ (read_text text.now ≡ Err e)) }
     ensures grammar { IfOk result (λ v. IsMethodText text.now v.items) }
+    ensures one { IfOk result (λ v. (is : List Instruction) → IsMethodText text.now is → is ≡ v.items) }
     ensures only { IfErr result (λ e. (e ≡ no_memory) ⊎ ((is : List Instruction) → ¬ IsMethodText text.now is)) }
 {
     let lines = statements(alloc, text)?;

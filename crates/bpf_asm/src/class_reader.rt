@@ -191,11 +191,12 @@ fn class_assembled(alloc: Global, lines: &[Statement]) -> Result<ClassImage, Asm
 
 /// The class of a text. What is refused is the lowest line that has a fault, with the least fault there; want of memory
 /// may come in place of any answer.
-#[tactic(auto, using(crate::proofs::ClassGrammar::read_is_class_text, crate::proofs::ClassGrammar::refused_is_no_class), unfolding(crate::specs::Classes::read_class_text))]
+#[tactic(auto, using(crate::proofs::ClassGrammar::read_is_class_text), unfolding(crate::specs::Classes::read_class_text))]
 pub fn assemble_class(alloc: Global, text: &str) -> Result<ClassImage, AsmError>
     ensures found { IfOk result (λ c. read_class_text text.now ≡ Ok c) }
     ensures refused { IfErr result (λ e. (e ≡ no_memory) ⊎ (read_class_text text.now ≡ Err e)) }
     ensures grammar { IfOk result (λ c. IsClassText text.now c) }
+    ensures one { IfOk result (λ c. (ms : List ClassMethod) → IsClassText text.now ms → ms ≡ c) }
     ensures only { IfErr result (λ e. (e ≡ no_memory) ⊎ ((ms : List ClassMethod) → ¬ IsClassText text.now ms)) }
 {
     let lines = statements(alloc, text)?;

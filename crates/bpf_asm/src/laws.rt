@@ -1,15 +1,15 @@
 //! Laws of the definitions that the contracts cite.
 
-ghost use Rattle.bpf_asm.specs.Laws.{TextsGiveBack, ClassTextsGiveBack};
+ghost use Rattle.bpf_asm.specs.Laws.{TextsGiveBack, TextsAreInGrammar, ClassTextsGiveBack, ClassTextsAreInGrammar};
 
-/// The canonical text of instructions within the limits is read as those instructions, so that what `disassemble`
-/// prints `assemble` gives back, and no two lists have one canonical text.
+/// The canonical text of instructions within the limits is read as those instructions, and is in the grammar: what
+/// `disassemble` prints `assemble` gives back, and no two lists have one canonical text.
 pub fn one_text()
-    ensures { TextsGiveBack }
+    ensures { TextsGiveBack × TextsAreInGrammar }
 {}
 
-/// The canonical text of a class is read as that class, so that what `disassemble_class` prints `assemble_class` gives
-/// back, and no two classes have one canonical text.
+/// The canonical text of a class is read as that class, and is in the grammar: what `disassemble_class` prints
+/// `assemble_class` gives back, and no two classes have one canonical text.
 pub fn one_class_text()
-    ensures { ClassTextsGiveBack }
+    ensures { ClassTextsGiveBack × ClassTextsAreInGrammar }
 {}

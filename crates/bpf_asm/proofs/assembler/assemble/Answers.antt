@@ -1,0 +1,18 @@
+use Rattle.std.proofs.Common.{rules}
+use Rattle.bpf_asm.specs.Bodies.{read_text}
+use Rattle.bpf_asm.proofs.GrammarLemmas.{none_if_refused, one_if_read}
+use Rattle.bpf_asm.proofs.assembler.assemble.Goals as goal
+
+pub returns-clause-found : goal.returns-clause-found
+unfolding read_text
+returns-clause-found c = search rules
+
+pub returns-clause-refused : goal.returns-clause-refused
+unfolding read_text
+returns-clause-refused c = search rules
+
+pub returns-clause-one : goal.returns-clause-one
+returns-clause-one c = one_if_read (λ v. v.items) c.assembled.result c.args.text.now (returns-clause-found c)
+
+pub returns-clause-only : goal.returns-clause-only
+returns-clause-only c = none_if_refused c.assembled.result c.args.text.now (returns-clause-refused c)
