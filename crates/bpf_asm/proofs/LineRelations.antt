@@ -69,12 +69,12 @@ one_call rest (drafts.JumpLong target) o = absurd o.is
 one_call rest (drafts.Branch bits comparison dst source target) o = absurd o.is
 one_call rest (drafts.CallLocal target) o = (refl, record { inner = o.inner; without = o.without; padded = o.padded; is = o.is })
 
-none_true : true ≡ false → ⊥
-none_true h = absurd cc
+pub true_false : true ≡ false → ⊥
+true_false h = absurd cc
 
 none_at : (rest : List ℕ) (d e : Draft) (b : Bool) → b ≡ (length rest == 0) → cond b (Ok e) (Err faults.Operand) ≡ Ok d → (rest ≡ []) × (e ≡ d)
 none_at [] d e true t h = (refl, cc)
-none_at (x ∷ xs) d e true t h = absurd (none_true (t ∙ length_some x xs))
+none_at (x ∷ xs) d e true t h = absurd (true_false (t ∙ length_some x xs))
 none_at rest d e false t h = absurd cc
 
 -- an instruction's operands are read where they are its
@@ -159,7 +159,7 @@ other_byte a b h k l = omega arith
 
 -- no number begins with `l`
 no_number : (xs : List ℕ) (n : ℕ) → IsNatural (108 ∷ xs) n → ⊥
-no_number xs n (inl d) = absurd (none_true (sym (rw (length_some 108 xs) at d.digits)))
+no_number xs n (inl d) = absurd (true_false (sym (rw (length_some 108 xs) at d.digits)))
 no_number xs n (inr h) = other_byte 108 48 (ap (λ (t : List ℕ). slice_index t 0) h.whole) refl refl
 
 not_local_at : (text rest : List ℕ) (n : ℕ) → IsNatural text n → HasWord text (codes "local") rest → ⊥

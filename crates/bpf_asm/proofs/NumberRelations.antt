@@ -11,6 +11,7 @@ use Rattle.bpf_asm.specs.Numbers.{all_digits, decimal_number, hex_number, natura
 use Rattle.bpf_asm.specs.Operands.{filled, immediate_of, offset_of, distance_of, unsigned_of}
 use Rattle.bpf_asm.specs.Syntax.{IsDecimal, IsHexadecimal, IsNatural, IsBehind, IsImmediate, IsOffset, IsDistance, IsUnsigned}
 use Rattle.bpf_asm.proofs.PlainBytes.{and_left, and_right}
+use Rattle.bpf_asm.proofs.CutRelations.{same_byte}
 use Rattle.bpf_asm.proofs.NumberTexts.{at_range, not_at}
 
 -- ---- numbers without a sign
@@ -65,9 +66,6 @@ unfolding hex_number
 is_hex hex n digits most value =
     let few : nat_le (length hex) 16 ≡ true = grind (arith, nat_tests) in
     if_both (all_digits 16 hex) (nat_le (length hex) 16) (digits_value 16 hex) n digits few value
-
-same_byte : (c b : ℕ) → (c == b) ≡ true → c ≡ b
-same_byte c b h = grind (arith, nat_tests)
 
 -- a text that begins with `0x`
 marked : (text : List ℕ) → (slice_index text 0 == 48 && slice_index text 1 == 120) ≡ true → text ≡ codes "0x" ++ drop 2 text

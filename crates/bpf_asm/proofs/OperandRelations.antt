@@ -73,11 +73,11 @@ offset_or_none_is [] z h = let same : pos 0 ≡ z = cc in inr (refl, sym same)
 offset_or_none_is (c ∷ cs) z h = inl (offset_is (c ∷ cs) z (sym (if_some c cs (Ok (pos 0)) (offset_of (c ∷ cs))) ∙ h))
 
 -- a text is a front of it and the rest
-cut_behind : (k : ℕ) (xs : List ℕ) → xs ≡ take k xs ++ drop (length (take k xs)) xs
-cut_behind zero [] = refl
-cut_behind zero (x ∷ xs) = refl
-cut_behind (suc k) [] = refl
-cut_behind (suc k) (x ∷ xs) = ap (λ (v : List ℕ). x ∷ v) (cut_behind k xs)
+cut_after : (k : ℕ) (xs : List ℕ) → xs ≡ take k xs ++ drop (length (take k xs)) xs
+cut_after zero [] = refl
+cut_after zero (x ∷ xs) = refl
+cut_after (suc k) [] = refl
+cut_after (suc k) (x ∷ xs) = ap (λ (v : List ℕ). x ∷ v) (cut_after k xs)
 
 bracketed_more : (c : ℕ) (cs : List ℕ) → 1 ≤ length cs → (c == 91) ≡ true → (slice_index (c ∷ cs) (length (c ∷ cs) - 1) == 93) ≡ true → c ∷ cs ≡ 91 ∷ (take (length (c ∷ cs) - 2) cs ++ (93 ∷ []))
 bracketed_more c cs some h k =
@@ -101,7 +101,7 @@ unfolding place_within
 place_is text inner p whole h =
     let base = before_first is_sign inner in
     let offset = drop (length base) inner in
-    let parts : inner ≡ base ++ offset = cut_behind (position_or_len is_sign inner) inner in
+    let parts : inner ≡ base ++ offset = cut_after (position_or_len is_sign inner) inner in
     let b = both_is (register_of base) (offset_or_zero offset) p h in
     let all : text ≡ codes "[" ++ (base ++ (offset ++ codes "]")) =
     whole ∙ ap (λ (v : List ℕ). 91 ∷ (v ++ (93 ∷ []))) parts ∙ ap (λ (v : List ℕ). 91 ∷ v) (append_assoc base offset (93 ∷ []))

@@ -32,10 +32,7 @@ use Rattle.bpf_asm.proofs.ClassTexts.{flags_read}
 use Rattle.bpf_asm.proofs.NumberRelations.{filled_is, unsigned_is, is_unsigned}
 use Rattle.bpf_asm.proofs.BodyTexts.{split_line}
 use Rattle.bpf_asm.proofs.CutRelations.{free_not, has_content, is_content, has_word, is_first, is_rest}
-use Rattle.bpf_asm.proofs.LineRelations.{known_word, instruction_is, is_instruction}
-
-true_false : true ≡ false → ⊥
-true_false h = absurd cc
+use Rattle.bpf_asm.proofs.LineRelations.{true_false, known_word, instruction_is, is_instruction}
 
 -- ---- labels
 
