@@ -1,3 +1,4 @@
 mod Answered
 mod Appended
 mod Entered
+mod Refused

@@ -28,12 +28,23 @@ fn read_text<F: Files>(alloc: Global, files: &F, name: &str) -> Result<String, F
     }
 }
 
+/// The class that a text is.
+fn class_of(alloc: Global, text: &str) -> Result<ClassImage, Failure>
+    ensures read { IfOk result (λ class. IsClassText text.now class) }
+    ensures refused { IfErr result (IsRefusalOf text.now) }
+{
+    match bpf_asm::assemble_class(alloc, text) {
+        Ok(class) => Ok(class),
+        Err(error) => Err(Failure::Text(error)),
+    }
+}
+
 /// The image of the class that a text is.
 fn image_of(alloc: Global, text: &str) -> Result<Vec<u8>, Failure>
     ensures spells { IfOk result (λ bytes. Spells text.now bytes.items) }
     ensures refused { IfErr result (IsRefusalOf text.now) }
 {
-    let class = bpf_asm::assemble_class(alloc, text).map_err(Failure::Text)?;
+    let class = class_of(alloc, text)?;
     match bpf_decode::write_image(alloc, &class) {
         Ok(bytes) => Ok(bytes),
         Err(_) => Err(Failure::NoMemory),

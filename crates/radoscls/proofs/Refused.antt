@@ -1,0 +1,15 @@
+-- Why a text has no image.
+use Rattle.std.proofs.Common.{◌≡◌, ◌⊎◌, inl, inr, ℕ, List, Err}
+use Rattle.bpf_decode.specs.Class.{ClassMethod}
+use Rattle.bpf_asm.specs.declared.fault.AsmError.{AsmError}
+use Rattle.bpf_asm.specs.Classes.{read_class_text}
+use Rattle.bpf_asm.specs.Fault.{no_memory}
+use Rattle.bpf_asm.specs.Grammar.{IsClassText}
+use Rattle.radoscls.specs.Assembly.{IsRefusalOf}
+use Rattle.radoscls.specs.declared.failure.Failure.TheVariants.{Text}
+
+-- a refusal of a text that is read as no class
+pub text_refused : (text : List ℕ) (e : AsmError) → (e ≡ no_memory) ⊎ (read_class_text text ≡ Err e) → (e ≡ no_memory) ⊎ ((ms : List ClassMethod) → ¬ IsClassText text ms) → IsRefusalOf text (Text e)
+text_refused text e (inl lack) o = inl lack
+text_refused text e (inr read) (inl lack) = inl lack
+text_refused text e (inr read) (inr none) = inr (read, none)
