@@ -20,7 +20,6 @@ is_directive (Label name) = false
 is_directive (Directive header) = true
 is_directive (Instruction d) = false
 
--- the name of the last method, or no name
 -- the name of the last method, or the one before them
 abbrev pub last_name : List ℕ → List ClassMethod → List ℕ
 last_name before [] = before
