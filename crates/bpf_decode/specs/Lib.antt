@@ -1,4 +1,5 @@
 pub mod Instruction
+pub mod Arithmetic
 pub mod Fields
 pub mod Refusal
 pub mod Opcodes

@@ -22,7 +22,7 @@ use Rattle.bpf_machine.proofs.Sim.{Sim, Any, same, sim_some, sim_if, sim_bind}
 use Rattle.bpf_machine.proofs.Place.{find_sim}
 use Rattle.bpf_machine.proofs.Slot.{by_row, offset_extended, imm_extended}
 use Rattle.bpf_machine.proofs.Registers.{register, operand, sets, numbers, after_sim}
-use Rattle.bpf_machine.specs.Arithmetic.{signed_load_value}
+use Rattle.bpf_decode.specs.Arithmetic.{signed_load_value}
 
 module _ (caps : Caps) (lay : Layout) where
   -- the row of a load, by its width

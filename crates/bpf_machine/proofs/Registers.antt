@@ -15,7 +15,7 @@ use Rattle.bpf_machine.specs.declared.caps.Caps.{Caps}
 use Rattle.bpf_machine.specs.State.{◌>>=◌, State, reg, set_reg}
 use Rattle.bpf_machine.specs.Flat.{Layout, base, flat_after}
 use Rattle.bpf_machine.specs.Typed.{Typed, number, moves_pointer, is_addition, alu_values, mov_values, operand_value, typed_after, address, image}
-use Rattle.bpf_machine.specs.Arithmetic.{alu_value, mov_value}
+use Rattle.bpf_decode.specs.Arithmetic.{alu_value, mov_value}
 use Rattle.bpf_machine.specs.Decoded.{operand_in}
 use Rattle.bpf_machine.proofs.Sim.{Sim, Any, same, sim_none, sim_some, sim_if, sim_guard, sim_bind, reg_sim}
 use Rattle.bpf_machine.proofs.Place.{shift}

@@ -1,7 +1,7 @@
 pub mod Object
 pub mod State
 pub mod Helper
-pub mod Arithmetic
+pub mod Jump
 pub mod Flat
 pub mod Typed
 pub mod Decoded

@@ -1,7 +1,7 @@
 ghost use Rattle.std.specs.Prelude.{◌≡◌, ◌<◌, ◌%◌, ◌^◌};
 ghost use Rattle.bpf_decode.specs.Instruction.{signed_byte_count};
 ghost use Rattle.std.specs.Int.{w32, w64};
-ghost use Rattle.bpf_machine.specs.Arithmetic.{signed_load_value, computed, alu_value, neg_value, mov_value, signed_move_value, end_value, compared, is_taken};
+ghost use Rattle.bpf_decode.specs.Arithmetic.{signed_load_value, computed, alu_value, neg_value, mov_value, signed_move_value, end_value, compared, is_taken};
 
 use bpf_decode::{Arithmetic, Bits, ByteOrder, Comparison, EndWidth, SignedMove, SignedWidth};
 

@@ -16,7 +16,8 @@ use Rattle.bpf_decode.specs.declared.operation.SignedMove.{SignedMove}
 use Rattle.bpf_decode.specs.declared.operation.ByteOrder.{ByteOrder}
 use Rattle.bpf_decode.specs.declared.operation.EndWidth.{EndWidth}
 use Rattle.bpf_decode.specs.declared.operation.Comparison.{Comparison}
-use Rattle.bpf_machine.specs.Arithmetic.{neg_value, signed_move_value, end_value, signed_load_value, is_taken, branch_to}
+use Rattle.bpf_decode.specs.Arithmetic.{neg_value, signed_move_value, end_value, signed_load_value, is_taken}
+use Rattle.bpf_machine.specs.Jump.{branch_to}
 use Rattle.bpf_machine.specs.declared.region.Region.{Region}
 use Rattle.bpf_machine.specs.declared.value.Value.{Value}
 use Rattle.bpf_machine.specs.declared.value.Value.TheVariants as values

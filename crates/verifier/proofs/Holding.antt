@@ -18,7 +18,7 @@ use Rattle.bpf_decode.specs.declared.operation.Arithmetic.{Arithmetic}
 use Rattle.bpf_decode.specs.declared.insn.Operand.{Operand}
 use Rattle.bpf_decode.specs.declared.insn.Operand.TheVariants.{Immediate, Register}
 use Rattle.bpf_decode.specs.Instruction.{OperandFits}
-use Rattle.bpf_machine.specs.Arithmetic.{alu_value, mov_value}
+use Rattle.bpf_decode.specs.Arithmetic.{alu_value, mov_value}
 use Rattle.verifier.specs.Rules.{operand_is_unset}
 use Rattle.verifier.specs.declared.kind.Kind.{Kind}
 use Rattle.verifier.specs.declared.kind.Kind.TheVariants.{Unset, Num, Ptr}

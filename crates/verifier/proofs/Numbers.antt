@@ -10,7 +10,7 @@ use Rattle.bpf_decode.specs.declared.operation.Arithmetic.{Arithmetic}
 use Rattle.bpf_decode.specs.declared.operation.SignedMove.{SignedMove}
 use Rattle.bpf_decode.specs.declared.operation.ByteOrder.{ByteOrder}
 use Rattle.bpf_decode.specs.declared.operation.EndWidth.{EndWidth}
-use Rattle.bpf_machine.specs.Arithmetic.{alu_value, neg_value, mov_value, signed_move_value, end_value}
+use Rattle.bpf_decode.specs.Arithmetic.{alu_value, neg_value, mov_value, signed_move_value, end_value}
 use Rattle.verifier.proofs.Results.{alu_small, neg_value_small, mov_value_small, signed_move_small, end_value_small}
 
 pub holds_constant : (n : ℕ) → n < 2 ^ 64 → HoldsKnown (constant n) n

@@ -22,7 +22,7 @@ use Rattle.bpf_decode.specs.declared.operation.ByteOrder.{ByteOrder}
 use Rattle.bpf_decode.specs.declared.operation.ByteOrder.TheVariants.{ToLittle, ToBig, Swap}
 use Rattle.bpf_decode.specs.declared.operation.EndWidth.{EndWidth}
 use Rattle.bpf_decode.specs.declared.operation.EndWidth.TheVariants.{End16, End32, End64}
-use Rattle.bpf_machine.specs.Arithmetic.{computed, alu_value, neg_value, mov_value, signed_move_value, end_width, end_value, signed_load_value}
+use Rattle.bpf_decode.specs.Arithmetic.{computed, alu_value, neg_value, mov_value, signed_move_value, end_width, end_value, signed_load_value}
 
 -- a number of a width as two's complement
 of_z_small : (w : Width) (z : ℤ) → 0 < 2 ^ bits w → mag z < 2 ^ bits w → cast_unsigned w z < 2 ^ bits w
