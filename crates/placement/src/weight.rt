@@ -1,0 +1,14 @@
+ghost use Rattle.std.specs.Prelude.{◌≡◌};
+ghost use Rattle.placement.specs.Placement.{score};
+
+use crate::node_id::NodeId;
+
+/// What a node weighs for a group: the number of both, mixed as SplitMix64 mixes its state. Arithmetic wraps.
+pub fn score(group: u64, node: NodeId) -> u64
+    ensures { result ≡ score group node }
+{
+    let z = group.wrapping_mul(0x1_0000).wrapping_add(node.get());
+    let z = (z ^ (z >> 30)).wrapping_mul(0xbf58_476d_1ce4_e5b9);
+    let z = (z ^ (z >> 27)).wrapping_mul(0x94d0_49bb_1331_11eb);
+    z ^ (z >> 31)
+}
