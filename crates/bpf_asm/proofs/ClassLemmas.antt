@@ -12,11 +12,12 @@ use Rattle.bpf_decode.specs.Instruction.{slot_total}
 use Rattle.bpf_decode.specs.Class.{ClassMethod}
 use Rattle.bpf_decode.specs.declared.image_error.ImageError.{ImageError}
 use Rattle.bpf_decode.specs.Reading.{◌>>=◌}
-use Rattle.bpf_decode.specs.ImageReading.{after, between, is_name_byte, are_name_bytes, is_above, method_after, methods_after, class_of}
+use Rattle.bpf_decode.specs.Limits.{between, is_name_byte, are_name_bytes}
+use Rattle.bpf_decode.specs.ImageReading.{after, is_above, method_after, methods_after, class_of}
 use Rattle.bpf_asm.specs.declared.fault.AsmFault.{AsmFault}
 use Rattle.bpf_asm.specs.Headers.{MethodHeader, is_header}
-use Rattle.bpf_asm.specs.Texts.{is_method_name}
 use Rattle.bpf_asm.specs.Classes.{last_name, is_directive, method_at, next_method, class_from}
+use Rattle.bpf_decode.specs.Limits.{is_method_name}
 
 and_left : (a b : Bool) → IsTrue (a && b) → a ≡ true
 and_left true b h = refl

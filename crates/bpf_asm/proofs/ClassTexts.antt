@@ -9,13 +9,14 @@ use Rattle.std.proofs.lemmas.List.{append-nil, length-append}
 use Rattle.bpf_decode.specs.declared.insn.Insn.{Insn}
 use Rattle.bpf_decode.specs.Instruction.{AllFit, slot_total, slot_count}
 use Rattle.bpf_decode.specs.Class.{ClassMethod, IsNameByte, IsMethod, NamesRise}
-use Rattle.bpf_decode.specs.ImageReading.{between, is_name_byte, are_name_bytes, is_above}
+use Rattle.bpf_decode.specs.Limits.{between, is_name_byte, are_name_bytes}
+use Rattle.bpf_decode.specs.ImageReading.{is_above}
 use Rattle.bpf_asm.specs.declared.fault.AsmFault.{AsmFault}
 use Rattle.bpf_asm.specs.declared.fault.AsmError.{AsmError}
 use Rattle.bpf_asm.specs.declared.statement.Statement.{Statement}
 use Rattle.bpf_asm.specs.declared.statement.Statement.TheVariants.{Empty, Directive, Instruction}
 use Rattle.bpf_asm.specs.Headers.{MethodHeader}
-use Rattle.bpf_asm.specs.Texts.{is_blank, trim_start, trim_end, content, first_word, after_word, is_method_name}
+use Rattle.bpf_asm.specs.Texts.{is_blank, trim_start, trim_end, content, first_word, after_word}
 use Rattle.bpf_asm.specs.Operands.{unsigned_of}
 use Rattle.bpf_asm.specs.Statements.{flags_of, header_of, statement_of, statements_of}
 use Rattle.bpf_asm.specs.Canonical.{flags_text, directive_line, canonical_text, class_text, line_of}
@@ -28,6 +29,7 @@ use Rattle.bpf_asm.proofs.OperandTexts.{length_some}
 use Rattle.bpf_asm.proofs.LineTexts.{no_label_line, content_same}
 use Rattle.bpf_asm.proofs.InsnTexts.{unresolved, line_says, line_quiet}
 use Rattle.bpf_asm.proofs.BodyTexts.{stated, one_line, no_line, body_stated, some_instruction, stands}
+use Rattle.bpf_decode.specs.Limits.{is_method_name}
 
 -- ---- what a name may be
 

@@ -8,7 +8,7 @@ use Rattle.std.proofs.lemmas.Slice.Eq.{bytes_eq-Decides}
 use Rattle.std.proofs.lemmas.Bool.Decides.{nat_tests}
 use Rattle.bpf_decode.specs.declared.insn.Operand.TheVariants.{Immediate, Register}
 use Rattle.bpf_decode.specs.declared.insn.Insn.TheVariants as insns
-use Rattle.bpf_decode.specs.ImageReading.{between, is_name_byte, are_name_bytes}
+use Rattle.bpf_decode.specs.Limits.{between, is_name_byte, are_name_bytes}
 use Rattle.bpf_asm.specs.declared.fault.AsmFault.{AsmFault}
 use Rattle.bpf_asm.specs.declared.form.Form.{Form}
 use Rattle.bpf_asm.specs.declared.form.Form.TheVariants.{Alu, Neg, Mov, MovSigned, End, LoadWide, Load, LoadSigned, StoreNumber, StoreRegister, Jump, JumpLong, Branch, Call, Exit}
@@ -18,7 +18,7 @@ use Rattle.bpf_asm.specs.declared.statement.Statement.{Statement}
 use Rattle.bpf_asm.specs.declared.statement.Statement.TheVariants as statements
 use Rattle.bpf_asm.specs.Headers.{MethodHeader}
 use Rattle.bpf_asm.specs.Words.{word_of, form_of}
-use Rattle.bpf_asm.specs.Texts.{is_blank, content, first_word, after_word, is_label_name, is_method_name}
+use Rattle.bpf_asm.specs.Texts.{is_blank, content, first_word, after_word, is_label_name}
 use Rattle.bpf_asm.specs.Operands.{both, unsigned_of}
 use Rattle.bpf_asm.specs.Drafts.{instruction_of}
 use Rattle.bpf_asm.specs.Statements.{flags_of, header_with, header_of, is_label_line, statement_of, lines_of, statements_of}
@@ -33,6 +33,7 @@ use Rattle.bpf_asm.proofs.NumberRelations.{filled_is, unsigned_is, is_unsigned}
 use Rattle.bpf_asm.proofs.BodyTexts.{split_line}
 use Rattle.bpf_asm.proofs.CutRelations.{free_not, has_content, is_content, has_word, is_first, is_rest}
 use Rattle.bpf_asm.proofs.LineRelations.{true_false, known_word, instruction_is, is_instruction}
+use Rattle.bpf_decode.specs.Limits.{is_method_name}
 
 -- ---- labels
 

@@ -15,6 +15,7 @@ use Rattle.bpf_asm.specs.declared.statement.Statement.{Statement}
 use Rattle.bpf_asm.specs.declared.statement.Statement.TheVariants.{Empty, Label, Directive, Instruction}
 use Rattle.bpf_asm.specs.Operands.{filled}
 use Rattle.bpf_asm.specs.Statements.{statements_of}
+use Rattle.bpf_decode.specs.declared.limits.TheConstants.{SLOT_LIMIT}
 
 -- how many slots an instruction takes; one that is refused counts for one
 abbrev pub draft_slots : Result Draft AsmFault → ℕ
@@ -75,7 +76,7 @@ finished all slot (drafts.CallLocal target) = filled insns.CallLocal (far all sl
 -- an instruction's line: its own fault, or 3 Range if it passes 4,096 slots, or that of its label
 abbrev pub instruction_at : List Statement → ℕ → Result Draft AsmFault → Result (Option Insn) AsmFault
 instruction_at all slot (Err fault) = Err fault
-instruction_at all slot (Ok d) = if nat_le (slot + draft_slots (Ok d)) 4096 then filled Some (finished all slot d) else Err faults.Range
+instruction_at all slot (Ok d) = if nat_le (slot + draft_slots (Ok d)) SLOT_LIMIT then filled Some (finished all slot d) else Err faults.Range
 
 -- what a line at a slot gives: an instruction or nothing. `before` has the method's lines above it: a label that stands
 -- among them already is 4 Label

@@ -13,6 +13,7 @@ use Rattle.bpf_asm.specs.declared.statement.Statement.TheVariants.{Empty, Label,
 use Rattle.bpf_asm.specs.Operands.{least}
 use Rattle.bpf_asm.specs.Statements.{statements_of}
 use Rattle.bpf_asm.specs.Bodies.{body, has_instruction}
+use Rattle.bpf_decode.specs.declared.limits.TheConstants.{METHOD_LIMIT}
 
 abbrev pub is_directive : Statement → Bool
 is_directive Empty = false
@@ -28,7 +29,7 @@ last_name before (m ∷ ms) = last_name m.name ms
 -- the fault of a method's first line behind other methods: 3 Range for a 33rd or one without instruction, 4 Label for a
 -- name that isn't above the one before
 abbrev pub opening_fault : List ClassMethod → Bool → MethodHeader → Option AsmFault
-opening_fault done bare h = if nat_le 32 (length done) || bare then Some faults.Range else (if is_above (last_name [] done) h.name then None else Some faults.Label)
+opening_fault done bare h = if nat_le METHOD_LIMIT (length done) || bare then Some faults.Range else (if is_above (last_name [] done) h.name then None else Some faults.Label)
 
 -- a method of that header and those instructions
 abbrev pub method_with : MethodHeader → List Insn → ClassMethod

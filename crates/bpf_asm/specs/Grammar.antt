@@ -19,6 +19,7 @@ use Rattle.bpf_asm.specs.Headers.{MethodHeader}
 use Rattle.bpf_asm.specs.Classes.{is_directive, method_with}
 use Rattle.bpf_asm.specs.Syntax.{TextSays}
 use Rattle.bpf_asm.specs.Bodies.{slot_of_label}
+use Rattle.bpf_decode.specs.declared.limits.TheConstants.{METHOD_LIMIT, SLOT_LIMIT}
 
 -- a label that stands on no line above
 abbrev pub IsFirst : List Statement → Statement → Type 0
@@ -73,7 +74,7 @@ pub record AreMethodLines (lines : List Statement) (is : List Insn) : Type 0 whe
   pub labels : LabelsOnce [] lines
   pub says : Says lines 0 lines is
   pub some : 1 ≤ slot_total is
-  pub limit : slot_total is ≤ 4096
+  pub limit : slot_total is ≤ SLOT_LIMIT
 
 -- The text of a method's instructions.
 pub record IsMethodText (text : List ℕ) (is : List Insn) : Type 0 where
@@ -115,7 +116,7 @@ pub record AreClassLines (lines : List Statement) (ms : List ClassMethod) : Type
   pub methods : SayMethods lines ms
   pub names : NamesAbove [] ms
   pub some : 1 ≤ length ms
-  pub limit : length ms ≤ 32
+  pub limit : length ms ≤ METHOD_LIMIT
 
 -- The text of a class.
 pub record IsClassText (text : List ℕ) (ms : List ClassMethod) : Type 0 where

@@ -1,7 +1,6 @@
 -- What a `.method` line says of its method.
 use Rattle.std.specs.Prelude.{ℕ, List, Bool, ◌&&◌}
-use Rattle.bpf_decode.specs.ImageReading.{between}
-use Rattle.bpf_asm.specs.Texts.{is_method_name}
+use Rattle.bpf_decode.specs.Limits.{is_method_name, are_flags, is_capacity}
 
 pub record MethodHeader : Type 0 where
   pub name : List ℕ
@@ -11,4 +10,4 @@ pub record MethodHeader : Type 0 where
 
 -- a name and numbers within the limits
 abbrev pub is_header : MethodHeader → Bool
-is_header h = is_method_name h.name && between 1 3 h.flags && between 0 4096 h.in_cap && between 0 4096 h.out_cap
+is_header h = is_method_name h.name && are_flags h.flags && is_capacity h.in_cap && is_capacity h.out_cap

@@ -7,14 +7,15 @@ use Rattle.bpf_asm.specs.Grammar.{IsMethodText, IsClassText}
 use Rattle.bpf_asm.specs.Bodies.{read_text}
 use Rattle.bpf_asm.specs.Classes.{read_class_text}
 use Rattle.bpf_decode.specs.Class.{ClassMethod, IsClass}
+use Rattle.bpf_decode.specs.declared.limits.TheConstants.{SLOT_LIMIT}
 
 -- the canonical text of instructions is read as those instructions
 abbrev pub TextsGiveBack : Type 0
-TextsGiveBack = (is : List Insn) → AllFit is → 1 ≤ slot_total is → slot_total is ≤ 4096 → read_text (canonical_text is) ≡ Ok is
+TextsGiveBack = (is : List Insn) → AllFit is → 1 ≤ slot_total is → slot_total is ≤ SLOT_LIMIT → read_text (canonical_text is) ≡ Ok is
 
 -- and is in the grammar
 abbrev pub TextsAreInGrammar : Type 0
-TextsAreInGrammar = (is : List Insn) → AllFit is → 1 ≤ slot_total is → slot_total is ≤ 4096 → IsMethodText (canonical_text is) is
+TextsAreInGrammar = (is : List Insn) → AllFit is → 1 ≤ slot_total is → slot_total is ≤ SLOT_LIMIT → IsMethodText (canonical_text is) is
 
 -- the canonical text of a class is read as that class
 abbrev pub ClassTextsGiveBack : Type 0

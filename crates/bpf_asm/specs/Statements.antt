@@ -7,9 +7,11 @@ use Rattle.bpf_asm.specs.declared.fault.AsmFault.TheVariants as faults
 use Rattle.bpf_asm.specs.Headers.{MethodHeader}
 use Rattle.bpf_asm.specs.declared.statement.Statement.{Statement}
 use Rattle.bpf_asm.specs.declared.statement.Statement.TheVariants.{Empty, Label, Directive, Instruction}
-use Rattle.bpf_asm.specs.Texts.{content, first_word, after_word, is_label_name, is_method_name}
+use Rattle.bpf_asm.specs.Texts.{content, first_word, after_word, is_label_name}
 use Rattle.bpf_asm.specs.Operands.{filled, both, unsigned_of}
 use Rattle.bpf_asm.specs.Drafts.{instruction_of}
+use Rattle.bpf_decode.specs.Limits.{is_method_name}
+use Rattle.bpf_decode.specs.declared.limits.TheConstants.{CAPACITY_LIMIT}
 
 -- flags: `r`, `w` or `rw`
 unfoldable pub flags_of : List ℕ → Option ℕ
@@ -20,7 +22,7 @@ abbrev pub header_with : Bool → List ℕ → Option ℕ → List ℕ → Resul
 header_with named name None caps = Err faults.Operand
 header_with named name (Some flags) caps =
     if named then
-    filled (λ p. record { name = name; flags = flags; in_cap = p.0; out_cap = p.1 }) (both (unsigned_of 4096 (first_word caps)) (unsigned_of 4096 (after_word caps)))
+    filled (λ p. record { name = name; flags = flags; in_cap = p.0; out_cap = p.1 }) (both (unsigned_of CAPACITY_LIMIT (first_word caps)) (unsigned_of CAPACITY_LIMIT (after_word caps)))
     else Err faults.Operand
 
 -- what stands behind `.method`: a name, flags, and the capacities of input and output

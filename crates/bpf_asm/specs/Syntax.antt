@@ -14,11 +14,13 @@ use Rattle.bpf_asm.specs.declared.draft.Draft.{Draft}
 use Rattle.bpf_asm.specs.declared.draft.Draft.TheVariants as drafts
 use Rattle.bpf_asm.specs.declared.statement.Statement.{Statement}
 use Rattle.bpf_asm.specs.declared.statement.Statement.TheVariants as statements
-use Rattle.bpf_asm.specs.Texts.{is_blank, is_label_name, is_method_name}
+use Rattle.bpf_asm.specs.Texts.{is_blank, is_label_name}
 use Rattle.bpf_asm.specs.Numbers.{all_digits}
 use Rattle.bpf_asm.specs.Words.{word_of}
 use Rattle.bpf_asm.specs.Canonical.{flags_text}
 use Rattle.bpf_asm.specs.Headers.{MethodHeader}
+use Rattle.bpf_decode.specs.Limits.{is_method_name}
+use Rattle.bpf_decode.specs.declared.limits.TheConstants.{CAPACITY_LIMIT}
 
 -- ---- how a line is cut
 
@@ -235,8 +237,8 @@ pub record IsDirectiveText (text : List ℕ) (header : MethodHeader) : Type 0 wh
   pub flags_word : HasWord behind_name flags caps
   pub are_flags : AreFlags flags header.flags
   pub in_cap_word : HasWord caps in_cap out_cap
-  pub is_in_cap : IsUnsigned 4096 in_cap header.in_cap
-  pub is_out_cap : IsUnsigned 4096 out_cap header.out_cap
+  pub is_in_cap : IsUnsigned CAPACITY_LIMIT in_cap header.in_cap
+  pub is_out_cap : IsUnsigned CAPACITY_LIMIT out_cap header.out_cap
 
 -- what a line says whose content that is
 abbrev pub IsStatementText : List ℕ → Statement → Type 0

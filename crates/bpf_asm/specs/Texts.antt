@@ -2,7 +2,7 @@
 use Rattle.std.specs.Prelude.{ℕ, ◌==◌, ◌&&◌, ◌||◌, nat_lt, Bool, false, List, [], ◌∷◌, length, drop, slice_index, Option, Some, None, is_some, if◌then◌else◌}
 use Rattle.std.specs.List.{position_or_len, before_first, after_first}
 use Rattle.std.specs.Option.{option_map, option_and_then}
-use Rattle.bpf_decode.specs.ImageReading.{between, are_name_bytes}
+use Rattle.bpf_decode.specs.Limits.{between, are_name_bytes}
 
 -- a space or a tab
 abbrev pub is_blank : ℕ → Bool
@@ -55,7 +55,3 @@ triple text = option_and_then (λ p. option_map (λ r. (trim p.0, r.0, r.1)) (pa
 -- the name of a label: a letter, then letters, digits and `_`
 unfoldable pub is_label_name : List ℕ → Bool
 is_label_name text = if length text == 0 then false else (between 97 122 (slice_index text 0) && are_name_bytes text)
-
--- the name of a method: 1 to 64 letters, digits and `_`
-abbrev pub is_method_name : List ℕ → Bool
-is_method_name text = between 1 64 (length text) && are_name_bytes text

@@ -127,7 +127,23 @@ word_of Exit = codes "exit"
 -- every form, each once
 abbrev pub forms : List Form
 forms =
-    Alu Bits64 Add ∷ Alu Bits64 Sub ∷ Alu Bits64 Mul ∷ Alu Bits64 Div ∷ Alu Bits64 SignedDiv ∷ Alu Bits64 Or ∷ Alu Bits64 And ∷ Alu Bits64 Lsh ∷ Alu Bits64 Rsh ∷ Alu Bits64 Mod ∷ Alu Bits64 SignedMod ∷ Alu Bits64 Xor ∷ Alu Bits64 Arsh ∷ Alu Bits32 Add ∷ Alu Bits32 Sub ∷ Alu Bits32 Mul ∷ Alu Bits32 Div ∷ Alu Bits32 SignedDiv ∷ Alu Bits32 Or ∷ Alu Bits32 And ∷ Alu Bits32 Lsh ∷ Alu Bits32 Rsh ∷ Alu Bits32 Mod ∷ Alu Bits32 SignedMod ∷ Alu Bits32 Xor ∷ Alu Bits32 Arsh ∷ Neg Bits64 ∷ Neg Bits32 ∷ Mov Bits64 ∷ Mov Bits32 ∷ MovSigned Byte64 ∷ MovSigned Half64 ∷ MovSigned Word64 ∷ MovSigned Byte32 ∷ MovSigned Half32 ∷ End ToLittle End16 ∷ End ToLittle End32 ∷ End ToLittle End64 ∷ End ToBig End16 ∷ End ToBig End32 ∷ End ToBig End64 ∷ End Swap End16 ∷ End Swap End32 ∷ End Swap End64 ∷ LoadWide ∷ Load Byte ∷ Load Half ∷ Load Word ∷ Load Double ∷ LoadSigned signed.Byte ∷ LoadSigned signed.Half ∷ LoadSigned signed.Word ∷ StoreNumber Byte ∷ StoreNumber Half ∷ StoreNumber Word ∷ StoreNumber Double ∷ StoreRegister Byte ∷ StoreRegister Half ∷ StoreRegister Word ∷ StoreRegister Double ∷ Jump ∷ JumpLong ∷ Branch Bits64 Equal ∷ Branch Bits64 Greater ∷ Branch Bits64 GreaterEqual ∷ Branch Bits64 SharesBits ∷ Branch Bits64 NotEqual ∷ Branch Bits64 SignedGreater ∷ Branch Bits64 SignedGreaterEqual ∷ Branch Bits64 Less ∷ Branch Bits64 LessEqual ∷ Branch Bits64 SignedLess ∷ Branch Bits64 SignedLessEqual ∷ Branch Bits32 Equal ∷ Branch Bits32 Greater ∷ Branch Bits32 GreaterEqual ∷ Branch Bits32 SharesBits ∷ Branch Bits32 NotEqual ∷ Branch Bits32 SignedGreater ∷ Branch Bits32 SignedGreaterEqual ∷ Branch Bits32 Less ∷ Branch Bits32 LessEqual ∷ Branch Bits32 SignedLess ∷ Branch Bits32 SignedLessEqual ∷ Call ∷ Exit ∷ []
+    Alu Bits64 Add ∷ Alu Bits64 Sub ∷ Alu Bits64 Mul ∷ Alu Bits64 Div ∷ Alu Bits64 SignedDiv ∷ Alu Bits64 Or
+    ∷ Alu Bits64 And ∷ Alu Bits64 Lsh ∷ Alu Bits64 Rsh ∷ Alu Bits64 Mod ∷ Alu Bits64 SignedMod ∷ Alu Bits64 Xor
+    ∷ Alu Bits64 Arsh ∷ Alu Bits32 Add ∷ Alu Bits32 Sub ∷ Alu Bits32 Mul ∷ Alu Bits32 Div ∷ Alu Bits32 SignedDiv
+    ∷ Alu Bits32 Or ∷ Alu Bits32 And ∷ Alu Bits32 Lsh ∷ Alu Bits32 Rsh ∷ Alu Bits32 Mod ∷ Alu Bits32 SignedMod
+    ∷ Alu Bits32 Xor ∷ Alu Bits32 Arsh ∷ Neg Bits64 ∷ Neg Bits32 ∷ Mov Bits64 ∷ Mov Bits32 ∷ MovSigned Byte64
+    ∷ MovSigned Half64 ∷ MovSigned Word64 ∷ MovSigned Byte32 ∷ MovSigned Half32 ∷ End ToLittle End16
+    ∷ End ToLittle End32 ∷ End ToLittle End64 ∷ End ToBig End16 ∷ End ToBig End32 ∷ End ToBig End64
+    ∷ End Swap End16 ∷ End Swap End32 ∷ End Swap End64 ∷ LoadWide ∷ Load Byte ∷ Load Half ∷ Load Word
+    ∷ Load Double ∷ LoadSigned signed.Byte ∷ LoadSigned signed.Half ∷ LoadSigned signed.Word ∷ StoreNumber Byte
+    ∷ StoreNumber Half ∷ StoreNumber Word ∷ StoreNumber Double ∷ StoreRegister Byte ∷ StoreRegister Half
+    ∷ StoreRegister Word ∷ StoreRegister Double ∷ Jump ∷ JumpLong ∷ Branch Bits64 Equal ∷ Branch Bits64 Greater
+    ∷ Branch Bits64 GreaterEqual ∷ Branch Bits64 SharesBits ∷ Branch Bits64 NotEqual ∷ Branch Bits64 SignedGreater
+    ∷ Branch Bits64 SignedGreaterEqual ∷ Branch Bits64 Less ∷ Branch Bits64 LessEqual ∷ Branch Bits64 SignedLess
+    ∷ Branch Bits64 SignedLessEqual ∷ Branch Bits32 Equal ∷ Branch Bits32 Greater ∷ Branch Bits32 GreaterEqual
+    ∷ Branch Bits32 SharesBits ∷ Branch Bits32 NotEqual ∷ Branch Bits32 SignedGreater
+    ∷ Branch Bits32 SignedGreaterEqual ∷ Branch Bits32 Less ∷ Branch Bits32 LessEqual ∷ Branch Bits32 SignedLess
+    ∷ Branch Bits32 SignedLessEqual ∷ Call ∷ Exit ∷ []
 
 -- the form of a word, if it is one of the table
 unfoldable pub form_of : List ℕ → Option Form

@@ -9,7 +9,7 @@ use crate::draft::Draft;
 use crate::fault::{AsmError, AsmFault};
 use crate::statement::Statement;
 use crate::target::Target;
-use bpf_decode::{Insn, width};
+use bpf_decode::{Insn, SLOT_LIMIT, width};
 use std::alloc::Global;
 
 /// How many slots an instruction takes; one that is refused counts for one.
@@ -80,7 +80,7 @@ fn resolved(
     slot: usize,
     target: &Target,
 ) -> Result<i128, AsmFault>
-    requires { slot ≤ 4096 }
+    requires { slot ≤ SLOT_LIMIT }
     ensures read { result ≡ resolved low high all.now slot target.now }
     ensures low { IfOk result (λ z. low ≤ℤ z) }
     ensures high { IfOk result (λ z. z ≤ℤ high) }
@@ -96,7 +96,7 @@ fn resolved(
 
 /// Where a jump by an offset goes.
 fn near(all: &[Statement], slot: usize, target: &Target) -> Result<i16, AsmFault>
-    requires { slot ≤ 4096 }
+    requires { slot ≤ SLOT_LIMIT }
     ensures { result ≡ near all.now slot target.now }
 {
     Ok(resolved(-32768, 32767, all, slot, target)? as i16)
@@ -104,7 +104,7 @@ fn near(all: &[Statement], slot: usize, target: &Target) -> Result<i16, AsmFault
 
 /// Where a jump by an immediate goes.
 fn far(all: &[Statement], slot: usize, target: &Target) -> Result<i32, AsmFault>
-    requires { slot ≤ 4096 }
+    requires { slot ≤ SLOT_LIMIT }
     ensures { result ≡ far all.now slot target.now }
 {
     Ok(resolved(-2147483648, 2147483647, all, slot, target)? as i32)
@@ -112,7 +112,7 @@ fn far(all: &[Statement], slot: usize, target: &Target) -> Result<i32, AsmFault>
 
 /// The instruction at a slot.
 fn finished(all: &[Statement], slot: usize, draft: &Draft) -> Result<Insn, AsmFault>
-    requires { slot ≤ 4096 }
+    requires { slot ≤ SLOT_LIMIT }
     ensures { result ≡ finished all.now slot draft.now }
 {
     match draft {
@@ -142,13 +142,13 @@ fn instruction_at(
     slot: usize,
     draft: &Result<Draft, AsmFault>,
 ) -> Result<Option<Insn>, AsmFault>
-    requires { slot ≤ 4096 }
+    requires { slot ≤ SLOT_LIMIT }
     ensures { result ≡ instruction_at all.now slot draft.now }
 {
     match draft {
         Err(fault) => Err(*fault),
         Ok(line) => {
-            if slot + draft_slots(draft) > 4096 {
+            if slot + draft_slots(draft) > SLOT_LIMIT {
                 return Err(AsmFault::Range);
             }
             Ok(Some(finished(all, slot, line)?))
@@ -163,9 +163,9 @@ fn line_at(
     slot: usize,
     line: &Statement,
 ) -> Result<Option<Insn>, AsmFault>
-    requires { slot ≤ 4096 }
+    requires { slot ≤ SLOT_LIMIT }
     ensures read { result ≡ line_at all.now before.now slot line.now }
-    ensures room { IfOk result (λ found. ForSome found (λ insn. slot + slot_count insn ≤ 4096)) }
+    ensures room { IfOk result (λ found. ForSome found (λ insn. slot + slot_count insn ≤ SLOT_LIMIT)) }
     ensures some { IfOk result (λ found. is_instruction line.now ≡ is_some found) }
 {
     match line {
@@ -188,7 +188,7 @@ pub(crate) fn read_body(
 ) -> Result<Vec<Insn>, AsmError>
     requires { first + length lines.now < 2 ^ 64 }
     ensures read { MatchResult result (λ v. body first lines.now ≡ Ok v.items) (λ e. (e ≡ no_memory) ⊎ (body first lines.now ≡ Err e)) }
-    ensures slots { IfOk result (λ v. slot_total v.items ≤ 4096) }
+    ensures slots { IfOk result (λ v. slot_total v.items ≤ SLOT_LIMIT) }
     ensures some { IfOk result (λ v. count_by is_instruction lines.now ≤ slot_total v.items) }
 {
     let mut insns = Vec::new(alloc);

@@ -1,6 +1,7 @@
 ghost use Rattle.std.specs.Prelude.{◌≡◌, ◌⊎◌, ◌+◌, ◌<◌, ◌≤◌, ◌^◌, List, [], Ok, Err, IfOk, IfErr, IsTrue, MatchResult, length, string_bytes};
 ghost use Rattle.std.specs.List.{position_or_len};
-ghost use Rattle.bpf_decode.specs.ImageReading.{are_name_bytes, method_after, methods_after};
+ghost use Rattle.bpf_decode.specs.Limits.{are_name_bytes};
+ghost use Rattle.bpf_decode.specs.ImageReading.{method_after, methods_after};
 ghost use Rattle.bpf_decode.specs.Class.{ClassMethod};
 ghost use Rattle.bpf_asm.specs.Grammar.{IsClassText};
 ghost use Rattle.bpf_asm.specs.Fault.{no_memory};
@@ -10,7 +11,7 @@ use crate::body::{has_instruction, read_body};
 use crate::fault::{AsmError, AsmFault};
 use crate::header::Header;
 use crate::statement::{Statement, statements};
-use bpf_decode::{ClassImage, Method};
+use bpf_decode::{ClassImage, METHOD_LIMIT, Method};
 use std::alloc::{AllocError, Global};
 
 /// Whether a line begins a method.
@@ -49,7 +50,7 @@ fn last_name(methods: &[Method]) -> &[u8]
 fn opening_fault(done: &[Method], bare: bool, header: &Header) -> Option<AsmFault>
     ensures { result ≡ opening_fault done.now bare header.now }
 {
-    if 32 <= done.len() || bare {
+    if METHOD_LIMIT <= done.len() || bare {
         return Some(AsmFault::Range);
     }
     if last_name(done).cmp(&header.name()).is_lt() {
@@ -79,7 +80,7 @@ fn method_at(
     requires { line + 1 + length lines.now < 2 ^ 64 }
     ensures read { MatchResult result (λ m. method_at done.now line header.now lines.now ≡ Ok m) (λ e. (e ≡ no_memory) ⊎ (method_at done.now line header.now lines.now ≡ Err e)) }
     ensures right { IfOk result (λ m. method_after (last_name [] done.now) m ≡ Ok m) }
-    ensures room { IfOk result (λ _. length done.now < 32) }
+    ensures room { IfOk result (λ _. length done.now < METHOD_LIMIT) }
 {
     let header = match header {
         Ok(header) => header,
@@ -126,7 +127,7 @@ fn methods_of(alloc: Global, lines: &[Statement]) -> Result<Vec<Method>, AsmErro
     ensures read { MatchResult result (λ v. class_from [] 1 lines.now ≡ Ok v.items) (λ e. (e ≡ no_memory) ⊎ (class_from [] 1 lines.now ≡ Err e)) }
     ensures right { IfOk result (λ v. methods_after 0 [] v.items ≡ Ok v.items) }
     ensures some { IfOk result (λ v. 1 ≤ length v.items) }
-    ensures few { IfOk result (λ v. length v.items ≤ 32) }
+    ensures few { IfOk result (λ v. length v.items ≤ METHOD_LIMIT) }
 {
     let mut methods = Vec::new(alloc);
     let mut index = 0;

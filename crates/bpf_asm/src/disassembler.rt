@@ -5,14 +5,14 @@ ghost use Rattle.bpf_asm.specs.Fault.{no_memory};
 
 use crate::fault::AsmError;
 use crate::print::{push_insns, push_methods};
-use bpf_decode::{ClassImage, Insn};
+use bpf_decode::{ClassImage, Insn, SLOT_LIMIT};
 use std::alloc::Global;
 
 /// The canonical text of a method's instructions, which take 1 to 4,096 slots.
 /// It is refused for want of memory alone.
 pub fn disassemble(alloc: Global, insns: &[Insn]) -> Result<String, AsmError>
     requires some { 1 ≤ slot_total insns.now }
-    requires limit { slot_total insns.now ≤ 4096 }
+    requires limit { slot_total insns.now ≤ SLOT_LIMIT }
     ensures text { IfOk result (λ s. string_bytes s ≡ canonical_text insns.now) }
     ensures memory { IfErr result (λ e. e ≡ no_memory) }
 {

@@ -1,5 +1,5 @@
 ghost use Rattle.std.specs.Prelude.{◌≡◌, ◌==◌, ◌≤◌, ◌-◌, IfOk, if◌then◌else◌, length, map, take, IfSome, IsTrue};
-ghost use Rattle.bpf_decode.specs.ImageReading.{between};
+ghost use Rattle.bpf_decode.specs.Limits.{between};
 ghost use Rattle.std.specs.Option.{option_map};
 ghost use Rattle.bpf_asm.specs.Operands.{unsigned_of};
 ghost use Rattle.bpf_asm.specs.Texts.{content};
@@ -10,7 +10,8 @@ use crate::fault::AsmFault;
 use crate::header::Header;
 use crate::operand::{both, unsigned};
 use crate::target::Name;
-use crate::text::{after_word, content, first_word, is_label_name, is_method_name};
+use crate::text::{after_word, content, first_word, is_label_name};
+use bpf_decode::{CAPACITY_LIMIT, is_method_name};
 use std::alloc::{AllocError, Global};
 
 /// What a line says, or its fault.
@@ -41,10 +42,10 @@ fn flags(text: &[u8]) -> Option<u8>
 
 /// A capacity: 0 to 4,096.
 fn capacity(text: &[u8]) -> Result<u16, AsmFault>
-    ensures read { result ≡ unsigned_of 4096 text.now }
-    ensures within { IfOk result (λ n. n ≤ 4096) }
+    ensures read { result ≡ unsigned_of CAPACITY_LIMIT text.now }
+    ensures within { IfOk result (λ n. n ≤ CAPACITY_LIMIT) }
 {
-    Ok(unsigned(text, 4096)? as u16)
+    Ok(unsigned(text, u64::from(CAPACITY_LIMIT))? as u16)
 }
 
 /// What stands behind `.method`.

@@ -1,8 +1,9 @@
 ghost use Rattle.std.specs.Prelude.{◌≡◌, ◌+◌, ◌==◌, ◌||◌, ◌≤◌, not, length};
 ghost use Rattle.std.specs.List.{position_or_len};
 ghost use Rattle.std.specs.Option.{option_map};
-ghost use Rattle.bpf_asm.specs.Texts.{is_blank, trim_start, trim_end, trim, content, first_word, after_word, cut, lone, pair, triple, is_label_name, is_method_name};
-ghost use Rattle.bpf_decode.specs.ImageReading.{is_name_byte, are_name_bytes};
+ghost use Rattle.bpf_asm.specs.Texts.{is_blank, trim_start, trim_end, trim, content, first_word, after_word, cut, lone, pair, triple, is_label_name};
+
+use bpf_decode::are_name_bytes;
 
 /// A space or a tab.
 fn is_blank(byte: u8) -> bool
@@ -131,24 +132,6 @@ pub(crate) fn triple(text: &[u8]) -> Option<(&[u8], &[u8], &[u8])>
     Some((trim(first), second, third))
 }
 
-fn is_name_byte(byte: u8) -> bool
-    ensures { result ≡ is_name_byte byte }
-{
-    matches!(byte, b'a'..=b'z' | b'0'..=b'9' | b'_')
-}
-
-/// Whether each byte is one of a-z, 0-9 and `_`.
-fn are_name_bytes(text: &[u8]) -> bool
-    ensures { result ≡ are_name_bytes text.now }
-{
-    for byte in text {
-        if !is_name_byte(*byte) {
-            return false;
-        }
-    }
-    true
-}
-
 /// Whether it may name a label.
 #[tactic(auto, unfolding(crate::specs::Texts::is_label_name))]
 pub(crate) fn is_label_name(text: &[u8]) -> bool
@@ -159,11 +142,4 @@ pub(crate) fn is_label_name(text: &[u8]) -> bool
     } else {
         97 <= text[0] && text[0] <= 122 && are_name_bytes(text)
     }
-}
-
-/// Whether it may name a method.
-pub(crate) fn is_method_name(text: &[u8]) -> bool
-    ensures { result ≡ is_method_name text.now }
-{
-    1 <= text.len() && text.len() <= 64 && are_name_bytes(text)
 }

@@ -11,8 +11,9 @@ use Rattle.bpf_decode.specs.declared.image_error.ImageError.{ImageError}
 use Rattle.bpf_decode.specs.Instruction.{AllFit, slot_total}
 use Rattle.bpf_decode.specs.Class.{ClassMethod, IsMethod, IsClass}
 use Rattle.bpf_decode.specs.Reading.{◌>>=◌, checked}
-use Rattle.bpf_decode.specs.ImageReading.{after, between, are_name_bytes, is_above, method_after, methods_after, class_of}
+use Rattle.bpf_decode.specs.ImageReading.{after, is_above, method_after, methods_after, class_of}
 use Rattle.bpf_decode.proofs.Bytes.{bind_ok, checked_ok}
+use Rattle.bpf_decode.specs.Limits.{between, are_name_bytes}
 use Rattle.bpf_decode.proofs.ImageFields.{between-true, between-is, letters_are, letters_again, above_is, above_again}
 use Rattle.bpf_decode.proofs.ImageLaws.{RisesFrom, rises_on, rises_first, after_ok}
 

@@ -19,7 +19,8 @@ use Rattle.bpf_decode.specs.declared.insn.Insn.{Insn}
 use Rattle.bpf_decode.specs.Instruction.{AllFit, spelling, slot_total}
 use Rattle.bpf_decode.specs.Class.{IsNameByte}
 use Rattle.bpf_decode.specs.Reading.{◌>>=◌, checked, code_of}
-use Rattle.bpf_decode.specs.ImageReading.{between, is_name_byte, are_name_bytes, is_above, byte_at, number_at, bytes_at, name_at, flags_at, capacity_at, code_at}
+use Rattle.bpf_decode.specs.Limits.{between, is_name_byte, are_name_bytes}
+use Rattle.bpf_decode.specs.ImageReading.{is_above, byte_at, number_at, bytes_at, name_at, flags_at, capacity_at, code_at}
 use Rattle.bpf_decode.proofs.Bytes.{IsBytes, IsBytes-drop, IsBytes-take, IsBytes-rest, bind_ok, checked_ok, both_true}
 use Rattle.bpf_decode.proofs.CodeLaws.{length-spelling, code_takes, code_again}
 

@@ -16,8 +16,9 @@ use Rattle.bpf_decode.specs.declared.insn.Insn.{Insn}
 use Rattle.bpf_decode.specs.Instruction.{spelling, slot_total}
 use Rattle.bpf_decode.specs.Class.{ClassMethod, IsMethod, NamesRise, IsClass, IsImage, method_bytes, image_bytes}
 use Rattle.bpf_decode.specs.Reading.{◌>>=◌, checked}
-use Rattle.bpf_decode.specs.ImageReading.{GivesImage, after, between, name_at, flags_at, capacity_at, code_at, method_at, methods_at, number_at, bytes_at, header_at, image_of}
+use Rattle.bpf_decode.specs.ImageReading.{GivesImage, after, name_at, flags_at, capacity_at, code_at, method_at, methods_at, number_at, bytes_at, header_at, image_of}
 use Rattle.bpf_decode.proofs.Bytes.{IsBytes, bind_ok, checked_ok}
+use Rattle.bpf_decode.specs.Limits.{between}
 use Rattle.bpf_decode.proofs.ImageFields.{Takes, Takes-then, ok_is, same_value, between-true, between-is, number_takes, number_again, bytes_take, bytes_again, name_takes, name_again, flags_take, flags_again, capacity_takes, capacity_again, IsCodeField, code_field, code_field_takes, code_field_again}
 
 -- ---- a method

@@ -13,8 +13,8 @@ use Rattle.bpf_decode.specs.declared.decode_error.DecodeError.TheVariants as err
 use Rattle.bpf_decode.specs.declared.insn.Operand.TheVariants.{Immediate, Register}
 use Rattle.bpf_decode.specs.declared.insn.Insn.{Insn}
 use Rattle.bpf_decode.specs.declared.insn.Insn.TheVariants as insns
-use Rattle.bpf_decode.specs.declared.form.Form.{Form}
-use Rattle.bpf_decode.specs.declared.form.Form.TheVariants.{AluImmediate, AluRegister, Neg, MovImmediate, MovRegister, End, Wide, Load, LoadSigned, StoreImmediate, StoreRegister, Jump, JumpLong, BranchImmediate, BranchRegister, Call, Exit}
+use Rattle.bpf_decode.specs.declared.row.Row.{Row}
+use Rattle.bpf_decode.specs.declared.row.Row.TheVariants.{AluImmediate, AluRegister, Neg, MovImmediate, MovRegister, End, Wide, Load, LoadSigned, StoreImmediate, StoreRegister, Jump, JumpLong, BranchImmediate, BranchRegister, Call, Exit}
 use Rattle.bpf_decode.specs.declared.operation.Bits.{Bits}
 use Rattle.bpf_decode.specs.declared.operation.Bits.TheVariants.{Bits32, Bits64}
 use Rattle.bpf_decode.specs.declared.operation.Arithmetic.{Arithmetic}
@@ -23,7 +23,7 @@ use Rattle.bpf_decode.specs.Opcodes.{offset_selects, selected, imm_selects, end_
 use Rattle.std.proofs.lemmas.Bool.{cases_Bool}
 use Rattle.bpf_decode.specs.Fields.{Fields, fields_of}
 use Rattle.bpf_decode.specs.Instruction.{Fits, slot, bytes_of, slot_count, imm_field, offset_field, size_code, signed_size_code, alu_class, jump_class, operation_code, operation_offset, signed_move_bits, signed_move_offset, order_opcode, end_bits, comparison_code}
-use Rattle.bpf_decode.specs.Table.{opcode, form, fields_allowed, second_half, high_half, instruction}
+use Rattle.bpf_decode.specs.Table.{opcode, row_of, fields_allowed, second_half, high_half, instruction}
 use Rattle.bpf_decode.specs.Reading.{checked, are_registers, insn_at}
 use Rattle.bpf_decode.proofs.Bytes.{IsBytes, IsBytes-drop, bind_ok, checked_ok, ok_or_ok, both_true, same_slot, TakesSlot, fields_take}
 use Rattle.bpf_decode.proofs.Spelled.{by_half, by_allowed, by_registers, by_row}
@@ -207,7 +207,7 @@ module _ (bytes : List ℕ) (f : Fields) (t : TakesSlot bytes f) (dst : f.dst �
         parts = t.parts ∙ ap (λ (x : List ℕ). x ++ drop 8 bytes) first ∙ ap (λ (x : List ℕ). first_slot ++ x) behind ∙ sym (append_assoc first_slot second_slot (drop 16 bytes));
       }
 
-  row_takes : (row : Form) (high : ℕ) → f.opcode ≡ opcode row → fields_allowed row f ≡ true → high_half row (drop 8 bytes) ≡ Some high → TakesInsn bytes (instruction row f high)
+  row_takes : (row : Row) (high : ℕ) → f.opcode ≡ opcode row → fields_allowed row f ≡ true → high_half row (drop 8 bytes) ≡ Some high → TakesInsn bytes (instruction row f high)
   row_takes Jump high op allowed half =
       let a = both_true _ _ allowed in
       let b = both_true _ _ a.0 in
@@ -283,12 +283,12 @@ module _ (bytes : List ℕ) (f : Fields) (t : TakesSlot bytes f) (dst : f.dst �
 pub insn_takes : (n : ℕ) (bytes : List ℕ) (i : Insn) → IsBytes bytes → insn_at n bytes ≡ Ok i → TakesInsn bytes i
 unfolding insn_at
 insn_takes n bytes i fits e =
-    let a = bind_ok (ok_or (fields_of bytes) errors.Truncated) (λ f. by_row n f (drop 8 bytes) (form f.opcode)) i e in
+    let a = bind_ok (ok_or (fields_of bytes) errors.Truncated) (λ f. by_row n f (drop 8 bytes) (row_of f.opcode)) i e in
     let f = a.0 in
     let t = fields_take bytes f fits (ok_or_ok (fields_of bytes) errors.Truncated f a.1) in
-    let b = bind_ok (ok_or (form f.opcode) (errors.Opcode n)) (λ row. by_registers n f row (drop 8 bytes) (are_registers f)) i a.2 in
+    let b = bind_ok (ok_or (row_of f.opcode) (errors.Opcode n)) (λ row. by_registers n f row (drop 8 bytes) (are_registers f)) i a.2 in
     let row = b.0 in
-    let op = opcode_of f.opcode row (ok_or_ok (form f.opcode) (errors.Opcode n) row b.1) in
+    let op = opcode_of f.opcode row (ok_or_ok (row_of f.opcode) (errors.Opcode n) row b.1) in
     let c = bind_ok (checked (are_registers f) (errors.Register n) f) (λ g. by_allowed n f row (drop 8 bytes) (fields_allowed row f)) i b.2 in
     let registers = both_true _ _ (checked_ok (are_registers f) (errors.Register n) f c.0 c.1).0 in
     let d = bind_ok (checked (fields_allowed row f) (errors.NonzeroField n) f) (λ h. by_half n f row (high_half row (drop 8 bytes))) i c.2 in

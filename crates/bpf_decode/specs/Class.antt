@@ -6,6 +6,7 @@ use Rattle.std.specs.Cmp.Lexicographic.{slice_cmp}
 use Rattle.std.specs.declared.cmp.Ordering.TheVariants.{Less}
 use Rattle.byteorder.specs.Endian.{little_bytes}
 use Rattle.bpf_decode.specs.declared.insn.Insn.{Insn}
+use Rattle.bpf_decode.specs.declared.limits.TheConstants.{METHOD_LIMIT, NAME_LIMIT, CAPACITY_LIMIT, SLOT_LIMIT}
 use Rattle.bpf_decode.specs.Instruction.{AllFit, spelling, slot_total}
 
 -- a method without where it lies in memory
@@ -23,14 +24,14 @@ IsNameByte b = ((97 ≤ b) × (b ≤ 122)) ⊎ ((48 ≤ b) × (b ≤ 57)) ⊎ (b
 -- a method within the limits
 pub record IsMethod (m : ClassMethod) : Type 0 where
   pub named : 1 ≤ length m.name
-  pub short : length m.name ≤ 64
+  pub short : length m.name ≤ NAME_LIMIT
   pub letters : AllByRecursion IsNameByte m.name
   pub some_flag : 1 ≤ m.flags
   pub known_flags : m.flags ≤ 3
-  pub in_cap : m.in_cap ≤ 4096
-  pub out_cap : m.out_cap ≤ 4096
+  pub in_cap : m.in_cap ≤ CAPACITY_LIMIT
+  pub out_cap : m.out_cap ≤ CAPACITY_LIMIT
   pub some_slot : 1 ≤ slot_total m.instructions
-  pub slots : slot_total m.instructions ≤ 4096
+  pub slots : slot_total m.instructions ≤ SLOT_LIMIT
   pub fit : AllFit m.instructions
 
 -- the names strictly rise, by their bytes
@@ -42,7 +43,7 @@ NamesRise (m ∷ n ∷ ms) = (slice_cmp nat_cmp m.name n.name ≡ Less) × Names
 -- a class: 1 to 32 methods within the limits, each name once and in order
 pub record IsClass (ms : List ClassMethod) : Type 0 where
   pub some : 1 ≤ length ms
-  pub limit : length ms ≤ 32
+  pub limit : length ms ≤ METHOD_LIMIT
   pub methods : AllByRecursion IsMethod ms
   pub names : NamesRise ms
 

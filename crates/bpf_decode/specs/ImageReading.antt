@@ -9,21 +9,8 @@ use Rattle.bpf_decode.specs.declared.image_error.ImageError.{ImageError}
 use Rattle.bpf_decode.specs.declared.insn.Insn.{Insn}
 use Rattle.bpf_decode.specs.Instruction.{slot_total}
 use Rattle.bpf_decode.specs.Class.{ClassMethod}
+use Rattle.bpf_decode.specs.Limits.{is_method_count, is_name_length, are_name_bytes, are_flags, is_capacity, is_slot_count}
 use Rattle.bpf_decode.specs.Reading.{◌>>=◌, checked, code_of}
-
--- ---- tests of fields
-
--- from low to high
-abbrev pub between : ℕ → ℕ → ℕ → Bool
-between low high n = nat_le low n && nat_le n high
-
--- a to z, 0 to 9, or _
-abbrev pub is_name_byte : ℕ → Bool
-is_name_byte b = between 97 122 b || between 48 57 b || (b == 95)
-
-abbrev pub are_name_bytes : List ℕ → Bool
-are_name_bytes [] = true
-are_name_bytes (b ∷ bs) = is_name_byte b && are_name_bytes bs
 
 -- the name is above the one before it, by bytes; every name is above the empty one
 abbrev pub is_above : List ℕ → List ℕ → Bool
@@ -45,7 +32,7 @@ bytes_at n bytes = checked (nat_le n (length bytes)) Truncated (take n bytes, dr
 unfoldable pub name_at : List ℕ → List ℕ → Result (List ℕ × List ℕ) DecodeError
 name_at before bytes = do
   n ← byte_at bytes
-  sized ← checked (between 1 64 n.0) Name n
+  sized ← checked (is_name_length n.0) Name n
   name ← bytes_at n.0 n.1
   lettered ← checked (are_name_bytes name.0) Name name
   checked (is_above before name.0) Order name
@@ -53,18 +40,18 @@ name_at before bytes = do
 unfoldable pub flags_at : List ℕ → Result (ℕ × List ℕ) DecodeError
 flags_at bytes = do
   flags ← byte_at bytes
-  checked (between 1 3 flags.0) Flags flags
+  checked (are_flags flags.0) Flags flags
 
 unfoldable pub capacity_at : List ℕ → Result (ℕ × List ℕ) DecodeError
 capacity_at bytes = do
   n ← number_at bytes
-  checked (between 0 4096 n.0) Limit n
+  checked (is_capacity n.0) Limit n
 
 -- code behind its number of slots
 unfoldable pub code_at : List ℕ → Result (List Insn × List ℕ) DecodeError
 code_at bytes = do
   n ← number_at bytes
-  some ← checked (between 1 4096 n.0) Limit n
+  some ← checked (is_slot_count n.0) Limit n
   code ← bytes_at (8 * n.0) n.1
   is ← code_of code.0
   Ok (is, code.1)
@@ -85,7 +72,7 @@ header_at bytes = do
   magic ← bytes_at 4 bytes
   known ← checked (pointwise nat_eq magic.0 (codes "RCL1")) Magic magic
   count ← number_at magic.1
-  some ← checked (between 1 32 count.0) Limit count
+  some ← checked (is_method_count count.0) Limit count
   none ← number_at count.1
   nothing ← checked (none.0 == 0) Magic none
   Ok (count.0, none.1)
@@ -116,18 +103,18 @@ GivesImage view (Err e) read = (e.error ≡ NoMemory) ⊎ (read ≡ Err e)
 -- a method behind the name of the one before it
 abbrev pub method_after : List ℕ → ClassMethod → Result ClassMethod DecodeError
 method_after before m = do
-  sized ← checked (between 1 64 (length m.name)) Name m
+  sized ← checked (is_name_length (length m.name)) Name m
   lettered ← checked (are_name_bytes m.name) Name m
   above ← checked (is_above before m.name) Order m
-  flagged ← checked (between 1 3 m.flags) Flags m
-  read ← checked (between 0 4096 m.in_cap) Limit m
-  written ← checked (between 0 4096 m.out_cap) Limit m
-  checked (between 1 4096 (slot_total m.instructions)) Limit m
+  flagged ← checked (are_flags m.flags) Flags m
+  read ← checked (is_capacity m.in_cap) Limit m
+  written ← checked (is_capacity m.out_cap) Limit m
+  checked (is_slot_count (slot_total m.instructions)) Limit m
 
 unfoldable pub methods_after : ℕ → List ℕ → List ClassMethod → Result (List ClassMethod) ImageError
 methods_after done before [] = Ok []
 methods_after done before (m ∷ ms) = after done (method_after before m) >>= λ first. methods_after (done + 1) m.name ms >>= λ others. Ok (first ∷ others)
 
--- a class of those methods, or the first refusal as its image would be read
+-- a class of those methods, or the first refusal in the order of an image's fields
 unfoldable pub class_of : List ClassMethod → Result (List ClassMethod) ImageError
-class_of ms = after 0 (checked (between 1 32 (length ms)) Limit ms) >>= λ some. methods_after 0 [] ms
+class_of ms = after 0 (checked (is_method_count (length ms)) Limit ms) >>= λ some. methods_after 0 [] ms

@@ -5,5 +5,6 @@ pub mod Refusal
 pub mod Opcodes
 pub mod Table
 pub mod Reading
+pub mod Limits
 pub mod Class
 pub mod ImageReading

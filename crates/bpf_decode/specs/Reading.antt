@@ -6,7 +6,7 @@ use Rattle.bpf_decode.specs.declared.decode_error.DecodeError.TheVariants as err
 use Rattle.bpf_decode.specs.declared.insn.Insn.{Insn}
 use Rattle.bpf_decode.specs.Instruction.{slot_count}
 use Rattle.bpf_decode.specs.Fields.{Fields, fields_of}
-use Rattle.bpf_decode.specs.Table.{form, fields_allowed, high_half, instruction}
+use Rattle.bpf_decode.specs.Table.{row_of, fields_allowed, high_half, instruction}
 
 infixl 10 ◌>>=◌
 abbrev pub ◌>>=◌ : {A B E : Type 0} → Result A E → (A → Result B E) → Result B E
@@ -35,7 +35,7 @@ are_registers f = nat_le f.dst 10 && nat_le f.src 10
 unfoldable pub insn_at : ℕ → List ℕ → Result Insn DecodeError
 insn_at slot bytes = do
   f ← ok_or (fields_of bytes) errors.Truncated
-  row ← ok_or (form f.opcode) (errors.Opcode slot)
+  row ← ok_or (row_of f.opcode) (errors.Opcode slot)
   g ← checked (are_registers f) (errors.Register slot) f
   h ← checked (fields_allowed row f) (errors.NonzeroField slot) f
   high ← ok_or (high_half row (drop 8 bytes)) (errors.WideHalf slot)

@@ -1,6 +1,8 @@
--- The refusals by number and name, and the slot that each names.
-use Rattle.std.specs.Prelude.{ℕ, List, codes, Option, Some, None}
+-- The refusals by number and name, the slot that each names, and how they print.
+use Rattle.std.specs.Prelude.{ℕ, List, [], ◌++◌, codes, Option, Some, None}
+use Rattle.std.specs.Fmt.{decimal}
 use Rattle.bpf_decode.specs.declared.decode_error.DecodeError.{DecodeError}
+use Rattle.bpf_decode.specs.declared.image_error.ImageError.{ImageError}
 use Rattle.bpf_decode.specs.declared.decode_error.DecodeError.TheVariants.{Truncated, Magic, Opcode, Register, NonzeroField, WideHalf, Name, Order, Flags, Limit, Trailing, NoMemory}
 
 abbrev pub number_of : DecodeError → ℕ
@@ -44,3 +46,16 @@ slot_of Flags = None
 slot_of Limit = None
 slot_of Trailing = None
 slot_of NoMemory = None
+
+-- a refusal's text: number and name
+abbrev pub text_of : DecodeError → List ℕ
+text_of e = decimal (number_of e) ++ codes " " ++ name_of e
+
+-- the slot in an image's refusal, where there is one
+abbrev pub slot_text : Option ℕ → List ℕ
+slot_text None = []
+slot_text (Some slot) = codes ", slot " ++ decimal slot
+
+-- an image's refusal: the methods read whole before it, its slot, and its text
+abbrev pub image_text_of : ImageError → List ℕ
+image_text_of e = codes "image refused after " ++ decimal e.methods ++ codes " methods" ++ slot_text (slot_of e.error) ++ codes ": " ++ text_of e.error

@@ -10,19 +10,14 @@ use Rattle.bpf_decode.specs.declared.insn.Operand.{Operand}
 use Rattle.bpf_decode.specs.declared.insn.Operand.TheVariants.{Immediate, Register}
 use Rattle.bpf_decode.specs.declared.insn.Insn.{Insn}
 use Rattle.bpf_decode.specs.declared.insn.Insn.TheVariants as insns
-use Rattle.bpf_decode.specs.declared.form.Form.{Form}
-use Rattle.bpf_decode.specs.declared.form.Form.TheVariants.{AluImmediate, AluRegister, Neg, MovImmediate, MovRegister, End, Wide, Load, LoadSigned, StoreImmediate, StoreRegister, Jump, JumpLong, BranchImmediate, BranchRegister, Call, Exit}
+use Rattle.bpf_decode.specs.declared.row.Row.{Row}
+use Rattle.bpf_decode.specs.declared.row.Row.TheVariants.{AluImmediate, AluRegister, Neg, MovImmediate, MovRegister, End, Wide, Load, LoadSigned, StoreImmediate, StoreRegister, Jump, JumpLong, BranchImmediate, BranchRegister, Call, Exit}
 use Rattle.bpf_decode.specs.Fields.{Fields, fields_of}
 use Rattle.bpf_decode.specs.Instruction.{slot, imm_field, alu_class, jump_class, operation_code, order_opcode, comparison_code, size_code, signed_size_code}
 use Rattle.bpf_decode.specs.Opcodes.{operation_of, offset_selects, selected, order_of, imm_selects, end_width_of, move_selects, signed_move_of, comparison_of}
-use Rattle.bpf_decode.specs.declared.slot.Slot.{Slot}
-
--- a slot of the code as fields
-abbrev pub fields : Slot → Fields
-fields s = record { opcode = s.opcode; dst = s.dst; src = s.src; offset = s.offset; imm = s.imm }
 
 -- a row's opcode
-abbrev pub opcode : Form → ℕ
+abbrev pub opcode : Row → ℕ
 opcode (AluImmediate bits operation) = alu_class bits + 16 * operation_code operation
 opcode (AluRegister bits operation) = alu_class bits + 8 + 16 * operation_code operation
 opcode (Neg bits) = alu_class bits + 0x80
@@ -42,41 +37,41 @@ opcode Call = 0x85
 opcode Exit = 0x95
 
 -- The rows of the classes ALU and ALU64, by source bit and code.
-abbrev pub alu_form : Bits → ℕ → ℕ → Option Form
-alu_form bits source code =
+abbrev pub alu_row : Bits → ℕ → ℕ → Option Row
+alu_row bits source code =
     if code == 0x8 then (if source == 0 then Some (Neg bits) else None) else
     if code == 0xb then (if source == 0 then Some (MovImmediate bits) else Some (MovRegister bits)) else
     if code == 0xd then option_map End (order_of bits source) else
     if source == 0 then option_map (AluImmediate bits) (operation_of code) else option_map (AluRegister bits) (operation_of code)
 
 -- of JMP and JMP32 as comparisons
-abbrev pub branch_form : Bits → ℕ → ℕ → Option Form
-branch_form bits source code =
+abbrev pub branch_row : Bits → ℕ → ℕ → Option Row
+branch_row bits source code =
     if source == 0 then option_map (BranchImmediate bits) (comparison_of code) else option_map (BranchRegister bits) (comparison_of code)
 
 -- and every other row, by opcode
-abbrev pub rows : List Form
+abbrev pub rows : List Row
 rows =
     Jump ∷ JumpLong ∷ Wide
     ∷ Load Word ∷ StoreImmediate Word ∷ StoreRegister Word ∷ Load Half ∷ StoreImmediate Half ∷ StoreRegister Half
     ∷ Load Byte ∷ StoreImmediate Byte ∷ StoreRegister Byte ∷ Load Double ∷ StoreImmediate Double ∷ StoreRegister Double
     ∷ LoadSigned signed.Word ∷ LoadSigned signed.Half ∷ LoadSigned signed.Byte ∷ Call ∷ Exit ∷ []
 
-unfoldable pub row_of : ℕ → Option Form
-row_of n = find (λ row. opcode row == n) rows
+unfoldable pub other_row : ℕ → Option Row
+other_row n = find (λ row. opcode row == n) rows
 
 -- the row of an opcode
-abbrev pub form : ℕ → Option Form
-form n =
-    if n % 8 == 4 then alu_form Bits32 (n / 8 % 2) (n / 16) else
-    if n % 8 == 7 then alu_form Bits64 (n / 8 % 2) (n / 16) else
-    if (n % 8 == 5) && (n / 16 == 0 || n / 16 == 8 || n / 16 == 9) then row_of n else
-    if n % 8 == 5 then branch_form Bits64 (n / 8 % 2) (n / 16) else
-    if (n % 8 == 6) && (n / 16 == 0) then row_of n else
-    if n % 8 == 6 then branch_form Bits32 (n / 8 % 2) (n / 16) else row_of n
+abbrev pub row_of : ℕ → Option Row
+row_of n =
+    if n % 8 == 4 then alu_row Bits32 (n / 8 % 2) (n / 16) else
+    if n % 8 == 7 then alu_row Bits64 (n / 8 % 2) (n / 16) else
+    if (n % 8 == 5) && (n / 16 == 0 || n / 16 == 8 || n / 16 == 9) then other_row n else
+    if n % 8 == 5 then branch_row Bits64 (n / 8 % 2) (n / 16) else
+    if (n % 8 == 6) && (n / 16 == 0) then other_row n else
+    if n % 8 == 6 then branch_row Bits32 (n / 8 % 2) (n / 16) else other_row n
 
 -- the fields that a row doesn't use are zero, and a selecting field has a value of an instruction
-abbrev pub fields_allowed : Form → Fields → Bool
+abbrev pub fields_allowed : Row → Fields → Bool
 fields_allowed (AluImmediate bits operation) f = (f.src == 0) && offset_selects operation f.offset
 fields_allowed (AluRegister bits operation) f = (f.imm == 0) && offset_selects operation f.offset
 fields_allowed (Neg bits) f = (f.src == 0) && (f.offset == 0) && (f.imm == 0)
@@ -100,12 +95,12 @@ abbrev pub second_half : Fields → Option ℕ
 second_half f = if (f.opcode == 0) && (f.dst == 0) && (f.src == 0) && (f.offset == 0) then Some f.imm else None
 
 -- the high half of a row's number, from the bytes behind its first slot
-abbrev pub high_half : Form → List ℕ → Option ℕ
+abbrev pub high_half : Row → List ℕ → Option ℕ
 high_half Wide bytes = option_and_then second_half (fields_of bytes)
 high_half row bytes = Some 0
 
 -- the instruction of a row
-abbrev pub instruction : Form → Fields → ℕ → Insn
+abbrev pub instruction : Row → Fields → ℕ → Insn
 instruction (AluImmediate bits operation) f high = insns.Alu bits (selected operation f.offset) f.dst (Immediate (cast_signed w32 f.imm))
 instruction (AluRegister bits operation) f high = insns.Alu bits (selected operation f.offset) f.dst (Register f.src)
 instruction (Neg bits) f high = insns.Neg bits f.dst

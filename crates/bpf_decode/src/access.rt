@@ -24,7 +24,7 @@ impl Width {
     }
 
     /// The size modifier, bits 3 and 4 of the opcode (RFC 9669 section 5).
-    pub fn size_code(self) -> u8
+    pub(crate) fn size_code(self) -> u8
         ensures { result ≡ size_code self }
     {
         match self {
@@ -57,7 +57,7 @@ impl SignedWidth {
     }
 
     /// The size modifier.
-    pub fn size_code(self) -> u8
+    pub(crate) fn size_code(self) -> u8
         ensures { result ≡ signed_size_code self }
     {
         match self {

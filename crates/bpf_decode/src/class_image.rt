@@ -33,8 +33,9 @@ impl ClassImage {
 
     /// The class of those methods. It takes no memory.
     ///
-    /// Refusals, the first as its image would be read, with the number of methods that are right before it: `Limit` for
-    /// their count; of a method `Name`, `Order`, `Flags`, and `Limit` for a capacity or its slots.
+    /// Refusals, in the order of the image's fields, with the number of methods that are right before it: `Limit` for
+    /// their count; of a method `Name`, `Order`, `Flags`, and `Limit` for a capacity or its slots. Such methods may have no
+    /// image (a name of 300 bytes has no length byte), so this order is a definition of its own.
     pub fn new(methods: Vec<Method>) -> Result<ClassImage, ImageError>
         ensures exact { result ≡ class_of methods.items }
         ensures accepts { IsOk result ↔ IsClass methods.items }

@@ -9,9 +9,9 @@ ghost use Rattle.bpf_decode.specs.declared.insn.Insn.TheVariants.{LoadWide};
 ghost use Rattle.bpf_decode.specs.declared.decode_error.DecodeError.TheVariants.{NoMemory};
 
 use crate::decode_error::DecodeError;
-use crate::form::Form;
 use crate::insn::{Insn, Operand, width};
 use crate::register::Register;
+use crate::row::Row;
 use crate::slot::Slot;
 use std::alloc::{AllocError, Global};
 
@@ -23,19 +23,19 @@ fn insn_at(slot: usize, bytes: &[u8]) -> Result<Insn, DecodeError>
     let Some(fields) = Slot::of(bytes) else {
         return Err(DecodeError::Truncated);
     };
-    let Some(form) = Form::of(fields.opcode) else {
+    let Some(row) = Row::of(fields.opcode) else {
         return Err(DecodeError::Opcode(slot));
     };
     let (Some(dst), Some(src)) = (Register::new(fields.dst), Register::new(fields.src)) else {
         return Err(DecodeError::Register(slot));
     };
-    if !form.allows(&fields) {
+    if !row.allows(&fields) {
         return Err(DecodeError::NonzeroField(slot));
     }
-    let Some(high) = form.high_half(&bytes[8..]) else {
+    let Some(high) = row.high_half(&bytes[8..]) else {
         return Err(DecodeError::WideHalf(slot));
     };
-    Ok(form.instruction(dst, src, &fields, high))
+    Ok(row.instruction(dst, src, &fields, high))
 }
 
 /// How many slots that instruction takes.
@@ -110,7 +110,7 @@ pub fn decode(alloc: Global, bytes: &[u8]) -> Result<Vec<Insn>, DecodeError>
 
 fn put(
     out: &mut Vec<u8>,
-    form: Form,
+    row: Row,
     dst: u8,
     src: u8,
     offset: u16,
@@ -118,9 +118,9 @@ fn put(
 ) -> Result<(), AllocError>
     requires dst { dst < 16 }
     requires src { src < 16 }
-    ensures { OnOk result (out.new.items ≡ out.old.items ++ slot (opcode form) dst src offset imm) }
+    ensures { OnOk result (out.new.items ≡ out.old.items ++ slot (opcode row) dst src offset imm) }
 {
-    let opcode = form.opcode();
+    let opcode = row.opcode();
     Slot {
         opcode,
         dst,
@@ -134,8 +134,8 @@ fn put(
 /// Writes an operation on a register and an operand: by one row for a number, by another for a register.
 fn put_operand(
     out: &mut Vec<u8>,
-    immediate: Form,
-    register: Form,
+    immediate: Row,
+    register: Row,
     dst: Register,
     source: Operand,
     offset: u16,
@@ -168,17 +168,17 @@ fn put_insn(out: &mut Vec<u8>, insn: &Insn) -> Result<(), AllocError>
             source,
         } => put_operand(
             out,
-            Form::AluImmediate(bits, operation),
-            Form::AluRegister(bits, operation),
+            Row::AluImmediate(bits, operation),
+            Row::AluRegister(bits, operation),
             dst,
             source,
             operation.offset(),
         ),
-        Insn::Neg { bits, dst } => put(out, Form::Neg(bits), dst.number(), 0, 0, 0),
+        Insn::Neg { bits, dst } => put(out, Row::Neg(bits), dst.number(), 0, 0, 0),
         Insn::Mov { bits, dst, source } => put_operand(
             out,
-            Form::MovImmediate(bits),
-            Form::MovRegister(bits),
+            Row::MovImmediate(bits),
+            Row::MovRegister(bits),
             dst,
             source,
             0,
@@ -189,14 +189,14 @@ fn put_insn(out: &mut Vec<u8>, insn: &Insn) -> Result<(), AllocError>
             src,
         } => put(
             out,
-            Form::MovRegister(extension.bits()),
+            Row::MovRegister(extension.bits()),
             dst.number(),
             src.number(),
             extension.offset(),
             0,
         ),
         Insn::End { order, width, dst } => {
-            put(out, Form::End(order), dst.number(), 0, 0, width.bits())
+            put(out, Row::End(order), dst.number(), 0, 0, width.bits())
         }
         Insn::LoadWide { dst, value } => put_wide(out, dst, value),
         Insn::Load {
@@ -206,7 +206,7 @@ fn put_insn(out: &mut Vec<u8>, insn: &Insn) -> Result<(), AllocError>
             offset,
         } => put(
             out,
-            Form::Load(width),
+            Row::Load(width),
             dst.number(),
             base.number(),
             offset.cast_unsigned(),
@@ -219,7 +219,7 @@ fn put_insn(out: &mut Vec<u8>, insn: &Insn) -> Result<(), AllocError>
             offset,
         } => put(
             out,
-            Form::LoadSigned(width),
+            Row::LoadSigned(width),
             dst.number(),
             base.number(),
             offset.cast_unsigned(),
@@ -232,14 +232,14 @@ fn put_insn(out: &mut Vec<u8>, insn: &Insn) -> Result<(), AllocError>
             source,
         } => put_operand(
             out,
-            Form::StoreImmediate(width),
-            Form::StoreRegister(width),
+            Row::StoreImmediate(width),
+            Row::StoreRegister(width),
             base,
             source,
             offset.cast_unsigned(),
         ),
-        Insn::Jump { offset } => put(out, Form::Jump, 0, 0, offset.cast_unsigned(), 0),
-        Insn::JumpLong { distance } => put(out, Form::JumpLong, 0, 0, 0, distance.cast_unsigned()),
+        Insn::Jump { offset } => put(out, Row::Jump, 0, 0, offset.cast_unsigned(), 0),
+        Insn::JumpLong { distance } => put(out, Row::JumpLong, 0, 0, 0, distance.cast_unsigned()),
         Insn::Branch {
             bits,
             comparison,
@@ -248,15 +248,15 @@ fn put_insn(out: &mut Vec<u8>, insn: &Insn) -> Result<(), AllocError>
             offset,
         } => put_operand(
             out,
-            Form::BranchImmediate(bits, comparison),
-            Form::BranchRegister(bits, comparison),
+            Row::BranchImmediate(bits, comparison),
+            Row::BranchRegister(bits, comparison),
             dst,
             source,
             offset.cast_unsigned(),
         ),
-        Insn::Call { helper } => put(out, Form::Call, 0, 0, 0, helper),
-        Insn::CallLocal { distance } => put(out, Form::Call, 0, 1, 0, distance.cast_unsigned()),
-        Insn::Exit => put(out, Form::Exit, 0, 0, 0, 0),
+        Insn::Call { helper } => put(out, Row::Call, 0, 0, 0, helper),
+        Insn::CallLocal { distance } => put(out, Row::Call, 0, 1, 0, distance.cast_unsigned()),
+        Insn::Exit => put(out, Row::Exit, 0, 0, 0, 0),
     }
 }
 
@@ -266,7 +266,7 @@ fn put_wide(out: &mut Vec<u8>, dst: Register, value: u64) -> Result<(), AllocErr
 {
     let low = (value & 0xffff_ffff) as u32;
     let high = (value >> 32) as u32;
-    put(out, Form::Wide, dst.number(), 0, 0, low)?;
+    put(out, Row::Wide, dst.number(), 0, 0, low)?;
     Slot {
         opcode: 0,
         dst: 0,

@@ -4,7 +4,8 @@ ghost use Rattle.std.specs.Prelude.{◌≡◌, ◌≤◌, ◌++◌, List, [], le
 ghost use Rattle.bpf_decode.specs.Class.{ClassMethod, IsMethod, IsImage, method_bytes};
 ghost use Rattle.byteorder.specs.Endian.{little_bytes};
 ghost use Rattle.bpf_decode.specs.Reading.{Reads, Gives};
-ghost use Rattle.bpf_decode.specs.ImageReading.{GivesImage, are_name_bytes, byte_at, number_at, bytes_at, name_at, flags_at, capacity_at, code_at, method_at, methods_at, header_at, image_of};
+ghost use Rattle.bpf_decode.specs.Limits.{are_name_bytes};
+ghost use Rattle.bpf_decode.specs.ImageReading.{GivesImage, byte_at, number_at, bytes_at, name_at, flags_at, capacity_at, code_at, method_at, methods_at, header_at, image_of};
 ghost use Rattle.bpf_decode.specs.declared.decode_error.DecodeError.TheVariants.{NoMemory};
 
 use crate::class_image::ClassImage;

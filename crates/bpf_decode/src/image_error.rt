@@ -1,12 +1,12 @@
 ghost use Rattle.std.specs.Prelude.{◌≡◌};
 
 use crate::decode_error::DecodeError;
+use std::fmt;
 use thiserror::Error;
 
 /// Why an image is refused, and how many methods were read whole before.
 /// It prints as `image refused after 0 methods: 1 Truncated`, and with a slot as `image refused after 0 methods, slot 3: 3 Opcode`.
 #[derive(Clone, Copy, Debug, PartialEq, Eq, Error)]
-#[error("image refused after {methods} methods{}: {error}", Place(.error.slot()))]
 pub struct ImageError {
     pub methods: usize,
     pub error: DecodeError,
@@ -21,12 +21,30 @@ impl ImageError {
     }
 }
 
+impl fmt::Display for ImageError {
+    ghost use Rattle.std.specs.Prelude.{Some};
+    ghost use Rattle.bpf_decode.specs.Refusal.{image_text_of};
+
+    ghost output = { λ e. Some (image_text_of e) };
+
+    fn fmt<W: fmt::Write>(&self, f: &mut fmt::Formatter<W>) -> fmt::Result {
+        let ImageError { methods, error } = *self;
+        let place = Place(error.slot());
+        write!(f, "image refused after {methods} methods{place}: {error}")
+    }
+}
+
 /// Prints `, slot 3`, or nothing.
-#[derive(Drop)]
+#[derive(Clone, Copy)]
 struct Place(Option<usize>);
 
-impl std::fmt::Display for Place {
-    fn fmt<W: std::fmt::Write>(&self, f: &mut std::fmt::Formatter<W>) -> std::fmt::Result {
+impl fmt::Display for Place {
+    ghost use Rattle.std.specs.Prelude.{Some};
+    ghost use Rattle.bpf_decode.specs.Refusal.{slot_text};
+
+    ghost output = { λ p. Some (slot_text p.0) };
+
+    fn fmt<W: fmt::Write>(&self, f: &mut fmt::Formatter<W>) -> fmt::Result {
         match self.0 {
             Some(slot) => write!(f, ", slot {slot}"),
             None => Ok(()),

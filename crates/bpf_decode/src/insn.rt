@@ -15,7 +15,7 @@ pub enum Operand {
 /// One instruction (RFC 9669 sections 4 and 5). The wide load takes two slots, every other one.
 #[derive(Clone, Copy, Debug, PartialEq, Eq)]
 pub enum Insn {
-    /// Arithmetic on a register; a number is sign-extended.
+    /// Arithmetic of a register and an operand: on all 64 bits, a number sign-extended to them, or on the low 32 of both.
     Alu {
         bits: Bits,
         operation: Arithmetic,
@@ -27,7 +27,7 @@ pub enum Insn {
         bits: Bits,
         dst: Register,
     },
-    /// A copy; a number is sign-extended.
+    /// A copy: to all 64 bits, a number sign-extended to them, or of the low 32.
     Mov {
         bits: Bits,
         dst: Register,

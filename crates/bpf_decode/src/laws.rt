@@ -1,11 +1,19 @@
 //! Laws of the grammars, proved as contracts of functions that do nothing.
 
-ghost use Rattle.std.specs.Prelude.{◌≡◌, ◌<◌, ℕ, List, get_or, Ok};
+ghost use Rattle.std.specs.Prelude.{◌≡◌, ◌<◌, ℕ, List, get_or, Some, IsSome, Ok};
 ghost use Rattle.bpf_decode.specs.declared.insn.Insn.{Insn};
+ghost use Rattle.bpf_decode.specs.declared.row.Row.{Row};
 ghost use Rattle.bpf_decode.specs.Instruction.{IsCode};
 ghost use Rattle.bpf_decode.specs.Class.{ClassMethod, IsImage};
+ghost use Rattle.bpf_decode.specs.Table.{opcode, row_of};
 ghost use Rattle.bpf_decode.specs.Reading.{code_of};
 ghost use Rattle.bpf_decode.specs.ImageReading.{image_of};
+
+/// The table by opcode has exactly the opcodes of the rows: none is missed, and none is another's.
+pub fn every_row()
+    ensures found { (r : Row) → IsSome (row_of (opcode r)) }
+    ensures only { (n : ℕ) (r : Row) → row_of n ≡ Some r → n ≡ opcode r }
+{}
 
 /// Bytes are the code of one list of instructions, and the image of one class.
 pub fn one_class()

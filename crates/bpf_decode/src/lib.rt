@@ -10,7 +10,6 @@ mod access;
 mod class_image;
 mod code;
 mod decode_error;
-mod form;
 mod image;
 mod image_error;
 mod insn;
@@ -19,6 +18,7 @@ mod limits;
 mod method;
 mod operation;
 mod register;
+mod row;
 mod slot;
 
 pub use access::{SignedWidth, Width};
@@ -28,10 +28,14 @@ pub use decode_error::DecodeError;
 pub use image::{read_image, write_image};
 pub use image_error::ImageError;
 pub use insn::{Insn, Operand, width};
-pub use laws::{one_class, one_spelling, round_trip};
+pub use laws::{every_row, one_class, one_spelling, round_trip};
+pub use limits::{
+    CAPACITY_LIMIT, METHOD_LIMIT, NAME_LIMIT, SLOT_LIMIT, are_name_bytes, is_method_name,
+};
 pub use method::Method;
 pub use operation::{Arithmetic, Bits, ByteOrder, Comparison, EndWidth, SignedMove};
 pub use register::Register;
+pub use slot::Slot;
 
 #[cfg(test)]
 mod tests;

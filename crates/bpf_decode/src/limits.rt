@@ -1,20 +1,33 @@
 //! What a class's numbers and names may be.
 
 ghost use Rattle.std.specs.Prelude.{◌≡◌};
-ghost use Rattle.bpf_decode.specs.ImageReading.{between, is_name_byte, are_name_bytes, is_above};
+ghost use Rattle.bpf_decode.specs.Limits.{is_method_count, is_name_length, is_name_byte, are_name_bytes, is_method_name, are_flags, is_capacity, is_slot_count};
+ghost use Rattle.bpf_decode.specs.ImageReading.{is_above};
 
 /// A class has 1 to 32 methods.
-pub fn is_method_count(count: usize) -> bool
-    ensures { result ≡ between 1 32 count }
+pub const METHOD_LIMIT: usize = 32;
+
+/// A method's name has 1 to 64 bytes.
+pub const NAME_LIMIT: usize = 64;
+
+/// A method's input and output have at most 4,096 bytes each.
+pub const CAPACITY_LIMIT: u16 = 4096;
+
+/// A method has 1 to 4,096 slots.
+pub const SLOT_LIMIT: usize = 4096;
+
+/// Whether a class may have so many methods.
+pub(crate) fn is_method_count(count: usize) -> bool
+    ensures { result ≡ is_method_count count }
 {
-    1 <= count && count <= 32
+    1 <= count && count <= METHOD_LIMIT
 }
 
-/// A name has 1 to 64 bytes.
-pub fn is_name_length(length: usize) -> bool
-    ensures { result ≡ between 1 64 length }
+/// Whether a name may have so many bytes.
+pub(crate) fn is_name_length(length: usize) -> bool
+    ensures { result ≡ is_name_length length }
 {
-    1 <= length && length <= 64
+    1 <= length && length <= NAME_LIMIT
 }
 
 fn is_name_byte(byte: u8) -> bool
@@ -23,7 +36,7 @@ fn is_name_byte(byte: u8) -> bool
     matches!(byte, b'a'..=b'z' | b'0'..=b'9' | b'_')
 }
 
-/// Each byte is one of a-z, 0-9 and `_`.
+/// Whether each byte is one of a-z, 0-9 and `_`.
 pub fn are_name_bytes(name: &[u8]) -> bool
     ensures { result ≡ are_name_bytes name.now }
 {
@@ -35,30 +48,37 @@ pub fn are_name_bytes(name: &[u8]) -> bool
     true
 }
 
+/// Whether it may name a method: 1 to `NAME_LIMIT` bytes, each one of a-z, 0-9 and `_`.
+pub fn is_method_name(name: &[u8]) -> bool
+    ensures { result ≡ is_method_name name.now }
+{
+    is_name_length(name.len()) && are_name_bytes(name)
+}
+
 /// The name is above the one before it, by bytes.
-pub fn is_above(before: &[u8], name: &[u8]) -> bool
+pub(crate) fn is_above(before: &[u8], name: &[u8]) -> bool
     ensures { result ≡ is_above before.now name.now }
 {
     before.cmp(&name).is_lt()
 }
 
 /// 1 reads, 2 writes, 3 both.
-pub fn are_flags(flags: u8) -> bool
-    ensures { result ≡ between 1 3 flags }
+pub(crate) fn are_flags(flags: u8) -> bool
+    ensures { result ≡ are_flags flags }
 {
     1 <= flags && flags <= 3
 }
 
-/// Input and output have at most 4,096 bytes.
-pub fn is_capacity(capacity: u16) -> bool
-    ensures { result ≡ between 0 4096 capacity }
+/// Whether input and output may have so many bytes.
+pub(crate) fn is_capacity(capacity: u16) -> bool
+    ensures { result ≡ is_capacity capacity }
 {
-    capacity <= 4096
+    capacity <= CAPACITY_LIMIT
 }
 
-/// A method has 1 to 4,096 slots.
-pub fn is_slot_count(slots: usize) -> bool
-    ensures { result ≡ between 1 4096 slots }
+/// Whether a method may have so many slots.
+pub(crate) fn is_slot_count(slots: usize) -> bool
+    ensures { result ≡ is_slot_count slots }
 {
-    1 <= slots && slots <= 4096
+    1 <= slots && slots <= SLOT_LIMIT
 }

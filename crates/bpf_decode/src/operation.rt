@@ -12,7 +12,7 @@ pub enum Bits {
 
 impl Bits {
     /// The class of arithmetic: ALU64 or ALU (RFC 9669 section 3.3).
-    pub fn alu_class(self) -> u8
+    pub(crate) fn alu_class(self) -> u8
         ensures { result ≡ alu_class self }
     {
         match self {
@@ -22,7 +22,7 @@ impl Bits {
     }
 
     /// The class of jumps: JMP or JMP32.
-    pub fn jump_class(self) -> u8
+    pub(crate) fn jump_class(self) -> u8
         ensures { result ≡ jump_class self }
     {
         match self {
@@ -52,7 +52,7 @@ pub enum Arithmetic {
 
 impl Arithmetic {
     /// Its code, the high four bits of the opcode.
-    pub fn code(self) -> u8
+    pub(crate) fn code(self) -> u8
         ensures { result ≡ operation_code self }
     {
         match self {
@@ -73,7 +73,7 @@ impl Arithmetic {
     }
 
     /// Its offset field: 1 for the signed ones.
-    pub fn offset(self) -> u16
+    pub(crate) fn offset(self) -> u16
         ensures { result ≡ operation_offset self }
     {
         match self {
@@ -137,7 +137,7 @@ pub enum SignedMove {
 
 impl SignedMove {
     /// The class that it belongs to.
-    pub fn bits(self) -> Bits
+    pub(crate) fn bits(self) -> Bits
         ensures { result ≡ signed_move_bits self }
     {
         match self {
@@ -147,7 +147,7 @@ impl SignedMove {
     }
 
     /// The bits copied, which are its offset field.
-    pub fn offset(self) -> u16
+    pub(crate) fn offset(self) -> u16
         ensures { result ≡ signed_move_offset self }
     {
         match self {
@@ -202,7 +202,7 @@ pub enum ByteOrder {
 
 impl ByteOrder {
     /// Its opcode.
-    pub fn opcode(self) -> u8
+    pub(crate) fn opcode(self) -> u8
         ensures { result ≡ order_opcode self }
     {
         match self {
@@ -235,7 +235,7 @@ pub enum EndWidth {
 
 impl EndWidth {
     /// The bits kept, which are its immediate.
-    pub fn bits(self) -> u32
+    pub(crate) fn bits(self) -> u32
         ensures { result ≡ end_bits self }
     {
         match self {
@@ -284,7 +284,7 @@ pub enum Comparison {
 
 impl Comparison {
     /// Its code, the high four bits of the opcode.
-    pub fn code(self) -> u8
+    pub(crate) fn code(self) -> u8
         ensures { result ≡ comparison_code self }
     {
         match self {

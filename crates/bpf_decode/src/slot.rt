@@ -1,4 +1,4 @@
-ghost use Rattle.std.specs.Prelude.{◌≡◌, ◌≤◌, ◌<◌, ◌++◌, OnOk};
+ghost use Rattle.std.specs.Prelude.{◌≡◌, ◌≤◌, ◌<◌, ◌++◌, length, IfSome, OnOk};
 
 use byteorder::{ByteOrder, LittleEndian};
 use std::alloc::AllocError;
@@ -14,14 +14,13 @@ pub struct Slot {
 }
 
 impl Slot {
-    ghost use Rattle.std.specs.Prelude.{option_map};
     ghost use Rattle.bpf_decode.specs.Fields.{fields_of};
     ghost use Rattle.bpf_decode.specs.Instruction.{slot};
-    ghost use Rattle.bpf_decode.specs.Table.{fields};
 
     /// The slot of the first eight bytes, if there are so many.
     pub fn of(bytes: &[u8]) -> Option<Slot>
-        ensures { option_map fields result ≡ fields_of bytes.now }
+        ensures fields { result ≡ fields_of bytes.now }
+        ensures long { IfSome result (λ _. 8 ≤ length bytes.now) }
     {
         if bytes.len() < 8 {
             return None;
@@ -36,7 +35,7 @@ impl Slot {
     }
 
     /// Writes the eight bytes at the end.
-    pub fn put(self, out: &mut Vec<u8>) -> Result<(), AllocError>
+    pub(crate) fn put(self, out: &mut Vec<u8>) -> Result<(), AllocError>
         requires dst { self.dst < 16 }
         requires src { self.src < 16 }
         ensures { OnOk result (out.new.items ≡ out.old.items ++ slot self.opcode self.dst self.src self.offset self.imm) }

@@ -1,5 +1,5 @@
 use Rattle.std.proofs.Common.{◌≡◌, drop}
-use Rattle.bpf_decode.specs.ImageReading.{are_name_bytes}
+use Rattle.bpf_decode.specs.Limits.{are_name_bytes}
 use Rattle.bpf_decode.proofs.limits.are_name_bytes.Given as goal
 
 abbrev pub invariant-loop-byte : goal.invariant-loop-byte
