@@ -1,5 +1,5 @@
-use super::lines::{capacities, layout, run_all_beside};
-use crate::{Ending, flat_run, is_layout};
+use super::lines::{layout, run_all_beside};
+use crate::{Caps, Ending, flat_run, is_layout};
 use std::test::Fail;
 
 /// The helper `write`: a call that fails leaves the object; only a method that may write calls it.
@@ -63,7 +63,11 @@ const WRITES_THE_LAST_BYTE: [u8; 40] = [
 // The regions and the object at their limits.
 #[test]
 fn writes_the_last_byte(rt: HostRuntime) -> Result<(), Fail> {
-    let caps = capacities(4096, 4096, true);
+    let caps = Caps {
+        in_cap: 4096,
+        out_cap: 4096,
+        writes: true,
+    };
     let place = layout(0, 4096, 8192);
     assert!(rt; is_layout(&caps, &place));
     let input = [0x5a; 4096];
