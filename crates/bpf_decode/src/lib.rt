@@ -7,6 +7,7 @@
 #![tactic(auto)]
 
 mod access;
+pub mod arithmetic;
 mod class_image;
 mod code;
 mod decode_error;

@@ -4,7 +4,6 @@
 #![tactic(auto)]
 
 mod argument;
-pub mod arithmetic;
 mod caps;
 mod flat;
 mod helper;
@@ -14,6 +13,7 @@ mod region;
 mod value;
 
 pub use argument::{Argument, Signature};
+pub use bpf_decode::arithmetic;
 pub use caps::Caps;
 pub use flat::{Ending, flat_run};
 pub use helper::signature;

@@ -4,12 +4,12 @@ ghost use Rattle.bpf_machine.specs.Helper.{write_room};
 ghost use Rattle.bpf_machine.specs.Flat.{base, holds, find, range, load, load_signed, store};
 ghost use Rattle.bpf_machine.specs.View.{layout_of, memory_of, flat_state, GivesState, IsSized};
 
-use crate::arithmetic::sign_extended_load;
 use crate::caps::Caps;
 use crate::flat::state::{FlatState, set};
 use crate::layout::Layout;
 use crate::region::Region;
 use bpf_decode::SignedWidth;
+use bpf_decode::arithmetic::sign_extended_load;
 
 /// The regions' bytes.
 #[derive(Drop)]

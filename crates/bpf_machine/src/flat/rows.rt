@@ -3,7 +3,6 @@ ghost use Rattle.std.specs.Option.{option_map};
 ghost use Rattle.bpf_machine.specs.Flat.{operand, operation_row, neg_row, mov_row, end_row, alu_row, mem_row, memsx_row, ldx_row, st_row, stx_row, wide_row, ja_row, ja32_row, branch_row, call_row, act, step, exit_code, at_base};
 ghost use Rattle.bpf_machine.specs.View.{layout_of, flat_state, slot_fields, GivesState, IsSized};
 
-use crate::arithmetic::{alu, copied, negative, ordered, sign_extended, taken};
 use crate::caps::Caps;
 use crate::flat::fields::{
     SlotFields, at_slot, read_fields, signed_width_of, signed16, signed32, width_of,
@@ -12,6 +11,7 @@ use crate::flat::helpers::help;
 use crate::flat::memory::{load, load_signed, store};
 use crate::flat::state::{FlatState, get, set};
 use crate::layout::Layout;
+use bpf_decode::arithmetic::{alu, copied, negative, ordered, sign_extended, taken};
 use bpf_decode::{Arithmetic, Bits, ByteOrder, Comparison, EndWidth, SignedMove};
 use std::alloc::{AllocError, Global};
 

@@ -1,198 +1,90 @@
-use super::{Ended, Expected, Stuck, check, reads, run_in, three_layouts};
-use crate::{Caps, Ending};
+use super::lines::{layout, run_all_beside};
+use crate::{Caps, Ending, flat_run, is_layout};
 use std::test::Fail;
 
-const fn writes(in_cap: u16, out_cap: u16) -> Caps {
-    Caps {
-        in_cap,
-        out_cap,
-        writes: true,
-    }
-}
+/// The helper `write`: a call that fails leaves the object; only a method that may write calls it.
+const WRITTEN: &str = "
+# mov r2, r1; mov r1, 0; mov r3, 3; call 3; mov r0, -5; exit
+3 0 w none 616263 bf12000000000000b701000000000000b7030000030000008500000003000000b7000000fbffffff9500000000000000 fffffffffffffffb 6
+3 9 w 7a 616263 bf12000000000000b701000000000000b7030000030000008500000003000000b7000000fbffffff9500000000000000 fffffffffffffffb 6 - 7a
+3 0 r none 616263 bf12000000000000b701000000000000b7030000030000008500000003000000b7000000fbffffff9500000000000000 stuck
+# mov r2, r1; mov r1, 0; mov r3, 3; call 3; mov r0, 7; exit
+3 0 w none 616263 bf12000000000000b701000000000000b7030000030000008500000003000000b7000000070000009500000000000000 7 6 - 616263
+3 9 w 3132333435 616263 bf12000000000000b701000000000000b7030000030000008500000003000000b7000000070000009500000000000000 7 6 - 6162633435
+3 0 r none 616263 bf12000000000000b701000000000000b7030000030000008500000003000000b7000000070000009500000000000000 stuck
+# zeros fill a gap
+# mov r2, r1; mov r1, 5; mov r3, 2; call 3; exit
+3 0 w 61 626364 bf12000000000000b701000005000000b70300000200000085000000030000009500000000000000 2 5 - 61000000006263
+# 65,534 and 3 bytes are too many
+# mov r2, r1; mov r1, 65534; mov r3, 3; call 3; add r0, 27; exit
+3 0 w 61 626364 bf12000000000000b7010000feff0000b7030000030000008500000003000000070000001b0000009500000000000000 0 6 - 61
+";
+
+/// The helpers `read` and `out_len`.
+const READ: &str = "
+# mov r2, r3; mov r1, 1; mov r3, 3; call 2; mov r1, r0; call 13; exit
+2 4 r 68656c6c6f - bf32000000000000b701000001000000b7030000030000008500000002000000bf01000000000000850000000d0000009500000000000000 0 7 656c6c 68656c6c6f
+2 4 r 6865 - bf32000000000000b701000001000000b7030000030000008500000002000000bf01000000000000850000000d0000009500000000000000 0 7 65 6865
+# the answer -2 is no length of an output
+2 4 r none - bf32000000000000b701000001000000b7030000030000008500000002000000bf01000000000000850000000d0000009500000000000000 stuck
+# a range of length 0, wherever it lies
+# mov r1, 1; mov r2, 0; mov r3, 0; call 2; exit
+0 0 r none - b701000001000000b702000000000000b70300000000000085000000020000009500000000000000 fffffffffffffffe 5
+# registers 1 to 5 are unset behind a helper
+# mov r1, 0; call 13; mov r0, r1; exit
+0 0 r none - b701000000000000850000000d000000bf100000000000009500000000000000 stuck
+# mov r1, 5; call 13; exit
+0 0 r none - b701000005000000850000000d0000009500000000000000 stuck
+0 4 r none - b701000005000000850000000d0000009500000000000000 stuck
+0 5 r none - b701000005000000850000000d0000009500000000000000 0 3 0000000000 none
+";
 
 #[test]
 fn writes_the_object(rt: HostRuntime) -> Result<(), Fail> {
-    let fails = [
-        0xbf, 0x12, 0, 0, 0, 0, 0, 0, // mov r2, r1
-        0xb7, 0x01, 0, 0, 0, 0, 0, 0, // mov r1, 0
-        0xb7, 0x03, 0, 0, 3, 0, 0, 0, // mov r3, 3
-        0x85, 0x00, 0, 0, 3, 0, 0, 0, // call 3
-        0xb7, 0x00, 0, 0, 0xfb, 0xff, 0xff, 0xff, // mov r0, -5
-        0x95, 0x00, 0, 0, 0, 0, 0, 0, // exit
-    ];
-    let minus_5 = u64::MAX - 4;
-    check(
-        rt.alloc(),
-        &fails,
-        writes(3, 0),
-        None,
-        b"abc",
-        Ended(minus_5, &[], None, 6),
-    )?;
-    check(
-        rt.alloc(),
-        &fails,
-        writes(3, 9),
-        Some(b"z"),
-        b"abc",
-        Ended(minus_5, &[], Some(b"z"), 6),
-    )?;
-    check(rt.alloc(), &fails, reads(3, 0), None, b"abc", Stuck)?;
-    let ends = [
-        0xbf, 0x12, 0, 0, 0, 0, 0, 0, // mov r2, r1
-        0xb7, 0x01, 0, 0, 0, 0, 0, 0, // mov r1, 0
-        0xb7, 0x03, 0, 0, 3, 0, 0, 0, // mov r3, 3
-        0x85, 0x00, 0, 0, 3, 0, 0, 0, // call 3
-        0xb7, 0x00, 0, 0, 7, 0, 0, 0, // mov r0, 7
-        0x95, 0x00, 0, 0, 0, 0, 0, 0, // exit
-    ];
-    check(
-        rt.alloc(),
-        &ends,
-        writes(3, 0),
-        None,
-        b"abc",
-        Ended(7, &[], Some(b"abc"), 6),
-    )?;
-    check(
-        rt.alloc(),
-        &ends,
-        writes(3, 9),
-        Some(b"12345"),
-        b"abc",
-        Ended(7, &[], Some(b"abc45"), 6),
-    )?;
-    check(rt.alloc(), &ends, reads(3, 0), None, b"abc", Stuck)
-}
-
-#[test]
-fn writes_past_the_end(rt: HostRuntime) -> Result<(), Fail> {
-    let gap = [
-        0xbf, 0x12, 0, 0, 0, 0, 0, 0, // mov r2, r1
-        0xb7, 0x01, 0, 0, 5, 0, 0, 0, // mov r1, 5
-        0xb7, 0x03, 0, 0, 2, 0, 0, 0, // mov r3, 2
-        0x85, 0x00, 0, 0, 3, 0, 0, 0, // call 3
-        0x95, 0x00, 0, 0, 0, 0, 0, 0, // exit
-    ];
-    check(
-        rt.alloc(),
-        &gap,
-        writes(3, 0),
-        Some(b"a"),
-        b"bcd",
-        Ended(2, &[], Some(b"a\0\0\0\0bc"), 5),
-    )?;
-    // 65,534 and 3 bytes are too many
-    let long = [
-        0xbf, 0x12, 0, 0, 0, 0, 0, 0, // mov r2, r1
-        0xb7, 0x01, 0, 0, 0xfe, 0xff, 0, 0, // mov r1, 65534
-        0xb7, 0x03, 0, 0, 3, 0, 0, 0, // mov r3, 3
-        0x85, 0x00, 0, 0, 3, 0, 0, 0, // call 3
-        0x07, 0x00, 0, 0, 27, 0, 0, 0, // add r0, 27
-        0x95, 0x00, 0, 0, 0, 0, 0, 0, // exit
-    ];
-    check(
-        rt.alloc(),
-        &long,
-        writes(3, 0),
-        Some(b"a"),
-        b"bcd",
-        Ended(0, &[], Some(b"a"), 6),
-    )?;
-    // 65,533 and 3 bytes are not
-    let full = [
-        0xbf, 0x12, 0, 0, 0, 0, 0, 0, // mov r2, r1
-        0xb7, 0x01, 0, 0, 0xfd, 0xff, 0, 0, // mov r1, 65533
-        0xb7, 0x03, 0, 0, 3, 0, 0, 0, // mov r3, 3
-        0x85, 0x00, 0, 0, 3, 0, 0, 0, // call 3
-        0x95, 0x00, 0, 0, 0, 0, 0, 0, // exit
-    ];
-    let [layout, _, _] = three_layouts(writes(3, 0));
-    let ending = run_in(rt.alloc(), layout, &full, writes(3, 0), None, b"bcd")?;
-    if let Ending::Ended {
-        code,
-        output: _,
-        object: Some(object),
-        steps: _,
-    } = &ending
-    {
-        assert_eq!(rt; *code, 3);
-        assert_eq!(rt; object.len(), 65_536);
-        return Ok(());
-    }
-    Err("no object")?
+    assert_eq!(rt; run_all_beside(rt.alloc(), WRITTEN)?, 8);
+    Ok(())
 }
 
 #[test]
 fn reads_the_object(rt: HostRuntime) -> Result<(), Fail> {
-    let copies = [
-        0xbf, 0x32, 0, 0, 0, 0, 0, 0, // mov r2, r3
-        0xb7, 0x01, 0, 0, 1, 0, 0, 0, // mov r1, 1
-        0xb7, 0x03, 0, 0, 3, 0, 0, 0, // mov r3, 3
-        0x85, 0x00, 0, 0, 2, 0, 0, 0, // call 2
-        0xbf, 0x01, 0, 0, 0, 0, 0, 0, // mov r1, r0
-        0x85, 0x00, 0, 0, 13, 0, 0, 0, // call 13
-        0x95, 0x00, 0, 0, 0, 0, 0, 0, // exit
-    ];
-    let caps = reads(2, 4);
-    check(
-        rt.alloc(),
-        &copies,
-        caps,
-        Some(b"hello"),
-        &[],
-        Ended(0, b"ell", Some(b"hello"), 7),
-    )?;
-    check(
-        rt.alloc(),
-        &copies,
-        caps,
-        Some(b"he"),
-        &[],
-        Ended(0, b"e", Some(b"he"), 7),
-    )?;
-    // the answer -2 is no length of an output
-    check(rt.alloc(), &copies, caps, None, &[], Stuck)?;
-    let answers = [
-        0xb7, 0x01, 0, 0, 1, 0, 0, 0, // mov r1, 1
-        0xb7, 0x02, 0, 0, 0, 0, 0, 0, // mov r2, 0
-        0xb7, 0x03, 0, 0, 0, 0, 0, 0, // mov r3, 0: a range of length 0, wherever it lies
-        0x85, 0x00, 0, 0, 2, 0, 0, 0, // call 2
-        0x95, 0x00, 0, 0, 0, 0, 0, 0, // exit
-    ];
-    check(
-        rt.alloc(),
-        &answers,
-        reads(0, 0),
-        None,
-        &[],
-        Ended(u64::MAX - 1, &[], None, 5),
-    )?;
-    // registers 1 to 5 are unset behind a helper
-    let kept = [
-        0xb7, 0x01, 0, 0, 0, 0, 0, 0, // mov r1, 0
-        0x85, 0x00, 0, 0, 13, 0, 0, 0, // call 13
-        0xbf, 0x10, 0, 0, 0, 0, 0, 0, // mov r0, r1
-        0x95, 0x00, 0, 0, 0, 0, 0, 0, // exit
-    ];
-    check(rt.alloc(), &kept, reads(0, 0), None, &[], Stuck)
+    assert_eq!(rt; run_all_beside(rt.alloc(), READ)?, 8);
+    Ok(())
 }
 
+/// Writes one byte at the place 65,535.
+const WRITES_THE_LAST_BYTE: [u8; 40] = [
+    0xbf, 0x12, 0, 0, 0, 0, 0, 0, // mov r2, r1
+    0xb7, 0x01, 0, 0, 0xff, 0xff, 0, 0, // mov r1, 65535
+    0xb7, 0x03, 0, 0, 1, 0, 0, 0, // mov r3, 1
+    0x85, 0x00, 0, 0, 3, 0, 0, 0, // call 3
+    0x95, 0x00, 0, 0, 0, 0, 0, 0, // exit
+];
+
+// The regions and the object at their limits.
 #[test]
-fn limits_the_output(rt: HostRuntime) -> Result<(), Fail> {
-    let five = [
-        0xb7, 0x01, 0, 0, 5, 0, 0, 0, // mov r1, 5
-        0x85, 0x00, 0, 0, 13, 0, 0, 0, // call 13
-        0x95, 0x00, 0, 0, 0, 0, 0, 0, // exit
-    ];
-    check(rt.alloc(), &five, reads(0, 0), None, &[], Stuck)?;
-    check(rt.alloc(), &five, reads(0, 4), None, &[], Stuck)?;
-    check(
+fn writes_the_last_byte(rt: HostRuntime) -> Result<(), Fail> {
+    let caps = Caps {
+        in_cap: 4096,
+        out_cap: 4096,
+        writes: true,
+    };
+    let place = layout(0, 4096, 8192);
+    assert!(rt; is_layout(&caps, &place));
+    let input = [0x5a; 4096];
+    let ending = flat_run(
         rt.alloc(),
-        &five,
-        reads(0, 5),
+        &caps,
+        &WRITES_THE_LAST_BYTE,
+        &place,
         None,
-        &[],
-        Ended(0, &[0, 0, 0, 0, 0], None, 3),
-    )
+        7,
+        &input,
+        5,
+    )?;
+    let Ending::Ended { object, .. } = ending else {
+        return Err("no ending")?;
+    };
+    let bytes = object.ok_or("no object")?;
+    assert!(rt; bytes.len() == 65_536 && bytes.last() == Some(&0x5a));
+    Ok(())
 }

@@ -1,13 +1,13 @@
-use super::reads;
+use super::lines::{capacities, layout};
 use crate::{
-    Argument, Layout, Region, chains, decoded, is_layout, layouts, other_runs, outcomes, signature,
+    Argument, Region, chains, decoded, is_layout, layouts, other_runs, outcomes, signature,
     simulation,
 };
 use std::test::Fail;
 
 #[test]
 fn knows_regions(rt: HostRuntime) {
-    let caps = reads(3, 8);
+    let caps = capacities(3, 8, false);
     assert_eq!(rt; caps.size(Region::Input), 3);
     assert_eq!(rt; caps.size(Region::Output), 8);
     assert_eq!(rt; caps.size(Region::Stack), 512);
@@ -16,17 +16,9 @@ fn knows_regions(rt: HostRuntime) {
     assert!(rt; Region::Stack.is_writable());
 }
 
-const fn layout(input: u64, output: u64, stack: u64) -> Layout {
-    Layout {
-        input,
-        output,
-        stack,
-    }
-}
-
 #[test]
 fn knows_layouts(rt: HostRuntime) {
-    let caps = reads(3, 8);
+    let caps = capacities(3, 8, false);
     assert_eq!(rt; layout(0, 3, 11).base(Region::Output), 3);
     assert!(rt; is_layout(&caps, &layout(0, 3, 11)));
     assert!(rt; !is_layout(&caps, &layout(0, 2, 11)));
@@ -35,7 +27,7 @@ fn knows_layouts(rt: HostRuntime) {
     assert!(rt; is_layout(&caps, &layout(0, 3, u64::MAX - 512)));
     assert!(rt; !is_layout(&caps, &layout(0, 3, u64::MAX - 511)));
     // regions of no bytes lie anywhere
-    assert!(rt; is_layout(&reads(0, 0), &layout(50, 50, 0)));
+    assert!(rt; is_layout(&capacities(0, 0, false), &layout(50, 50, 0)));
 }
 
 #[test]

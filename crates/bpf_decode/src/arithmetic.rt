@@ -3,7 +3,8 @@ ghost use Rattle.bpf_decode.specs.Instruction.{signed_byte_count};
 ghost use Rattle.std.specs.Int.{w32, w64};
 ghost use Rattle.bpf_decode.specs.Arithmetic.{signed_load_value, computed, alu_value, neg_value, mov_value, signed_move_value, end_value, compared, is_taken};
 
-use bpf_decode::{Arithmetic, Bits, ByteOrder, Comparison, EndWidth, SignedMove, SignedWidth};
+use crate::access::SignedWidth;
+use crate::operation::{Arithmetic, Bits, ByteOrder, Comparison, EndWidth, SignedMove};
 
 /// The operation on 64 bits (RFC 9669 section 4.1).
 #[inline]
