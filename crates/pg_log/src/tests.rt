@@ -96,21 +96,26 @@ fn numbers_begin_at_one(rt: HostRuntime) -> Result<(), Fail> {
 }
 
 #[test]
-fn requests(rt: HostRuntime) -> Result<(), Fail> {
-    let alloc = rt.alloc();
-    let one = request(alloc, 3, 4, 5, "f", b"ab")?;
-    assert_eq!(rt; one.client().get(), 3);
-    assert_eq!(rt; one.number().get(), 4);
-    assert_eq!(rt; one.object().text(), "object");
-    assert_eq!(rt; one.class(), 5);
-    assert_eq!(rt; one.method(), "f");
-    assert_eq!(rt; one.input(), b"ab".as_slice());
-    assert!(rt; one.is(&one.copy(alloc)?));
-    assert!(rt; !one.is(&request(alloc, 3, 4, 5, "f", b"ac")?));
-    assert_eq!(rt;
-        format!(in alloc; "{}", LogError::StaleNumber)?.as_str(),
-        "2 StaleNumber"
-    );
+fn parts_of_a_request(rt: HostRuntime) -> Result<(), Fail> {
+    let one = request(rt.alloc(), 3, 4, 5, "f", b"ab")?;
+    assert!(rt; one.client().get() == 3 && one.number().get() == 4 && one.class() == 5);
+    assert!(rt; one.object().text() == "object" && one.method() == "f");
+    assert!(rt; one.input() == b"ab".as_slice());
+    Ok(())
+}
+
+#[test]
+fn equal_requests(rt: HostRuntime) -> Result<(), Fail> {
+    let one = request(rt.alloc(), 3, 4, 5, "f", b"ab")?;
+    assert!(rt; one.is(&one.copy(rt.alloc())?));
+    assert!(rt; !one.is(&request(rt.alloc(), 3, 4, 5, "f", b"ac")?));
+    Ok(())
+}
+
+#[test]
+fn printed_refusal(rt: HostRuntime) -> Result<(), Fail> {
+    let text = format!(in rt.alloc(); "{}", LogError::StaleNumber)?;
+    assert_eq!(rt; text.as_str(), "2 StaleNumber");
     Ok(())
 }
 
