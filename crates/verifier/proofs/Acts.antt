@@ -1,5 +1,5 @@
 -- An instruction that no rule refuses makes its step, and the frame after it is true of the state after it.
-use Rattle.std.proofs.Common.{◌≡◌, ◌≢◌, ℕ, ℤ, ◌+◌, ◌%◌, ◌^◌, ◌<◌, ◌≤◌, List, [], ◌∷◌, Option, Some, Bool, true, false, refl, inl, inr, ap, ◌∙◌, sym, subst, arith, drop, ◌⊎◌}
+use Rattle.std.proofs.Common.{◌≡◌, ◌≢◌, ℕ, ℤ, ◌+◌, ◌%◌, ◌^◌, ◌<◌, ◌≤◌, List, [], ◌∷◌, Option, Some, Bool, true, false, refl, inl, inr, ap, ◌∙◌, sym, subst, arith, drop}
 use Rattle.std.specs.Prelude.{slice_set, ◌==◌, nat_lt}
 use Rattle.std.proofs.lemmas.Bool.{leb-true, le-leb, false≢true, cond-true}
 use Rattle.bpf_decode.specs.declared.access.Width.{Width}

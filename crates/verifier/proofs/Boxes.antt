@@ -1,8 +1,8 @@
 -- Frames in boxes and out of them.
-use Rattle.std.proofs.Common.{◌≡◌, ℕ, zero, suc, ◌+◌, ◌<◌, ◌≤◌, List, [], ◌∷◌, Option, Some, None, refl, ap, arith, length, get_or}
+use Rattle.std.proofs.Common.{◌≡◌, ℕ, zero, suc, ◌<◌, ◌≤◌, List, [], ◌∷◌, Option, None, refl, ap, arith, length, get_or}
 use Rattle.std.specs.Prelude.{Box, replicate, slice_set}
 use Rattle.verifier.specs.declared.frame.Frame.{Frame}
-use Rattle.verifier.specs.Verdict.{Table, frame_at}
+use Rattle.verifier.specs.Verdict.{frame_at}
 use Rattle.verifier.specs.Kept.{unbox, unboxed}
 
 pub unboxed_none : (A : Type 0) (n : ℕ) → unboxed (replicate {A = Option (Box Frame A)} n None) ≡ replicate n None

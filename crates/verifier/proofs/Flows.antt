@@ -1,6 +1,6 @@
 -- A flow from a slot that no rule refuses is part of the frame at the slot to which it goes.
 use Rattle.std.proofs.Common.{◌≡◌, ℕ, ℤ, pos, negsuc, zero, suc, ◌+◌, ◌^◌, ◌<◌, List, [], ◌∷◌, ◌⊎◌, Option, Some, None, true, refl, ap, ◌∙◌, sym, subst, arith, length, ⊎_elim, false}
-use Rattle.std.specs.Prelude.{◌==◌, is_some, if◌then◌else◌}
+use Rattle.std.specs.Prelude.{◌==◌, is_some}
 use Rattle.std.proofs.Math.Nat.{mod-eq_of_lt}
 use Rattle.std.proofs.lemmas.Bool.{cases_lt, eq-eqb, cond-true, cond_both, false≢true}
 use Rattle.bpf_decode.specs.declared.insn.Insn.{Insn}

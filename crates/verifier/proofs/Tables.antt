@@ -9,7 +9,6 @@ use Rattle.bpf_machine.specs.declared.caps.Caps.{Caps}
 use Rattle.bpf_machine.specs.State.{◌>>=◌}
 use Rattle.bpf_machine.specs.Typed.{fetch}
 use Rattle.verifier.specs.declared.rule.Rule.{Rule}
-use Rattle.bpf_decode.specs.Instruction.{slot_count}
 use Rattle.verifier.specs.declared.frame.Frame.{Frame}
 use Rattle.verifier.specs.declared.pass.Pass.{Pass}
 use Rattle.verifier.specs.Frame.{entry_frame, flow}

@@ -1,6 +1,5 @@
 use Rattle.std.proofs.Common.{◌≡◌, ◌+◌, ◌<◌, List, [], ◌∷◌, ◌++◌, refl, ap, ◌∙◌, sym, arith, length, take, drop, get_or, rules}
-use Rattle.std.specs.Prelude.{slice_set}
-use Rattle.std.proofs.lemmas.List.{take_more, take_more_set, take_all, length-take-le, length-set, drop_more, drop-set-lt}
+use Rattle.std.proofs.lemmas.List.{take_more, take_more_set, length-take-le, length-set, drop_more, drop-set-lt}
 use Rattle.verifier.specs.declared.kind.Kind.{Kind}
 use Rattle.verifier.specs.declared.kind.Kind.TheVariants.{Unset}
 use Rattle.verifier.specs.Kind.{join_kind}
