@@ -15,6 +15,7 @@ use Rattle.verifier.specs.declared.rule.Rule.{Rule}
 use Rattle.verifier.specs.declared.refusal.Refusal.{Refusal}
 use Rattle.verifier.specs.Op.{op_of, ops_from}
 use Rattle.verifier.specs.BySlot.{ops_by_slot}
+use Rattle.verifier.specs.Pass.{IsSpaced}
 use Rattle.verifier.specs.Verified.{IsVerified}
 use Rattle.verifier.specs.Verdict.{method_verdict, or_later, verdict_from, class_verdict}
 use Rattle.verifier.proofs.Runs.{ends_at_exit, entry_holds}
@@ -52,6 +53,27 @@ first_begins (i ∷ is) h = (i, refl)
 
 pub slots_small : (m : ClassMethod) → IsMethod m → length (slots m.instructions) < 2 ^ 62
 slots_small m ok = let long = length-slots m.instructions in omega (arith, ok.slots)
+
+-- no instruction begins within another
+spaced_past : (n : ℕ) (xs : List (Option Insn)) (p q : ℕ) (i : Insn) → IsSpaced xs → fetch (replicate n None ++ xs) p ≡ Some i → p < q → q < p + slot_count i → fetch (replicate n None ++ xs) q ≡ None
+spaced_past zero xs p q i h at lt le = h p q i at lt le
+spaced_past (suc n) xs zero q i h at lt le = absurd (none-some i at)
+spaced_past (suc n) xs (suc p) zero i h at lt le = absurd (omega arith)
+spaced_past (suc n) xs (suc p) (suc q) i h at lt le = spaced_past n xs p q i h at (omega arith) (omega arith)
+
+blank_at : (n : ℕ) (xs : List (Option Insn)) (q : ℕ) → q < n → fetch (replicate n None ++ xs) q ≡ None
+blank_at zero xs q h = absurd (omega arith)
+blank_at (suc n) xs zero h = refl
+blank_at (suc n) xs (suc q) h = blank_at n xs q (omega arith)
+
+pub slots_spaced : (is : List Insn) → IsSpaced (slots is)
+slots_spaced [] p q i at lt le = absurd (none-some i at)
+slots_spaced (j ∷ is) zero zero i at lt le = absurd (omega arith)
+slots_spaced (j ∷ is) zero (suc q) i at lt le =
+    let same = ap slot_count (same_Some j i at) in
+    blank_at (slot_count j - 1) (slots is) q (omega (arith, same))
+slots_spaced (j ∷ is) (suc p) zero i at lt le = absurd (omega arith)
+slots_spaced (j ∷ is) (suc p) (suc q) i at lt le = spaced_past (slot_count j - 1) (slots is) p q i (slots_spaced is) at (omega arith) (omega arith)
 
 ends_always : (m : ClassMethod) → IsMethod m → method_verdict m ≡ None → EndsAlways m
 ends_always m ok clear object caller input call =

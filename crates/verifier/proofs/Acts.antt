@@ -1,5 +1,5 @@
 -- An instruction that no rule refuses makes its step, and the frame after it is true of the state after it.
-use Rattle.std.proofs.Common.{◌≡◌, ◌≢◌, ℕ, ℤ, ◌+◌, ◌%◌, ◌^◌, ◌<◌, ◌≤◌, List, Option, Some, Bool, true, false, refl, inl, inr, ap, ◌∙◌, sym, subst, arith, drop, ◌⊎◌}
+use Rattle.std.proofs.Common.{◌≡◌, ◌≢◌, ℕ, ℤ, ◌+◌, ◌%◌, ◌^◌, ◌<◌, ◌≤◌, List, [], ◌∷◌, Option, Some, Bool, true, false, refl, inl, inr, ap, ◌∙◌, sym, subst, arith, drop}
 use Rattle.std.specs.Prelude.{slice_set, ◌==◌, nat_lt}
 use Rattle.std.proofs.lemmas.Bool.{leb-true, le-leb, false≢true, cond-true}
 use Rattle.bpf_decode.specs.declared.access.Width.{Width}
@@ -27,32 +27,26 @@ use Rattle.bpf_machine.specs.State.{le_value, le_bytes, cells, put, may_store, s
 use Rattle.bpf_machine.specs.Typed.{Typed, number, extended, operand_value, locate, typed_after, typed_act, typed_exit_of}
 use Rattle.verifier.specs.declared.kind.Kind.{Kind}
 use Rattle.verifier.specs.declared.kind.Kind.TheVariants.{Unset, Num, Ptr}
-use Rattle.verifier.specs.declared.edges.Edges.{Edges}
-use Rattle.verifier.specs.declared.edges.Edges.TheVariants.{Leaves, One, Two}
+use Rattle.verifier.specs.declared.frame.Frame.{Frame}
 use Rattle.verifier.specs.Known.{constant, any, add_known}
 use Rattle.verifier.specs.Kind.{is_unset, is_ptr, alu_kind, neg_kind, mov_kind, signed_move_kind, end_kind, access_fits, is_read_only}
-use Rattle.verifier.specs.Frame.{Frame, kind_at, operand_kind, with_kind, flow, Holds}
-use Rattle.verifier.specs.Rules.{operand_is_unset, target}
-use Rattle.verifier.specs.Verdict.{edges}
+use Rattle.verifier.specs.Frame.{kind_at, operand_kind, with_kind, after_call, target, flow, Holds}
+use Rattle.verifier.specs.Rules.{operand_is_unset}
 use Rattle.verifier.proofs.Numbers.{holds_constant, holds_any, holds_add, holds_upper, holds_neg, holds_signed_move, holds_end}
 use Rattle.verifier.proofs.Results.{signed_load_small}
 use Rattle.verifier.proofs.Holding.{HoldsValue, read, set_each, not_ptr_is_num, numbered, operand_read, operand_is_set, computes, copies, extended_small16, not_false}
 use Rattle.verifier.proofs.Bytes.{value_in, bytes_put, bytes_of_number, value_fits, bytes_drop}
 use Rattle.verifier.proofs.Passed.{neither, Passed}
 use Rattle.verifier.proofs.Calls.{one_more, call_made}
-
--- one of the slots to which edges lead
-abbrev pub Among : ℕ → Edges → Type 0
-Among t Leaves = ⊥
-Among t (One q) = t ≡ q
-Among t (Two q r) = (t ≡ q) ⊎ (t ≡ r)
+use Rattle.verifier.proofs.Flows.{Among}
 
 -- the step is made, to a slot to which the instruction goes on, and the frame after it is true
 pub record Arrives (caps : Caps) (i : Insn) (f : Frame) (s : Typed) : Type 0 where
   pub to : Typed
   pub act : typed_act caps i s ≡ Some to
-  pub frame : Holds (flow i f) to
-  pub slot : Among to.slot (edges i s.slot)
+  pub frame : Frame
+  pub holds : Holds frame to
+  pub along : Among to.slot frame (flow i s.slot f)
 
 below_ten : (d : ℕ) → d ≤ 10 → (d == 10) ≡ false → nat_lt d 10 ≡ true
 below_ten d le e = grind arith
@@ -61,7 +55,7 @@ go_holds : (f : Frame) (t : Typed) (p : ℕ) → Holds f t → Holds f (go p t)
 go_holds f t p h = record { regs = h.regs; memory = h.memory; object = h.object }
 
 set_holds : (f : Frame) (s : Typed) (d : ℕ) (x : Kind) (v : Value) → Holds f s → HoldsValue x v → Holds (with_kind f d x) (record s { regs = slice_set s.regs d (Some v) })
-set_holds f s d x v h i = record { regs = set_each f s.regs d x v h.regs i; memory = h.memory; object = h.object }
+set_holds f s d x v h i = record { regs = set_each f.registers s.regs d x v h.regs i; memory = h.memory; object = h.object }
 
 byte_count_at_most : (width : Width) → byte_count width ≤ 8
 byte_count_at_most Byte = omega arith
@@ -97,7 +91,7 @@ alu_acts caps code p bits operation d x f s fit h ok =
     let v = read f s d h unset.0 in
     let w = computes bits operation (kind_at f d) (operand_kind f x) v.value y.0 v.holds y.2 unset.0 (operand_is_set f x unset.1) ok.computed in
     let t = set_to f s d (alu_kind bits operation (kind_at f d) (operand_kind f x)) w.0 h w.2 fit.0 ok.r10 in
-    record { to = go (s.slot + 1) t.0; act = one_more _ _ _ _ y.1 (one_more _ _ _ _ v.there (ap (typed_after s) (one_more _ _ _ _ w.1 t.1))); frame = go_holds _ t.0 (s.slot + 1) t.2; slot = refl }
+    record { to = go (s.slot + 1) t.0; act = one_more _ _ _ _ y.1 (one_more _ _ _ _ v.there (ap (typed_after s) (one_more _ _ _ _ w.1 t.1))); frame = with_kind f d (alu_kind bits operation (kind_at f d) (operand_kind f x)); holds = go_holds _ t.0 (s.slot + 1) t.2; along = inl (refl, refl) }
 
 -- the number of a value that is set and no pointer
 number_held : (x : Kind) (v : Value) → HoldsValue x v → is_unset x ≡ false → is_ptr x ≡ false → (n : ℕ) × (number v ≡ Some n) × HoldsValue x (values.Num n)
@@ -126,28 +120,28 @@ neg_acts caps code p bits d f s fit h ok =
     let v = read f s d h ok.unset in
     let n = number_held (kind_at f d) v.value v.holds ok.unset ok.computed in
     let t = set_to f s d (neg_kind bits (kind_at f d)) (values.Num (neg_value bits n.0)) h (neg_holds bits (kind_at f d) n.0 n.2) fit ok.r10 in
-    record { to = go (s.slot + 1) t.0; act = one_more _ _ _ _ v.there (one_more _ _ _ _ n.1 (ap (typed_after s) t.1)); frame = go_holds _ t.0 (s.slot + 1) t.2; slot = refl }
+    record { to = go (s.slot + 1) t.0; act = one_more _ _ _ _ v.there (one_more _ _ _ _ n.1 (ap (typed_after s) t.1)); frame = with_kind f d (neg_kind bits (kind_at f d)); holds = go_holds _ t.0 (s.slot + 1) t.2; along = inl (refl, refl) }
 
 mov_acts : (caps : Caps) (code : List (Option Insn)) (p : ℕ) (bits : Bits) (d : ℕ) (x : Operand) (f : Frame) (s : Typed) → Fits (Mov bits d x) → Holds f s → Passed caps code p (Mov bits d x) f → Arrives caps (Mov bits d x) f s
 mov_acts caps code p bits d x f s fit h ok =
     let y = operand_read f s x fit.1 h ok.unset in
     let w = copies bits (operand_kind f x) y.0 y.2 (operand_is_set f x ok.unset) ok.computed in
     let t = set_to f s d (mov_kind bits (operand_kind f x)) w.0 h w.2 fit.0 ok.r10 in
-    record { to = go (s.slot + 1) t.0; act = one_more _ _ _ _ y.1 (ap (typed_after s) (one_more _ _ _ _ w.1 t.1)); frame = go_holds _ t.0 (s.slot + 1) t.2; slot = refl }
+    record { to = go (s.slot + 1) t.0; act = one_more _ _ _ _ y.1 (ap (typed_after s) (one_more _ _ _ _ w.1 t.1)); frame = with_kind f d (mov_kind bits (operand_kind f x)); holds = go_holds _ t.0 (s.slot + 1) t.2; along = inl (refl, refl) }
 
 signed_move_acts : (caps : Caps) (code : List (Option Insn)) (p : ℕ) (extension : SignedMove) (d src : ℕ) (f : Frame) (s : Typed) → Fits (MovSigned extension d src) → Holds f s → Passed caps code p (MovSigned extension d src) f → Arrives caps (MovSigned extension d src) f s
 signed_move_acts caps code p extension d src f s fit h ok =
     let v = read f s src h ok.unset in
     let n = number_held (kind_at f src) v.value v.holds ok.unset ok.computed in
     let t = set_to f s d (signed_move_kind extension (kind_at f src)) (values.Num (signed_move_value extension n.0)) h (signed_move_holds extension (kind_at f src) n.0 n.2) fit.0 ok.r10 in
-    record { to = go (s.slot + 1) t.0; act = one_more _ _ _ _ v.there (one_more _ _ _ _ n.1 (ap (typed_after s) t.1)); frame = go_holds _ t.0 (s.slot + 1) t.2; slot = refl }
+    record { to = go (s.slot + 1) t.0; act = one_more _ _ _ _ v.there (one_more _ _ _ _ n.1 (ap (typed_after s) t.1)); frame = with_kind f d (signed_move_kind extension (kind_at f src)); holds = go_holds _ t.0 (s.slot + 1) t.2; along = inl (refl, refl) }
 
 end_acts : (caps : Caps) (code : List (Option Insn)) (p : ℕ) (order : ByteOrder) (width : EndWidth) (d : ℕ) (f : Frame) (s : Typed) → Fits (End order width d) → Holds f s → Passed caps code p (End order width d) f → Arrives caps (End order width d) f s
 end_acts caps code p order width d f s fit h ok =
     let v = read f s d h ok.unset in
     let n = number_held (kind_at f d) v.value v.holds ok.unset ok.computed in
     let t = set_to f s d (end_kind order width (kind_at f d)) (values.Num (end_value order width n.0)) h (end_holds order width (kind_at f d) n.0 n.2) fit ok.r10 in
-    record { to = go (s.slot + 1) t.0; act = one_more _ _ _ _ v.there (one_more _ _ _ _ n.1 (ap (typed_after s) t.1)); frame = go_holds _ t.0 (s.slot + 1) t.2; slot = refl }
+    record { to = go (s.slot + 1) t.0; act = one_more _ _ _ _ v.there (one_more _ _ _ _ n.1 (ap (typed_after s) t.1)); frame = with_kind f d (end_kind order width (kind_at f d)); holds = go_holds _ t.0 (s.slot + 1) t.2; along = inl (refl, refl) }
 
 branch_acts : (caps : Caps) (code : List (Option Insn)) (p : ℕ) (bits : Bits) (comparison : Comparison) (d : ℕ) (x : Operand) (offset : ℤ) (f : Frame) (s : Typed) → Fits (Branch bits comparison d x offset) → Holds f s → Passed caps code p (Branch bits comparison d x offset) f → Arrives caps (Branch bits comparison d x offset) f s
 branch_acts caps code p bits comparison d x offset f s fit h ok =
@@ -161,18 +155,19 @@ branch_acts caps code p bits comparison d x offset f s fit h ok =
     record {
       to = go (branch_to b s.slot (extended offset)) s;
       act = one_more _ _ _ _ v.there (one_more _ _ _ _ m.1 (one_more _ _ _ _ y.1 (one_more _ _ _ _ n.1 refl)));
-      frame = go_holds f s _ h;
-      slot = two_ways b s.slot offset;
+      frame = f;
+      holds = go_holds f s _ h;
+      along = two_ways b s.slot offset;
     }
   where
-    two_ways : (b : Bool) (p : ℕ) (offset : ℤ) → Among (branch_to b p (extended offset)) (Two (target p offset) (p + 1))
-    two_ways true p offset = inl refl
-    two_ways false p offset = inr refl
+    two_ways : (b : Bool) (p : ℕ) (offset : ℤ) → Among (branch_to b p (extended offset)) f ((target p offset, f) ∷ (p + 1, f) ∷ [])
+    two_ways true p offset = inl (refl, refl)
+    two_ways false p offset = inr (inl (refl, refl))
 
 wide_acts : (caps : Caps) (code : List (Option Insn)) (p d value : ℕ) (f : Frame) (s : Typed) → Fits (LoadWide d value) → Holds f s → Passed caps code p (LoadWide d value) f → Arrives caps (LoadWide d value) f s
 wide_acts caps code p d value f s fit h ok =
     let t = set_to f s d (Num (constant value)) (values.Num value) h (holds_constant value fit.1) fit.0 ok.r10 in
-    record { to = go (s.slot + 2) t.0; act = one_more _ _ _ _ t.1 refl; frame = go_holds _ t.0 (s.slot + 2) t.2; slot = refl }
+    record { to = go (s.slot + 2) t.0; act = one_more _ _ _ _ t.1 refl; frame = with_kind f d (Num (constant value)); holds = go_holds _ t.0 (s.slot + 2) t.2; along = inl (refl, refl) }
 
 load_acts : (caps : Caps) (code : List (Option Insn)) (p : ℕ) (width : Width) (d from : ℕ) (offset : ℤ) (f : Frame) (s : Typed) → Fits (Load width d from offset) → Holds f s → Passed caps code p (Load width d from offset) f → Arrives caps (Load width d from offset) f s
 load_acts caps code p width d from offset f s fit h ok =
@@ -182,7 +177,7 @@ load_acts caps code p width d from offset f s fit h ok =
     let n = le_value (part (cells s.memory at.at.0) at.at.1 w) in
     let small = value_fits w _ (byte_count_at_most width) (bytes_drop at.at.1 (cells s.memory at.at.0) (h.memory at.at.0)) in
     let t = set_to f s d (Num any) (values.Num n) h (holds_any n small) fit.0 ok.r10 in
-    record { to = go (s.slot + 1) t.0; act = one_more _ _ _ _ v.there (ap (typed_after s) (one_more _ _ _ _ at.is t.1)); frame = go_holds _ t.0 (s.slot + 1) t.2; slot = refl }
+    record { to = go (s.slot + 1) t.0; act = one_more _ _ _ _ v.there (ap (typed_after s) (one_more _ _ _ _ at.is t.1)); frame = with_kind f d (Num any); holds = go_holds _ t.0 (s.slot + 1) t.2; along = inl (refl, refl) }
 
 signed_load_acts : (caps : Caps) (code : List (Option Insn)) (p : ℕ) (width : SignedWidth) (d from : ℕ) (offset : ℤ) (f : Frame) (s : Typed) → Fits (LoadSigned width d from offset) → Holds f s → Passed caps code p (LoadSigned width d from offset) f → Arrives caps (LoadSigned width d from offset) f s
 signed_load_acts caps code p width d from offset f s fit h ok =
@@ -192,7 +187,7 @@ signed_load_acts caps code p width d from offset f s fit h ok =
     let n = le_value (part (cells s.memory at.at.0) at.at.1 w) in
     let small = signed_load_small width n (value_in w (drop at.at.1 (cells s.memory at.at.0)) (bytes_drop at.at.1 (cells s.memory at.at.0) (h.memory at.at.0))) in
     let t = set_to f s d (Num any) (values.Num (signed_load_value width n)) h (holds_any (signed_load_value width n) small) fit.0 ok.r10 in
-    record { to = go (s.slot + 1) t.0; act = one_more _ _ _ _ v.there (ap (typed_after s) (one_more _ _ _ _ at.is t.1)); frame = go_holds _ t.0 (s.slot + 1) t.2; slot = refl }
+    record { to = go (s.slot + 1) t.0; act = one_more _ _ _ _ v.there (ap (typed_after s) (one_more _ _ _ _ at.is t.1)); frame = with_kind f d (Num any); holds = go_holds _ t.0 (s.slot + 1) t.2; along = inl (refl, refl) }
 
 -- what a store stores is a number
 stored : (f : Frame) (s : Typed) (x : Operand) → OperandFits x → Holds f s → operand_is_unset f x ≡ false → ((r : ℕ) → x ≡ Register r → is_ptr (kind_at f r) ≡ false) → (v : Value) × (n : ℕ) × (operand_value s x ≡ Some v) × (number v ≡ Some n)
@@ -219,14 +214,15 @@ store_acts caps code p width to offset x f s fit h ok =
     record {
       to = go (s.slot + 1) t;
       act = one_more _ _ _ _ v.there (one_more _ _ _ _ y.2 (one_more _ _ _ _ y.3 (ap (typed_after s) (one_more _ _ _ t at.is (cond-true _ _ _ (at.writable ok.read_only))))));
-      frame = go_holds f t (s.slot + 1) holds;
-      slot = refl;
+      frame = f;
+      holds = go_holds f t (s.slot + 1) holds;
+      along = inl (refl, refl);
     }
 
 call_acts : (caps : Caps) (code : List (Option Insn)) (p helper : ℕ) (f : Frame) (s : Typed) → Holds f s → Passed caps code p (Call helper) f → Arrives caps (Call helper) f s
 call_acts caps code p helper f s h ok =
     let t = call_made caps helper f s h ok.unknown ok.bounds ok.read_only ok.kinds ok.writes in
-    record { to = go (s.slot + 1) t.0; act = ap (typed_after s) t.1; frame = go_holds _ t.0 (s.slot + 1) t.2; slot = refl }
+    record { to = go (s.slot + 1) t.0; act = ap (typed_after s) t.1; frame = after_call f; holds = go_holds _ t.0 (s.slot + 1) t.2; along = inl (refl, refl) }
 
 pub acts : (caps : Caps) (code : List (Option Insn)) (p : ℕ) (i : Insn) (f : Frame) (s : Typed) → Fits i → Holds f s → Passed caps code p i f → i ≢ Exit → Arrives caps i f s
 acts caps code p (Alu bits operation d x) f s fit h ok go_on = alu_acts caps code p bits operation d x f s fit h ok
@@ -238,8 +234,8 @@ acts caps code p (LoadWide d value) f s fit h ok go_on = wide_acts caps code p d
 acts caps code p (Load width d from offset) f s fit h ok go_on = load_acts caps code p width d from offset f s fit h ok
 acts caps code p (LoadSigned width d from offset) f s fit h ok go_on = signed_load_acts caps code p width d from offset f s fit h ok
 acts caps code p (Store width to offset x) f s fit h ok go_on = store_acts caps code p width to offset x f s fit h ok
-acts caps code p (Jump offset) f s fit h ok go_on = record { to = go _ s; act = refl; frame = go_holds f s _ h; slot = refl }
-acts caps code p (JumpLong distance) f s fit h ok go_on = record { to = go _ s; act = refl; frame = go_holds f s _ h; slot = refl }
+acts caps code p (Jump offset) f s fit h ok go_on = record { to = go _ s; act = refl; frame = f; holds = go_holds f s _ h; along = inl (refl, refl) }
+acts caps code p (JumpLong distance) f s fit h ok go_on = record { to = go _ s; act = refl; frame = f; holds = go_holds f s _ h; along = inl (refl, refl) }
 acts caps code p (Branch bits comparison d x offset) f s fit h ok go_on = branch_acts caps code p bits comparison d x offset f s fit h ok
 acts caps code p (Call helper) f s fit h ok go_on = call_acts caps code p helper f s h ok
 acts caps code p (CallLocal distance) f s fit h ok go_on = absurd (false≢true (sym ok.local))

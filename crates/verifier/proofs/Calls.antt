@@ -18,7 +18,8 @@ use Rattle.verifier.specs.declared.kind.Kind.TheVariants.{Unset, Num, Ptr}
 use Rattle.verifier.specs.declared.fault.Fault.TheVariants.{OutOfRegion, ReadOnly, WrongKind}
 use Rattle.verifier.specs.Known.{upper}
 use Rattle.verifier.specs.Kind.{is_num, is_ptr, is_at_most, range_leaves, range_is_read_only}
-use Rattle.verifier.specs.Frame.{Frame, kind_at, after_call, ObjectIsBytes, Holds}
+use Rattle.verifier.specs.declared.frame.Frame.{Frame}
+use Rattle.verifier.specs.Frame.{kind_at, after_call, ObjectIsBytes, Holds}
 use Rattle.verifier.specs.Rules.{has_fault, some_fault, taken_fault, call_fault, writes_object}
 use Rattle.verifier.proofs.Numbers.{known_small, holds_upper, holds_any}
 use Rattle.verifier.proofs.Holding.{not_false, HoldsValue, read, num_is_set, ptr_is_set, numbered, drop_each}
@@ -211,7 +212,7 @@ call_made caps helper f s h known a b c w =
       t,
       one_more (signature_of helper) takes _ t sig.1 (cond-true _ _ _ (may_write takes.writes caps.writes w') ∙ one_more _ _ _ _ g.is refl),
       record {
-        regs = (holds_any e.answer l.answer, (tt, (tt, (tt, (tt, (tt, drop_each 6 f s.regs h.regs))))));
+        regs = (holds_any e.answer l.answer, (tt, (tt, (tt, (tt, (tt, drop_each 6 f.registers s.regs h.regs))))));
         memory = room_bytes s.memory g.given.target e.bytes h.memory l.bytes;
         object = l.object;
       },

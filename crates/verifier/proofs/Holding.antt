@@ -24,7 +24,8 @@ use Rattle.verifier.specs.declared.kind.Kind.{Kind}
 use Rattle.verifier.specs.declared.kind.Kind.TheVariants.{Unset, Num, Ptr}
 use Rattle.verifier.specs.Known.{join_known}
 use Rattle.verifier.specs.Kind.{HoldsKind, is_unset, is_num, is_ptr, same_region, join_kind, alu_kind, mov_kind, alu_refused, mov_refused}
-use Rattle.verifier.specs.Frame.{Frame, or_unset, kind_at, operand_kind, join, HoldsEach, Holds}
+use Rattle.verifier.specs.declared.frame.Frame.{Frame}
+use Rattle.verifier.specs.Frame.{or_unset, kind_at, operand_kind, join_each, HoldsEach, Holds}
 use Rattle.verifier.proofs.Numbers.{holds_constant, known_small, holds_join_left, holds_join_right, holds_alu, holds_mov}
 
 pub extended_small16 : (z : ℤ) → FitsSigned w16 z → extended z < 2 ^ 64
@@ -83,25 +84,25 @@ kind_join_right (Ptr r k) (Ptr q l) (Some (values.Ptr p at)) h =
     cond_both (same_region r q) (Ptr r (join_known k l)) Unset (λ x. HoldsKind x (Some (values.Ptr p at)))
     (λ e. (same_means r q e ∙ h.0, holds_join_right k l at h.1)) (λ _. tt)
 
-pub join_left : (f g : Frame) (cs : List (Option Value)) → HoldsEach f cs → HoldsEach (join f g) cs
+pub join_left : (f g : List Kind) (cs : List (Option Value)) → HoldsEach f cs → HoldsEach (join_each f g) cs
 join_left [] g cs h = tt
 join_left (x ∷ f) [] cs h = tt
 join_left (x ∷ f) (y ∷ g) [] h = absurd h
 join_left (x ∷ f) (y ∷ g) (c ∷ cs) h = (kind_join_left x y c h.0, join_left f g cs h.1)
 
-pub join_right : (f g : Frame) (cs : List (Option Value)) → HoldsEach g cs → HoldsEach (join f g) cs
+pub join_right : (f g : List Kind) (cs : List (Option Value)) → HoldsEach g cs → HoldsEach (join_each f g) cs
 join_right [] g cs h = tt
 join_right (x ∷ f) [] cs h = tt
 join_right (x ∷ f) (y ∷ g) [] h = absurd h
 join_right (x ∷ f) (y ∷ g) (c ∷ cs) h = (kind_join_right x y c h.0, join_right f g cs h.1)
 
-pub set_each : (f : Frame) (cs : List (Option Value)) (d : ℕ) (x : Kind) (v : Value) → HoldsEach f cs → HoldsValue x v → HoldsEach (slice_set f d x) (slice_set cs d (Some v))
+pub set_each : (f : List Kind) (cs : List (Option Value)) (d : ℕ) (x : Kind) (v : Value) → HoldsEach f cs → HoldsValue x v → HoldsEach (slice_set f d x) (slice_set cs d (Some v))
 set_each [] cs d x v h i = tt
 set_each (y ∷ f) [] d x v h i = absurd h
 set_each (y ∷ f) (c ∷ cs) zero x v h i = (i, h.1)
 set_each (y ∷ f) (c ∷ cs) (suc d) x v h i = (h.0, set_each f cs d x v h.1 i)
 
-pub drop_each : (n : ℕ) (f : Frame) (cs : List (Option Value)) → HoldsEach f cs → HoldsEach (drop n f) (drop n cs)
+pub drop_each : (n : ℕ) (f : List Kind) (cs : List (Option Value)) → HoldsEach f cs → HoldsEach (drop n f) (drop n cs)
 drop_each zero f cs h = h
 drop_each (suc n) [] cs h = tt
 drop_each (suc n) (x ∷ f) [] h = absurd h
@@ -114,7 +115,7 @@ set_value (Num k) (Some v) h e = (v, refl, h)
 set_value (Ptr r k) None h e = absurd h
 set_value (Ptr r k) (Some v) h e = (v, refl, h)
 
-set_in : (f : Frame) (cs : List (Option Value)) (r : ℕ) → HoldsEach f cs → is_unset (or_unset (slice_get f r)) ≡ false → (v : Value) × ((slice_get cs r >>= λ c. c) ≡ Some v) × HoldsValue (or_unset (slice_get f r)) v
+set_in : (f : List Kind) (cs : List (Option Value)) (r : ℕ) → HoldsEach f cs → is_unset (or_unset (slice_get f r)) ≡ false → (v : Value) × ((slice_get cs r >>= λ c. c) ≡ Some v) × HoldsValue (or_unset (slice_get f r)) v
 set_in [] cs r h e = absurd (false≢true (sym e))
 set_in (x ∷ f) [] r h e = absurd h
 set_in (x ∷ f) (c ∷ cs) zero h e = set_value x c h.0 e
@@ -127,7 +128,7 @@ pub record Read (f : Frame) (s : Typed) (r : ℕ) : Type 0 where
   pub holds : HoldsValue (kind_at f r) value
 
 pub read : (f : Frame) (s : Typed) (r : ℕ) → Holds f s → is_unset (kind_at f r) ≡ false → Read f s r
-read f s r h e = let v = set_in f s.regs r h.regs e in record { value = v.0; there = v.1; holds = v.2 }
+read f s r h e = let v = set_in f.registers s.regs r h.regs e in record { value = v.0; there = v.1; holds = v.2 }
 
 pub num_is_set : (x : Kind) → is_num x ≡ true → is_unset x ≡ false
 num_is_set Unset h = absurd (false≢true h)

@@ -3,10 +3,11 @@ pub mod Numbers
 pub mod Bytes
 pub mod Holding
 pub mod Passed
+pub mod Boxes
 pub mod Tables
 pub mod Calls
-pub mod Acts
 pub mod Flows
+pub mod Acts
 pub mod Verdicts
 pub mod Runs
 pub mod Accepts

@@ -6,8 +6,8 @@ use Rattle.std.proofs.lemmas.Option.{none-some, same_Some}
 use Rattle.bpf_decode.specs.declared.insn.Insn.{Insn}
 use Rattle.bpf_machine.specs.declared.caps.Caps.{Caps}
 use Rattle.verifier.specs.declared.rule.Rule.{Rule}
-use Rattle.verifier.specs.Frame.{Frame}
-use Rattle.verifier.specs.Rules.{is_backward, misses, falls_off, is_local_call, reads_unset, writes_r10, computes_with_pointer, compares_pointer, stores_pointer, leaves_region, writes_read_only, calls_unknown, passes_wrong_kind, writes_in_reader, returns_pointer, breaks, in_order, first_broken, rule_at}
+use Rattle.verifier.specs.declared.frame.Frame.{Frame}
+use Rattle.verifier.specs.Rules.{is_backward, misses, falls_off, is_local_call, reads_unset, writes_r10, computes_with_pointer, compares_pointer, stores_pointer, leaves_region, writes_read_only, calls_unknown, passes_wrong_kind, writes_in_reader, returns_pointer, breaks_shape, breaks_frame, breaks, shape_rules, frame_rules, first_broken, shape_rule, frame_rule, else_under, rule_at}
 
 pub neither : (a b : Bool) → (a || b) ≡ false → (a ≡ false) × (b ≡ false)
 neither true b h = absurd (false≢true (sym h))
@@ -31,10 +31,35 @@ chosen test true rule r rest e later h = ap test (sym (same_Some rule r h)) ∙ 
 chosen test false rule r rest e later h = later h
 
 -- the rule that is found is broken
-pub first_is_broken : (test : Rule → Bool) (rules : List Rule) (r : Rule) → first_broken test rules ≡ Some r → test r ≡ true
+first_is_broken : (test : Rule → Bool) (rules : List Rule) (r : Rule) → first_broken test rules ≡ Some r → test r ≡ true
 first_is_broken test [] r h = absurd (none-some r h)
 first_is_broken test (rule ∷ rules) r h =
     chosen test (test rule) rule r (first_broken test rules) refl (first_is_broken test rules r) h
+
+or_right : (a b : Bool) → b ≡ true → (a || b) ≡ true
+or_right true b h = refl
+or_right false b h = h
+
+or_left : (a b : Bool) → a ≡ true → (a || b) ≡ true
+or_left true b h = refl
+or_left false b h = absurd (false≢true h)
+
+module _ (caps : Caps) (code : List (Option Insn)) (p : ℕ) (i : Insn) (r : Rule) where
+  shape_is_broken : shape_rule code p i ≡ Some r → breaks_shape code p i r ≡ true
+  shape_is_broken h = first_is_broken (breaks_shape code p i) shape_rules r h
+
+  either_is_broken : (f : Frame) (o : Option Rule) → shape_rule code p i ≡ o → else_under o (Some f) (λ f. frame_rule caps f i) ≡ Some r → (breaks_shape code p i r || breaks_frame caps f i r) ≡ true
+  either_is_broken f (Some rule) e h = or_left _ _ (shape_is_broken (e ∙ h))
+  either_is_broken f None e h = or_right _ _ (first_is_broken (breaks_frame caps f i) frame_rules r h)
+
+  alone_is_broken : (o : Option Rule) → shape_rule code p i ≡ o → else_under o None (λ f. frame_rule caps f i) ≡ Some r → breaks_shape code p i r ≡ true
+  alone_is_broken (Some rule) e h = shape_is_broken (e ∙ h)
+  alone_is_broken None e h = absurd (none-some r h)
+
+  -- the rule that refuses an instruction is broken
+  pub rule_is_broken : (frame : Option Frame) → rule_at caps code p i frame ≡ Some r → breaks caps code p i frame r ≡ true
+  rule_is_broken None h = alone_is_broken (shape_rule code p i) refl h
+  rule_is_broken (Some f) h = either_is_broken f (shape_rule code p i) refl h
 
 -- no rule refuses it, under its frame
 pub record Passed (caps : Caps) (code : List (Option Insn)) (p : ℕ) (i : Insn) (f : Frame) : Type 0 where
@@ -54,10 +79,15 @@ pub record Passed (caps : Caps) (code : List (Option Insn)) (p : ℕ) (i : Insn)
   pub writes : writes_in_reader caps i ≡ false
   pub returns : returns_pointer f i ≡ false
 
+neither_rule : (o : Option Rule) (f : Frame) (rule_of : Frame → Option Rule) → else_under o (Some f) rule_of ≡ None → (o ≡ None) × (rule_of f ≡ None)
+neither_rule None f rule_of h = (refl, h)
+neither_rule (Some rule) f rule_of h = absurd (none-some rule (sym h))
+
 pub passed : (caps : Caps) (code : List (Option Insn)) (p : ℕ) (i : Insn) (f : Frame) → rule_at caps code p i (Some f) ≡ None → Passed caps code p i f
 passed caps code p i f h =
-    let a = all_false (breaks caps code p i (Some f)) in_order h in
-    let b = a.1.1.1.1 in
+    let both = neither_rule (shape_rule code p i) f (λ f. frame_rule caps f i) h in
+    let a = all_false (breaks_shape code p i) shape_rules both.0 in
+    let b = all_false (breaks_frame caps f i) frame_rules both.1 in
     let c = b.1.1.1.1 in
     record {
       backward = a.0;

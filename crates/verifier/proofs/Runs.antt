@@ -11,7 +11,8 @@ use Rattle.bpf_machine.specs.declared.caps.Caps.{Caps}
 use Rattle.bpf_machine.specs.Object.{Object, IsObject, AreBytes}
 use Rattle.bpf_machine.specs.State.{◌>>=◌, cells, opening, Outcome, Ended, Stuck, outcome_of, one_more, goes_on, ends}
 use Rattle.bpf_machine.specs.Typed.{Typed, fetch, typed_act, typed_exit_of, typed_run, typed_entry}
-use Rattle.verifier.specs.Frame.{Frame, entry_frame, ObjectIsBytes, Holds}
+use Rattle.verifier.specs.declared.frame.Frame.{Frame}
+use Rattle.verifier.specs.Frame.{entry_frame, ObjectIsBytes, Holds}
 use Rattle.verifier.specs.Rules.{rule_at}
 use Rattle.verifier.specs.Verdict.{frame_at, whole_table, code_verdict}
 use Rattle.verifier.proofs.Numbers.{holds_constant, holds_any}
@@ -93,10 +94,10 @@ module _ (caps : Caps) (is : List Insn) (fit : AllFit is) (small : length (slots
       let fits = fit_at is s.slot a.insn fit a.there in
       let t = acts caps (slots is) s.slot a.insn a.frame s fits a.holds ok not_exit in
       let inside = slice_get_within (slots is) s.slot (Some a.insn) (inner _ _ a.there) in
-      let e = edge caps (slots is) s.slot t.to.slot a.insn a.frame (omega arith) fits ok t.slot in
+      let e = edge caps (slots is) s.slot t.to.slot a.insn a.frame t.frame (omega arith) fits ok t.along in
       let inside' = slice_get_within (slots is) t.to.slot (Some e.to) (inner _ _ e.begins) in
-      let held = t.frame in
-      let meets = arrives caps (slots is) s.slot t.to.slot a.insn a.frame t.to.regs a.there a.is_frame rule held.regs t.slot e.forward inside' in
+      let held = t.holds in
+      let meets = arrives caps (slots is) s.slot t.to.slot a.insn a.frame t.frame t.to.regs a.there a.is_frame rule held.regs t.along e.forward inside' in
       let fewer = left_further (slots is) s.slot t.to.slot a.insn a.there e.forward in
       let le' : left (drop t.to.slot (slots is)) ≤ n = omega arith in
       let rest = later t.to le' (record { insn = e.to; there = e.begins; frame = meets.frame; is_frame = meets.is; holds = record { regs = meets.holds; memory = held.memory; object = held.object } }) in (
@@ -140,19 +141,19 @@ module _ (caps : Caps) (is : List Insn) (fit : AllFit is) (small : length (slots
       let none = left_further (slots is) s.slot (s.slot + 1) a.insn a.there (omega arith) in absurd (omega arith)
   ends_from (suc n) s le a = here n s a a.insn refl le (ends_from n)
 
-  pub ends_at_exit : (s : Typed) (i : Insn) → s.slot ≡ 0 → fetch (slots is) 0 ≡ Some i → Holds entry_frame s → Ends (length is) s
+  pub ends_at_exit : (s : Typed) (i : Insn) → s.slot ≡ 0 → fetch (slots is) 0 ≡ Some i → Holds (entry_frame caps) s → Ends (length is) s
   ends_at_exit s i first at h =
       let all = left_slots is in
       let some = slice_get_within (slots is) 0 (Some i) (inner _ _ at) in
       let whole : drop s.slot (slots is) ≡ slots is = ap (λ n. drop n (slots is)) first in
       let le : left (drop s.slot (slots is)) ≤ length is = omega (arith, ap left whole) in
-      ends_from (length is) s le (record { insn = i; there = ap (fetch (slots is)) first ∙ at; frame = entry_frame; is_frame = ap (frame_at (whole_table caps (slots is))) first ∙ whole_at caps (slots is) 0 some; holds = h })
+      ends_from (length is) s le (record { insn = i; there = ap (fetch (slots is)) first ∙ at; frame = entry_frame caps; is_frame = ap (frame_at (whole_table caps (slots is))) first ∙ whole_at caps (slots is) 0 some; holds = h })
 
 object_is_bytes : (object : Object) → IsObject object → ObjectIsBytes object
 object_is_bytes None h = tt
 object_is_bytes (Some bytes) h = h.1
 
-pub entry_holds : (caps : Caps) (object : Object) (caller : ℕ) (input : List ℕ) → IsObject object → length input ≤ caps.in_cap → caps.in_cap < 2 ^ 64 → AreBytes input → Holds entry_frame (typed_entry caps object caller input)
+pub entry_holds : (caps : Caps) (object : Object) (caller : ℕ) (input : List ℕ) → IsObject object → length input ≤ caps.in_cap → caps.in_cap < 2 ^ 64 → AreBytes input → Holds (entry_frame caps) (typed_entry caps object caller input)
 entry_holds caps object caller input ob le small bytes =
     let zero_holds = holds_constant 0 (omega arith) in
     let end_holds = holds_constant 512 (omega arith) in

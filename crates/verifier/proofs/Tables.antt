@@ -1,5 +1,5 @@
 -- The pass over the slots follows the whole table of frames.
-use Rattle.std.proofs.Common.{◌≡◌, ◌≢◌, ℕ, zero, suc, ◌+◌, ◌<◌, List, [], ◌∷◌, ◌++◌, Option, Some, None, cond, refl, ap, ◌∙◌, sym, subst, arith, length, drop, ⊎_elim, length-append}
+use Rattle.std.proofs.Common.{◌≡◌, ◌≢◌, ℕ, zero, suc, ◌+◌, ◌<◌, ◌≤◌, List, [], ◌∷◌, ◌++◌, Option, Some, None, refl, ap, ◌∙◌, sym, subst, arith, length, drop, ⊎_elim, length-append}
 use Rattle.std.specs.Prelude.{slice_get, slice_set, replicate, ◌==◌}
 use Rattle.std.proofs.lemmas.Bool.{cases_eq, cases_lt, eq-eqb, ne_eqb, cond-true, cond-false}
 use Rattle.std.proofs.lemmas.List.{length-set, length-replicate}
@@ -9,12 +9,12 @@ use Rattle.bpf_machine.specs.declared.caps.Caps.{Caps}
 use Rattle.bpf_machine.specs.State.{◌>>=◌}
 use Rattle.bpf_machine.specs.Typed.{fetch}
 use Rattle.verifier.specs.declared.rule.Rule.{Rule}
-use Rattle.verifier.specs.declared.edges.Edges.{Edges}
-use Rattle.verifier.specs.declared.edges.Edges.TheVariants.{Leaves, One, Two}
-use Rattle.verifier.specs.Frame.{Frame, entry_frame, flow}
+use Rattle.verifier.specs.declared.frame.Frame.{Frame}
+use Rattle.verifier.specs.declared.pass.Pass.{Pass}
+use Rattle.verifier.specs.Frame.{entry_frame, flow}
 use Rattle.verifier.specs.Rules.{rule_at}
-use Rattle.verifier.specs.Verdict.{edges, Table, frame_at, joined, along, unless_refused, flow_from, start, incoming, frames, whole_table, IsTable, or_else, first_refused}
-use Rattle.verifier.specs.Pass.{merged, merged_each, passed_on, visited, first_table}
+use Rattle.verifier.specs.Verdict.{Table, frame_at, joined, met, along, unless_refused, flow_from, start, incoming, frames, whole_table, IsTable, or_else, first_refused}
+use Rattle.verifier.specs.Pass.{merged, fallen, awaited, flown, HasLeft, IsSpaced}
 
 get_left : {A : Type 0} (xs ys : List A) (p : ℕ) → p < length xs → slice_get (xs ++ ys) p ≡ slice_get xs p
 get_left [] ys p h = absurd (omega arith)
@@ -92,98 +92,92 @@ module _ (caps : Caps) (code : List (Option Insn)) where
   pub only_table : (table : Table) → IsTable caps code table → (q : ℕ) → q < length code → frame_at table q ≡ frame_at (whole_table caps code) q
   only_table table t q lt = only_below table t (q + 1) q (omega arith) lt
 
-  -- the pass's table before slot p has what the slots below p bring
-  pub record Brought (p : ℕ) (table : Table) : Type 0 where
-    pub size : length table ≡ length code
-    pub at : (q : ℕ) → q < length code → frame_at table q ≡ incoming caps code (whole_table caps code) q p
+  -- before slot p the pass has, of each slot to come, what the slots below p bring
+  pub record Brought (p : ℕ) (pass : Pass) : Type 0 where
+    pub size : length pass.kept ≡ length code
+    pub at : (q : ℕ) → p ≤ q → q < length code → awaited pass q ≡ incoming caps code (whole_table caps code) q p
+    pub gap : (q : ℕ) → p ≤ q → q < pass.landing → fetch code q ≡ None
 
   -- so at slot p it has the slot's frame
-  pub its_frame : (p : ℕ) (table : Table) → p < length code → Brought p table → frame_at table p ≡ frame_at (whole_table caps code) p
-  its_frame p table lt b = b.at p lt ∙ sym (whole_at p lt)
+  pub its_frame : (p : ℕ) (pass : Pass) → p < length code → Brought p pass → awaited pass p ≡ frame_at (whole_table caps code) p
+  its_frame p pass lt b = b.at p (omega arith) lt ∙ sym (whole_at p lt)
 
-  blank_at : (n q : ℕ) → q < n → frame_at (first_table n) q ≡ start q
-  blank_at (suc n) zero h = refl
-  blank_at (suc n) (suc q) h = blank n q
-    where
-      blank : (n q : ℕ) → frame_at (replicate n None) q ≡ None
-      blank zero q = refl
-      blank (suc n) zero = refl
-      blank (suc n) (suc q) = blank n q
-  blank_at zero q h = absurd (omega arith)
+  blank : (n q : ℕ) → frame_at (replicate n None) q ≡ None
+  blank zero q = refl
+  blank (suc n) zero = refl
+  blank (suc n) (suc q) = blank n q
 
-  pub brought_first : Brought 0 (first_table (length code))
-  brought_first =
-      let n = length code in
-      let none : Table = replicate n None in
-      record { size = length-set none 0 (Some entry_frame) ∙ length-replicate n None; at = λ q lt. blank_at n q lt }
+  begins : (q : ℕ) → met 0 (entry_frame caps) q None ≡ start caps q
+  begins zero = refl
+  begins (suc q) = cond-false (0 == suc q) (Some (entry_frame caps)) None (ne_eqb 0 (suc q) (λ e. absurd (omega (arith, e))))
 
-  pub brought_over : (p : ℕ) (table : Table) → fetch code p ≡ None → Brought p table → Brought (p + 1) table
-  brought_over p table none b =
-      subst (λ n. Brought n table) (one_more p) (record {
-        size = b.size;
-        at = λ q lt.
-            b.at q lt ∙ sym (ap (λ i. flow_from caps code p q i (frame_at (whole_table caps code) p) (incoming caps code (whole_table caps code) q p)) none);
-      })
-    where
-      one_more : (p : ℕ) → suc p ≡ p + 1
-      one_more p = omega arith
-
-  merged_at : (table : Table) (a q : ℕ) (g : Frame) → q < length table → frame_at (merged table a g) q ≡ cond (a == q) (Some (joined (frame_at table q) g)) (frame_at table q)
-  merged_at table a q g lt = ⊎_elim
-      (λ e. subst (λ n. frame_at (merged table n g) q ≡ cond (n == q) (Some (joined (frame_at table q) g)) (frame_at table q)) (sym e)
-      (ap (λ o. o >>= λ f. f) (get_same table q (Some (joined (frame_at table q) g)) lt) ∙ sym (cond-true _ _ _ (eq-eqb q q refl))))
-      (λ n. ap (λ o. o >>= λ f. f) (get_other table a q _ n) ∙ sym (cond-false _ _ _ (ne_eqb a q n))) (cases_eq a q)
-
-  each_at : (to : Edges) (table : Table) (g : Frame) (q : ℕ) → q < length table → frame_at (merged_each table to g) q ≡ along to q g (frame_at table q)
-  each_at Leaves table g q lt = refl
-  each_at (One a) table g q lt = merged_at table a q g lt
-  each_at (Two a b) table g q lt =
-      let long = length-set table a (Some (joined (frame_at table a) g)) in
-      merged_at (merged table a g) b q g (omega (arith, long)) ∙ ap (λ o. cond (b == q) (Some (joined o g)) o) (merged_at table a q g lt)
-
-  each_size : (to : Edges) (table : Table) (g : Frame) → length (merged_each table to g) ≡ length table
-  each_size Leaves table g = refl
-  each_size (One a) table g = length-set table a _
-  each_size (Two a b) table g = length-set (merged table a g) b _ ∙ length-set table a _
-
-  -- a slot that no rule refuses brings its flow
-  brought_on : (p : ℕ) (i : Insn) (table : Table) (frame : Option Frame) → fetch code p ≡ Some i → frame_at (whole_table caps code) p ≡ frame → rule_at caps code p i frame ≡ None → Brought p table → Brought (suc p) (passed_on table p i None frame)
-  brought_on p i table None at is none b = record {
-    size = b.size;
-    at = λ q lt.
-        b.at q lt
-        ∙ sym (ap (λ j. flow_from caps code p q j (frame_at (whole_table caps code) p) (incoming caps code (whole_table caps code) q p)) at
-        ∙ ap (λ f. flow_from caps code p q (Some i) f (incoming caps code (whole_table caps code) q p)) is);
-  }
-  brought_on p i table (Some f) at is none b =
-      let g = flow i f in
+  pub brought_first : (pass : Pass) → pass.kept ≡ replicate (length code) None → pass.current ≡ Some (entry_frame caps) → pass.landing ≡ 0 → Brought 0 pass
+  brought_first pass kept current landing =
+      let none : Table = replicate (length code) None in
       record {
-        size = each_size (edges i p) table g ∙ b.size;
-        at = λ q lt.
-            let inside : q < length table = omega (arith, b.size) in
-            each_at (edges i p) table g q inside
-            ∙ ap (along (edges i p) q g) (b.at q lt)
-            ∙ sym (ap (λ j. flow_from caps code p q j (frame_at (whole_table caps code) p) (incoming caps code (whole_table caps code) q p)) at
-            ∙ ap (λ f. flow_from caps code p q (Some i) f (incoming caps code (whole_table caps code) q p)) is
-            ∙ ap (λ r. unless_refused r (along (edges i p) q g (incoming caps code (whole_table caps code) q p)) (incoming caps code (whole_table caps code) q p)) none);
+        size = ap length kept ∙ length-replicate (length code) None;
+        at = λ q le lt.
+            ap (λ o. fallen o pass.landing q (frame_at pass.kept q)) current
+            ∙ ap (λ n. met n (entry_frame caps) q (frame_at pass.kept q)) landing
+            ∙ ap (met 0 (entry_frame caps) q) (ap (λ t. frame_at t q) kept ∙ blank (length code) q)
+            ∙ begins q;
+        gap = λ q le lt. absurd (omega (arith, landing));
       }
 
-  pub brought_more : (p : ℕ) (i : Insn) (table : Table) → p < length code → fetch code p ≡ Some i → rule_at caps code p i (frame_at table p) ≡ None → Brought p table → Brought (p + 1) (visited caps code p i table)
-  brought_more p i table lt at none b =
-      subst (λ n. Brought n (visited caps code p i table)) (one_more p)
-      (subst (λ r. Brought (suc p) (passed_on table p i r (frame_at table p))) (sym none)
-      (brought_on p i table (frame_at table p) at (sym (its_frame p table lt b)) none b))
-    where
-      one_more : (p : ℕ) → suc p ≡ p + 1
-      one_more p = omega arith
+  one_more : (p : ℕ) → suc p ≡ p + 1
+  one_more p = omega arith
+
+  pub brought_over : (p : ℕ) (pass : Pass) → fetch code p ≡ None → Brought p pass → Brought (p + 1) pass
+  brought_over p pass none b =
+      subst (λ n. Brought n pass) (one_more p) (record {
+        size = b.size;
+        at = λ q le lt.
+            b.at q (omega arith) lt ∙ sym (ap (λ i. flow_from caps code p q i (frame_at (whole_table caps code) p) (incoming caps code (whole_table caps code) q p)) none);
+        gap = λ q le lt. b.gap q (omega arith) lt;
+      })
+
+  elsewhere : (o : Option Frame) (landing q : ℕ) (inflow : Option Frame) → landing ≢ q → fallen o landing q inflow ≡ inflow
+  elsewhere None landing q inflow n = refl
+  elsewhere (Some g) landing q inflow n = cond-false (landing == q) (Some (joined inflow g)) inflow (ne_eqb landing q n)
+
+  flows_on : (p q : ℕ) (i : Insn) (frame inflow : Option Frame) → rule_at caps code p i frame ≡ None → flow_from caps code p q (Some i) frame inflow ≡ flown frame i p q inflow
+  flows_on p q i None inflow none = refl
+  flows_on p q i (Some f) inflow none = ap (λ r. unless_refused r (along (flow i p f) q inflow) inflow) none
+
+  -- a slot that no rule refuses brings its flow
+  pub brought_more : (p : ℕ) (i : Insn) (pass pass' : Pass) → IsSpaced code → p < length code → fetch code p ≡ Some i → rule_at caps code p i (awaited pass p) ≡ None → HasLeft (awaited pass p) (slice_set pass.kept p None) i p pass' → Brought p pass → Brought (p + 1) pass'
+  brought_more p i pass pass' spaced lt at none left b =
+      let table = whole_table caps code in
+      let frame = its_frame p pass lt b in
+      let clear : rule_at caps code p i (frame_at table p) ≡ None = ap (rule_at caps code p i) (sym frame) ∙ none in
+      let landed : pass.landing ≤ p = ⊎_elim (λ (less : p < pass.landing). absurd (none-some i (sym (b.gap p (omega arith) less) ∙ at))) (λ (le : pass.landing ≤ p). le) (cases_lt p pass.landing) in
+      let long = length-set pass.kept p None in
+      subst (λ n. Brought n pass') (one_more p) (record {
+        size = left.size ∙ long ∙ b.size;
+        at = λ q le lt.
+            left.flows q (omega (arith, long, b.size))
+            ∙ ap (λ o. flown o i p q (frame_at (slice_set pass.kept p None) q)) frame
+            ∙ ap (flown (frame_at table p) i p q) (ap (λ o. o >>= λ f. f) (get_other pass.kept p q None (λ e. absurd (omega (arith, e))))
+            ∙ sym (elsewhere pass.current pass.landing q (frame_at pass.kept q) (λ e. absurd (omega (arith, e, landed))))
+            ∙ b.at q (omega arith) lt)
+            ∙ sym (ap (λ j. flow_from caps code p q j (frame_at table p) (incoming caps code table q p)) at
+            ∙ flows_on p q i (frame_at table p) (incoming caps code table q p) clear);
+        gap = λ q le lt. spaced p q i at (omega arith) (omega (arith, left.landing));
+      })
+
+  pub merged_at : (table : Table) (a q : ℕ) (g : Frame) → q < length table → frame_at (merged table a g) q ≡ met a g q (frame_at table q)
+  merged_at table a q g lt = ⊎_elim
+      (λ e. subst (λ n. frame_at (merged table n g) q ≡ met n g q (frame_at table q)) (sym e)
+      (ap (λ o. o >>= λ f. f) (get_same table q (Some (joined (frame_at table q) g)) lt) ∙ sym (cond-true _ _ _ (eq-eqb q q refl))))
+      (λ n. ap (λ o. o >>= λ f. f) (get_other table a q _ n) ∙ sym (cond-false _ _ _ (ne_eqb a q n))) (cases_eq a q)
 
   -- the slots from p on, where nothing begins at p
   pub refused_over : (p : ℕ) → slice_get code p ≡ Some None → first_refused caps code (whole_table caps code) p (drop p code) ≡ first_refused caps code (whole_table caps code) (p + 1) (drop (p + 1) code)
   refused_over p at = ap (first_refused caps code (whole_table caps code) p) (drop_head code p None at)
 
   -- the slots from p on, where an instruction begins at p
-  pub refused_at : (p : ℕ) (i : Insn) (table : Table) (r : Option Rule) → p < length code → slice_get code p ≡ Some (Some i) → Brought p table → rule_at caps code p i (frame_at table p) ≡ r →
+  pub refused_at : (p : ℕ) (i : Insn) (pass : Pass) (r : Option Rule) → p < length code → slice_get code p ≡ Some (Some i) → Brought p pass → rule_at caps code p i (awaited pass p) ≡ r →
       first_refused caps code (whole_table caps code) p (drop p code) ≡ or_else p r (first_refused caps code (whole_table caps code) (p + 1) (drop (p + 1) code))
-  refused_at p i table r lt at b is =
+  refused_at p i pass r lt at b is =
       ap (first_refused caps code (whole_table caps code) p) (drop_head code p (Some i) at)
-      ∙ ap (λ r. or_else p r (first_refused caps code (whole_table caps code) (p + 1) (drop (p + 1) code))) (ap (rule_at caps code p i) (sym (its_frame p table lt b)) ∙ is)
+      ∙ ap (λ r. or_else p r (first_refused caps code (whole_table caps code) (p + 1) (drop (p + 1) code))) (ap (rule_at caps code p i) (sym (its_frame p pass lt b)) ∙ is)

@@ -10,9 +10,9 @@ use Rattle.bpf_machine.specs.Typed.{fetch}
 use Rattle.bpf_machine.specs.Safe.{caps_of}
 use Rattle.verifier.specs.declared.rule.Rule.{Rule}
 use Rattle.verifier.specs.declared.refusal.Refusal.{Refusal}
-use Rattle.verifier.specs.Rules.{breaks, in_order, rule_at}
+use Rattle.verifier.specs.Rules.{rule_at}
 use Rattle.verifier.specs.Verdict.{Table, frame_at, whole_table, or_else, first_refused, code_verdict, method_verdict, or_later, verdict_from, class_verdict, Refuses, IsDeserved}
-use Rattle.verifier.proofs.Passed.{first_is_broken}
+use Rattle.verifier.proofs.Passed.{rule_is_broken}
 
 none_left : (p : ℕ) (r : Option Rule) (later : Option (ℕ × Rule)) → or_else p r later ≡ None → (r ≡ None) × (later ≡ None)
 none_left p None later h = (refl, h)
@@ -76,7 +76,7 @@ method_refuses m at h =
     let code = slots m.instructions in
     let r = refused_from caps code (whole_table caps code) code 0 at h in
     let same : r.past ≡ at.0 = omega (arith, r.is) in
-    record { insn = r.insn; there = ap (fetch code) (sym same) ∙ r.there; refused = first_is_broken (breaks caps code at.0 r.insn (frame_at (whole_table caps code) at.0)) in_order at.1 r.rule }
+    record { insn = r.insn; there = ap (fetch code) (sym same) ∙ r.there; refused = rule_is_broken caps code at.0 r.insn at.1 (frame_at (whole_table caps code) at.0) r.rule }
 
 -- the method that is refused
 record Found (ms : List ClassMethod) (k : ℕ) (r : Refusal) : Type 0 where

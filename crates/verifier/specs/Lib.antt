@@ -6,5 +6,6 @@ pub mod Frame
 pub mod Rules
 pub mod Verdict
 pub mod Pass
+pub mod Kept
 pub mod RuleNumber
 pub mod BySlot

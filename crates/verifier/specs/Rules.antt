@@ -1,5 +1,5 @@
 -- The rules: which instructions are refused, and where.
-use Rattle.std.specs.Prelude.{ℕ, ◌+◌, ◌%◌, ◌^◌, List, [], ◌∷◌, Option, Some, None, Bool, true, false, if◌then◌else◌, ◌==◌, ◌&&◌, ◌||◌, not, is_some, ℤ}
+use Rattle.std.specs.Prelude.{ℕ, ◌+◌, List, [], ◌∷◌, Option, Some, None, Bool, true, false, if◌then◌else◌, ◌==◌, ◌&&◌, ◌||◌, not, is_some}
 use Rattle.std.specs.Int.{is_negative}
 use Rattle.bpf_decode.specs.declared.insn.Operand.{Operand}
 use Rattle.bpf_decode.specs.declared.insn.Operand.TheVariants.{Immediate, Register}
@@ -12,19 +12,16 @@ use Rattle.bpf_machine.specs.declared.argument.Argument.TheVariants.{Number, Out
 use Rattle.bpf_machine.specs.Helper.{Takes, signature_of}
 use Rattle.bpf_machine.specs.Typed.{extended, fetch}
 use Rattle.verifier.specs.declared.rule.Rule.{Rule}
-use Rattle.verifier.specs.declared.rule.Rule.TheVariants.{Backward, Target, FallsOff, LocalCall, UnsetRead, WritesR10, PointerArithmetic, PointerCompare, PointerStored, Bounds, ReadOnlyRegion, UnknownHelper, HelperArgument, WriteHelperInReader, ReturnsPointer, NoMemory}
+use Rattle.verifier.specs.declared.rule.Rule.TheVariants.{Backward, Target, FallsOff, LocalCall, UnsetRead, WritesR10, PointerArithmetic, PointerCompare, PointerStored, Bounds, ReadOnlyRegion, UnknownHelper, HelperArgument, WriteHelperInReader, ReturnsPointer}
 use Rattle.verifier.specs.declared.fault.Fault.{Fault}
+use Rattle.verifier.specs.declared.frame.Frame.{Frame}
 use Rattle.verifier.specs.declared.fault.Fault.TheVariants.{NotSet, OutOfRegion, ReadOnly, WrongKind}
 use Rattle.verifier.specs.Kind.{is_unset, is_num, is_ptr, alu_refused, mov_refused, access_fits, is_read_only, is_at_most, range_leaves, range_is_read_only}
-use Rattle.verifier.specs.Frame.{Frame, kind_at, operand_kind}
+use Rattle.verifier.specs.Frame.{kind_at, operand_kind, target}
 
 -- an instruction begins at the slot
 abbrev pub begins_at : List (Option Insn) → ℕ → Bool
 begins_at code q = is_some (fetch code q)
-
--- where a jump at slot p goes: its offset counts from the slot after it (RFC 9669 section 4.3)
-abbrev pub target : ℕ → ℤ → ℕ
-target p offset = (p + 1 + extended offset) % 2 ^ 64
 
 abbrev pub is_backward : Insn → Bool
 is_backward (Jump offset) = is_negative offset
@@ -176,43 +173,58 @@ abbrev pub under : Option Frame → (Frame → Bool) → Bool
 under None test = false
 under (Some f) test = test f
 
--- The table of rules: whether a rule refuses instruction i at slot p. Rules 5 to 15 hold under a frame.
-abbrev pub breaks : Caps → List (Option Insn) → ℕ → Insn → Option Frame → Rule → Bool
-breaks caps code p i frame Backward = is_backward i
-breaks caps code p i frame Target = misses code p i
-breaks caps code p i frame FallsOff = falls_off code p i
-breaks caps code p i frame LocalCall = is_local_call i
-breaks caps code p i frame UnsetRead = under frame (λ f. reads_unset caps f i)
-breaks caps code p i frame WritesR10 = under frame (λ f. writes_r10 i)
-breaks caps code p i frame PointerArithmetic = under frame (λ f. computes_with_pointer f i)
-breaks caps code p i frame PointerCompare = under frame (λ f. compares_pointer f i)
-breaks caps code p i frame PointerStored = under frame (λ f. stores_pointer f i)
-breaks caps code p i frame Bounds = under frame (λ f. leaves_region caps f i)
-breaks caps code p i frame ReadOnlyRegion = under frame (λ f. writes_read_only caps f i)
-breaks caps code p i frame UnknownHelper = under frame (λ f. calls_unknown i)
-breaks caps code p i frame HelperArgument = under frame (λ f. passes_wrong_kind caps f i)
-breaks caps code p i frame WriteHelperInReader = under frame (λ f. writes_in_reader caps i)
-breaks caps code p i frame ReturnsPointer = under frame (λ f. returns_pointer f i)
--- no rule of an instruction
-breaks caps code p i frame NoMemory = false
+-- The table of rules, by their numbers: 1 to 4, of the shape of the code, whether a rule refuses instruction i at slot p,
+abbrev pub breaks_shape : List (Option Insn) → ℕ → Insn → Rule → Bool
+breaks_shape code p i Backward = is_backward i
+breaks_shape code p i Target = misses code p i
+breaks_shape code p i FallsOff = falls_off code p i
+breaks_shape code p i LocalCall = is_local_call i
+breaks_shape code p i rule = false
 
--- the rules of frames, by their numbers
+-- and 5 to 15, of what is known before it
+abbrev pub breaks_frame : Caps → Frame → Insn → Rule → Bool
+breaks_frame caps f i UnsetRead = reads_unset caps f i
+breaks_frame caps f i WritesR10 = writes_r10 i
+breaks_frame caps f i PointerArithmetic = computes_with_pointer f i
+breaks_frame caps f i PointerCompare = compares_pointer f i
+breaks_frame caps f i PointerStored = stores_pointer f i
+breaks_frame caps f i Bounds = leaves_region caps f i
+breaks_frame caps f i ReadOnlyRegion = writes_read_only caps f i
+breaks_frame caps f i UnknownHelper = calls_unknown i
+breaks_frame caps f i HelperArgument = passes_wrong_kind caps f i
+breaks_frame caps f i WriteHelperInReader = writes_in_reader caps i
+breaks_frame caps f i ReturnsPointer = returns_pointer f i
+breaks_frame caps f i rule = false
+
+-- whether a rule refuses instruction i at slot p, where there is such a frame
+abbrev pub breaks : Caps → List (Option Insn) → ℕ → Insn → Option Frame → Rule → Bool
+breaks caps code p i None rule = breaks_shape code p i rule
+breaks caps code p i (Some f) rule = breaks_shape code p i rule || breaks_frame caps f i rule
+
+abbrev pub shape_rules : List Rule
+shape_rules = Backward ∷ Target ∷ FallsOff ∷ LocalCall ∷ []
+
 abbrev pub frame_rules : List Rule
 frame_rules =
     UnsetRead ∷ WritesR10 ∷ PointerArithmetic ∷ PointerCompare ∷ PointerStored ∷ Bounds ∷ ReadOnlyRegion ∷ UnknownHelper ∷ HelperArgument ∷ WriteHelperInReader ∷ ReturnsPointer ∷ []
-
--- all rules, by their numbers
-abbrev pub in_order : List Rule
-in_order = Backward ∷ Target ∷ FallsOff ∷ LocalCall ∷ frame_rules
 
 abbrev pub first_broken : (Rule → Bool) → List Rule → Option Rule
 first_broken test [] = None
 first_broken test (rule ∷ rules) = if test rule then Some rule else first_broken test rules
 
+-- the lowest rule of the shape that refuses an instruction at a slot
+abbrev pub shape_rule : List (Option Insn) → ℕ → Insn → Option Rule
+shape_rule code p i = first_broken (breaks_shape code p i) shape_rules
+
+-- the lowest rule that refuses it under a frame
+abbrev pub frame_rule : Caps → Frame → Insn → Option Rule
+frame_rule caps f i = first_broken (breaks_frame caps f i) frame_rules
+
+abbrev pub else_under : Option Rule → Option Frame → (Frame → Option Rule) → Option Rule
+else_under (Some rule) frame rule_of = Some rule
+else_under None None rule_of = None
+else_under None (Some f) rule_of = rule_of f
+
 -- the lowest rule that refuses an instruction at a slot
 abbrev pub rule_at : Caps → List (Option Insn) → ℕ → Insn → Option Frame → Option Rule
-rule_at caps code p i frame = first_broken (breaks caps code p i frame) in_order
-
--- of rules 5 to 15, which the frame and the instruction decide
-abbrev pub rule_under : Caps → Frame → Insn → Option Rule
-rule_under caps f i = first_broken (breaks caps [] 0 i (Some f)) frame_rules
+rule_at caps code p i frame = else_under (shape_rule code p i) frame (λ f. frame_rule caps f i)

@@ -1,7 +1,6 @@
 -- The table of frames of a method, and the verdict on a class.
 use Rattle.std.specs.Prelude.{◌≡◌, ℕ, zero, suc, ◌+◌, ◌<◌, List, [], ◌∷◌, ◌++◌, Option, Some, None, true, if◌then◌else◌, ◌==◌, slice_get, length}
 use Rattle.bpf_decode.specs.declared.insn.Insn.{Insn}
-use Rattle.bpf_decode.specs.declared.insn.Insn.TheVariants.{Alu, Neg, Mov, MovSigned, End, LoadWide, Load, LoadSigned, Store, Jump, JumpLong, Branch, Call, CallLocal, Exit}
 use Rattle.bpf_decode.specs.Instruction.{slots}
 use Rattle.bpf_decode.specs.Class.{ClassMethod}
 use Rattle.bpf_machine.specs.declared.caps.Caps.{Caps}
@@ -11,28 +10,9 @@ use Rattle.bpf_machine.specs.Safe.{caps_of}
 use Rattle.verifier.specs.declared.rule.Rule.{Rule}
 use Rattle.verifier.specs.declared.rule.Rule.TheVariants.{NoMemory}
 use Rattle.verifier.specs.declared.refusal.Refusal.{Refusal}
-use Rattle.verifier.specs.declared.edges.Edges.{Edges}
-use Rattle.verifier.specs.declared.edges.Edges.TheVariants.{Leaves, One, Two}
-use Rattle.verifier.specs.Frame.{Frame, join, entry_frame, flow}
-use Rattle.verifier.specs.Rules.{target, breaks, rule_at}
-
--- where instruction i at slot p goes on
-abbrev pub edges : Insn → ℕ → Edges
-edges (Alu bits operation dst source) p = One (p + 1)
-edges (Neg bits dst) p = One (p + 1)
-edges (Mov bits dst source) p = One (p + 1)
-edges (MovSigned extension dst src) p = One (p + 1)
-edges (End order width dst) p = One (p + 1)
-edges (LoadWide dst value) p = One (p + 2)
-edges (Load width dst from offset) p = One (p + 1)
-edges (LoadSigned width dst from offset) p = One (p + 1)
-edges (Store width to offset source) p = One (p + 1)
-edges (Jump offset) p = One (target p offset)
-edges (JumpLong distance) p = One (target p distance)
-edges (Branch bits comparison dst source offset) p = Two (target p offset) (p + 1)
-edges (Call helper) p = One (p + 1)
-edges (CallLocal distance) p = Leaves
-edges Exit p = Leaves
+use Rattle.verifier.specs.declared.frame.Frame.{Frame}
+use Rattle.verifier.specs.Frame.{join, entry_frame, flow}
+use Rattle.verifier.specs.Rules.{breaks, rule_at}
 
 -- the frames of a method by slot, none where no flow comes
 abbrev pub Table : Type 0
@@ -46,12 +26,14 @@ abbrev pub joined : Option Frame → Frame → Frame
 joined None g = g
 joined (Some f) g = join f g
 
--- what has flowed into slot q, and a flow along edges more
-abbrev pub along : Edges → ℕ → Frame → Option Frame → Option Frame
-along Leaves q g inflow = inflow
-along (One a) q g inflow = if a == q then Some (joined inflow g) else inflow
-along (Two a b) q g inflow =
-    let first = if a == q then Some (joined inflow g) else inflow in if b == q then Some (joined first g) else first
+-- what has flowed into slot q, and a frame along an edge to slot a more
+abbrev pub met : ℕ → Frame → ℕ → Option Frame → Option Frame
+met a g q inflow = if a == q then Some (joined inflow g) else inflow
+
+-- and the frames along edges more
+abbrev pub along : List (ℕ × Frame) → ℕ → Option Frame → Option Frame
+along [] q inflow = inflow
+along (edge ∷ edges) q inflow = along edges q (met edge.0 edge.1 q inflow)
 
 -- a refused slot carries no flow
 abbrev pub unless_refused : Option Rule → Option Frame → Option Frame → Option Frame
@@ -63,16 +45,16 @@ abbrev pub flow_from : Caps → List (Option Insn) → ℕ → ℕ → Option In
 flow_from caps code p q None frame inflow = inflow
 flow_from caps code p q (Some i) None inflow = inflow
 flow_from caps code p q (Some i) (Some f) inflow =
-    unless_refused (rule_at caps code p i (Some f)) (along (edges i p) q (flow i f) inflow) inflow
+    unless_refused (rule_at caps code p i (Some f)) (along (flow i p f) q inflow) inflow
 
 -- what a method begins with, at slot 0
-abbrev pub start : ℕ → Option Frame
-start zero = Some entry_frame
-start (suc q) = None
+abbrev pub start : Caps → ℕ → Option Frame
+start caps zero = Some (entry_frame caps)
+start caps (suc q) = None
 
 -- the join of all that flows into slot q from the slots below n
 abbrev pub incoming : Caps → List (Option Insn) → Table → ℕ → ℕ → Option Frame
-incoming caps code table q zero = start q
+incoming caps code table q zero = start caps q
 incoming caps code table q (suc p) = flow_from caps code p q (fetch code p) (frame_at table p) (incoming caps code table q p)
 
 -- The frames of the first n slots: each is the join of all that flows into its slot from lower slots.

@@ -1,15 +1,17 @@
 ghost use Rattle.std.specs.Prelude.{◌≡◌, ◌<◌, ◌^◌};
-ghost use Rattle.verifier.specs.Rules.{target};
-ghost use Rattle.verifier.specs.Verdict.{edges};
+ghost use Rattle.verifier.specs.Frame.{target};
 
-use bpf_decode::{Insn, width};
-
-/// Where an instruction goes on: nowhere, at one slot, or at either of two.
+/// Where an instruction goes on.
 #[derive(Clone, Copy, Debug, PartialEq, Eq)]
 pub enum Edges {
+    /// Nowhere.
     Leaves,
-    One(usize),
-    Two(usize, usize),
+    /// To the instruction behind it.
+    Falls,
+    /// To a jump's target.
+    Jumps(usize),
+    /// To a jump's target, or else to the instruction behind it.
+    Branches(usize),
 }
 
 /// The slot to which a jump goes: its distance counts from the slot after it (RFC 9669 section 4.3).
@@ -18,22 +20,4 @@ pub fn jump_target(slot: usize, distance: i64) -> usize
     ensures { result ≡ target slot distance }
 {
     ((slot + 1) as u64).wrapping_add(distance.cast_unsigned()) as usize
-}
-
-impl Edges {
-    /// Where the instruction at that slot goes on.
-    pub fn of(insn: &Insn, slot: usize) -> Edges
-        requires { slot < 2 ^ 62 }
-        ensures { result ≡ edges insn.now slot }
-    {
-        match *insn {
-            Insn::Jump { offset } => Edges::One(jump_target(slot, i64::from(offset))),
-            Insn::JumpLong { distance } => Edges::One(jump_target(slot, i64::from(distance))),
-            Insn::Branch { offset, .. } => {
-                Edges::Two(jump_target(slot, i64::from(offset)), slot + 1)
-            }
-            Insn::Exit | Insn::CallLocal { distance: _ } => Edges::Leaves,
-            _ => Edges::One(slot + width(insn)),
-        }
-    }
 }

@@ -1,47 +1,39 @@
-ghost use Rattle.std.specs.Prelude.{◌≡◌, ◌<◌};
+ghost use Rattle.std.specs.Prelude.{◌≡◌, ◌<◌, ◌+◌, ◌^◌};
+ghost use Rattle.bpf_decode.specs.Instruction.{slot_count};
 ghost use Rattle.verifier.specs.Frame.{operand_kind, kind_at, with_kind, join, entry_frame, after_call, flow};
+ghost use Rattle.verifier.specs.Pass.{with_frame};
 
+use crate::edges::{Edges, jump_target};
 use crate::kind::Kind;
 use crate::known::Known;
 use bpf_decode::{Insn, Operand, Register};
-use bpf_machine::Region;
-use std::marker::Model;
+use bpf_machine::{Caps, Region};
 
-/// What is known of the eleven registers before an instruction. Contracts see the list of their kinds.
+/// What is known before an instruction: the kinds of the eleven registers.
 #[derive(Clone, Copy, Debug)]
 pub struct Frame {
-    kinds: [Kind; 11],
-}
-
-impl Model for Frame {
-    ghost use Rattle.std.specs.Prelude.{List};
-    ghost use Rattle.verifier.specs.declared.kind.Kind.{Kind};
-
-    ghost Value = { List Kind };
-
-    ghost view = { λ f. f.kinds };
-
-    ghost inverse = { λ kinds. record { kinds = kinds } };
+    pub(crate) registers: [Kind; 11],
 }
 
 impl Frame {
     /// As a method begins: 1 points to the input, 2 is its length, 3 points to the output, 10 to the stack's end.
-    pub fn entry() -> Frame
-        ensures { result ≡ entry_frame }
+    pub fn entry(caps: &Caps) -> Frame
+        ensures { result ≡ entry_frame caps.now }
     {
-        let mut kinds = [Kind::Unset; 11];
-        kinds[1] = Kind::Ptr(Region::Input, Known::constant(0));
-        kinds[2] = Kind::Num(Known::any());
-        kinds[3] = Kind::Ptr(Region::Output, Known::constant(0));
-        kinds[10] = Kind::Ptr(Region::Stack, Known::constant(512));
-        Frame { kinds }
+        let mut registers = [Kind::Unset; 11];
+        registers[1] = Kind::Ptr(Region::Input, Known::constant(0));
+        registers[2] = Kind::Num(Known::any());
+        registers[3] = Kind::Ptr(Region::Output, Known::constant(0));
+        let end = caps.size(Region::Stack) as u64;
+        registers[10] = Kind::Ptr(Region::Stack, Known::constant(end));
+        Frame { registers }
     }
 
     /// The kind of the register of that number; past 10 it is Unset.
     pub fn kind(&self, register: usize) -> Kind
         ensures { result ≡ kind_at self.now register }
     {
-        match self.kinds.get(register) {
+        match self.registers.get(register) {
             None => Kind::Unset,
             Some(kind) => *kind,
         }
@@ -51,32 +43,28 @@ impl Frame {
     fn set(&mut self, dst: Register, kind: Kind)
         ensures { self.new ≡ with_kind self.old dst kind }
     {
-        self.kinds[usize::from(dst.number())] = kind;
+        self.registers[usize::from(dst.number())] = kind;
     }
 
-    /// What two flows that meet leave.
-    pub fn join(self, other: Frame) -> Frame
-        ensures { result ≡ join self other }
+    /// What it and a later flow that meets it leave.
+    pub fn join(&mut self, other: &Frame)
+        ensures { self.new ≡ join self.old other.now }
     {
-        let ours = self.kinds;
-        let others = other.kinds;
-        let mut kinds = ours;
         for i in 0..11 {
-            kinds[i] = ours[i].join(others[i]);
+            self.registers[i] = self.registers[i].join(other.registers[i]);
         }
-        Frame { kinds }
     }
 
     /// A helper answers any number in register 0 and leaves registers 1 to 5 unset.
     fn end_call(&mut self)
         ensures { self.new ≡ after_call self.old }
     {
-        self.kinds[0] = Kind::Num(Known::any());
-        self.kinds[1] = Kind::Unset;
-        self.kinds[2] = Kind::Unset;
-        self.kinds[3] = Kind::Unset;
-        self.kinds[4] = Kind::Unset;
-        self.kinds[5] = Kind::Unset;
+        self.registers[0] = Kind::Num(Known::any());
+        self.registers[1] = Kind::Unset;
+        self.registers[2] = Kind::Unset;
+        self.registers[3] = Kind::Unset;
+        self.registers[4] = Kind::Unset;
+        self.registers[5] = Kind::Unset;
     }
 
     /// The kind of what an instruction reads beside its destination.
@@ -91,9 +79,10 @@ impl Frame {
         }
     }
 
-    /// Goes on to the frame after an instruction that no rule refuses.
-    pub fn flow(&mut self, insn: &Insn)
-        ensures { self.new ≡ flow insn.now self.old }
+    /// Goes on from the instruction at a slot, which no rule refuses, to the frame after it, and gives its edges.
+    pub fn flow(&mut self, insn: &Insn, slot: usize) -> Edges
+        requires { slot < 2 ^ 62 }
+        ensures { flow insn.now slot self.old ≡ with_frame result (slot + slot_count insn.now) self.new }
     {
         match *insn {
             Insn::Alu {
@@ -105,14 +94,17 @@ impl Frame {
                 let x = self.kind(usize::from(dst.number()));
                 let y = self.operand(source);
                 self.set(dst, Kind::alu(bits, operation, x, y));
+                Edges::Falls
             }
             Insn::Neg { bits, dst } => {
                 let x = self.kind(usize::from(dst.number()));
                 self.set(dst, x.neg(bits));
+                Edges::Falls
             }
             Insn::Mov { bits, dst, source } => {
                 let y = self.operand(source);
                 self.set(dst, y.mov(bits));
+                Edges::Falls
             }
             Insn::MovSigned {
                 extension,
@@ -121,22 +113,30 @@ impl Frame {
             } => {
                 let y = self.kind(usize::from(src.number()));
                 self.set(dst, y.mov_signed(extension));
+                Edges::Falls
             }
             Insn::End { order, width, dst } => {
                 let x = self.kind(usize::from(dst.number()));
                 self.set(dst, x.end(order, width));
+                Edges::Falls
             }
-            Insn::LoadWide { dst, value } => self.set(dst, Kind::Num(Known::constant(value))),
+            Insn::LoadWide { dst, value } => {
+                self.set(dst, Kind::Num(Known::constant(value)));
+                Edges::Falls
+            }
             Insn::Load { dst, .. } | Insn::LoadSigned { dst, .. } => {
                 self.set(dst, Kind::Num(Known::any()));
+                Edges::Falls
             }
-            Insn::Call { .. } => self.end_call(),
-            Insn::Store { .. }
-            | Insn::Jump { .. }
-            | Insn::JumpLong { .. }
-            | Insn::Branch { .. }
-            | Insn::CallLocal { .. }
-            | Insn::Exit => {}
+            Insn::Call { .. } => {
+                self.end_call();
+                Edges::Falls
+            }
+            Insn::Store { .. } => Edges::Falls,
+            Insn::Jump { offset } => Edges::Jumps(jump_target(slot, i64::from(offset))),
+            Insn::JumpLong { distance } => Edges::Jumps(jump_target(slot, i64::from(distance))),
+            Insn::Branch { offset, .. } => Edges::Branches(jump_target(slot, i64::from(offset))),
+            Insn::CallLocal { .. } | Insn::Exit => Edges::Leaves,
         }
     }
 }

@@ -9,6 +9,7 @@ mod class;
 mod edges;
 mod fault;
 mod frame;
+mod kept;
 mod kind;
 mod known;
 mod laws;

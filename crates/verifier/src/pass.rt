@@ -1,15 +1,27 @@
-ghost use Rattle.std.specs.Prelude.{◌≡◌, ◌<◌, ◌^◌, length, IfOk};
+ghost use Rattle.std.specs.Prelude.{◌≡◌, ◌+◌, ◌<◌, ◌^◌, length, IfOk, Some, None, replicate, slice_set};
 ghost use Rattle.verifier.specs.Rules.{rule_at};
-ghost use Rattle.verifier.specs.Verdict.{frame_at, code_verdict};
-ghost use Rattle.verifier.specs.Pass.{merged, merged_each, visited, first_table};
+ghost use Rattle.verifier.specs.Verdict.{code_verdict};
+ghost use Rattle.verifier.specs.Frame.{entry_frame};
+ghost use Rattle.verifier.specs.Pass.{IsSpaced, awaited, HasLeft};
 
 use crate::edges::Edges;
 use crate::frame::Frame;
+use crate::kept::Kept;
 use crate::rule::Rule;
 use crate::rules::refusing_rule;
-use bpf_decode::Insn;
+use bpf_decode::{Insn, width};
 use bpf_machine::Caps;
 use std::alloc::{AllocError, Global};
+
+/// What the pass over a method has of the flows into the slots to come: one frame, which is changed in place from
+/// instruction to instruction, and for each target of a jump the join of what has flowed to it.
+#[derive(Drop)]
+pub struct Pass {
+    /// The frame that falls through to the slot `landing`; at a slot, its frame.
+    current: Option<Frame>,
+    landing: usize,
+    kept: Kept,
+}
 
 /// The first refused slot of a method, given what begins at each slot, and the lowest rule that refuses it.
 /// One pass over the slots in order, since no flow that is not refused goes back: its cost is linear in their number.
@@ -18,13 +30,14 @@ pub fn first_refusal(
     caps: &Caps,
     code: &[Option<Insn>],
 ) -> Result<Option<(usize, Rule)>, AllocError>
-    requires { length code.now < 2 ^ 62 }
+    requires small { length code.now < 2 ^ 62 }
+    requires spaced { IsSpaced code.now }
     ensures { IfOk result (λ r. r ≡ code_verdict caps.now code.now) }
 {
-    let mut table = first_table(alloc, code.len())?;
+    let mut pass = Pass::new(alloc, caps, code.len())?;
     for (slot, begun) in code.iter().enumerate() {
         if let Some(insn) = begun {
-            if let Some(rule) = visit(caps, code, slot, insn, &mut table) {
+            if let Some(rule) = pass.visit(alloc, caps, code, slot, insn)? {
                 return Ok(Some((slot, rule)));
             }
         }
@@ -32,65 +45,74 @@ pub fn first_refusal(
     Ok(None)
 }
 
-/// No frame but that of slot 0.
-fn first_table(alloc: Global, slots: usize) -> Result<Vec<Option<Frame>>, AllocError>
-    ensures { IfOk result (λ v. v.items ≡ first_table slots) }
-{
-    let mut table = vec![in alloc; None; slots]?;
-    if let Some(first) = table.get_mut(0) {
-        *first = Some(Frame::entry());
+impl Pass {
+    /// Before slot 0, with the frame that a method begins with.
+    fn new(alloc: Global, caps: &Caps, slots: usize) -> Result<Pass, AllocError>
+        ensures kept { IfOk result (λ p. p.kept ≡ replicate slots None) }
+        ensures current { IfOk result (λ p. p.current ≡ Some (entry_frame caps.now)) }
+        ensures landing { IfOk result (λ p. p.landing ≡ 0) }
+    {
+        Ok(Pass {
+            current: Some(Frame::entry(caps)),
+            landing: 0,
+            kept: Kept::new(alloc, slots)?,
+        })
     }
-    Ok(table)
-}
 
-/// One slot: the rule that refuses its instruction, or its frame flows on into the table.
-fn visit(
-    caps: &Caps,
-    code: &[Option<Insn>],
-    slot: usize,
-    insn: &Insn,
-    table: &mut Vec<Option<Frame>>,
-) -> Option<Rule>
-    requires { slot < 2 ^ 62 }
-    ensures rule { result ≡ rule_at caps.now code.now slot insn.now (frame_at table.old.items slot) }
-    ensures table { table.new.items ≡ visited caps.now code.now slot insn.now table.old.items }
-{
-    let mut frame = match table.get(slot) {
-        None => None,
-        Some(frame) => *frame,
-    };
-    let refused = refusing_rule(caps, code, slot, insn, &frame);
-    if let None = refused {
-        if let Some(frame) = &mut frame {
-            frame.flow(insn);
-            merge_each(table, Edges::of(insn, slot), frame);
+    /// One slot: the rule that refuses its instruction, or its frame flows on.
+    fn visit(
+        &mut self,
+        alloc: Global,
+        caps: &Caps,
+        code: &[Option<Insn>],
+        slot: usize,
+        insn: &Insn,
+    ) -> Result<Option<Rule>, AllocError>
+        requires { slot < 2 ^ 62 }
+        ensures rule { IfOk result (λ r. r ≡ rule_at caps.now code.now slot insn.now (awaited self.old slot)) }
+        ensures left { IfOk result (λ r. (r ≡ None) → HasLeft (awaited self.old slot) (slice_set self.old.kept slot None) insn.now slot self.new) }
+    {
+        self.arrive(slot);
+        let refused = refusing_rule(caps, code, slot, insn, &self.current);
+        if let None = refused {
+            self.leave(alloc, slot, insn)?;
+        }
+        Ok(refused)
+    }
+
+    /// Comes to a slot: what falls through to it joins what is kept for it.
+    fn arrive(&mut self, slot: usize)
+        ensures current { self.new.current ≡ awaited self.old slot }
+        ensures kept { self.new.kept ≡ slice_set self.old.kept slot None }
+    {
+        if self.landing != slot {
+            self.current = None;
+        }
+        if let Some(mut first) = self.kept.take(slot) {
+            if let Some(fallen) = &self.current {
+                first.join(fallen);
+            }
+            self.current = Some(first);
         }
     }
-    refused
-}
 
-/// A flow along each edge.
-fn merge_each(table: &mut Vec<Option<Frame>>, edges: Edges, flow: &Frame)
-    ensures { table.new.items ≡ merged_each table.old.items edges flow.now }
-{
-    match edges {
-        Edges::Leaves => {}
-        Edges::One(slot) => merge(table, slot, flow),
-        Edges::Two(slot, other) => {
-            merge(table, slot, flow);
-            merge(table, other, flow);
+    /// Goes on from a slot, whose instruction no rule refuses.
+    fn leave(&mut self, alloc: Global, slot: usize, insn: &Insn) -> Result<(), AllocError>
+        requires { slot < 2 ^ 62 }
+        ensures { IfOk result (λ _. HasLeft self.old.current self.old.kept insn.now slot self.new) }
+    {
+        self.landing = slot + width(insn);
+        if let Some(frame) = &mut self.current {
+            match frame.flow(insn, slot) {
+                Edges::Leaves => self.current = None,
+                Edges::Falls => {}
+                Edges::Jumps(target) => {
+                    self.kept.keep(alloc, target, frame)?;
+                    self.current = None;
+                }
+                Edges::Branches(target) => self.kept.keep(alloc, target, frame)?,
+            }
         }
-    }
-}
-
-/// A flow into a slot, joined with what has flowed into it.
-fn merge(table: &mut Vec<Option<Frame>>, slot: usize, flow: &Frame)
-    ensures { table.new.items ≡ merged table.old.items slot flow.now }
-{
-    if let Some(place) = table.get_mut(slot) {
-        match place {
-            None => *place = Some(*flow),
-            Some(frame) => *frame = frame.join(*flow),
-        }
+        Ok(())
     }
 }

@@ -1,5 +1,5 @@
 ghost use Rattle.std.specs.Prelude.{◌≡◌, ◌<◌, ◌≤◌, ◌^◌, length};
-ghost use Rattle.verifier.specs.Rules.{begins_at, is_backward, misses, falls_off, is_local_call, reads_unset, writes_r10, computes_with_pointer, compares_pointer, stores_pointer, leaves_region, writes_read_only, calls_unknown, passes_wrong_kind, writes_in_reader, returns_pointer, operand_is_unset, rule_at, rule_under};
+ghost use Rattle.verifier.specs.Rules.{begins_at, is_backward, misses, falls_off, is_local_call, reads_unset, writes_r10, computes_with_pointer, compares_pointer, stores_pointer, leaves_region, writes_read_only, calls_unknown, passes_wrong_kind, writes_in_reader, returns_pointer, operand_is_unset, rule_at, shape_rule, frame_rule};
 ghost use Rattle.verifier.specs.Kind.{is_unset, is_ptr, access_fits};
 ghost use Rattle.verifier.specs.Frame.{kind_at};
 ghost use Rattle.bpf_machine.specs.Typed.{extended};
@@ -23,27 +23,36 @@ pub fn refusing_rule(
     requires { slot < 2 ^ 62 }
     ensures { result ≡ rule_at caps.now code.now slot insn.now frame.now }
 {
+    match shape_rule(code, slot, insn) {
+        Some(rule) => Some(rule),
+        None => match frame {
+            None => None,
+            Some(frame) => frame_rule(caps, frame, insn),
+        },
+    }
+}
+
+/// The lowest of rules 1 to 4 that refuses the instruction at a slot.
+fn shape_rule(code: &[Option<Insn>], slot: usize, insn: &Insn) -> Option<Rule>
+    requires { slot < 2 ^ 62 }
+    ensures { result ≡ shape_rule code.now slot insn.now }
+{
     if is_backward(insn) {
-        return Some(Rule::Backward);
-    }
-    if misses(code, slot, insn) {
-        return Some(Rule::Target);
-    }
-    if falls_off(code, slot, insn) {
-        return Some(Rule::FallsOff);
-    }
-    if is_local_call(insn) {
-        return Some(Rule::LocalCall);
-    }
-    match frame {
-        None => None,
-        Some(frame) => rule_under(caps, frame, insn),
+        Some(Rule::Backward)
+    } else if misses(code, slot, insn) {
+        Some(Rule::Target)
+    } else if falls_off(code, slot, insn) {
+        Some(Rule::FallsOff)
+    } else if is_local_call(insn) {
+        Some(Rule::LocalCall)
+    } else {
+        None
     }
 }
 
 /// The lowest of rules 5 to 15 that refuses the instruction under a frame.
-fn rule_under(caps: &Caps, frame: &Frame, insn: &Insn) -> Option<Rule>
-    ensures { result ≡ rule_under caps.now frame.now insn.now }
+fn frame_rule(caps: &Caps, frame: &Frame, insn: &Insn) -> Option<Rule>
+    ensures { result ≡ frame_rule caps.now frame.now insn.now }
 {
     if reads_unset(caps, frame, insn) {
         Some(Rule::UnsetRead)

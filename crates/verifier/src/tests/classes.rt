@@ -1,22 +1,22 @@
-//! Whole classes: which method is refused, what a verified one keeps, every byte of an image, and the largest class.
+//! Whole classes: which method is refused, what a verified one keeps, and every byte of an image.
 
 use super::method;
 use crate::{Op, Refusal, Rule, one_table, verify};
-use bpf_decode::{Bits, ClassImage, Insn, Method, Operand, Register, encode, read_image};
+use bpf_decode::{ClassImage, Method, Register, encode, read_image};
 use bpf_machine::{Caps, Ending, Layout, flat_run, is_layout};
 use std::alloc::Global;
 use std::process::Abort;
 use std::test::Fail;
 
-const EXIT: [u8; 8] = [0x95, 0, 0, 0, 0, 0, 0, 0];
+const EXIT: u64 = 0x9500000000000000;
 
-const MOV_R0_0: [u8; 8] = [0xb7, 0, 0, 0, 0, 0, 0, 0];
+const MOV_R0_0: u64 = 0xb700000000000000;
 
-const LDDW_R0: [u8; 8] = [0x18, 0, 0, 0, 7, 0, 0, 0];
+const LDDW_R0_7: u64 = 0x1800000007000000;
 
-const HALF: [u8; 8] = [0, 0, 0, 0, 0, 0, 0, 0];
+const HALF: u64 = 0;
 
-const JA_0: [u8; 8] = [0x05, 0, 0, 0, 0, 0, 0, 0];
+const JA_0: u64 = 0x0500000000000000;
 
 /// A method `f` of flags 1 and no input and output: `mov r0, 0`, `exit`.
 const IMAGE: [u8; 33] = [
@@ -24,39 +24,43 @@ const IMAGE: [u8; 33] = [
     0x95, 0, 0, 0, 0, 0, 0, 0,
 ];
 
-const RULES: [(Rule, u8, &str); 16] = [
-    (Rule::Backward, 1, "1 Backward"),
-    (Rule::Target, 2, "2 Target"),
-    (Rule::FallsOff, 3, "3 FallsOff"),
-    (Rule::LocalCall, 4, "4 LocalCall"),
-    (Rule::UnsetRead, 5, "5 UnsetRead"),
-    (Rule::WritesR10, 6, "6 WritesR10"),
-    (Rule::PointerArithmetic, 7, "7 PointerArithmetic"),
-    (Rule::PointerCompare, 8, "8 PointerCompare"),
-    (Rule::PointerStored, 9, "9 PointerStored"),
-    (Rule::Bounds, 10, "10 Bounds"),
-    (Rule::ReadOnlyRegion, 11, "11 ReadOnlyRegion"),
-    (Rule::UnknownHelper, 12, "12 UnknownHelper"),
-    (Rule::HelperArgument, 13, "13 HelperArgument"),
-    (Rule::WriteHelperInReader, 14, "14 WriteHelperInReader"),
-    (Rule::ReturnsPointer, 15, "15 ReturnsPointer"),
-    (Rule::NoMemory, 16, "16 NoMemory"),
+const RULES: [(Rule, &str); 16] = [
+    (Rule::Backward, "1 Backward"),
+    (Rule::Target, "2 Target"),
+    (Rule::FallsOff, "3 FallsOff"),
+    (Rule::LocalCall, "4 LocalCall"),
+    (Rule::UnsetRead, "5 UnsetRead"),
+    (Rule::WritesR10, "6 WritesR10"),
+    (Rule::PointerArithmetic, "7 PointerArithmetic"),
+    (Rule::PointerCompare, "8 PointerCompare"),
+    (Rule::PointerStored, "9 PointerStored"),
+    (Rule::Bounds, "10 Bounds"),
+    (Rule::ReadOnlyRegion, "11 ReadOnlyRegion"),
+    (Rule::UnknownHelper, "12 UnknownHelper"),
+    (Rule::HelperArgument, "13 HelperArgument"),
+    (Rule::WriteHelperInReader, "14 WriteHelperInReader"),
+    (Rule::ReturnsPointer, "15 ReturnsPointer"),
+    (Rule::NoMemory, "16 NoMemory"),
 ];
 
 #[test]
 fn names_rules(rt: HostRuntime) -> Result<(), Fail> {
-    for (rule, number, text) in RULES {
-        assert_eq!(rt; rule.number(), number);
+    for (rule, text) in RULES {
         assert_eq!(rt; format!(in rt.alloc(); "{rule}")?.as_str(), text);
     }
+    Ok(())
+}
+
+#[test]
+fn prints_refusals(rt: HostRuntime) -> Result<(), Fail> {
     let refusal = Refusal {
         method: 0,
-        slot: 0,
+        slot: 12,
         rule: Rule::UnsetRead,
     };
     assert_eq!(rt;
         format!(in rt.alloc(); "{refusal}")?.as_str(),
-        "refused method 0 slot 0: 5 UnsetRead"
+        "refused method 0 slot 12: 5 UnsetRead"
     );
     Ok(())
 }
@@ -77,23 +81,32 @@ fn finds_the_first_method(rt: HostRuntime) -> Result<(), Fail> {
     Ok(())
 }
 
+/// A class of one method `f`, which has flags 2, in_cap 3 and out_cap 4.
+fn image(alloc: Global) -> Result<ClassImage, Fail> {
+    let mut methods = Vec::new(alloc);
+    methods.push(method(alloc, "f", &[JA_0, LDDW_R0_7, HALF, EXIT], 2, 3, 4)?)?;
+    Ok(ClassImage::new(methods)?)
+}
+
 #[test]
-fn keeps_what_a_run_takes(rt: HostRuntime) -> Result<(), Fail> {
-    let mut methods = Vec::new(rt.alloc());
-    methods.push(method(rt.alloc(), "f", &[JA_0, LDDW_R0, HALF, EXIT], 2, 3, 4)?)?;
+fn keeps_what_is_declared(rt: HostRuntime) -> Result<(), Fail> {
     one_table();
-    let class = verify(rt.alloc(), &ClassImage::new(methods)?)?;
-    assert_eq!(rt; class.methods().len(), 1);
-    assert!(rt; class.method("g").is_none());
+    let class = verify(rt.alloc(), &image(rt.alloc())?)?;
     let found = class.method("f").ok_or("no method")?;
-    assert_eq!(rt; found.name(), "f");
-    assert_eq!(rt; found.count(), 3);
     let caps = Caps {
         in_cap: 3,
         out_cap: 4,
         writes: true,
     };
-    assert_eq!(rt; found.caps(), caps);
+    assert_eq!(rt; (found.name(), found.count(), found.caps()), ("f", 3, caps));
+    assert!(rt; class.method("g").is_none());
+    Ok(())
+}
+
+#[test]
+fn keeps_what_a_run_takes(rt: HostRuntime) -> Result<(), Fail> {
+    let class = verify(rt.alloc(), &image(rt.alloc())?)?;
+    let found = class.methods().first().ok_or("no method")?;
     let dst = Register::new(0).ok_or("no register")?;
     let ops = [
         Op::Jump { target: 1 },
@@ -131,50 +144,35 @@ fn exits<R: Abort>(
     }
 }
 
+/// Where the bytes are an image of a class that is accepted, runs its methods; whether they are.
+fn exits_if_accepted<R: Abort>(rt: &R, alloc: Global, bytes: &[u8]) -> Result<bool, Fail> {
+    let Ok(image) = read_image(alloc, bytes) else {
+        return Ok(false);
+    };
+    let Ok(class) = verify(alloc, &image) else {
+        return Ok(false);
+    };
+    for (verified, method) in class.methods().iter().zip(image.methods()) {
+        let caps = verified.caps();
+        exits(rt, alloc, method, &caps, 0, 0)?;
+        exits(rt, alloc, method, &caps, 0xff, usize::from(caps.in_cap))?;
+    }
+    Ok(true)
+}
+
 #[test]
 fn runs_what_it_accepts(rt: HostRuntime) -> Result<(), Fail> {
-    let alloc = rt.alloc();
     let mut accepted = 0usize;
     for place in 0..IMAGE.len() {
         for byte in 0..=255u8 {
             let mut bytes = IMAGE;
             bytes[place] = byte;
-            let Ok(image) = read_image(alloc, &bytes) else {
-                continue;
-            };
-            let Ok(class) = verify(alloc, &image) else {
-                continue;
-            };
-            accepted = accepted.wrapping_add(1);
-            for (verified, method) in class.methods().iter().zip(image.methods()) {
-                let caps = verified.caps();
-                exits(&rt, alloc, method, &caps, 0, 0)?;
-                exits(&rt, alloc, method, &caps, 0, usize::from(caps.in_cap))?;
-                exits(&rt, alloc, method, &caps, 0xff, usize::from(caps.in_cap))?;
+            if exits_if_accepted(&rt, rt.alloc(), &bytes)? {
+                accepted = accepted.wrapping_add(1);
             }
         }
     }
     // the image as it stands, 33 times, and others
     assert!(rt; accepted > 33);
-    Ok(())
-}
-
-#[test]
-fn verifies_the_largest_class(rt: HostRuntime) -> Result<(), Fail> {
-    let alloc = rt.alloc();
-    let zero = Insn::Mov {
-        bits: Bits::Bits64,
-        dst: Register::new(0).ok_or("no register")?,
-        source: Operand::Immediate(0),
-    };
-    let mut methods = Vec::new(alloc);
-    for number in 10..42 {
-        let mut code = vec![in alloc; zero; 4095]?;
-        code.push(Insn::Exit)?;
-        let name = format!(in alloc; "m{number}")?;
-        methods.push(Method::new(name, 1, 0, 0, code))?;
-    }
-    let class = verify(alloc, &ClassImage::new(methods)?)?;
-    assert_eq!(rt; class.methods().len(), 32);
     Ok(())
 }

@@ -1,267 +1,51 @@
 //! What a run takes for each form of instruction.
 
-use crate::{Op, verify};
-use bpf_decode::{
-    Arithmetic, Bits, ByteOrder, ClassImage, Comparison, EndWidth, Insn, Method, Operand, Register,
-    SignedMove, SignedWidth, Width,
-};
-use std::alloc::Global;
+use super::method;
+use crate::verify;
+use bpf_decode::ClassImage;
 use std::test::Fail;
 
-/// Register 0.
-fn r0() -> Result<Register, Fail> {
-    Ok(Register::new(0).ok_or("no register")?)
-}
-
-/// Register 10.
-fn r10() -> Result<Register, Fail> {
-    Ok(Register::new(10).ok_or("no register")?)
-}
-
-/// Arithmetic and moves, each with what a run takes for it.
-fn arithmetic(alloc: Global) -> Result<Vec<(Insn, Op)>, Fail> {
-    let dst = r0()?;
-    let imm = Operand::Immediate(7);
-    let reg = Operand::Register(dst);
-    let (narrow, wide) = (Bits::Bits32, Bits::Bits64);
-    let operation = Arithmetic::Xor;
-    let extension = SignedMove::Half32;
-    Ok(vec![in alloc;
-        (
-            Insn::Mov {
-                bits: wide,
-                dst,
-                source: imm
-            },
-            Op::MovImmediate64 { dst, imm: 7 }
-        ),
-        (
-            Insn::Mov {
-                bits: wide,
-                dst,
-                source: reg
-            },
-            Op::MovRegister64 { dst, src: dst }
-        ),
-        (
-            Insn::Mov {
-                bits: narrow,
-                dst,
-                source: imm
-            },
-            Op::MovImmediate32 { dst, imm: 7 }
-        ),
-        (
-            Insn::Mov {
-                bits: narrow,
-                dst,
-                source: reg
-            },
-            Op::MovRegister32 { dst, src: dst }
-        ),
-        (
-            Insn::Alu {
-                bits: wide,
-                operation,
-                dst,
-                source: imm
-            },
-            Op::AluImmediate64 {
-                operation,
-                dst,
-                imm: 7
-            }
-        ),
-        (
-            Insn::Alu {
-                bits: wide,
-                operation,
-                dst,
-                source: reg
-            },
-            Op::AluRegister64 {
-                operation,
-                dst,
-                src: dst
-            }
-        ),
-        (
-            Insn::Alu {
-                bits: narrow,
-                operation,
-                dst,
-                source: imm
-            },
-            Op::AluImmediate32 {
-                operation,
-                dst,
-                imm: 7
-            }
-        ),
-        (
-            Insn::Alu {
-                bits: narrow,
-                operation,
-                dst,
-                source: reg
-            },
-            Op::AluRegister32 {
-                operation,
-                dst,
-                src: dst
-            }
-        ),
-        (
-            Insn::Neg { bits: narrow, dst },
-            Op::Neg { bits: narrow, dst }
-        ),
-        (
-            Insn::MovSigned {
-                extension,
-                dst,
-                src: dst
-            },
-            Op::MovSigned {
-                extension,
-                dst,
-                src: dst
-            }
-        ),
-        (
-            Insn::End {
-                order: ByteOrder::ToBig,
-                width: EndWidth::End32,
-                dst
-            },
-            Op::End {
-                order: ByteOrder::ToBig,
-                width: EndWidth::End32,
-                dst
-            }
-        ),
-    ]?)
-}
-
-/// Loads, stores, jumps and the exit, to stand from slot 11 on, each with what a run takes for it.
-fn others(alloc: Global) -> Result<Vec<(Insn, Op)>, Fail> {
-    let dst = r0()?;
-    let base = r10()?;
-    let imm = Operand::Immediate(7);
-    let reg = Operand::Register(dst);
-    let comparison = Comparison::SignedLess;
-    let (bits, narrow) = (Bits::Bits64, Bits::Bits32);
-    let (width, signed) = (Width::Double, SignedWidth::Half);
-    Ok(vec![in alloc;
-        (
-            Insn::Load {
-                width,
-                dst,
-                base,
-                offset: -8
-            },
-            Op::Load {
-                width,
-                dst,
-                base,
-                offset: -8
-            }
-        ),
-        (
-            Insn::LoadSigned {
-                width: signed,
-                dst,
-                base,
-                offset: -2
-            },
-            Op::LoadSigned {
-                width: signed,
-                dst,
-                base,
-                offset: -2
-            }
-        ),
-        (
-            Insn::Store {
-                width,
-                base,
-                offset: -16,
-                source: imm
-            },
-            Op::StoreImmediate {
-                width,
-                base,
-                offset: -16,
-                imm: 7
-            }
-        ),
-        (
-            Insn::Store {
-                width,
-                base,
-                offset: -8,
-                source: reg
-            },
-            Op::StoreRegister {
-                width,
-                base,
-                offset: -8,
-                src: dst
-            }
-        ),
-        (Insn::Jump { offset: 0 }, Op::Jump { target: 16 }),
-        (Insn::JumpLong { distance: 1 }, Op::Jump { target: 18 }),
-        (
-            Insn::Branch {
-                bits,
-                comparison,
-                dst,
-                source: imm,
-                offset: 1
-            },
-            Op::BranchImmediate {
-                bits,
-                comparison,
-                dst,
-                imm: 7,
-                target: 19
-            }
-        ),
-        (
-            Insn::Branch {
-                bits: narrow,
-                comparison,
-                dst,
-                source: reg,
-                offset: 0
-            },
-            Op::BranchRegister {
-                bits: narrow,
-                comparison,
-                dst,
-                src: dst,
-                target: 19
-            }
-        ),
-        (Insn::Exit, Op::Exit),
-    ]?)
-}
+/// The slots of a method, one a line, each with what a run takes there.
+const OPS: &str = "b700000007000000 MovImmediate64 { dst: Register { number: 0 }, imm: 7 }
+bf00000000000000 MovRegister64 { dst: Register { number: 0 }, src: Register { number: 0 } }
+b400000007000000 MovImmediate32 { dst: Register { number: 0 }, imm: 7 }
+bc00000000000000 MovRegister32 { dst: Register { number: 0 }, src: Register { number: 0 } }
+a700000007000000 AluImmediate64 { operation: Xor, dst: Register { number: 0 }, imm: 7 }
+af00000000000000 AluRegister64 { operation: Xor, dst: Register { number: 0 }, src: Register { number: 0 } }
+a400000007000000 AluImmediate32 { operation: Xor, dst: Register { number: 0 }, imm: 7 }
+ac00000000000000 AluRegister32 { operation: Xor, dst: Register { number: 0 }, src: Register { number: 0 } }
+8400000000000000 Neg { bits: Bits32, dst: Register { number: 0 } }
+bc00100000000000 MovSigned { extension: Half32, dst: Register { number: 0 }, src: Register { number: 0 } }
+dc00000020000000 End { order: ToBig, width: End32, dst: Register { number: 0 } }
+7a0af8ff07000000 StoreImmediate { width: Double, base: Register { number: 10 }, offset: -8, imm: 7 }
+7b0af8ff00000000 StoreRegister { width: Double, base: Register { number: 10 }, offset: -8, src: Register { number: 0 } }
+79a0f8ff00000000 Load { width: Double, dst: Register { number: 0 }, base: Register { number: 10 }, offset: -8 }
+89a0feff00000000 LoadSigned { width: Half, dst: Register { number: 0 }, base: Register { number: 10 }, offset: -2 }
+0500000000000000 Jump { target: 16 }
+0600000001000000 Jump { target: 18 }
+c500010007000000 BranchImmediate { bits: Bits64, comparison: SignedLess, dst: Register { number: 0 }, imm: 7, target: 19 }
+ce00000000000000 BranchRegister { bits: Bits32, comparison: SignedLess, dst: Register { number: 0 }, src: Register { number: 0 }, target: 19 }
+1800000007000000 LoadWide { dst: Register { number: 0 }, value: 7 }
+0000000000000000 Never
+9500000000000000 Exit
+";
 
 #[test]
 fn gives_each_form(rt: HostRuntime) -> Result<(), Fail> {
     let alloc = rt.alloc();
-    let mut rows = arithmetic(alloc)?;
-    rows.extend_from_slice(&others(alloc)?)?;
     let mut code = Vec::new(alloc);
-    let mut ops = Vec::new(alloc);
-    for (insn, op) in &rows {
-        code.push(*insn)?;
-        ops.push(*op)?;
+    for row in OPS.lines() {
+        let (slot, _) = row.split_once(' ').ok_or("no slot")?;
+        code.push(u64::from_str_radix(slot, 16)?)?;
     }
-    let name = String::from_str(alloc, "f")?;
     let mut methods = Vec::new(alloc);
-    methods.push(Method::new(name, 1, 0, 0, code))?;
+    methods.push(method(alloc, "f", &code, 1, 0, 0)?)?;
     let class = verify(alloc, &ClassImage::new(methods)?)?;
     let found = class.method("f").ok_or("no method")?;
-    assert_eq!(rt; found.ops(), ops.as_slice());
+    for (op, row) in found.ops().iter().zip(OPS.lines()) {
+        let (_, want) = row.split_once(' ').ok_or("no operation")?;
+        assert_eq!(rt; format!(in alloc; "{op:?}")?.as_str(), want);
+    }
+    assert_eq!(rt; found.ops().len(), 22);
     Ok(())
 }

@@ -3,44 +3,45 @@ use Rattle.std.specs.Prelude.{slice_get}
 use Rattle.std.proofs.lemmas.Option.{slice_get_read}
 use Rattle.bpf_machine.specs.State.{◌>>=◌}
 use Rattle.verifier.proofs.Tables.{Brought, refused_at, refused_over, brought_more, brought_over}
-use Rattle.verifier.proofs.pass.first_refusal.Goals.{in-Some+in_default-visit, in_default}
+use Rattle.verifier.proofs.pass.first_refusal.Goals.{in-Some+in_ok-rule+in_default-2, in_default}
 use Rattle.verifier.proofs.pass.first_refusal.Goals as goal
 
-pub returns-in-Some-visit : goal.returns-in-Some-visit
-returns-in-Some-visit c =
+pub returns-in-Some-2 : goal.returns-in-Some-2
+returns-in-Some-2 c =
     let caps = c.args.caps.now in
     let code = c.args.code.now in
     let slot = c.loop-slot.slot in
-    let table = c.loop-slot.table.items in
+    let pass = c.loop-slot.pass in
     let lt : slot < length code = omega arith in
     let at : slice_get code slot ≡ Some (Some c.in-Some.insn) = slice_get_read code (length code) slot _ refl lt c.index-code-slot.is ∙ ap Some c.in-Some.is in
-    let rule = sym c.visit.ensures.rule ∙ c.in-Some-visit.is in
-    sym (refused_at caps code slot c.in-Some.insn table (Some c.in-Some-visit.rule) lt at c.loop-slot.invariant.brought rule) ∙ c.loop-slot.invariant.rest
+    let rule = sym c.in_ok-rule.ensures.rule ∙ c.in-Some-2.is in
+    sym (refused_at caps code slot c.in-Some.insn pass (Some c.in-Some-2.rule) lt at c.loop-slot.invariant.brought rule) ∙ c.loop-slot.invariant.rest
 
 pub loop-slot-preserved : goal.loop-slot-preserved
 loop-slot-preserved c = elim c.match-begun.branch [
-  | in-Some+in_default-visit w ↦
+  | in-Some+in_ok-rule+in_default-2 w ↦
       let caps = c.args.caps.now in
       let code = c.args.code.now in
       let slot = c.loop-slot.slot in
-      let table = c.loop-slot.table.items in
+      let pass = c.loop-slot.pass in
       let lt : slot < length code = omega arith in
       let at : slice_get code slot ≡ Some (Some w.in-Some.insn) = slice_get_read code (length code) slot _ refl lt c.index-code-slot.is ∙ ap Some w.in-Some.is in
-      let rule = sym w.visit.ensures.rule ∙ w.in_default-visit.is in
+      let rule = sym w.in_ok-rule.ensures.rule ∙ w.in_default-2.is in
       let fetched = ap (λ o. o >>= λ i. i) at in
+      let left = w.in_ok-rule.ensures.left w.in_default-2.is in
       record {
-        rest = sym (refused_at caps code slot w.in-Some.insn table None lt at c.loop-slot.invariant.brought rule) ∙ c.loop-slot.invariant.rest;
-        brought = subst (Brought caps code (slot + 1)) (sym (ap (λ t. t.items) w.table-is ∙ w.visit.ensures.table)) (brought_more caps code slot w.in-Some.insn table lt fetched rule c.loop-slot.invariant.brought);
+        rest = sym (refused_at caps code slot w.in-Some.insn pass None lt at c.loop-slot.invariant.brought rule) ∙ c.loop-slot.invariant.rest;
+        brought = subst (Brought caps code (slot + 1)) (sym w.pass-is) (brought_more caps code slot w.in-Some.insn pass _ c.requires.spaced lt fetched rule left c.loop-slot.invariant.brought);
       }
   | in_default w ↦
       let caps = c.args.caps.now in
       let code = c.args.code.now in
       let slot = c.loop-slot.slot in
-      let table = c.loop-slot.table.items in
+      let pass = c.loop-slot.pass in
       let lt : slot < length code = omega arith in
       let at : slice_get code slot ≡ Some None = slice_get_read code (length code) slot _ refl lt c.index-code-slot.is ∙ ap Some w.in_default.is in
       record {
         rest = sym (refused_over caps code slot at) ∙ c.loop-slot.invariant.rest;
-        brought = subst (Brought caps code (slot + 1)) (sym (ap (λ t. t.items) w.table-is)) (brought_over caps code slot table (ap (λ o. o >>= λ i. i) at) c.loop-slot.invariant.brought);
+        brought = subst (Brought caps code (slot + 1)) (sym w.pass-is) (brought_over caps code slot pass (ap (λ o. o >>= λ i. i) at) c.loop-slot.invariant.brought);
       }
 ]

@@ -6,5 +6,5 @@ use Rattle.verifier.proofs.pass.first_refusal.Given as goal
 abbrev pub invariant-loop-slot : goal.invariant-loop-slot
 invariant-loop-slot l = record {
   rest : first_refused l.caps l.code (whole_table l.caps l.code) l.slot (drop l.slot l.code) ≡ code_verdict l.caps l.code;
-  brought : Brought l.caps l.code l.slot l.table.items;
+  brought : Brought l.caps l.code l.slot l.pass;
 }

@@ -1,6 +1,10 @@
-use Rattle.std.proofs.Common.{◌≡◌, take, length}
-use Rattle.verifier.specs.Frame.{join}
+use Rattle.std.proofs.Common.{◌≡◌, take, drop, length}
+use Rattle.verifier.specs.Frame.{join_each}
 use Rattle.verifier.proofs.frame.Frame.join.Given as goal
 
 abbrev pub invariant-loop-i : goal.invariant-loop-i
-invariant-loop-i l = record { long : length l.kinds ≡ 11; joined : take l.i l.kinds ≡ join (take l.i l.ours) (take l.i l.others) }
+invariant-loop-i l = record {
+  long : length l.self.registers ≡ 11;
+  joined : take l.i l.self.registers ≡ join_each (take l.i l.initial.self.registers) (take l.i l.other.registers);
+  rest : drop l.i l.self.registers ≡ drop l.i l.initial.self.registers;
+}

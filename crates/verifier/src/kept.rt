@@ -1,0 +1,77 @@
+ghost use Rattle.std.specs.Prelude.{◌≡◌, IfOk, None, replicate, slice_set};
+ghost use Rattle.verifier.specs.Verdict.{frame_at, joined};
+ghost use Rattle.verifier.specs.Pass.{merged};
+ghost use Rattle.verifier.specs.Kept.{unbox};
+
+use crate::frame::Frame;
+use std::alloc::{AllocError, Global};
+use std::marker::Model;
+
+/// The frames that are kept for jumps' targets, each till its slot comes. Contracts see them by slot.
+#[derive(Drop)]
+pub struct Kept {
+    frames: Vec<Option<Box<Frame>>>,
+}
+
+impl Model for Kept {
+    ghost use Rattle.verifier.specs.Verdict.{Table};
+    ghost use Rattle.verifier.specs.Kept.{unboxed};
+
+    ghost Value = { Table };
+
+    ghost view = { λ k. unboxed k.frames.items };
+}
+
+impl Kept {
+    /// None, of so many slots.
+    #[tactic(auto, using(crate::proofs::Boxes::unboxed_none))]
+    pub fn new(alloc: Global, slots: usize) -> Result<Kept, AllocError>
+        ensures { IfOk result (λ k. k ≡ replicate slots None) }
+    {
+        let mut frames = Vec::new(alloc);
+        for _ in 0..slots {
+            frames.push(None)?;
+        }
+        Ok(Kept { frames })
+    }
+
+    /// Takes the frame that is kept for a slot, if there is one.
+    pub fn take(&mut self, slot: usize) -> Option<Frame>
+        ensures taken { result ≡ frame_at self.old slot }
+        ensures left { self.new ≡ slice_set self.old slot None }
+    {
+        if slot < self.frames.len() {
+            let frame = self.frames[slot].take();
+            match frame {
+                None => None,
+                Some(frame) => Some(*frame),
+            }
+        } else {
+            None
+        }
+    }
+
+    /// Keeps a flow into a slot, joined with what has flowed into it.
+    pub fn keep(&mut self, alloc: Global, slot: usize, flow: &Frame) -> Result<(), AllocError>
+        ensures { IfOk result (λ _. self.new ≡ merged self.old slot flow.now) }
+    {
+        if slot < self.frames.len() {
+            let kept = self.frames[slot].take();
+            self.frames[slot] = Some(met(alloc, kept, flow)?);
+        }
+        Ok(())
+    }
+}
+
+/// A flow, joined in place with what has flowed there.
+fn met(alloc: Global, kept: Option<Box<Frame>>, flow: &Frame) -> Result<Box<Frame>, AllocError>
+    ensures { IfOk result (λ b. b.value ≡ joined (unbox kept) flow.now) }
+{
+    match kept {
+        None => Ok(Box::new(alloc, *flow)?),
+        Some(mut frame) => {
+            frame.join(flow);
+            Ok(frame)
+        }
+    }
+}
