@@ -100,7 +100,7 @@ struct Appends<'a, C> {
 impl<T: Clock> GroupWork for Appends<'_, T> {
     type Output = Result<u128>;
 
-    ghost gives = { λ _ _. Unit {0} };
+    ghost gives = { λ _ _ _ _. Unit {0} };
 
     fn work<C: Classes>(mut self, table: &ClassTable, mut group: Group<C>) -> Result<u128> {
         let start = Instant::now(self.clock)?;
