@@ -55,32 +55,37 @@ pub fn time_verify<C: Clock>(alloc: Global, clock: &C, ready: &Ready, runs: usiz
     Ok(least)
 }
 
-/// The least picoseconds that an `append` to a group took, of so many runs: of requests of one client for the method
-/// `f` of a class.
+/// The least picoseconds that an `append` to a group took that has so many entries, of so many runs: of requests of one
+/// client for the method `f` of a class.
 pub fn time_append<C: Clock>(
     alloc: Global,
     clock: &C,
     class: VerifiedClass,
+    behind: u32,
     runs: usize,
 ) -> Result<u64> {
     let mut table = ClassTable::new(alloc);
     let class = table.add(class)?;
     let mut least = u64::MAX;
     for _ in 0..runs {
-        let requests = requests(alloc, class)?;
-        let taken = with_group(alloc, &table, Appends { clock, requests })?;
+        let work = Appends {
+            clock,
+            behind,
+            requests: requests(alloc, class, behind.saturating_add(REQUESTS))?,
+        };
+        let taken = with_group(alloc, &table, work)?;
         least = least.min(picos_each(taken, REQUESTS as usize));
     }
     Ok(least)
 }
 
-/// Requests for the method `f` of a class, numbered from 1 on, the last first.
-fn requests(alloc: Global, class: usize) -> Result<Vec<Request>> {
+/// So many requests for the method `f` of a class, numbered from 1 on, the last first.
+fn requests(alloc: Global, class: usize, count: u32) -> Result<Vec<Request>> {
     let mut requests = Vec::new(alloc);
-    for number in 0..REQUESTS {
+    for number in 0..count {
         requests.push(Request::new(
             ClientId::new(1).context("a client")?,
-            RequestNumber::new(REQUESTS - number).context("a number")?,
+            RequestNumber::new(count - number).context("a number")?,
             ObjectName::new(alloc, "o")?,
             class,
             String::from_str(alloc, "f")?,
@@ -90,19 +95,25 @@ fn requests(alloc: Global, class: usize) -> Result<Vec<Request>> {
     Ok(requests)
 }
 
-/// Appends requests to a group, and gives the nanoseconds that it took.
+/// Appends requests to a group, and gives the nanoseconds that those took which came behind the first ones.
 #[derive(Drop)]
 struct Appends<'a, C> {
     clock: &'a C,
+    behind: u32,
     requests: Vec<Request>,
 }
 
 impl<T: Clock> GroupWork for Appends<'_, T> {
     type Output = Result<u128>;
 
-    ghost gives = { λ _ _. Unit {0} };
+    ghost gives = { λ _ _ _ _. Unit {0} };
 
     fn work<C: Classes>(mut self, table: &ClassTable, mut group: Group<C>) -> Result<u128> {
+        for _ in 0..self.behind {
+            if let Some(request) = self.requests.pop() {
+                let _ = group.append(table, request)?;
+            }
+        }
         let start = Instant::now(self.clock)?;
         for _ in 0..REQUESTS {
             if let Some(request) = self.requests.pop() {

@@ -20,7 +20,10 @@ impl fmt::Display for Nanos {
     }
 }
 
-/// Prints the table: a line for each method and, where it is timed, one for `append`.
+/// The lengths of a log at which `append` is measured.
+const LENGTHS: [u32; 2] = [100, 60_000];
+
+/// Prints the table: a line for each method and, where it is timed, one for `append` at each length.
 pub fn report<C: Clock, O: io::Write>(
     alloc: Global,
     clock: &C,
@@ -36,9 +39,11 @@ pub fn report<C: Clock, O: io::Write>(
         line(alloc, clock, mode, workload, out)?;
     }
     if let Mode::Timed = mode {
-        let ready = WORKLOADS[0].ready(alloc)?;
-        let picos = time_append(alloc, clock, ready.class, RUNS)?;
-        writeln!(out, "ns/append  {}", Nanos { picos })?;
+        for behind in LENGTHS {
+            let ready = WORKLOADS[0].ready(alloc)?;
+            let picos = time_append(alloc, clock, ready.class, behind, RUNS)?;
+            writeln!(out, "ns/append behind {behind:>5}{}", Nanos { picos })?;
+        }
     }
     out.flush()?;
     Ok(())

@@ -87,7 +87,7 @@ fn times(rt: HostRuntime) -> Result<(), Fail> {
         1_000_000_000_000 / 3
     );
     assert_eq!(rt;
-        time_append(alloc, &clock, ready.class, 2)?,
+        time_append(alloc, &clock, ready.class, 100, 2)?,
         1_000_000_000_000 / 4096
     );
     Ok(())

@@ -1,15 +1,17 @@
 -- Refusals against legal lists.
-use Rattle.std.proofs.Common.{◌≡◌, ℕ, zero, suc, ◌<◌, ◌≤◌, Bool, true, false, cond, List, [], ◌∷◌, ◌++◌, length, Option, Some, None, refl, ap, sym, ◌∙◌, subst, arith, append_assoc, append-nil, ◌↔◌, nat_le, ◌||◌}
+use Rattle.std.proofs.Common.{◌≡◌, ℕ, zero, suc, ◌<◌, ◌≤◌, Bool, true, false, cond, List, [], ◌∷◌, ◌++◌, length, Option, Some, None, refl, ap, sym, ◌∙◌, subst, arith, append_assoc, append-nil, ◌↔◌, nat_le, ◌||◌, take, ◌+◌}
 use Rattle.std.specs.List.{slice_get}
-use Rattle.std.proofs.lemmas.Option.{none-some, same_Some}
+use Rattle.std.proofs.lemmas.Option.{none-some, same_Some, slice_get_within}
 use Rattle.std.proofs.lemmas.Bool.Decides.{nat_tests}
 use Rattle.bpf_decode.specs.Class.{ClassMethod}
 use Rattle.verifier.specs.Verified.{method_named}
+use Rattle.pg_log.specs.declared.group.TheConstants.{LOG_LIMIT}
 use Rattle.pg_log.specs.declared.log_error.LogError.{LogError}
 use Rattle.pg_log.specs.declared.log_error.LogError.TheVariants.{LogFull, StaleNumber, NoClass, NoMethod, InputTooLong}
 use Rattle.pg_log.specs.Requests.{ClientRequest}
 use Rattle.pg_log.specs.Log.{Classes, Legal, CanRun}
-use Rattle.pg_log.specs.Refusals.{reaches, is_reached, refusal_of_method, refusal_of_class, refusal, or_else, first_refusal_from, first_refusal, Follows}
+use Rattle.pg_log.specs.Refusals.{reaches, is_reached, refusal_of_method, refusal_of_class, refusal, or_else, first_refusal_from, first_refusal, SomeCanRun, Follows}
+use Rattle.pg_log.proofs.Lists.{take_get}
 use Rattle.pg_log.proofs.Legal.{legal_beginning, legal_empty, legal_push, follows}
 
 cond_none : (b : Bool) (why : LogError) (o : Option LogError) → cond b (Some why) o ≡ None → (b ≡ false) × (o ≡ None)
@@ -71,15 +73,15 @@ can_run_back classes r c =
 
 pub follows_unrefused : (classes : Classes) (xs : List ClientRequest) (r : ClientRequest) → refusal classes xs r ≡ None → Follows classes xs r
 follows_unrefused classes xs r e =
-    let one = cond_none (nat_le 65536 (length xs)) LogFull _ e in
+    let one = cond_none (nat_le LOG_LIMIT (length xs)) LogFull _ e in
     let two = cond_none (is_reached r.client r.number xs) StaleNumber _ one.1 in
-    let full : nat_le 65536 (length xs) ≡ false = one.0 in
+    let full : nat_le LOG_LIMIT (length xs) ≡ false = one.0 in
     record { room = grind (arith, nat_tests); run = can_run classes r two.1; above = above_all r.client r.number xs two.0 }
 
 pub unrefused : (classes : Classes) (xs : List ClientRequest) (r : ClientRequest) → Follows classes xs r → refusal classes xs r ≡ None
 unrefused classes xs r f =
-    let room : length xs < 65536 = f.room in
-    none_cond (nat_le 65536 (length xs)) LogFull _ (grind (arith, nat_tests))
+    let room : length xs < LOG_LIMIT = f.room in
+    none_cond (nat_le LOG_LIMIT (length xs)) LogFull _ (grind (arith, nat_tests))
     (none_cond (is_reached r.client r.number xs) StaleNumber _ (all_above r.client r.number xs f.above) (can_run_back classes r f.run))
 
 or_else_none : (o p : Option LogError) → or_else o p ≡ None → (o ≡ None) × (p ≡ None)
@@ -89,6 +91,39 @@ or_else_none (Some why) p e = absurd (none-some why (sym e))
 none_or_else : (o p : Option LogError) → o ≡ None → p ≡ None → or_else o p ≡ None
 none_or_else None p e h = h
 none_or_else (Some why) p e h = e
+
+or_else-or_else : (o p q : Option LogError) → or_else o (or_else p q) ≡ or_else (or_else o p) q
+or_else-or_else None p q = refl
+or_else-or_else (Some why) p q = refl
+
+or_else-none : (o : Option LogError) → or_else o None ≡ o
+or_else-none None = refl
+or_else-none (Some why) = refl
+
+-- one request more
+first_refusal_from-push : (classes : Classes) (before xs : List ClientRequest) (r : ClientRequest) →
+    first_refusal_from classes before (xs ++ r ∷ []) ≡ or_else (first_refusal_from classes before xs) (refusal classes (before ++ xs) r)
+first_refusal_from-push classes before [] r =
+    or_else-none (refusal classes before r) ∙ ap (λ w. refusal classes w r) (sym (append-nil before))
+first_refusal_from-push classes before (x ∷ xs) r =
+    ap (or_else (refusal classes before x)) (first_refusal_from-push classes (before ++ x ∷ []) xs r
+    ∙ ap (λ w. or_else (first_refusal_from classes (before ++ x ∷ []) xs) (refusal classes w r)) (append_assoc before (x ∷ []) xs))
+    ∙ or_else-or_else (refusal classes before x) _ _
+
+-- a request that may follow those before it, none of which is refused
+pub unrefused_next : (classes : Classes) (list : List ClientRequest) (k : ℕ) (r : ClientRequest) → slice_get list k ≡ Some r →
+    first_refusal classes (take k list) ≡ None → refusal classes (take k list) r ≡ None → first_refusal classes (take (k + 1) list) ≡ None
+unrefused_next classes list k r e before now =
+    ap (first_refusal classes) (take_get list k r e) ∙ first_refusal_from-push classes [] (take k list) r
+    ∙ none_or_else (first_refusal classes (take k list)) (refusal classes (take k list) r) before now
+
+pub some_can_run : (classes : Classes) (list : List ClientRequest) (k : ℕ) (r : ClientRequest) → slice_get list k ≡ Some r →
+    first_refusal classes (take k list) ≡ None → refusal classes (take k list) r ≡ None → SomeCanRun classes list
+some_can_run classes list k r e before now = record {
+  place = k;
+  within = slice_get_within list k r e;
+  unrefused = unrefused_next classes list k r e before now;
+}
 
 legal_unrefused_from : (classes : Classes) (before xs : List ClientRequest) → Legal classes before → first_refusal_from classes before xs ≡ None → Legal classes (before ++ xs)
 legal_unrefused_from classes before [] l e =

@@ -11,6 +11,9 @@ pub fold_from-append : (classes : Classes) (objects : Objects) (xs ys : List Cli
 fold_from-append classes objects [] ys = refl
 fold_from-append classes objects (x ∷ xs) ys = fold_from-append classes (after classes objects x) xs ys
 
+pub fold-beginning : (classes : Classes) (xs ys : List ClientRequest) (k : ℕ) → k ≤ length xs → fold classes (take k (xs ++ ys)) ≡ fold classes (take k xs)
+fold-beginning classes xs ys k h = ap (fold classes) (take-append-le k xs ys h)
+
 pub reply_at-append : (classes : Classes) (xs ys : List ClientRequest) (k : ℕ) → k < length xs → reply_at classes (xs ++ ys) k ≡ reply_at classes xs k
 reply_at-append classes xs ys k h =
     ap (λ t. reply_to classes (fold classes t) (slice_get (xs ++ ys) k)) (take-append-le k xs ys (omega arith))

@@ -1,5 +1,5 @@
 -- What a group keeps of its list, where it is read and where a request is added.
-use Rattle.std.proofs.Common.{◌≡◌, ℕ, zero, suc, true, false, List, [], ◌∷◌, ◌++◌, length, take, drop, ◌+◌, Some, None, Result, Ok, Err, is_err, OnErr, OnOk, option_map, refl, ap, sym, ◌∙◌, subst, arith}
+use Rattle.std.proofs.Common.{◌≡◌, ℕ, zero, suc, true, false, List, [], ◌∷◌, ◌++◌, length, take, drop, ◌+◌, Some, None, Result, Ok, Err, is_err, OnErr, OnOk, option_map, refl, ap, sym, ◌∙◌, subst, arith, ⊎_elim}
 use Rattle.std.specs.List.{slice_get}
 use Rattle.std.specs.Int.{w64, cast_unsigned}
 use Rattle.std.specs.FinMap as fin
@@ -11,13 +11,13 @@ use Rattle.pg_log.specs.Log.{Classes, Objects, Legal, after, store, fold, fold_f
 use Rattle.pg_log.specs.Refusals.{place_of}
 use Rattle.pg_log.specs.Objects.{changed}
 use Rattle.pg_log.specs.Places.{ArePlaces}
-use Rattle.pg_log.specs.Entries.{IsOutcomeOn, AreEntries, requests_of, Keeps}
+use Rattle.pg_log.specs.Entries.{IsOutcomeOn, AreEntries, IsSafeRequest, AreSafe, requests_of, undone, Keeps}
 use Rattle.std.proofs.lemmas.List.{length-map, take-append-drop}
-use Rattle.pg_log.proofs.Lists.{get_before, get_last, take_get}
+use Rattle.pg_log.proofs.Lists.{get_before, get_last, get_push, take_get}
 use Rattle.pg_log.proofs.Legal.{legal_beginning}
 use Rattle.pg_log.proofs.Fold.{fold_from-append}
 use Rattle.pg_log.proofs.Standing.{same_place, place_of-has}
-use Rattle.pg_log.proofs.Named.{changed-store}
+use Rattle.pg_log.proofs.Named.{changed-store, undone-changed}
 
 pub on_err : {T E P : Type 0} (r : Result T E) → is_err r ≡ true → OnErr r P → P
 on_err (Ok x) e h = absurd (cc)
@@ -61,18 +61,39 @@ folded_push classes xs e o =
     ∙ ap (λ w. store (fold classes xs) e.request.object w.object) o.made
     ∙ sym (fold_from-append classes fin.empty xs (e.request ∷ []))
 
+safe_push : (classes : Classes) (xs : List ClientRequest) (r : ClientRequest) → AreSafe classes xs → IsSafeRequest classes r → AreSafe classes (xs ++ r ∷ [])
+safe_push classes xs r all s i a e =
+    let P : ClientRequest → Type 0 = IsSafeRequest classes in
+    ⊎_elim (λ h. all i a h.1) (λ h. subst P (sym h.1) s) (get_push xs r a i e)
+
+kept_last : (classes : Classes) (objects : Objects) (es : List Entry) (e : Entry) → AreEntries classes objects (es ++ e ∷ []) →
+    IsOutcomeOn classes (fold_from classes objects (requests_of es)) e.request e.code e.output.items e.change
+kept_last classes objects [] e h = h.0
+kept_last classes objects (x ∷ es) e h = kept_last classes (after classes objects x.request) es e h.1
+
+-- the last entry's change undone
+pub undone_last : (classes : Classes) (es : List Entry) (e : Entry) → AreEntries classes fin.empty (es ++ e ∷ []) →
+    undone (fold classes (requests_of (es ++ e ∷ []))) e.request.object e.change ≡ fold classes (requests_of es)
+undone_last classes es e h =
+    let o = kept_last classes fin.empty es e h in
+    let xs = requests_of es in
+    ap (λ w. undone w e.request.object e.change) (ap (fold classes) (requests_of-push es e) ∙ sym (folded_push classes xs e o))
+    ∙ undone-changed (fold classes xs) e.request.object e.change o.from_before
+
 -- what is kept, with one entry more
 pub keeps_push : (classes : Classes) (es : List Entry) (objects next : Objects) (places more : Places) (e : Entry) →
     Keeps classes es objects places → Legal classes (requests_of es ++ e.request ∷ []) →
-    IsOutcomeOn classes (fold classes (requests_of es)) e.request e.code e.output.items e.change →
+    IsSafeRequest classes e.request → IsOutcomeOn classes (fold classes (requests_of es)) e.request e.code e.output.items e.change →
     next ≡ changed objects e.request.object e.change → ArePlaces more (requests_of es ++ e.request ∷ []) →
     Keeps classes (es ++ e ∷ []) next more
-keeps_push classes es objects next places more e k l o is at =
+keeps_push classes es objects next places more e k l s o is at =
     let P : List ClientRequest → Type 0 = Legal classes in
     let Q : List ClientRequest → Type 0 = ArePlaces more in
+    let R : List ClientRequest → Type 0 = AreSafe classes in
     let q = sym (requests_of-push es e) in
     record {
       legal = subst P q l;
+      safe = subst R q (safe_push classes (requests_of es) e.request k.safe s);
       kept = kept_push classes fin.empty es e k.kept o;
       folded = is ∙ ap (λ w. changed w e.request.object e.change) k.folded ∙ folded_push classes (requests_of es) e o ∙ ap (fold classes) q;
       indexed = subst Q q at;
@@ -83,7 +104,7 @@ pub keeps_same : (classes : Classes) (es fs : List Entry) (objects next : Object
     Keeps classes es objects places → fs ≡ es → next ≡ objects → ArePlaces more (requests_of es) → Keeps classes fs next more
 keeps_same classes es fs objects next places more k p q at =
     let P : List Entry → Type 0 = λ w. Keeps classes w next more in
-    subst P (sym p) (record { legal = k.legal; kept = k.kept; folded = q ∙ k.folded; indexed = at })
+    subst P (sym p) (record { legal = k.legal; safe = k.safe; kept = k.kept; folded = q ∙ k.folded; indexed = at })
 
 -- what may follow a list isn't of a logged pair
 pub fresh : (classes : Classes) (xs : List ClientRequest) (r : ClientRequest) → Legal classes (xs ++ r ∷ []) → place_of r.client r.number xs ≡ None
@@ -100,7 +121,7 @@ fresh classes xs r l =
 pub length-requests : (es : List Entry) (xs : List ClientRequest) → requests_of es ≡ xs → length es ≡ length xs
 length-requests es xs e = sym (length-map es (λ (w : Entry). w.request)) ∙ ap (λ l. length l) e
 
-requests_at : (es : List Entry) (k : ℕ) (e : Entry) → slice_get es k ≡ Some e → slice_get (requests_of es) k ≡ Some e.request
+pub requests_at : (es : List Entry) (k : ℕ) (e : Entry) → slice_get es k ≡ Some e → slice_get (requests_of es) k ≡ Some e.request
 requests_at es k e p = slice_get-map (λ (w : Entry). w.request) es k ∙ ap (λ o. option_map (λ (w : Entry). w.request) o) p
 
 -- the entry at a place may follow those before it

@@ -8,3 +8,4 @@ pub mod Indexed
 pub mod Named
 pub mod Kept
 pub mod Ran
+pub mod Carried

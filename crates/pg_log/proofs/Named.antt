@@ -19,8 +19,9 @@ use Rattle.std.proofs.lemmas.Map.Text.{btree_map_updates_text, is_eq-slice_cmp}
 use Rattle.bpf_machine.specs.Object.{Object}
 use Rattle.interp.specs.declared.change.Change.{Change}
 use Rattle.interp.specs.declared.change.Change.TheVariants.{Unchanged, Changed}
-use Rattle.interp.specs.Plain.{given_object, after_change}
+use Rattle.interp.specs.Plain.{given_object, after_change, IsChangeOf}
 use Rattle.pg_log.specs.Log.{Objects, store}
+use Rattle.pg_log.specs.Entries.{undone}
 use Rattle.pg_log.specs.Objects.{objects_of, changed}
 
 pub given_object-copied : (o : Option (Bor (List ℕ))) → given_object o ≡ option_copied o
@@ -84,6 +85,25 @@ pub store-same : (objects : Objects) (name : List ℕ) → store objects name (f
 store-same objects name =
     fin.same_map nat_list_cmp_total (slice_cmp-IsAntisymmetric nat_cmp-IsAntisymmetric) _ _
     (λ q. stored objects name (fin.get objects name) q ∙ tie objects name q)
+
+cond-cond : (b : Bool) (x y z : Object) → cond b x (cond b y z) ≡ cond b x z
+cond-cond true x y z = refl
+cond-cond false x y z = refl
+
+-- the later of two stores counts
+store-store : (objects : Objects) (name : List ℕ) (one two : Object) → store (store objects name one) name two ≡ store objects name two
+store-store objects name one two =
+    fin.same_map nat_list_cmp_total (slice_cmp-IsAntisymmetric nat_cmp-IsAntisymmetric) _ _
+    (λ q. stored (store objects name one) name two q
+    ∙ ap (λ o. cond (eq_by_cmp (slice_cmp nat_cmp) q name) two o) (stored objects name one q)
+    ∙ cond-cond (eq_by_cmp (slice_cmp nat_cmp) q name) two one (fin.get objects q)
+    ∙ sym (stored objects name two q))
+
+-- what was done to an object is undone
+pub undone-changed : (objects : Objects) (name : List ℕ) (change : Change) → IsChangeOf (fin.get objects name) change → undone (changed objects name change) name change ≡ objects
+undone-changed objects name Unchanged h = refl
+undone-changed objects name (Changed before after) h =
+    store-store objects name after before ∙ ap (store objects name) h ∙ store-same objects name
 
 pub changed-store : (objects : Objects) (name : List ℕ) (change : Change) → changed objects name change ≡ store objects name (after_change (fin.get objects name) change)
 changed-store objects name Unchanged = sym (store-same objects name)

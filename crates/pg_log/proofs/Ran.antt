@@ -13,31 +13,32 @@ use Rattle.verifier.specs.Verified.{method_named}
 use Rattle.interp.specs.declared.change.Change.{Change}
 use Rattle.interp.specs.declared.outcome.Outcome.{Outcome}
 use Rattle.interp.specs.Plain.{Answers}
+use Rattle.pg_log.specs.declared.group.TheConstants.{LOG_LIMIT}
 use Rattle.pg_log.specs.declared.log_error.LogError.TheVariants.{LogFull, StaleNumber, InputTooLong}
 use Rattle.pg_log.specs.Requests.{ClientRequest}
 use Rattle.pg_log.specs.Log.{Classes, Objects, Legal, CanRun, method_in, outcome_of_method}
 use Rattle.pg_log.specs.Refusals.{refusal_of_method, refusal_of_class, refusal, is_reached}
-use Rattle.pg_log.specs.Entries.{IsOutcome, IsOutcomeOn}
+use Rattle.pg_log.specs.Entries.{IsOutcome, IsOutcomeOn, IsSafeRequest}
 use Rattle.pg_log.proofs.Legal.{legal_push}
 use Rattle.pg_log.proofs.Exact.{follows_unrefused}
 use Rattle.pg_log.proofs.Tables.{CanRun-more, loaded-more}
 
-pub refusal-full : (classes : Classes) (xs : List ClientRequest) (r : ClientRequest) → 65536 ≤ length xs → refusal classes xs r ≡ Some LogFull
+pub refusal-full : (classes : Classes) (xs : List ClientRequest) (r : ClientRequest) → LOG_LIMIT ≤ length xs → refusal classes xs r ≡ Some LogFull
 refusal-full classes xs r h =
-    let t : nat_le 65536 (length xs) ≡ true = grind (arith, nat_tests) in
+    let t : nat_le LOG_LIMIT (length xs) ≡ true = grind (arith, nat_tests) in
     ap (λ b. cond b (Some LogFull) (cond (is_reached r.client r.number xs) (Some StaleNumber) (refusal_of_class (slice_get classes r.class) r))) t
 
-refusal-room : (classes : Classes) (xs : List ClientRequest) (r : ClientRequest) → length xs < 65536 →
+refusal-room : (classes : Classes) (xs : List ClientRequest) (r : ClientRequest) → length xs < LOG_LIMIT →
     refusal classes xs r ≡ cond (is_reached r.client r.number xs) (Some StaleNumber) (refusal_of_class (slice_get classes r.class) r)
 refusal-room classes xs r h =
-    let t : nat_le 65536 (length xs) ≡ false = grind (arith, nat_tests) in
+    let t : nat_le LOG_LIMIT (length xs) ≡ false = grind (arith, nat_tests) in
     ap (λ b. cond b (Some LogFull) (cond (is_reached r.client r.number xs) (Some StaleNumber) (refusal_of_class (slice_get classes r.class) r))) t
 
-pub refusal-stale : (classes : Classes) (xs : List ClientRequest) (r : ClientRequest) → length xs < 65536 → is_reached r.client r.number xs ≡ true → refusal classes xs r ≡ Some StaleNumber
+pub refusal-stale : (classes : Classes) (xs : List ClientRequest) (r : ClientRequest) → length xs < LOG_LIMIT → is_reached r.client r.number xs ≡ true → refusal classes xs r ≡ Some StaleNumber
 refusal-stale classes xs r h e =
     refusal-room classes xs r h ∙ ap (λ b. cond b (Some StaleNumber) (refusal_of_class (slice_get classes r.class) r)) e
 
-pub refusal-class : (classes : Classes) (xs : List ClientRequest) (r : ClientRequest) → length xs < 65536 → is_reached r.client r.number xs ≡ false →
+pub refusal-class : (classes : Classes) (xs : List ClientRequest) (r : ClientRequest) → length xs < LOG_LIMIT → is_reached r.client r.number xs ≡ false →
     refusal classes xs r ≡ refusal_of_class (slice_get classes r.class) r
 refusal-class classes xs r h e =
     refusal-room classes xs r h ∙ ap (λ b. cond b (Some StaleNumber) (refusal_of_class (slice_get classes r.class) r)) e
@@ -68,11 +69,14 @@ ran one class is object r o a =
       record { made = sym same ∙ ap (λ w. outcome_of_method w object r) (sym a.named); from_before = a.change },
     )
 
-more-outcome : (classes more : Classes) (objects : Objects) (r : ClientRequest) (code : ℤ) (output : List ℕ) (change : Change) → CanRun classes r →
+pub more-outcome : (classes more : Classes) (objects : Objects) (r : ClientRequest) (code : ℤ) (output : List ℕ) (change : Change) → CanRun classes r →
     IsOutcomeOn classes objects r code output change → IsOutcomeOn (classes ++ more) objects r code output change
 more-outcome classes more objects r code output change c o =
     let P : Option (List ClassMethod) → Type 0 = λ w. IsOutcome (method_in w r.method) (fin.get objects r.object) r code output change in
     subst P (sym (loaded-more classes more r c)) o
+
+pub more-safe : (classes more : Classes) (r : ClientRequest) → CanRun classes r → IsSafeRequest classes r → IsSafeRequest (classes ++ more) r
+more-safe classes more r c s m n = s m (sym (ap (λ o. method_in o r.method) (loaded-more classes more r c)) ∙ n)
 
 -- what may follow by the given table may follow by the named one, with the same outcome
 pub next_legal : (table classes : Classes) (xs : List ClientRequest) (r : ClientRequest) → IsPrefix table classes → Legal classes xs → refusal table xs r ≡ None → Legal classes (xs ++ r ∷ [])
@@ -87,3 +91,9 @@ next_outcome table classes xs objects r code output change pre e o =
     let f = follows_unrefused table xs r e in
     let P : Classes → Type 0 = λ w. IsOutcomeOn w objects r code output change in
     subst P pre.1 (more-outcome table pre.0 objects r code output change f.run o)
+
+pub next_safe : (table classes : Classes) (xs : List ClientRequest) (r : ClientRequest) → IsPrefix table classes → refusal table xs r ≡ None → IsSafeRequest table r → IsSafeRequest classes r
+next_safe table classes xs r pre e s =
+    let f = follows_unrefused table xs r e in
+    let P : Classes → Type 0 = λ w. IsSafeRequest w r in
+    subst P pre.1 (more-safe table pre.0 r f.run s)

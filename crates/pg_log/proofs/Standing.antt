@@ -1,7 +1,7 @@
 -- Pairs of client and number in lists.
-use Rattle.std.proofs.Common.{◌≡◌, ℕ, zero, suc, true, false, List, [], ◌∷◌, Some, None, Option, refl, ap, sym, ◌∙◌, arith, ⊎_elim, cond}
+use Rattle.std.proofs.Common.{◌≡◌, ◌<◌, length, ℕ, zero, suc, true, false, List, [], ◌∷◌, Some, None, Option, refl, ap, sym, ◌∙◌, arith, ⊎_elim, cond}
 use Rattle.std.specs.List.{slice_get}
-use Rattle.std.proofs.lemmas.Option.{none-some, same_Some}
+use Rattle.std.proofs.lemmas.Option.{none-some, same_Some, slice_get_within}
 use Rattle.std.proofs.lemmas.Bool.{cases_lt}
 use Rattle.std.proofs.lemmas.Bool.Decides.{nat_tests}
 use Rattle.pg_log.specs.Requests.{ClientRequest}
@@ -39,6 +39,13 @@ place_of-has (r ∷ rs) client number place e =
           let w = place_of-has rs client number p.0 p.1 in
           (w.0, ap (slice_get (r ∷ rs)) p.2 ∙ w.1, w.2, w.3)
     ] refl e
+
+-- which is in range
+pub place_of-within : (xs : List ClientRequest) (client number place : ℕ) → place_of client number xs ≡ Some place →
+    (place < length xs) × (a : ClientRequest) × (slice_get xs place ≡ Some a) × (a.client ≡ client) × (a.number ≡ number)
+place_of-within xs client number place e =
+    let w = place_of-has xs client number place e in
+    (slice_get_within xs place w.0 w.1, w.0, w.1, w.2, w.3)
 
 -- a request that stands in a list has a place
 pub place_of-there : (xs : List ClientRequest) (i : ℕ) (a : ClientRequest) → slice_get xs i ≡ Some a → (k : ℕ) × (place_of a.client a.number xs ≡ Some k)

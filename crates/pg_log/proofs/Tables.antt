@@ -19,7 +19,7 @@ module _ (classes more : Classes) where
   outcome-more objects r c =
       ap (λ o. outcome_of_method (method_in o r.method) (map.get objects r.object) r) (loaded-more r c)
 
-  after-more : (objects : Objects) (r : ClientRequest) → CanRun classes r → after (classes ++ more) objects r ≡ after classes objects r
+  pub after-more : (objects : Objects) (r : ClientRequest) → CanRun classes r → after (classes ++ more) objects r ≡ after classes objects r
   after-more objects r c = ap (λ o. store objects r.object o.object) (outcome-more objects r c)
 
   pub fold_from-more : (objects : Objects) (xs : List ClientRequest) → ((i : ℕ) (r : ClientRequest) → slice_get xs i ≡ Some r → CanRun classes r) → fold_from (classes ++ more) objects xs ≡ fold_from classes objects xs

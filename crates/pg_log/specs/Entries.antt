@@ -1,17 +1,19 @@
 -- What a group keeps of its list.
-use Rattle.std.specs.Prelude.{◌≡◌, ℕ, ℤ, List, [], ◌∷◌, Option, Some, None, map}
+use Rattle.std.specs.Prelude.{◌≡◌, ℕ, ℤ, List, [], ◌∷◌, Option, Some, None, map, slice_get}
 use Rattle.std.specs.Borrow.{Bor}
 use Rattle.std.specs.FinMap as fin
 use Rattle.std.specs.Int.{w64, cast_unsigned}
 use Rattle.bpf_decode.specs.Class.{ClassMethod}
 use Rattle.bpf_machine.specs.Object.{Object}
 use Rattle.bpf_machine.specs.State.{Outcome}
+use Rattle.bpf_machine.specs.Safe.{IsSafe}
 use Rattle.interp.specs.declared.change.Change.{Change}
+use Rattle.interp.specs.declared.change.Change.TheVariants.{Unchanged, Changed}
 use Rattle.interp.specs.Plain.{after_change, IsChangeOf}
 use Rattle.pg_log.specs.declared.entry.Entry.{Entry}
 use Rattle.pg_log.specs.declared.places.Places.{Places}
 use Rattle.pg_log.specs.Requests.{ClientRequest}
-use Rattle.pg_log.specs.Log.{Classes, Objects, Reply, Legal, method_of, outcome_of_method, after, fold}
+use Rattle.pg_log.specs.Log.{Classes, Objects, Reply, Legal, method_of, outcome_of_method, store, after, fold}
 use Rattle.pg_log.specs.Places.{ArePlaces}
 
 -- a reply and a change as the machine's outcome beside an object
@@ -36,14 +38,28 @@ AreEntries classes objects (e ∷ es) =
 abbrev pub requests_of : List Entry → List ClientRequest
 requests_of es = map (λ e. e.request) es
 
+-- the objects before a change of the one of a name
+abbrev pub undone : Objects → List ℕ → Change → Objects
+undone objects name Unchanged = objects
+undone objects name (Changed before after) = store objects name before
+
+-- the method that a request names is safe
+abbrev pub IsSafeRequest : Classes → ClientRequest → Type 0
+IsSafeRequest classes r = (m : ClassMethod) → method_of classes r ≡ Some m → IsSafe m
+
+-- so are those of a list
+abbrev pub AreSafe : Classes → List ClientRequest → Type 0
+AreSafe classes list = (i : ℕ) (r : ClientRequest) → slice_get list i ≡ Some r → IsSafeRequest classes r
+
 -- what the code gives of a reply
 abbrev pub given_reply : Option (ℤ × Bor (List ℕ)) → Option Reply
 given_reply None = None
 given_reply (Some p) = Some (record { code = cast_unsigned w64 p.0; output = p.1.now })
 
--- What a group keeps: a legal log, replies and changes of its requests, their fold, and their places.
+-- What a group keeps: a legal log of safe methods, replies and changes of its requests, their fold, and their places.
 pub record Keeps (classes : Classes) (entries : List Entry) (objects : Objects) (places : Places) : Type 0 where
   pub legal : Legal classes (requests_of entries)
+  pub safe : AreSafe classes (requests_of entries)
   pub kept : AreEntries classes fin.empty entries
   pub folded : objects ≡ fold classes (requests_of entries)
   pub indexed : ArePlaces places (requests_of entries)

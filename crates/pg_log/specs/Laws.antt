@@ -1,7 +1,10 @@
 -- The laws of legal lists, of their objects and of their replies.
-use Rattle.std.specs.Prelude.{◌≡◌, ℕ, ◌<◌, ◌≤◌, List, [], ◌∷◌, ◌++◌, ◌↔◌, Some, None, slice_get, length}
+use Rattle.std.specs.Prelude.{◌≡◌, ℕ, ◌<◌, ◌≤◌, List, [], ◌∷◌, ◌++◌, ◌↔◌, Some, None, slice_get, take, length}
+use Rattle.std.specs.FinMap as map
+use Rattle.pg_log.specs.declared.entry.Entry.{Entry}
 use Rattle.pg_log.specs.Requests.{ClientRequest}
-use Rattle.pg_log.specs.Log.{Classes, Legal, after, fold, reply_at, reply_to}
+use Rattle.pg_log.specs.Log.{Classes, Legal, after, fold, fold_from, reply_at, reply_to}
+use Rattle.pg_log.specs.Entries.{AreEntries, requests_of, undone}
 use Rattle.pg_log.specs.Refusals.{Follows, place_of, refusal, first_refusal}
 
 -- every beginning of a legal list is legal
@@ -18,6 +21,20 @@ AppendIsAStep = (classes : Classes) (xs : List ClientRequest) (r : ClientRequest
 -- the objects after one request more
 abbrev pub FoldIsAStep : Type 0
 FoldIsAStep = (classes : Classes) (xs : List ClientRequest) (r : ClientRequest) → fold classes (xs ++ r ∷ []) ≡ after classes (fold classes xs) r
+
+-- the objects of a longer list are those of the rest, from those of the beginning
+abbrev pub FoldGoesOn : Type 0
+FoldGoesOn = (classes : Classes) (xs ys : List ClientRequest) → fold classes (xs ++ ys) ≡ fold_from classes (fold classes xs) ys
+
+-- the objects of a beginning don't depend on what follows
+abbrev pub FoldsStay : Type 0
+FoldsStay = (classes : Classes) (xs ys : List ClientRequest) (k : ℕ) → k ≤ length xs → fold classes (take k (xs ++ ys)) ≡ fold classes (take k xs)
+
+-- undoing what the last entry's call did gives the objects of the list before it
+abbrev pub UndoingGoesBack : Type 0
+UndoingGoesBack =
+    (classes : Classes) (es : List Entry) (e : Entry) → AreEntries classes map.empty (es ++ e ∷ []) →
+    undone (fold classes (requests_of (es ++ e ∷ []))) e.request.object e.change ≡ fold classes (requests_of es)
 
 -- the replies of a beginning don't depend on what follows
 abbrev pub RepliesStay : Type 0
@@ -43,11 +60,11 @@ PlaceIsThePairs =
     (classes : Classes) (xs : List ClientRequest) → Legal classes xs → (i : ℕ) (a : ClientRequest) →
     slice_get xs i ≡ Some a → place_of a.client a.number xs ≡ Some i
 
--- the request at the place of a pair has that client and number
+-- the place of a pair is in range, and the request there has that client and number
 abbrev pub PlaceHasThePair : Type 0
 PlaceHasThePair =
     (xs : List ClientRequest) (client number place : ℕ) → place_of client number xs ≡ Some place →
-    (a : ClientRequest) × (slice_get xs place ≡ Some a) × (a.client ≡ client) × (a.number ≡ number)
+    (place < length xs) × (a : ClientRequest) × (slice_get xs place ≡ Some a) × (a.client ≡ client) × (a.number ≡ number)
 
 -- What a table with classes added makes of a legal list: it is legal, with the same objects and replies.
 pub record SameWithMore (classes more : Classes) (xs : List ClientRequest) : Type 0 where

@@ -8,6 +8,7 @@ use Rattle.bpf_machine.specs.Object.{Object}
 use Rattle.bpf_machine.specs.State.{Outcome}
 use Rattle.bpf_machine.specs.Safe.{call_outcome}
 use Rattle.verifier.specs.Verified.{method_named}
+use Rattle.pg_log.specs.declared.group.TheConstants.{LOG_LIMIT}
 use Rattle.pg_log.specs.Requests.{ClientRequest}
 
 -- the loaded classes, by id
@@ -38,7 +39,7 @@ NumbersRise list =
 
 -- A legal list: what a log may hold.
 pub record Legal (classes : Classes) (list : List ClientRequest) : Type 0 where
-  pub limit : length list ≤ 65536
+  pub limit : length list ≤ LOG_LIMIT
   pub run : (i : ℕ) (r : ClientRequest) → slice_get list i ≡ Some r → CanRun classes r
   pub rise : NumbersRise list
 

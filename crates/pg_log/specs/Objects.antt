@@ -11,7 +11,7 @@ use Rattle.pg_log.specs.Log.{Objects, store}
 abbrev pub objects_of : {Z : Type 0} → List (String Z × List ℕ) → Objects
 objects_of es = fin.from_entries (map (λ e. (string_bytes e.0, e.1)) es)
 
--- the objects after a change of the one of a name
+-- The objects after a change of the one of a name
 abbrev pub changed : Objects → List ℕ → Change → Objects
 changed objects name Unchanged = objects
 changed objects name (Changed before after) = store objects name after

@@ -1,16 +1,39 @@
--- The index of a list: the place of each client's request by its number.
-use Rattle.std.specs.Prelude.{◌≡◌, ℕ, List}
-use Rattle.std.specs.Ordering.{nat_cmp, ordering_then}
-use Rattle.std.specs.declared.cmp.Ordering.{Ordering}
+-- The index of a list, which the code keeps: the requests of each client, by rising numbers.
+use Rattle.std.specs.Prelude.{◌≡◌, ℕ, suc, ◌<◌, List, [], ◌∷◌, Option, Some, None, Bool, false, if◌then◌else◌, ◌==◌, ◌||◌, nat_le, Vec}
+use Rattle.std.specs.List.{AllByRecursion}
+use Rattle.std.specs.Ordering.{nat_cmp}
 use Rattle.std.specs.BTreeMap as tree
 use Rattle.pg_log.specs.declared.places.Places.{Places}
 use Rattle.pg_log.specs.Requests.{ClientRequest}
-use Rattle.pg_log.specs.Refusals.{place_of}
 
--- by client, then by number
-abbrev pub pair_cmp : ℕ × ℕ → ℕ × ℕ → Ordering
-pair_cmp x y = ordering_then (nat_cmp x.0 y.0) (nat_cmp x.1 y.1)
+-- number and place of each request of a client, in a list that begins at a place
+abbrev pub standing_from : ℕ → ℕ → List ClientRequest → List (ℕ × ℕ)
+standing_from client at [] = []
+standing_from client at (r ∷ rs) = if r.client == client then (r.number, at) ∷ standing_from client (suc at) rs else standing_from client (suc at) rs
 
--- the index has the place of each request of the list, and nothing else
+abbrev pub standing : ℕ → List ClientRequest → List (ℕ × ℕ)
+standing client list = standing_from client 0 list
+
+-- the numbers rise
+abbrev pub IsRising : List (ℕ × ℕ) → Type 0
+IsRising [] = Unit {0}
+IsRising (x ∷ xs) = AllByRecursion (λ y. x.0 < y.0) xs × IsRising xs
+
+-- the first place of a number
+abbrev pub place_in : ℕ → List (ℕ × ℕ) → Option ℕ
+place_in number [] = None
+place_in number (x ∷ xs) = if x.0 == number then Some x.1 else place_in number xs
+
+-- whether there is this number or a greater one
+abbrev pub reaches_in : ℕ → List (ℕ × ℕ) → Bool
+reaches_in number [] = false
+reaches_in number (x ∷ xs) = nat_le number x.0 || reaches_in number xs
+
+-- what the index has of a client
+abbrev pub kept_of : {A : Type 0} → Option (Vec (ℕ × ℕ) A) → List (ℕ × ℕ)
+kept_of None = []
+kept_of (Some v) = v.items
+
+-- the index has the requests of each client, and nothing else
 abbrev pub ArePlaces : Places → List ClientRequest → Type 0
-ArePlaces places list = (client number : ℕ) → tree.get pair_cmp places.by_pair (client, number) ≡ place_of client number list
+ArePlaces places list = (client : ℕ) → kept_of (tree.get nat_cmp places.by_client client) ≡ standing client list

@@ -1,7 +1,9 @@
 -- Where a request stands in a list, and why one can't be added to it.
-use Rattle.std.specs.Prelude.{◌≡◌, ℕ, suc, ◌<◌, ◌⊎◌, List, [], ◌∷◌, ◌++◌, Option, Some, None, Result, Ok, Err, Bool, false, if◌then◌else◌, ◌==◌, ◌&&◌, ◌||◌, nat_lt, nat_le, slice_get, length, codes}
+use Rattle.std.specs.Prelude.{◌≡◌, ℕ, suc, ◌<◌, ◌⊎◌, List, [], ◌∷◌, ◌++◌, Option, Some, None, Result, Ok, Err, Bool, false, if◌then◌else◌, ◌==◌, ◌&&◌, ◌||◌, nat_lt, nat_le, slice_get, length, take, ◌+◌, codes}
+use Rattle.std.specs.Fmt.{decimal}
 use Rattle.bpf_decode.specs.Class.{ClassMethod}
 use Rattle.verifier.specs.Verified.{method_named}
+use Rattle.pg_log.specs.declared.group.TheConstants.{LOG_LIMIT}
 use Rattle.pg_log.specs.declared.log_error.LogError.{LogError}
 use Rattle.pg_log.specs.declared.log_error.LogError.TheVariants.{LogFull, StaleNumber, NoMemory, NoClass, NoMethod, InputTooLong}
 use Rattle.pg_log.specs.Requests.{ClientRequest}
@@ -23,6 +25,10 @@ name_of NoMemory = codes "NoMemory"
 name_of NoClass = codes "NoClass"
 name_of NoMethod = codes "NoMethod"
 name_of InputTooLong = codes "InputTooLong"
+
+-- what a refusal prints: number, blank and name
+abbrev pub log_error_text : LogError → List ℕ
+log_error_text e = decimal (number_of e) ++ codes " " ++ name_of e
 
 abbrev pub one_later : Option ℕ → Option ℕ
 one_later None = None
@@ -58,7 +64,7 @@ refusal_of_class (Some class) r = refusal_of_method (method_named class r.method
 -- Why a request can't follow a list, if it can't: the first that applies.
 abbrev pub refusal : Classes → List ClientRequest → ClientRequest → Option LogError
 refusal classes list r =
-    if nat_le 65536 (length list) then Some LogFull else
+    if nat_le LOG_LIMIT (length list) then Some LogFull else
     if is_reached r.client r.number list then Some StaleNumber else
     refusal_of_class (slice_get classes r.class) r
 
@@ -93,8 +99,14 @@ first_refusal_from classes before (r ∷ rs) = or_else (refusal classes before r
 abbrev pub first_refusal : Classes → List ClientRequest → Option LogError
 first_refusal classes list = first_refusal_from classes [] list
 
+-- Some request of the list may follow those before it, none of which is refused.
+pub record SomeCanRun (classes : Classes) (list : List ClientRequest) : Type 0 where
+  pub place : ℕ
+  pub within : place < length list
+  pub unrefused : first_refusal classes (take (place + 1) list) ≡ None
+
 -- The request may follow the list: there is room, its method can run, and its number is above those of its client.
 pub record Follows (classes : Classes) (list : List ClientRequest) (r : ClientRequest) : Type 0 where
-  pub room : length list < 65536
+  pub room : length list < LOG_LIMIT
   pub run : CanRun classes r
   pub above : (i : ℕ) (a : ClientRequest) → slice_get list i ≡ Some a → a.client ≡ r.client → a.number < r.number

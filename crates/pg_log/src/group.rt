@@ -1,10 +1,11 @@
 ghost use Rattle.std.specs.Prelude.{◌≡◌, ◌≤◌, ◌==◌, [], length, IfSome, IfNone, MatchOption, Some, None};
 ghost use Rattle.std.specs.Int.{w64, cast_unsigned};
 ghost use Rattle.std.specs.FinMap as fin;
+ghost use mathlib.Core.List.{IsPrefix};
 ghost use Rattle.interp.specs.Plain.{given_object};
 ghost use Rattle.pg_log.specs.Log.{Legal, fold, reply_at};
 ghost use Rattle.pg_log.specs.Refusals.{place_of};
-ghost use Rattle.pg_log.specs.Entries.{AreEntries, requests_of, given_reply};
+ghost use Rattle.pg_log.specs.Entries.{AreEntries, AreSafe, requests_of, given_reply};
 
 mod append;
 mod replay;
@@ -59,11 +60,33 @@ impl<C: Classes> Group<C> {
         }
     }
 
-    /// The entries, by place.
+    /// The same group, by a name with classes added.
+    pub fn with_classes_added<D: Classes>(self) -> Group<D>
+        requires { IsPrefix C.classes D.classes }
+        ensures { result ≡ self }
+    {
+        let Group {
+            of: _,
+            alloc,
+            entries,
+            objects,
+            places,
+        } = self;
+        Group {
+            of: PhantomData,
+            alloc,
+            entries,
+            objects,
+            places,
+        }
+    }
+
+    /// The entries, by place. Each method that one ran is safe.
     pub fn entries(&self) -> &[Entry]
         ensures requests { requests_of result.now ≡ self.now }
         ensures kept { AreEntries C.classes fin.empty result.now }
         ensures legal { Legal C.classes self.now }
+        ensures safe { AreSafe C.classes self.now }
     {
         &self.entries
     }
@@ -71,7 +94,7 @@ impl<C: Classes> Group<C> {
     /// How many entries the log has, at most 65,536.
     pub fn len(&self) -> usize
         ensures value { result ≡ length self.now }
-        ensures limit { length self.now ≤ 65536 }
+        ensures limit { length self.now ≤ LOG_LIMIT }
     {
         self.entries.len()
     }
@@ -96,8 +119,8 @@ impl<C: Classes> Group<C> {
         }
     }
 
-    /// The place of the client's request of that number, with its code and output. It costs a logarithm of the log's
-    /// length.
+    /// The place of the client's request of that number, with its code and output. It costs a logarithm of the number
+    /// of clients and one of the client's requests.
     pub fn reply_of(&self, client: ClientId, number: RequestNumber) -> Option<(usize, i64, &[u8])>
         ensures { MatchOption result
             (place_of client number self.now ≡ None)

@@ -11,24 +11,24 @@ use std::marker::Brand;
 pub trait GroupWork {
     ghost use Rattle.std.specs.Prelude.{List};
     ghost use Rattle.bpf_decode.specs.Class.{ClassMethod};
+    ghost use Rattle.pg_log.specs.Requests.{ClientRequest};
 
     /// What it gives.
     type Output;
 
-    /// What is known of that, by the classes.
-    ghost gives: { List (List ClassMethod) → Self.Output → Type 0 };
+    /// What is known of that, by the work, the classes, and the list of the group that it is handed.
+    ghost gives: { Self → List (List ClassMethod) → List ClientRequest → Self.Output → Type 0 };
 
-    /// Does it, from a group with an empty log. All calls on the group may be given the table.
+    /// Does it. All calls on the group may be given the table.
     fn work<C: Classes>(self, table: &ClassTable, group: Group<C>) -> Self::Output
         requires table { table.now ≡ C.classes }
         requires fits { IsPrefix table.now C.classes }
-        requires empty { group ≡ [] }
-        ensures { gives C.classes result };
+        ensures { gives self C.classes group result };
 }
 
-/// Names the classes of a table, and does the work with it and a group for those classes.
+/// Names the classes of a table, and does the work with it and an empty group for those classes.
 pub fn with_group<W: GroupWork>(alloc: Global, table: &ClassTable, work: W) -> W::Output
-    ensures { W.gives table.now result }
+    ensures { W.gives work table.now [] result }
 {
     start::<Brand, W>(alloc, table, work)
 }
@@ -36,7 +36,29 @@ pub fn with_group<W: GroupWork>(alloc: Global, table: &ClassTable, work: W) -> W
 /// The same, for classes that have a name.
 pub fn start<C: Classes, W: GroupWork>(alloc: Global, table: &ClassTable, work: W) -> W::Output
     requires { table.now ≡ C.classes }
-    ensures { W.gives table.now result }
+    ensures { W.gives work table.now [] result }
 {
     work.work::<C>(table, Group::new(alloc))
+}
+
+/// Goes on with a group where classes were added to its table: names the classes of the longer table, and does the work
+/// with it and the same group for those classes.
+pub fn go_on<C: Classes, W: GroupWork>(table: &ClassTable, group: Group<C>, work: W) -> W::Output
+    requires { IsPrefix C.classes table.now }
+    ensures { W.gives work table.now group result }
+{
+    go_on_as::<C, Brand, W>(table, group, work)
+}
+
+/// The same, for classes that have a name.
+pub fn go_on_as<C: Classes, D: Classes, W: GroupWork>(
+    table: &ClassTable,
+    group: Group<C>,
+    work: W,
+) -> W::Output
+    requires table { table.now ≡ D.classes }
+    requires fits { IsPrefix C.classes D.classes }
+    ensures { W.gives work table.now group result }
+{
+    work.work::<D>(table, group.with_classes_added::<D>())
 }

@@ -1,5 +1,5 @@
 //! Laws of legal lists, of their objects and of their replies, for the proofs of the crates above. Each function does nothing.
-ghost use Rattle.pg_log.specs.Laws.{BeginningsAreLegal, EmptyIsLegal, AppendIsAStep, FoldIsAStep, RepliesStay, LastReply, RepliesAreThere, PairsStandOnce, PlaceIsThePairs, PlaceHasThePair, ClassesAdded, RefusalsAreExact, ListsAreExact};
+ghost use Rattle.pg_log.specs.Laws.{BeginningsAreLegal, EmptyIsLegal, AppendIsAStep, FoldIsAStep, FoldGoesOn, FoldsStay, UndoingGoesBack, RepliesStay, LastReply, RepliesAreThere, PairsStandOnce, PlaceIsThePairs, PlaceHasThePair, ClassesAdded, RefusalsAreExact, ListsAreExact};
 
 /// Every beginning of a legal list is legal, the empty list too; a list with one request more is legal exactly where
 /// the list is and the request may follow it.
@@ -9,9 +9,17 @@ pub fn legal_lists()
     ensures append { AppendIsAStep }
 {}
 
-/// The objects of a list with one request more are those after that request.
+/// The objects of a list: with one request more those after that request, of a longer list those of the rest from those
+/// of the beginning, and of a beginning the same whatever follows.
 pub fn folds()
-    ensures { FoldIsAStep }
+    ensures step { FoldIsAStep }
+    ensures on { FoldGoesOn }
+    ensures stay { FoldsStay }
+{}
+
+/// Undoing the last entry's change gives the objects of the list before it.
+pub fn undoing()
+    ensures { UndoingGoesBack }
 {}
 
 /// The replies of a list: one at each place, that of the last request on the objects before it, and the same whatever
@@ -22,7 +30,7 @@ pub fn replies()
     ensures stay { RepliesStay }
 {}
 
-/// A pair of client and number stands at most once in a legal list, and its place is the one at which it stands.
+/// A pair of client and number stands at most once in a legal list, and its place is the one at which it stands, in range.
 pub fn pairs()
     ensures once { PairsStandOnce }
     ensures place { PlaceIsThePairs }

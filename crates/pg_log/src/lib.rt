@@ -1,7 +1,8 @@
 //! The log of a group, the sequential object that replication copies. `Group` runs requests one after another: `append`
 //! gives the place of a logged pair of client and number, or adds the request where the list stays legal, or refuses.
 //! Its objects, replies and index are always those of its list, by the machine's outcome of each request in turn.
-//! The classes that it may be handed are named by its type (`Classes`); `with_group` makes table and group together.
+//! The classes that it may be handed are named by its type (`Classes`); `with_group` names those of a table.
+//! A group goes on by a name with classes added (`go_on`).
 //! The laws of legal lists, of their objects and of their replies are contracts of functions that do nothing.
 #![tactic(auto)]
 
@@ -21,8 +22,8 @@ pub use classes::Classes;
 pub use client_id::ClientId;
 pub use entry::Entry;
 pub use group::{Group, LOG_LIMIT};
-pub use group_work::{GroupWork, start, with_group};
-pub use laws::{classes_added, folds, legal_lists, pairs, refusals, replies};
+pub use group_work::{GroupWork, go_on, go_on_as, start, with_group};
+pub use laws::{classes_added, folds, legal_lists, pairs, refusals, replies, undoing};
 pub use log_error::LogError;
 pub use request::Request;
 pub use request_number::RequestNumber;

@@ -3,11 +3,11 @@ ghost use Rattle.pg_log.specs.Refusals.{number_of, name_of};
 ghost use Rattle.pg_log.specs.declared.log_error.LogError.TheVariants.{NoMemory};
 
 use std::alloc::{AllocError, AllocFailed};
-use thiserror::Error;
+use std::error::Error;
+use std::fmt;
 
 /// Why a request isn't logged. It prints as number and name, as `2 StaleNumber`. Of several the first in the order 1, 2, 4, 5, 6, 3.
-#[derive(Clone, Copy, Debug, PartialEq, Eq, Error)]
-#[error("{} {}", self.number(), self.name())]
+#[derive(Clone, Copy, Debug, PartialEq, Eq)]
 pub enum LogError {
     /// The log has 65,536 entries.
     LogFull,
@@ -53,6 +53,20 @@ impl LogError {
         self.row().1
     }
 }
+
+impl fmt::Display for LogError {
+    ghost use Rattle.std.specs.Prelude.{Some};
+    ghost use Rattle.pg_log.specs.Refusals.{log_error_text};
+
+    ghost output = { λ e. Some (log_error_text e) };
+
+    fn fmt<W: fmt::Write>(&self, f: &mut fmt::Formatter<W>) -> fmt::Result {
+        let (number, name) = self.row();
+        write!(f, "{number} {name}")
+    }
+}
+
+impl Error for LogError {}
 
 impl From<AllocError> for LogError {
     ghost from_gives = { λ _ e. e ≡ NoMemory };

@@ -1,10 +1,11 @@
+mod added;
 mod append;
 mod full;
 mod replay;
 
 use crate::{
     ClientId, LogError, Request, RequestNumber, classes_added, folds, legal_lists, pairs, refusals,
-    replies,
+    replies, undoing,
 };
 use bpf_decode::{ClassImage, Method, decode};
 use interp::{ClassTable, ObjectName};
@@ -34,24 +35,24 @@ const WRITE: [[u8; 8]; 5] = [
     [0x95, 0, 0, 0, 0, 0, 0, 0],
 ];
 
-/// A class of one method `f` with in_cap 3.
-fn class(alloc: Global, code: &[[u8; 8]], flags: u8) -> Result<VerifiedClass, Fail> {
+/// A class of one method `f`.
+fn class(alloc: Global, code: &[[u8; 8]], flags: u8, in_cap: u16) -> Result<VerifiedClass, Fail> {
     let mut bytes = Vec::new(alloc);
     for slot in code {
         bytes.extend_from_slice(slot)?;
     }
     let name = String::from_str(alloc, "f")?;
     let mut methods = Vec::new(alloc);
-    methods.push(Method::new(name, flags, 3, 0, decode(alloc, &bytes)?))?;
+    methods.push(Method::new(name, flags, in_cap, 0, decode(alloc, &bytes)?))?;
     Ok(verify(alloc, &ClassImage::new(methods)?)?)
 }
 
 /// Class 0 succeeds, class 1 writes and fails, class 2 writes.
 fn table(alloc: Global) -> Result<ClassTable, Fail> {
     let mut table = ClassTable::new(alloc);
-    table.add(class(alloc, &SUCCEED, 1)?)?;
-    table.add(class(alloc, &WRITE_THEN_FAIL, 2)?)?;
-    table.add(class(alloc, &WRITE, 2)?)?;
+    table.add(class(alloc, &SUCCEED, 1, 3)?)?;
+    table.add(class(alloc, &WRITE_THEN_FAIL, 2, 3)?)?;
+    table.add(class(alloc, &WRITE, 2, 3)?)?;
     Ok(table)
 }
 
@@ -125,6 +126,7 @@ fn laws_do_nothing(rt: HostRuntime) {
     folds();
     replies();
     pairs();
+    undoing();
     classes_added();
     refusals();
     assert_eq!(rt; LogError::InputTooLong.number(), 6);

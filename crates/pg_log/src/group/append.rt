@@ -1,10 +1,12 @@
 ghost use Rattle.std.specs.Prelude.{◌≡◌, ◌∷◌, ◌++◌, ◌⊎◌, [], length, IfOk, IfErr, OnOk, OnErr, Some, None, Ok, Err};
 ghost use mathlib.Core.List.{IsPrefix};
+ghost use Rattle.bpf_decode.specs.Class.{ClassMethod};
+ghost use Rattle.bpf_machine.specs.Safe.{IsSafe};
 ghost use Rattle.verifier.specs.Verified.{method_named};
 ghost use Rattle.interp.specs.Plain.{given_object};
 ghost use Rattle.pg_log.specs.Log.{Legal, fold};
 ghost use Rattle.pg_log.specs.Refusals.{place_of, refusal, refusal_of_method, Refuses, append_answer, list_after};
-ghost use Rattle.pg_log.specs.Entries.{IsOutcome, IsOutcomeOn};
+ghost use Rattle.pg_log.specs.Entries.{IsOutcome, IsOutcomeOn, IsSafeRequest};
 
 use crate::classes::Classes;
 use crate::entry::Entry;
@@ -24,8 +26,9 @@ impl<C: Classes> Group<C> {
     ///
     /// The table is that of the earlier calls, or that one with classes added.
     ///
-    /// It costs the call that it runs, a logarithm of the log's length and of the number of objects, and a copy of the
-    /// object where the call changed it. A logged pair costs a logarithm of the log's length.
+    /// It costs the call that it runs, a logarithm of the number of clients and one of the number of objects, and a copy
+    /// of the object where the call changed it. A logged pair runs nothing, and costs a logarithm of the number of
+    /// clients and one of the client's requests.
     pub fn append(&mut self, table: &ClassTable, request: Request) -> Result<usize, LogError>
         requires { IsPrefix table.now C.classes }
         // The answer by the list; want of memory only where the request would be added.
@@ -50,9 +53,11 @@ impl<C: Classes> Group<C> {
     pub(crate) fn run(&self, table: &ClassTable, request: &Request) -> Result<Outcome, LogError>
         ensures ok { IfOk result (λ o. (refusal table.now self.now request.now ≡ None) × IsOutcomeOn table.now (fold C.classes self.now) request.now o.code o.output.items o.change) }
         ensures err { IfErr result (λ e. Refuses (refusal table.now self.now request.now) e) }
+        ensures safe { IfOk result (λ _. IsSafeRequest table.now request.now) }
         ensures legal { Legal C.classes self.now }
     {
-        if self.entries.len() >= LOG_LIMIT {
+        let full = self.entries.len() >= LOG_LIMIT;
+        if full {
             return Err(LogError::LogFull);
         }
         if self.places.is_reached(request.client(), request.number()) {
@@ -73,6 +78,7 @@ impl<C: Classes> Group<C> {
     /// and, where the call changed it, that of the object.
     pub(crate) fn keep(&mut self, entry: Entry) -> Result<usize, LogError>
         requires legal { Legal C.classes (self.old ++ entry.request ∷ []) }
+        requires safe { IsSafeRequest C.classes entry.request }
         requires outcome { IsOutcomeOn C.classes (fold C.classes self.old) entry.request entry.code entry.output.items entry.change }
         ensures ok { IfOk result (λ place. (place ≡ length self.old) × (self.new ≡ self.old ++ entry.request ∷ [])) }
         ensures err { IfErr result (λ e. (e ≡ LogError.NoMemory) × (self.new ≡ self.old)) }
@@ -81,13 +87,13 @@ impl<C: Classes> Group<C> {
         let client = entry.request.client();
         let number = entry.request.number();
         self.entries.reserve(1)?;
-        self.places.add(client, number, place)?;
+        self.places.add(self.alloc, client, number, place)?;
         if self
             .objects
             .apply(self.alloc, entry.request.object(), &entry.change)
             .is_err()
         {
-            self.places.remove(client, number);
+            self.places.remove(client);
             return Err(LogError::NoMemory);
         }
         self.entries.push_reserved(entry);
@@ -104,14 +110,20 @@ fn run_method(
 ) -> Result<Outcome, LogError>
     ensures ok { IfOk result (λ o. (refusal_of_method (method_named class.now request.now.method) request.now ≡ None)
         × IsOutcome (method_named class.now request.now.method) (given_object object.entry) request.now o.code o.output.items o.change) }
+    ensures safe { IfOk result (λ _. (m : ClassMethod) → method_named class.now request.now.method ≡ Some m → IsSafe m) }
     ensures err { IfErr result (λ e. Refuses (refusal_of_method (method_named class.now request.now.method) request.now) e) }
 {
     outcomes();
     let _ = class.methods();
+    let name = request.method();
+    let Some(method) = class.method(name) else {
+        return Err(LogError::NoMethod);
+    };
+    let _ = method.ops();
     match call(
         alloc,
         class,
-        request.method(),
+        name,
         object,
         request.client().get(),
         request.input(),

@@ -1,6 +1,6 @@
 ghost use Rattle.std.specs.Prelude.{◌≡◌, ◌⊎◌, IfOk, IfErr, Some, None};
 ghost use mathlib.Core.List.{IsPrefix};
-ghost use Rattle.pg_log.specs.Refusals.{first_refusal};
+ghost use Rattle.pg_log.specs.Refusals.{first_refusal, SomeCanRun};
 
 use crate::classes::Classes;
 use crate::entry::Entry;
@@ -12,13 +12,14 @@ use std::alloc::Global;
 
 impl<C: Classes> Group<C> {
     /// The group of a list: runs each request in turn. It refuses as `append` refuses the first request that can't
-    /// follow those before it, save that a pair that stands twice is `StaleNumber`, or by `NoMemory`.
+    /// follow those before it, save that a pair that stands twice is `StaleNumber`, or by `NoMemory` at a request that
+    /// can.
     ///
     /// The table is that of the earlier calls, or that one with classes added. It costs what the appends cost.
     pub fn replay(alloc: Global, table: &ClassTable, list: &[Request]) -> Result<Group<C>, LogError>
         requires { IsPrefix table.now C.classes }
         ensures ok { IfOk result (λ g. (g ≡ list.now) × (first_refusal table.now list.now ≡ None)) }
-        ensures err { IfErr result (λ e. (e ≡ LogError.NoMemory) ⊎ (first_refusal table.now list.now ≡ Some e)) }
+        ensures err { IfErr result (λ e. (first_refusal table.now list.now ≡ Some e) ⊎ ((e ≡ LogError.NoMemory) × SomeCanRun table.now list.now)) }
     {
         let mut group = Group::new(alloc);
         for request in list {

@@ -31,7 +31,7 @@ struct Appends<'a, R> {
 impl<R: Abort> GroupWork for Appends<'_, R> {
     type Output = Result<(), Fail>;
 
-    ghost gives = { λ _ _. Unit {0} };
+    ghost gives = { λ _ _ _ _. Unit {0} };
 
     fn work<C: Classes>(self, table: &ClassTable, mut group: Group<C>) -> Result<(), Fail> {
         for &(client, number, class, method, input, answer) in self.rows {

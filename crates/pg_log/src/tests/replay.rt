@@ -16,7 +16,7 @@ struct Replays<'a, R> {
 impl<R: Abort> GroupWork for Replays<'_, R> {
     type Output = Result<(), Fail>;
 
-    ghost gives = { λ _ _. Unit {0} };
+    ghost gives = { λ _ _ _ _. Unit {0} };
 
     fn work<C: Classes>(self, table: &ClassTable, mut group: Group<C>) -> Result<(), Fail> {
         for request in &self.list {
@@ -74,7 +74,7 @@ struct Twice<'a, R> {
 impl<R: Abort> GroupWork for Twice<'_, R> {
     type Output = ();
 
-    ghost gives = { λ _ _. Unit {0} };
+    ghost gives = { λ _ _ _ _. Unit {0} };
 
     fn work<C: Classes>(self, table: &ClassTable, group: Group<C>) {
         let _ = group;

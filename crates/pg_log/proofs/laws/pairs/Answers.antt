@@ -1,4 +1,4 @@
-use Rattle.pg_log.proofs.Standing.{same_place, place_of-has, place_of-legal}
+use Rattle.pg_log.proofs.Standing.{same_place, place_of-within, place_of-legal}
 use Rattle.pg_log.proofs.laws.pairs.Goals as goal
 
 pub returns-clause-once : goal.returns-clause-once
@@ -8,4 +8,4 @@ pub returns-clause-place : goal.returns-clause-place
 returns-clause-place c = place_of-legal
 
 pub returns-clause-there : goal.returns-clause-there
-returns-clause-there c = place_of-has
+returns-clause-there c = place_of-within

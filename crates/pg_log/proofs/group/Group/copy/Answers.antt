@@ -6,8 +6,8 @@ use Rattle.std.proofs.lemmas.Option.{slice_get_read}
 use Rattle.interp.specs.declared.change.Change.{Change}
 use Rattle.pg_log.specs.Requests.{ClientRequest}
 use Rattle.pg_log.specs.Log.{Legal, fold}
-use Rattle.pg_log.specs.Entries.{requests_of, IsOutcomeOn}
-use Rattle.pg_log.proofs.Kept.{entry_at, entry_follows, entry_next, length-requests}
+use Rattle.pg_log.specs.Entries.{requests_of, IsOutcomeOn, IsSafeRequest}
+use Rattle.pg_log.proofs.Kept.{entry_at, entry_follows, entry_next, length-requests, requests_at}
 use Rattle.pg_log.proofs.group.Group.copy.Goals as goal
 
 pub keep-requires-clause-legal : goal.keep-requires-clause-legal
@@ -58,3 +58,13 @@ returns-clause-ok g c =
     let all : length (requests_of items) ≤ c.loop-entry.entry-index = omega arith in
     c.loop-entry.invariant ∙ take_all c.loop-entry.entry-index (requests_of items) all
     ∙ ap (λ w. requests_of w) c.deref-entry-items.ensures.value ∙ c.self.view_is
+
+pub keep-requires-clause-safe : goal.keep-requires-clause-safe
+keep-requires-clause-safe g c =
+    let classes = g.C.Classes.classes in
+    let es = c.self.inside.entries.items in
+    let k = c.loop-entry.entry-index in
+    let item = c.entry-item.result in
+    let at : slice_get es k ≡ Some item = ap (λ w. slice_get w k) (sym c.deref-entry-items.ensures.value) ∙ slice_get_read c.deref-entry-items.result.now _ k item refl c.loop-entry-test.true c.entry-item.is in
+    let P : ClientRequest → Type 0 = IsSafeRequest classes in
+    subst P (sym c.in_ok-copy.ensures.ok.request) (c.self.invariant.safe k item.request (requests_at es k item at))

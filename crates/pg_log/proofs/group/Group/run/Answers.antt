@@ -3,11 +3,12 @@ use Rattle.std.specs.List.{slice_get}
 use Rattle.std.specs.FinMap as fin
 use Rattle.bpf_decode.specs.Class.{ClassMethod}
 use Rattle.bpf_machine.specs.Object.{Object}
+use Rattle.bpf_machine.specs.Safe.{IsSafe}
 use Rattle.verifier.specs.Verified.{method_named}
 use Rattle.interp.specs.Plain.{given_object}
 use Rattle.pg_log.specs.declared.log_error.LogError.{LogError}
 use Rattle.pg_log.specs.Requests.{ClientRequest}
-use Rattle.pg_log.specs.Log.{method_in, method_of, fold}
+use Rattle.pg_log.specs.Log.{NumbersRise, method_in, method_of, fold}
 use Rattle.pg_log.specs.Refusals.{is_reached, refusal, refusal_of_class, refusal_of_method, Refuses}
 use Rattle.pg_log.specs.Places.{ArePlaces}
 use Rattle.pg_log.specs.Entries.{IsOutcome}
@@ -15,8 +16,8 @@ use Rattle.pg_log.proofs.Kept.{length-requests}
 use Rattle.pg_log.proofs.Ran.{refusal-full, refusal-stale, refusal-class}
 use Rattle.pg_log.proofs.group.Group.run.Goals as goal
 
-pub returns-then-len-ge-LOG_LIMIT-clause-err : goal.returns-then-len-ge-LOG_LIMIT-clause-err
-returns-then-len-ge-LOG_LIMIT-clause-err g c =
+pub returns-then-full-clause-err : goal.returns-then-full-clause-err
+returns-then-full-clause-err g c =
     let n = length-requests c.self.inside.entries.items c.args.self.now c.self.view_is in
     inl (refusal-full c.args.table.now c.args.self.now c.args.request.now (omega arith))
 
@@ -24,22 +25,24 @@ pub returns-then-is_reached-clause-err : goal.returns-then-is_reached-clause-err
 returns-then-is_reached-clause-err g c =
     let n = length-requests c.self.inside.entries.items c.args.self.now c.self.view_is in
     let P : List ClientRequest → Type 0 = ArePlaces c.self.inside.places in
+    let R : List ClientRequest → Type 0 = NumbersRise in
     let r = c.args.request.now in
     let xs = c.args.self.now in
     let reached : is_reached r.client r.number xs ≡ true =
     ap (λ k. is_reached k r.number xs) (sym c.client.ensures) ∙ ap (λ k. is_reached c.client.result k xs) (sym c.number.ensures)
-    ∙ sym (c.is_reached.ensures xs (subst P c.self.view_is c.self.invariant.indexed)) ∙ c.if-is_reached.true in
+    ∙ sym (c.is_reached.ensures xs (subst P c.self.view_is c.self.invariant.indexed) (subst R c.self.view_is c.self.invariant.legal.rise)) ∙ c.if-is_reached.true in
     inl (refusal-stale c.args.table.now xs r (omega arith) reached)
 
 pub returns-in_default-clause-err : goal.returns-in_default-clause-err
 returns-in_default-clause-err g c =
     let n = length-requests c.self.inside.entries.items c.args.self.now c.self.view_is in
     let P : List ClientRequest → Type 0 = ArePlaces c.self.inside.places in
+    let R : List ClientRequest → Type 0 = NumbersRise in
     let r = c.args.request.now in
     let xs = c.args.self.now in
     let reached : is_reached r.client r.number xs ≡ false =
     ap (λ k. is_reached k r.number xs) (sym c.client.ensures) ∙ ap (λ k. is_reached c.client.result k xs) (sym c.number.ensures)
-    ∙ sym (c.is_reached.ensures xs (subst P c.self.view_is c.self.invariant.indexed)) ∙ c.if-is_reached.false in
+    ∙ sym (c.is_reached.ensures xs (subst P c.self.view_is c.self.invariant.indexed) (subst R c.self.view_is c.self.invariant.legal.rise)) ∙ c.if-is_reached.false in
     inl (refusal-class c.args.table.now xs r (omega arith) reached
     ∙ ap (λ o. refusal_of_class o r) (ap (slice_get c.args.table.now) (sym c.class.ensures) ∙ sym c.in_default.ensures.found))
 
@@ -47,13 +50,14 @@ pub returns-clause-ok : goal.returns-clause-ok
 returns-clause-ok g c =
     let n = length-requests c.self.inside.entries.items c.args.self.now c.self.view_is in
     let P : List ClientRequest → Type 0 = ArePlaces c.self.inside.places in
+    let R : List ClientRequest → Type 0 = NumbersRise in
     let r = c.args.request.now in
     let xs = c.args.self.now in
     let table = c.args.table.now in
     let class = c.in-Some.class.now in
     let reached : is_reached r.client r.number xs ≡ false =
     ap (λ k. is_reached k r.number xs) (sym c.client.ensures) ∙ ap (λ k. is_reached c.client.result k xs) (sym c.number.ensures)
-    ∙ sym (c.is_reached.ensures xs (subst P c.self.view_is c.self.invariant.indexed)) ∙ c.if-is_reached.false in
+    ∙ sym (c.is_reached.ensures xs (subst P c.self.view_is c.self.invariant.indexed) (subst R c.self.view_is c.self.invariant.legal.rise)) ∙ c.if-is_reached.false in
     let at : slice_get table r.class ≡ Some class = ap (slice_get table) (sym c.class.ensures) ∙ sym c.in-Some.ensures.found in
     let why : refusal table xs r ≡ refusal_of_method (method_named class r.method) r =
     refusal-class table xs r (omega arith) reached ∙ ap (λ o. refusal_of_class o r) at in
@@ -70,15 +74,25 @@ pub returns-clause-err : goal.returns-clause-err
 returns-clause-err g c =
     let n = length-requests c.self.inside.entries.items c.args.self.now c.self.view_is in
     let P : List ClientRequest → Type 0 = ArePlaces c.self.inside.places in
+    let R : List ClientRequest → Type 0 = NumbersRise in
     let r = c.args.request.now in
     let xs = c.args.self.now in
     let table = c.args.table.now in
     let class = c.in-Some.class.now in
     let reached : is_reached r.client r.number xs ≡ false =
     ap (λ k. is_reached k r.number xs) (sym c.client.ensures) ∙ ap (λ k. is_reached c.client.result k xs) (sym c.number.ensures)
-    ∙ sym (c.is_reached.ensures xs (subst P c.self.view_is c.self.invariant.indexed)) ∙ c.if-is_reached.false in
+    ∙ sym (c.is_reached.ensures xs (subst P c.self.view_is c.self.invariant.indexed) (subst R c.self.view_is c.self.invariant.legal.rise)) ∙ c.if-is_reached.false in
     let at : slice_get table r.class ≡ Some class = ap (slice_get table) (sym c.class.ensures) ∙ sym c.in-Some.ensures.found in
     let why : refusal table xs r ≡ refusal_of_method (method_named class r.method) r =
     refusal-class table xs r (omega arith) reached ∙ ap (λ o. refusal_of_class o r) at in
     let A : Option LogError → Type 0 = λ w. IfErr c.run_method.result (λ e. Refuses w e) in
     subst A (sym why) c.run_method.ensures.err
+
+pub returns-clause-safe : goal.returns-clause-safe
+returns-clause-safe g c =
+    let r = c.args.request.now in
+    let class = c.in-Some.class.now in
+    let at = ap (slice_get c.args.table.now) (sym c.class.ensures) ∙ sym c.in-Some.ensures.found in
+    let method = ap (λ o. method_in o r.method) at in
+    let P : Option ClassMethod → Type 0 = λ w. IfOk c.run_method.result (λ _. (m : ClassMethod) → w ≡ Some m → IsSafe m) in
+    subst P (sym method) c.run_method.ensures.safe

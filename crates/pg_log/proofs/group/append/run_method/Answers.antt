@@ -1,4 +1,8 @@
-use Rattle.std.proofs.Common.{◌∙◌, ℕ, List, subst}
+use Rattle.std.proofs.Common.{◌∙◌, ap, ℕ, List, subst}
+use Rattle.std.proofs.lemmas.Option.{same_Some}
+use Rattle.bpf_decode.specs.Class.{ClassMethod}
+use Rattle.bpf_machine.specs.Safe.{IsSafe}
+use Rattle.verifier.specs.Verified.{method_named}
 use Rattle.interp.specs.Plain.{given_object, Answers}
 use Rattle.pg_log.proofs.Ran.{ran}
 use Rattle.pg_log.proofs.group.append.run_method.Goals as goal
@@ -13,4 +17,10 @@ returns-in-Ok-clause-ok c =
     let Q : ℕ → Type 0 = λ w. Answers class r.method object w c.input.result.now o in
     let R : List ℕ → Type 0 = λ w. Answers class r.method object r.client w o in
     ran c.outcomes.ensures class c.methods.ensures.class object r o
-    (subst R c.input.ensures (subst Q (c.get.ensures.value ∙ c.client.ensures) (subst P c.method.ensures c.in-Ok.ensures.ok)))
+    (subst R c.input.ensures (subst Q (c.get.ensures.value ∙ c.client.ensures) (subst P c.method-name.ensures c.in-Ok.ensures.ok)))
+
+pub returns-in-Ok-clause-safe : goal.returns-in-Ok-clause-safe
+returns-in-Ok-clause-safe c = λ m e.
+    let P : ClassMethod → Type 0 = IsSafe in
+    let found = c.in-Some.ensures ∙ ap (method_named c.args.class.now) c.method-name.ensures in
+    subst P (same_Some c.in-Some.method.now m (found ∙ e)) c.ops.ensures.verified.safe

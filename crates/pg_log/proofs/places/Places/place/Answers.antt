@@ -1,0 +1,14 @@
+use Rattle.std.proofs.Common.{◌∙◌, ap, refl, []}
+use Rattle.pg_log.specs.Places.{kept_of}
+use Rattle.pg_log.proofs.Indexed.{place_found}
+use Rattle.pg_log.proofs.places.Places.place.Goals as goal
+
+pub returns-in-Some : goal.returns-in-Some
+returns-in-Some c = λ list is rise.
+    place_found c.deref.result.now c.args.client c.args.number c.get.result c.get-in-Some.result list rise
+    (c.deref.ensures.value ∙ ap (λ o. kept_of o) c.in-Some.ensures.value ∙ is c.get.result) c.get.ensures.value c.get-in-Some.ensures.value c.find.result c.find.ensures
+
+pub returns-in-None : goal.returns-in-None
+returns-in-None c = λ list is rise.
+    place_found [] c.args.client c.args.number c.get.result c.args.number list rise
+    (ap (λ o. kept_of o) c.in-None.ensures.value ∙ is c.get.result) c.get.ensures.value refl _ (λ h. refl)
