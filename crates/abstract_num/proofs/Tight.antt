@@ -1,0 +1,209 @@
+-- Tightening keeps every number.
+use Rattle.std.specs.Prelude.{ℕ, ℤ, pos, negsuc, ◌<ℤ◌, ◌+ℤ◌, ◌-ℤ◌, ◌≤ℤ◌, int_le, int_lt, nat_lt, nat_le, ◌==◌, ◌&&◌, unsigned_abs, ◌+◌, ◌-◌, ◌^◌, ◌≡◌, ◌≤◌, ◌<◌, min, max, Bool, true, false, cond, Option, Some, None, IsSomeAnd, bit_and, bit_or}
+use Rattle.std.specs.Int.{bit_at, int_max, int_min}
+use Rattle.std.proofs.Common.{sym, ap, ◌∙◌, refl, arith, subst}
+use Rattle.std.proofs.lemmas.Int.{ints, clamps, int_max_is, int_min_is}
+use Rattle.std.proofs.lemmas.Nat.{or_disjoint, and_le_r}
+use Rattle.std.proofs.lemmas.Nat.Bits.{bit_at_and, bit_at_or, bit_at-lt, bit_at-zero, same_from_bits}
+use Rattle.abstract_num.specs.Masks.{clear}
+use Rattle.abstract_num.specs.PartsFit.{bit_at_clear}
+use Rattle.abstract_num.specs.BitsRowLaws.{clear_zero}
+use Rattle.abstract_num.specs.Cases.{cond_dec, cond_both}
+use Rattle.abstract_num.specs.Signed.{signed}
+use Rattle.abstract_num.specs.Plain.{Plain, Number, Holds, Gives, Kept, constant}
+use Rattle.abstract_num.specs.Tighten.{natural, less_all, plus_all, by_bits, meet_signed, meet_unsigned, by_unsigned, by_signed, agrees_with, by_constant, tighten}
+
+-- the code's answer keeps what the table's keeps
+pub from_table : (t : Option Plain) (r : Option Number) (n : ℕ) → Gives t r → IsSomeAnd t (λ z. Holds z n) → Kept r n
+from_table t None n g k = let h = subst (λ (o : Option Plain). IsSomeAnd o (λ z. Holds z n)) g k in h
+from_table t (Some z) n g k = subst (λ (o : Option Plain). IsSomeAnd o (λ z. Holds z n)) g k
+
+by_cases : {A : Type 0} (a n : ℕ) → (a ≤ n → A) → (n < a → A) → A
+by_cases a n f g = cond_dec (nat_le a n) (λ e. f (grind arith)) (λ e. g (grind arith))
+
+le_through : (a b c : ℤ) → a ≤ℤ b → b ≤ℤ c → a ≤ℤ c
+le_through a b c p q = omega (arith, ints)
+
+lt_through : (a b : ℤ) → b <ℤ pos 0 → a ≤ℤ b → a <ℤ pos 0
+lt_through a b p q = omega (arith, ints)
+
+up_by : (z : ℤ) (n : ℕ) → z ≤ℤ less_all n → (z +ℤ pos (2 ^ 64)) ≤ℤ pos n
+up_by z n h = omega (arith, ints)
+
+down_by : (z : ℤ) (n : ℕ) → less_all n ≤ℤ z → pos n ≤ℤ (z +ℤ pos (2 ^ 64))
+down_by z n h = omega (arith, ints)
+
+negative_high : (z : ℤ) (n : ℕ) → z ≡ less_all n → pos 0 ≤ℤ z → n < 2 ^ 64 → ⊥
+negative_high z n e p q = omega (arith, ints)
+
+positive_low : (z : ℤ) (n : ℕ) → z ≡ pos n → z <ℤ pos 0 → ⊥
+positive_low z n e p = omega (arith, ints)
+
+high_least : (p z : ℤ) (a n : ℕ) → z ≡ less_all n → p ≤ℤ z → a ≤ n → int_max p (less_all a) ≤ℤ z
+high_least p z a n e h k = omega (arith, ints, clamps)
+
+high_most : (q z : ℤ) (b n : ℕ) → z ≡ less_all n → z ≤ℤ q → n ≤ b → z ≤ℤ int_min q (less_all b)
+high_most q z b n e h k = omega (arith, ints, clamps)
+
+pub clear_and_rest : (n m : ℕ) → clear n m + bit_and n m ≡ n
+clear_and_rest n m =
+    let apart : bit_and (clear n m) (bit_and n m) ≡ 0 =
+    same_from_bits (bit_and (clear n m) (bit_and n m)) 0
+    (λ i. omega (arith, bit_at_and (clear n m) (bit_and n m) i, bit_at_clear n m i, bit_at_and n m i, bit_at-zero i, bit_at-lt n i, bit_at-lt m i)) in
+    let whole : bit_or (clear n m) (bit_and n m) ≡ n =
+    same_from_bits (bit_or (clear n m) (bit_and n m)) n
+    (λ i. omega (arith, bit_at_or (clear n m) (bit_and n m) i, bit_at_clear n m i, bit_at_and n m i, bit_at-lt n i, bit_at-lt m i)) in
+    sym (or_disjoint (clear n m) (bit_and n m) apart) ∙ whole
+
+mask_sound : (x : Plain) (n : ℕ) → Holds x n → Holds (by_bits x) n
+mask_sound x n h =
+    let r = clear_and_rest n x.unknown in
+    let s = and_le_r n x.unknown in
+    let a : clear n x.unknown ≡ x.value = h.agrees in
+    record { fits = h.fits; above = omega arith; below = omega arith; at_least = h.at_least; at_most = h.at_most; agrees = h.agrees }
+
+signed_high : (n : ℕ) → 2 ^ 63 ≤ n → n < 2 ^ 64 → signed n ≡ less_all n
+signed_high n p q =
+    cond_both (λ z. z ≡ less_all n) (nat_lt n (2 ^ 63)) _ _ (λ e. absurd (grind arith)) (λ e. omega (arith, ints))
+
+signed_low : (n : ℕ) → n < 2 ^ 63 → signed n ≡ pos n
+signed_low n p = omega (arith, ints)
+
+below_natural : (z : ℤ) (n : ℕ) → z ≤ℤ pos n → natural z ≤ n
+below_natural (pos k) n h = omega (arith, ints)
+below_natural (negsuc k) n h = omega arith
+
+above_natural : (z : ℤ) (n : ℕ) → pos n ≤ℤ z → n ≤ natural z
+above_natural (pos k) n h = omega (arith, ints)
+above_natural (negsuc k) n h = omega (arith, ints)
+
+sign_sound : (x : Plain) (n : ℕ) → Holds x n → Holds (by_unsigned x) n
+sign_sound x n h =
+    cond_both (λ y. Holds y n) (nat_lt x.high (2 ^ 63)) _ _
+    (λ e. let k : x.high < 2 ^ 63 = grind arith in
+    record { fits = h.fits; above = h.above; below = h.below; agrees = h.agrees; at_least = omega (arith, ints, clamps, h.at_least, h.above, h.below); at_most = omega (arith, ints, clamps, h.at_most, h.above, h.below) })
+    (λ e. cond_both (λ y. Holds y n) (nat_le (2 ^ 63) x.low) _ _
+    (λ f. let k : 2 ^ 63 ≤ x.low = grind arith in
+    let s : signed n ≡ less_all n = signed_high n (omega arith) h.fits in
+    record { fits = h.fits; above = h.above; below = h.below; agrees = h.agrees; at_least = high_least x.least (signed n) x.low n s h.at_least h.above; at_most = high_most x.greatest (signed n) x.high n s h.at_most h.below })
+    (λ f. h))
+
+sign_of : (n : ℕ) → pos 0 ≤ℤ signed n → n < 2 ^ 64 → n < 2 ^ 63
+sign_of n p q =
+    by_cases (2 ^ 63) n (λ l. let s : signed n ≡ less_all n = signed_high n l q in absurd (negative_high (signed n) n s p q)) (λ l. l)
+
+sign_below : (n : ℕ) → signed n <ℤ pos 0 → n < 2 ^ 64 → 2 ^ 63 ≤ n
+sign_below n p q =
+    by_cases (2 ^ 63) n (λ l. l) (λ l. let s : signed n ≡ pos n = signed_low n l in absurd (positive_low (signed n) n s p))
+
+range_sound : (x : Plain) (n : ℕ) → Holds x n → Holds (by_signed x) n
+range_sound x n h =
+    cond_both (λ y. Holds y n) (int_le (pos 0) x.least) _ _
+    (λ e. let k : pos 0 ≤ℤ x.least = grind (arith, ints) in
+    let l : n < 2 ^ 63 = sign_of n (le_through (pos 0) x.least (signed n) k h.at_least) h.fits in
+    let s : signed n ≡ pos n = signed_low n l in
+    let a : natural x.least ≤ n = below_natural x.least n (rw s at h.at_least) in
+    let b : n ≤ natural x.greatest = above_natural x.greatest n (rw s at h.at_most) in
+    record { fits = h.fits; above = omega (arith, h.above); below = omega (arith, h.below); agrees = h.agrees; at_least = h.at_least; at_most = h.at_most })
+    (λ e. cond_both (λ y. Holds y n) (int_lt x.greatest (pos 0)) _ _
+    (λ f. let k : x.greatest <ℤ pos 0 = grind (arith, ints) in
+    let l : 2 ^ 63 ≤ n = sign_below n (lt_through (signed n) x.greatest k h.at_most) h.fits in
+    let s : signed n ≡ less_all n = signed_high n l h.fits in
+    let a : plus_all x.least ≤ n = below_natural (x.least +ℤ pos (2 ^ 64)) n (up_by x.least n (rw s at h.at_least)) in
+    let b : n ≤ plus_all x.greatest = above_natural (x.greatest +ℤ pos (2 ^ 64)) n (down_by x.greatest n (rw s at h.at_most)) in
+    record { fits = h.fits; above = omega (arith, h.above); below = omega (arith, h.below); agrees = h.agrees; at_least = h.at_least; at_most = h.at_most })
+    (λ f. h))
+
+crossed : (x : Plain) (n : ℕ) → Holds x n → nat_lt x.high x.low ≡ true → ⊥
+crossed x n h e = grind arith
+
+crossed_signs : (x : Plain) (n : ℕ) → Holds x n → int_lt x.greatest x.least ≡ true → ⊥
+crossed_signs x n h e =
+    let a = h.at_least in
+    let b = h.at_most in grind (arith, ints)
+
+agrees_sound : (x : Plain) (n : ℕ) → Holds x n → agrees_with x n ≡ false → ⊥
+agrees_sound x n h e =
+    let a = h.at_least in
+    let b = h.at_most in
+    let d : clear n x.unknown ≡ x.value = h.agrees in grind (arith, ints)
+
+constant_holds : (n : ℕ) → n < 2 ^ 64 → Holds (constant n) n
+constant_holds n q = record { fits = q; above = omega arith; below = omega arith; at_least = omega (arith, ints); at_most = omega (arith, ints); agrees = clear_zero n }
+
+abbrev Left : ℕ → Option Plain → Type 0
+Left n o = IsSomeAnd o (λ y. Holds y n)
+
+settle_sound : (x : Plain) (n : ℕ) → Holds x n → Left n (by_constant x)
+settle_sound x n h =
+    cond_both (Left n) (x.low == x.high) _ _
+    (λ e. let s : n ≡ x.low = grind (arith, h.above, h.below) in
+    subst (λ (k : ℕ). Left n (cond (agrees_with x k) (Some (constant k)) None)) s
+    (cond_both (Left n) (agrees_with x n) (Some (constant n)) None (λ f. constant_holds n h.fits) (λ f. agrees_sound x n h f)))
+    (λ e. h)
+
+pub tighten_sound : (x : Plain) (n : ℕ) → Holds x n → IsSomeAnd (tighten x) (λ y. Holds y n)
+unfolding tighten
+tighten_sound x n h =
+    let y = by_bits x in
+    let z = by_unsigned y in
+    let w = by_signed z in
+    let hy : Holds y n = mask_sound x n h in
+    let hz : Holds z n = sign_sound y n hy in
+    let hw : Holds w n = range_sound z n hz in
+    cond_both (Left n) (nat_lt y.high y.low) _ _ (λ e. absurd (crossed y n hy e))
+    (λ e. cond_both (Left n) (int_lt z.greatest z.least) _ _ (λ e. absurd (crossed_signs z n hz e))
+    (λ e. cond_both (Left n) (nat_lt w.high w.low) _ _ (λ e. absurd (crossed w n hw e))
+    (λ e. settle_sound w n hw)))
+
+-- a number whose numbers are below 2 ^ 64 stays so
+pub record Fits (x : Plain) : Type 0 where
+  pub high : x.high < 2 ^ 64
+  pub unknown : x.unknown < 2 ^ 64
+
+record Shrinks (x z : Plain) : Type 0 where
+  high : z.high ≤ x.high
+  unknown : z.unknown ≡ x.unknown
+
+shrinks_same : (x : Plain) → Shrinks x x
+shrinks_same x = record { high = omega arith; unknown = refl }
+
+bits_shrink : (x : Plain) → Shrinks x (by_bits x)
+bits_shrink x = record { high = omega arith; unknown = refl }
+
+unsigned_shrinks : (x : Plain) → Shrinks x (by_unsigned x)
+unsigned_shrinks x =
+    cond_both (λ z. Shrinks x z) (nat_lt x.high (2 ^ 63)) _ _
+    (λ _. record { high = omega arith; unknown = refl })
+    (λ _. cond_both (λ z. Shrinks x z) (nat_le (2 ^ 63) x.low) _ _ (λ _. record { high = omega arith; unknown = refl }) (λ _. shrinks_same x))
+
+signed_shrinks : (x : Plain) → Shrinks x (by_signed x)
+signed_shrinks x =
+    cond_both (λ z. Shrinks x z) (int_le (pos 0) x.least) _ _
+    (λ _. record { high = omega arith; unknown = refl })
+    (λ _. cond_both (λ z. Shrinks x z) (int_lt x.greatest (pos 0)) _ _ (λ _. record { high = omega arith; unknown = refl }) (λ _. shrinks_same x))
+
+fits_on : (x z : Plain) → Fits x → Shrinks x z → Fits z
+fits_on x z f s = record { high = omega (arith, f.high, s.high); unknown = omega (arith, f.unknown, s.unknown) }
+
+-- of what is left
+abbrev pub AllFit : Option Plain → Type 0
+AllFit None = Unit {0}
+AllFit (Some z) = Fits z
+
+constant_fits : (x : Plain) → Fits x → AllFit (by_constant x)
+constant_fits x f =
+    cond_both AllFit (x.low == x.high) _ _
+    (λ e. cond_both AllFit (agrees_with x x.low) _ _ (λ _. record { high = grind (arith, f.high); unknown = omega arith }) (λ _. tt))
+    (λ _. f)
+
+pub tighten_fits : (x : Plain) → Fits x → AllFit (tighten x)
+unfolding tighten
+tighten_fits x f =
+    let y = by_bits x in
+    let z = by_unsigned y in
+    let w = by_signed z in
+    let g = fits_on z w (fits_on y z (fits_on x y f (bits_shrink x)) (unsigned_shrinks y)) (signed_shrinks z) in
+    cond_both AllFit (nat_lt y.high y.low) _ _ (λ _. tt)
+    (λ _. cond_both AllFit (int_lt z.greatest z.least) _ _ (λ _. tt)
+    (λ _. cond_both AllFit (nat_lt w.high w.low) _ _ (λ _. tt) (λ _. constant_fits w g)))

@@ -1,0 +1,5 @@
+use Rattle.abstract_num.specs.BitsLaws.{bits_same}
+use Rattle.abstract_num.proofs.bits.domain.BitsDomain.join.Goals as goal
+
+pub returns : goal.returns
+returns c = bits_same _ _ c.known.ensures.0 c.known.ensures.1

@@ -1,0 +1,6 @@
+use Rattle.std.proofs.Common.{rules, arith}
+use Rattle.abstract_num.specs.RangeLaws.{srange_same}
+use Rattle.abstract_num.proofs.srange.domain.SRangeDomain.join.Goals as goal
+
+pub returns : goal.returns
+returns c = srange_same _ _ (search rules) (search rules)

@@ -1,0 +1,27 @@
+use Rattle.std.proofs.Common.{rules, arith, ap, ◌∙◌, sym, refl, FitsSigned, ◌+ℤ◌, ◌-ℤ◌, w64}
+use Rattle.std.proofs.lemmas.Int.{to_z-of_z}
+use Rattle.abstract_num.specs.SignedRowLaws.{ends_fit, low_end_too_far, high_end_too_far}
+use Rattle.abstract_num.proofs.srange.rows.add.Goals as goal
+
+pub returns-in_default-checked_add : goal.returns-in_default-checked_add
+returns-in_default-checked_add c =
+    let a1 : FitsSigned w64 c.args.left.low = search rules in
+    let a2 : FitsSigned w64 c.args.left.high = search rules in
+    let a3 : FitsSigned w64 c.args.right.low = search rules in
+    let a4 : FitsSigned w64 c.args.right.high = search rules in
+    let h = simp to_z-of_z at c.in_default-checked_add.ensures in
+    let l = simp to_z-of_z at c.in-Some.ensures in
+    rw (high_end_too_far (c.args.left.low +ℤ c.args.right.low) (c.args.left.high +ℤ c.args.right.high) l.0 h) c.every-in_default-checked_add.ensures
+
+pub returns : goal.returns
+returns c =
+    let a1 : FitsSigned w64 c.args.left.low = search rules in
+    let a2 : FitsSigned w64 c.args.left.high = search rules in
+    let a3 : FitsSigned w64 c.args.right.low = search rules in
+    let a4 : FitsSigned w64 c.args.right.high = search rules in
+    let a5 : FitsSigned w64 c.in-Some.low = search rules in
+    let a6 : FitsSigned w64 c.in-Some-checked_add.high = search rules in
+    let h = simp to_z-of_z at c.in-Some-checked_add.ensures in
+    let l = simp to_z-of_z at c.in-Some.ensures in
+    rw (ends_fit (c.args.left.low +ℤ c.args.right.low) (c.args.left.high +ℤ c.args.right.high) l.0 h.0)
+    (to_z-of_z w64 c.in-Some.low a5 ∙ l.1, to_z-of_z w64 c.in-Some-checked_add.high a6 ∙ h.1)

@@ -1,0 +1,110 @@
+-- What the edges of a comparison leave of its two numbers.
+use Rattle.std.specs.Prelude.{ℕ, ◌^◌, nat_lt, ◌==◌, ◌&&◌, ◌||◌, Bool, true, false, if◌then◌else◌, Option, Some, None, option_map, option_and_then}
+use Rattle.bpf_decode.specs.declared.operation.Bits.{Bits}
+use Rattle.bpf_decode.specs.declared.operation.Bits.TheVariants.{Bits32, Bits64}
+use Rattle.bpf_decode.specs.declared.operation.Comparison.{Comparison}
+use Rattle.bpf_decode.specs.declared.operation.Comparison.TheVariants as is
+use Rattle.abstract_num.specs.Plain.{Plain}
+use Rattle.abstract_num.specs.Tighten.{tighten}
+use Rattle.abstract_num.specs.Transfer.{is_constant}
+use Rattle.abstract_num.specs.UnsignedFacts.{unsigned_fact, crosses}
+use Rattle.abstract_num.specs.SignedFacts.{signed_fact, crosses as signs_cross}
+use Rattle.abstract_num.specs.BitsFacts.{bits_fact, denied}
+use Rattle.abstract_num.specs.declared.fact.Fact.{Fact}
+use Rattle.abstract_num.specs.declared.fact.Fact.TheVariants.{Same, Above, AtLeast, SignedAbove, SignedAtLeast, Meets, Not, NoneOf}
+use Rattle.abstract_num.specs.declared.fact.Edge.{Edge}
+use Rattle.abstract_num.specs.declared.fact.Edge.TheVariants.{Ahead, Turned, Apart, Disjoint}
+
+-- How the first and the second number stand to one another where a comparison holds, and where it doesn't.
+abbrev pub told : Comparison → Bool → Edge
+told is.Equal true = Ahead Same
+told is.Equal false = Apart
+told is.NotEqual true = Apart
+told is.NotEqual false = Ahead Same
+told is.Greater true = Ahead Above
+told is.Greater false = Turned AtLeast
+told is.GreaterEqual true = Ahead AtLeast
+told is.GreaterEqual false = Turned Above
+told is.Less true = Turned Above
+told is.Less false = Ahead AtLeast
+told is.LessEqual true = Turned AtLeast
+told is.LessEqual false = Ahead Above
+told is.SignedGreater true = Ahead SignedAbove
+told is.SignedGreater false = Turned SignedAtLeast
+told is.SignedGreaterEqual true = Ahead SignedAtLeast
+told is.SignedGreaterEqual false = Turned SignedAbove
+told is.SignedLess true = Turned SignedAbove
+told is.SignedLess false = Ahead SignedAtLeast
+told is.SignedLessEqual true = Turned SignedAtLeast
+told is.SignedLessEqual false = Ahead SignedAbove
+told is.SharesBits true = Ahead Meets
+told is.SharesBits false = Disjoint
+
+abbrev pub Pair : Type 0
+Pair = Plain × Plain
+
+-- nothing is left of a part
+abbrev pub leaves_nothing : Fact → Plain → Plain → Bool
+leaves_nothing f x y =
+    crosses (unsigned_fact f x.low x.high y.low y.high)
+    || (signs_cross (signed_fact f x.least x.greatest y.least y.greatest) || denied f x.value x.unknown y.value y.unknown)
+
+-- what a fact leaves of both, part by part
+abbrev pub left_of : Fact → Plain → Plain → Pair
+left_of f x y =
+    let u = unsigned_fact f x.low x.high y.low y.high in
+    let s = signed_fact f x.least x.greatest y.least y.greatest in
+    let b = bits_fact f x.value x.unknown y.value y.unknown in (
+      record { low = u.0.0; high = u.0.1; least = s.0.0; greatest = s.0.1; value = b.0.0; unknown = b.0.1 },
+      record { low = u.1.0; high = u.1.1; least = s.1.0; greatest = s.1.1; value = b.1.0; unknown = b.1.1 },
+    )
+
+abbrev pub by_fact : Fact → Plain → Plain → Option Pair
+by_fact f x y = (if leaves_nothing f x y then None else Some (left_of f x y))
+
+abbrev pub turned : Pair → Pair
+turned s = (s.1, s.0)
+
+abbrev pub first_of : Pair → Plain
+first_of s = s.0
+
+-- x, other than y where that is constant
+abbrev pub other_than : Plain → Plain → Option Plain
+other_than x y = (if is_constant y then option_map first_of (by_fact (Not y.low) x y) else Some x)
+
+abbrev pub both : Option Plain → Option Plain → Option Pair
+both a b = option_and_then (λ x. option_map (λ y. (x, y)) b) a
+
+abbrev pub by_edge : Edge → Plain → Plain → Option Pair
+by_edge (Ahead f) x y = by_fact f x y
+by_edge (Turned f) x y = option_map turned (by_fact f y x)
+by_edge Apart x y = both (other_than x y) (other_than y x)
+by_edge Disjoint x y = (if is_constant y then by_fact (NoneOf y.low) x y else Some (x, y))
+
+abbrev pub is_signed : Comparison → Bool
+is_signed is.SignedGreater = true
+is_signed is.SignedGreaterEqual = true
+is_signed is.SignedLess = true
+is_signed is.SignedLessEqual = true
+is_signed _ = false
+
+-- Below this the low halves compare as the whole numbers do.
+abbrev pub short_end : Comparison → ℕ
+short_end comparison = (if is_signed comparison then 2 ^ 31 else 2 ^ 32)
+
+-- a comparison of 32 bits tells nothing of a number that may be longer
+abbrev pub tells : Bits → Comparison → Plain → Plain → Bool
+tells Bits64 comparison x y = true
+tells Bits32 comparison x y = nat_lt x.high (short_end comparison) && nat_lt y.high (short_end comparison)
+
+abbrev pub refined : Bits → Comparison → Bool → Plain → Plain → Option Pair
+refined bits comparison taken x y =
+    (if tells bits comparison x y then by_edge (told comparison taken) x y else Some (x, y))
+
+-- both tightened once
+abbrev pub tightened : Pair → Option Pair
+tightened s = both (tighten s.0) (tighten s.1)
+
+-- along an edge
+abbrev pub along : Bits → Comparison → Bool → Plain → Plain → Option Pair
+along bits comparison taken x y = option_and_then tightened (refined bits comparison taken x y)

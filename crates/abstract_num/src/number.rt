@@ -1,0 +1,217 @@
+ghost use Rattle.std.specs.Prelude.{◌≡◌, ℕ, ◌+◌, ◌-◌, ◌*◌, ◌^◌, ◌<◌, ◌≤◌, ◌≤ℤ◌, ◌↔◌, Some, IsTrue, IfSome, ℤ, pos, negsuc};
+ghost use Rattle.bpf_decode.specs.Instruction.{byte_count, signed_byte_count};
+ghost use Rattle.bpf_decode.specs.Arithmetic.{signed_load_value};
+ghost use Rattle.abstract_num.specs.Signed.{signed};
+ghost use Rattle.abstract_num.specs.Masks.{clear};
+ghost use Rattle.abstract_num.specs.Plain.{Holds, Below, any, constant, join, view};
+ghost use Rattle.abstract_num.specs.Tighten.{tighten};
+ghost use Rattle.abstract_num.specs.Transfer.{is_constant, constant_of, ranged, signed_ranged, load_high, signed_low, signed_high};
+ghost use Rattle.abstract_num.specs.Laws.{joined};
+
+use crate::bits::Bits;
+use crate::domain::Domain;
+use crate::product::Product;
+use crate::srange::SRange;
+use crate::tightening::tighten;
+use crate::urange::URange;
+use bpf_decode::{SignedWidth, Width};
+
+/// What is known of a number below `2^64`: the numbers that lie in both ranges and agree with the known bits.
+pub type Number = Product<URange, Product<SRange, Bits>>;
+
+/// Every number.
+pub fn any() -> Number
+    ensures table { view result ≡ any }
+    ensures holds { (n : ℕ) → n < 2 ^ 64 → Holds (view result) n }
+{
+    Product {
+        first: URange {
+            low: 0,
+            high: u64::MAX,
+        },
+        second: Product {
+            first: SRange {
+                low: i64::MIN,
+                high: i64::MAX,
+            },
+            second: Bits {
+                value: 0,
+                unknown: u64::MAX,
+            },
+        },
+    }
+}
+
+/// The number `n` alone.
+pub fn constant(n: u64) -> Number
+    ensures table { view result ≡ constant n }
+    ensures holds { (k : ℕ) → Holds (view result) k ↔ (k ≡ n) }
+{
+    Product {
+        first: URange { low: n, high: n },
+        second: Product {
+            first: SRange {
+                low: n.cast_signed(),
+                high: n.cast_signed(),
+            },
+            second: Bits {
+                value: n,
+                unknown: 0,
+            },
+        },
+    }
+}
+
+/// The range from `low` to `high`, tightened once.
+fn tightened(low: u64, high: u64) -> Number
+    requires { low ≤ high }
+    ensures { tighten (ranged low high) ≡ Some (view result) }
+{
+    let wide = Product {
+        first: URange { low, high },
+        second: any().second,
+    };
+    match tighten(wide) {
+        Some(x) => x,
+        None => unreachable!(),
+    }
+}
+
+/// The numbers from `low` to `high`, tightened once.
+pub fn between(low: u64, high: u64) -> Number
+    requires { low ≤ high }
+    ensures table { tighten (ranged low high) ≡ Some (view result) }
+    ensures holds { (n : ℕ) → low ≤ n → n ≤ high → Holds (view result) n }
+{
+    tightened(low, high)
+}
+
+/// The signed range from `low` to `high`, tightened once.
+fn signed_tightened(low: i64, high: i64) -> Number
+    requires { low ≤ℤ high }
+    ensures { tighten (signed_ranged low high) ≡ Some (view result) }
+{
+    let wide = any();
+    let wide = Product {
+        first: wide.first,
+        second: Product {
+            first: SRange { low, high },
+            second: wide.second.second,
+        },
+    };
+    match tighten(wide) {
+        Some(x) => x,
+        None => unreachable!(),
+    }
+}
+
+/// The numbers that are from `low` to `high` as signed ones, tightened once.
+pub fn signed_between(low: i64, high: i64) -> Number
+    requires { low ≤ℤ high }
+    ensures table { tighten (signed_ranged low high) ≡ Some (view result) }
+    ensures holds { (n : ℕ) → n < 2 ^ 64 → low ≤ℤ signed n → signed n ≤ℤ high → Holds (view result) n }
+{
+    signed_tightened(low, high)
+}
+
+/// The numbers of a load that fills with zeros.
+fn of_load(width: Width) -> Number
+    ensures { tighten (ranged 0 (load_high width)) ≡ Some (view result) }
+{
+    match width {
+        Width::Byte => between(0, 0xff),
+        Width::Half => between(0, 0xffff),
+        Width::Word => between(0, 0xffff_ffff),
+        Width::Double => between(0, u64::MAX),
+    }
+}
+
+/// What a load that fills with zeros may give: the range, tightened once.
+pub fn loaded(width: Width) -> Number
+    ensures table { tighten (ranged 0 (load_high width)) ≡ Some (view result) }
+    ensures holds { (n : ℕ) → n < 256 ^ byte_count width → Holds (view result) n }
+{
+    of_load(width)
+}
+
+/// The numbers of a load that extends the sign.
+fn of_signed_load(width: SignedWidth) -> Number
+    ensures { tighten (signed_ranged (signed_low width) (signed_high width)) ≡ Some (view result) }
+{
+    match width {
+        SignedWidth::Byte => signed_between(-0x80, 0x7f),
+        SignedWidth::Half => signed_between(-0x8000, 0x7fff),
+        SignedWidth::Word => signed_between(-0x8000_0000, 0x7fff_ffff),
+    }
+}
+
+/// What a load that extends the sign may give: the range, tightened once.
+pub fn loaded_signed(width: SignedWidth) -> Number
+    ensures table { tighten (signed_ranged (signed_low width) (signed_high width)) ≡ Some (view result) }
+    ensures holds { (n : ℕ) → n < 256 ^ signed_byte_count width → Holds (view result) (signed_load_value width n) }
+{
+    of_signed_load(width)
+}
+
+/// An upper bound of both, not tightened.
+pub fn join(x: Number, y: Number) -> Number
+    ensures table { view result ≡ join (view x) (view y) }
+    ensures joined { result ≡ joined x y }
+{
+    x.join(y)
+}
+
+/// Whether `x` is below `y` in the order of the join.
+pub fn is_below(x: Number, y: Number) -> bool
+    ensures { IsTrue result ↔ Below (view x) (view y) }
+{
+    x.is_below(y)
+}
+
+/// Whether `n` agrees with the known bits.
+fn agrees(bits: Bits, n: u64) -> bool
+    ensures { IsTrue result ↔ (clear n bits.unknown ≡ bits.value) }
+{
+    (n ^ (n & bits.unknown)) == bits.value
+}
+
+/// Whether `n` lies in the range.
+fn lies_in(range: URange, n: u64) -> bool
+    ensures { IsTrue result ↔ (range.low ≤ n) × (n ≤ range.high) }
+{
+    range.low <= n && n <= range.high
+}
+
+/// Whether `n` lies in the range as a signed number.
+fn lies_in_signed(range: SRange, n: u64) -> bool
+    ensures { IsTrue result ↔ (range.low ≤ℤ signed n) × (signed n ≤ℤ range.high) }
+{
+    range.low <= n.cast_signed() && n.cast_signed() <= range.high
+}
+
+/// Whether the number holds `n`.
+pub fn holds(x: &Number, n: u64) -> bool
+    ensures { IsTrue result ↔ Holds (view x.now) n }
+{
+    lies_in(x.first, n) && lies_in_signed(x.second.first, n) && agrees(x.second.second, n)
+}
+
+/// The unsigned upper bound.
+pub fn highest(x: &Number) -> u64
+    ensures table { result ≡ (view x.now).high }
+    ensures bound { (n : ℕ) → Holds (view x.now) n → n ≤ result }
+{
+    x.first.high
+}
+
+/// The constant that the number is, if its unsigned range is one number.
+pub fn constant_of(x: &Number) -> Option<u64>
+    ensures table { result ≡ constant_of (view x.now) }
+    ensures only { IfSome result (λ c. (n : ℕ) → Holds (view x.now) n → n ≡ c) }
+{
+    if x.first.low == x.first.high {
+        Some(x.first.low)
+    } else {
+        None
+    }
+}

@@ -1,0 +1,190 @@
+ghost use Rattle.std.specs.Prelude.{◌≡◌, ℕ, IsSomeAnd, MatchOption, Some, None};
+ghost use Rattle.bpf_decode.specs.Arithmetic.{is_taken};
+ghost use Rattle.abstract_num.specs.Plain.{Gives, GivesBoth, Holds, view};
+ghost use Rattle.abstract_num.specs.Edges.{along, by_edge, by_fact, is_signed, other_than, refined, short_end, tells, told};
+
+use crate::domain::Domain;
+use crate::fact::{Edge, Fact};
+use crate::number::Number;
+use crate::tightening::tighten;
+use crate::transfer::is_constant;
+use bpf_decode::{Bits, Comparison};
+
+/// How the two numbers stand to one another where a comparison holds, and where it doesn't.
+fn told(comparison: Comparison, taken: bool) -> Edge
+    ensures { result ≡ told comparison taken }
+{
+    match comparison {
+        Comparison::Equal if taken => Edge::Ahead(Fact::Same),
+        Comparison::Equal => Edge::Apart,
+        Comparison::NotEqual if taken => Edge::Apart,
+        Comparison::NotEqual => Edge::Ahead(Fact::Same),
+        Comparison::Greater if taken => Edge::Ahead(Fact::Above),
+        Comparison::Greater => Edge::Turned(Fact::AtLeast),
+        Comparison::GreaterEqual if taken => Edge::Ahead(Fact::AtLeast),
+        Comparison::GreaterEqual => Edge::Turned(Fact::Above),
+        Comparison::Less if taken => Edge::Turned(Fact::Above),
+        Comparison::Less => Edge::Ahead(Fact::AtLeast),
+        Comparison::LessEqual if taken => Edge::Turned(Fact::AtLeast),
+        Comparison::LessEqual => Edge::Ahead(Fact::Above),
+        Comparison::SignedGreater if taken => Edge::Ahead(Fact::SignedAbove),
+        Comparison::SignedGreater => Edge::Turned(Fact::SignedAtLeast),
+        Comparison::SignedGreaterEqual if taken => Edge::Ahead(Fact::SignedAtLeast),
+        Comparison::SignedGreaterEqual => Edge::Turned(Fact::SignedAbove),
+        Comparison::SignedLess if taken => Edge::Turned(Fact::SignedAbove),
+        Comparison::SignedLess => Edge::Ahead(Fact::SignedAtLeast),
+        Comparison::SignedLessEqual if taken => Edge::Turned(Fact::SignedAtLeast),
+        Comparison::SignedLessEqual => Edge::Ahead(Fact::SignedAbove),
+        Comparison::SharesBits if taken => Edge::Ahead(Fact::Meets),
+        Comparison::SharesBits => Edge::Disjoint,
+    }
+}
+
+/// What a fact leaves of both numbers, part by part.
+fn by_fact(fact: Fact, x: Number, y: Number) -> Option<(Number, Number)>
+    ensures { GivesBoth (by_fact fact (view x) (view y)) result }
+{
+    Number::refine(fact, x, y)
+}
+
+/// What a fact of the second and the first number leaves of both.
+fn by_turned(fact: Fact, x: Number, y: Number) -> Option<(Number, Number)>
+    ensures { GivesBoth (by_edge (Edge.Turned fact) (view x) (view y)) result }
+{
+    match by_fact(fact, y, x) {
+        Some(both) => Some((both.1, both.0)),
+        None => None,
+    }
+}
+
+/// `x`, other than `y` where that is constant.
+fn other_than(x: Number, y: Number) -> Option<Number>
+    ensures { Gives (other_than (view x) (view y)) result }
+{
+    if is_constant(y) {
+        match by_fact(Fact::Not(y.first.low), x, y) {
+            Some(both) => Some(both.0),
+            None => None,
+        }
+    } else {
+        Some(x)
+    }
+}
+
+/// Two different numbers.
+fn apart(x: Number, y: Number) -> Option<(Number, Number)>
+    ensures { GivesBoth (by_edge Edge.Apart (view x) (view y)) result }
+{
+    let Some(a) = other_than(x, y) else {
+        return None;
+    };
+    let Some(b) = other_than(y, x) else {
+        return None;
+    };
+    Some((a, b))
+}
+
+/// Two numbers without a set bit in common.
+fn disjoint(x: Number, y: Number) -> Option<(Number, Number)>
+    ensures { GivesBoth (by_edge Edge.Disjoint (view x) (view y)) result }
+{
+    if is_constant(y) {
+        by_fact(Fact::NoneOf(y.first.low), x, y)
+    } else {
+        Some((x, y))
+    }
+}
+
+/// What an edge leaves of both numbers, not tightened.
+fn by_edge(edge: Edge, x: Number, y: Number) -> Option<(Number, Number)>
+    ensures { GivesBoth (by_edge edge (view x) (view y)) result }
+{
+    match edge {
+        Edge::Ahead(fact) => by_fact(fact, x, y),
+        Edge::Turned(fact) => by_turned(fact, x, y),
+        Edge::Apart => apart(x, y),
+        Edge::Disjoint => disjoint(x, y),
+    }
+}
+
+/// Below this the low halves compare as the whole numbers do.
+fn short_end(comparison: Comparison) -> u64
+    ensures { result ≡ short_end comparison }
+{
+    match comparison {
+        Comparison::SignedGreater
+        | Comparison::SignedGreaterEqual
+        | Comparison::SignedLess
+        | Comparison::SignedLessEqual => 1 << 31,
+        _ => 1 << 32,
+    }
+}
+
+/// Whether a comparison tells something: one of 32 bits tells nothing of a number that may be longer.
+fn tells(bits: Bits, comparison: Comparison, x: Number, y: Number) -> bool
+    ensures { result ≡ tells bits comparison (view x) (view y) }
+{
+    match bits {
+        Bits::Bits64 => true,
+        Bits::Bits32 => {
+            let end = short_end(comparison);
+            x.first.high < end && y.first.high < end
+        }
+    }
+}
+
+/// What the comparison's edge leaves of both numbers, not tightened.
+fn refined(
+    bits: Bits,
+    comparison: Comparison,
+    taken: bool,
+    x: Number,
+    y: Number,
+) -> Option<(Number, Number)>
+    ensures { GivesBoth (refined bits comparison taken (view x) (view y)) result }
+{
+    if tells(bits, comparison, x, y) {
+        by_edge(told(comparison, taken), x, y)
+    } else {
+        Some((x, y))
+    }
+}
+
+/// What the comparison's edge leaves of both numbers, each tightened once.
+fn along(
+    bits: Bits,
+    comparison: Comparison,
+    taken: bool,
+    x: Number,
+    y: Number,
+) -> Option<(Number, Number)>
+    ensures { GivesBoth (along bits comparison taken (view x) (view y)) result }
+{
+    let Some(both) = refined(bits, comparison, taken, x, y) else {
+        return None;
+    };
+    let Some(a) = tighten(both.0) else {
+        return None;
+    };
+    let Some(b) = tighten(both.1) else {
+        return None;
+    };
+    Some((a, b))
+}
+
+/// What is left of both numbers of a comparison along the edge where it holds (`taken`) or doesn't: by the table, each
+/// tightened once, and so that every pair of numbers held before for which the comparison goes this way is held after.
+/// None where there is no such pair. The number of a register that is compared with itself isn't refined but tightened.
+pub fn refine(
+    bits: Bits,
+    comparison: Comparison,
+    taken: bool,
+    x: Number,
+    y: Number,
+) -> Option<(Number, Number)>
+    ensures table { GivesBoth (along bits comparison taken (view x) (view y)) result }
+    ensures keeps { (m n : ℕ) → Holds (view x) m → Holds (view y) n → is_taken bits comparison m n ≡ taken
+        → IsSomeAnd result (λ s. Holds (view s.0) m × Holds (view s.1) n) }
+{
+    along(bits, comparison, taken, x, y)
+}

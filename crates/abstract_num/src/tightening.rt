@@ -1,0 +1,125 @@
+ghost use Rattle.std.specs.Prelude.{◌≡◌, ℕ, ◌<◌, ◌<ℤ◌, MatchOption};
+ghost use Rattle.abstract_num.specs.Plain.{Gives, Holds, Kept, view};
+ghost use Rattle.abstract_num.specs.Tighten.{by_bits, by_constant, by_signed, by_unsigned, meet_signed, meet_unsigned, tighten};
+
+use crate::bits::Bits;
+use crate::number::Number;
+use crate::product::Product;
+use crate::srange::SRange;
+use crate::urange::URange;
+
+/// The unsigned range from `low` to `high`, met with x's; none where the ends cross.
+fn meet_unsigned(x: Number, low: u64, high: u64) -> Option<Number>
+    ensures { let y = meet_unsigned (view x) low high in MatchOption result (y.high < y.low) (λ z. view z ≡ y) }
+{
+    let low = x.first.low.max(low);
+    let high = x.first.high.min(high);
+    if high < low {
+        return None;
+    }
+    Some(Product {
+        first: URange { low, high },
+        second: x.second,
+    })
+}
+
+/// The signed range from `low` to `high`, met with x's; none where the ends cross.
+fn meet_signed(x: Number, low: i64, high: i64) -> Option<Number>
+    ensures { let y = meet_signed (view x) low high in MatchOption result (y.greatest <ℤ y.least) (λ z. view z ≡ y) }
+{
+    let low = x.second.first.low.max(low);
+    let high = x.second.first.high.min(high);
+    if high < low {
+        return None;
+    }
+    Some(Product {
+        first: x.first,
+        second: Product {
+            first: SRange { low, high },
+            second: x.second.second,
+        },
+    })
+}
+
+/// The unsigned range meets what the bits allow.
+fn by_bits(x: Number) -> Option<Number>
+    ensures { let y = by_bits (view x) in MatchOption result (y.high < y.low) (λ z. view z ≡ y) }
+{
+    let bits = x.second.second;
+    meet_unsigned(x, bits.value, bits.value + bits.unknown)
+}
+
+/// The signed range meets the unsigned one, where its numbers have one sign.
+fn by_unsigned(x: Number) -> Option<Number>
+    ensures { let y = by_unsigned (view x) in MatchOption result (y.greatest <ℤ y.least) (λ z. view z ≡ y) }
+{
+    if x.first.high < 1 << 63 || x.first.low >= 1 << 63 {
+        meet_signed(x, x.first.low.cast_signed(), x.first.high.cast_signed())
+    } else {
+        Some(x)
+    }
+}
+
+/// The unsigned range meets the signed one, where its numbers have one sign.
+fn by_signed(x: Number) -> Option<Number>
+    ensures { let y = by_signed (view x) in MatchOption result (y.high < y.low) (λ z. view z ≡ y) }
+{
+    let sign = x.second.first;
+    if sign.low >= 0 || sign.high < 0 {
+        meet_unsigned(x, sign.low.cast_unsigned(), sign.high.cast_unsigned())
+    } else {
+        Some(x)
+    }
+}
+
+/// The constant, where the unsigned range is one number; none where bits or signed range deny it.
+fn by_constant(x: Number) -> Option<Number>
+    ensures { Gives (by_constant (view x)) result }
+{
+    let n = x.first.low;
+    if n != x.first.high {
+        return Some(x);
+    }
+    let s = n.cast_signed();
+    let sign = x.second.first;
+    let bits = x.second.second;
+    if (n ^ (n & bits.unknown)) == bits.value && sign.low <= s && s <= sign.high {
+        Some(Product {
+            first: x.first,
+            second: Product {
+                first: SRange { low: s, high: s },
+                second: Bits {
+                    value: n,
+                    unknown: 0,
+                },
+            },
+        })
+    } else {
+        None
+    }
+}
+
+/// The four steps, one after another.
+fn stepped(x: Number) -> Option<Number>
+    ensures { Gives (tighten (view x)) result }
+{
+    let Some(y) = by_bits(x) else {
+        return None;
+    };
+    let Some(z) = by_unsigned(y) else {
+        return None;
+    };
+    let Some(w) = by_signed(z) else {
+        return None;
+    };
+    by_constant(w)
+}
+
+/// Passes once what each part knows to the others, in the order of the table: bits to the unsigned range, that to the
+/// signed one and back, and a single number to all parts. A second time may tighten further. None where no number is left.
+pub fn tighten(x: Number) -> Option<Number>
+    ensures table { Gives (tighten (view x)) result }
+    ensures keeps { (n : ℕ) → Holds (view x) n → Kept result n }
+{
+    stepped(x)
+}

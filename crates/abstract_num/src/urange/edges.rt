@@ -1,0 +1,77 @@
+ghost use Rattle.std.specs.Prelude.{◌≡◌};
+ghost use Rattle.abstract_num.specs.Refined.{IsRefined};
+ghost use Rattle.abstract_num.specs.UnsignedFacts.{crosses};
+ghost use Rattle.abstract_num.specs.UnsignedFactLaws.{AreSpans, URangeRefines};
+
+use crate::fact::Fact;
+use crate::urange::URange;
+
+/// The ranges between the ends, or none where two ends cross.
+fn between(low: u64, high: u64, other_low: u64, other_high: u64) -> Option<(URange, URange)>
+    ensures { IsRefined (crosses ((low, high), (other_low, other_high))) (AreSpans ((low, high), (other_low, other_high))) result }
+{
+    if high < low || other_high < other_low {
+        None
+    } else {
+        Some((
+            URange { low, high },
+            URange {
+                low: other_low,
+                high: other_high,
+            },
+        ))
+    }
+}
+
+pub(super) fn same(left: URange, right: URange) -> Option<(URange, URange)>
+    ensures { URangeRefines Fact.Same left right result }
+{
+    let low = left.low.max(right.low);
+    let high = left.high.min(right.high);
+    between(low, high, low, high)
+}
+
+pub(super) fn above(left: URange, right: URange) -> Option<(URange, URange)>
+    ensures { URangeRefines Fact.Above left right result }
+{
+    if left.high <= right.low {
+        return None;
+    }
+    between(
+        left.low.max(right.low + 1),
+        left.high,
+        right.low,
+        right.high.min(left.high - 1),
+    )
+}
+
+pub(super) fn at_least(left: URange, right: URange) -> Option<(URange, URange)>
+    ensures { URangeRefines Fact.AtLeast left right result }
+{
+    between(
+        left.low.max(right.low),
+        left.high,
+        right.low,
+        right.high.min(left.high),
+    )
+}
+
+pub(super) fn other_than(left: URange, right: URange, c: u64) -> Option<(URange, URange)>
+    ensures { URangeRefines (Fact.Not c) left right result }
+{
+    if left.low == left.high && left.low == c {
+        None
+    } else {
+        let low = if left.low == c {
+            left.low + 1
+        } else {
+            left.low
+        };
+        let high = if left.high == c {
+            left.high - 1
+        } else {
+            left.high
+        };
+        between(low, high, right.low, right.high)
+    }
+}
