@@ -39,25 +39,25 @@ module _ (caps : Caps) (lay : Layout) where
   stops (Some f) next s v h = exit_row f next s (is_exit f (reg s 0) v h)
 
   -- an exit has no step
-  pub exit_stops : (code : List ℕ) (s : State ℕ) (v : ℕ) → exit_code caps lay code s ≡ Some v → step caps lay code s ≡ None
+  pub exit_stops : (code : List ℕ) (s : State ℕ) (v : ℕ) → exit_code code s ≡ Some v → step caps lay code s ≡ None
   exit_stops code s v h = stops (fields_of (at_slot code s.slot)) (fields_of (drop 8 (at_slot code s.slot))) s v h
 
   module _ (code : List ℕ) where
     -- a state with a step is at no exit
-    goes_from : (s t : State ℕ) → step caps lay code s ≡ Some t → exit_code caps lay code s ≡ None
-    goes_from s t st = by_exit (exit_code caps lay code s) refl
+    goes_from : (s t : State ℕ) → step caps lay code s ≡ Some t → exit_code code s ≡ None
+    goes_from s t st = by_exit (exit_code code s) refl
       where
-        by_exit : (x : Option ℕ) → exit_code caps lay code s ≡ x → exit_code caps lay code s ≡ None
+        by_exit : (x : Option ℕ) → exit_code code s ≡ x → exit_code code s ≡ None
         by_exit None e = e
         by_exit (Some v) e = absurd (none-some t (sym (exit_stops code s v e) ∙ st))
 
     -- on the way to an exit no state is stuck
-    never : (k n : ℕ) (s last t : State ℕ) (v : ℕ) → Chain caps lay code k s last → exit_code caps lay code last ≡ Some v → Chain caps lay code n s t → IsStuck caps lay code t → ⊥
+    never : (k n : ℕ) (s last t : State ℕ) (v : ℕ) → Chain caps lay code k s last → exit_code code last ≡ Some v → Chain caps lay code n s t → IsStuck caps lay code t → ⊥
     never zero zero s last t v at_end is here stuck =
-        let e : exit_code caps lay code t ≡ Some v = subst (λ x. exit_code caps lay code x ≡ Some v) (sym at_end ∙ here) is in
+        let e : exit_code code t ≡ Some v = subst (λ x. exit_code code x ≡ Some v) (sym at_end ∙ here) is in
         none-some v (sym stuck.no_exit ∙ e)
     never zero (suc n) s last t v at_end is more stuck =
-        let e : exit_code caps lay code s ≡ Some v = subst (λ x. exit_code caps lay code x ≡ Some v) (sym at_end) is in
+        let e : exit_code code s ≡ Some v = subst (λ x. exit_code code x ≡ Some v) (sym at_end) is in
         none-some more.0 (sym (exit_stops code s v e) ∙ more.1)
     never (suc k) zero s last t v more is here stuck =
         let e : step caps lay code t ≡ Some more.0 = subst (λ x. step caps lay code x ≡ Some more.0) here more.1 in
@@ -70,7 +70,7 @@ module _ (caps : Caps) (lay : Layout) where
       abbrev Claim : ℕ → State ℕ → Outcome → ℕ → Type 0
       Claim n s o k = (k ≤ n) × EndsAtExit caps lay code before s o k
 
-      ends_here : (s : State ℕ) (o : Outcome) (k : ℕ) (v : ℕ) → exit_code caps lay code s ≡ Some v → o ≡ outcome_of before v s → 1 ≡ k → EndsAtExit caps lay code before s o k
+      ends_here : (s : State ℕ) (o : Outcome) (k : ℕ) (v : ℕ) → exit_code code s ≡ Some v → o ≡ outcome_of before v s → 1 ≡ k → EndsAtExit caps lay code before s o k
       ends_here s o k v is e one = record {
         before_exit = 0;
         counted = one;
@@ -95,7 +95,7 @@ module _ (caps : Caps) (lay : Layout) where
       }
 
       -- at a state, by whether it is an exit and whether a step is made
-      at : (n : ℕ) (s : State ℕ) (o : Outcome) (k : ℕ) → ((t : State ℕ) (j : ℕ) → run caps lay code before n t ≡ Ended o j → Claim n t o j) → (x : Option ℕ) → exit_code caps lay code s ≡ x → (y : Option (State ℕ)) → step caps lay code s ≡ y → ends before s x (goes_on y (run caps lay code before n)) ≡ Ended o k → Claim (suc n) s o k
+      at : (n : ℕ) (s : State ℕ) (o : Outcome) (k : ℕ) → ((t : State ℕ) (j : ℕ) → run caps lay code before n t ≡ Ended o j → Claim n t o j) → (x : Option ℕ) → exit_code code s ≡ x → (y : Option (State ℕ)) → step caps lay code s ≡ y → ends before s x (goes_on y (run caps lay code before n)) ≡ Ended o k → Claim (suc n) s o k
       at n s o k more (Some c) is y st h =
           let one : 1 ≡ k = cc in
           let same : outcome_of before c s ≡ o = cc in
@@ -108,13 +108,13 @@ module _ (caps : Caps) (lay : Layout) where
 
       counted_chain : (n : ℕ) (s : State ℕ) (o : Outcome) (k : ℕ) → run caps lay code before n s ≡ Ended o k → Claim n s o k
       counted_chain zero s o k h = cc
-      counted_chain (suc n) s o k h = at n s o k (λ t j e. counted_chain n t o j e) (exit_code caps lay code s) refl (step caps lay code s) refl h
+      counted_chain (suc n) s o k h = at n s o k (λ t j e. counted_chain n t o j e) (exit_code code s) refl (step caps lay code s) refl h
 
       -- the other way round
-      pub chain_counts : (n k : ℕ) (s last : State ℕ) (v : ℕ) → k < n → Chain caps lay code k s last → exit_code caps lay code last ≡ Some v → run caps lay code before n s ≡ Ended (outcome_of before v last) (suc k)
+      pub chain_counts : (n k : ℕ) (s last : State ℕ) (v : ℕ) → k < n → Chain caps lay code k s last → exit_code code last ≡ Some v → run caps lay code before n s ≡ Ended (outcome_of before v last) (suc k)
       chain_counts zero k s last v h way is = absurd (omega arith)
       chain_counts (suc n) zero s last v h here is =
-          ap (λ x. ends before x (exit_code caps lay code x) (goes_on (step caps lay code x) (run caps lay code before n))) here
+          ap (λ x. ends before x (exit_code code x) (goes_on (step caps lay code x) (run caps lay code before n))) here
           ∙ ap (λ x. ends before last x (goes_on (step caps lay code last) (run caps lay code before n))) is
       chain_counts (suc n) (suc k) s last v h way is =
           ap (λ x. ends before s x (goes_on (step caps lay code s) (run caps lay code before n))) (goes_from s way.0 way.1)
@@ -143,7 +143,7 @@ module _ (caps : Caps) (lay : Layout) (code : List ℕ) (before : Object) where
   abbrev GetsStuck : ℕ → State ℕ → Type 0
   GetsStuck n s = (k : ℕ) × (t : State ℕ) × (k < n) × Chain caps lay code k s t × IsStuck caps lay code t
 
-  stuck_at : (n : ℕ) (s : State ℕ) → ((t : State ℕ) → run caps lay code before n t ≡ Stuck → GetsStuck n t) → (x : Option ℕ) → exit_code caps lay code s ≡ x → (y : Option (State ℕ)) → step caps lay code s ≡ y → ends before s x (goes_on y (run caps lay code before n)) ≡ Stuck → GetsStuck (suc n) s
+  stuck_at : (n : ℕ) (s : State ℕ) → ((t : State ℕ) → run caps lay code before n t ≡ Stuck → GetsStuck n t) → (x : Option ℕ) → exit_code code s ≡ x → (y : Option (State ℕ)) → step caps lay code s ≡ y → ends before s x (goes_on y (run caps lay code before n)) ≡ Stuck → GetsStuck (suc n) s
   stuck_at n s more (Some v) is y st h = cc
   stuck_at n s more None is None st h = (0, s, omega arith, refl, record { no_exit = is; no_step = st })
   stuck_at n s more None is (Some t) st h =
@@ -152,7 +152,7 @@ module _ (caps : Caps) (lay : Layout) (code : List ℕ) (before : Object) where
 
   stuck_chain : (n : ℕ) (s : State ℕ) → run caps lay code before n s ≡ Stuck → GetsStuck n s
   stuck_chain zero s h = cc
-  stuck_chain (suc n) s h = stuck_at n s (stuck_chain n) (exit_code caps lay code s) refl (step caps lay code s) refl h
+  stuck_chain (suc n) s h = stuck_at n s (stuck_chain n) (exit_code code s) refl (step caps lay code s) refl h
 
   -- a run of one step and more goes on as the rest of it
   goes_one : (n : ℕ) (s t : State ℕ) → step caps lay code s ≡ Some t → run caps lay code before (suc n) s ≡ one_more (run caps lay code before n t)
@@ -181,7 +181,7 @@ module _ (caps : Caps) (lay : Layout) (code : List ℕ) (before : Object) where
 
   unfinished_chain : (n : ℕ) (s : State ℕ) → run caps lay code before n s ≡ Unfinished → GoesOn n s
   unfinished_chain zero s h = (s, refl)
-  unfinished_chain (suc n) s h = goes_at n s (unfinished_chain n) (exit_code caps lay code s) (step caps lay code s) refl h
+  unfinished_chain (suc n) s h = goes_at n s (unfinished_chain n) (exit_code code s) (step caps lay code s) refl h
 
   unfinished_counts : (n : ℕ) (s t : State ℕ) → Chain caps lay code n s t → run caps lay code before n s ≡ Unfinished
   unfinished_counts zero s t way = refl

@@ -1,5 +1,7 @@
 pub mod Sim
 pub mod Place
+pub mod Cells
+pub mod OneMemory
 pub mod Slot
 pub mod Registers
 pub mod Alu
@@ -11,3 +13,5 @@ pub mod Fetch
 pub mod Counting
 pub mod Runs
 pub mod Going
+pub mod Bytes
+pub mod Kept

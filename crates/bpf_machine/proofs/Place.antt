@@ -34,7 +34,7 @@ module _ (caps : Caps) (lay : Layout) (ok : IsLayout caps lay) where
   past : (b o : ℕ) → b + o - b ≡ o
   past b o = omega arith
 
-  find_at : (r : Region) (o w : ℕ) → 0 < w → o + w ≤ size caps r → find caps lay (base lay r + o) w ≡ Some (r, o)
+  pub find_at : (r : Region) (o w : ℕ) → 0 < w → o + w ≤ size caps r → find caps lay (base lay r + o) w ≡ Some (r, o)
   find_at Input o w pos h =
       cond-true _ _ _ (found Input o w h) ∙ ap (λ n. Some (Input, n)) (past lay.input o)
   find_at Output o w pos h =

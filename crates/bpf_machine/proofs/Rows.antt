@@ -46,7 +46,7 @@ module _ (caps : Caps) (lay : Layout) where
   act_spelled (CallLocal distance) rest s h = by_row caps lay 0x85 0 1 0 (imm_field distance) rest s (omega arith)
   act_spelled Exit rest s h = by_row caps lay 0x95 0 0 0 0 rest s (omega arith)
 
-  pub exit_spelled : (i : Insn) (rest : List ℕ) (s : State ℕ) → exit_on caps lay (bytes_of i ++ rest) s ≡ insn_exit_of caps lay i s
+  pub exit_spelled : (i : Insn) (rest : List ℕ) (s : State ℕ) → exit_on (bytes_of i ++ rest) s ≡ insn_exit_of caps lay i s
   exit_spelled (Alu Bits32 Add dst (Immediate imm)) rest s = refl
   exit_spelled (Alu Bits32 Add dst (Register src)) rest s = refl
   exit_spelled (Alu Bits32 Sub dst (Immediate imm)) rest s = refl

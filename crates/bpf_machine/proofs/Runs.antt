@@ -43,14 +43,14 @@ module _ (caps : Caps) (lay : Layout) (ok : IsLayout caps lay) (before : Object)
 
   module _ (is : List Insn) (fit : AllFit is) where
     -- an exit of the typed machine is one of the flat machine; elsewhere the typed one makes a step, so the flat one does, and is at no exit
-    here : (s : Typed) (more : Typed → Ending) (more' : State ℕ → Ending) (o : Outcome) (k : ℕ) (a : Option ℕ) (b : Option ℕ) (c : Option Typed) (d : Option (State ℕ)) → exit_code caps lay (spelling is) (image lay s) ≡ b → step caps lay (spelling is) (image lay s) ≡ d → Sim Any same a b → Sim Any (image lay) c d → Rest more more' → ends before s a (goes_on c more) ≡ Ended o k → ends before (image lay s) b (goes_on d more') ≡ Ended o k
+    here : (s : Typed) (more : Typed → Ending) (more' : State ℕ → Ending) (o : Outcome) (k : ℕ) (a : Option ℕ) (b : Option ℕ) (c : Option Typed) (d : Option (State ℕ)) → exit_code (spelling is) (image lay s) ≡ b → step caps lay (spelling is) (image lay s) ≡ d → Sim Any same a b → Sim Any (image lay) c d → Rest more more' → ends before s a (goes_on c more) ≡ Ended o k → ends before (image lay s) b (goes_on d more') ≡ Ended o k
     here s more more' o k (Some v) b c d x y p q r h = ap (λ v. ends before (image lay s) v (goes_on d more')) (p.by v refl).1 ∙ h
     here s more more' o k None None c d x y p q r h = goes c d more more' o k q r h
     here s more more' o k None (Some v) None d x y p q r h = cc
     here s more more' o k None (Some v) (Some t) d x y p q r h =
         absurd (none-some (image lay t) (sym (exit_stops caps lay (spelling is) (image lay s) v x) ∙ y ∙ (q.by t refl).1))
 
-    at : (s : Typed) (i : Option Insn) → fetch (slots is) s.slot ≡ i → (more : Typed → Ending) (more' : State ℕ → Ending) (o : Outcome) (k : ℕ) → Rest more more' → ends before s (i >>= λ i. typed_exit_of i s) (goes_on (i >>= λ i. typed_act caps i s) more) ≡ Ended o k → ends before (image lay s) (exit_code caps lay (spelling is) (image lay s)) (goes_on (step caps lay (spelling is) (image lay s)) more') ≡ Ended o k
+    at : (s : Typed) (i : Option Insn) → fetch (slots is) s.slot ≡ i → (more : Typed → Ending) (more' : State ℕ → Ending) (o : Outcome) (k : ℕ) → Rest more more' → ends before s (i >>= λ i. typed_exit_of i s) (goes_on (i >>= λ i. typed_act caps i s) more) ≡ Ended o k → ends before (image lay s) (exit_code (spelling is) (image lay s)) (goes_on (step caps lay (spelling is) (image lay s)) more') ≡ Ended o k
     at s None e more more' o k r h = cc
     at s (Some i) e more more' o k r h =
         let b = bytes_are_instructions caps lay is fit (image lay s) i e in

@@ -1,3 +1,7 @@
+-- A reader must believe Object, State, Helper, Jump, Flat and Safe: what a run is, and what safe means (what operations
+-- compute stands in bpf_decode's Arithmetic). Address, Within and the laws of Safe are proved of these. Typed and Decoded
+-- are the machine on decoded instructions, on which the crates above build; View is what flat_run takes and gives; inner
+-- is the code's own.
 pub mod Object
 pub mod State
 pub mod Helper
@@ -6,4 +10,7 @@ pub mod Flat
 pub mod Typed
 pub mod Decoded
 pub mod Safe
+pub mod Address
+pub mod Within
 pub mod View
+pub mod inner

@@ -1,5 +1,6 @@
 -- An object beside which a method runs: absent, or its data.
 use Rattle.std.specs.Prelude.{ℕ, ◌+◌, ◌-◌, ◌<◌, ◌≤◌, List, [], ◌∷◌, ◌++◌, Option, Some, None, if◌then◌else◌, ◌==◌, take, drop, length, replicate}
+use Rattle.bpf_machine.specs.declared.limits.TheConstants.{OBJECT_LIMIT}
 
 abbrev pub Object : Type 0
 Object = Option (List ℕ)
@@ -11,7 +12,7 @@ AreBytes (b ∷ bs) = (b < 256) × AreBytes bs
 -- an object within the limits
 abbrev pub IsObject : Object → Type 0
 IsObject None = Unit {0}
-IsObject (Some bytes) = (length bytes ≤ 65536) × AreBytes bytes
+IsObject (Some bytes) = (length bytes ≤ OBJECT_LIMIT) × AreBytes bytes
 
 -- the bytes of an object, none where it is absent
 abbrev pub data_of : Object → List ℕ

@@ -1,19 +1,12 @@
--- What the code's values are to the definitions.
-use Rattle.std.specs.Prelude.{◌≡◌, ℕ, List, Option, Some, None, length, Vec}
+-- What the values that `flat_run` takes and gives are to the definitions.
+use Rattle.std.specs.Prelude.{List, Option, Some, None, Vec, ℕ}
 use Rattle.std.specs.declared.alloc.Global.{Global}
 use Rattle.std.specs.Borrow.{Bor}
-use Rattle.bpf_decode.specs.Fields.{Fields}
-use Rattle.bpf_machine.specs.declared.caps.Caps.{Caps}
 use Rattle.bpf_machine.specs.declared.layout.Layout as code_layout
 use Rattle.bpf_machine.specs.declared.flat.Ending as code_ending
 use Rattle.bpf_machine.specs.declared.flat.Ending.TheVariants as code_endings
-use Rattle.bpf_machine.specs.declared.flat.Stop.{Stop}
-use Rattle.bpf_machine.specs.declared.flat.Stop.TheVariants as stops
-use Rattle.bpf_machine.specs.declared.flat.fields.SlotFields.{SlotFields}
-use Rattle.bpf_machine.specs.declared.flat.memory.Regions.{Regions}
-use Rattle.bpf_machine.specs.declared.flat.state.FlatState.{FlatState}
 use Rattle.bpf_machine.specs.Object.{Object}
-use Rattle.bpf_machine.specs.State.{Memory, State, outcome_of, Ending, Ended, Stuck, Unfinished}
+use Rattle.bpf_machine.specs.State.{Ending, Ended, Stuck, Unfinished}
 use Rattle.bpf_machine.specs.Flat.{Layout}
 
 abbrev pub layout_of : code_layout.Layout → Layout
@@ -27,32 +20,6 @@ object_items (Some v) = Some v.items
 abbrev pub slice_object : Option (Bor (List ℕ)) → Object
 slice_object None = None
 slice_object (Some s) = Some s.now
-
-abbrev pub slot_fields : SlotFields → Fields
-slot_fields f = record { opcode = f.opcode; dst = f.dst; src = f.src; offset = f.offset; imm = f.imm }
-
-abbrev pub memory_of : Regions → Memory
-memory_of m = record { input = m.input.items; output = m.output.items; stack = m.stack.items }
-
-abbrev pub flat_state : FlatState → State ℕ
-flat_state s = record { slot = s.slot; regs = s.regs; memory = memory_of s.memory; object = object_items s.object; out_len = s.out_len; caller = s.caller }
-
--- the regions have their lengths
-pub record IsSized (caps : Caps) (m : Regions) : Type 0 where
-  pub input : length m.input.items ≡ caps.in_cap
-  pub output : length m.output.items ≡ caps.out_cap
-  pub stack : length m.stack.items ≡ 512
-
--- what a step left, as the definition has it; where there is none, nothing is said of the state
-abbrev pub GivesState : {A : Type 0} → Option A → State ℕ → Option (State ℕ) → Type 0
-GivesState (Some x) after step = step ≡ Some after
-GivesState None after step = step ≡ None
-
--- where a run stopped, and with what state
-abbrev pub stopped : Object → Stop → State ℕ → Ending
-stopped before (stops.Exit code steps) s = Ended (outcome_of before code s) steps
-stopped before stops.Stuck s = Stuck
-stopped before stops.Unfinished s = Unfinished
 
 abbrev pub ending_of : code_ending.Ending → Ending
 ending_of (code_endings.Ended code output object steps) = Ended (record { code = code; output = output.items; object = object_items object }) steps

@@ -1,7 +1,10 @@
 ghost use Rattle.std.specs.Prelude.{◌≡◌};
 ghost use Rattle.bpf_machine.specs.State.{size};
+ghost use Rattle.bpf_machine.specs.Safe.{caps_of};
 
+use crate::limits::STACK_SIZE;
 use crate::region::Region;
+use bpf_decode::Method;
 
 /// What a method declares: the lengths of its regions in bytes, and whether it may change the object.
 #[derive(Clone, Copy, Debug, PartialEq, Eq)]
@@ -12,6 +15,17 @@ pub struct Caps {
 }
 
 impl Caps {
+    /// What a method declares: flags 1 may not write.
+    pub fn of(method: &Method) -> Caps
+        ensures { result ≡ caps_of method.now }
+    {
+        Caps {
+            in_cap: method.in_cap(),
+            out_cap: method.out_cap(),
+            writes: method.flags() != 1,
+        }
+    }
+
     /// A region's length in bytes.
     pub fn size(&self, region: Region) -> usize
         ensures { result ≡ size self.now region }
@@ -19,7 +33,7 @@ impl Caps {
         match region {
             Region::Input => usize::from(self.in_cap),
             Region::Output => usize::from(self.out_cap),
-            Region::Stack => 512,
+            Region::Stack => STACK_SIZE,
         }
     }
 }

@@ -1,7 +1,8 @@
 ghost use Rattle.std.specs.Prelude.{◌≡◌, ◌<◌, ◌≤◌, ◌+◌, ◌^◌, ◌-◌, ◌++◌, length, replicate, IfOk};
 ghost use Rattle.bpf_machine.specs.State.{outcome_of};
 ghost use Rattle.bpf_machine.specs.Flat.{IsLayout, run, entry};
-ghost use Rattle.bpf_machine.specs.View.{layout_of, flat_state, object_items, slice_object, ending_of, stopped, IsSized};
+ghost use Rattle.bpf_machine.specs.View.{layout_of, object_items, slice_object, ending_of};
+ghost use Rattle.bpf_machine.specs.inner.FlatState.{flat_state, stopped, IsSized};
 
 mod fields;
 mod helpers;
@@ -11,6 +12,7 @@ mod state;
 
 use crate::caps::Caps;
 use crate::layout::Layout;
+use crate::limits::STACK_SIZE;
 use memory::Regions;
 use rows::{exit_code, step};
 use state::FlatState;
@@ -79,7 +81,7 @@ fn enter(
     let memory = Regions {
         input: padded_with_zeros(alloc, input, usize::from(caps.in_cap))?,
         output: padded_with_zeros(alloc, &[], usize::from(caps.out_cap))?,
-        stack: padded_with_zeros(alloc, &[], 512)?,
+        stack: padded_with_zeros(alloc, &[], STACK_SIZE)?,
     };
     let object = copy_object(alloc, object)?;
     Ok(FlatState {
@@ -95,7 +97,7 @@ fn enter(
             None,
             None,
             None,
-            Some(layout.stack + 512),
+            Some(layout.stack + STACK_SIZE as u64),
         ],
         memory,
         object,
@@ -117,7 +119,7 @@ fn run_on(
     ensures { IfOk result (λ stop. stopped (flat_state s.old).object stop (flat_state s.new) ≡ run caps.now (layout_of layout.now) code.now (flat_state s.old).object limit (flat_state s.old)) }
 {
     for n in 0..limit {
-        if let Some(value) = exit_code(caps, layout, code, s) {
+        if let Some(value) = exit_code(code, s) {
             return Ok(Stop::Exit(value, n + 1));
         }
         match step(alloc, caps, layout, code, s)? {

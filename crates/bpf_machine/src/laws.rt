@@ -1,4 +1,6 @@
-ghost use Rattle.bpf_machine.specs.Safe.{Simulates, EndsAlwaysIsSafe, RunsAreChains, StuckRunsAreChains, UnfinishedRunsAreChains, BytesAreInstructions, HasLayout, OutcomesAreOne};
+ghost use Rattle.bpf_machine.specs.Safe.{Simulates, EndsAlwaysIsSafe, RunsAreChains, StuckRunsAreChains, UnfinishedRunsAreChains, BytesAreInstructions, ElsewhereIsStuck, HasLayout, OutcomesAreOne};
+ghost use Rattle.bpf_machine.specs.Address.{PlacesAreAddresses, NoByteElsewhere, LoadsAreOfAddresses, SignedLoadsAreOfAddresses, StoresAreAtAddresses};
+ghost use Rattle.bpf_machine.specs.Within.{OutcomesAreWithinLimits, CallsAreWithinLimits};
 
 /// A law, proved when the crate is checked; a call does nothing. What the typed machine does with instructions,
 /// the flat machine does with their bytes, wherever the regions lie: the outcome, and the number of steps.
@@ -20,9 +22,11 @@ pub fn other_runs()
     ensures unfinished { UnfinishedRunsAreChains }
 {}
 
-/// A law. Where an instruction begins, the step on the bytes is the instruction's.
+/// A law. Where an instruction begins, the step on the bytes is the instruction's. Where none begins, in a wide load's
+/// second half or past the end, the machine is stuck.
 pub fn decoded()
-    ensures { BytesAreInstructions }
+    ensures begins { BytesAreInstructions }
+    ensures elsewhere { ElsewhereIsStuck }
 {}
 
 /// A law. There is a layout for all capacities.
@@ -33,4 +37,21 @@ pub fn layouts()
 /// A law. A method with one outcome for all layouts has that in the first layout.
 pub fn outcomes()
     ensures { OutcomesAreOne }
+{}
+
+/// A law. The three regions are one memory: the byte at an address is that of the region which has the address; a load
+/// is the little-endian value of the bytes at its addresses; a store changes the bytes at its addresses and no other.
+pub fn addresses()
+    ensures places { PlacesAreAddresses }
+    ensures elsewhere { NoByteElsewhere }
+    ensures loads { LoadsAreOfAddresses }
+    ensures signed_loads { SignedLoadsAreOfAddresses }
+    ensures stores { StoresAreAtAddresses }
+{}
+
+/// A law. Beside an object within the limits, on an input of bytes, a run that ends leaves an object within the limits,
+/// and at most out_cap bytes of output; so does a call.
+pub fn limits_are_kept()
+    ensures runs { OutcomesAreWithinLimits }
+    ensures calls { CallsAreWithinLimits }
 {}

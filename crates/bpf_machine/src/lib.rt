@@ -7,8 +7,10 @@ mod argument;
 mod caps;
 mod flat;
 mod helper;
+mod jump;
 mod laws;
 mod layout;
+mod limits;
 mod region;
 mod value;
 
@@ -17,8 +19,12 @@ pub use bpf_decode::arithmetic;
 pub use caps::Caps;
 pub use flat::{Ending, flat_run};
 pub use helper::signature;
-pub use laws::{chains, decoded, layouts, other_runs, outcomes, simulation};
+pub use jump::jump_target;
+pub use laws::{
+    addresses, chains, decoded, layouts, limits_are_kept, other_runs, outcomes, simulation,
+};
 pub use layout::{Layout, is_layout};
+pub use limits::{OBJECT_LIMIT, STACK_SIZE};
 pub use region::Region;
 pub use value::Value;
 

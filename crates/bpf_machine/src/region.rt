@@ -8,7 +8,7 @@ pub enum Region {
     Input,
     /// What the method may hand out: zeros at first.
     Output,
-    /// 512 bytes, zeros at first. Register 10 points to their end.
+    /// `STACK_SIZE` bytes, zeros at first. Register 10 points to their end.
     Stack,
 }
 

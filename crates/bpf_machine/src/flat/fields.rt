@@ -2,7 +2,7 @@ ghost use Rattle.std.specs.Prelude.{◌≡◌, ◌≤◌, ◌<◌, ◌*◌, ◌+
 ghost use Rattle.std.specs.Option.{option_map};
 ghost use Rattle.bpf_decode.specs.Fields.{fields_of};
 ghost use Rattle.bpf_machine.specs.Flat.{signed16, signed32, width_of, signed_width_of, at_slot};
-ghost use Rattle.bpf_machine.specs.View.{slot_fields};
+ghost use Rattle.bpf_machine.specs.inner.FlatState.{slot_fields};
 
 use bpf_decode::SignedWidth;
 

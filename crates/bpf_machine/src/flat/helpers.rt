@@ -3,13 +3,15 @@ ghost use Rattle.std.specs.Option.{option_map};
 ghost use Rattle.bpf_machine.specs.Object.{part, spliced, data_of};
 ghost use Rattle.bpf_machine.specs.Helper.{nothing_given, with_number, with_text, read_effect, write_effect, bytes_in};
 ghost use Rattle.bpf_machine.specs.Flat.{arguments, help};
-ghost use Rattle.bpf_machine.specs.View.{layout_of, memory_of, flat_state, object_items, GivesState, IsSized};
+ghost use Rattle.bpf_machine.specs.View.{layout_of, object_items};
+ghost use Rattle.bpf_machine.specs.inner.FlatState.{memory_of, flat_state, GivesState, IsSized};
 
 use crate::argument::Argument;
 use crate::caps::Caps;
 use crate::flat::memory::{Regions, put_room, range, region_bytes};
 use crate::flat::state::{FlatState, answer, get};
 use crate::layout::Layout;
+use crate::limits::OBJECT_LIMIT;
 use crate::region::Region;
 use std::alloc::{AllocError, Global};
 
@@ -110,7 +112,7 @@ fn write_object(
 ) -> Result<u64, AllocError>
     ensures { IfOk result (λ a. (n : ℕ) → write_effect (object_items object.old) n at text.now ≡ record { answer = a; object = object_items object.new; out_len = n; bytes = [] }) }
 {
-    if at > 65_536 || text.len() as u64 > 65_536 - at {
+    if at > OBJECT_LIMIT as u64 || text.len() as u64 > OBJECT_LIMIT as u64 - at {
         return Ok(u64::MAX - 26);
     }
     let after = splice(alloc, object_bytes(object), at as usize, text)?;

@@ -2,7 +2,8 @@ ghost use Rattle.std.specs.Prelude.{◌≡◌, ◌<◌, ◌≤◌, ◌+◌, ◌^
 ghost use Rattle.bpf_machine.specs.State.{le_value, le_bytes, cells, written, put, size};
 ghost use Rattle.bpf_machine.specs.Helper.{write_room};
 ghost use Rattle.bpf_machine.specs.Flat.{base, holds, find, range, load, load_signed, store};
-ghost use Rattle.bpf_machine.specs.View.{layout_of, memory_of, flat_state, GivesState, IsSized};
+ghost use Rattle.bpf_machine.specs.View.{layout_of};
+ghost use Rattle.bpf_machine.specs.inner.FlatState.{memory_of, flat_state, GivesState, IsSized};
 
 use crate::caps::Caps;
 use crate::flat::state::{FlatState, set};

@@ -1,7 +1,8 @@
 ghost use Rattle.std.specs.Prelude.{◌≡◌, ◌<◌, ◌≤◌, ◌+◌, ◌*◌, ◌^◌, length, IfOk};
 ghost use Rattle.std.specs.Option.{option_map};
 ghost use Rattle.bpf_machine.specs.Flat.{operand, operation_row, neg_row, mov_row, end_row, alu_row, mem_row, memsx_row, ldx_row, st_row, stx_row, wide_row, ja_row, ja32_row, branch_row, call_row, act, step, exit_code, at_base};
-ghost use Rattle.bpf_machine.specs.View.{layout_of, flat_state, slot_fields, GivesState, IsSized};
+ghost use Rattle.bpf_machine.specs.View.{layout_of};
+ghost use Rattle.bpf_machine.specs.inner.FlatState.{flat_state, slot_fields, GivesState, IsSized};
 
 use crate::caps::Caps;
 use crate::flat::fields::{
@@ -33,16 +34,10 @@ fn operand(f: SlotFields, s: &FlatState) -> Option<u64>
 }
 
 /// An operation; the offset tells signed division and modulo apart.
-fn operation_row(
-    caps: &Caps,
-    layout: &Layout,
-    bits: Bits,
-    f: SlotFields,
-    s: &mut FlatState,
-) -> Option<()>
+fn operation_row(caps: &Caps, bits: Bits, f: SlotFields, s: &mut FlatState) -> Option<()>
     requires sized { IsSized caps.now s.old.memory }
     requires slot { s.old.slot < 2 ^ 62 }
-    ensures row { GivesState result (flat_state s.new) (operation_row caps.now (layout_of layout.now) bits (slot_fields f) (flat_state s.old)) }
+    ensures row { GivesState result (flat_state s.new) (operation_row bits (slot_fields f) (flat_state s.old)) }
     ensures sized { IsSized caps.now s.new.memory }
 {
     let row = Arithmetic::of(f.opcode / 16)?;
@@ -57,13 +52,12 @@ fn operation_row(
 }
 
 /// NEG.
-fn neg_row(caps: &Caps, layout: &Layout, bits: Bits, f: SlotFields, s: &mut FlatState) -> Option<()>
+fn neg_row(caps: &Caps, bits: Bits, f: SlotFields, s: &mut FlatState) -> Option<()>
     requires sized { IsSized caps.now s.old.memory }
     requires slot { s.old.slot < 2 ^ 62 }
-    ensures row { GivesState result (flat_state s.new) (neg_row caps.now (layout_of layout.now) bits (slot_fields f) (flat_state s.old)) }
+    ensures row { GivesState result (flat_state s.new) (neg_row bits (slot_fields f) (flat_state s.old)) }
     ensures sized { IsSized caps.now s.new.memory }
 {
-    let _ = layout;
     if f.opcode / 8 % 2 != 0 || f.src != 0 || f.offset != 0 || f.imm != 0 {
         return None;
     }
@@ -74,10 +68,10 @@ fn neg_row(caps: &Caps, layout: &Layout, bits: Bits, f: SlotFields, s: &mut Flat
 }
 
 /// MOV, and MOVSX of a register.
-fn mov_row(caps: &Caps, layout: &Layout, bits: Bits, f: SlotFields, s: &mut FlatState) -> Option<()>
+fn mov_row(caps: &Caps, bits: Bits, f: SlotFields, s: &mut FlatState) -> Option<()>
     requires sized { IsSized caps.now s.old.memory }
     requires slot { s.old.slot < 2 ^ 62 }
-    ensures row { GivesState result (flat_state s.new) (mov_row caps.now (layout_of layout.now) bits (slot_fields f) (flat_state s.old)) }
+    ensures row { GivesState result (flat_state s.new) (mov_row bits (slot_fields f) (flat_state s.old)) }
     ensures sized { IsSized caps.now s.new.memory }
 {
     if f.offset == 0 {
@@ -96,13 +90,12 @@ fn mov_row(caps: &Caps, layout: &Layout, bits: Bits, f: SlotFields, s: &mut Flat
 }
 
 /// END: the order by the class and the source bit, the bits kept by the immediate.
-fn end_row(caps: &Caps, layout: &Layout, bits: Bits, f: SlotFields, s: &mut FlatState) -> Option<()>
+fn end_row(caps: &Caps, bits: Bits, f: SlotFields, s: &mut FlatState) -> Option<()>
     requires sized { IsSized caps.now s.old.memory }
     requires slot { s.old.slot < 2 ^ 62 }
-    ensures row { GivesState result (flat_state s.new) (end_row caps.now (layout_of layout.now) bits (slot_fields f) (flat_state s.old)) }
+    ensures row { GivesState result (flat_state s.new) (end_row bits (slot_fields f) (flat_state s.old)) }
     ensures sized { IsSized caps.now s.new.memory }
 {
-    let _ = layout;
     let order = ByteOrder::of(bits, f.opcode / 8 % 2)?;
     if f.src != 0 || f.offset != 0 || !EndWidth::exists(f.imm) {
         return None;
@@ -114,17 +107,17 @@ fn end_row(caps: &Caps, layout: &Layout, bits: Bits, f: SlotFields, s: &mut Flat
 }
 
 /// ALU and ALU64.
-fn alu_row(caps: &Caps, layout: &Layout, bits: Bits, f: SlotFields, s: &mut FlatState) -> Option<()>
+fn alu_row(caps: &Caps, bits: Bits, f: SlotFields, s: &mut FlatState) -> Option<()>
     requires sized { IsSized caps.now s.old.memory }
     requires slot { s.old.slot < 2 ^ 62 }
-    ensures row { GivesState result (flat_state s.new) (alu_row caps.now (layout_of layout.now) bits (slot_fields f) (flat_state s.old)) }
+    ensures row { GivesState result (flat_state s.new) (alu_row bits (slot_fields f) (flat_state s.old)) }
     ensures sized { IsSized caps.now s.new.memory }
 {
     match f.opcode / 16 {
-        0x8 => neg_row(caps, layout, bits, f, s),
-        0xb => mov_row(caps, layout, bits, f, s),
-        0xd => end_row(caps, layout, bits, f, s),
-        _ => operation_row(caps, layout, bits, f, s),
+        0x8 => neg_row(caps, bits, f, s),
+        0xb => mov_row(caps, bits, f, s),
+        0xd => end_row(caps, bits, f, s),
+        _ => operation_row(caps, bits, f, s),
     }
 }
 
@@ -220,16 +213,10 @@ fn stx_row(caps: &Caps, layout: &Layout, f: SlotFields, s: &mut FlatState) -> Op
 }
 
 /// The wide load of a number: the high half is the next slot's immediate.
-fn wide_row(
-    caps: &Caps,
-    layout: &Layout,
-    f: SlotFields,
-    next: Option<SlotFields>,
-    s: &mut FlatState,
-) -> Option<()>
+fn wide_row(caps: &Caps, f: SlotFields, next: Option<SlotFields>, s: &mut FlatState) -> Option<()>
     requires sized { IsSized caps.now s.old.memory }
     requires slot { s.old.slot < 2 ^ 62 }
-    ensures row { GivesState result (flat_state s.new) (wide_row caps.now (layout_of layout.now) (slot_fields f) (option_map slot_fields next) (flat_state s.old)) }
+    ensures row { GivesState result (flat_state s.new) (wide_row (slot_fields f) (option_map slot_fields next) (flat_state s.old)) }
     ensures sized { IsSized caps.now s.new.memory }
 {
     if f.src != 0 || f.offset != 0 {
@@ -246,10 +233,10 @@ fn wide_row(
 }
 
 /// JA: in slots from the slot after the jump.
-fn ja_row(caps: &Caps, layout: &Layout, f: SlotFields, s: &mut FlatState) -> Option<()>
+fn ja_row(caps: &Caps, f: SlotFields, s: &mut FlatState) -> Option<()>
     requires sized { IsSized caps.now s.old.memory }
     requires slot { s.old.slot < 2 ^ 62 }
-    ensures row { GivesState result (flat_state s.new) (ja_row caps.now (layout_of layout.now) (slot_fields f) (flat_state s.old)) }
+    ensures row { GivesState result (flat_state s.new) (ja_row (slot_fields f) (flat_state s.old)) }
     ensures sized { IsSized caps.now s.new.memory }
 {
     if f.dst != 0 || f.src != 0 || f.imm != 0 {
@@ -260,10 +247,10 @@ fn ja_row(caps: &Caps, layout: &Layout, f: SlotFields, s: &mut FlatState) -> Opt
 }
 
 /// JA by the immediate.
-fn ja32_row(caps: &Caps, layout: &Layout, f: SlotFields, s: &mut FlatState) -> Option<()>
+fn ja32_row(caps: &Caps, f: SlotFields, s: &mut FlatState) -> Option<()>
     requires sized { IsSized caps.now s.old.memory }
     requires slot { s.old.slot < 2 ^ 62 }
-    ensures row { GivesState result (flat_state s.new) (ja32_row caps.now (layout_of layout.now) (slot_fields f) (flat_state s.old)) }
+    ensures row { GivesState result (flat_state s.new) (ja32_row (slot_fields f) (flat_state s.old)) }
     ensures sized { IsSized caps.now s.new.memory }
 {
     if f.dst != 0 || f.src != 0 || f.offset != 0 {
@@ -274,16 +261,10 @@ fn ja32_row(caps: &Caps, layout: &Layout, f: SlotFields, s: &mut FlatState) -> O
 }
 
 /// A comparison of JMP and JMP32.
-fn branch_row(
-    caps: &Caps,
-    layout: &Layout,
-    bits: Bits,
-    f: SlotFields,
-    s: &mut FlatState,
-) -> Option<()>
+fn branch_row(caps: &Caps, bits: Bits, f: SlotFields, s: &mut FlatState) -> Option<()>
     requires sized { IsSized caps.now s.old.memory }
     requires slot { s.old.slot < 2 ^ 62 }
-    ensures row { GivesState result (flat_state s.new) (branch_row caps.now (layout_of layout.now) bits (slot_fields f) (flat_state s.old)) }
+    ensures row { GivesState result (flat_state s.new) (branch_row bits (slot_fields f) (flat_state s.old)) }
     ensures sized { IsSized caps.now s.new.memory }
 {
     let comparison = Comparison::of(f.opcode / 16)?;
@@ -337,19 +318,19 @@ fn act(
     ensures sized { IsSized caps.now s.new.memory }
 {
     match f.opcode % 8 {
-        4 => Ok(alu_row(caps, layout, Bits::Bits32, f, s)),
-        7 => Ok(alu_row(caps, layout, Bits::Bits64, f, s)),
+        4 => Ok(alu_row(caps, Bits::Bits32, f, s)),
+        7 => Ok(alu_row(caps, Bits::Bits64, f, s)),
         1 => Ok(ldx_row(caps, layout, f, s)),
         2 => Ok(st_row(caps, layout, f, s)),
         3 => Ok(stx_row(caps, layout, f, s)),
         class => match f.opcode {
-            0x18 => Ok(wide_row(caps, layout, f, next, s)),
-            0x05 => Ok(ja_row(caps, layout, f, s)),
-            0x06 => Ok(ja32_row(caps, layout, f, s)),
+            0x18 => Ok(wide_row(caps, f, next, s)),
+            0x05 => Ok(ja_row(caps, f, s)),
+            0x06 => Ok(ja32_row(caps, f, s)),
             0x85 => call_row(alloc, caps, layout, f, s),
             _ => match class {
-                5 => Ok(branch_row(caps, layout, Bits::Bits64, f, s)),
-                6 => Ok(branch_row(caps, layout, Bits::Bits32, f, s)),
+                5 => Ok(branch_row(caps, Bits::Bits64, f, s)),
+                6 => Ok(branch_row(caps, Bits::Bits32, f, s)),
                 _ => Ok(None),
             },
         },
@@ -376,8 +357,8 @@ pub fn step(
 }
 
 /// Register 0 at an EXIT where it is set.
-pub fn exit_code(caps: &Caps, layout: &Layout, code: &[u8], s: &FlatState) -> Option<u64>
-    ensures { result ≡ exit_code caps.now (layout_of layout.now) code.now (flat_state s.now) }
+pub fn exit_code(code: &[u8], s: &FlatState) -> Option<u64>
+    ensures { result ≡ exit_code code.now (flat_state s.now) }
 {
     let f = read_fields(at_slot(code, s.slot))?;
     if f.opcode == 0x95 && f.dst == 0 && f.src == 0 && f.offset == 0 && f.imm == 0 {

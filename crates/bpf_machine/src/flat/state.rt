@@ -1,7 +1,7 @@
 ghost use Rattle.std.specs.Prelude.{◌≡◌, ◌<◌, ◌≤◌};
 ghost use Rattle.bpf_machine.specs.State.{reg, set_reg};
 ghost use Rattle.bpf_machine.specs.Helper.{answered};
-ghost use Rattle.bpf_machine.specs.View.{flat_state, GivesState, IsSized};
+ghost use Rattle.bpf_machine.specs.inner.FlatState.{flat_state, GivesState, IsSized};
 
 use crate::caps::Caps;
 use crate::flat::memory::Regions;

@@ -1,8 +1,9 @@
 use super::lines::{capacities, layout};
 use crate::{
-    Argument, Region, chains, decoded, is_layout, layouts, other_runs, outcomes, signature,
-    simulation,
+    Argument, Caps, Region, addresses, chains, decoded, is_layout, jump_target, layouts,
+    limits_are_kept, other_runs, outcomes, signature, simulation,
 };
+use bpf_decode::Method;
 use std::test::Fail;
 
 #[test]
@@ -51,6 +52,23 @@ fn knows_helpers(rt: HostRuntime) -> Result<(), Fail> {
     Ok(())
 }
 
+#[test]
+fn knows_jump_targets(rt: HostRuntime) {
+    assert_eq!(rt; jump_target(3, 0), 4);
+    assert_eq!(rt; jump_target(3, -4), 0);
+    assert_eq!(rt; jump_target(0, 2147483647), 2_147_483_648);
+}
+
+#[test]
+fn knows_what_a_method_declares(rt: HostRuntime) -> Result<(), Fail> {
+    for (flags, writes) in [(1, false), (2, true), (3, true)] {
+        let name = String::from_str(rt.alloc(), "m")?;
+        let method = Method::new(name, flags, 5, 6, Vec::new(rt.alloc()));
+        assert_eq!(rt; Caps::of(&method), capacities(5, 6, writes));
+    }
+    Ok(())
+}
+
 // The laws do nothing: they were proved when the crate was checked.
 #[test]
 fn has_laws() {
@@ -60,4 +78,6 @@ fn has_laws() {
     decoded();
     layouts();
     outcomes();
+    addresses();
+    limits_are_kept();
 }

@@ -1,6 +1,7 @@
 use Rattle.std.proofs.Common.{◌<◌, sym, subst, arith}
 use Rattle.bpf_machine.specs.Flat.{step}
-use Rattle.bpf_machine.specs.View.{layout_of, flat_state, object_items, GivesState}
+use Rattle.bpf_machine.specs.View.{layout_of, object_items}
+use Rattle.bpf_machine.specs.inner.FlatState.{flat_state, GivesState}
 use Rattle.bpf_machine.proofs.Going.{goes_further, gets_stuck, exits_at}
 use Rattle.bpf_machine.proofs.flat.run_on.Goals as goal
 

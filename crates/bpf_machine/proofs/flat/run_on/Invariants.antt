@@ -1,6 +1,7 @@
 use Rattle.std.proofs.Common.{◌≡◌, ◌-◌}
 use Rattle.bpf_machine.specs.Flat.{run}
-use Rattle.bpf_machine.specs.View.{layout_of, flat_state, IsSized}
+use Rattle.bpf_machine.specs.View.{layout_of}
+use Rattle.bpf_machine.specs.inner.FlatState.{flat_state, IsSized}
 use Rattle.bpf_machine.proofs.Going.{steps_more}
 use Rattle.bpf_machine.proofs.flat.run_on.Given as goal
 

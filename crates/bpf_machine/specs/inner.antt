@@ -1,0 +1,2 @@
+-- What only the code's own private contracts name.
+pub mod FlatState
