@@ -1,19 +1,14 @@
 -- The code's own values, which private contracts name: no promise of the crate rests on them.
 use Rattle.std.specs.Prelude.{◌≡◌, ℕ, Option, Some, None, length}
-use Rattle.bpf_decode.specs.Fields.{Fields}
 use Rattle.bpf_machine.specs.declared.caps.Caps.{Caps}
 use Rattle.bpf_machine.specs.declared.limits.TheConstants.{STACK_SIZE}
 use Rattle.bpf_machine.specs.declared.flat.Stop.{Stop}
 use Rattle.bpf_machine.specs.declared.flat.Stop.TheVariants as stops
-use Rattle.bpf_machine.specs.declared.flat.fields.SlotFields.{SlotFields}
 use Rattle.bpf_machine.specs.declared.flat.memory.Regions.{Regions}
 use Rattle.bpf_machine.specs.declared.flat.state.FlatState.{FlatState}
 use Rattle.bpf_machine.specs.Object.{Object}
 use Rattle.bpf_machine.specs.State.{Memory, State, outcome_of, Ending, Ended, Stuck, Unfinished}
 use Rattle.bpf_machine.specs.View.{object_items}
-
-abbrev pub slot_fields : SlotFields → Fields
-slot_fields f = record { opcode = f.opcode; dst = f.dst; src = f.src; offset = f.offset; imm = f.imm }
 
 abbrev pub memory_of : Regions → Memory
 memory_of m = record { input = m.input.items; output = m.output.items; stack = m.stack.items }

@@ -1,50 +1,7 @@
-ghost use Rattle.std.specs.Prelude.{◌≡◌, ◌≤◌, ◌<◌, ◌*◌, ◌+◌, length, IfSome};
-ghost use Rattle.std.specs.Option.{option_map};
-ghost use Rattle.bpf_decode.specs.Fields.{fields_of};
+ghost use Rattle.std.specs.Prelude.{◌≡◌, ◌≤◌, ◌<◌, ◌*◌, ◌+◌, length};
 ghost use Rattle.bpf_machine.specs.Flat.{signed16, signed32, width_of, signed_width_of, at_slot};
-ghost use Rattle.bpf_machine.specs.inner.FlatState.{slot_fields};
 
 use bpf_decode::SignedWidth;
-
-/// The fields of a slot of eight bytes (RFC 9669 section 3.1); the signed ones as two's complement.
-#[derive(Clone, Copy)]
-pub struct SlotFields {
-    pub opcode: u8,
-    pub dst: u8,
-    pub src: u8,
-    pub offset: u16,
-    pub imm: u32,
-}
-
-/// The fields of the first eight bytes, if there are so many.
-pub fn read_fields(bytes: &[u8]) -> Option<SlotFields>
-    ensures fields { option_map slot_fields result ≡ fields_of bytes.now }
-    ensures long { IfSome result (λ _. 8 ≤ length bytes.now) }
-{
-    match bytes {
-        [
-            opcode,
-            registers,
-            offset0,
-            offset1,
-            imm0,
-            imm1,
-            imm2,
-            imm3,
-            ..
-        ] => Some(SlotFields {
-            opcode: *opcode,
-            dst: *registers % 16,
-            src: *registers / 16,
-            offset: u16::from(*offset0) + 256 * u16::from(*offset1),
-            imm: u32::from(*imm0)
-                + 256 * u32::from(*imm1)
-                + 65_536 * u32::from(*imm2)
-                + 16_777_216 * u32::from(*imm3),
-        }),
-        _ => None,
-    }
-}
 
 /// The bytes from a slot on, none past the end.
 pub fn at_slot(code: &[u8], slot: u64) -> &[u8]

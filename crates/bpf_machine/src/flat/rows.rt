@@ -1,24 +1,21 @@
 ghost use Rattle.std.specs.Prelude.{◌≡◌, ◌<◌, ◌≤◌, ◌+◌, ◌*◌, ◌^◌, length, IfOk};
-ghost use Rattle.std.specs.Option.{option_map};
 ghost use Rattle.bpf_machine.specs.Flat.{operand, operation_row, neg_row, mov_row, end_row, alu_row, mem_row, memsx_row, ldx_row, st_row, stx_row, wide_row, ja_row, ja32_row, branch_row, call_row, act, step, exit_code, at_base};
 ghost use Rattle.bpf_machine.specs.View.{layout_of};
-ghost use Rattle.bpf_machine.specs.inner.FlatState.{flat_state, slot_fields, GivesState, IsSized};
+ghost use Rattle.bpf_machine.specs.inner.FlatState.{flat_state, GivesState, IsSized};
 
 use crate::caps::Caps;
-use crate::flat::fields::{
-    SlotFields, at_slot, read_fields, signed_width_of, signed16, signed32, width_of,
-};
+use crate::flat::fields::{at_slot, signed_width_of, signed16, signed32, width_of};
 use crate::flat::helpers::help;
 use crate::flat::memory::{load, load_signed, store};
 use crate::flat::state::{FlatState, get, set};
 use crate::layout::Layout;
 use bpf_decode::arithmetic::{alu, copied, negative, ordered, sign_extended, taken};
-use bpf_decode::{Arithmetic, Bits, ByteOrder, Comparison, EndWidth, SignedMove};
+use bpf_decode::{Arithmetic, Bits, ByteOrder, Comparison, EndWidth, SignedMove, Slot};
 use std::alloc::{AllocError, Global};
 
 /// What an instruction reads beside its destination: the immediate, or a register.
-fn operand(f: SlotFields, s: &FlatState) -> Option<u64>
-    ensures { result ≡ operand (slot_fields f) (flat_state s.now) }
+fn operand(f: Slot, s: &FlatState) -> Option<u64>
+    ensures { result ≡ operand f (flat_state s.now) }
 {
     if f.opcode / 8 % 2 == 0 {
         if f.src == 0 {
@@ -34,10 +31,10 @@ fn operand(f: SlotFields, s: &FlatState) -> Option<u64>
 }
 
 /// An operation; the offset tells signed division and modulo apart.
-fn operation_row(caps: &Caps, bits: Bits, f: SlotFields, s: &mut FlatState) -> Option<()>
+fn operation_row(caps: &Caps, bits: Bits, f: Slot, s: &mut FlatState) -> Option<()>
     requires sized { IsSized caps.now s.old.memory }
     requires slot { s.old.slot < 2 ^ 62 }
-    ensures row { GivesState result (flat_state s.new) (operation_row bits (slot_fields f) (flat_state s.old)) }
+    ensures row { GivesState result (flat_state s.new) (operation_row bits f (flat_state s.old)) }
     ensures sized { IsSized caps.now s.new.memory }
 {
     let row = Arithmetic::of(f.opcode / 16)?;
@@ -52,10 +49,10 @@ fn operation_row(caps: &Caps, bits: Bits, f: SlotFields, s: &mut FlatState) -> O
 }
 
 /// NEG.
-fn neg_row(caps: &Caps, bits: Bits, f: SlotFields, s: &mut FlatState) -> Option<()>
+fn neg_row(caps: &Caps, bits: Bits, f: Slot, s: &mut FlatState) -> Option<()>
     requires sized { IsSized caps.now s.old.memory }
     requires slot { s.old.slot < 2 ^ 62 }
-    ensures row { GivesState result (flat_state s.new) (neg_row bits (slot_fields f) (flat_state s.old)) }
+    ensures row { GivesState result (flat_state s.new) (neg_row bits f (flat_state s.old)) }
     ensures sized { IsSized caps.now s.new.memory }
 {
     if f.opcode / 8 % 2 != 0 || f.src != 0 || f.offset != 0 || f.imm != 0 {
@@ -68,10 +65,10 @@ fn neg_row(caps: &Caps, bits: Bits, f: SlotFields, s: &mut FlatState) -> Option<
 }
 
 /// MOV, and MOVSX of a register.
-fn mov_row(caps: &Caps, bits: Bits, f: SlotFields, s: &mut FlatState) -> Option<()>
+fn mov_row(caps: &Caps, bits: Bits, f: Slot, s: &mut FlatState) -> Option<()>
     requires sized { IsSized caps.now s.old.memory }
     requires slot { s.old.slot < 2 ^ 62 }
-    ensures row { GivesState result (flat_state s.new) (mov_row bits (slot_fields f) (flat_state s.old)) }
+    ensures row { GivesState result (flat_state s.new) (mov_row bits f (flat_state s.old)) }
     ensures sized { IsSized caps.now s.new.memory }
 {
     if f.offset == 0 {
@@ -90,10 +87,10 @@ fn mov_row(caps: &Caps, bits: Bits, f: SlotFields, s: &mut FlatState) -> Option<
 }
 
 /// END: the order by the class and the source bit, the bits kept by the immediate.
-fn end_row(caps: &Caps, bits: Bits, f: SlotFields, s: &mut FlatState) -> Option<()>
+fn end_row(caps: &Caps, bits: Bits, f: Slot, s: &mut FlatState) -> Option<()>
     requires sized { IsSized caps.now s.old.memory }
     requires slot { s.old.slot < 2 ^ 62 }
-    ensures row { GivesState result (flat_state s.new) (end_row bits (slot_fields f) (flat_state s.old)) }
+    ensures row { GivesState result (flat_state s.new) (end_row bits f (flat_state s.old)) }
     ensures sized { IsSized caps.now s.new.memory }
 {
     let order = ByteOrder::of(bits, f.opcode / 8 % 2)?;
@@ -107,10 +104,10 @@ fn end_row(caps: &Caps, bits: Bits, f: SlotFields, s: &mut FlatState) -> Option<
 }
 
 /// ALU and ALU64.
-fn alu_row(caps: &Caps, bits: Bits, f: SlotFields, s: &mut FlatState) -> Option<()>
+fn alu_row(caps: &Caps, bits: Bits, f: Slot, s: &mut FlatState) -> Option<()>
     requires sized { IsSized caps.now s.old.memory }
     requires slot { s.old.slot < 2 ^ 62 }
-    ensures row { GivesState result (flat_state s.new) (alu_row bits (slot_fields f) (flat_state s.old)) }
+    ensures row { GivesState result (flat_state s.new) (alu_row bits f (flat_state s.old)) }
     ensures sized { IsSized caps.now s.new.memory }
 {
     match f.opcode / 16 {
@@ -122,17 +119,17 @@ fn alu_row(caps: &Caps, bits: Bits, f: SlotFields, s: &mut FlatState) -> Option<
 }
 
 /// The address that is offset from a base.
-fn at_base(f: SlotFields, base: u64) -> u64
-    ensures { result ≡ at_base (slot_fields f) base }
+fn at_base(f: Slot, base: u64) -> u64
+    ensures { result ≡ at_base f base }
 {
     base.wrapping_add(signed16(f.offset))
 }
 
 /// LDX in the mode MEM.
-fn mem_row(caps: &Caps, layout: &Layout, f: SlotFields, s: &mut FlatState) -> Option<()>
+fn mem_row(caps: &Caps, layout: &Layout, f: Slot, s: &mut FlatState) -> Option<()>
     requires sized { IsSized caps.now s.old.memory }
     requires slot { s.old.slot < 2 ^ 62 }
-    ensures row { GivesState result (flat_state s.new) (mem_row caps.now (layout_of layout.now) (slot_fields f) (flat_state s.old)) }
+    ensures row { GivesState result (flat_state s.new) (mem_row caps.now (layout_of layout.now) f (flat_state s.old)) }
     ensures sized { IsSized caps.now s.new.memory }
 {
     let base = get(s, f.src)?;
@@ -142,10 +139,10 @@ fn mem_row(caps: &Caps, layout: &Layout, f: SlotFields, s: &mut FlatState) -> Op
 }
 
 /// LDX in the mode MEMSX.
-fn memsx_row(caps: &Caps, layout: &Layout, f: SlotFields, s: &mut FlatState) -> Option<()>
+fn memsx_row(caps: &Caps, layout: &Layout, f: Slot, s: &mut FlatState) -> Option<()>
     requires sized { IsSized caps.now s.old.memory }
     requires slot { s.old.slot < 2 ^ 62 }
-    ensures row { GivesState result (flat_state s.new) (memsx_row caps.now (layout_of layout.now) (slot_fields f) (flat_state s.old)) }
+    ensures row { GivesState result (flat_state s.new) (memsx_row caps.now (layout_of layout.now) f (flat_state s.old)) }
     ensures sized { IsSized caps.now s.new.memory }
 {
     let width = signed_width_of(f.opcode)?;
@@ -156,10 +153,10 @@ fn memsx_row(caps: &Caps, layout: &Layout, f: SlotFields, s: &mut FlatState) -> 
 }
 
 /// LDX in the modes MEM and MEMSX.
-fn ldx_row(caps: &Caps, layout: &Layout, f: SlotFields, s: &mut FlatState) -> Option<()>
+fn ldx_row(caps: &Caps, layout: &Layout, f: Slot, s: &mut FlatState) -> Option<()>
     requires sized { IsSized caps.now s.old.memory }
     requires slot { s.old.slot < 2 ^ 62 }
-    ensures row { GivesState result (flat_state s.new) (ldx_row caps.now (layout_of layout.now) (slot_fields f) (flat_state s.old)) }
+    ensures row { GivesState result (flat_state s.new) (ldx_row caps.now (layout_of layout.now) f (flat_state s.old)) }
     ensures sized { IsSized caps.now s.new.memory }
 {
     if f.imm != 0 {
@@ -173,10 +170,10 @@ fn ldx_row(caps: &Caps, layout: &Layout, f: SlotFields, s: &mut FlatState) -> Op
 }
 
 /// ST in the mode MEM.
-fn st_row(caps: &Caps, layout: &Layout, f: SlotFields, s: &mut FlatState) -> Option<()>
+fn st_row(caps: &Caps, layout: &Layout, f: Slot, s: &mut FlatState) -> Option<()>
     requires sized { IsSized caps.now s.old.memory }
     requires slot { s.old.slot < 2 ^ 62 }
-    ensures row { GivesState result (flat_state s.new) (st_row caps.now (layout_of layout.now) (slot_fields f) (flat_state s.old)) }
+    ensures row { GivesState result (flat_state s.new) (st_row caps.now (layout_of layout.now) f (flat_state s.old)) }
     ensures sized { IsSized caps.now s.new.memory }
 {
     if f.opcode / 32 != 3 || f.src != 0 {
@@ -196,10 +193,10 @@ fn st_row(caps: &Caps, layout: &Layout, f: SlotFields, s: &mut FlatState) -> Opt
 }
 
 /// STX in the mode MEM.
-fn stx_row(caps: &Caps, layout: &Layout, f: SlotFields, s: &mut FlatState) -> Option<()>
+fn stx_row(caps: &Caps, layout: &Layout, f: Slot, s: &mut FlatState) -> Option<()>
     requires sized { IsSized caps.now s.old.memory }
     requires slot { s.old.slot < 2 ^ 62 }
-    ensures row { GivesState result (flat_state s.new) (stx_row caps.now (layout_of layout.now) (slot_fields f) (flat_state s.old)) }
+    ensures row { GivesState result (flat_state s.new) (stx_row caps.now (layout_of layout.now) f (flat_state s.old)) }
     ensures sized { IsSized caps.now s.new.memory }
 {
     if f.opcode / 32 != 3 || f.imm != 0 {
@@ -213,10 +210,10 @@ fn stx_row(caps: &Caps, layout: &Layout, f: SlotFields, s: &mut FlatState) -> Op
 }
 
 /// The wide load of a number: the high half is the next slot's immediate.
-fn wide_row(caps: &Caps, f: SlotFields, next: Option<SlotFields>, s: &mut FlatState) -> Option<()>
+fn wide_row(caps: &Caps, f: Slot, next: Option<Slot>, s: &mut FlatState) -> Option<()>
     requires sized { IsSized caps.now s.old.memory }
     requires slot { s.old.slot < 2 ^ 62 }
-    ensures row { GivesState result (flat_state s.new) (wide_row (slot_fields f) (option_map slot_fields next) (flat_state s.old)) }
+    ensures row { GivesState result (flat_state s.new) (wide_row f next (flat_state s.old)) }
     ensures sized { IsSized caps.now s.new.memory }
 {
     if f.src != 0 || f.offset != 0 {
@@ -233,10 +230,10 @@ fn wide_row(caps: &Caps, f: SlotFields, next: Option<SlotFields>, s: &mut FlatSt
 }
 
 /// JA: in slots from the slot after the jump.
-fn ja_row(caps: &Caps, f: SlotFields, s: &mut FlatState) -> Option<()>
+fn ja_row(caps: &Caps, f: Slot, s: &mut FlatState) -> Option<()>
     requires sized { IsSized caps.now s.old.memory }
     requires slot { s.old.slot < 2 ^ 62 }
-    ensures row { GivesState result (flat_state s.new) (ja_row (slot_fields f) (flat_state s.old)) }
+    ensures row { GivesState result (flat_state s.new) (ja_row f (flat_state s.old)) }
     ensures sized { IsSized caps.now s.new.memory }
 {
     if f.dst != 0 || f.src != 0 || f.imm != 0 {
@@ -247,10 +244,10 @@ fn ja_row(caps: &Caps, f: SlotFields, s: &mut FlatState) -> Option<()>
 }
 
 /// JA by the immediate.
-fn ja32_row(caps: &Caps, f: SlotFields, s: &mut FlatState) -> Option<()>
+fn ja32_row(caps: &Caps, f: Slot, s: &mut FlatState) -> Option<()>
     requires sized { IsSized caps.now s.old.memory }
     requires slot { s.old.slot < 2 ^ 62 }
-    ensures row { GivesState result (flat_state s.new) (ja32_row (slot_fields f) (flat_state s.old)) }
+    ensures row { GivesState result (flat_state s.new) (ja32_row f (flat_state s.old)) }
     ensures sized { IsSized caps.now s.new.memory }
 {
     if f.dst != 0 || f.src != 0 || f.offset != 0 {
@@ -261,10 +258,10 @@ fn ja32_row(caps: &Caps, f: SlotFields, s: &mut FlatState) -> Option<()>
 }
 
 /// A comparison of JMP and JMP32.
-fn branch_row(caps: &Caps, bits: Bits, f: SlotFields, s: &mut FlatState) -> Option<()>
+fn branch_row(caps: &Caps, bits: Bits, f: Slot, s: &mut FlatState) -> Option<()>
     requires sized { IsSized caps.now s.old.memory }
     requires slot { s.old.slot < 2 ^ 62 }
-    ensures row { GivesState result (flat_state s.new) (branch_row bits (slot_fields f) (flat_state s.old)) }
+    ensures row { GivesState result (flat_state s.new) (branch_row bits f (flat_state s.old)) }
     ensures sized { IsSized caps.now s.new.memory }
 {
     let comparison = Comparison::of(f.opcode / 16)?;
@@ -283,12 +280,12 @@ fn call_row(
     alloc: Global,
     caps: &Caps,
     layout: &Layout,
-    f: SlotFields,
+    f: Slot,
     s: &mut FlatState,
 ) -> Result<Option<()>, AllocError>
     requires sized { IsSized caps.now s.old.memory }
     requires slot { s.old.slot < 2 ^ 62 }
-    ensures row { IfOk result (λ o. GivesState o (flat_state s.new) (call_row caps.now (layout_of layout.now) (slot_fields f) (flat_state s.old))) }
+    ensures row { IfOk result (λ o. GivesState o (flat_state s.new) (call_row caps.now (layout_of layout.now) f (flat_state s.old))) }
     ensures sized { IsSized caps.now s.new.memory }
 {
     if f.dst != 0 || f.src != 0 || f.offset != 0 {
@@ -308,13 +305,13 @@ fn act(
     alloc: Global,
     caps: &Caps,
     layout: &Layout,
-    f: SlotFields,
-    next: Option<SlotFields>,
+    f: Slot,
+    next: Option<Slot>,
     s: &mut FlatState,
 ) -> Result<Option<()>, AllocError>
     requires sized { IsSized caps.now s.old.memory }
     requires slot { s.old.slot < 2 ^ 62 }
-    ensures acts { IfOk result (λ o. GivesState o (flat_state s.new) (act caps.now (layout_of layout.now) (slot_fields f) (option_map slot_fields next) (flat_state s.old))) }
+    ensures acts { IfOk result (λ o. GivesState o (flat_state s.new) (act caps.now (layout_of layout.now) f next (flat_state s.old))) }
     ensures sized { IsSized caps.now s.new.memory }
 {
     match f.opcode % 8 {
@@ -350,9 +347,9 @@ pub fn step(
     ensures sized { IsSized caps.now s.new.memory }
 {
     let bytes = at_slot(code, s.slot);
-    match read_fields(bytes) {
+    match Slot::of(bytes) {
         None => Ok(None),
-        Some(f) => act(alloc, caps, layout, f, read_fields(&bytes[8..]), s),
+        Some(f) => act(alloc, caps, layout, f, Slot::of(&bytes[8..]), s),
     }
 }
 
@@ -360,7 +357,7 @@ pub fn step(
 pub fn exit_code(code: &[u8], s: &FlatState) -> Option<u64>
     ensures { result ≡ exit_code code.now (flat_state s.now) }
 {
-    let f = read_fields(at_slot(code, s.slot))?;
+    let f = Slot::of(at_slot(code, s.slot))?;
     if f.opcode == 0x95 && f.dst == 0 && f.src == 0 && f.offset == 0 && f.imm == 0 {
         get(s, 0)
     } else {
