@@ -133,8 +133,11 @@ impl<C: Classes> Group<C> {
 
     /// The object of a name, if it exists. It costs a logarithm of the number of objects.
     pub fn object(&self, name: &ObjectName) -> Option<&Object>
-        ensures { given_object result ≡ fin.get (fold C.classes self.now) name.now }
+        ensures value { given_object result ≡ fin.get (fold C.classes self.now) name.now }
+        ensures within { IfSome result (λ o. length o.now ≤ Object.LIMIT) }
     {
-        self.objects.get(name)
+        let object = self.objects.get(name)?;
+        let _ = object.bytes();
+        Some(object)
     }
 }
