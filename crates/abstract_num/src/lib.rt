@@ -8,7 +8,6 @@
 
 mod bits;
 mod domain;
-mod exact;
 mod fact;
 mod laws;
 mod number;

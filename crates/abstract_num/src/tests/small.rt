@@ -2,8 +2,8 @@
 //! members must be held by what is computed of the sets.
 
 use super::{ALL, LOW, TOP};
-use crate::exact::alu;
 use crate::{Number, arithmetic, constant, holds, join, refine, tighten};
+use bpf_decode::arithmetic::{alu, taken};
 use bpf_decode::{Arithmetic, Bits, Comparison};
 
 /// Where runs of one, two and four numbers begin: at both ends of the word and at its signs and halves.
@@ -101,31 +101,6 @@ fn known(set: u64) -> Option<Number> {
         x = join(x, constant(member(set, k)));
     }
     tighten(x)
-}
-
-/// Whether a comparison of 64 bits holds.
-fn compares(comparison: Comparison, m: u64, n: u64) -> bool {
-    match comparison {
-        Comparison::Equal => m == n,
-        Comparison::Greater => m > n,
-        Comparison::GreaterEqual => m >= n,
-        Comparison::SharesBits => m & n != 0,
-        Comparison::NotEqual => m != n,
-        Comparison::SignedGreater => m.cast_signed() > n.cast_signed(),
-        Comparison::SignedGreaterEqual => m.cast_signed() >= n.cast_signed(),
-        Comparison::Less => m < n,
-        Comparison::LessEqual => m <= n,
-        Comparison::SignedLess => m.cast_signed() < n.cast_signed(),
-        Comparison::SignedLessEqual => m.cast_signed() <= n.cast_signed(),
-    }
-}
-
-/// Whether a comparison holds; of 32 bits the low halves are compared, as signed ones in the upper halves.
-fn taken(bits: Bits, comparison: Comparison, m: u64, n: u64) -> bool {
-    match bits {
-        Bits::Bits64 => compares(comparison, m, n),
-        Bits::Bits32 => compares(comparison, m << 32, n << 32),
-    }
 }
 
 /// What is computed of `m` and each member of the set `j` is held.
