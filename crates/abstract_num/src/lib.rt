@@ -8,7 +8,6 @@
 
 mod bits;
 mod domain;
-mod exact;
 mod fact;
 mod laws;
 mod number;
@@ -35,3 +34,6 @@ pub use srange::SRange;
 pub use tightening::tighten;
 pub use transfer::{arithmetic, copied, negative, ordered, sign_extended};
 pub use urange::URange;
+
+#[cfg(test)]
+mod tests;

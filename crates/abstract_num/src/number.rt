@@ -15,9 +15,13 @@ use crate::srange::SRange;
 use crate::tightening::tighten;
 use crate::urange::URange;
 use bpf_decode::{SignedWidth, Width};
+use std::mem::size_of;
 
 /// What is known of a number below `2^64`: the numbers that lie in both ranges and agree with the known bits.
 pub type Number = Product<URange, Product<SRange, Bits>>;
+
+/// A value takes six words.
+const _: () = prove!(size_of::<Number>() <= 48);
 
 /// Every number.
 pub fn any() -> Number

@@ -1,15 +1,15 @@
 ghost use Rattle.std.specs.Prelude.{◌≡◌, ℕ, ◌%◌, ◌^◌, ◌<◌, ◌≤◌, IsTrue};
 ghost use Rattle.bpf_decode.specs.Arithmetic.{alu_value, neg_value, mov_value, signed_move_value, end_value};
+ghost use Rattle.bpf_decode.specs.Instruction.{signed_move_bits};
 ghost use Rattle.bpf_decode.specs.declared.operation.Bits.TheVariants.{Bits32, Bits64};
 ghost use Rattle.abstract_num.specs.Plain.{Gives, Holds, Kept, constant, view};
 ghost use Rattle.abstract_num.specs.Transfer.{answer32, answer64, answered, copied, count_of, cut, extended_of, finished32, is_constant, moved, ordered, row_of, row_of_32, sign_extended, transferred};
 
 use crate::domain::Domain;
-use crate::exact;
 use crate::number::{Number, any, constant};
 use crate::row::{Answer, Row};
 use crate::tightening::tighten;
-use bpf_decode::{Arithmetic, Bits, ByteOrder, EndWidth, SignedMove};
+use bpf_decode::{Arithmetic, Bits, ByteOrder, EndWidth, SignedMove, arithmetic as exact};
 
 /// Whether the unsigned range is one number.
 pub(crate) fn is_constant(x: Number) -> bool
@@ -218,11 +218,21 @@ fn sign_extended32(extension: SignedMove, x: Number) -> Option<Number>
     }
 }
 
+/// The width of a copy with sign extension.
+fn class_of(extension: SignedMove) -> Bits
+    ensures { result ≡ signed_move_bits extension }
+{
+    match extension {
+        SignedMove::Byte64 | SignedMove::Half64 | SignedMove::Word64 => Bits::Bits64,
+        SignedMove::Byte32 | SignedMove::Half32 => Bits::Bits32,
+    }
+}
+
 /// What a copy with sign extension makes of a number.
 fn extended(extension: SignedMove, x: Number) -> Option<Number>
     ensures { Gives (sign_extended extension (view x)) result }
 {
-    match extension.bits() {
+    match class_of(extension) {
         Bits::Bits64 => sign_extended64(extension, x),
         Bits::Bits32 => sign_extended32(extension, x),
     }
