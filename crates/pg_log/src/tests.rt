@@ -4,12 +4,13 @@ mod full;
 mod replay;
 
 use crate::{
-    ClientId, LogError, Request, RequestNumber, classes_added, folds, legal_lists, pairs, refusals,
-    replies, undoing,
+    Classes, ClientId, Group, LogError, Request, RequestNumber, classes_added, folds, legal_lists,
+    pairs, refusals, replies, undoing,
 };
 use bpf_decode::{ClassImage, Method, decode};
-use interp::{ClassTable, ObjectName};
+use interp::{ClassTable, Object, ObjectName};
 use std::alloc::Global;
+use std::process::Abort;
 use std::test::Fail;
 use verifier::{VerifiedClass, verify};
 
@@ -35,6 +36,9 @@ const WRITE: [[u8; 8]; 5] = [
     [0x95, 0, 0, 0, 0, 0, 0, 0],
 ];
 
+/// Client and number of a logged request, its place and its code.
+type Logged = (u32, u32, usize, i64);
+
 /// A class of one method `f`.
 fn class(alloc: Global, code: &[[u8; 8]], flags: u8, in_cap: u16) -> Result<VerifiedClass, Fail> {
     let mut bytes = Vec::new(alloc);
@@ -56,68 +60,84 @@ fn table(alloc: Global) -> Result<ClassTable, Fail> {
     Ok(table)
 }
 
-fn client(number: u32) -> Result<ClientId, Fail> {
-    Ok(ClientId::new(number).ok_or("a client")?)
+fn client<R: Abort>(rt: &R, number: u32) -> ClientId {
+    ClientId::new(number).expect(rt, "a client")
 }
 
-fn number(value: u32) -> Result<RequestNumber, Fail> {
-    Ok(RequestNumber::new(value).ok_or("a number")?)
+fn number<R: Abort>(rt: &R, value: u32) -> RequestNumber {
+    RequestNumber::new(value).expect(rt, "a number")
 }
 
-fn name(alloc: Global) -> Result<ObjectName, Fail> {
-    Ok(ObjectName::new(alloc, "object")?)
+fn name<R: Abort>(rt: &R, alloc: Global) -> ObjectName {
+    ObjectName::new(alloc, "object").expect(rt, "memory")
 }
 
 /// A request of a client for the object `object`.
-fn request(
+fn request<R: Abort>(
+    rt: &R,
     alloc: Global,
-    who: u32,
-    value: u32,
+    (who, value): (u32, u32),
     class: usize,
     method: &str,
     input: &[u8],
-) -> Result<Request, Fail> {
-    Ok(Request::new(
-        client(who)?,
-        number(value)?,
-        name(alloc)?,
+) -> Request {
+    let object = name(rt, alloc);
+    let method = String::from_str(alloc, method).expect(rt, "memory");
+    let input = Vec::from_slice(alloc, input).expect(rt, "memory");
+    Request::new(
+        client(rt, who),
+        number(rt, value),
+        object,
         class,
-        String::from_str(alloc, method)?,
-        Vec::from_slice(alloc, input)?,
-    ))
+        method,
+        input,
+    )
+}
+
+/// Whether the object has those bytes, or is absent.
+fn is_object(object: Option<&Object>, want: Option<&str>) -> bool {
+    match object {
+        None => want.is_none(),
+        Some(object) => want.is_some_and(|text| object.bytes() == text.as_bytes()),
+    }
+}
+
+/// The request of that client and number has that place and code, and no output.
+fn see<C: Classes, R: Abort>(rt: &R, group: &Group<C>, (who, value, place, code): Logged) {
+    let (found, answered, output) = group
+        .reply_of(client(rt, who), number(rt, value))
+        .expect(rt, "a reply");
+    assert!(rt; found == place && answered == code && output.is_empty());
+    let (answered, _) = group.reply_at(place).expect(rt, "a reply");
+    assert!(rt; answered == code);
 }
 
 #[test]
-fn numbers_begin_at_one(rt: HostRuntime) -> Result<(), Fail> {
-    assert!(rt; ClientId::new(0).is_none());
-    assert!(rt; RequestNumber::new(0).is_none());
-    assert_eq!(rt; client(u32::MAX)?.get(), 4_294_967_295);
-    assert_eq!(rt; number(1)?.get(), 1);
-    Ok(())
+fn numbers_begin_at_one(rt: HostRuntime) {
+    assert!(rt; ClientId::new(0).is_none() && RequestNumber::new(0).is_none());
+    assert!(rt; client(&rt, u32::MAX).get() == 4_294_967_295 && number(&rt, 1).get() == 1);
 }
 
 #[test]
-fn parts_of_a_request(rt: HostRuntime) -> Result<(), Fail> {
-    let one = request(rt.alloc(), 3, 4, 5, "f", b"ab")?;
+fn parts_of_a_request(rt: HostRuntime) {
+    let one = request(&rt, rt.alloc(), (3, 4), 5, "f", b"ab");
     assert!(rt; one.client().get() == 3 && one.number().get() == 4 && one.class() == 5);
     assert!(rt; one.object().text() == "object" && one.method() == "f");
     assert!(rt; one.input() == b"ab".as_slice());
-    Ok(())
 }
 
 #[test]
-fn equal_requests(rt: HostRuntime) -> Result<(), Fail> {
-    let one = request(rt.alloc(), 3, 4, 5, "f", b"ab")?;
-    assert!(rt; one.is(&one.copy(rt.alloc())?));
-    assert!(rt; !one.is(&request(rt.alloc(), 3, 4, 5, "f", b"ac")?));
-    Ok(())
+fn equal_requests(rt: HostRuntime) {
+    let one = request(&rt, rt.alloc(), (3, 4), 5, "f", b"ab");
+    let copy = one.copy(rt.alloc()).expect(&rt, "memory");
+    let other = request(&rt, rt.alloc(), (3, 4), 5, "f", b"ac");
+    assert!(rt; one.is(&copy) && !one.is(&other));
 }
 
 #[test]
-fn printed_refusal(rt: HostRuntime) -> Result<(), Fail> {
-    let text = format!(in rt.alloc(); "{}", LogError::StaleNumber)?;
-    assert_eq!(rt; text.as_str(), "2 StaleNumber");
-    Ok(())
+fn printed_refusal(rt: HostRuntime) {
+    let text = format!(in rt.alloc(); "{}", LogError::StaleNumber).expect(&rt, "memory");
+    assert!(rt; text.as_str() == "2 StaleNumber");
 }
 
 #[test]
@@ -129,6 +149,5 @@ fn laws_do_nothing(rt: HostRuntime) {
     undoing();
     classes_added();
     refusals();
-    assert_eq!(rt; LogError::InputTooLong.number(), 6);
-    assert_eq!(rt; LogError::NoClass.name(), "NoClass");
+    assert!(rt; LogError::InputTooLong.number() == 6 && LogError::NoClass.name() == "NoClass");
 }

@@ -1,55 +1,58 @@
-use super::{client, name, number, request, table};
+use super::{Logged, is_object, name, request, see, table};
 use crate::{Classes, Group, GroupWork, LogError, Request, with_group};
 use interp::ClassTable;
 use std::alloc::Global;
 use std::process::Abort;
 use std::test::Fail;
 
-/// Replays a list, and the list with its last request twice.
+/// What the list below makes: one client writes, another succeeds, and the first writes and fails.
+const LOGGED: [Logged; 3] = [(1, 5, 0, 3), (2, 1, 1, 0), (1, 6, 2, -5)];
+
+/// The list, and its last request once more if so wanted.
+fn list<R: Abort>(rt: &R, alloc: Global, twice: bool) -> Vec<Request> {
+    let mut list = Vec::new(alloc);
+    let one = request(rt, alloc, (1, 5), 2, "f", b"abc");
+    list.push(one).expect(rt, "memory");
+    let two = request(rt, alloc, (2, 1), 0, "f", b"");
+    list.push(two).expect(rt, "memory");
+    let three = request(rt, alloc, (1, 6), 1, "f", b"xyz");
+    list.push(three).expect(rt, "memory");
+    if twice {
+        let again = request(rt, alloc, (1, 6), 1, "f", b"xyz");
+        list.push(again).expect(rt, "memory");
+    }
+    list
+}
+
+/// Replays the list, and copies what it makes.
 #[derive(Drop)]
 struct Replays<'a, R> {
     rt: &'a R,
     alloc: Global,
-    list: Vec<Request>,
 }
 
 impl<R: Abort> GroupWork for Replays<'_, R> {
-    type Output = Result<(), Fail>;
+    type Output = ();
 
     ghost gives = { λ _ _ _ _. Unit {0} };
 
-    fn work<C: Classes>(self, table: &ClassTable, mut group: Group<C>) -> Result<(), Fail> {
-        for request in &self.list {
-            group.append(table, request.copy(self.alloc)?)?;
-        }
-        let again = Group::<C>::replay(self.alloc, table, &self.list)?;
-        compare(self.rt, self.alloc, &group)?;
-        compare(self.rt, self.alloc, &again)?;
-        compare(self.rt, self.alloc, &again.copy(self.alloc)?)
+    fn work<C: Classes>(self, table: &ClassTable, group: Group<C>) {
+        let _ = group;
+        let list = list(self.rt, self.alloc, false);
+        let group = Group::<C>::replay(self.alloc, table, &list).expect(self.rt, "memory");
+        compare(self.rt, self.alloc, &group);
+        let copy = group.copy(self.alloc).expect(self.rt, "memory");
+        compare(self.rt, self.alloc, &copy);
     }
 }
 
-/// The group is that of the list below.
-fn compare<C: Classes>(rt: &impl Abort, alloc: Global, group: &Group<C>) -> Result<(), Fail> {
-    assert_eq!(rt; group.len(), 3);
-    for (place, code) in [(0, 3), (1, 0), (2, -5)] {
-        let (answered, _) = group.reply_at(place).ok_or("no reply")?;
-        assert_eq!(rt; answered, code);
+/// The group is that of the list.
+fn compare<C: Classes, R: Abort>(rt: &R, alloc: Global, group: &Group<C>) {
+    assert!(rt; group.entries().len() == 3);
+    for logged in &LOGGED {
+        see(rt, group, *logged);
     }
-    let (place, _, _) = group.reply_of(client(2)?, number(1)?).ok_or("no reply")?;
-    assert_eq!(rt; place, 1);
-    let object = group.object(&name(alloc)?).ok_or("no object")?;
-    assert_eq!(rt; object.bytes(), b"abc".as_slice());
-    Ok(())
-}
-
-/// One client writes, another succeeds, and the first writes and fails.
-fn list(alloc: Global) -> Result<Vec<Request>, Fail> {
-    let mut list = Vec::new(alloc);
-    list.push(request(alloc, 1, 5, 2, "f", b"abc")?)?;
-    list.push(request(alloc, 2, 1, 0, "f", b"")?)?;
-    list.push(request(alloc, 1, 6, 1, "f", b"xyz")?)?;
-    Ok(list)
+    assert!(rt; is_object(group.object(&name(rt, alloc)), Some("abc")));
 }
 
 #[test]
@@ -58,9 +61,9 @@ fn replay_is_appending(rt: HostRuntime) -> Result<(), Fail> {
     let work = Replays {
         rt: &rt,
         alloc: rt.alloc(),
-        list: list(rt.alloc())?,
     };
-    with_group(rt.alloc(), &table, work)
+    with_group(rt.alloc(), &table, work);
+    Ok(())
 }
 
 /// Replays a list that can't be run.
@@ -68,7 +71,6 @@ fn replay_is_appending(rt: HostRuntime) -> Result<(), Fail> {
 struct Twice<'a, R> {
     rt: &'a R,
     alloc: Global,
-    list: Vec<Request>,
 }
 
 impl<R: Abort> GroupWork for Twice<'_, R> {
@@ -78,22 +80,18 @@ impl<R: Abort> GroupWork for Twice<'_, R> {
 
     fn work<C: Classes>(self, table: &ClassTable, group: Group<C>) {
         let _ = group;
-        match Group::<C>::replay(self.alloc, table, &self.list) {
-            Ok(_) => panic!(self.rt; "a pair that stands twice"),
-            Err(error) => assert_eq!(self.rt; error, LogError::StaleNumber),
-        }
+        let list = list(self.rt, self.alloc, true);
+        let error = Group::<C>::replay(self.alloc, table, &list).err();
+        assert!(self.rt; error == Some(LogError::StaleNumber));
     }
 }
 
 #[test]
 fn pair_twice(rt: HostRuntime) -> Result<(), Fail> {
     let table = table(rt.alloc())?;
-    let mut list = list(rt.alloc())?;
-    list.push(request(rt.alloc(), 1, 6, 1, "f", b"xyz")?)?;
     let work = Twice {
         rt: &rt,
         alloc: rt.alloc(),
-        list,
     };
     with_group(rt.alloc(), &table, work);
     Ok(())
