@@ -2,17 +2,16 @@
 use Rattle.std.proofs.Common.{◌≡◌, ℕ, zero, suc, ◌<◌, ◌≤◌, ◌+◌, Bool, true, false, cond, ◌&&◌, ◌||◌, ◌==◌, nat_le, nat_lt, List, [], ◌∷◌, ◌++◌, length, get_or, Option, Some, None, refl, ap, sym, ◌∙◌, arith, add-zero, zero-add, append-nil, subst, take, ◌-◌, length-append, Vec, Global}
 use Rattle.std.specs.List.{slice_get, AllByRecursion, AllWithin}
 use Rattle.std.specs.List.Sorted.{IsNonDecreasingBy}
-use Rattle.std.specs.Cmp.{nat_cmp_total}
 use Rattle.std.specs.Ordering.{nat_cmp, is_eq}
 use Rattle.std.specs.BTreeMap as tree
 use Rattle.std.specs.BTreeMap.{BTreeMap}
-use Rattle.std.proofs.lemmas.Option.{none-some, same_Some, slice_get_within}
+use Rattle.std.proofs.lemmas.Option.{none-some, same_Some}
 use Rattle.std.proofs.lemmas.Bool.Decides.{nat_tests}
 use Rattle.std.proofs.lemmas.List.{take_at}
 use Rattle.pg_log.specs.Requests.{ClientRequest}
 use Rattle.pg_log.specs.Log.{NumbersRise}
 use Rattle.pg_log.specs.Refusals.{place_of, one_later, is_reached}
-use Rattle.pg_log.specs.Places.{standing_from, standing, IsRising, place_in, reaches_in, kept_of, ArePlaces}
+use Rattle.pg_log.specs.Places.{standing_from, standing, IsRising, place_in, reaches_in, kept_of}
 
 longer : (b : Bool) (p : ℕ × ℕ) (xs ys more : List (ℕ × ℕ)) → ys ≡ xs ++ more → cond b (p ∷ ys) ys ≡ cond b (p ∷ xs) xs ++ more
 longer true p xs ys more e = ap (λ l. p ∷ l) e

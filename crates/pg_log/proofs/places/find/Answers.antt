@@ -1,8 +1,6 @@
-use Rattle.std.proofs.Common.{◌≡◌, ◌∙◌, ap, sym, refl, nat_lt, Option, ℕ, Some, None, rules}
-use Rattle.std.specs.List.{slice_get}
+use Rattle.std.proofs.Common.{◌∙◌, ap, sym, refl, nat_lt, rules}
 use Rattle.std.proofs.lemmas.Option.{slice_get_read, slice_get_past}
 use Rattle.std.proofs.lemmas.List.Sorted.{IsPartitionPoint-from_clause, IsPartitionedBy-ltb}
-use Rattle.pg_log.specs.Places.{place_in}
 use Rattle.pg_log.proofs.Indexed.{place_in-unreached, place_in-point, IsRising-ordered, found, found-hit, found-miss}
 use Rattle.pg_log.proofs.places.find.Goals as goal
 

@@ -1,4 +1,4 @@
-use Rattle.std.proofs.Common.{◌≡◌, ◌∙◌, ap, sym, refl, IsSome, subst, Option, ◌++◌, ◌∷◌, [], Vec, ℕ, Some}
+use Rattle.std.proofs.Common.{◌∙◌, ap, sym, refl, IsSome, subst, Option, ◌++◌, ◌∷◌, [], Vec, ℕ}
 use Rattle.std.specs.declared.alloc.Global.{Global}
 use Rattle.std.specs.Ordering.{nat_cmp}
 use Rattle.std.specs.BTreeMap as tree

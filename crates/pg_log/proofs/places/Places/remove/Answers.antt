@@ -1,6 +1,5 @@
-use Rattle.std.proofs.Common.{◌≡◌, ◌∙◌, ap, sym, refl, IsSome, subst, take, ◌-◌, Option, Vec, ℕ}
+use Rattle.std.proofs.Common.{◌∙◌, ap, sym, refl, IsSome, subst, take, ◌-◌, Option, Vec, ℕ}
 use Rattle.std.specs.declared.alloc.Global.{Global}
-use Rattle.pg_log.specs.Places.{kept_of}
 use Rattle.pg_log.proofs.Indexed.{taken, last_kept}
 use Rattle.pg_log.proofs.places.Places.remove.Goals as goal
 
