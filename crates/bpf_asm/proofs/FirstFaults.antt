@@ -47,7 +47,7 @@ distance_fault low high Fits d z f h =
     record {
       has = ((λ fit. let w = d.within z fit in absurd cc), range);
       only = λ g k. k.1 ∙ sym range;
-      late = rw range (omega arith)
+      late = rw range (omega arith);
     }
 
 distance_fits : (low high : ℤ) (Fits : ℤ → Type 0) → Decides low high Fits → (z w : ℤ) → distance_within low high z ≡ Ok w → Fits z
@@ -185,8 +185,8 @@ judged all above line slot done (Instruction (Ok d) ∷ ss) =
     at_draft all above line slot d ss (nat_le (slot + draft_slots (Ok d)) 4096) refl (finished all slot d) refl _
     (λ i. body_from all (above ++ (Instruction (Ok d) ∷ [])) (line + 1) (slot + slot_count i) (done ++ (i ∷ [])) ss)
     (λ i e. subst (λ (v : ℕ). Judged (LinesHaveFault all (above ++ (Instruction (Ok d) ∷ [])) (line + 1) v ss) (body_from all (above ++ (Instruction (Ok d) ∷ [])) (line + 1) (slot + slot_count i) (done ++ (i ∷ [])) ss))
-      (ap (λ k. slot + k) (sym (slots_of all slot d i e)))
-      (judged all (above ++ (Instruction (Ok d) ∷ [])) (line + 1) (slot + slot_count i) (done ++ (i ∷ [])) ss))
+    (ap (λ k. slot + k) (sym (slots_of all slot d i e)))
+    (judged all (above ++ (Instruction (Ok d) ∷ [])) (line + 1) (slot + slot_count i) (done ++ (i ∷ [])) ss))
 
 -- ---- texts
 
