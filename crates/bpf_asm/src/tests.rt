@@ -1,164 +1,242 @@
 mod class_texts;
-mod refusals;
-mod rows;
 
 use super::*;
-use bpf_decode::{Insn, METHOD_LIMIT, SLOT_LIMIT, encode, read_image, write_image};
+use bpf_decode::{
+    Arithmetic, Bits, ByteOrder, Comparison, EndWidth, Insn, Operand, Register, SignedMove,
+    SignedWidth, Width, decode, encode,
+};
 use class_texts::{LOCK, LOCK_PLAIN};
-use rows::{LINES, SLOTS};
-use std::alloc::{AllocError, Global};
+use std::alloc::Global;
+use std::process::Abort;
 use std::test::Fail;
 
-/// The canonical text of what the text says.
-fn canonical(alloc: Global, text: &str) -> Result<String, AsmError> {
-    let insns = assemble(alloc, text)?;
+fn register(rt: &impl Abort, number: u8) -> Register {
+    Register::new(number).expect(rt, "a register")
+}
+
+/// The text is assembled, and the bytes that it gives are read and printed as `canonical`.
+fn reads(rt: &impl Abort, alloc: Global, text: &str, canonical: &str) -> Result<(), Fail> {
+    let bytes = encode(alloc, &assemble(alloc, text)?)?;
+    let insns = decode(alloc, &bytes)?;
+    let printed = push_all(alloc, &insns)?;
+    assert_eq!(rt; printed.as_str(), canonical);
+    Ok(())
+}
+
+/// The canonical text, of slots within the limits or not.
+fn push_all(alloc: Global, insns: &[Insn]) -> Result<String, AsmError> {
     let mut out = String::new(alloc);
-    print::push_insns(&mut out, &insns)?;
+    print::push_insns(&mut out, insns)?;
     Ok(out)
 }
 
-/// The bytes in hexadecimal, a slot a line.
-fn hexadecimal(alloc: Global, bytes: &[u8]) -> Result<String, AllocError> {
-    let mut out = String::new(alloc);
-    for (place, byte) in bytes.iter().enumerate() {
-        out.push_str(format!(in alloc; "{byte:02x}")?.as_str())?;
-        if place % 8 == 7 {
-            out.push_str("\n")?;
-        }
+/// The text is refused so.
+fn refuses(rt: &impl Abort, alloc: Global, text: &str, line: usize, fault: AsmFault) {
+    match assemble(alloc, text) {
+        Ok(_) => panic!(rt; "read: {text}"),
+        Err(error) => assert_eq!(rt; error, AsmError { line, fault }),
     }
-    Ok(out)
 }
 
-/// The lines have those slots, and are printed as they are.
+#[test]
+fn bytes_of_lines(rt: HostRuntime) -> Result<(), Fail> {
+    let bytes = encode(
+        rt.alloc(),
+        &assemble(rt.alloc(), "ldxw r0, [r1+4]\njgt r2, 15, +3\n")?,
+    )?;
+    let wanted: [u8; 16] = [
+        0x61, 0x10, 0x04, 0, 0, 0, 0, 0, 0x25, 0x02, 0x03, 0, 0x0f, 0, 0, 0,
+    ];
+    assert!(rt; bytes.as_slice() == wanted.as_slice());
+    Ok(())
+}
+
 #[test]
 fn every_form(rt: HostRuntime) -> Result<(), Fail> {
-    let code = encode(rt.alloc(), &assemble(rt.alloc(), LINES)?)?;
-    assert!(rt; hexadecimal(rt.alloc(), &code)?.as_str() == SLOTS);
-    assert!(rt; canonical(rt.alloc(), LINES)?.as_str() == LINES);
-    Ok(())
+    let words64 = [
+        "add", "sub", "mul", "div", "sdiv", "or", "and", "lsh", "rsh", "mod", "smod", "xor", "mov",
+        "arsh",
+    ];
+    for word in words64 {
+        for bits in ["", "32"] {
+            let text = format!(in rt.alloc(); "{word}{bits} r1, r2\n{word}{bits} r10, -5\n")?;
+            reads(&rt, rt.alloc(), text.as_str(), text.as_str())?;
+        }
+    }
+    for word in [
+        "jeq", "jgt", "jge", "jset", "jne", "jsgt", "jsge", "jlt", "jle", "jslt", "jsle",
+    ] {
+        for bits in ["", "32"] {
+            let text = format!(in rt.alloc();
+                "{word}{bits} r2, 15, +3\n{word}{bits} r2, r3, -32768\n"
+            )?;
+            reads(&rt, rt.alloc(), text.as_str(), text.as_str())?;
+        }
+    }
+    let others =
+        "neg r1\nneg32 r1\nmovsx8 r1, r2\nmovsx16 r1, r2\nmovsx32 r1, r2\nmovsx8_32 r1, r2\nmovsx16_32 r1, r2\nle16 r1\nle32 r1\nle64 r1\nbe16 r1\nbe32 r1\nbe64 r1\nbswap16 r1\nbswap32 r1\nbswap64 r1\nlddw r1, 0x0000000000000005\nlddw r0, 0xfedcba9876543210\nldxb r0, [r1+4]\nldxh r0, [r1+4]\nldxw r0, [r1-4]\nldxdw r0, [r1+4]\nldxsb r0, [r1+4]\nldxsh r0, [r1+4]\nldxsw r0, [r1+4]\nstb [r1+0], 5\nsth [r1+0], 5\nstw [r1+0], -2147483648\nstdw [r1+0], 5\nstxb [r1+0], r2\nstxh [r1+0], r2\nstxw [r1+0], r2\nstxdw [r1+0], r2\nja +3\nja32 -70000\ncall 1\ncall 4294967295\ncall local +2\nexit\n";
+    reads(&rt, rt.alloc(), others, others)
 }
 
 #[test]
-fn wide_load(rt: HostRuntime) -> Result<(), Fail> {
-    let line = "lddw r1, 0xfedcba9876543210\n";
-    let code = encode(rt.alloc(), &assemble(rt.alloc(), line)?)?;
-    let slots = "1801000010325476\n0000000098badcfe\n";
-    assert!(rt; hexadecimal(rt.alloc(), &code)?.as_str() == slots);
-    assert!(rt; canonical(rt.alloc(), line)?.as_str() == line);
+fn instructions_of_lines(rt: HostRuntime) -> Result<(), Fail> {
+    let r0 = register(&rt, 0);
+    let r1 = register(&rt, 1);
+    let r2 = register(&rt, 2);
+    let insns = assemble(
+        rt.alloc(),
+        "ldxw r0, [r1+4]\njgt r2, 15, +3\nadd32 r0, r2\nlddw r1, 5\nmovsx8_32 r0, r1\nbswap16 r2\nldxsh r0, [r1]\nstxdw [r1-8], r2\nneg r1\ncall local -1\nexit",
+    )?;
+    let wanted = [
+        Insn::Load {
+            width: Width::Word,
+            dst: r0,
+            base: r1,
+            offset: 4,
+        },
+        Insn::Branch {
+            bits: Bits::Bits64,
+            comparison: Comparison::Greater,
+            dst: r2,
+            source: Operand::Immediate(15),
+            offset: 3,
+        },
+        Insn::Alu {
+            bits: Bits::Bits32,
+            operation: Arithmetic::Add,
+            dst: r0,
+            source: Operand::Register(r2),
+        },
+        Insn::LoadWide { dst: r1, value: 5 },
+        Insn::MovSigned {
+            extension: SignedMove::Byte32,
+            dst: r0,
+            src: r1,
+        },
+        Insn::End {
+            order: ByteOrder::Swap,
+            width: EndWidth::End16,
+            dst: r2,
+        },
+        Insn::LoadSigned {
+            width: SignedWidth::Half,
+            dst: r0,
+            base: r1,
+            offset: 0,
+        },
+        Insn::Store {
+            width: Width::Double,
+            base: r1,
+            offset: -8,
+            source: Operand::Register(r2),
+        },
+        Insn::Neg {
+            bits: Bits::Bits64,
+            dst: r1,
+        },
+        Insn::CallLocal { distance: -1 },
+        Insn::Exit,
+    ];
+    assert_eq!(rt; insns.as_slice(), wanted.as_slice());
     Ok(())
 }
-
-/// Texts that are read, and their canonical ones.
-const ALSO: [(&str, &str); 15] = [
-    ("exit", "exit\n"),
-    ("\n ; nothing\n\t exit \t; the end\n", "exit\n"),
-    ("\tadd \t r1\t ,  r2", "add r1, r2\n"),
-    ("add r1,r2", "add r1, r2\n"),
-    ("mov r1, 0xFf", "mov r1, 255\n"),
-    ("mov r1, -0x80000000", "mov r1, -2147483648\n"),
-    (
-        "lddw r1, 18446744073709551615",
-        "lddw r1, 0xffffffffffffffff\n",
-    ),
-    ("lddw r1, 0xAb", "lddw r1, 0x00000000000000ab\n"),
-    ("ldxb r0, [r1]", "ldxb r0, [r1+0]\n"),
-    ("ldxb r0, [r1-0x10]", "ldxb r0, [r1-16]\n"),
-    ("ja end\nend:\nexit", "ja +0\nexit\n"),
-    (
-        "again:\nlddw r1, 5\nja again",
-        "lddw r1, 0x0000000000000005\nja -3\n",
-    ),
-    (
-        "jeq r1, r2, far\nlddw r1, 5\nfar: ; here\nexit",
-        "jeq r1, r2, +2\nlddw r1, 0x0000000000000005\nexit\n",
-    ),
-    ("r1:\ncall  local\tr1", "call local -1\n"),
-    ("ja32 +0x10", "ja32 +16\n"),
-];
 
 #[test]
 fn also_read(rt: HostRuntime) -> Result<(), Fail> {
-    for (text, wanted) in ALSO {
-        assert!(rt; canonical(rt.alloc(), text)?.as_str() == wanted, "{text}");
+    let rows = [
+        ("exit", "exit\n"),
+        ("\n ; nothing\n\t exit \t; the end\n", "exit\n"),
+        ("\tadd \t r1\t ,  r2", "add r1, r2\n"),
+        ("add r1,r2", "add r1, r2\n"),
+        ("mov r1, 0xFf", "mov r1, 255\n"),
+        ("mov r1, -0x80000000", "mov r1, -2147483648\n"),
+        (
+            "lddw r1, 18446744073709551615",
+            "lddw r1, 0xffffffffffffffff\n",
+        ),
+        ("lddw r1, 0xAb", "lddw r1, 0x00000000000000ab\n"),
+        ("ldxb r0, [r1]", "ldxb r0, [r1+0]\n"),
+        ("ldxb r0, [r1-0x10]", "ldxb r0, [r1-16]\n"),
+        ("ja end\nend:\nexit", "ja +0\nexit\n"),
+        (
+            "again:\nlddw r1, 5\nja again",
+            "lddw r1, 0x0000000000000005\nja -3\n",
+        ),
+        (
+            "jeq r1, r2, far\nlddw r1, 5\nfar: ; here\nexit",
+            "jeq r1, r2, +2\nlddw r1, 0x0000000000000005\nexit\n",
+        ),
+        ("r1:\ncall  local\tr1", "call local -1\n"),
+        ("ja32 +0x10", "ja32 +16\n"),
+    ];
+    for (text, canonical) in rows {
+        reads(&rt, rt.alloc(), text, canonical)?;
     }
     Ok(())
 }
 
-/// A line so many times.
-fn repeated(alloc: Global, line: &str, count: usize) -> Result<String, AllocError> {
-    let mut text = String::new(alloc);
-    for _ in 0..count {
-        text.push_str(line)?;
+#[test]
+fn refused(rt: HostRuntime) {
+    let rows = [
+        ("", 1, AsmFault::Range),
+        ("\n; nothing", 1, AsmFault::Range),
+        ("a:\n", 1, AsmFault::Range),
+        (".method f r 0 0\nexit", 1, AsmFault::Word),
+        (".method", 1, AsmFault::Word),
+        ("\nexit\nfoo r1", 3, AsmFault::Word),
+        ("foo r11\nmov r11", 1, AsmFault::Word),
+        ("mov r0", 1, AsmFault::Operand),
+        ("mov r0, 1, 2", 1, AsmFault::Operand),
+        ("exit r0", 1, AsmFault::Operand),
+        ("exit\rexit", 1, AsmFault::Word),
+        ("mov r0, +1", 1, AsmFault::Operand),
+        ("mov r0, 01", 1, AsmFault::Operand),
+        ("mov r0, -0", 1, AsmFault::Operand),
+        ("mov r0, 0x", 1, AsmFault::Operand),
+        ("mov r0, 0x00000000000000000", 1, AsmFault::Operand),
+        ("mov r01, 1", 1, AsmFault::Operand),
+        ("mov r11, x", 1, AsmFault::Operand),
+        ("ja 3", 1, AsmFault::Operand),
+        ("ldxb r0, [r1 +4]", 1, AsmFault::Operand),
+        ("ldxb r0, [r1+4", 1, AsmFault::Operand),
+        ("stb [r1+0], r2", 1, AsmFault::Operand),
+        ("stxb [r1+0], 2", 1, AsmFault::Operand),
+        ("call local", 1, AsmFault::Operand),
+        ("call r1", 1, AsmFault::Operand),
+        ("mov r11, 0", 1, AsmFault::Range),
+        ("mov r0, 2147483648", 1, AsmFault::Range),
+        ("mov r0, 0xffffffff", 1, AsmFault::Range),
+        ("mov r0, -2147483649", 1, AsmFault::Range),
+        ("mov r0, 99999999999999999999999", 1, AsmFault::Range),
+        ("ldxb r0, [r1+32768]", 1, AsmFault::Range),
+        ("ldxb r0, [r1-32769]", 1, AsmFault::Range),
+        ("lddw r1, 18446744073709551616", 1, AsmFault::Range),
+        ("lddw r1, -1", 1, AsmFault::Range),
+        ("call 4294967296", 1, AsmFault::Range),
+        ("call -1", 1, AsmFault::Range),
+        ("ja32 +2147483648", 1, AsmFault::Range),
+        ("ja +32768", 1, AsmFault::Range),
+        ("exit\njeq r0, 0, nowhere", 2, AsmFault::Label),
+        ("a:\nexit\na:", 3, AsmFault::Label),
+        ("jeq r11, 0, nowhere", 1, AsmFault::Range),
+        ("exit\nexit: exit", 2, AsmFault::Word),
+        ("mov r0, 1\nmov r0\nfoo", 2, AsmFault::Operand),
+    ];
+    for (text, line, fault) in rows {
+        refuses(&rt, rt.alloc(), text, line, fault);
     }
-    Ok(text)
 }
 
-/// A method of the most slots: its code is read and printed.
 #[test]
-fn largest_method(rt: HostRuntime) -> Result<(), Fail> {
-    let text = repeated(rt.alloc(), "exit\n", SLOT_LIMIT)?;
-    assert!(rt; canonical(rt.alloc(), text.as_str())?.as_str() == text.as_str());
-    Ok(())
-}
-
-/// A text may be of any length.
-#[test]
-fn long_text(rt: HostRuntime) -> Result<(), Fail> {
-    let mut text = repeated(rt.alloc(), "; a comment\n", 20_000)?;
+fn slots(rt: HostRuntime) -> Result<(), Fail> {
+    let mut text = String::new(rt.alloc());
+    for _ in 0..2048 {
+        text.push_str("lddw r1, 5\n")?;
+    }
+    let insns = assemble(rt.alloc(), text.as_str())?;
+    assert_eq!(rt; insns.len(), 2048);
     text.push_str("exit\n")?;
-    assert!(rt; canonical(rt.alloc(), text.as_str())?.as_str() == "exit\n");
-    Ok(())
-}
-
-/// Texts of classes, and their canonical ones.
-const CLASSES: [(&str, &str); 4] = [
-    (LOCK, LOCK_PLAIN),
-    (LOCK_PLAIN, LOCK_PLAIN),
-    (
-        ".method f r 0 0\nmov r0, 0\nexit",
-        ".method f r 0 0\nmov r0, 0\nexit\n",
-    ),
-    (
-        "; two\n\n\t.method  a\trw 0x10 4096 ; first\nend: \nja end\n.method b w 0 0\nja end\nend:\nexit",
-        ".method a rw 16 4096\nja -1\n.method b w 0 0\nja +0\nexit\n",
-    ),
-];
-
-#[test]
-fn classes(rt: HostRuntime) -> Result<(), Fail> {
-    for (text, wanted) in CLASSES {
-        let class = assemble_class(rt.alloc(), text)?;
-        assert!(rt;
-            disassemble_class(rt.alloc(), &class)?.as_str() == wanted,
-            "{text}"
-        );
-    }
-    Ok(())
-}
-
-/// 62 bytes of a name: two more make the longest one.
-const STEM: &str = "mmmmmmmmmmmmmmmmmmmmmmmmmmmmmmmmmmmmmmmmmmmmmmmmmmmmmmmmmmmmmm";
-
-/// So many methods of so many slots, with names of 64 bytes.
-fn methods(alloc: Global, count: usize, slots: usize) -> Result<String, AllocError> {
-    let code = repeated(alloc, "exit\n", slots)?;
-    let mut text = String::new(alloc);
-    for index in 0..count {
-        text.push_str(format!(in alloc; ".method {STEM}{index:02} rw 4096 4096\n")?.as_str())?;
-        text.push_str(code.as_str())?;
-    }
-    Ok(text)
-}
-
-/// The largest class: its text gives the largest image, which is read and printed as that text.
-#[test]
-fn largest_class(rt: HostRuntime) -> Result<(), Fail> {
-    let text = methods(rt.alloc(), METHOD_LIMIT, SLOT_LIMIT)?;
-    let class = assemble_class(rt.alloc(), text.as_str())?;
-    let image = write_image(rt.alloc(), &class)?;
-    assert!(rt; image.len() == 1_050_888);
-    let again = read_image(rt.alloc(), &image)?;
-    assert!(rt; disassemble_class(rt.alloc(), &again)?.as_str() == text.as_str());
+    refuses(&rt, rt.alloc(), text.as_str(), 2049, AsmFault::Range);
     Ok(())
 }
 
@@ -168,33 +246,136 @@ fn prints(rt: HostRuntime) -> Result<(), Fail> {
         line: 4,
         fault: AsmFault::Operand,
     };
-    assert!(rt; error.to_string(rt.alloc())?.as_str() == "line 4: 2 Operand");
-    assert!(rt; disassemble(rt.alloc(), &[Insn::Exit])?.as_str() == "exit\n");
+    assert_eq!(rt; error.to_string(rt.alloc())?.as_str(), "line 4: 2 Operand");
+    assert_eq!(rt; AsmFault::NoMemory.number(), 5);
+    let insns = [
+        Insn::Mov {
+            bits: Bits::Bits64,
+            dst: register(&rt, 0),
+            source: Operand::Immediate(0),
+        },
+        Insn::Exit,
+    ];
+    assert_eq!(rt;
+        disassemble(rt.alloc(), &insns)?.as_str(),
+        "mov r0, 0\nexit\n"
+    );
     Ok(())
 }
 
-/// Want of memory, which a run sees in which one allocation fails.
-fn is_lack(error: AsmError) -> bool {
-    error.line == 0 && error.fault == AsmFault::NoMemory
+#[test]
+fn classes(rt: HostRuntime) -> Result<(), Fail> {
+    let rows = [
+        (LOCK, LOCK_PLAIN),
+        (LOCK_PLAIN, LOCK_PLAIN),
+        (
+            ".method f r 0 0\nmov r0, 0\nexit",
+            ".method f r 0 0\nmov r0, 0\nexit\n",
+        ),
+        (
+            "; two\n\n\t.method  a\trw 0x10 4096 ; first\nend: \nja end\n.method b w 0 0\nja end\nend:\nexit",
+            ".method a rw 16 4096\nja -1\n.method b w 0 0\nja +0\nexit\n",
+        ),
+    ];
+    for (text, canonical) in rows {
+        let class = assemble_class(rt.alloc(), text)?;
+        assert_eq!(rt; disassemble_class(rt.alloc(), &class)?.as_str(), canonical);
+    }
+    Ok(())
 }
 
-#[test]
-fn memory(rt: HostRuntime) {
-    match assemble(rt.alloc(), "ja a\nexit\na:\nexit") {
-        Ok(insns) => assert!(rt; insns.len() == 3),
-        Err(error) => assert!(rt; is_lack(error)),
+/// The class's text is refused so.
+fn refuses_class(rt: &impl Abort, alloc: Global, text: &str, line: usize, fault: AsmFault) {
+    match assemble_class(alloc, text) {
+        Ok(_) => panic!(rt; "read: {text}"),
+        Err(error) => assert_eq!(rt; error, AsmError { line, fault }),
     }
 }
 
 #[test]
-fn class_memory(rt: HostRuntime) {
-    let text = ".method f r 0 0\na:\njeq r0, r1, a\nexit\n";
-    let printed = match assemble_class(rt.alloc(), text) {
-        Ok(class) => disassemble_class(rt.alloc(), &class),
-        Err(error) => Err(error),
+fn refused_classes(rt: HostRuntime) -> Result<(), Fail> {
+    let rows = [
+        ("", 1, AsmFault::Range),
+        ("\n.method f r 0 0", 1, AsmFault::Range),
+        ("a:", 1, AsmFault::Word),
+        (".method f r 0", 1, AsmFault::Operand),
+        (".method f r 0 4097", 1, AsmFault::Range),
+        ("\nexit", 2, AsmFault::Word),
+        ("\na:\n.method f r 0 0\nexit", 2, AsmFault::Word),
+        (".method f r 0 0\nfoo r1\nexit", 2, AsmFault::Word),
+        (".method f r 0 0\nmov r0\nexit", 2, AsmFault::Operand),
+        (".method f r 0 0\nmov r11, 0\nexit", 2, AsmFault::Range),
+        (
+            ".method f r 0 0\njeq r0, 0, nowhere\nexit",
+            2,
+            AsmFault::Label,
+        ),
+        (".method F r 0 0\nexit", 1, AsmFault::Operand),
+        (".method f x 0 0\nexit", 1, AsmFault::Operand),
+        (".method f r 0 0 0\nexit", 1, AsmFault::Operand),
+        (".method f r 0 4097\nexit", 1, AsmFault::Range),
+        (".method f r -1 0\nexit", 1, AsmFault::Range),
+        (".method f r 4097 x\nexit", 1, AsmFault::Operand),
+        (
+            ".method f r 0 0\nexit\n.method g r 0 0\n; none",
+            3,
+            AsmFault::Range,
+        ),
+        (".method f r 0 0\n.method g r 0 0\nexit", 1, AsmFault::Range),
+        (
+            ".method g r 0 0\nexit\n.method f r 0 0\nexit",
+            3,
+            AsmFault::Label,
+        ),
+        (
+            ".method f r 0 0\nexit\n.method f r 0 0\nexit",
+            3,
+            AsmFault::Label,
+        ),
+        (
+            ".method f r 0 0\na:\nexit\n.method g r 0 0\nja a",
+            5,
+            AsmFault::Label,
+        ),
+    ];
+    for (text, line, fault) in rows {
+        refuses_class(&rt, rt.alloc(), text, line, fault);
+    }
+    let mut many = String::new(rt.alloc());
+    for index in 0..32 {
+        many.push_str(format!(in rt.alloc(); ".method m{index:02} r 0 0\nexit\n")?.as_str())?;
+    }
+    assert_eq!(rt;
+        assemble_class(rt.alloc(), many.as_str())?.methods().len(),
+        32
+    );
+    many.push_str(".method n r 0 0\nexit\n")?;
+    refuses_class(&rt, rt.alloc(), many.as_str(), 65, AsmFault::Range);
+    Ok(())
+}
+
+/// Right, or out of memory at line 0: what a run sees in which one allocation fails.
+#[test]
+fn memory(rt: HostRuntime) {
+    let lack = AsmError {
+        line: 0,
+        fault: AsmFault::NoMemory,
     };
-    match printed {
-        Ok(text) => assert!(rt; text.as_str() == ".method f r 0 0\njeq r0, r1, -1\nexit\n"),
-        Err(error) => assert!(rt; is_lack(error)),
+    let text = ".method f r 0 0\na:\nmov r0, 1\njeq r0, r1, a\nexit\n";
+    match assemble_class(rt.alloc(), text) {
+        Ok(class) => match disassemble_class(rt.alloc(), &class) {
+            Ok(printed) => {
+                assert_eq!(rt;
+                    printed.as_str(),
+                    ".method f r 0 0\nmov r0, 1\njeq r0, r1, -2\nexit\n"
+                )
+            }
+            Err(error) => assert_eq!(rt; error, lack),
+        },
+        Err(error) => assert_eq!(rt; error, lack),
+    }
+    match assemble(rt.alloc(), "ja a\nexit\na:\nexit") {
+        Ok(insns) => assert_eq!(rt; insns.len(), 3),
+        Err(error) => assert_eq!(rt; error, lack),
     }
 }

@@ -1,8 +1,7 @@
-mod fields;
 mod opcodes;
 
 use super::*;
-use std::alloc::{AllocError, Global};
+use std::alloc::Global;
 use std::test::Fail;
 
 /// One method `f`, flags 1, capacities 0, the code `mov r0, 0` and `exit`.
@@ -61,6 +60,24 @@ const CODE: [u8; 168] = [
     0x95, 0, 0, 0, 0, 0, 0, 0, // exit
 ];
 
+fn load(width: Width, dst: Register, base: Register, offset: i16) -> Insn {
+    Insn::Load {
+        width,
+        dst,
+        base,
+        offset,
+    }
+}
+
+fn store(width: Width, base: Register, offset: i16, source: Operand) -> Insn {
+    Insn::Store {
+        width,
+        base,
+        offset,
+        source,
+    }
+}
+
 fn mov(dst: Register, source: Operand) -> Insn {
     Insn::Mov {
         bits: Bits::Bits64,
@@ -73,6 +90,50 @@ fn register_of(number: u8) -> Result<Register, Fail> {
     Ok(Register::new(number).ok_or("a register")?)
 }
 
+fn insns(alloc: Global) -> Result<Vec<Insn>, Fail> {
+    let r0 = register_of(0)?;
+    let r1 = register_of(1)?;
+    let r2 = register_of(2)?;
+    let r3 = register_of(3)?;
+    let r4 = register_of(4)?;
+    let r5 = register_of(5)?;
+    let r6 = register_of(6)?;
+    let r7 = register_of(7)?;
+    let r8 = register_of(8)?;
+    let r9 = register_of(9)?;
+    let r10 = register_of(10)?;
+    let mut list = Vec::new(alloc);
+    list.push(Insn::Alu {
+        bits: Bits::Bits64,
+        operation: Arithmetic::Add,
+        dst: r1,
+        source: Operand::Immediate(-4),
+    })?;
+    list.push(mov(r2, Operand::Immediate(5)))?;
+    list.push(mov(r3, Operand::Register(r4)))?;
+    list.push(Insn::LoadWide {
+        dst: r5,
+        value: 0x1122_3344_5566_7788,
+    })?;
+    list.push(load(Width::Word, r0, r1, 4))?;
+    list.push(load(Width::Half, r6, r7, -2))?;
+    list.push(load(Width::Byte, r8, r9, 0))?;
+    list.push(load(Width::Double, r1, r10, -8))?;
+    list.push(store(Width::Word, r1, 0, Operand::Immediate(5)))?;
+    list.push(store(Width::Half, r1, 2, Operand::Immediate(-1)))?;
+    list.push(store(Width::Byte, r2, 3, Operand::Immediate(7)))?;
+    list.push(store(Width::Double, r10, -8, Operand::Immediate(1)))?;
+    list.push(store(Width::Word, r1, 0, Operand::Register(r2)))?;
+    list.push(store(Width::Half, r1, 2, Operand::Register(r3)))?;
+    list.push(store(Width::Byte, r4, 1, Operand::Register(r5)))?;
+    list.push(store(Width::Double, r10, -16, Operand::Register(r6)))?;
+    list.push(Insn::Jump { offset: 3 })?;
+    list.push(Insn::Call { helper: 4294967295 })?;
+    list.push(Insn::CallLocal { distance: -2 })?;
+    list.push(Insn::Exit)?;
+    Ok(list)
+}
+
 /// The image with one byte changed.
 fn changed(place: usize, value: u8) -> [u8; 33] {
     let mut image = IMAGE;
@@ -82,219 +143,192 @@ fn changed(place: usize, value: u8) -> [u8; 33] {
     image
 }
 
-/// A method of that many instructions `exit`.
-fn method(
-    alloc: Global,
-    name: &str,
-    flags: u8,
-    in_cap: u16,
-    slots: usize,
-) -> Result<Method, AllocError> {
-    // The check looks for the types inside an instruction among those that a function names.
-    let _unused: Option<Operand> = None;
+fn method(alloc: Global, name: &str, flags: u8, in_cap: u16) -> Result<Method, Fail> {
     let mut code = Vec::new(alloc);
-    for _ in 0..slots {
-        code.push(Insn::Exit)?;
-    }
-    let name = String::from_str(alloc, name)?;
-    Ok(Method::new(name, flags, in_cap, CAPACITY_LIMIT, code))
+    code.push(mov(register_of(0)?, Operand::Immediate(0)))?;
+    code.push(Insn::Exit)?;
+    Ok(Method::new(String::from_str(alloc, name)?, flags, in_cap, 4096, code))
 }
 
-/// What is read is written as the same bytes.
 #[test]
-fn every_kind(rt: HostRuntime) -> Result<(), Fail> {
-    let insns = decode(rt.alloc(), &CODE)?;
-    assert!(rt; insns.len() == 20 && check(&CODE) == Ok(20));
-    let code = encode(rt.alloc(), &insns)?;
-    assert!(rt; code.as_slice() == CODE.as_slice());
+fn every_instruction(rt: HostRuntime) -> Result<(), Fail> {
+    let list = insns(rt.alloc())?;
+    let code = encode(rt.alloc(), &list)?;
+    assert_eq!(rt; code.as_slice(), CODE.as_slice());
+    let again = decode(rt.alloc(), &CODE)?;
+    assert_eq!(rt; again.as_slice(), list.as_slice());
+    assert_eq!(rt; check(&CODE), Ok(20));
+    let mut slots = 0u64;
+    for insn in &list {
+        slots = slots.wrapping_add(width(insn) as u64);
+    }
+    assert_eq!(rt; slots, 21);
     Ok(())
 }
 
-/// Bytes that are no code, and the refusal.
-const NO_CODE: [(&[u8], DecodeError); 4] = [
-    (&[0x95, 0, 0, 0, 0, 0, 0], DecodeError::Truncated),
-    (
-        &[0x95, 0, 0, 0, 0, 0, 0, 0, 0, 0, 0, 0],
-        DecodeError::Truncated,
-    ),
-    (&[0x18, 5, 0, 0, 0, 0, 0, 0], DecodeError::WideHalf(0)),
-    (
-        &[0x95, 0, 0, 0, 0, 0, 0, 0, 0x85, 0x20, 0, 0, 0, 0, 0, 0],
-        DecodeError::NonzeroField(1),
-    ),
-];
-
 #[test]
-fn refuses_code(rt: HostRuntime) {
-    for (bytes, error) in NO_CODE {
-        assert!(rt; check(bytes) == Err(error));
-        assert!(rt; decode(rt.alloc(), bytes).err() == Some(error));
-    }
+fn code_alone(rt: HostRuntime) {
+    assert_eq!(rt; check(&[]), Ok(0));
+    assert_eq!(rt; check(&CODE[..7]), Err(DecodeError::Truncated));
+    assert!(rt; matches!(decode(rt.alloc(), &CODE[..12]), Err(DecodeError::Truncated)));
+    assert_eq!(rt; check(&CODE[24..32]), Err(DecodeError::WideHalf(0)));
+    assert_eq!(rt;
+        check(&[0x95, 0, 0, 0, 0, 0, 0, 0, 0x85, 0x20, 0, 0, 0, 0, 0, 0]),
+        Err(DecodeError::NonzeroField(1))
+    );
 }
 
 #[test]
 fn reads_the_image(rt: HostRuntime) -> Result<(), Fail> {
     let class = read_image(rt.alloc(), &IMAGE)?;
+    let methods = class.methods();
+    assert_eq!(rt; methods.len(), 1);
+    let method = &methods[0];
+    assert_eq!(rt; method.name(), "f");
+    assert_eq!(rt; method.flags(), 1);
+    assert_eq!(rt; method.in_cap(), 0);
+    assert_eq!(rt; method.out_cap(), 0);
+    let mov = mov(register_of(0)?, Operand::Immediate(0));
+    assert_eq!(rt; method.instructions(), [mov, Insn::Exit].as_slice());
     let bytes = write_image(rt.alloc(), &class)?;
-    assert!(rt; bytes.as_slice() == IMAGE.as_slice());
-    match class.methods() {
-        [method] => {
-            assert!(rt; method.name() == "f" && method.flags() == 1);
-            assert!(rt; method.in_cap() == 0 && method.out_cap() == 0);
-            let mov = mov(register_of(0)?, Operand::Immediate(0));
-            assert!(rt; method.instructions() == [mov, Insn::Exit].as_slice());
-        }
-        _ => panic!(rt; "one method"),
-    }
+    assert_eq!(rt; bytes.as_slice(), IMAGE.as_slice());
     Ok(())
 }
 
-/// What the image is refused for.
-fn refusal(alloc: Global, bytes: &[u8]) -> Option<(usize, DecodeError)> {
-    let error = read_image(alloc, bytes).err()?;
-    Some((error.methods, error.error))
-}
-
 #[test]
-fn refuses_images(rt: HostRuntime) {
+fn refuses_images(rt: HostRuntime) -> Result<(), Fail> {
     for (place, value, methods, error) in REFUSED {
-        let found = refusal(rt.alloc(), &changed(place, value));
-        assert!(rt; found == Some((methods, error)), "place {place}");
+        let found = read_image(rt.alloc(), &changed(place, value));
+        assert_eq!(rt; found.err(), Some(ImageError { methods, error }));
     }
-    assert!(rt; refusal(rt.alloc(), &[]) == Some((0, DecodeError::Truncated)));
-}
-
-#[test]
-fn refuses_what_follows(rt: HostRuntime) -> Result<(), Fail> {
+    let none = read_image(rt.alloc(), &[]).err();
+    let truncated = DecodeError::Truncated;
+    assert_eq!(rt;
+        none,
+        Some(ImageError {
+            methods: 0,
+            error: truncated
+        })
+    );
     let mut longer = Vec::from_slice(rt.alloc(), &IMAGE)?;
     longer.push(0)?;
-    assert!(rt; refusal(rt.alloc(), &longer) == Some((1, DecodeError::Trailing)));
+    let trailing = DecodeError::Trailing;
+    assert_eq!(rt;
+        read_image(rt.alloc(), &longer).err(),
+        Some(ImageError {
+            methods: 1,
+            error: trailing
+        })
+    );
     let mut twice = Vec::from_slice(rt.alloc(), &changed(4, 2))?;
     twice.extend_from_slice(&IMAGE[8..])?;
-    assert!(rt; refusal(rt.alloc(), &twice) == Some((1, DecodeError::Order)));
+    let order = DecodeError::Order;
+    assert_eq!(rt;
+        read_image(rt.alloc(), &twice).err(),
+        Some(ImageError {
+            methods: 1,
+            error: order
+        })
+    );
     Ok(())
 }
 
-/// Whether what is read of the bytes, if anything is, is written as the same bytes.
-fn gives_back(alloc: Global, bytes: &[u8]) -> Result<bool, DecodeError> {
-    match read_image(alloc, bytes) {
-        Ok(class) => Ok(write_image(alloc, &class)?.as_slice() == bytes),
-        Err(_) => Ok(true),
-    }
-}
-
+/// Whatever is read is written as the same bytes.
 #[test]
 fn every_changed_byte(rt: HostRuntime) -> Result<(), Fail> {
     for place in 0..33 {
         for value in 0..=255u8 {
-            assert!(rt; gives_back(rt.alloc(), &changed(place, value))?);
+            let image = changed(place, value);
+            if let Ok(class) = read_image(rt.alloc(), &image) {
+                let bytes = write_image(rt.alloc(), &class)?;
+                assert_eq!(rt; bytes.as_slice(), image.as_slice());
+            }
         }
     }
     Ok(())
 }
 
-/// 62 bytes of a name: two more make the longest one.
-const STEM: &str = "mmmmmmmmmmmmmmmmmmmmmmmmmmmmmmmmmmmmmmmmmmmmmmmmmmmmmmmmmmmmmm";
-
-/// So many methods, each with a name of 64 bytes.
-fn many(alloc: Global, count: usize, slots: usize) -> Result<Vec<Method>, AllocError> {
-    let mut methods = Vec::new(alloc);
-    for index in 0..count {
-        let name = format!(in alloc; "{STEM}{index:02}")?;
-        methods.push(method(alloc, name.as_str(), 3, CAPACITY_LIMIT, slots)?)?;
-    }
-    Ok(methods)
-}
-
-/// The largest class: its image is written and read back.
 #[test]
-fn largest_class(rt: HostRuntime) -> Result<(), Fail> {
-    let class = ClassImage::new(many(rt.alloc(), METHOD_LIMIT, SLOT_LIMIT)?)?;
-    let bytes = write_image(rt.alloc(), &class)?;
-    assert!(rt; bytes.len() == 1_050_888);
-    let again = read_image(rt.alloc(), &bytes)?;
-    assert!(rt; write_image(rt.alloc(), &again)?.as_slice() == bytes.as_slice());
+fn builds_classes(rt: HostRuntime) -> Result<(), Fail> {
+    let alloc = rt.alloc();
+    let mut methods = Vec::new(alloc);
+    methods.push(method(alloc, "get_2", 1, 0)?)?;
+    methods.push(method(alloc, "set", 3, 4096)?)?;
+    let class = ClassImage::new(methods)?;
+    let bytes = write_image(alloc, &class)?;
+    let again = read_image(alloc, &bytes)?;
+    assert_eq!(rt; again.methods().len(), 2);
+    for found in again.methods() {
+        assert_eq!(rt; found.out_cap(), 4096);
+    }
     Ok(())
 }
-
-/// What a second method is refused for, behind `a`: its name, flags, in_cap and slots.
-const BAD: [(&str, u8, u16, usize, DecodeError); 9] = [
-    ("", 1, 0, 1, DecodeError::Name),
-    ("B", 1, 0, 1, DecodeError::Name),
-    (
-        "mmmmmmmmmmmmmmmmmmmmmmmmmmmmmmmmmmmmmmmmmmmmmmmmmmmmmmmmmmmmmmmmm",
-        1,
-        0,
-        1,
-        DecodeError::Name,
-    ),
-    ("a", 1, 0, 1, DecodeError::Order),
-    ("b", 0, 0, 1, DecodeError::Flags),
-    ("b", 4, 0, 1, DecodeError::Flags),
-    ("b", 2, 4097, 1, DecodeError::Limit),
-    ("b", 2, 0, 0, DecodeError::Limit),
-    ("b", 2, 0, 4097, DecodeError::Limit),
-];
 
 #[test]
 fn refuses_methods(rt: HostRuntime) -> Result<(), Fail> {
     let alloc = rt.alloc();
-    for (name, flags, in_cap, slots, error) in BAD {
+    let none = ClassImage::new(Vec::new(alloc)).err();
+    let limit = DecodeError::Limit;
+    assert_eq!(rt;
+        none,
+        Some(ImageError {
+            methods: 0,
+            error: limit
+        })
+    );
+    let bad = [
+        ("", 1, 0, DecodeError::Name),
+        ("B", 1, 0, DecodeError::Name),
+        ("a", 1, 0, DecodeError::Order),
+        ("b", 0, 0, DecodeError::Flags),
+        ("b", 4, 0, DecodeError::Flags),
+        ("b", 2, 4097, DecodeError::Limit),
+    ];
+    for (name, flags, in_cap, error) in bad {
         let mut methods = Vec::new(alloc);
-        methods.push(method(alloc, "a", 1, 0, 1)?)?;
-        methods.push(method(alloc, name, flags, in_cap, slots)?)?;
+        methods.push(method(alloc, "a", 1, 0)?)?;
+        methods.push(method(alloc, name, flags, in_cap)?)?;
         let found = ClassImage::new(methods).err();
-        assert!(rt; found == Some(ImageError { methods: 1, error }));
+        assert_eq!(rt; found, Some(ImageError { methods: 1, error }));
     }
     Ok(())
 }
-
-#[test]
-fn refuses_counts(rt: HostRuntime) -> Result<(), Fail> {
-    for count in [0, 33] {
-        let found = ClassImage::new(many(rt.alloc(), count, 1)?).err();
-        let error = DecodeError::Limit;
-        assert!(rt; found == Some(ImageError { methods: 0, error }));
-    }
-    Ok(())
-}
-
-/// Refusals after no method, and their lines.
-const LINES: [(DecodeError, &str, &str); 3] = [
-    (
-        DecodeError::Truncated,
-        "1 Truncated",
-        "image refused after 0 methods: 1 Truncated",
-    ),
-    (
-        DecodeError::Opcode(3),
-        "3 Opcode",
-        "image refused after 0 methods, slot 3: 3 Opcode",
-    ),
-    (
-        DecodeError::NoMemory,
-        "12 NoMemory",
-        "image refused after 0 methods: 12 NoMemory",
-    ),
-];
 
 #[test]
 fn prints_refusals(rt: HostRuntime) -> Result<(), Fail> {
-    for (error, line, image_line) in LINES {
-        let whole = ImageError { methods: 0, error };
-        assert!(rt; error.to_string(rt.alloc())?.as_str() == line);
-        assert!(rt; whole.to_string(rt.alloc())?.as_str() == image_line);
-    }
+    let alloc = rt.alloc();
+    let error = DecodeError::Opcode(3);
+    assert_eq!(rt; error.number(), 3);
+    assert_eq!(rt; error.name(), "Opcode");
+    assert_eq!(rt; error.slot(), Some(3));
+    assert_eq!(rt; format!(in alloc; "{error}")?.as_str(), "3 Opcode");
+    assert_eq!(rt;
+        format!(in alloc; "{}", DecodeError::NoMemory)?.as_str(),
+        "12 NoMemory"
+    );
+    let whole = ImageError {
+        methods: 0,
+        error: DecodeError::Truncated,
+    };
+    assert_eq!(rt;
+        format!(in alloc; "{whole}")?.as_str(),
+        "image refused after 0 methods: 1 Truncated"
+    );
+    let at_slot = ImageError { methods: 0, error };
+    assert_eq!(rt;
+        format!(in alloc; "{at_slot}")?.as_str(),
+        "image refused after 0 methods, slot 3: 3 Opcode"
+    );
     Ok(())
 }
 
 #[test]
 fn small_types(rt: HostRuntime) {
-    assert!(rt; Width::Double.bytes() == 8 && SignedWidth::Word.bytes() == 4);
-    assert!(rt; Register::new(11).is_none());
-    assert!(rt; width(&Insn::Exit) == 1);
-    assert!(rt; is_method_name(b"get_2") && !is_method_name(b"Get"));
-    every_row();
+    assert_eq!(rt; Width::Byte.bytes(), 1);
+    assert_eq!(rt; Width::Double.bytes(), 8);
+    assert_eq!(rt; Width::Double.size_code(), 3);
+    assert_eq!(rt; Register::new(11), None);
+    assert_eq!(rt; Register::new(10).map(|r| r.number()), Some(10));
     one_class();
     one_spelling();
     round_trip();
