@@ -42,11 +42,11 @@ begun_at : (done : List ClassMethod) (h : Result MethodHeader AsmFault) (ss : Li
 begun_at [] h ss = tt
 begun_at (d ∷ ds) h ss = tt
 
-last_push : (before : List ℕ) (ms : List ClassMethod) (m : ClassMethod) → last_name before (ms ++ (m ∷ [])) ≡ m.name
+pub last_push : (before : List ℕ) (ms : List ClassMethod) (m : ClassMethod) → last_name before (ms ++ (m ∷ [])) ≡ m.name
 last_push before [] m = refl
 last_push before (x ∷ xs) m = last_push x.name xs m
 
-some_methods : (d : ClassMethod) (ds : List ClassMethod) → (length (d ∷ ds) == 0) ≡ false
+pub some_methods : (d : ClassMethod) (ds : List ClassMethod) → (length (d ∷ ds) == 0) ≡ false
 some_methods d ds = grind (arith, nat_tests)
 
 -- ---- what is in the grammar is read
@@ -173,7 +173,7 @@ if_then : (b : Bool) (x : Result (List ClassMethod) AsmError) (e : AsmError) (ms
 if_then true x e ms h = (refl, h)
 if_then false x e ms h = absurd cc
 
-before_other : (s : Statement) (ss : List Statement) → is_directive s ≡ false → before_first is_directive (s ∷ ss) ≡ s ∷ before_first is_directive ss
+pub before_other : (s : Statement) (ss : List Statement) → is_directive s ≡ false → before_first is_directive (s ∷ ss) ≡ s ∷ before_first is_directive ss
 before_other s ss h =
     let next : 1 + position_or_len is_directive ss ≡ suc (position_or_len is_directive ss) = omega arith in
     rw (h, next) refl

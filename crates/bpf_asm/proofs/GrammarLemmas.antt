@@ -30,7 +30,7 @@ one_by f g (Ok z) i h = let same : f z ≡ i = cc in sym (g z) ∙ ap slot_count
 one_by f g (Err e) i h = absurd cc
 
 -- a line takes the slots of its instruction
-slots_of : (all : List Statement) (slot : ℕ) (d : Draft) (i : Insn) → finished all slot d ≡ Ok i → draft_slots (Ok d) ≡ slot_count i
+pub slots_of : (all : List Statement) (slot : ℕ) (d : Draft) (i : Insn) → finished all slot d ≡ Ok i → draft_slots (Ok d) ≡ slot_count i
 slots_of all slot (drafts.Plain insn) i h = let same : insn ≡ i = cc in ap slot_count same
 slots_of all slot (drafts.Jump t) i h = one_by insns.Jump (λ z. refl) (near all slot t) i h
 slots_of all slot (drafts.JumpLong t) i h = one_by insns.JumpLong (λ z. refl) (far all slot t) i h

@@ -17,30 +17,30 @@ use Rattle.bpf_asm.proofs.PlainBytes.{and_left, and_right}
 use Rattle.bpf_asm.proofs.BodyTexts.{near_within, far_within}
 use Rattle.bpf_asm.proofs.NumberRelations.{filled_is}
 
-record IsWithin (low high z w : ℤ) : Type 0 where
-  same : z ≡ w
-  above : int_le low z ≡ true
-  below : int_le z high ≡ true
+pub record IsWithin (low high z w : ℤ) : Type 0 where
+  pub same : z ≡ w
+  pub above : int_le low z ≡ true
+  pub below : int_le z high ≡ true
 
 within_at : (low high z w : ℤ) (b : Bool) → b ≡ (int_le low z && int_le z high) → cond b (Ok z) (Err faults.Range) ≡ Ok w → IsWithin low high z w
 within_at low high z w true e h = record { same = cc; above = and_left (int_le low z) (int_le z high) (sym e); below = and_right (int_le low z) (int_le z high) (sym e) }
 within_at low high z w false e h = absurd cc
 
-within : (low high z w : ℤ) → distance_within low high z ≡ Ok w → IsWithin low high z w
+pub within : (low high z w : ℤ) → distance_within low high z ≡ Ok w → IsWithin low high z w
 within low high z w h = within_at low high z w (int_le low z && int_le z high) refl h
 
-near_fits : (z : ℤ) → int_le (negsuc 32767) z ≡ true → int_le z (pos 32767) ≡ true → FitsSigned w16 z
+pub near_fits : (z : ℤ) → int_le (negsuc 32767) z ≡ true → int_le z (pos 32767) ≡ true → FitsSigned w16 z
 near_fits (pos n) a b = grind (arith, nat_tests)
 near_fits (negsuc n) a b = grind (arith, nat_tests)
 
-far_fits : (z : ℤ) → int_le (negsuc 2147483647) z ≡ true → int_le z (pos 2147483647) ≡ true → FitsSigned w32 z
+pub far_fits : (z : ℤ) → int_le (negsuc 2147483647) z ≡ true → int_le z (pos 2147483647) ≡ true → FitsSigned w32 z
 far_fits (pos n) a b = grind (arith, nat_tests)
 far_fits (negsuc n) a b = grind (arith, nat_tests)
 
-within_near : (z : ℤ) → FitsSigned w16 z → distance_within (negsuc 32767) (pos 32767) z ≡ Ok z
+pub within_near : (z : ℤ) → FitsSigned w16 z → distance_within (negsuc 32767) (pos 32767) z ≡ Ok z
 within_near z h = rw (near_within z h) refl
 
-within_far : (z : ℤ) → FitsSigned w32 z → distance_within (negsuc 2147483647) (pos 2147483647) z ≡ Ok z
+pub within_far : (z : ℤ) → FitsSigned w32 z → distance_within (negsuc 2147483647) (pos 2147483647) z ≡ Ok z
 within_far z h = rw (far_within z h) refl
 
 record IsReached (all : List Statement) (slot : ℕ) (target : Target) (low high z : ℤ) : Type 0 where

@@ -21,3 +21,5 @@ pub mod StatementRelations
 pub mod JumpRelations
 pub mod GrammarLemmas
 pub mod ClassGrammar
+pub mod FirstFaults
+pub mod FirstClassFaults

@@ -12,3 +12,4 @@ pub mod Headers
 pub mod Laws
 pub mod Syntax
 pub mod Grammar
+pub mod Faults

@@ -3,6 +3,7 @@ ghost use Rattle.bpf_asm.specs.Fault.{no_memory};
 ghost use Rattle.std.specs.Prelude.{List};
 ghost use Rattle.bpf_decode.specs.declared.insn.Insn.{Insn as Instruction};
 ghost use Rattle.bpf_asm.specs.Grammar.{IsMethodText};
+ghost use Rattle.bpf_asm.specs.Faults.{RefusesText, IsFaultless};
 ghost use Rattle.bpf_asm.specs.Bodies.{bare_fault, assembled, read_text};
 
 use crate::body::{has_instruction, read_body};
@@ -46,6 +47,9 @@ pub fn assemble(alloc: Global, text: &str) -> Result<Vec<Insn>, AsmError>
     ensures grammar { IfOk result (λ v. IsMethodText text.now v.items) }
     ensures one { IfOk result (λ v. (is : List Instruction) → IsMethodText text.now is → is ≡ v.items) }
     ensures only { IfErr result (λ e. (e ≡ no_memory) ⊎ ((is : List Instruction) → ¬ IsMethodText text.now is)) }
+    // The refusal is the text's first fault: of all faults of its lines that of the lowest line, and there the least.
+    ensures first { IfErr result (λ e. (e ≡ no_memory) ⊎ RefusesText text.now e) }
+    ensures faultless { IfOk result (λ _. IsFaultless text.now) }
 {
     let lines = statements(alloc, text)?;
     assembled(alloc, &lines)

@@ -5,6 +5,7 @@ ghost use Rattle.bpf_decode.specs.ImageReading.{method_after, methods_after};
 ghost use Rattle.bpf_decode.specs.Class.{ClassMethod};
 ghost use Rattle.bpf_asm.specs.Grammar.{IsClassText};
 ghost use Rattle.bpf_asm.specs.Fault.{no_memory};
+ghost use Rattle.bpf_asm.specs.Faults.{RefusesClassText, IsFaultlessClass};
 ghost use Rattle.bpf_asm.specs.Classes.{is_directive, last_name, opening_fault, method_at, class_from, bare_class_fault, class_assembled, read_class_text};
 
 use crate::body::{has_instruction, read_body};
@@ -199,6 +200,9 @@ pub fn assemble_class(alloc: Global, text: &str) -> Result<ClassImage, AsmError>
     ensures grammar { IfOk result (λ c. IsClassText text.now c) }
     ensures one { IfOk result (λ c. (ms : List ClassMethod) → IsClassText text.now ms → ms ≡ c) }
     ensures only { IfErr result (λ e. (e ≡ no_memory) ⊎ ((ms : List ClassMethod) → ¬ IsClassText text.now ms)) }
+    // The refusal is the text's first fault: of all faults of its lines that of the lowest line, and there the least.
+    ensures first { IfErr result (λ e. (e ≡ no_memory) ⊎ RefusesClassText text.now e) }
+    ensures faultless { IfOk result (λ _. IsFaultlessClass text.now) }
 {
     let lines = statements(alloc, text)?;
     class_assembled(alloc, &lines)

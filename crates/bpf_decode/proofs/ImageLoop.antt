@@ -8,7 +8,7 @@ use Rattle.bpf_decode.specs.declared.image_error.ImageError.{ImageError}
 use Rattle.bpf_decode.specs.Class.{ClassMethod}
 use Rattle.std.specs.Prelude.{◌==◌}
 use Rattle.bpf_decode.specs.Reading.{◌>>=◌, checked}
-use Rattle.bpf_decode.specs.ImageReading.{after, method_at, methods_at, header_at, image_of}
+use Rattle.bpf_decode.specs.ImageReading.{after, method_at, methods_at, header_at, image_of, ReadsSoFar}
 
 abbrev pub Methods : Type 0
 Methods = Result (List ClassMethod × List ℕ) ImageError
@@ -40,6 +40,13 @@ one_more : (n done : ℕ) (before rest : List ℕ) (read : Result (ClassMethod �
 unfolding methods_at
 one_more n done before rest read h = ap (first_read n done) h
 
+-- the same for each count of methods that is reached
+pub record Along (bytes : List ℕ) (front : List ClassMethod) (done : ℕ) (before rest : List ℕ) : Type 0 where
+  pub at : (count : ℕ) → done ≤ count → Progress count bytes front done before rest
+
+pub begins_along : (bytes : List ℕ) → Along bytes [] 0 [] bytes
+begins_along bytes = record { at = λ count le. begins count bytes }
+
 pub goes_on : (count : ℕ) (bytes : List ℕ) (front : List ClassMethod) (done : ℕ) (before rest : List ℕ) (m : ClassMethod) (behind : List ℕ) → done < count → method_at before rest ≡ Ok (m, behind)
     → Progress count bytes front done before rest → Progress count bytes (front ++ m ∷ []) (done + 1) m.name behind
 goes_on count bytes front done before rest m behind lt h p =
@@ -48,6 +55,10 @@ goes_on count bytes front done before rest m behind lt h p =
     let one : with_front front (methods_at (count - done) done before rest) ≡ with_front (front ++ m ∷ []) (methods_at n (done + 1) m.name behind) =
     ap (λ (k : ℕ). with_front front (methods_at k done before rest)) more ∙ ap (with_front front) (one_more n done before rest (Ok (m, behind)) h) ∙ regroup front m (methods_at n (done + 1) m.name behind) in
     record { so_far = sym one ∙ p.so_far }
+
+pub goes_along : (bytes : List ℕ) (front : List ClassMethod) (done : ℕ) (before rest : List ℕ) (m : ClassMethod) (behind : List ℕ) → method_at before rest ≡ Ok (m, behind)
+    → Along bytes front done before rest → Along bytes (front ++ m ∷ []) (done + 1) m.name behind
+goes_along bytes front done before rest m behind h a = record { at = λ count le. goes_on count bytes front done before rest m behind (omega arith) h (a.at count (omega arith)) }
 
 pub ends : (count : ℕ) (bytes : List ℕ) (front : List ClassMethod) (done : ℕ) (before rest : List ℕ) (e : DecodeError) → done < count → method_at before rest ≡ Err e
     → Progress count bytes front done before rest → methods_at count 0 [] bytes ≡ Err (record { methods = done; error = e })
@@ -61,6 +72,10 @@ unfolding methods_at
 is_done count bytes front done before rest le p =
     let none : count - done ≡ 0 = omega arith in
     sym p.so_far ∙ ap (λ (k : ℕ). with_front front (methods_at k done before rest)) none ∙ ap (λ (ms : List ClassMethod). Ok (ms, rest)) (append-nil front)
+
+pub so_far : (count : ℕ) (bytes : List ℕ) (front : List ClassMethod) (done : ℕ) (before rest : List ℕ) → done < count → Along bytes front done before rest → ReadsSoFar count bytes done
+so_far count bytes front done before rest lt a =
+    record { methods = front; behind = rest; more = lt; read = is_done done bytes front done before rest (omega arith) (a.at done (omega arith)) }
 
 -- ---- the whole image
 

@@ -1,5 +1,5 @@
 -- Reading a class image from left to right, with the first refusal that is met.
-use Rattle.std.specs.Prelude.{◌≡◌, ℕ, zero, suc, ◌+◌, ◌*◌, ◌==◌, ◌&&◌, ◌||◌, ◌⊎◌, nat_le, nat_eq, Bool, true, List, [], ◌∷◌, length, take, drop, codes, Result, Ok, Err}
+use Rattle.std.specs.Prelude.{◌≡◌, ◌<◌, ℕ, zero, suc, ◌+◌, ◌*◌, ◌==◌, ◌&&◌, ◌||◌, ◌⊎◌, nat_le, nat_eq, Bool, true, List, [], ◌∷◌, length, take, drop, codes, Result, Ok, Err}
 use Rattle.std.specs.Cmp.Lexicographic.{slice_cmp, pointwise}
 use Rattle.std.specs.Ordering.{nat_cmp, is_lt}
 use Rattle.byteorder.specs.Endian.{little_number}
@@ -97,6 +97,27 @@ image_of bytes = after 0 (header_at bytes) >>= λ h. methods_at h.0 0 [] h.1 >>=
 abbrev pub GivesImage : {X Y : Type 0} → (X → Y) → Result X ImageError → Result Y ImageError → Type 0
 GivesImage view (Ok x) read = read ≡ Ok (view x)
 GivesImage view (Err e) read = (e.error ≡ NoMemory) ⊎ (read ≡ Err e)
+
+-- n methods are read whole, of bytes that are to have more
+pub record ReadsSoFar (count : ℕ) (bytes : List ℕ) (n : ℕ) : Type 0 where
+  pub methods : List ClassMethod
+  pub behind : List ℕ
+  pub more : n < count
+  pub read : methods_at n 0 [] bytes ≡ Ok (methods, behind)
+
+abbrev pub RefusesMethods : ℕ → List ℕ → ImageError → Type 0
+RefusesMethods count bytes e = ((e.error ≡ NoMemory) × ReadsSoFar count bytes e.methods) ⊎ (methods_at count 0 [] bytes ≡ Err e)
+
+-- n methods of an image are read whole, and it is to have more
+pub record ReadsMethods (bytes : List ℕ) (n : ℕ) : Type 0 where
+  pub count : ℕ
+  pub rest : List ℕ
+  pub header : header_at bytes ≡ Ok (count, rest)
+  pub so_far : ReadsSoFar count rest n
+
+-- A refusal is the one that reading gives, or want of memory behind as many methods as it says.
+abbrev pub RefusesImage : List ℕ → ImageError → Type 0
+RefusesImage bytes e = ((e.error ≡ NoMemory) × ReadsMethods bytes e.methods) ⊎ (image_of bytes ≡ Err e)
 
 -- ---- methods that are given
 

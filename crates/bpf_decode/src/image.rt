@@ -5,7 +5,7 @@ ghost use Rattle.bpf_decode.specs.Class.{ClassMethod, IsMethod, IsImage, method_
 ghost use Rattle.byteorder.specs.Endian.{little_bytes};
 ghost use Rattle.bpf_decode.specs.Reading.{Reads, Gives};
 ghost use Rattle.bpf_decode.specs.Limits.{are_name_bytes};
-ghost use Rattle.bpf_decode.specs.ImageReading.{GivesImage, byte_at, number_at, bytes_at, name_at, flags_at, capacity_at, code_at, method_at, methods_at, header_at, image_of};
+ghost use Rattle.bpf_decode.specs.ImageReading.{GivesImage, RefusesMethods, RefusesImage, byte_at, number_at, bytes_at, name_at, flags_at, capacity_at, code_at, method_at, methods_at, header_at, image_of};
 ghost use Rattle.bpf_decode.specs.declared.decode_error.DecodeError.TheVariants.{NoMemory};
 
 use crate::class_image::ClassImage;
@@ -151,7 +151,8 @@ fn header_at(bytes: &[u8]) -> Result<(u16, &[u8]), DecodeError>
 }
 
 fn methods_at(alloc: Global, count: u16, bytes: &[u8]) -> Result<(Vec<Method>, &[u8]), ImageError>
-    ensures { GivesImage (λ x. (x.0.items, x.1.now)) result (methods_at count 0 [] bytes.now) }
+    ensures read { GivesImage (λ x. (x.0.items, x.1.now)) result (methods_at count 0 [] bytes.now) }
+    ensures refused { IfErr result (RefusesMethods count bytes.now) }
 {
     let mut methods = Vec::new(alloc);
     let mut before: &[u8] = &[];
@@ -159,10 +160,9 @@ fn methods_at(alloc: Global, count: u16, bytes: &[u8]) -> Result<(Vec<Method>, &
     for done in 0..count {
         match method_at(alloc, before, rest) {
             Ok((method, name, behind)) => {
-                methods.push(method).map_err(|_| ImageError::after(
-                    done as usize,
-                    DecodeError::NoMemory,
-                ))?;
+                if methods.push(method).is_err() {
+                    return Err(ImageError::after(done as usize, DecodeError::NoMemory));
+                }
                 before = name;
                 rest = behind;
             }
@@ -173,7 +173,8 @@ fn methods_at(alloc: Global, count: u16, bytes: &[u8]) -> Result<(Vec<Method>, &
 }
 
 fn read(alloc: Global, bytes: &[u8]) -> Result<Vec<Method>, ImageError>
-    ensures { GivesImage (λ v. v.items) result (image_of bytes.now) }
+    ensures read { GivesImage (λ v. v.items) result (image_of bytes.now) }
+    ensures refused { IfErr result (RefusesImage bytes.now) }
 {
     match header_at(bytes) {
         Ok((count, rest)) => {
@@ -188,7 +189,8 @@ fn read(alloc: Global, bytes: &[u8]) -> Result<Vec<Method>, ImageError>
 }
 
 fn class(alloc: Global, bytes: &[u8]) -> Result<ClassImage, ImageError>
-    ensures { GivesImage (λ c. c) result (image_of bytes.now) }
+    ensures read { GivesImage (λ c. c) result (image_of bytes.now) }
+    ensures refused { IfErr result (RefusesImage bytes.now) }
 {
     match read(alloc, bytes) {
         Ok(methods) => Ok(ClassImage::of(methods)),
@@ -199,9 +201,11 @@ fn class(alloc: Global, bytes: &[u8]) -> Result<ClassImage, ImageError>
 /// The class that the bytes are. Each field is read whole and tested before the next.
 ///
 /// Refusals, the first in reading order, with the number of methods that were read whole before: see `DecodeError`.
-/// `NoMemory` may come in place of any answer.
+/// `NoMemory` may come in place of any answer, with the number of methods that were read whole before it, too.
 pub fn read_image(alloc: Global, bytes: &[u8]) -> Result<ClassImage, ImageError>
     ensures exact { GivesImage (λ c. c) result (image_of bytes.now) }
+    // Where memory runs out, so many methods were read whole.
+    ensures refused { IfErr result (RefusesImage bytes.now) }
     // What is read is the class's spelling.
     ensures found { IfOk result (λ c. IsImage bytes.now c) }
     // A class's spelling is read, unless memory runs out.

@@ -1,6 +1,7 @@
 use Rattle.std.proofs.Common.{rules}
 use Rattle.bpf_asm.specs.Bodies.{read_text}
 use Rattle.bpf_asm.proofs.GrammarLemmas.{none_if_refused, one_if_read}
+use Rattle.bpf_asm.proofs.FirstFaults.{first_if_refused, faultless_if_read}
 use Rattle.bpf_asm.proofs.assembler.assemble.Goals as goal
 
 pub returns-clause-found : goal.returns-clause-found
@@ -16,3 +17,9 @@ returns-clause-one c = one_if_read (λ v. v.items) c.assembled.result c.args.tex
 
 pub returns-clause-only : goal.returns-clause-only
 returns-clause-only c = none_if_refused c.assembled.result c.args.text.now (returns-clause-refused c)
+
+pub returns-clause-first : goal.returns-clause-first
+returns-clause-first c = first_if_refused c.assembled.result c.args.text.now (returns-clause-refused c)
+
+pub returns-clause-faultless : goal.returns-clause-faultless
+returns-clause-faultless c = faultless_if_read (λ v. v.items) c.assembled.result c.args.text.now (returns-clause-found c)

@@ -1,6 +1,7 @@
 use Rattle.std.proofs.Common.{rules}
 use Rattle.bpf_asm.specs.Classes.{read_class_text}
 use Rattle.bpf_asm.proofs.ClassGrammar.{no_class_if_refused, one_class_if_read}
+use Rattle.bpf_asm.proofs.FirstClassFaults.{first_if_refused, faultless_if_read}
 use Rattle.bpf_asm.proofs.class_reader.assemble_class.Goals as goal
 
 pub returns-clause-found : goal.returns-clause-found
@@ -16,3 +17,9 @@ returns-clause-one c = one_class_if_read c.class_assembled.result c.args.text.no
 
 pub returns-clause-only : goal.returns-clause-only
 returns-clause-only c = no_class_if_refused c.class_assembled.result c.args.text.now (returns-clause-refused c)
+
+pub returns-clause-first : goal.returns-clause-first
+returns-clause-first c = first_if_refused c.class_assembled.result c.args.text.now (returns-clause-refused c)
+
+pub returns-clause-faultless : goal.returns-clause-faultless
+returns-clause-faultless c = faultless_if_read c.class_assembled.result c.args.text.now (returns-clause-found c)
