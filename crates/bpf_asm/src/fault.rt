@@ -1,13 +1,13 @@
 ghost use Rattle.std.specs.Prelude.{◌≡◌};
-ghost use Rattle.bpf_asm.specs.Fault.{fault_number};
+ghost use Rattle.bpf_asm.specs.Fault.{fault_name, fault_number};
 ghost use Rattle.bpf_asm.specs.Operands.{least};
 
 use std::alloc::{AllocError, AllocFailed};
-use thiserror::Error;
+use std::error::Error;
+use std::fmt;
 
 /// What is wrong on a line. It prints as number and name, as `2 Operand`.
-#[derive(Clone, Copy, Debug, PartialEq, Eq, Error)]
-#[error("{} {}", self.number(), self.name())]
+#[derive(Clone, Copy, Debug, PartialEq, Eq)]
 pub enum AsmFault {
     /// The first word is unknown, an instruction or label stands before the first `.method`, or `.method` where one
     /// method's text is read.
@@ -48,7 +48,9 @@ impl AsmFault {
         }
     }
 
-    fn name(self) -> &'static str {
+    fn name(self) -> &'static str
+        ensures { result.now ≡ fault_name self }
+    {
         match self {
             AsmFault::Word => "Word",
             AsmFault::Operand => "Operand",
@@ -59,14 +61,41 @@ impl AsmFault {
     }
 }
 
+impl fmt::Display for AsmFault {
+    ghost use Rattle.std.specs.Prelude.{Some};
+    ghost use Rattle.bpf_asm.specs.Fault.{fault_text};
+
+    ghost output = { λ fault. Some (fault_text fault) };
+
+    fn fmt<W: fmt::Write>(&self, f: &mut fmt::Formatter<W>) -> fmt::Result {
+        let (number, name) = (self.number(), self.name());
+        write!(f, "{number} {name}")
+    }
+}
+
+impl Error for AsmFault {}
+
 /// The first line that is refused, from 1, and the least fault there. Want of memory has line 0.
 /// It prints as `line 4: 2 Operand`.
-#[derive(Clone, Copy, Debug, PartialEq, Eq, Error)]
-#[error("line {line}: {fault}")]
+#[derive(Clone, Copy, Debug, PartialEq, Eq)]
 pub struct AsmError {
     pub line: usize,
     pub fault: AsmFault,
 }
+
+impl fmt::Display for AsmError {
+    ghost use Rattle.std.specs.Prelude.{Some};
+    ghost use Rattle.bpf_asm.specs.Fault.{asm_text};
+
+    ghost output = { λ error. Some (asm_text error) };
+
+    fn fmt<W: fmt::Write>(&self, f: &mut fmt::Formatter<W>) -> fmt::Result {
+        let AsmError { line, fault } = *self;
+        write!(f, "line {line}: {fault}")
+    }
+}
+
+impl Error for AsmError {}
 
 impl From<AllocError> for AsmError {
     ghost use Rattle.std.specs.Prelude.{◌≡◌};
