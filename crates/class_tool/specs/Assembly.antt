@@ -1,0 +1,88 @@
+-- What `asm` writes and `dis` gives, and why they do not.
+use Rattle.std.specs.Prelude.{◌≡◌, ◌⊎◌, ⊤, ℕ, List, Option, Err, IsUtf8}
+use Rattle.bpf_asm.specs.Canonical.{class_text}
+use Rattle.bpf_asm.specs.Classes.{read_class_text}
+use Rattle.bpf_asm.specs.Fault.{no_memory}
+use Rattle.bpf_asm.specs.Grammar.{IsClassText}
+use Rattle.bpf_asm.specs.declared.fault.AsmError.{AsmError}
+use Rattle.bpf_decode.specs.Class.{ClassMethod, IsImage}
+use Rattle.class_tool.specs.Files.{Disk, Holds, IsUnreadable, IsWritten, OthersStay}
+use Rattle.class_tool.specs.Image.{IsImageIn}
+use Rattle.class_tool.specs.declared.failure.Failure.{Failure}
+use Rattle.class_tool.specs.declared.failure.Failure.TheVariants.{CannotRead, CannotWrite, NoMemory, Text, Image, Verdict, InputNotHex, Call}
+
+-- the bytes are the image of the class that the text is
+pub record Spells (text : List ℕ) (bytes : List ℕ) : Type 0 where
+  pub class : List ClassMethod
+  pub read : IsClassText text class
+  pub image : IsImage bytes class
+
+-- the file holds a class's text, whose image those bytes are
+pub record IsSourceIn (disk : Option Disk) (name : List ℕ) (bytes : List ℕ) : Type 0 where
+  pub text : List ℕ
+  pub held : Holds disk name text
+  pub spells : Spells text bytes
+
+-- The one file holds a class's text. Then the other holds the image of that class, and every other file is as it was.
+pub record Assembles (before after : Option Disk) (text image : List ℕ) : Type 0 where
+  pub bytes : List ℕ
+  pub source : IsSourceIn before text bytes
+  pub written : IsWritten after image bytes
+  pub others : OthersStay before after image
+
+-- the file's bytes are no text
+pub record IsNoTextIn (disk : Option Disk) (name : List ℕ) : Type 0 where
+  pub bytes : List ℕ
+  pub held : Holds disk name bytes
+  pub wrong : IsUtf8 bytes → ⊥
+
+-- Why no text was read: the file can't be read or is no text, or memory was refused.
+abbrev pub TextFails : Option Disk → List ℕ → Failure → Type 0
+TextFails disk name CannotRead = IsUnreadable disk name ⊎ IsNoTextIn disk name
+TextFails disk name CannotWrite = ⊥
+TextFails disk name NoMemory = ⊤
+TextFails disk name (Text error) = ⊥
+TextFails disk name (Image error) = ⊥
+TextFails disk name (Verdict refusal) = ⊥
+TextFails disk name InputNotHex = ⊥
+TextFails disk name (Call error) = ⊥
+
+-- the text is one of no class, and this is the first line that is refused and the least fault there
+pub record IsFaultOf (text : List ℕ) (error : AsmError) : Type 0 where
+  pub first : read_class_text text ≡ Err error
+  pub none : (class : List ClassMethod) → IsClassText text class → ⊥
+
+-- Why a text has no image: memory was refused, or it is one of no class.
+abbrev pub ImageFails : List ℕ → Failure → Type 0
+ImageFails text CannotRead = ⊥
+ImageFails text CannotWrite = ⊥
+ImageFails text NoMemory = ⊤
+ImageFails text (Text error) = (error ≡ no_memory) ⊎ IsFaultOf text error
+ImageFails text (Image error) = ⊥
+ImageFails text (Verdict refusal) = ⊥
+ImageFails text InputNotHex = ⊥
+ImageFails text (Call error) = ⊥
+
+-- the file holds a text, which has no image
+pub record SourceFails (disk : Option Disk) (name : List ℕ) (failure : Failure) : Type 0 where
+  pub text : List ℕ
+  pub held : Holds disk name text
+  pub why : ImageFails text failure
+
+-- the text was right, and the other file could not be written
+pub record WriteFails (before after : Option Disk) (text image : List ℕ) (failure : Failure) : Type 0 where
+  pub failed : failure ≡ CannotWrite
+  pub bytes : List ℕ
+  pub source : IsSourceIn before text bytes
+  pub others : OthersStay before after image
+
+-- Why no image was written, in the order in which it is tried. Before the write every file is as it was.
+abbrev pub AssembleFails : Option Disk → Option Disk → List ℕ → List ℕ → Failure → Type 0
+AssembleFails before after text image failure =
+    ((after ≡ before) × (TextFails before text failure ⊎ SourceFails before text failure)) ⊎ WriteFails before after text image failure
+
+-- the text is the canonical one of the class whose image the file holds
+pub record IsTextOf (disk : Option Disk) (name : List ℕ) (text : List ℕ) : Type 0 where
+  pub class : List ClassMethod
+  pub image : IsImageIn disk name class
+  pub canonical : text ≡ class_text class

@@ -1,0 +1,32 @@
+-- What files hold.
+use Rattle.std.specs.Prelude.{◌≡◌, ◌≢◌, ⊤, ℕ, List, Option, Some, None, take}
+
+-- the bytes of each file that can be read, by its name
+abbrev pub Disk : Type 0
+Disk = List ℕ → Option (List ℕ)
+
+-- the file of that name holds those bytes, where that is known
+abbrev pub Holds : Option Disk → List ℕ → List ℕ → Type 0
+Holds None name bytes = ⊤
+Holds (Some disk) name bytes = disk name ≡ Some bytes
+
+-- the bytes are the first ones of the file of that name, so many at most, where that is known
+abbrev pub IsBeginning : Option Disk → List ℕ → ℕ → List ℕ → Type 0
+IsBeginning None name most bytes = ⊤
+IsBeginning (Some disk) name most bytes = (file : List ℕ) × (disk name ≡ Some file) × (bytes ≡ take most file)
+
+-- there is no file of that name that can be read, where that is known
+abbrev pub IsUnreadable : Option Disk → List ℕ → Type 0
+IsUnreadable None name = ⊤
+IsUnreadable (Some disk) name = disk name ≡ None
+
+-- after a write the file of that name holds those bytes, where that is known
+abbrev pub IsWritten : Option Disk → List ℕ → List ℕ → Type 0
+IsWritten None name bytes = ⊤
+IsWritten (Some disk) name bytes = disk name ≡ Some bytes
+
+-- each file but that of a name is as it was, where that was known
+abbrev pub OthersStay : Option Disk → Option Disk → List ℕ → Type 0
+OthersStay None after name = ⊤
+OthersStay (Some before) None name = ⊥
+OthersStay (Some before) (Some after) name = (other : List ℕ) → other ≢ name → after other ≡ before other

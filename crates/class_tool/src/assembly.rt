@@ -1,0 +1,70 @@
+ghost use Rattle.std.specs.Prelude.{IfErr, IfOk, string_bytes};
+ghost use Rattle.class_tool.specs.Assembly.{Assembles, AssembleFails, IsTextOf, Spells, TextFails, ImageFails};
+ghost use Rattle.class_tool.specs.Files.{Holds};
+ghost use Rattle.class_tool.specs.Image.{ReadFails};
+
+use crate::failure::Failure;
+use crate::files::{Files, Reads};
+use crate::image::read_class;
+use std::alloc::Global;
+
+/// What a file holds, where that is UTF-8.
+fn read_text<F: Reads>(alloc: Global, files: &F, name: &str) -> Result<String, Failure>
+    ensures held { IfOk result (λ text. Holds (F.disk files.now) name.now (string_bytes text)) }
+    ensures fails { IfErr result (TextFails (F.disk files.now) name.now) }
+{
+    let bytes = match files.read(alloc, name) {
+        Ok(bytes) => bytes,
+        Err(error) => return Err(Failure::of_read(&error)),
+    };
+    match String::from_utf8(bytes) {
+        Ok(text) => Ok(text),
+        Err(_) => Err(Failure::CannotRead),
+    }
+}
+
+/// The image of the class that a text is.
+fn image_of(alloc: Global, text: &str) -> Result<Vec<u8>, Failure>
+    ensures spells { IfOk result (λ bytes. Spells text.now bytes.items) }
+    ensures fails { IfErr result (ImageFails text.now) }
+{
+    let class = match bpf_asm::assemble_class(alloc, text) {
+        Ok(class) => class,
+        Err(error) => return Err(Failure::Text(error)),
+    };
+    match bpf_decode::write_image(alloc, &class) {
+        Ok(bytes) => Ok(bytes),
+        Err(_) => Err(Failure::NoMemory),
+    }
+}
+
+/// Writes the image of the class whose text the one file holds to the other, which may be the same one. Nothing is
+/// written before the text is read whole and known to be right.
+pub fn assemble<F: Files>(
+    alloc: Global,
+    files: &mut F,
+    text: &str,
+    image: &str,
+) -> Result<(), Failure>
+    ensures ok { IfOk result (λ _. Assembles (F.disk files.old) (F.disk files.new) text.now image.now) }
+    ensures err { IfErr result (AssembleFails (F.disk files.old) (F.disk files.new) text.now image.now) }
+{
+    let text = read_text(alloc, files, text)?;
+    let bytes = image_of(alloc, &text)?;
+    match files.write(image, &bytes) {
+        Ok(()) => Ok(()),
+        Err(_) => Err(Failure::CannotWrite),
+    }
+}
+
+/// The canonical text of the class whose image a file holds.
+pub fn disassemble<F: Reads>(alloc: Global, files: &F, image: &str) -> Result<String, Failure>
+    ensures ok { IfOk result (λ text. IsTextOf (F.disk files.now) image.now (string_bytes text)) }
+    ensures err { IfErr result (ReadFails (F.disk files.now) image.now) }
+{
+    let class = read_class(alloc, files, image)?;
+    match bpf_asm::disassemble_class(alloc, &class) {
+        Ok(text) => Ok(text),
+        Err(_) => Err(Failure::NoMemory),
+    }
+}

@@ -1,0 +1,84 @@
+ghost use Rattle.std.specs.Prelude.{◌≡◌, ◌≢◌, ◌↔◌};
+ghost use Rattle.std.specs.IoError.{error_kind};
+ghost use Rattle.class_tool.specs.declared.failure.Failure.TheVariants.{NoMemory};
+
+use bpf_asm::AsmError;
+use bpf_decode::ImageError;
+use interp::CallError;
+use std::alloc::{AllocError, AllocFailed};
+use std::error::Error;
+use std::fmt;
+use std::io::{self, ErrorKind};
+use verifier::Refusal;
+
+/// Why what is asked for was not done. It prints as one line, without its end.
+#[derive(Clone, Copy, Debug, PartialEq, Eq)]
+pub enum Failure {
+    /// A file could not be read, or is no text.
+    CannotRead,
+    /// A file could not be written.
+    CannotWrite,
+    /// The program itself ran out of memory.
+    NoMemory,
+    /// The file is no class's text.
+    Text(AsmError),
+    /// The file is no class image.
+    Image(ImageError),
+    /// A method of the image is not safe.
+    Verdict(Refusal),
+    /// The input is not pairs of hexadecimal digits.
+    InputNotHex,
+    /// The call was not made, or not logged.
+    Call(CallError),
+}
+
+impl Failure {
+    /// What a failed read of a file is: want of memory, or a file that cannot be read.
+    pub fn of_read(error: &io::Error) -> Failure
+        ensures no_memory { (result ≡ Failure.NoMemory) ↔ (error_kind error.now ≡ ErrorKind.OutOfMemory) }
+        ensures other { result ≢ Failure.NoMemory → result ≡ Failure.CannotRead }
+    {
+        match error.kind() {
+            ErrorKind::OutOfMemory => Failure::NoMemory,
+            _ => Failure::CannotRead,
+        }
+    }
+}
+
+impl fmt::Display for Failure {
+    ghost use Rattle.std.specs.Prelude.{Some};
+    ghost use Rattle.class_tool.specs.Failure.{failure_text};
+
+    ghost output = { λ failure. Some (failure_text failure) };
+
+    fn fmt<W: fmt::Write>(&self, f: &mut fmt::Formatter<W>) -> fmt::Result {
+        match self {
+            Failure::CannotRead => f.write_str("cannot read"),
+            Failure::CannotWrite => f.write_str("cannot write"),
+            Failure::NoMemory => f.write_str("no memory"),
+            Failure::Text(error) => write!(f, "{error}"),
+            Failure::Image(error) => write!(f, "{error}"),
+            Failure::Verdict(refusal) => write!(f, "{refusal}"),
+            Failure::InputNotHex => f.write_str("input is not hex"),
+            Failure::Call(error) => write!(f, "call refused: {error}"),
+        }
+    }
+}
+
+impl Error for Failure {}
+
+impl From<AllocError> for Failure {
+    ghost from_gives = { λ _ e. e ≡ NoMemory };
+
+    fn from(_error: AllocError) -> Failure {
+        Failure::NoMemory
+    }
+}
+
+impl<T: Drop> From<AllocFailed<T>> for Failure {
+    ghost from_gives = { λ _ e. e ≡ NoMemory };
+
+    fn from(_error: AllocFailed<T>) -> Failure {
+        Failure::NoMemory
+    }
+}

@@ -1,0 +1,63 @@
+ghost use Rattle.std.specs.Prelude.{◌≢◌, Option, None, IfOk, IfErr};
+ghost use Rattle.std.specs.IoError.{error_kind};
+ghost use Rattle.class_tool.specs.Files.{Disk, Holds, IsBeginning, IsUnreadable, IsWritten, OthersStay};
+
+use std::alloc::Global;
+use std::fs::{self, File};
+use std::io::{self, ErrorKind, Read};
+
+/// The files that can be read.
+pub trait Reads {
+    // What each of them holds, where that is known.
+    ghost disk: { Self → Option Disk } = { λ _. None };
+
+    /// All bytes of the file of that name.
+    fn read(&self, alloc: Global, name: &str) -> io::Result<Vec<u8>>
+        ensures held { IfOk result (λ bytes. Holds (disk self.now) name.now bytes.items) }
+        ensures unread { IfErr result (λ e. error_kind e ≢ ErrorKind.OutOfMemory → IsUnreadable (disk self.now) name.now) };
+
+    /// The first bytes of the file of that name, so many at most.
+    fn read_first(&self, alloc: Global, name: &str, most: usize) -> io::Result<Vec<u8>>
+        ensures begun { IfOk result (λ bytes. IsBeginning (disk self.now) name.now most bytes.items) }
+        ensures unread { IfErr result (λ e. error_kind e ≢ ErrorKind.OutOfMemory → IsUnreadable (disk self.now) name.now) };
+}
+
+/// The files that can be read and written.
+pub trait Files: Reads {
+    /// Makes those bytes the whole of the file of that name. Every other file stays as it was, also where it fails.
+    fn write(&mut self, name: &str, bytes: &[u8]) -> io::Result<()>
+        ensures written { IfOk result (λ _. IsWritten (Self.disk self.new) name.now bytes.now) }
+        ensures others { OthersStay (Self.disk self.old) (Self.disk self.new) name.now };
+}
+
+/// The files of the system. Nothing is claimed of what they hold.
+#[derive(Drop)]
+pub struct SystemFiles<'a, R> {
+    rt: &'a R,
+}
+
+impl<'a, R> SystemFiles<'a, R> {
+    /// The files that this runtime reaches.
+    pub fn new(rt: &'a R) -> SystemFiles<'a, R> {
+        SystemFiles { rt }
+    }
+}
+
+impl<R: std::rt::Files + AllocGlobal> Reads for SystemFiles<'_, R> {
+    fn read(&self, _alloc: Global, name: &str) -> io::Result<Vec<u8>> {
+        fs::read(self.rt, name)
+    }
+
+    fn read_first(&self, alloc: Global, name: &str, most: usize) -> io::Result<Vec<u8>> {
+        let mut bytes = Vec::new(alloc);
+        let mut beginning = fs::open(self.rt, name)?.take(most as u64);
+        beginning.read_to_end(&mut bytes)?;
+        Ok(bytes)
+    }
+}
+
+impl<R: std::rt::Files + AllocGlobal> Files for SystemFiles<'_, R> {
+    fn write(&mut self, name: &str, bytes: &[u8]) -> io::Result<()> {
+        fs::write(self.rt, name, bytes)
+    }
+}

@@ -1,4 +1,0 @@
-mod Answered
-mod Appended
-mod Entered
-mod Refused

@@ -1,9 +1,0 @@
-pub mod Answer
-pub mod Arguments
-pub mod Assembly
-pub mod CommandLine
-pub mod Files
-pub mod Program
-pub mod Record
-pub mod Reply
-pub mod Status

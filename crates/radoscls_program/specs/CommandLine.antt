@@ -1,0 +1,52 @@
+-- The command line: `verify IN`, `run IN METHOD [--input HEX] [--caller N]`, `asm IN OUT`, and `dis IN`.
+use Rattle.std.specs.Prelude.{◌≡◌, List, [], ◌∷◌, Option, Some, true, pos, codes}
+use Rattle.clap.specs.Words.{App, Row, Rule, Text, first_of, new_app, new_rule, with_rule, with_subcommand}
+use Rattle.clap.specs.declared.builder.value_parser.ValueParser.TheVariants as parser
+use Rattle.class_tool.specs.declared.action.Action.{Action}
+use Rattle.radoscls_program.specs.Arguments.{AsksBy}
+
+-- an argument that has to be there, by its place
+abbrev pub required_rule : Text → Rule
+required_rule id = record (new_rule id) { required = true }
+
+-- an option with one value and a default
+abbrev pub option_rule : Text → Text → Rule
+option_rule id default = record (new_rule id) { long = Some id; value_names = 1; defaults = default ∷ [] }
+
+-- the client's number, 1 to 4294967295
+abbrev pub caller_rule : Rule
+caller_rule = record (option_rule (codes "caller") (codes "1")) { parser = Some (parser.Signed (pos 1) (pos 4294967295)) }
+
+abbrev pub verify_line : App
+verify_line = with_rule (new_app (codes "verify")) (required_rule (codes "IN"))
+
+abbrev pub run_line : App
+run_line =
+    with_rule (with_rule (with_rule (with_rule (new_app (codes "run")) (required_rule (codes "IN")))
+    (required_rule (codes "METHOD"))) (option_rule (codes "input") (codes ""))) caller_rule
+
+abbrev pub asm_line : App
+asm_line = with_rule (with_rule (new_app (codes "asm")) (required_rule (codes "IN"))) (required_rule (codes "OUT"))
+
+abbrev pub dis_line : App
+dis_line = with_rule (new_app (codes "dis")) (required_rule (codes "IN"))
+
+-- the program's name, which wants a subcommand
+abbrev pub plain_line : App
+plain_line = let named = new_app (codes "radoscls") in
+    record named { top = record named.top { arg_required_else_help = true; subcommand_required = true } }
+
+-- with the subcommands of images alone
+abbrev pub image_line : App
+image_line = with_subcommand (with_subcommand plain_line verify_line.top) run_line.top
+
+-- the whole of it
+abbrev pub command_line : App
+command_line = with_subcommand (with_subcommand image_line asm_line.top) dis_line.top
+
+-- the action that the words ask for is that of the subcommand that they name
+pub record Asks (subcommand : Option (Text × List Row)) (action : Action) : Type 0 where
+  pub name : Text
+  pub rows : List Row
+  pub entered : subcommand ≡ Some (name, rows)
+  pub asked : AsksBy name (λ id. first_of id rows) action

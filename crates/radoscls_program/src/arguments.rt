@@ -1,0 +1,201 @@
+ghost use Rattle.std.specs.Prelude.{◌≡◌, ◌↔◌, [], false, IfOk, IfSome, IsNone, IsSome, None, codes, map};
+ghost use Rattle.clap.specs.declared.builder.command.Command.TheViews.{out-Command};
+ghost use Rattle.clap.specs.Words.{app_of, fault_of, first_value, found_of, rule_of, subcommand_of, subcommand_rows_of};
+ghost use Rattle.radoscls_program.specs.CommandLine.{Asks, asm_line, caller_rule, command_line, dis_line, image_line, option_rule, plain_line, required_rule, run_line, verify_line};
+ghost use Rattle.radoscls_program.specs.Arguments.{AsksBy, IsClientNumber, NamesCall, NamesFiles, number_in};
+
+use class_tool::{Action, Call};
+use clap::error::{Error, ErrorKind};
+use clap::{Arg, ArgMatches, Command, value_parser};
+use pg_log::ClientId;
+use std::alloc::{AllocError, Global};
+use std::convert::AsStr;
+
+/// An argument that has to be there, by its place.
+fn required<'a>(alloc: Global, id: &'a str, help: &'a str) -> Arg<'a>
+    ensures rule { rule_of result ≡ required_rule id.entry.now }
+    ensures local { result.global ≡ false }
+{
+    Arg::new(alloc, id).required(true).help(help)
+}
+
+/// An option with one value.
+fn option<'a>(
+    alloc: Global,
+    id: &'a str,
+    value: &'a str,
+    default: &'a str,
+    help: &'a str,
+) -> Arg<'a>
+    ensures rule { rule_of result ≡ option_rule id.entry.now default.entry.now }
+    ensures local { result.global ≡ false }
+{
+    Arg::new(alloc, id)
+        .long(id)
+        .value_name(value)
+        .default_value(default)
+        .help(help)
+}
+
+/// The option of the client that calls.
+fn caller_option<'a>(alloc: Global) -> Arg<'a>
+    ensures rule { rule_of result ≡ caller_rule }
+    ensures local { result.global ≡ false }
+{
+    let help = "The number of the client that calls, 1 to 4294967295";
+    let numbers = value_parser!(u32).range(1..);
+    option(alloc, "caller", "N", "1", help).value_parser(numbers)
+}
+
+fn verify_command<'a>(alloc: Global) -> Result<Command<'a>, AllocError>
+    ensures line { IfOk result (λ c. app_of c ≡ verify_line) }
+    ensures local { IfOk result (λ c. (out-Command c).has_globals ≡ false) }
+{
+    Command::new(alloc, "verify")
+        .about("Tells whether the methods of a class image are safe")
+        .arg(required(alloc, "IN", "The file of the image"))
+}
+
+fn run_command<'a>(alloc: Global) -> Result<Command<'a>, AllocError>
+    ensures line { IfOk result (λ c. app_of c ≡ run_line) }
+    ensures local { IfOk result (λ c. (out-Command c).has_globals ≡ false) }
+{
+    Command::new(alloc, "run")
+        .about("Runs a method of a class image beside an absent object")
+        .arg(required(alloc, "IN", "The file of the image"))?
+        .arg(required(alloc, "METHOD", "The name of the method"))?
+        .arg(option(alloc, "input", "HEX", "", "The input, in hexadecimal"))?
+        .arg(caller_option(alloc))
+}
+
+fn asm_command<'a>(alloc: Global) -> Result<Command<'a>, AllocError>
+    ensures line { IfOk result (λ c. app_of c ≡ asm_line) }
+    ensures local { IfOk result (λ c. (out-Command c).has_globals ≡ false) }
+{
+    Command::new(alloc, "asm")
+        .about("Writes the image of a class from its text")
+        .arg(required(alloc, "IN", "The file of the text"))?
+        .arg(required(alloc, "OUT", "The file of the image"))
+}
+
+fn dis_command<'a>(alloc: Global) -> Result<Command<'a>, AllocError>
+    ensures line { IfOk result (λ c. app_of c ≡ dis_line) }
+    ensures local { IfOk result (λ c. (out-Command c).has_globals ≡ false) }
+{
+    Command::new(alloc, "dis")
+        .about("Prints the text of a class image")
+        .arg(required(alloc, "IN", "The file of the image"))
+}
+
+/// The command without its subcommands, of which one has to be there.
+fn plain_command<'a>(alloc: Global) -> Command<'a>
+    ensures line { app_of result ≡ plain_line }
+    ensures local { (out-Command result).has_globals ≡ false }
+{
+    Command::new(alloc, "radoscls")
+        .about("RADOS object classes in verified BPF")
+        .subcommand_required(true)
+        .arg_required_else_help(true)
+}
+
+/// The command with the subcommands of images alone.
+fn image_command<'a>(alloc: Global) -> Result<Command<'a>, AllocError>
+    ensures { IfOk result (λ c. app_of c ≡ image_line) }
+{
+    plain_command(alloc)
+        .subcommand(verify_command(alloc)?)?
+        .subcommand(run_command(alloc)?)
+}
+
+fn root_command<'a>(alloc: Global) -> Result<Command<'a>, AllocError>
+    ensures { IfOk result (λ c. app_of c ≡ command_line) }
+{
+    image_command(alloc)?
+        .subcommand(asm_command(alloc)?)?
+        .subcommand(dis_command(alloc)?)
+}
+
+/// The client of the number that a text writes in decimal digits, behind a plus or none: 1 to 4294967295.
+fn caller_of(text: &str) -> Option<ClientId>
+    ensures value { IfSome result (λ caller. caller ≡ number_in text.now) }
+    ensures within { IsSome result ↔ IsClientNumber text.now }
+{
+    match text.parse::<u32>() {
+        Ok(number) => ClientId::new(number),
+        Err(_) => None,
+    }
+}
+
+/// What `verify` asks for.
+fn verify_action<'a>(matches: &ArgMatches<'a>) -> Option<Action<'a>>
+    ensures value { IfSome result (AsksBy (codes "verify") (first_value (found_of matches.now))) }
+    ensures missing { IsNone result ↔ (first_value (found_of matches.now) (codes "IN") ≡ None) }
+{
+    Some(Action::Verify {
+        image: matches.get_str("IN")?,
+    })
+}
+
+/// What `run` asks for, where its caller is a client's number.
+fn run_action<'a>(matches: &ArgMatches<'a>) -> Option<Action<'a>>
+    ensures value { IfSome result (AsksBy (codes "run") (first_value (found_of matches.now))) }
+    ensures answered { IsSome result ↔ NamesCall (first_value (found_of matches.now)) }
+{
+    Some(Action::Run(Call {
+        image: matches.get_str("IN")?,
+        method: matches.get_str("METHOD")?,
+        input: matches.get_str("input")?,
+        caller: caller_of(matches.get_str("caller")?)?,
+    }))
+}
+
+/// What `asm` asks for.
+fn asm_action<'a>(matches: &ArgMatches<'a>) -> Option<Action<'a>>
+    ensures value { IfSome result (AsksBy (codes "asm") (first_value (found_of matches.now))) }
+    ensures answered { IsSome result ↔ NamesFiles (first_value (found_of matches.now)) }
+{
+    Some(Action::Assemble {
+        text: matches.get_str("IN")?,
+        image: matches.get_str("OUT")?,
+    })
+}
+
+/// What `dis` asks for.
+fn dis_action<'a>(matches: &ArgMatches<'a>) -> Option<Action<'a>>
+    ensures value { IfSome result (AsksBy (codes "dis") (first_value (found_of matches.now))) }
+    ensures missing { IsNone result ↔ (first_value (found_of matches.now) (codes "IN") ≡ None) }
+{
+    Some(Action::Disassemble {
+        image: matches.get_str("IN")?,
+    })
+}
+
+/// What the subcommand that was entered asks for.
+fn action_of<'a>(matches: &ArgMatches<'a>) -> Option<Action<'a>>
+    ensures { IfSome result (Asks (subcommand_rows_of matches.now)) }
+{
+    if let Some(found) = matches.subcommand_matches("verify") {
+        return verify_action(found);
+    }
+    if let Some(found) = matches.subcommand_matches("run") {
+        return run_action(found);
+    }
+    if let Some(found) = matches.subcommand_matches("asm") {
+        return asm_action(found);
+    }
+    dis_action(matches.subcommand_matches("dis")?)
+}
+
+/// What those words ask for; the first is the program's own name. An error's text is for the user,
+/// help too; its kind is `OutOfMemory` where memory ran out.
+pub fn parse<'a, S: AsStr>(alloc: Global, words: &'a [S]) -> Result<Action<'a>, Error>
+    ensures asked { IfOk result (Asks (subcommand_of command_line (map S.text words.entry.now))) }
+    ensures faultless { IfOk result (λ _. fault_of command_line (map S.text words.entry.now) ≡ []) }
+{
+    let mut command = root_command(alloc)?;
+    let matches = command.try_get_matches_from_mut(words)?;
+    match action_of(&matches) {
+        Some(action) => Ok(action),
+        None => Err(command.error(ErrorKind::ValueValidation, "no such call")?),
+    }
+}

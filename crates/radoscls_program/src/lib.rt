@@ -1,0 +1,15 @@
+//! The program `radoscls` on words, files and two writers: reads the command line, does what it asks for by `class_tool`,
+//! and prints it. `program` says what each of its endings means: what was printed, which file was written, and why not.
+//! `start` runs it on the words, files and streams of the process.
+#![tactic(auto)]
+
+mod arguments;
+mod perform;
+mod process;
+mod status;
+
+pub use perform::program;
+pub use process::start;
+
+#[cfg(test)]
+mod tests;

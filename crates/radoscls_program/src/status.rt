@@ -1,0 +1,26 @@
+ghost use Rattle.std.specs.Prelude.{◌≡◌};
+ghost use Rattle.radoscls_program.specs.Status.{code_of};
+
+/// How a run of the program ended.
+#[derive(Clone, Copy, Debug, PartialEq, Eq)]
+pub enum Status {
+    /// What was asked for was done and printed.
+    Done,
+    /// It was refused, or the answer could not be printed.
+    Refused,
+    /// The command line asks for nothing that the program does, or for help.
+    Usage,
+}
+
+impl Status {
+    /// What the process ends with: 0, 1 or 2.
+    pub fn code(self) -> u8
+        ensures { result ≡ code_of self }
+    {
+        match self {
+            Status::Done => 0,
+            Status::Refused => 1,
+            Status::Usage => 2,
+        }
+    }
+}

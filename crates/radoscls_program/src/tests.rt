@@ -1,0 +1,104 @@
+mod images;
+mod streams;
+mod texts;
+
+use crate::perform::program;
+use class_tool::{Files, Reads};
+use std::alloc::Global;
+use std::cell::Cell;
+use std::io::{self, ErrorKind};
+use std::test::Fail;
+
+/// `mov r0, 0`, `exit`.
+const TWO: &str = "52434c31 0100 0000 01 66 01 0000 0000 0200 b700000000000000 9500000000000000";
+
+/// The files `image`, `text` and `out`, which are there from the start, and the file `full`, which takes no bytes.
+#[derive(Drop)]
+struct Folder {
+    image: Vec<u8>,
+    text: Vec<u8>,
+    out: Vec<u8>,
+    /// How often a file was written.
+    writes: usize,
+    /// How many bytes of an image were asked for last.
+    most_read: Cell<usize>,
+}
+
+/// The bytes of hexadecimal digits, with spaces between them.
+fn bytes_of(alloc: Global, text: &str) -> io::Result<Vec<u8>> {
+    let digits: String = text.chars().filter(|c| *c != ' ').collect(alloc)?;
+    match hex::decode(alloc, digits.as_str()) {
+        Ok(bytes) => Ok(bytes),
+        Err(_) => Err(io::Error::from(ErrorKind::InvalidData)),
+    }
+}
+
+impl Folder {
+    /// An image in hexadecimal, a text, and a file `out` that holds something else.
+    fn of(alloc: Global, image: &str, text: &[u8]) -> io::Result<Folder> {
+        Ok(Folder {
+            image: bytes_of(alloc, image)?,
+            text: Vec::from_slice(alloc, text)?,
+            out: Vec::from_slice(alloc, b"before")?,
+            writes: 0,
+            most_read: Cell::new(0),
+        })
+    }
+
+    fn file(&self, name: &str) -> io::Result<&[u8]> {
+        match name {
+            "image" => Ok(&self.image),
+            "text" => Ok(&self.text),
+            "out" => Ok(&self.out),
+            _ => Err(io::Error::from(ErrorKind::NotFound)),
+        }
+    }
+}
+
+impl Reads for Folder {
+    fn read(&self, alloc: Global, name: &str) -> io::Result<Vec<u8>> {
+        Ok(Vec::from_slice(alloc, self.file(name)?)?)
+    }
+
+    fn read_first(&self, alloc: Global, name: &str, most: usize) -> io::Result<Vec<u8>> {
+        self.most_read.set(most);
+        let file = self.file(name)?;
+        Ok(Vec::from_slice(alloc, &file[..file.len().min(most)])?)
+    }
+}
+
+impl Files for Folder {
+    fn write(&mut self, name: &str, bytes: &[u8]) -> io::Result<()> {
+        let file = match name {
+            "image" => &mut self.image,
+            "text" => &mut self.text,
+            "out" => &mut self.out,
+            _ => return Err(io::Error::from(ErrorKind::StorageFull)),
+        };
+        self.writes = self.writes.wrapping_add(1);
+        file.clear();
+        Ok(file.extend_from_slice(bytes)?)
+    }
+}
+
+/// How a run ended: its status, and what it wrote to standard output and to standard error.
+#[derive(Drop)]
+struct Ended {
+    status: u8,
+    printed: Vec<u8>,
+    explained: Vec<u8>,
+}
+
+/// Runs the program on those words behind its name, and on that folder.
+fn run_on(alloc: Global, words: &[&str], folder: &mut Folder) -> Result<Ended, Fail> {
+    let mut all = vec![in alloc; "radoscls"]?;
+    all.extend_from_slice(words)?;
+    let mut printed = Vec::new(alloc);
+    let mut explained = Vec::new(alloc);
+    let status = program(alloc, all.as_slice(), folder, &mut printed, &mut explained);
+    Ok(Ended {
+        status,
+        printed,
+        explained,
+    })
+}

@@ -1,0 +1,329 @@
+use super::{Folder, TWO, run_on};
+use std::process::Abort;
+use std::test::Fail;
+
+/// Words behind the program's name, on an image: what they print, and the status.
+struct Row {
+    words: &'static [&'static str],
+    image: &'static str,
+    printed: &'static str,
+    status: u8,
+}
+
+/// Writes its three bytes of input to the object, and fails: `mov r2, r1`, `mov r1, 0`, `mov r3, 3`, `call 3`,
+/// `mov r0, -5`, `exit`.
+const WRITE_AND_FAIL: &str =
+    "52434c31 0100 0000 01 66 02 0300 0000 0600 bf12000000000000 b701000000000000 b703000003000000 \
+    8500000003000000 b7000000fbffffff 9500000000000000";
+
+/// `e` is `lddw r0, 1`, `exit`, two instructions in three slots; `f` is `mov r0, 0`, `mov r0, 0`, `exit`.
+const TWO_METHODS: &str =
+    "52434c31 0200 0000 01 65 01 0000 0000 0300 1800000001000000 0000000000000000 9500000000000000 \
+    01 66 01 0000 0000 0300 b700000000000000 b700000000000000 9500000000000000";
+
+/// Rows of `verify`.
+static VERDICTS: [Row; 14] = [
+    // the two instructions
+    Row {
+        words: &["verify", "image"],
+        image: TWO,
+        printed: "f ok 2\n",
+        status: 0,
+    },
+    // the empty file
+    Row {
+        words: &["verify", "image"],
+        image: "",
+        printed: "image refused after 0 methods: 1 Truncated\n",
+        status: 1,
+    },
+    // one byte more
+    Row {
+        words: &["verify", "image"],
+        image: "52434c31 0100 0000 01 66 01 0000 0000 0200 b700000000000000 9500000000000000 00",
+        printed: "image refused after 1 methods: 11 Trailing\n",
+        status: 1,
+    },
+    // an opcode of no instruction at slot 3
+    Row {
+        words: &["verify", "image"],
+        image: "52434c31 0100 0000 01 66 01 0000 0000 0500 b700000000000000 b700000000000000 b700000000000000 \
+        ff00000000000000 9500000000000000",
+        printed: "image refused after 0 methods, slot 3: 3 Opcode\n",
+        status: 1,
+    },
+    // `exit`
+    Row {
+        words: &["verify", "image"],
+        image: "52434c31 0100 0000 01 66 01 0000 0000 0100 9500000000000000",
+        printed: "refused method 0 slot 0: 5 UnsetRead\n",
+        status: 1,
+    },
+    // `ja -1`, `exit`
+    Row {
+        words: &["verify", "image"],
+        image: "52434c31 0100 0000 01 66 01 0000 0000 0200 0500ffff00000000 9500000000000000",
+        printed: "refused method 0 slot 0: 1 Backward\n",
+        status: 1,
+    },
+    // `ja +1`, `lddw r0, 0`, `exit`
+    Row {
+        words: &["verify", "image"],
+        image: "52434c31 0100 0000 01 66 01 0000 0000 0400 0500010000000000 1800000000000000 0000000000000000 \
+        9500000000000000",
+        printed: "refused method 0 slot 0: 2 Target\n",
+        status: 1,
+    },
+    // `stxdw [r10-512], r2`, `mov r0, 0`, `exit`
+    Row {
+        words: &["verify", "image"],
+        image: "52434c31 0100 0000 01 66 01 0000 0000 0300 7b2a00fe00000000 b700000000000000 9500000000000000",
+        printed: "f ok 3\n",
+        status: 0,
+    },
+    // the same at `[r10-520]`
+    Row {
+        words: &["verify", "image"],
+        image: "52434c31 0100 0000 01 66 01 0000 0000 0300 7b2af8fd00000000 b700000000000000 9500000000000000",
+        printed: "refused method 0 slot 0: 10 Bounds\n",
+        status: 1,
+    },
+    // the same at `[r10-4]`
+    Row {
+        words: &["verify", "image"],
+        image: "52434c31 0100 0000 01 66 01 0000 0000 0300 7b2afcff00000000 b700000000000000 9500000000000000",
+        printed: "refused method 0 slot 0: 10 Bounds\n",
+        status: 1,
+    },
+    // `mov r0, r1`, `exit`
+    Row {
+        words: &["verify", "image"],
+        image: "52434c31 0100 0000 01 66 01 0000 0000 0200 bf10000000000000 9500000000000000",
+        printed: "refused method 0 slot 1: 15 ReturnsPointer\n",
+        status: 1,
+    },
+    // no such file
+    Row {
+        words: &["verify", "other"],
+        image: TWO,
+        printed: "cannot read\n",
+        status: 1,
+    },
+    // two methods, of which one begins with a wide load
+    Row {
+        words: &["verify", "image"],
+        image: TWO_METHODS,
+        printed: "e ok 2\nf ok 3\n",
+        status: 0,
+    },
+    // `mov r0, 0`, `exit`; and `mov r0, 0`, `mov r0, r1`, `exit`
+    Row {
+        words: &["verify", "image"],
+        image: "52434c31 0200 0000 01 65 01 0000 0000 0200 b700000000000000 9500000000000000 \
+        01 66 01 0000 0000 0300 b700000000000000 bf10000000000000 9500000000000000",
+        printed: "refused method 1 slot 2: 15 ReturnsPointer\n",
+        status: 1,
+    },
+];
+
+/// Rows of `run`.
+static RUNS: [Row; 13] = [
+    // the two instructions
+    Row {
+        words: &["run", "image", "f"],
+        image: TWO,
+        printed: "code 0\noutput -\nsteps 2\nobject absent\n",
+        status: 0,
+    },
+    // a caller, an input of no bytes
+    Row {
+        words: &["run", "image", "f", "--caller", "4294967295", "--input", ""],
+        image: TWO,
+        printed: "code 0\noutput -\nsteps 2\nobject absent\n",
+        status: 0,
+    },
+    // a failed write
+    Row {
+        words: &["run", "image", "f", "--input", "616263"],
+        image: WRITE_AND_FAIL,
+        printed: "code -5\noutput -\nsteps 6\nobject absent\n",
+        status: 0,
+    },
+    // an image that is refused, before all else
+    Row {
+        words: &["run", "image", "f", "--input", "0g"],
+        image: "",
+        printed: "image refused after 0 methods: 1 Truncated\n",
+        status: 1,
+    },
+    // a class that is refused, before the input
+    Row {
+        words: &["run", "image", "f", "--input", "0g"],
+        image: "52434c31 0100 0000 01 66 01 0000 0000 0100 9500000000000000",
+        printed: "refused method 0 slot 0: 5 UnsetRead\n",
+        status: 1,
+    },
+    // an input that isn't hex, before the method
+    Row {
+        words: &["run", "image", "g", "--input", "0g"],
+        image: TWO,
+        printed: "input is not hex\n",
+        status: 1,
+    },
+    // an odd number of digits
+    Row {
+        words: &["run", "image", "f", "--input", "616"],
+        image: WRITE_AND_FAIL,
+        printed: "input is not hex\n",
+        status: 1,
+    },
+    // no such method
+    Row {
+        words: &["run", "image", "g"],
+        image: TWO,
+        printed: "call refused: 1 NoMethod\n",
+        status: 1,
+    },
+    // an input too long
+    Row {
+        words: &["run", "image", "f", "--input", "00"],
+        image: TWO,
+        printed: "call refused: 2 InputTooLong\n",
+        status: 1,
+    },
+    // no such file
+    Row {
+        words: &["run", "other", "f"],
+        image: TWO,
+        printed: "cannot read\n",
+        status: 1,
+    },
+    // an output of five bytes
+    Row {
+        words: &["run", "image", "hello"],
+        image: "52434c31 0100 0000 05 68656c6c6f 01 0000 0500 0500 6203000068656c6c 720304006f000000 \
+        b701000005000000 850000000d000000 9500000000000000",
+        printed: "code 0\noutput 68656c6c6f\nsteps 5\nobject absent\n",
+        status: 0,
+    },
+    // a write that a read gives back
+    Row {
+        words: &["run", "image", "keep", "--input", "726F6f74"],
+        image: "52434c31 0100 0000 04 6b656570 03 0400 0400 0e00 bf36000000000000 bf12000000000000 \
+        b701000000000000 b703000004000000 8500000003000000 b701000000000000 bf62000000000000 \
+        b703000004000000 8500000002000000 bf07000000000000 b701000004000000 850000000d000000 \
+        bf70000000000000 9500000000000000",
+        printed: "code 4\noutput 726f6f74\nsteps 14\nobject 4 0 0\n",
+        status: 0,
+    },
+    // the second of two methods
+    Row {
+        words: &["run", "image", "f"],
+        image: TWO_METHODS,
+        printed: "code 0\noutput -\nsteps 3\nobject absent\n",
+        status: 0,
+    },
+];
+
+/// Rows of `dis`.
+static SHOWN: [Row; 6] = [
+    Row {
+        words: &["dis", "image"],
+        image: TWO,
+        printed: ".method f r 0 0\nmov r0, 0\nexit\n",
+        status: 0,
+    },
+    // the canonical text of a class of two methods
+    Row {
+        words: &["dis", "image"],
+        image: TWO_METHODS,
+        printed: ".method e r 0 0\nlddw r0, 0x0000000000000001\nexit\n\
+        .method f r 0 0\nmov r0, 0\nmov r0, 0\nexit\n",
+        status: 0,
+    },
+    // a class that is not safe has a text as any other
+    Row {
+        words: &["dis", "image"],
+        image: "52434c31 0100 0000 01 66 01 0000 0000 0100 9500000000000000",
+        printed: ".method f r 0 0\nexit\n",
+        status: 0,
+    },
+    Row {
+        words: &["dis", "image"],
+        image: "",
+        printed: "image refused after 0 methods: 1 Truncated\n",
+        status: 1,
+    },
+    // an opcode of no instruction at slot 1
+    Row {
+        words: &["dis", "image"],
+        image: "52434c31 0100 0000 01 66 01 0000 0000 0200 b700000000000000 ff00000000000000",
+        printed: "image refused after 0 methods, slot 1: 3 Opcode\n",
+        status: 1,
+    },
+    Row {
+        words: &["dis", "other"],
+        image: TWO,
+        printed: "cannot read\n",
+        status: 1,
+    },
+];
+
+/// Whether each row prints what it should, ends so, and writes no file.
+fn passes<R: Abort + AllocGlobal>(rt: &R, rows: &[Row]) -> Result<(), Fail> {
+    for row in rows {
+        let mut folder = Folder::of(rt.alloc(), row.image, b"")?;
+        let ended = run_on(rt.alloc(), row.words, &mut folder)?;
+        let printed = row.printed;
+        assert!(rt; ended.printed.as_slice() == printed.as_bytes(), "{printed}");
+        assert_eq!(rt; ended.status, row.status, "{printed}");
+        assert!(rt; ended.explained.is_empty() && folder.writes == 0, "{printed}");
+    }
+    Ok(())
+}
+
+#[test]
+fn verifies(rt: HostRuntime) -> Result<(), Fail> {
+    passes(&rt, &VERDICTS)
+}
+
+#[test]
+fn runs(rt: HostRuntime) -> Result<(), Fail> {
+    passes(&rt, &RUNS)
+}
+
+#[test]
+fn disassembles(rt: HostRuntime) -> Result<(), Fail> {
+    passes(&rt, &SHOWN)
+}
+
+#[test]
+fn disassembles_a_long_text(rt: HostRuntime) -> Result<(), Fail> {
+    let alloc = rt.alloc();
+    // 500 times `mov r0, 0`, and `exit`
+    let mut image = String::from_str(alloc, "52434c31 0100 0000 01 66 01 0000 0000 f501")?;
+    image.push_str(&"b700000000000000".repeat(alloc, 500)?)?;
+    image.push_str("9500000000000000")?;
+    let mut printed = String::from_str(alloc, ".method f r 0 0\n")?;
+    printed.push_str(&"mov r0, 0\n".repeat(alloc, 500)?)?;
+    printed.push_str("exit\n")?;
+    let mut folder = Folder::of(alloc, &image, b"")?;
+    let ended = run_on(alloc, &["dis", "image"], &mut folder)?;
+    assert!(rt; ended.printed.as_slice() == printed.as_bytes());
+    assert_eq!(rt; ended.status, 0);
+    Ok(())
+}
+
+/// Bytes behind an image, more of them than an image has.
+#[test]
+fn reads_no_more_than_an_image_has(rt: HostRuntime) -> Result<(), Fail> {
+    let alloc = rt.alloc();
+    let mut image = String::from_str(alloc, TWO)?;
+    image.push_str(&"00".repeat(alloc, 1_100_000)?)?;
+    let mut folder = Folder::of(alloc, &image, b"")?;
+    let ended = run_on(alloc, &["verify", "image"], &mut folder)?;
+    let printed = "image refused after 1 methods: 11 Trailing\n";
+    assert!(rt; ended.printed.as_slice() == printed.as_bytes());
+    assert_eq!(rt; folder.most_read.get(), 1_050_889);
+    Ok(())
+}

@@ -1,0 +1,104 @@
+use super::{Ended, Folder, TWO, bytes_of, run_on};
+use std::alloc::Global;
+use std::test::Fail;
+
+/// The text of the two instructions.
+const TWO_TEXT: &str = ".method f r 0 0\nmov r0, 0\nexit\n";
+
+/// A write that a read gives back.
+const KEEP: &str =
+    "52434c31 0100 0000 04 6b656570 03 0400 0400 0e00 bf36000000000000 bf12000000000000 \
+    b701000000000000 b703000004000000 8500000003000000 b701000000000000 bf62000000000000 \
+    b703000004000000 8500000002000000 bf07000000000000 b701000004000000 850000000d000000 \
+    bf70000000000000 9500000000000000";
+
+const KEEP_TEXT: &str =
+    ".method keep rw 4 4\nmov r6, r3\nmov r2, r1\nmov r1, 0\nmov r3, 4\ncall 3\nmov r1, 0\n\
+    mov r2, r6\nmov r3, 4\ncall 2\nmov r7, r0\nmov r1, 4\ncall 13\nmov r0, r7\nexit\n";
+
+/// A jump to a label over one instruction, with tabs, a comment, an empty line and no last line feed.
+const LOOSE_TEXT: &str =
+    "; a label\n\n.method\tf  r 0 0\n\tmov r0 ,0x0 ; none\n jeq r0, 0, done\nmov r0, 1\ndone:\nexit";
+
+const LOOSE: &str = "52434c31 0100 0000 01 66 01 0000 0000 0400 b700000000000000 1500010000000000 \
+    b700000001000000 9500000000000000";
+
+/// Texts and their images.
+static ASSEMBLED: [(&str, &str); 3] = [(TWO_TEXT, TWO), (KEEP_TEXT, KEEP), (LOOSE_TEXT, LOOSE)];
+
+/// Texts that are refused, and their lines.
+static REFUSED: [(&str, &str); 6] = [
+    (".method f r 0 0\nfoo r1\nexit\n", "line 2: 1 Word\n"),
+    (".method f r 0 0\nmov r0\nexit\n", "line 2: 2 Operand\n"),
+    (".method f r 0 0\nmov r11, 0\nexit\n", "line 2: 3 Range\n"),
+    (
+        ".method f r 0 0\njeq r0, 0, nowhere\nexit\n",
+        "line 2: 4 Label\n",
+    ),
+    ("", "line 1: 3 Range\n"),
+    ("mov r0, 0\nexit\n", "line 1: 1 Word\n"),
+];
+
+/// Words behind the program's name for which a file is not there, or takes no bytes.
+static FAILURES: [(&[&str], &str); 2] = [
+    (&["asm", "other", "out"], "cannot read\n"),
+    (&["asm", "text", "full"], "cannot write\n"),
+];
+
+/// Runs `asm` on that text.
+fn assemble(alloc: Global, folder: &mut Folder) -> Result<Ended, Fail> {
+    run_on(alloc, &["asm", "text", "out"], folder)
+}
+
+#[test]
+fn assembles(rt: HostRuntime) -> Result<(), Fail> {
+    for (text, image) in &ASSEMBLED {
+        let mut folder = Folder::of(rt.alloc(), "", text.as_bytes())?;
+        let ended = assemble(rt.alloc(), &mut folder)?;
+        assert!(rt; ended.status == 0 && ended.printed.is_empty(), "{text}");
+        assert!(rt; folder.out == bytes_of(rt.alloc(), image)?, "{text}");
+        assert!(rt; folder.writes == 1 && folder.text.as_slice() == text.as_bytes(), "{text}");
+    }
+    Ok(())
+}
+
+#[test]
+fn refuses_texts(rt: HostRuntime) -> Result<(), Fail> {
+    for (text, printed) in &REFUSED {
+        let mut folder = Folder::of(rt.alloc(), "", text.as_bytes())?;
+        let ended = assemble(rt.alloc(), &mut folder)?;
+        assert!(rt; ended.status == 1 && folder.writes == 0, "{text}");
+        assert!(rt; ended.printed.as_slice() == printed.as_bytes(), "{text}");
+    }
+    Ok(())
+}
+
+#[test]
+fn names_files_that_fail(rt: HostRuntime) -> Result<(), Fail> {
+    for (words, printed) in &FAILURES {
+        let mut folder = Folder::of(rt.alloc(), TWO, TWO_TEXT.as_bytes())?;
+        let ended = run_on(rt.alloc(), words, &mut folder)?;
+        assert!(rt; ended.status == 1 && folder.writes == 0, "{printed}");
+        assert!(rt; ended.printed.as_slice() == printed.as_bytes(), "{printed}");
+    }
+    Ok(())
+}
+
+#[test]
+fn a_text_is_utf8(rt: HostRuntime) -> Result<(), Fail> {
+    let mut folder = Folder::of(rt.alloc(), "", b".method f r 0 0\nexit ; \xff\n")?;
+    let ended = assemble(rt.alloc(), &mut folder)?;
+    assert!(rt; ended.status == 1 && folder.writes == 0);
+    assert!(rt; ended.printed.as_slice() == "cannot read\n".as_bytes());
+    Ok(())
+}
+
+/// The file of the image may be that of the text.
+#[test]
+fn out_may_be_in(rt: HostRuntime) -> Result<(), Fail> {
+    let mut folder = Folder::of(rt.alloc(), "", LOOSE_TEXT.as_bytes())?;
+    let ended = run_on(rt.alloc(), &["asm", "text", "text"], &mut folder)?;
+    assert!(rt; ended.status == 0 && folder.writes == 1);
+    assert!(rt; folder.text == bytes_of(rt.alloc(), LOOSE)?);
+    Ok(())
+}

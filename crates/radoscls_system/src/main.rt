@@ -1,0 +1,82 @@
+//! Runs `radoscls` on the files, words and streams of the system, in a folder of its own: what no contract can say of
+//! them. Each line tells what was seen.
+#![tactic(auto)]
+
+use class_tool::{Files, Reads, SystemFiles};
+use radoscls_program::{program, start};
+use std::alloc::Global;
+use std::io;
+use std::process::ExitCode;
+use std::rt::Files as Granted;
+
+/// How many bytes the long file has.
+const LONG: usize = 5_000;
+
+/// Words behind the program's name.
+static CALLS: [&[&str]; 12] = [
+    // each status
+    &["radoscls", "verify", "keep.img"],
+    &["radoscls", "verify", "missing.img"],
+    &["radoscls", "erase", "keep.img"],
+    // a folder, and a text that isn't UTF-8
+    &["radoscls", "verify", "."],
+    &["radoscls", "asm", "not_text.txt", "out.img"],
+    &["radoscls", "dis", "out.img"],
+    // an image that is written and read
+    &["radoscls", "asm", "keep.txt", "out.img"],
+    &["radoscls", "dis", "out.img"],
+    // a file that can't be written
+    &["radoscls", "asm", "keep.txt", "."],
+    // a call's input and caller
+    &["radoscls", "run", "keep.img", "keep", "--input", "726f6f74", "--caller", "4294967295"],
+    &["radoscls", "run", "keep.img", "keep", "--caller=7", "--input=7A"],
+    &["radoscls", "run", "keep.img", "keep", "--caller", "0"],
+];
+
+/// Writes so many bytes to a file, and tells whether just these are read.
+fn keeps<F: Files>(alloc: Global, files: &mut F, count: usize) -> io::Result<bool> {
+    let mut bytes = Vec::new(alloc);
+    for i in 0..count {
+        bytes.push((i % 251) as u8)?;
+    }
+    files.write("made", &bytes)?;
+    let whole = files.read(alloc, "made")?;
+    let first = files.read_first(alloc, "made", 3)?;
+    Ok(whole == bytes && first.as_slice() == &bytes[..bytes.len().min(3)])
+}
+
+/// Tells of a long file and of the short one that takes its place.
+fn tell_of_files<R: Granted + AllocGlobal + Print>(rt: &R) -> io::Result<()> {
+    let mut files = SystemFiles::new(rt);
+    for count in [LONG, 2, 0] {
+        let kept = keeps(rt.alloc(), &mut files, count)?;
+        println!(rt; "{count} bytes: {kept}")?;
+    }
+    let missing = files.read(rt.alloc(), "missing").is_err();
+    let folder = files.read_first(rt.alloc(), ".", 1).is_err();
+    println!(rt; "missing: {missing}, folder: {folder}")
+}
+
+/// Runs the program on each of the words, and tells the status.
+fn tell_of_calls<R: Granted + AllocGlobal + Print, O: io::Write>(
+    rt: &R,
+    out: &mut O,
+) -> io::Result<()> {
+    for words in CALLS {
+        let mut files = SystemFiles::new(rt);
+        let mut err = Vec::new(rt.alloc());
+        let status = program(rt.alloc(), words, &mut files, out, &mut err);
+        let explained = !err.is_empty();
+        println!(rt; "status {status}, explained: {explained}")?;
+    }
+    Ok(())
+}
+
+fn main(rt: HostRuntime) -> ExitCode {
+    let mut out = rt.stdout();
+    if tell_of_files(&rt).is_err() || tell_of_calls(&rt, &mut out).is_err() {
+        return ExitCode::from(3);
+    }
+    // The words that the process was started with: a refused call.
+    start(&rt, &mut out, &mut rt.stderr())
+}
