@@ -1,5 +1,5 @@
 ghost use Rattle.std.specs.Prelude.{◌≡◌};
-ghost use Rattle.verifier.specs.RuleNumber.{rule_number};
+ghost use Rattle.verifier.specs.RuleNumber.{rule_number, rule_name};
 
 use std::fmt;
 
@@ -50,7 +50,8 @@ impl Rule {
 
     /// The table of rules: number and name.
     fn row(self) -> (u8, &'static str)
-        ensures { result.0 ≡ rule_number self }
+        ensures number { result.0 ≡ rule_number self }
+        ensures name { result.1.now ≡ rule_name self }
     {
         match self {
             Rule::Backward => (1, "Backward"),
@@ -74,6 +75,11 @@ impl Rule {
 }
 
 impl fmt::Display for Rule {
+    ghost use Rattle.std.specs.Prelude.{Some};
+    ghost use Rattle.verifier.specs.RuleNumber.{rule_text};
+
+    ghost output = { λ r. Some (rule_text r) };
+
     fn fmt<W: fmt::Write>(&self, f: &mut fmt::Formatter<W>) -> fmt::Result {
         let (number, name) = self.row();
         write!(f, "{number} {name}")
