@@ -84,7 +84,7 @@ ends_always m ok clear object caller input call =
 
 pub accept : EndsAlwaysIsSafe → (m : ClassMethod) → IsMethod m → method_verdict m ≡ None → IsVerified m
 accept law m ok clear =
-    let ends = ends_always m ok clear in record { method = ok; safe = law m ok.fit ends; ends = ends }
+    record { method = ok; safe = law m ok.fit (ends_always m ok clear) }
 
 -- the operations by slot are those of the instructions in a row
 by_slot_none : (n p : ℕ) (xs : List (Option Insn)) → ops_by_slot p (replicate n None ++ xs) ≡ replicate n Never ++ ops_by_slot (p + n) xs
@@ -141,7 +141,3 @@ accept_all law ms ok h = accept_from law ms 0 ok h
 pub all_safe : (ms : List ClassMethod) → AllByRecursion IsVerified ms → AllByRecursion IsSafe ms
 all_safe [] h = tt
 all_safe (m ∷ ms) h = (h.0.safe, all_safe ms h.1)
-
-pub all_end : (ms : List ClassMethod) → AllByRecursion IsVerified ms → AllByRecursion EndsAlways ms
-all_end [] h = tt
-all_end (m ∷ ms) h = (h.0.ends, all_end ms h.1)

@@ -22,7 +22,7 @@ use Rattle.verifier.specs.declared.frame.Frame.{Frame}
 use Rattle.verifier.specs.Frame.{kind_at, after_call, ObjectIsBytes, Holds}
 use Rattle.verifier.specs.Rules.{has_fault, some_fault, taken_fault, call_fault, writes_object}
 use Rattle.verifier.proofs.Numbers.{known_small, holds_upper, holds_any}
-use Rattle.verifier.proofs.Holding.{not_false, HoldsValue, read, num_is_set, ptr_is_set, numbered, drop_each}
+use Rattle.verifier.proofs.Holding.{not_false, HoldsValue, Read, read, num_is_set, ptr_is_set, numbered, drop_each}
 use Rattle.verifier.proofs.Bytes.{bytes_take, bytes_drop, bytes_put, bytes_spliced}
 use Rattle.verifier.proofs.Passed.{neither}
 
@@ -105,36 +105,62 @@ bytes_of m None n h small = (tt, omega arith)
 bytes_of m (Some p) n h small = (bytes_take n _ (bytes_drop p.1 (cells m p.0) (h p.0)), simp length-take (omega arith))
 
 module _ (caps : Caps) (f : Frame) (s : Typed) (h : Holds f s) where
+  number_gets : (more : List Argument) (k : ℕ) → Counted f s k → Gets caps s more (k + 1) → Gets caps s (Number ∷ more) k
+  number_gets more k n g = record {
+    given = with_number n.n g.given;
+    is = one_more _ _ _ _ n.there (one_more _ _ _ _ n.is (one_more _ _ _ _ g.is refl));
+    room = g.room;
+    texts = g.texts;
+  }
+
+  length_gets : (more : List Argument) (k : ℕ) (n : Counted f s k) → nat_le n.n caps.out_cap ≡ true → Gets caps s more (k + 1) → Gets caps s (OutputLength ∷ more) k
+  length_gets more k n le g = record {
+    given = with_number n.n g.given;
+    is = one_more _ _ _ _ n.there (one_more _ _ _ _ n.is (cond-true _ _ _ le ∙ one_more _ _ _ _ g.is refl));
+    room = g.room;
+    texts = g.texts;
+  }
+
+  readable_gets : (more : List Argument) (k : ℕ) (v : Read f s k) (n : Counted f s (k + 1)) (p : Option (Region × ℕ)) → typed_range caps false v.value n.n ≡ Some p → Gets caps s more (k + 2) → Gets caps s (Readable ∷ more) k
+  readable_gets more k v n p e g = record {
+    given = with_text (bytes_in s.memory p n.n) g.given;
+    is = one_more _ _ _ _ v.there (one_more _ _ _ _ n.there (one_more _ _ _ _ n.is (one_more _ _ _ _ e (one_more _ _ _ _ g.is refl))));
+    room = g.room;
+    texts = (bytes_of s.memory p n.n h.memory n.small, g.texts);
+  }
+
+  writable_gets : (more : List Argument) (k : ℕ) (v : Read f s k) (n : Counted f s (k + 1)) (p : Option (Region × ℕ)) → typed_range caps true v.value n.n ≡ Some p → Gets caps s more (k + 2) → Gets caps s (Writable ∷ more) k
+  writable_gets more k v n p e g = record {
+    given = with_room n.n p g.given;
+    is = one_more _ _ _ _ v.there (one_more _ _ _ _ n.there (one_more _ _ _ _ n.is (one_more _ _ _ _ e (one_more _ _ _ _ g.is refl))));
+    room = n.small;
+    texts = g.texts;
+  }
+
+  -- a pointer and a length whose range may be read, or written
+  range_of : (writes : Bool) (k : ℕ) (v : Read f s k) (n : Counted f s (k + 1)) → is_ptr (kind_at f k) ≡ true → is_num (kind_at f (k + 1)) ≡ true → range_leaves caps (kind_at f k) (kind_at f (k + 1)) ≡ false → (writes ≡ true → range_is_read_only (kind_at f k) (kind_at f (k + 1)) ≡ false) → (p : Option (Region × ℕ)) × (typed_range caps writes v.value n.n ≡ Some p)
+  range_of writes k v n pointer count stays writable = ranged caps writes (kind_at f k) (kind_at f (k + 1)) v.value n.value n.n v.holds n.holds n.is pointer count stays writable
+
   gets : (arguments : List Argument) (k : ℕ) → some_fault caps f OutOfRegion arguments k ≡ false → some_fault caps f ReadOnly arguments k ≡ false → some_fault caps f WrongKind arguments k ≡ false → Gets caps s arguments k
   gets [] k a b c = record { given = nothing_given s.caller; is = refl; room = omega arith; texts = tt }
   gets (Number ∷ more) k a b c =
       let two = neither (has_fault caps f WrongKind Number k) (some_fault caps f WrongKind more (k + 1)) c in
-      let n = counted f s k h (not_false _ two.0) in
-      let g = gets more (k + 1) a b two.1 in
-      record { given = with_number n.n g.given; is = one_more _ _ _ _ n.there (one_more _ _ _ _ n.is (one_more _ _ _ _ g.is refl)); room = g.room; texts = g.texts }
+      number_gets more k (counted f s k h (not_false _ two.0)) (gets more (k + 1) a b two.1)
   gets (OutputLength ∷ more) k a b c =
       let two = neither (has_fault caps f WrongKind OutputLength k) (some_fault caps f WrongKind more (k + 1)) c in
       let most = not_false _ two.0 in
-      let n = counted f s k h (at_most_is_num _ _ most) in
-      let g = gets more (k + 1) a b two.1 in
-      let le = below_cap _ _ n.n caps.out_cap n.holds n.is most in
-      record { given = with_number n.n g.given; is = one_more _ _ _ _ n.there (one_more _ _ _ _ n.is (cond-true _ _ _ le ∙ one_more _ _ _ _ g.is refl)); room = g.room; texts = g.texts }
+      let n = counted f s k h (at_most_is_num caps.out_cap (kind_at f k) most) in
+      length_gets more k n (below_cap (kind_at f k) n.value n.n caps.out_cap n.holds n.is most) (gets more (k + 1) a b two.1)
   gets (Readable ∷ more) k a b c =
       let a1 = neither (has_fault caps f OutOfRegion Readable k) (some_fault caps f OutOfRegion more (k + 2)) a in
       let c1 = neither (has_fault caps f WrongKind Readable k) (some_fault caps f WrongKind more (k + 2)) c in
       let c2 = neither (not (is_ptr (kind_at f k))) (not (is_num (kind_at f (k + 1)))) c1.0 in
       let pointer = not_false _ c2.0 in
       let count = not_false _ c2.1 in
-      let v = read f s k h (ptr_is_set _ pointer) in
+      let v = read f s k h (ptr_is_set (kind_at f k) pointer) in
       let n = counted f s (k + 1) h count in
-      let p = ranged caps false _ _ v.value n.value n.n v.holds n.holds n.is pointer count a1.0 (λ e. absurd (false≢true e)) in
-      let g = gets more (k + 2) a1.1 b c1.1 in
-      record {
-        given = with_text (bytes_in s.memory p.0 n.n) g.given;
-        is = one_more _ _ _ _ v.there (one_more _ _ _ _ n.there (one_more _ _ _ _ n.is (one_more _ _ _ _ p.1 (one_more _ _ _ _ g.is refl))));
-        room = g.room;
-        texts = (bytes_of s.memory p.0 n.n h.memory n.small, g.texts);
-      }
+      let p = range_of false k v n pointer count a1.0 (λ e. absurd (false≢true e)) in
+      readable_gets more k v n p.0 p.1 (gets more (k + 2) a1.1 b c1.1)
   gets (Writable ∷ more) k a b c =
       let a1 = neither (has_fault caps f OutOfRegion Writable k) (some_fault caps f OutOfRegion more (k + 2)) a in
       let b1 = neither (has_fault caps f ReadOnly Writable k) (some_fault caps f ReadOnly more (k + 2)) b in
@@ -142,16 +168,10 @@ module _ (caps : Caps) (f : Frame) (s : Typed) (h : Holds f s) where
       let c2 = neither (not (is_ptr (kind_at f k))) (not (is_num (kind_at f (k + 1)))) c1.0 in
       let pointer = not_false _ c2.0 in
       let count = not_false _ c2.1 in
-      let v = read f s k h (ptr_is_set _ pointer) in
+      let v = read f s k h (ptr_is_set (kind_at f k) pointer) in
       let n = counted f s (k + 1) h count in
-      let p = ranged caps true _ _ v.value n.value n.n v.holds n.holds n.is pointer count a1.0 (λ e. b1.0) in
-      let g = gets more (k + 2) a1.1 b1.1 c1.1 in
-      record {
-        given = with_room n.n p.0 g.given;
-        is = one_more _ _ _ _ v.there (one_more _ _ _ _ n.there (one_more _ _ _ _ n.is (one_more _ _ _ _ p.1 (one_more _ _ _ _ g.is refl))));
-        room = n.small;
-        texts = g.texts;
-      }
+      let p = range_of true k v n pointer count a1.0 (λ e. b1.0) in
+      writable_gets more k v n p.0 p.1 (gets more (k + 2) a1.1 b1.1 c1.1)
 
 -- what a helper leaves
 record Left (e : Effect) : Type 0 where

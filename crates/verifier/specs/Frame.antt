@@ -1,5 +1,5 @@
 -- Frames: what is known of the eleven registers before an instruction, and where it goes on with which frame.
-use Rattle.std.specs.Prelude.{ℕ, ℤ, ◌+◌, ◌%◌, ◌^◌, List, [], ◌∷◌, Option, Some, None, slice_get, slice_set, drop}
+use Rattle.std.specs.Prelude.{ℕ, ℤ, ◌+◌, List, [], ◌∷◌, Option, Some, None, slice_get, slice_set, drop}
 use Rattle.bpf_decode.specs.declared.insn.Operand.{Operand}
 use Rattle.bpf_decode.specs.declared.insn.Operand.TheVariants.{Immediate, Register}
 use Rattle.bpf_decode.specs.declared.insn.Insn.{Insn}
@@ -8,6 +8,7 @@ use Rattle.bpf_machine.specs.declared.region.Region.{Region}
 use Rattle.bpf_machine.specs.declared.region.Region.TheVariants.{Input, Output, Stack}
 use Rattle.bpf_machine.specs.declared.value.Value.{Value}
 use Rattle.bpf_machine.specs.declared.caps.Caps.{Caps}
+use Rattle.bpf_machine.specs.Jump.{jump_target}
 use Rattle.bpf_machine.specs.Object.{Object, AreBytes}
 use Rattle.bpf_machine.specs.State.{cells, size}
 use Rattle.bpf_machine.specs.Typed.{Typed, extended}
@@ -54,7 +55,7 @@ operand_kind f (Register r) = kind_at f r
 
 -- where a jump at slot p goes: its offset counts from the slot after it (RFC 9669 section 4.3)
 abbrev pub target : ℕ → ℤ → ℕ
-target p offset = (p + 1 + extended offset) % 2 ^ 64
+target p offset = jump_target p (extended offset)
 
 -- The flow: where an instruction at slot p that no rule refuses goes on, and the frame along each edge.
 abbrev pub flow : Insn → ℕ → Frame → List (ℕ × Frame)

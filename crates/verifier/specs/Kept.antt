@@ -1,4 +1,4 @@
--- The frames that are kept, out of their boxes.
+-- A step of the code: the frames that are kept, out of their boxes.
 use Rattle.std.specs.Prelude.{List, [], ◌∷◌, Option, Some, None, Box}
 use Rattle.verifier.specs.declared.frame.Frame.{Frame}
 use Rattle.verifier.specs.Verdict.{Table}

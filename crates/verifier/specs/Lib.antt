@@ -1,11 +1,14 @@
-pub mod Op
-pub mod Verified
+-- To be believed: RuleNumber (numbers, names, texts), Known, Kind and Frame (what is known before an instruction, and
+-- the flow), Rules (which rule refuses what), Verdict (the table of frames, the verdict), Verified (what callers are
+-- told) and Op (what a run takes). The steps of the code, in private contracts alone: Pass, Kept, BySlot.
+pub mod RuleNumber
 pub mod Known
 pub mod Kind
 pub mod Frame
 pub mod Rules
 pub mod Verdict
+pub mod Verified
+pub mod Op
 pub mod Pass
 pub mod Kept
-pub mod RuleNumber
 pub mod BySlot

@@ -1,8 +1,8 @@
--- The numbers and names of the rules, and what a refusal prints.
+-- The rules by number and name, and how they and a refusal print.
 use Rattle.std.specs.Prelude.{ℕ, List, ◌++◌, codes}
 use Rattle.std.specs.Fmt.{decimal}
-use Rattle.verifier.specs.declared.rule.Rule.{Rule}
 use Rattle.verifier.specs.declared.refusal.Refusal.{Refusal}
+use Rattle.verifier.specs.declared.rule.Rule.{Rule}
 use Rattle.verifier.specs.declared.rule.Rule.TheVariants.{Backward, Target, FallsOff, LocalCall, UnsetRead, WritesR10, PointerArithmetic, PointerCompare, PointerStored, Bounds, ReadOnlyRegion, UnknownHelper, HelperArgument, WriteHelperInReader, ReturnsPointer, NoMemory}
 
 abbrev pub rule_number : Rule → ℕ
@@ -41,10 +41,11 @@ rule_name WriteHelperInReader = codes "WriteHelperInReader"
 rule_name ReturnsPointer = codes "ReturnsPointer"
 rule_name NoMemory = codes "NoMemory"
 
--- number, space and name, as `5 UnsetRead`
+-- a rule's text: number and name
 abbrev pub rule_text : Rule → List ℕ
 rule_text rule = decimal (rule_number rule) ++ codes " " ++ rule_name rule
 
--- `refused method 0 slot 0: 5 UnsetRead`
+-- a refusal's text: method, slot and rule
 abbrev pub refusal_text : Refusal → List ℕ
-refusal_text r = codes "refused method " ++ decimal r.method ++ codes " slot " ++ decimal r.slot ++ codes ": " ++ rule_text r.rule
+refusal_text r =
+    codes "refused method " ++ decimal r.method ++ codes " slot " ++ decimal r.slot ++ codes ": " ++ rule_text r.rule

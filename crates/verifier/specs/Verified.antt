@@ -1,15 +1,20 @@
--- What a verified method is, and the method of a name.
+-- What a verified method and a verified class are, and the method of a name.
 use Rattle.std.specs.Prelude.{ℕ, List, [], ◌∷◌, Option, Some, None, if◌then◌else◌}
 use Rattle.std.specs.Borrow.{Bor}
+use Rattle.std.specs.List.{AllByRecursion}
 use Rattle.std.specs.Str.{bytes_eq}
-use Rattle.bpf_decode.specs.Class.{ClassMethod, IsMethod}
-use Rattle.bpf_machine.specs.Safe.{IsSafe, EndsAlways}
+use Rattle.bpf_decode.specs.Class.{ClassMethod, IsMethod, IsClass}
+use Rattle.bpf_machine.specs.Safe.{IsSafe}
 
--- a method within the limits that is safe, as the flat machine and as the typed machine have it
+-- a method within the limits that is safe
 pub record IsVerified (m : ClassMethod) : Type 0 where
   pub method : IsMethod m
   pub safe : IsSafe m
-  pub ends : EndsAlways m
+
+-- a class each of whose methods is safe
+pub record IsVerifiedClass (ms : List ClassMethod) : Type 0 where
+  pub class : IsClass ms
+  pub safe : AllByRecursion IsSafe ms
 
 -- the method of a name, where a class has one
 abbrev pub method_named : List ClassMethod → List ℕ → Option ClassMethod

@@ -1,6 +1,6 @@
 ghost use Rattle.std.specs.Prelude.{◌≡◌, ◌⊎◌, IfOk, IfErr, Some, None};
 ghost use Rattle.std.specs.List.{AllByRecursion};
-ghost use Rattle.bpf_machine.specs.Safe.{IsSafe, EndsAlways};
+ghost use Rattle.bpf_machine.specs.Safe.{IsSafe};
 ghost use Rattle.verifier.specs.Verdict.{class_verdict, out_of_memory, IsDeserved};
 
 use crate::method::verify_method;
@@ -17,7 +17,6 @@ pub fn verify(alloc: Global, image: &ClassImage) -> Result<VerifiedClass, Refusa
     ensures value { IfOk result (λ v. v ≡ image.now) }
     // Accepted means safe: never stuck, in every layout of the regions.
     ensures safe { IfOk result (λ _. AllByRecursion IsSafe image.now) }
-    ensures ends { IfOk result (λ _. AllByRecursion EndsAlways image.now) }
     ensures accepted { IfOk result (λ _. class_verdict image.now ≡ None) }
     // The refusal is the verdict, and its rule refuses the instruction at its slot.
     ensures refused { IfErr result (λ r. (r ≡ out_of_memory) ⊎ (class_verdict image.now ≡ Some r)) }

@@ -3,11 +3,11 @@ ghost use Rattle.bpf_decode.specs.Instruction.{slot_count};
 ghost use Rattle.verifier.specs.Frame.{operand_kind, kind_at, with_kind, join, entry_frame, after_call, flow};
 ghost use Rattle.verifier.specs.Pass.{with_frame};
 
-use crate::edges::{Edges, jump_target};
+use crate::edges::Edges;
 use crate::kind::Kind;
 use crate::known::Known;
 use bpf_decode::{Insn, Operand, Register};
-use bpf_machine::{Caps, Region};
+use bpf_machine::{Caps, Region, jump_target};
 
 /// What is known before an instruction: the kinds of the eleven registers.
 #[derive(Clone, Copy, Debug)]

@@ -3,12 +3,12 @@ ghost use Rattle.verifier.specs.Verdict.{out_of_memory};
 
 use crate::rule::Rule;
 use std::alloc::{AllocError, AllocFailed};
-use std::error::Error;
 use std::fmt;
+use thiserror::Error;
 
 /// Why a class is refused: the first method with a refusal, its lowest refused slot, and there the lowest rule.
-/// Methods and slots count from 0; where memory was refused both are 0.
-#[derive(Clone, Copy, Debug, PartialEq, Eq)]
+/// Methods and slots count from 0; where memory was refused both are 0. It prints as `refused method 0 slot 0: 5 UnsetRead`.
+#[derive(Clone, Copy, Debug, PartialEq, Eq, Error)]
 pub struct Refusal {
     pub method: usize,
     pub slot: usize,
@@ -26,8 +26,6 @@ impl fmt::Display for Refusal {
         write!(f, "refused method {method} slot {slot}: {rule}")
     }
 }
-
-impl Error for Refusal {}
 
 impl From<AllocError> for Refusal {
     ghost from_gives = { λ _ e. e ≡ out_of_memory };

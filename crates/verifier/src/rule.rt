@@ -1,5 +1,5 @@
 ghost use Rattle.std.specs.Prelude.{◌≡◌};
-ghost use Rattle.verifier.specs.RuleNumber.{rule_name, rule_number};
+ghost use Rattle.verifier.specs.RuleNumber.{rule_number, rule_name};
 
 use std::fmt;
 
@@ -78,7 +78,7 @@ impl fmt::Display for Rule {
     ghost use Rattle.std.specs.Prelude.{Some};
     ghost use Rattle.verifier.specs.RuleNumber.{rule_text};
 
-    ghost output = { λ rule. Some (rule_text rule) };
+    ghost output = { λ r. Some (rule_text r) };
 
     fn fmt<W: fmt::Write>(&self, f: &mut fmt::Formatter<W>) -> fmt::Result {
         let (number, name) = self.row();

@@ -4,13 +4,12 @@ ghost use Rattle.verifier.specs.Kind.{is_unset, is_ptr, access_fits};
 ghost use Rattle.verifier.specs.Frame.{kind_at};
 ghost use Rattle.bpf_machine.specs.Typed.{extended};
 
-use crate::edges::jump_target;
 use crate::fault::Fault;
 use crate::frame::Frame;
 use crate::kind::Kind;
 use crate::rule::Rule;
 use bpf_decode::{Insn, Operand, Register, width};
-use bpf_machine::{Caps, signature};
+use bpf_machine::{Caps, jump_target, signature};
 
 /// The lowest rule that refuses the instruction at a slot; rules 5 to 15 under a frame alone.
 pub fn refusing_rule(

@@ -1,12 +1,13 @@
-use Rattle.std.proofs.Common.{◌≡◌, ◌≤◌, ap, ◌∙◌, sym, arith, length, ◌⊎◌, IfErr, Some, List, Result, Ok, Err, inl, inr, ⊎_elim}
+use Rattle.std.proofs.Common.{◌≡◌, ◌≤◌, ap, ◌∙◌, sym, subst, arith, length, ◌⊎◌, IfErr, Some, List, Result, Ok, Err, inl, inr, ⊎_elim}
 use Rattle.std.proofs.lemmas.Grind.{common_steps}
-use Rattle.std.proofs.lemmas.List.{drop_all}
+use Rattle.std.proofs.lemmas.List.{drop_all, take_all}
 use Rattle.std.specs.List.{AllByRecursion}
 use Rattle.bpf_decode.specs.Class.{ClassMethod, IsMethod}
+use Rattle.bpf_machine.specs.Safe.{IsSafe}
 use Rattle.verifier.specs.declared.refusal.Refusal.{Refusal}
 use Rattle.verifier.specs.Verdict.{verdict_from, class_verdict, out_of_memory, IsDeserved}
 use Rattle.verifier.proofs.Verdicts.{deserved}
-use Rattle.verifier.proofs.Accepts.{accept_all, all_safe, all_end}
+use Rattle.verifier.proofs.Accepts.{accept_all, all_safe}
 use Rattle.verifier.proofs.class.verify.Goals as goal
 
 deserved_if : {A : Type 0} (ms : List ClassMethod) (r : Result A Refusal) → IfErr r (λ r. (r ≡ out_of_memory) ⊎ (class_verdict ms ≡ Some r)) → IfErr r (λ r. (r ≡ out_of_memory) ⊎ IsDeserved ms r)
@@ -25,9 +26,10 @@ returns-clause-safe c =
     let methods : AllByRecursion IsMethod c.args.image.now = c.methods-method-items.ensures.class.methods in
     all_safe c.args.image.now (accept_all c.simulation.ensures.safe c.args.image.now methods clear)
 
-pub returns-clause-ends : goal.returns-clause-ends
-returns-clause-ends c =
+pub new-requires-clause-safe : goal.new-requires-clause-safe
+new-requires-clause-safe c =
     let past : length c.args.image.now ≤ c.loop-number.number = omega (arith, ap length c.methods-method-items.ensures.methods) in
     let clear = sym c.loop-number.invariant.rest ∙ ap (verdict_from c.loop-number.number) (drop_all c.loop-number.number c.args.image.now past) in
     let methods : AllByRecursion IsMethod c.args.image.now = c.methods-method-items.ensures.class.methods in
-    all_end c.args.image.now (accept_all c.simulation.ensures.safe c.args.image.now methods clear)
+    let all = c.loop-number.invariant.sofar ∙ take_all c.loop-number.number c.args.image.now past in
+    subst (AllByRecursion IsSafe) (sym all) (all_safe c.args.image.now (accept_all c.simulation.ensures.safe c.args.image.now methods clear))
