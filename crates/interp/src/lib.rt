@@ -1,6 +1,7 @@
 //! Calls of verified methods: `call` gives the machine's outcome, and the table of loaded classes.
 #![tactic(auto)]
 
+mod act;
 mod calls;
 mod change;
 mod class_table;
@@ -10,6 +11,7 @@ mod memory;
 mod object;
 mod object_name;
 mod outcome;
+mod registers;
 mod run;
 mod step;
 

@@ -1,3 +1,4 @@
+pub mod Source
 pub mod Op
 pub mod Verified
 pub mod Known
@@ -8,4 +9,3 @@ pub mod Verdict
 pub mod Pass
 pub mod Kept
 pub mod RuleNumber
-pub mod BySlot
