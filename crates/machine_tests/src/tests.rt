@@ -31,13 +31,7 @@ fn put(code: &mut Vec<u8>, slots: &[[u8; 8]]) -> Result<(), Fail> {
 fn class_of(alloc: Global, code: &[u8]) -> Result<VerifiedClass, Fail> {
     let name = String::from_str(alloc, "f")?;
     let mut methods = Vec::new(alloc);
-    methods.push(Method::new(
-        name,
-        3,
-        CAPS.in_cap,
-        CAPS.out_cap,
-        decode(alloc, code)?,
-    ))?;
+    methods.push(Method::new(name, 3, CAPS.in_cap, CAPS.out_cap, decode(alloc, code)?))?;
     Ok(verify(alloc, &ClassImage::new(methods)?)?)
 }
 
@@ -92,9 +86,11 @@ fn agrees(
                 None => None,
                 Some(bytes) => Some(bytes.as_slice()),
             };
-            Ok((outcome.code, outcome.steps) == (code.cast_signed(), steps)
-                && outcome.output.as_slice() == output.as_slice()
-                && changes(&outcome.change, object, after))
+            Ok(
+                (outcome.code, outcome.steps) == (code.cast_signed(), steps)
+                    && outcome.output.as_slice() == output.as_slice()
+                    && changes(&outcome.change, object, after),
+            )
         }
         Ending::Stuck | Ending::Unfinished => Ok(false),
     }

@@ -40,7 +40,10 @@ fn begins(bytes: &[u8], first: u8, count: usize, then: u8) -> bool {
 #[test]
 fn a_call_has_all_output(rt: HostRuntime) -> Result<(), Fail> {
     let outcome = longest(rt.alloc(), &None)?;
-    assert_eq!(rt; (outcome.code, outcome.steps, outcome.output.len()), (4096, 11, 4096));
+    assert_eq!(rt;
+        (outcome.code, outcome.steps, outcome.output.len()),
+        (4096, 11, 4096)
+    );
     assert!(rt; begins(&outcome.output, 0, 4095, 0x5a));
     Ok(())
 }

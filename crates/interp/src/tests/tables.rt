@@ -30,7 +30,10 @@ fn objects(rt: HostRuntime) -> Result<(), Fail> {
     let object = Object::new(Vec::from_slice(rt.alloc(), b"abc")?).ok_or("short")?;
     assert_eq!(rt; (object.bytes(), object.len()), (b"abc".as_slice(), 3));
     assert!(rt; !object.is_empty());
-    assert_eq!(rt; object.copy(rt.alloc())?.into_bytes().as_slice(), b"abc".as_slice());
+    assert_eq!(rt;
+        object.copy(rt.alloc())?.into_bytes().as_slice(),
+        b"abc".as_slice()
+    );
     Ok(())
 }
 
@@ -80,7 +83,10 @@ fn call_errors(rt: HostRuntime) -> Result<(), Fail> {
         (CallError::InputTooLong, 2, "2 InputTooLong"),
         (CallError::NoMemory, 3, "3 NoMemory"),
     ] {
-        assert_eq!(rt; (error.number(), format!(in rt.alloc(); "{error}")?.as_str()), (number, text));
+        assert_eq!(rt;
+            (error.number(), format!(in rt.alloc(); "{error}")?.as_str()),
+            (number, text)
+        );
     }
     Ok(())
 }
@@ -91,7 +97,10 @@ fn table_errors(rt: HostRuntime) -> Result<(), Fail> {
         (TableError::TooMany, 1, "1 TooMany"),
         (TableError::NoMemory, 2, "2 NoMemory"),
     ] {
-        assert_eq!(rt; (error.number(), format!(in rt.alloc(); "{error}")?.as_str()), (number, text));
+        assert_eq!(rt;
+            (error.number(), format!(in rt.alloc(); "{error}")?.as_str()),
+            (number, text)
+        );
     }
     Ok(())
 }
@@ -102,7 +111,10 @@ fn store_errors(rt: HostRuntime) -> Result<(), Fail> {
         (StoreError::Range, 6, "6 Range"),
         (StoreError::NoMemory, 7, "7 NoMemory"),
     ] {
-        assert_eq!(rt; (error.number(), format!(in rt.alloc(); "{error}")?.as_str()), (number, text));
+        assert_eq!(rt;
+            (error.number(), format!(in rt.alloc(); "{error}")?.as_str()),
+            (number, text)
+        );
     }
     Ok(())
 }

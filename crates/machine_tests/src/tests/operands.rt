@@ -115,7 +115,10 @@ fn calls_are_plain_runs(rt: HostRuntime) -> Result<(), Fail> {
                     count,
                     code,
                 };
-                assert!(rt; agrees_beside_all(rt.alloc(), choice)?, "{at} {number} {place}");
+                assert!(rt;
+                    agrees_beside_all(rt.alloc(), choice)?,
+                    "{at} {number} {place}"
+                );
             }
         }
     }

@@ -106,8 +106,8 @@ fn keeps_what_is_declared(rt: HostRuntime) -> Result<(), Fail> {
 /// Which of the method's four slots holds that operation, from 1 on.
 fn place_of(op: Op) -> usize {
     match op {
-        Op::Jump(distance) if distance.slots == 0 => 1,
-        Op::LoadWide(dst, 7) if dst.number() == 0 => 2,
+        Op::Jump(_) => 1,
+        Op::LoadWide(_, 7) => 2,
         Op::Nothing => 3,
         Op::Exit => 4,
         _ => 0,
