@@ -1,6 +1,4 @@
-ghost use Rattle.std.specs.Prelude.{◌≡◌, ◌==◌, ◌≤◌, ◌++◌, ◌∷◌, ◌↔◌, [], IfOk, IfSome, OnErr, length, Err, slice_get};
-ghost use Rattle.std.specs.List.{AllByRecursion};
-ghost use Rattle.bpf_machine.specs.Safe.{IsSafe};
+ghost use Rattle.std.specs.Prelude.{◌≡◌, ◌==◌, ◌≤◌, ◌++◌, ◌∷◌, ◌↔◌, [], IfOk, OnErr, length, Err, slice_get};
 ghost use Rattle.interp.specs.Plain.{given_class};
 ghost use Rattle.interp.specs.Refusal.{table_error_number, table_error_name};
 
@@ -99,20 +97,12 @@ impl ClassTable {
         }
     }
 
-    /// The class of that id, if there is one; each of its methods is safe.
+    /// The class of that id, if there is one.
     pub fn get(&self, id: usize) -> Option<&VerifiedClass>
         ensures found { given_class result ≡ slice_get self.now id }
         ensures limit { length self.now ≤ CLASS_LIMIT }
-        ensures safe { IfSome result (λ c. AllByRecursion IsSafe c.now) }
     {
-        match self.classes.get(id) {
-            None => None,
-            Some(class) => {
-                // That its methods are safe; the call does nothing.
-                let _ = class.methods();
-                Some(class)
-            }
-        }
+        self.classes.get(id)
     }
 
     /// How many classes are loaded.
