@@ -62,6 +62,7 @@ pub struct ClassTable {
 impl Model for ClassTable {
     ghost use Rattle.std.specs.Prelude.{List, ◌≤◌, length};
     ghost use Rattle.bpf_decode.specs.Class.{ClassMethod};
+    ghost use Rattle.interp.specs.declared.limits.TheConstants.{CLASS_LIMIT};
 
     ghost Value = { List (List ClassMethod) };
 

@@ -59,6 +59,7 @@ pub struct ObjectName {
 
 impl Model for ObjectName {
     ghost use Rattle.std.specs.Prelude.{ℕ, List, ◌≤◌, length, string_bytes};
+    ghost use Rattle.interp.specs.declared.limits.TheConstants.{OBJECT_NAME_LIMIT};
 
     ghost Value = { List ℕ };
 
