@@ -1,10 +1,10 @@
 pub mod Options
 pub mod Regions
-pub mod Registers
+pub mod Agreement
 pub mod Access
 pub mod Splice
 pub mod Steps
 pub mod Effects
-pub mod Ops
+pub mod Bytes
 pub mod Runs
 pub mod Answered

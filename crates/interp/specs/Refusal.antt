@@ -1,4 +1,4 @@
--- The numbers of the refusals.
+-- The refusals by number and name, and how they print.
 use Rattle.std.specs.Prelude.{ℕ, List, ◌++◌, codes}
 use Rattle.std.specs.Fmt.{decimal}
 use Rattle.interp.specs.declared.calls.CallError.{CallError}
@@ -13,19 +13,33 @@ call_error_number calls.NoMethod = 1
 call_error_number calls.InputTooLong = 2
 call_error_number calls.NoMemory = 3
 
-abbrev pub table_error_number : TableError → ℕ
-table_error_number table.TooMany = 1
-table_error_number table.NoMemory = 2
-
-abbrev pub store_error_number : StoreError → ℕ
-store_error_number store.Range = 6
-store_error_number store.NoMemory = 7
-
 abbrev pub call_error_name : CallError → List ℕ
 call_error_name calls.NoMethod = codes "NoMethod"
 call_error_name calls.InputTooLong = codes "InputTooLong"
 call_error_name calls.NoMemory = codes "NoMemory"
 
--- number, space and name, as `1 NoMethod`
+abbrev pub table_error_number : TableError → ℕ
+table_error_number table.TooMany = 1
+table_error_number table.NoMemory = 2
+
+abbrev pub table_error_name : TableError → List ℕ
+table_error_name table.TooMany = codes "TooMany"
+table_error_name table.NoMemory = codes "NoMemory"
+
+abbrev pub store_error_number : StoreError → ℕ
+store_error_number store.Range = 6
+store_error_number store.NoMemory = 7
+
+abbrev pub store_error_name : StoreError → List ℕ
+store_error_name store.Range = codes "Range"
+store_error_name store.NoMemory = codes "NoMemory"
+
+-- number, space and name
 abbrev pub call_error_text : CallError → List ℕ
 call_error_text e = decimal (call_error_number e) ++ codes " " ++ call_error_name e
+
+abbrev pub table_error_text : TableError → List ℕ
+table_error_text e = decimal (table_error_number e) ++ codes " " ++ table_error_name e
+
+abbrev pub store_error_text : StoreError → List ℕ
+store_error_text e = decimal (store_error_number e) ++ codes " " ++ store_error_name e

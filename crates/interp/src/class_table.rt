@@ -1,17 +1,18 @@
 ghost use Rattle.std.specs.Prelude.{◌≡◌, ◌==◌, ◌≤◌, ◌++◌, ◌∷◌, ◌↔◌, [], IfOk, OnErr, length, Err, slice_get};
 ghost use Rattle.interp.specs.Plain.{given_class};
-ghost use Rattle.interp.specs.Refusal.{table_error_number};
+ghost use Rattle.interp.specs.Refusal.{table_error_number, table_error_name};
 
+use crate::limits::CLASS_LIMIT;
 use std::alloc::Global;
+use std::error::Error;
+use std::fmt;
 use std::marker::Model;
-use thiserror::Error;
 use verifier::VerifiedClass;
 
 /// Why a class can't be added.
-#[derive(Clone, Copy, Debug, PartialEq, Eq, Error)]
-#[error("{} {}", self.row().0, self.row().1)]
+#[derive(Clone, Copy, Debug, PartialEq, Eq)]
 pub enum TableError {
-    /// 64 classes are loaded.
+    /// `CLASS_LIMIT` classes are loaded.
     TooMany,
     /// Memory was refused.
     NoMemory,
@@ -20,7 +21,8 @@ pub enum TableError {
 impl TableError {
     /// The table of refusals: number and name.
     fn row(self) -> (u8, &'static str)
-        ensures { result.0 ≡ table_error_number self }
+        ensures number { result.0 ≡ table_error_number self }
+        ensures name { result.1.now ≡ table_error_name self }
     {
         match self {
             TableError::TooMany => (1, "TooMany"),
@@ -36,7 +38,22 @@ impl TableError {
     }
 }
 
-/// The loaded classes, at most 64, by ids from 0. Contracts see the list of them.
+impl fmt::Display for TableError {
+    ghost use Rattle.std.specs.Prelude.{Some};
+    ghost use Rattle.interp.specs.Refusal.{table_error_text};
+
+    ghost output = { λ e. Some (table_error_text e) };
+
+    /// Number and name, as `1 TooMany`.
+    fn fmt<W: fmt::Write>(&self, f: &mut fmt::Formatter<W>) -> fmt::Result {
+        let (number, name) = self.row();
+        write!(f, "{number} {name}")
+    }
+}
+
+impl Error for TableError {}
+
+/// The loaded classes, at most `CLASS_LIMIT`, by ids from 0. Contracts see the list of them.
 #[derive(Drop)]
 pub struct ClassTable {
     classes: Vec<VerifiedClass>,
@@ -45,18 +62,16 @@ pub struct ClassTable {
 impl Model for ClassTable {
     ghost use Rattle.std.specs.Prelude.{List, ◌≤◌, length};
     ghost use Rattle.bpf_decode.specs.Class.{ClassMethod};
+    ghost use Rattle.interp.specs.declared.limits.TheConstants.{CLASS_LIMIT};
 
     ghost Value = { List (List ClassMethod) };
 
     ghost view = { λ t. t.classes.items };
 
-    ghost invariant = { λ t. length t.classes.items ≤ 64 };
+    ghost invariant = { λ t. length t.classes.items ≤ CLASS_LIMIT };
 }
 
 impl ClassTable {
-    /// The most classes that a table has.
-    pub const LIMIT: usize = 64;
-
     /// A table without a class.
     pub fn new(alloc: Global) -> ClassTable
         ensures { result ≡ [] }
@@ -70,10 +85,10 @@ impl ClassTable {
     pub fn add(&mut self, class: VerifiedClass) -> Result<usize, TableError>
         ensures id { IfOk result (λ id. id ≡ length self.old) }
         ensures added { IfOk result (λ _. self.new ≡ self.old ++ class ∷ []) }
-        ensures too_many { (result ≡ Err TableError.TooMany) ↔ (length self.old ≡ 64) }
+        ensures too_many { (result ≡ Err TableError.TooMany) ↔ (length self.old ≡ CLASS_LIMIT) }
         ensures refused { OnErr result (self.new ≡ self.old) }
     {
-        if self.classes.len() == ClassTable::LIMIT {
+        if self.classes.len() == CLASS_LIMIT {
             return Err(TableError::TooMany);
         }
         let id = self.classes.len();
@@ -86,7 +101,7 @@ impl ClassTable {
     /// The class of that id, if there is one.
     pub fn get(&self, id: usize) -> Option<&VerifiedClass>
         ensures found { given_class result ≡ slice_get self.now id }
-        ensures limit { length self.now ≤ 64 }
+        ensures limit { length self.now ≤ CLASS_LIMIT }
     {
         self.classes.get(id)
     }
@@ -94,7 +109,7 @@ impl ClassTable {
     /// How many classes are loaded.
     pub fn len(&self) -> usize
         ensures value { result ≡ length self.now }
-        ensures limit { length self.now ≤ 64 }
+        ensures limit { length self.now ≤ CLASS_LIMIT }
     {
         self.classes.len()
     }

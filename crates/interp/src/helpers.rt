@@ -91,9 +91,9 @@ fn read(run: &mut Run, memory: &mut [u8], given: Option<&Object>)
     requires { CanDo run.old.caps (given_object given) run.old memory.old (help run.old.caps (first_layout run.old.caps) 2) }
     ensures { Does run.old.caps (given_object given.entry) run.old memory.old run.new memory.new (help run.old.caps (first_layout run.old.caps) 2) }
 {
-    let [_, at, room, n, ..] = run.registers;
+    let [at, room, n] = run.registers.arguments();
     let answer = read_object(run.object(given), at, memory, room, n);
-    run.registers[0] = answer;
+    run.registers.set_answer(answer);
 }
 
 /// The helper `write`: the r3 bytes at r2 into the object, from r1 on.
@@ -106,9 +106,9 @@ fn write(
     requires { CanDo run.old.caps (given_object given) run.old memory.now (help run.old.caps (first_layout run.old.caps) 3) }
     ensures { IfOk result (λ _. Does run.old.caps (given_object given.entry) run.old memory.now run.new memory.now (help run.old.caps (first_layout run.old.caps) 3)) }
 {
-    let [_, at, place, n, ..] = run.registers;
+    let [at, place, n] = run.registers.arguments();
     let answer = write_object(alloc, given, run, at, text_at(memory, place, n))?;
-    run.registers[0] = answer;
+    run.registers.set_answer(answer);
     Ok(())
 }
 
@@ -120,8 +120,9 @@ fn out_len(run: &mut Run, memory: &[u8], given: Option<&Object>)
     // The memory and the object stay as they are.
     let _ = memory;
     let _ = given;
-    run.out_len = run.registers[1] as usize;
-    run.registers[0] = 0;
+    let [len, _, _] = run.registers.arguments();
+    run.out_len = len as usize;
+    run.registers.set_answer(0);
 }
 
 /// A helper (RFC 9669 section 4.3.1). No register is unset after it: the machine leaves registers 1 to 5 unset.

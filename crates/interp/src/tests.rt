@@ -1,7 +1,6 @@
 mod calls;
-mod flat;
+mod limits;
 mod operations;
-mod rows;
 mod tables;
 
 use crate::{Change, Object, Outcome, call};
@@ -9,13 +8,6 @@ use bpf_decode::{ClassImage, Method, decode};
 use std::alloc::Global;
 use std::test::Fail;
 use verifier::{VerifiedClass, verify};
-
-/// One slot: opcode, source and destination register, offset and immediate.
-fn slot(opcode: u8, registers: u8, offset: i16, imm: i32) -> [u8; 8] {
-    let [o0, o1] = offset.to_le_bytes();
-    let [i0, i1, i2, i3] = imm.to_le_bytes();
-    [opcode, registers, o0, o1, i0, i1, i2, i3]
-}
 
 /// A class with one method `f` of that code.
 fn class_of(
@@ -28,26 +20,21 @@ fn class_of(
     let name = String::from_str(alloc, "f")?;
     let mut methods = Vec::new(alloc);
     methods.push(Method::new(name, flags, in_cap, out_cap, decode(alloc, code)?))?;
-    let image = ClassImage::new(methods)?;
-    Ok(verify(alloc, &image)?)
+    Ok(verify(alloc, &ClassImage::new(methods)?)?)
 }
 
 /// An object of those bytes, or none.
 fn object_of(alloc: Global, bytes: Option<&[u8]>) -> Result<Option<Object>, Fail> {
     match bytes {
         None => Ok(None),
-        Some(bytes) => {
-            let object = Object::new(Vec::from_slice(alloc, bytes)?).ok_or("a long object")?;
-            Ok(Some(object))
-        }
+        Some(bytes) => Ok(Object::new(Vec::from_slice(alloc, bytes)?)),
     }
 }
 
-fn same_object(object: &Option<Object>, bytes: Option<&[u8]>) -> bool {
-    match (object, bytes) {
-        (None, None) => true,
-        (Some(object), Some(bytes)) => object.bytes() == bytes,
-        _ => false,
+fn bytes_of(object: &Option<Object>) -> Option<&[u8]> {
+    match object {
+        None => None,
+        Some(object) => Some(object.bytes()),
     }
 }
 
@@ -58,7 +45,7 @@ fn changes(change: &Change, before: Option<&[u8]>, after: Option<&[u8]>, wrote: 
         Change::Changed {
             before: was,
             after: is,
-        } => wrote && same_object(was, before) && same_object(is, after),
+        } => wrote && bytes_of(was) == before && bytes_of(is) == after,
     }
 }
 

@@ -64,9 +64,9 @@ pub ran : OutcomesAreOne → (class : List ClassMethod) → IsClass class → (o
 unfolding outcome_of_method
 ran one class is object r o a =
     let m = method_named-is class r.method a.method is.methods a.named in
-    let same = one a.method (omega (arith, m.in_cap)) (omega (arith, m.out_cap)) object r.client r.input _ o.steps a.bounded a.runs in (
+    let same = one a.method (omega (arith, m.in_cap)) (omega (arith, m.out_cap)) object r.client r.input _ o.steps a.answers.bounded a.answers.runs in (
       unrefused-method (method_named class r.method) a.method r a.named a.short,
-      record { made = sym same ∙ ap (λ w. outcome_of_method w object r) (sym a.named); from_before = a.change },
+      record { made = sym same ∙ ap (λ w. outcome_of_method w object r) (sym a.named); from_before = a.answers.change },
     )
 
 pub more-outcome : (classes more : Classes) (objects : Objects) (r : ClientRequest) (code : ℤ) (output : List ℕ) (change : Change) → CanRun classes r →

@@ -10,11 +10,8 @@ use Rattle.bpf_decode.specs.Instruction.{slots, slot_count, slot_total}
 use Rattle.bpf_decode.specs.Class.{ClassMethod, IsMethod}
 use Rattle.bpf_machine.specs.Typed.{fetch, typed_entry}
 use Rattle.bpf_machine.specs.Safe.{caps_of, IsSafe, EndsAlways, EndsAlwaysIsSafe}
-use Rattle.verifier.specs.declared.op.Op.TheVariants.{Never}
 use Rattle.verifier.specs.declared.rule.Rule.{Rule}
 use Rattle.verifier.specs.declared.refusal.Refusal.{Refusal}
-use Rattle.verifier.specs.Op.{op_of, ops_from}
-use Rattle.verifier.specs.BySlot.{ops_by_slot}
 use Rattle.verifier.specs.Pass.{IsSpaced}
 use Rattle.verifier.specs.Verified.{IsVerified}
 use Rattle.verifier.specs.Verdict.{method_verdict, or_later, verdict_from, class_verdict}
@@ -85,38 +82,6 @@ ends_always m ok clear object caller input call =
 pub accept : EndsAlwaysIsSafe → (m : ClassMethod) → IsMethod m → method_verdict m ≡ None → IsVerified m
 accept law m ok clear =
     record { method = ok; safe = law m ok.fit (ends_always m ok clear) }
-
--- the operations by slot are those of the instructions in a row
-by_slot_none : (n p : ℕ) (xs : List (Option Insn)) → ops_by_slot p (replicate n None ++ xs) ≡ replicate n Never ++ ops_by_slot (p + n) xs
-by_slot_none zero p xs = let e : p ≡ p + zero = omega arith in ap (λ p. ops_by_slot p xs) e
-by_slot_none (suc n) p xs =
-    let e : p + 1 + n ≡ p + suc n = omega arith in
-    ap (λ t. Never ∷ t) (by_slot_none n (p + 1) xs ∙ ap (λ p. replicate n Never ++ ops_by_slot p xs) e)
-
-pub by_slot : (p : ℕ) (is : List Insn) → ops_by_slot p (slots is) ≡ ops_from p is
-by_slot p [] = refl
-by_slot p (i ∷ is) =
-    let e : p + 1 + (slot_count i - 1) ≡ p + slot_count i = whole p i in
-    ap (λ t. op_of p i ∷ t) (by_slot_none (slot_count i - 1) (p + 1) (slots is)
-    ∙ ap (λ q. replicate (slot_count i - 1) Never ++ ops_by_slot q (slots is)) e
-    ∙ ap (λ t. replicate (slot_count i - 1) Never ++ t) (by_slot (p + slot_count i) is))
-  where
-    whole : (p : ℕ) (i : Insn) → p + 1 + (slot_count i - 1) ≡ p + slot_count i
-    whole p (Alu bits operation dst source) = omega arith
-    whole p (Neg bits dst) = omega arith
-    whole p (Mov bits dst source) = omega arith
-    whole p (MovSigned extension dst src) = omega arith
-    whole p (End order width dst) = omega arith
-    whole p (LoadWide dst value) = omega arith
-    whole p (Load width dst from offset) = omega arith
-    whole p (LoadSigned width dst from offset) = omega arith
-    whole p (Store width to offset source) = omega arith
-    whole p (Jump offset) = omega arith
-    whole p (JumpLong distance) = omega arith
-    whole p (Branch bits comparison dst source offset) = omega arith
-    whole p (Call helper) = omega arith
-    whole p (CallLocal distance) = omega arith
-    whole p Exit = omega arith
 
 -- a fact of all elements, at one
 pub all_at : {A : Type 0} (P : A → Type 0) (xs : List A) (k : ℕ) (x : A) → AllByRecursion P xs → slice_get xs k ≡ Some x → P x

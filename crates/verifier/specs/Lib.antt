@@ -1,7 +1,8 @@
 -- To be believed: RuleNumber (numbers, names, texts), Known, Kind and Frame (what is known before an instruction, and
 -- the flow), Rules (which rule refuses what), Verdict (the table of frames, the verdict), Verified (what callers are
--- told) and Op (what a run takes). The steps of the code, in private contracts alone: Pass, Kept, BySlot.
+-- told), Op and Source (what a run takes). The steps of the code, in private contracts alone: Pass, Kept.
 pub mod RuleNumber
+pub mod Source
 pub mod Known
 pub mod Kind
 pub mod Frame
@@ -11,4 +12,3 @@ pub mod Verified
 pub mod Op
 pub mod Pass
 pub mod Kept
-pub mod BySlot

@@ -19,13 +19,17 @@ mod pass;
 mod refusal;
 mod rule;
 mod rules;
+mod slot_op;
+mod source;
 mod verified;
 
 pub use class::verify;
 pub use laws::one_table;
-pub use op::Op;
+pub use op::{Distance, Fork, Op, Place};
 pub use refusal::Refusal;
 pub use rule::Rule;
+pub use slot_op::SlotOp;
+pub use source::Source;
 pub use verified::{VerifiedClass, VerifiedMethod};
 
 #[cfg(test)]

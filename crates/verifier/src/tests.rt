@@ -3,7 +3,6 @@ mod branches;
 mod classes;
 mod longest;
 mod methods;
-mod ops;
 
 use crate::{Refusal, verify};
 use bpf_decode::{ClassImage, Method, decode};

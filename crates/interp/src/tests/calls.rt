@@ -269,18 +269,20 @@ fn answers(rt: HostRuntime) -> Result<(), Fail> {
     Ok(())
 }
 
+/// What a call of that method on that input is refused by.
+fn refusal(alloc: Global, method: &str, input: &[u8]) -> Result<Option<CallError>, Fail> {
+    let class = class_of(alloc, WRITES.code, 2, 3, 0)?;
+    Ok(call(alloc, &class, method, None, 7, input).err())
+}
+
 #[test]
 fn refuses(rt: HostRuntime) -> Result<(), Fail> {
-    let alloc = rt.alloc();
-    let class = class_of(alloc, WRITES.code, 2, 3, 0)?;
-    assert_eq!(rt;
-        call(alloc, &class, "g", None, 7, b"abcd").err(),
-        Some(CallError::NoMethod)
-    );
-    assert_eq!(rt;
-        call(alloc, &class, "f", None, 7, b"abcd").err(),
-        Some(CallError::InputTooLong)
-    );
-    assert_eq!(rt; call(alloc, &class, "f", None, 7, b"abc")?.code, 7);
+    for (method, input, refused) in [
+        ("g", b"abcd".as_slice(), Some(CallError::NoMethod)),
+        ("f", b"abcd".as_slice(), Some(CallError::InputTooLong)),
+        ("f", b"abc".as_slice(), None),
+    ] {
+        assert_eq!(rt; refusal(rt.alloc(), method, input)?, refused);
+    }
     Ok(())
 }

@@ -7,13 +7,11 @@ use std::test::Fail;
 
 const RETURNS_ZERO: [u8; 16] = [0xb7, 0, 0, 0, 0, 0, 0, 0, 0x95, 0, 0, 0, 0, 0, 0, 0];
 
-fn name_of(alloc: Global, len: usize) -> Result<Option<ObjectName>, Fail> {
-    let mut text = String::new(alloc);
-    for _ in 0..len {
-        text.push('n')?;
-    }
+/// How long a name of so many letters is, if that is one.
+fn length_of(alloc: Global, len: usize) -> Result<Option<usize>, Fail> {
+    let text = "n".repeat(alloc, len)?;
     match ObjectName::new(alloc, text.as_str()) {
-        Ok(name) => Ok(Some(name)),
+        Ok(name) => Ok(Some(name.text().len())),
         Err(StoreError::Range) => Ok(None),
         Err(error) => Err(error)?,
     }
@@ -21,78 +19,102 @@ fn name_of(alloc: Global, len: usize) -> Result<Option<ObjectName>, Fail> {
 
 #[test]
 fn names(rt: HostRuntime) -> Result<(), Fail> {
-    let alloc = rt.alloc();
-    for (len, is_name) in [(0, false), (1, true), (255, true), (256, false)] {
-        match name_of(alloc, len)? {
-            Some(name) => {
-                assert!(rt; is_name, "{len}");
-                assert_eq!(rt; name.text().len(), len);
-            }
-            None => assert!(rt; !is_name, "{len}"),
-        }
+    for (len, named) in [(0, None), (1, Some(1)), (255, Some(255)), (256, None)] {
+        assert_eq!(rt; length_of(rt.alloc(), len)?, named);
     }
     Ok(())
 }
 
 #[test]
 fn objects(rt: HostRuntime) -> Result<(), Fail> {
-    let alloc = rt.alloc();
-    let object = Object::new(Vec::from_slice(alloc, b"abc")?).ok_or("short")?;
-    assert_eq!(rt; object.bytes(), b"abc".as_slice());
-    assert_eq!(rt; object.len(), 3);
+    let object = Object::new(Vec::from_slice(rt.alloc(), b"abc")?).ok_or("short")?;
+    assert_eq!(rt; (object.bytes(), object.len()), (b"abc".as_slice(), 3));
     assert!(rt; !object.is_empty());
     assert_eq!(rt;
-        object.copy(alloc)?.into_bytes().as_slice(),
+        object.copy(rt.alloc())?.into_bytes().as_slice(),
         b"abc".as_slice()
     );
-    assert!(rt; Object::new(vec![in alloc; 0; Object::LIMIT]?).is_some());
-    assert!(rt; Object::new(vec![in alloc; 0; Object::LIMIT + 1]?).is_none());
     Ok(())
+}
+
+#[test]
+fn long_objects(rt: HostRuntime) -> Result<(), Fail> {
+    let most = Object::new(vec![in rt.alloc(); 7; Object::LIMIT]?).ok_or("the longest")?;
+    assert!(rt; most.copy(rt.alloc())?.bytes() == most.bytes());
+    assert!(rt; Object::new(vec![in rt.alloc(); 7; Object::LIMIT + 1]?).is_none());
+    Ok(())
+}
+
+/// A table of 64 classes, of which each has its id as in_cap.
+fn full(alloc: Global) -> Result<ClassTable, Fail> {
+    let mut table = ClassTable::new(alloc);
+    for id in 0..64 {
+        let _ = table.add(class_of(alloc, &RETURNS_ZERO, 1, id, 0)?)?;
+    }
+    Ok(table)
 }
 
 #[test]
 fn classes(rt: HostRuntime) -> Result<(), Fail> {
-    let alloc = rt.alloc();
-    let mut table = ClassTable::new(alloc);
-    assert!(rt; table.is_empty());
-    for id in 0..64 {
-        let class = class_of(alloc, &RETURNS_ZERO, 1, id, 0)?;
-        assert_eq!(rt; table.add(class)?, usize::from(id));
-    }
-    let class = class_of(alloc, &RETURNS_ZERO, 1, 64, 0)?;
+    let mut table = full(rt.alloc())?;
+    assert_eq!(rt; (table.len(), table.is_empty()), (64, false));
+    let class = class_of(rt.alloc(), &RETURNS_ZERO, 1, 64, 0)?;
     assert_eq!(rt; table.add(class).err(), Some(TableError::TooMany));
-    assert_eq!(rt; table.len(), 64);
-    let found = table.get(63).ok_or("no class 63")?;
-    let method = found.method("f").ok_or("no method f")?;
-    assert_eq!(rt; method.caps().in_cap, 63);
-    assert!(rt; table.get(64).is_none());
     Ok(())
 }
 
 #[test]
-fn numbers(rt: HostRuntime) -> Result<(), Fail> {
-    let alloc = rt.alloc();
+fn ids(rt: HostRuntime) -> Result<(), Fail> {
+    let mut table = ClassTable::new(rt.alloc());
+    for in_cap in [5, 6] {
+        let class = class_of(rt.alloc(), &RETURNS_ZERO, 1, in_cap, 0)?;
+        assert_eq!(rt; table.add(class)?, usize::from(in_cap).wrapping_sub(5));
+    }
+    let found = table.get(1).ok_or("no class 1")?;
+    assert_eq!(rt; found.method("f").ok_or("no method f")?.caps().in_cap, 6);
+    assert!(rt; table.get(2).is_none());
+    Ok(())
+}
+
+#[test]
+fn call_errors(rt: HostRuntime) -> Result<(), Fail> {
     for (error, number, text) in [
         (CallError::NoMethod, 1, "1 NoMethod"),
         (CallError::InputTooLong, 2, "2 InputTooLong"),
         (CallError::NoMemory, 3, "3 NoMemory"),
     ] {
-        assert_eq!(rt; error.number(), number);
-        assert_eq!(rt; format!(in alloc; "{error}")?.as_str(), text);
+        assert_eq!(rt;
+            (error.number(), format!(in rt.alloc(); "{error}")?.as_str()),
+            (number, text)
+        );
     }
+    Ok(())
+}
+
+#[test]
+fn table_errors(rt: HostRuntime) -> Result<(), Fail> {
     for (error, number, text) in [
         (TableError::TooMany, 1, "1 TooMany"),
         (TableError::NoMemory, 2, "2 NoMemory"),
     ] {
-        assert_eq!(rt; error.number(), number);
-        assert_eq!(rt; format!(in alloc; "{error}")?.as_str(), text);
+        assert_eq!(rt;
+            (error.number(), format!(in rt.alloc(); "{error}")?.as_str()),
+            (number, text)
+        );
     }
+    Ok(())
+}
+
+#[test]
+fn store_errors(rt: HostRuntime) -> Result<(), Fail> {
     for (error, number, text) in [
         (StoreError::Range, 6, "6 Range"),
         (StoreError::NoMemory, 7, "7 NoMemory"),
     ] {
-        assert_eq!(rt; error.number(), number);
-        assert_eq!(rt; format!(in alloc; "{error}")?.as_str(), text);
+        assert_eq!(rt;
+            (error.number(), format!(in rt.alloc(); "{error}")?.as_str()),
+            (number, text)
+        );
     }
     Ok(())
 }

@@ -1,7 +1,6 @@
-//! Calls beside the plain run of raw bytes, on programs with branches that together hold every row of the opcode table.
+//! Programs with branches that together hold every row of the opcode table.
 
-use super::flat::{agrees, put};
-use super::slot;
+use super::{agrees, put, slot};
 use bpf_machine::Layout;
 use std::alloc::Global;
 use std::test::Fail;

@@ -1,0 +1,77 @@
+//! A call at all limits at once: input and output of 4,096 bytes, and an object that is written to 65,536 bytes.
+
+use super::{bytes_of, call_f, class_of};
+use crate::{Change, Object, Outcome};
+use std::alloc::Global;
+use std::test::Fail;
+
+/// Copies the input's last byte to the output's last, writes the input to the object's last 4,096 bytes, and answers
+/// with all of the output.
+const LONGEST: [u8; 88] = [
+    0x71, 0x14, 0xff, 0x0f, 0, 0, 0, 0, // ldxb r4, [r1+4095]
+    0x73, 0x43, 0xff, 0x0f, 0, 0, 0, 0, // stxb [r3+4095], r4
+    0xbf, 0x12, 0, 0, 0, 0, 0, 0, // mov r2, r1
+    0xb7, 0x01, 0, 0, 0, 0xf0, 0, 0, // mov r1, 61440
+    0xb7, 0x03, 0, 0, 0, 0x10, 0, 0, // mov r3, 4096
+    0x85, 0x00, 0, 0, 3, 0, 0, 0, // call 3
+    0xbf, 0x06, 0, 0, 0, 0, 0, 0, // mov r6, r0
+    0xb7, 0x01, 0, 0, 0, 0x10, 0, 0, // mov r1, 4096
+    0x85, 0x00, 0, 0, 13, 0, 0, 0, // call 13
+    0xbf, 0x60, 0, 0, 0, 0, 0, 0, // mov r0, r6
+    0x95, 0x00, 0, 0, 0, 0, 0, 0, // exit
+];
+
+/// What `LONGEST` answers on 4,096 bytes of 0x5a.
+fn longest(alloc: Global, object: &Option<Object>) -> Result<Outcome, Fail> {
+    let class = class_of(alloc, &LONGEST, 2, 4096, 4096)?;
+    let input = vec![in alloc; 0x5a; 4096]?;
+    call_f(alloc, &class, object, &input)
+}
+
+/// Whether those bytes begin by so many of the one byte, and the rest are of the other.
+fn begins(bytes: &[u8], first: u8, count: usize, then: u8) -> bool {
+    let mut all = true;
+    for (k, byte) in bytes.iter().enumerate() {
+        all = all && *byte == (if k < count { first } else { then });
+    }
+    all
+}
+
+#[test]
+fn a_call_has_all_output(rt: HostRuntime) -> Result<(), Fail> {
+    let outcome = longest(rt.alloc(), &None)?;
+    assert_eq!(rt;
+        (outcome.code, outcome.steps, outcome.output.len()),
+        (4096, 11, 4096)
+    );
+    assert!(rt; begins(&outcome.output, 0, 4095, 0x5a));
+    Ok(())
+}
+
+/// The objects before and after, where the call wrote one.
+fn written(outcome: &Outcome) -> Option<(Option<&[u8]>, Option<&[u8]>)> {
+    match &outcome.change {
+        Change::Unchanged => None,
+        Change::Changed { before, after } => Some((bytes_of(before), bytes_of(after))),
+    }
+}
+
+#[test]
+fn an_object_grows_to_its_limit(rt: HostRuntime) -> Result<(), Fail> {
+    let outcome = longest(rt.alloc(), &None)?;
+    let (before, after) = written(&outcome).ok_or("nothing written")?;
+    let bytes = after.ok_or("no object")?;
+    assert_eq!(rt; (before.is_none(), bytes.len()), (true, Object::LIMIT));
+    assert!(rt; begins(bytes, 0, 61440, 0x5a));
+    Ok(())
+}
+
+#[test]
+fn a_full_object_is_copied(rt: HostRuntime) -> Result<(), Fail> {
+    let full = Object::new(vec![in rt.alloc(); 0x33; Object::LIMIT]?);
+    let outcome = longest(rt.alloc(), &full)?;
+    let (before, after) = written(&outcome).ok_or("nothing written")?;
+    assert!(rt; before == bytes_of(&full));
+    assert!(rt; begins(after.ok_or("no object")?, 0x33, 61440, 0x5a));
+    Ok(())
+}
