@@ -1,0 +1,10 @@
+use Rattle.std.proofs.Common.{◌≡◌, ap, sym, subst}
+use Rattle.op_shards.specs.Order.{dealer, taker}
+use Rattle.crossbeam_queue.specs.Fifo.{Forks}
+use Rattle.op_shards.specs.Order.{Rule}
+use Rattle.op_shards.specs.declared.rule.Hand.{Hand}
+use Rattle.op_shards.proofs.Keeps.{opens}
+use Rattle.op_shards.proofs.lane.Dealer.open.Goals as goal
+
+pub another-requires-clause-rule : goal.another-requires-clause-rule
+another-requires-clause-rule g c = rw c.requires.first (opens g.T.Op.group _ g.J.Placed.place c.requires.some)

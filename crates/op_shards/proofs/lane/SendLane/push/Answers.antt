@@ -1,0 +1,12 @@
+use Rattle.std.proofs.Common.{◌≡◌, ◌%◌, ap, sym, subst, ◌∙◌}
+use Rattle.op_shards.specs.declared.rule.Place.{Place}
+use Rattle.op_shards.proofs.Keeps.{puts, learns}
+use Rattle.op_shards.proofs.lane.SendLane.push.Goals as goal
+
+pub push_as-requires-clause-rule : goal.push_as-requires-clause-rule
+push_as-requires-clause-rule g c =
+    let i = c.self.invariant in
+    let v = c.self.inside.pass.me.0.client in
+    let from : c.args.number ≡ v.first = sym (ap (λ s. s.sender) c.self.view_is ∙ c.requires.number) in
+    let lies : g.T.Op.group c.args.op % v.place.shards ≡ v.place.shard = subst (λ (q : Place). g.T.Op.group c.args.op % q.shards ≡ q.shard) (sym (ap (λ s. s.spot.place) c.self.view_is)) c.requires.here in
+    (puts g.T.Op.group _ _ v.first _ _ (ap (λ v. v.first) i.0) (ap (λ v. v.end) i.0) i.1 lies from i.2, learns g.T.Op.group _ _ i.1)

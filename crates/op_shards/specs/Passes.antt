@@ -1,0 +1,147 @@
+-- What callers see of all queues, and of the passes.
+use Rattle.std.specs.Prelude.{ℕ, suc, ◌+◌, List, [], ◌∷◌, ◌++◌, length, map, slice_set, slice_index_or}
+use Rattle.crossbeam_queue.specs.Fifo.{Held}
+use Rattle.crossbeam_queue.specs.declared.array_queue.Slotted.{Slotted}
+use Rattle.atomic_table.specs.Seated.{TableId}
+use Rattle.op_shards.specs.declared.rule.Place.{Place}
+use Rattle.op_shards.specs.declared.rule.Ranked.{Ranked}
+use Rattle.op_shards.specs.Order.{place_at, sender, taker, KeptWith, WasKept}
+
+-- which queue it is
+abbrev pub name : {S D Q A : Type 0} → Slotted S D Q A → TableId
+name q = q.table.shared.table_id
+
+abbrev pub names : {S D Q A : Type 0} → List (Slotted S D Q A) → List TableId
+names queues = map (λ q. name q) queues
+
+-- a queue and where it stands
+pub record Spot : Type 0 where
+  pub queue : TableId
+  pub place : Place
+
+abbrev pub spot_of : TableId → Place → Spot
+spot_of queue place = record { queue = queue; place = place }
+
+-- the queues, by shard, and how many senders and takers have passes of them
+pub record Queues : Type 0 where
+  pub names : List TableId
+  pub senders : ℕ
+  pub takers : ℕ
+
+abbrev pub queues_of : List TableId → ℕ → ℕ → Queues
+queues_of names senders takers = record { names = names; senders = senders; takers = takers }
+
+-- where each of these queues stands, the first at shard k of so many shards
+abbrev pub spots_from : ℕ → ℕ → ℕ → ℕ → List TableId → List Spot
+spots_from k shards senders takers [] = []
+spots_from k shards senders takers (q ∷ qs) = spot_of q (place_at k shards senders takers) ∷ spots_from (suc k) shards senders takers qs
+
+abbrev pub spots : Queues → List Spot
+spots q = spots_from 0 (length q.names) q.senders q.takers q.names
+
+-- the queues, and how many operations each holds at most
+pub record Shards : Type 0 where
+  pub queues : Queues
+  pub places : ℕ
+
+-- the end of a queue that still has all senders from a number on, and so many takers
+pub record Dealing : Type 0 where
+  pub spot : Spot
+  pub next : ℕ
+  pub parts : ℕ
+
+abbrev pub dealing : ℕ → ℕ → Spot → Dealing
+dealing next parts spot = record { spot = spot; next = next; parts = parts }
+
+-- a sender's end of a queue, and what the queue accepted of this sender, in order
+pub record Sent (T : Type 0) : Type 0 where
+  pub spot : Spot
+  pub sender : ℕ
+  pub accepted : List (Ranked T)
+
+-- a taker's end of a queue, how many takers' parts are in it, and what they took
+pub record Got (T : Type 0) : Type 0 where
+  pub spot : Spot
+  pub parts : ℕ
+  pub taken : List (Ranked T)
+
+-- a sender: the queues that its pass came with, its number, and what the queue of each shard accepted of it, in order
+pub record Sender (T : Type 0) : Type 0 where
+  pub queues : Queues
+  pub sender : ℕ
+  pub accepted : List (List (Ranked T))
+
+-- a taker, or several whose passes were put together: the queues that the passes came with, how many takers they are, and what they took of each shard
+pub record Taker (T : Type 0) : Type 0 where
+  pub queues : Queues
+  pub takers : ℕ
+  pub taken : List (List (Ranked T))
+
+-- where this shard's queue stands
+abbrev pub shard_of : Queues → ℕ → Place
+shard_of q shard = place_at shard (length q.names) q.senders q.takers
+
+module _ {T : Type 0} where
+  -- an operation with its sender and its rank
+  abbrev pub ranked : ℕ → ℕ → T → Ranked T
+  ranked sender rank op = record { sender = sender; rank = rank; op = op }
+
+  abbrev pub new_send : ℕ → Spot → Sent T
+  new_send number spot = record { spot = spot; sender = number; accepted = [] }
+
+  abbrev pub new_take : Spot → Got T
+  new_take spot = record { spot = spot; parts = 1; taken = [] }
+
+  -- the parts of a taker's ends: the same in each
+  abbrev pub parts_of : List (Got T) → ℕ
+  parts_of [] = 0
+  parts_of (l ∷ ls) = l.parts
+
+  -- a shard's list
+  abbrev pub at_shard : List (List (Ranked T)) → ℕ → List (Ranked T)
+  at_shard lists shard = slice_index_or lists shard []
+
+  -- one more at the end of a shard's list
+  abbrev pub with_one : List (List (Ranked T)) → ℕ → Ranked T → List (List (Ranked T))
+  with_one lists shard x = slice_set lists shard (at_shard lists shard ++ x ∷ [])
+
+  -- of each shard the one list, and then the other
+  abbrev pub put_together : List (List (Ranked T)) → List (List (Ranked T)) → List (List (Ranked T))
+  put_together [] ys = []
+  put_together (x ∷ xs) [] = x ∷ xs
+  put_together (x ∷ xs) (y ∷ ys) = (x ++ y) ∷ put_together xs ys
+
+  -- the next rank of a sender in a shard
+  abbrev pub next_rank : Sender T → ℕ → ℕ
+  next_rank s shard = length (at_shard s.accepted shard)
+
+  abbrev pub after_submit : Sender T → ℕ → T → Sender T
+  after_submit s shard op = record { queues = s.queues; sender = s.sender; accepted = with_one s.accepted shard (ranked s.sender (next_rank s shard) op) }
+
+  abbrev pub after_take : Taker T → ℕ → Ranked T → Taker T
+  after_take t shard x = record { queues = t.queues; takers = t.takers; taken = with_one t.taken shard x }
+
+  -- the two takers as one
+  abbrev pub after_gather : Taker T → Taker T → Taker T
+  after_gather t u = record { queues = t.queues; takers = t.takers + u.takers; taken = put_together t.taken u.taken }
+
+  -- a pass of these queues, with nothing accepted or taken
+  abbrev pub new_sender : Queues → ℕ → Sender T
+  new_sender queues number = record { queues = queues; sender = number; accepted = map (λ _. []) queues.names }
+
+  abbrev pub new_taker : Queues → Taker T
+  new_taker queues = record { queues = queues; takers = 1; taken = map (λ _. []) queues.names }
+
+  -- at one moment of the call the shard was in order, and this pass one of its passes
+  abbrev pub SenderWasKept : (T → ℕ) → Sender T → ℕ → Type 0
+  SenderWasKept group s shard = WasKept group (sender (shard_of s.queues shard) s.sender (at_shard s.accepted shard))
+
+  abbrev pub TakerWasKept : (T → ℕ) → Taker T → ℕ → Type 0
+  TakerWasKept group t shard = WasKept group (taker (shard_of t.queues shard) t.takers (at_shard t.taken shard))
+
+  -- the same, at a moment when the queue held n operations
+  abbrev pub SenderWasKeptAt : (T → ℕ) → ℕ → Sender T → ℕ → Type 0
+  SenderWasKeptAt group n s shard = Held n (KeptWith group (sender (shard_of s.queues shard) s.sender (at_shard s.accepted shard)))
+
+  abbrev pub TakerWasKeptAt : (T → ℕ) → ℕ → Taker T → ℕ → Type 0
+  TakerWasKeptAt group n t shard = Held n (KeptWith group (taker (shard_of t.queues shard) t.takers (at_shard t.taken shard)))
