@@ -97,6 +97,15 @@ module _ {T : Type 0} where
   parts_of [] = 0
   parts_of (l ∷ ls) = l.parts
 
+  -- two takers' ends of one queue as one
+  abbrev pub join_lane : Got T → Got T → Got T
+  join_lane x y = record { spot = x.spot; parts = x.parts + y.parts; taken = x.taken ++ y.taken }
+
+  abbrev pub join_lanes : List (Got T) → List (Got T) → List (Got T)
+  join_lanes [] ys = []
+  join_lanes (x ∷ xs) [] = x ∷ xs
+  join_lanes (x ∷ xs) (y ∷ ys) = join_lane x y ∷ join_lanes xs ys
+
   -- a shard's list
   abbrev pub at_shard : List (List (Ranked T)) → ℕ → List (Ranked T)
   at_shard lists shard = slice_index_or lists shard []

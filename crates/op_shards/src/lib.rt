@@ -4,8 +4,12 @@
 mod lane;
 mod no_memory;
 mod op;
+mod pass;
 mod rule;
+mod shards;
 
 pub use no_memory::NoMemory;
 pub use op::Op;
+pub use pass::{SendPass, TakePass};
 pub use rule::{Place, Ranked};
+pub use shards::OpShards;

@@ -1,0 +1,8 @@
+use Rattle.std.proofs.Common.{◌≡◌, sym, ◌∙◌, ap, subst, refl, rules, ◌<◌, ℕ, arith, length}
+use Rattle.commit_board.proofs.Moves.{freshens}
+use Rattle.commit_board.proofs.board.Board.fresh.Goals as goal
+
+pub split_seat-requires : goal.split_seat-requires
+split_seat-requires c =
+    let tie = ap (λ r. r.board) c.seen.view_is ∙ c.requires ∙ sym c.self.view_is in
+    (tie, c.self.invariant.1, freshens c.self.inside.table.shared.key _ _)

@@ -1,0 +1,20 @@
+use Rattle.std.proofs.Common.{◌≡◌, sym, ◌∙◌, ap, subst, refl, rules, ◌<◌, ℕ, arith, length, []}
+use Rattle.commit_board.specs.Rows.{writes}
+use Rattle.commit_board.proofs.Moves.{begins, deals, freshens}
+use Rattle.commit_board.proofs.board.Board.new.Goals as goal
+
+pub of_words-requires : goal.of_words-requires
+of_words-requires c = begins c.args.rows _ (search rules)
+
+pub split_seat-requires : goal.split_seat-requires
+split_seat-requires c =
+    let i = c.loop-row.invariant in
+    let key : c.in_ok-table.table.shared.key ≡ c.args.rows = search rules in
+    let words : c.in_ok-table.table.shared.table_id.words ≡ c.args.rows = search rules in
+    let below : c.loop-row.row < c.in_ok-table.table.shared.key = omega arith in
+    (i.1, omega arith, deals c.in_ok-table.table.shared.key _ c.loop-row.row _ below (ap (λ m. m.0) i.2 ∙ ap (λ (k : ℕ). writes c.loop-row.row k []) (sym key)))
+
+pub split_seat-requires-2 : goal.split_seat-requires-2
+split_seat-requires-2 c =
+    let words : c.in_ok-table.table.shared.table_id.words ≡ c.args.rows = search rules in
+    (c.loop-row.invariant.1, omega arith, freshens c.in_ok-table.table.shared.key _ _)

@@ -1,0 +1,8 @@
+use Rattle.std.proofs.Common.{◌≡◌, ◌<◌, ◌≤◌, [], vec_len, ℕ}
+use Rattle.std.specs.Prelude.{vec_capacity}
+use Rattle.commit_board.specs.Tokens.{writers_of}
+use Rattle.commit_board.specs.Rows.{writes}
+use Rattle.commit_board.proofs.board.Board.new.Given as goal
+
+abbrev pub invariant-loop-row : goal.invariant-loop-row
+invariant-loop-row l = (l.row-end ≡ l.fn.rows) × (l.seat.table_id ≡ l.table.shared.table_id) × (l.seat.me ≡ (writes l.row l.fn.rows [], [])) × (l.writers.items ≡ writers_of l.table.shared.table_id l.row) × (vec_len l.writers ≡ l.row) × (l.fn.rows ≤ vec_capacity l.writers)

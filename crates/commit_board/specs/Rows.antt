@@ -1,0 +1,81 @@
+-- The rule of the board, and what each step tells.
+use Rattle.std.specs.Prelude.{◌≡◌, ◌⊎◌, ℕ, suc, ◌<◌, ◌≤◌, List, [], ◌∷◌, ◌++◌, length, slice_index}
+use mathlib.Core.List.{IsPrefix}
+use mathlib.Core.Option.{some}
+use lib.ListN.{get_elem?}
+use Rattle.atomic_table.specs.Table.{State, Me, Step}
+use Rattle.pg_log.specs.Requests.{ClientRequest}
+use Rattle.commit_board.specs.declared.view.View.{View}
+use Rattle.commit_board.specs.Lists.{list_at, put_at, merged}
+
+abbrev pub view_of : ℕ → ℕ → List ClientRequest → List (List ClientRequest) → List (List ClientRequest) → View
+view_of first end own known told = record { first = first; end = end; own = own; known = known; told = told }
+
+-- the seat of the writer of these rows, each of which has this list
+abbrev pub writes : ℕ → ℕ → List ClientRequest → View
+writes first end own = view_of first end own [] []
+
+-- the seat of all rows, none of which has a request
+abbrev pub owner : ℕ → View
+owner rows = writes 0 rows []
+
+-- a seat that writes no row
+abbrev pub sees : List (List ClientRequest) → List (List ClientRequest) → View
+sees known told = view_of 0 0 [] known told
+
+-- What the seat with this number knows, and what it was told, is a beginning of each row's list. It has the whole list of the rows that are its own, and it
+-- alone writes them
+pub record Fits (rows : ℕ) (logs : ℕ → List ClientRequest) (seat : ℕ → ℕ) (by : ℕ) (v : View) : Type 0 where
+  pub owns : (i : ℕ) → v.first ≤ i → i < v.end → (i < rows) × (seat i ≡ by) × (v.own ≡ logs i)
+  pub knows : (i : ℕ) → IsPrefix (list_at v.known i) (logs i)
+  pub told : (i : ℕ) → IsPrefix (list_at v.told i) (logs i)
+
+-- each row has a list, and its word is the list's length
+pub record Kept (rows : ℕ) (s : State ℕ View) : Type 0 where
+  pub logs : ℕ → List ClientRequest
+  pub seat : ℕ → ℕ
+  pub count : length s.words ≡ rows
+  pub words : (i : ℕ) → i < rows → slice_index s.words i ≡ length (logs i)
+  pub views : (by : ℕ) (v : View) → get_elem? s.views by ≡ some v → Fits rows logs seat by v
+
+-- the request was added to the row's list
+abbrev pub Adds : ClientRequest → Step ℕ → Me ℕ View → ℕ → Me ℕ View → Type 0
+Adds request s v n w = w ≡ (writes v.0.first v.0.end (v.0.own ++ request ∷ []), v.1)
+
+-- the row's list was seen, as long as the number found
+abbrev pub Looks : Step ℕ → Me ℕ View → ℕ → Me ℕ View → Type 0
+Looks s v n w = (l : List ClientRequest) × (length l ≡ n) × IsPrefix (list_at v.0.known s.word) l × (w ≡ (sees (put_at v.0.known s.word l) v.0.told, v.1))
+
+-- of each row the longer of what was known and what was told is known, and begins with both
+abbrev pub Merges : Step ℕ → Me ℕ View → ℕ → Me ℕ View → Type 0
+Merges s v n w =
+    ((i : ℕ) → IsPrefix (list_at v.0.known i) (list_at w.0.known i) × IsPrefix (list_at v.0.told i) (list_at w.0.known i)
+    × ((list_at w.0.known i ≡ list_at v.0.known i) ⊎ (list_at w.0.known i ≡ list_at v.0.told i)))
+    × (w ≡ (sees (merged v.0.known v.0.told) [], v.1))
+
+-- what the writer was told of its own row is a beginning of its list
+abbrev pub Compares : Step ℕ → Me ℕ View → ℕ → Me ℕ View → Type 0
+Compares s v n w = IsPrefix (list_at v.0.told s.word) v.0.own × (w ≡ (writes v.0.first v.0.end v.0.own, v.1))
+
+-- cutting off the first row
+abbrev pub other_rows : View → View
+other_rows v = writes (suc v.first) v.end v.own
+
+abbrev pub one_row : View → View
+one_row v = writes v.first (suc v.first) v.own
+
+-- what a writer hands on
+abbrev pub shared : View → View
+shared v = sees (put_at [] v.first v.own) []
+
+-- what another seat hands on
+abbrev pub told_of : View → View
+told_of v = sees v.known []
+
+-- a seat that knows nothing
+abbrev pub newcomer : View → View
+newcomer v = sees [] []
+
+-- a seat that was told what another knew
+abbrev pub informed : View → View → View
+informed v w = view_of v.first v.end v.own v.known w.known

@@ -1,0 +1,26 @@
+-- What contracts see of the tokens of a board.
+use Rattle.std.specs.Prelude.{ℕ, zero, suc, List, [], ◌∷◌, ◌++◌}
+use Rattle.atomic_table.specs.Seated.{TableId}
+use Rattle.pg_log.specs.Requests.{ClientRequest}
+
+-- a writer: its board, its row, and the list of that row
+pub record Row : Type 0 where
+  pub board : TableId
+  pub row : ℕ
+  pub list : List ClientRequest
+
+-- what is known of each row of a board: a list, which is empty where nothing is known
+pub record Knows : Type 0 where
+  pub board : TableId
+  pub lists : List (List ClientRequest)
+
+abbrev pub writer_of : TableId → ℕ → List ClientRequest → Row
+writer_of board row list = record { board = board; row = row; list = list }
+
+-- a writer for each of n rows, with an empty list
+abbrev pub writers_of : TableId → ℕ → List Row
+writers_of board zero = []
+writers_of board (suc n) = writers_of board n ++ writer_of board n [] ∷ []
+
+abbrev pub knows : TableId → List (List ClientRequest) → Knows
+knows board lists = record { board = board; lists = lists }

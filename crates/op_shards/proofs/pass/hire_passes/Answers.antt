@@ -1,0 +1,12 @@
+use Rattle.std.proofs.Common.{◌≡◌, ◌+◌, ◌-◌, ap, ◌∙◌, map, arith}
+use Rattle.op_shards.specs.Passes.{names, queues_of, spots, dealing, new_taker}
+use Rattle.op_shards.proofs.Lanes.{more_passes}
+use Rattle.op_shards.proofs.pass.hire_passes.Goals as goal
+
+pub loop-taker-preserved : goal.loop-taker-preserved
+loop-taker-preserved g c =
+    let n : c.args.takers - c.loop-taker.taker - 1 ≡ c.args.takers - (c.loop-taker.taker + 1) = omega arith in
+    record {
+      dealers = c.in_ok-pass.ensures.dealers ∙ ap (λ k. map (dealing c.args.senders k) (spots (queues_of (names c.args.queues.now.items) c.args.senders c.args.takers))) n;
+      passes = more_passes (λ _. new_taker (queues_of (names c.args.queues.now.items) c.args.senders c.args.takers)) c.loop-taker.taker c.loop-taker.passes.items c.push.new.self.items c.in_ok-pass.pass c.loop-taker.invariant.passes c.in_ok-pass.ensures.pass c.in_ok-push.ensures.items;
+    }

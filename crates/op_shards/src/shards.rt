@@ -1,0 +1,195 @@
+// All queues.
+ghost use Rattle.std.specs.Prelude.{◌≡◌, ◌<◌, ◌%◌, length, map, All, IfOk, MatchOption, MatchResult};
+ghost use Rattle.crossbeam_queue.specs.Passes.{ruled_capacity};
+ghost use Rattle.std.specs.List.{range_with_len};
+ghost use Rattle.op_shards.specs.declared.rule.Ranked.{Ranked};
+ghost use Rattle.op_shards.specs.Order.{place_at, of, IsPartOf, AreFirstOf, IsHere, IsNextAfter};
+ghost use Rattle.op_shards.specs.Passes.{name, names, queues_of, spots, spot_of, shard_of, at_shard, dealing, new_sender, new_taker, after_submit, after_take, after_gather, SenderWasKept, SenderWasKeptAt, TakerWasKept, TakerWasKeptAt};
+
+use crate::lane::Dealer;
+use crate::no_memory::NoMemory;
+use crate::op::Op;
+use crate::pass::{SendPass, TakePass, deal_passes, hire_passes};
+use crate::rule::{Placed, Queue};
+use crossbeam_queue::RuledArrayQueue;
+use std::alloc::{AllocError, Global};
+use std::marker::{Brand, Model};
+use std::sync::Wait;
+
+/// A bounded queue for each shard. An operation's shard is the number of its group modulo the number of shards. To a contract it is the queues by
+/// shard, how many senders and takers have passes of them, and how many operations each holds at most.
+#[derive(Drop)]
+pub struct OpShards<T: Op, R: Wait> {
+    rt: R,
+    places: usize,
+    senders: usize,
+    takers: usize,
+    queues: Vec<Queue<T>>,
+}
+
+impl<T: Op, R: Wait> Model for OpShards<T, R> {
+    ghost use Rattle.std.specs.Prelude.{◌≡◌, ◌<◌, length, All};
+    ghost use Rattle.crossbeam_queue.specs.Passes.{ruled_capacity};
+    ghost use Rattle.op_shards.specs.Passes.{names, queues_of, Shards};
+
+    ghost Value = { Shards };
+
+    ghost view = { λ s. record { queues = queues_of (names s.queues.items) s.senders s.takers; places = s.places } };
+
+    ghost invariant = { λ s. (0 < length s.queues.items) × All (λ q. ruled_capacity q ≡ s.places) s.queues.items };
+}
+
+impl<T: Op, R: Wait> OpShards<T, R> {
+    /// Empty queues of so many places, and a pass of all of them for each sender and each taker.
+    pub fn new(
+        alloc: Global,
+        rt: R,
+        shards: usize,
+        places: usize,
+        senders: usize,
+        takers: usize,
+    ) -> Result<(OpShards<T, R>, Vec<SendPass<T>>, Vec<TakePass<T>>), NoMemory>
+    where
+        R: Drop,
+        requires shards { 0 < shards }
+        requires places { 0 < places }
+        ensures shards { IfOk result (λ r. (length r.0.queues.names ≡ shards) × (r.0.queues.senders ≡ senders) × (r.0.queues.takers ≡ takers) × (r.0.places ≡ places)) }
+        ensures senders { IfOk result (λ r. r.1.items ≡ map (new_sender r.0.queues) (range_with_len 0 senders)) }
+        ensures takers { IfOk result (λ r. r.2.items ≡ map (λ _. new_taker r.0.queues) (range_with_len 0 takers)) }
+    {
+        let (queues, mut dealers) = open_all(alloc, shards, places, senders, takers)?;
+        let send_passes = deal_passes(alloc, &queues, &mut dealers, senders, takers)?;
+        let take_passes = hire_passes(alloc, &queues, &mut dealers, senders, takers)?;
+        let shards = OpShards {
+            rt,
+            places,
+            senders,
+            takers,
+            queues,
+        };
+        Ok((shards, send_passes, take_passes))
+    }
+
+    /// The number of shards, which is above 0.
+    pub fn count(&self) -> usize
+        ensures count { result ≡ length self.now.queues.names }
+        ensures some { 0 < result }
+    {
+        self.queues.len()
+    }
+
+    /// Puts the operation at the end of the queue of its group's shard. Full: it comes back, and only if that queue was full at one moment of the call.
+    pub fn submit(&self, pass: &mut SendPass<T>, op: T) -> Result<(), T>
+        requires { pass.old.queues ≡ self.now.queues }
+        ensures queues { pass.new.queues ≡ pass.old.queues }
+        ensures answer { let shard = T.group op % length self.now.queues.names in
+            MatchResult result
+            (λ _. (pass.new ≡ after_submit pass.old shard op) × SenderWasKept T.group pass.new shard)
+            (λ x. (x ≡ op) × (pass.new ≡ pass.old) × SenderWasKeptAt T.group self.now.places pass.old shard) }
+    {
+        let shard = op.group() % self.queues.len();
+        let queue = &self.queues[shard];
+        pass.push(&self.rt, queue, shard, op)
+    }
+
+    /// Takes the oldest operation of the shard. It is of that shard, and the next of its sender there. None only if the shard's queue was empty at one
+    /// moment of the call.
+    pub fn take(&self, pass: &mut TakePass<T>, shard: usize) -> Option<T>
+        requires pass { pass.old.queues ≡ self.now.queues }
+        requires shard { shard < length self.now.queues.names }
+        ensures queues { pass.new.queues ≡ pass.old.queues }
+        ensures takers { pass.new.takers ≡ pass.old.takers }
+        ensures answer { MatchOption result
+            ((pass.new ≡ pass.old) × TakerWasKeptAt T.group 0 pass.old shard)
+            (λ op. (x : Ranked T) × (x.op ≡ op) × (pass.new ≡ after_take pass.old shard x)
+              × IsHere T.group (shard_of self.now.queues shard) x × IsNextAfter (at_shard pass.old.taken shard) x × TakerWasKept T.group pass.new shard) }
+    {
+        let queue = &self.queues[shard];
+        match pass.pop(&self.rt, queue, shard) {
+            Some(ranked) => Some(ranked.op),
+            None => None,
+        }
+    }
+
+    /// Puts the other taker's pass together with this one: what it took, to be compared whole.
+    pub fn gather(&self, takes: &mut TakePass<T>, other: TakePass<T>)
+        requires takes { takes.old.queues ≡ self.now.queues }
+        requires other { other.queues ≡ self.now.queues }
+        ensures { takes.new ≡ after_gather takes.old other }
+    {
+        takes.gather(&self.queues, other);
+    }
+
+    /// What was taken of a sender's operations in a shard is among those that were accepted there, each at least as often. What all takers together took
+    /// is the first ones of those, each once. Nothing changes.
+    pub fn compare(&self, sends: &mut SendPass<T>, takes: &mut TakePass<T>, shard: usize)
+        requires sends { sends.old.queues ≡ self.now.queues }
+        requires takes { takes.old.queues ≡ self.now.queues }
+        requires shard { shard < length self.now.queues.names }
+        ensures same { (sends.new ≡ sends.old) × (takes.new ≡ takes.old) }
+        ensures accepted { IsPartOf (of sends.old.sender (at_shard takes.old.taken shard)) (at_shard sends.old.accepted shard) }
+        ensures first { takes.old.takers ≡ self.now.queues.takers → AreFirstOf (of sends.old.sender (at_shard takes.old.taken shard)) (at_shard sends.old.accepted shard) }
+    {
+        let queue = &self.queues[shard];
+        sends.compare(queue, takes, shard);
+    }
+}
+
+// A queue for each shard, and the end of each that has all its senders and takers.
+fn open_all<T: Op>(
+    alloc: Global,
+    shards: usize,
+    places: usize,
+    senders: usize,
+    takers: usize,
+) -> Result<(Vec<Queue<T>>, Vec<Dealer<T>>), AllocError>
+    requires shards { 0 < shards }
+    requires places { 0 < places }
+    ensures queues { IfOk result (λ r. (length r.0.items ≡ shards) × All (λ q. ruled_capacity q ≡ places) r.0.items) }
+    ensures dealers { IfOk result (λ r. r.1.items ≡ map (dealing 0 takers) (spots (queues_of (names r.0.items) senders takers))) }
+{
+    let mut queues = Vec::new(alloc);
+    let mut dealers = Vec::new(alloc);
+    for shard in 0..shards {
+        let (queue, dealer) = open(alloc, shard, shards, places, senders, takers)?;
+        dealers.push(dealer)?;
+        queues.push(queue)?;
+    }
+    Ok((queues, dealers))
+}
+
+// The queue of a shard.
+fn open<T: Op>(
+    alloc: Global,
+    shard: usize,
+    shards: usize,
+    places: usize,
+    senders: usize,
+    takers: usize,
+) -> Result<(Queue<T>, Dealer<T>), AllocError>
+    requires shards { shard < shards }
+    requires places { 0 < places }
+    ensures queue { IfOk result (λ r. ruled_capacity r.0 ≡ places) }
+    ensures dealer { IfOk result (λ r. r.1 ≡ dealing 0 takers (spot_of (name r.0) (place_at shard shards senders takers))) }
+{
+    open_at::<T, Brand>(alloc, shard, shards, places, senders, takers)
+}
+
+fn open_at<T: Op, J: Placed>(
+    alloc: Global,
+    shard: usize,
+    shards: usize,
+    places: usize,
+    senders: usize,
+    takers: usize,
+) -> Result<(Queue<T>, Dealer<T>), AllocError>
+    requires shards { shard < shards }
+    requires places { 0 < places }
+    requires place { J.place ≡ place_at shard shards senders takers }
+    ensures queue { IfOk result (λ r. ruled_capacity r.0 ≡ places) }
+    ensures dealer { IfOk result (λ r. r.1 ≡ dealing 0 takers (spot_of (name r.0) (place_at shard shards senders takers))) }
+{
+    let (queue, pass) = RuledArrayQueue::ruled(alloc, places)?;
+    let dealer = Dealer::open::<J>(&queue, pass);
+    Ok((queue, dealer))
+}
