@@ -14,7 +14,7 @@ use Rattle.crossbeam_queue.specs.declared.array_queue.Slotted.{Slotted}
 use Rattle.atomic_table.specs.Seated.{TableId}
 use Rattle.op_shards.specs.declared.rule.Place.{Place}
 use Rattle.op_shards.specs.declared.rule.Ranked.{Ranked}
-use Rattle.op_shards.specs.Order.{place_at, sender, taker, IsHere, IsNextAfter, KeptWith, WasKept}
+use Rattle.op_shards.specs.Order.{place_at, sender, taker, of, AreFirstOf, IsHere, IsNextAfter, KeptWith, WasKept}
 use Rattle.op_shards.specs.Passes.{name, names, Spot, spot_of, Queues, queues_of, spots_from, spots, shard_of, Dealing, dealing, Sent, Got, Sender, Taker, ranked, new_send, new_take, parts_of, join_lane, join_lanes, at_shard, with_one, put_together, after_submit, after_take, after_gather, new_sender, new_taker, SenderWasKept, SenderWasKeptAt, TakerWasKept, TakerWasKeptAt}
 
 -- where the queue at an index stands
@@ -69,6 +69,9 @@ module _ {T A : Type 0} (f : A → List (Ranked T)) (lanes : List A) (k : ℕ) (
 
   lane_same : (y : A) → y ≡ x → set lanes k y ≡ lanes
   lane_same y e = ap (λ w. set lanes k w) (e ∙ at) ∙ set-get_or lanes k x
+
+pub same_set : {A : Type 0} (xs : List A) (k : ℕ) (x y : A) → x ≡ get_or xs k x → y ≡ x → set xs k y ≡ xs
+same_set xs k x y at e = ap (λ w. set xs k w) (e ∙ at) ∙ set-get_or xs k x
 
 MatchOption-weaker : {X : Type 0} (o : Option X) {P P' : Type 0} {Q Q' : X → Type 0} → MatchOption o P Q → (P → P') → ((x : X) → Q x → Q' x) → MatchOption o P' Q'
 MatchOption-weaker None m f g = f m
@@ -194,6 +197,16 @@ all_done f g [] (suc i) le = refl
 all_done f g (x ∷ xs) zero le = absurd (omega arith)
 all_done f g (x ∷ xs) (suc i) le = ap (λ l. f x ∷ l) (all_done f g xs i (omega arith))
 
+split_length : {A B : Type 0} (f g : A → B) (xs : List A) (i : ℕ) → length (map f (take i xs) ++ map g (drop i xs)) ≡ length xs
+split_length f g [] zero = refl
+split_length f g [] (suc i) = refl
+split_length f g (x ∷ xs) zero = length-map (x ∷ xs) g
+split_length f g (x ∷ xs) (suc i) = ap suc (split_length f g xs i)
+
+-- such a loop's list stays as long
+pub still_long : {A B : Type 0} (f g : A → B) (xs : List A) (ys : List B) (i : ℕ) → ys ≡ map f (take i xs) ++ map g (drop i xs) → length ys ≡ length xs
+still_long f g xs ys i is = ap length is ∙ split_length f g xs i
+
 -- the loop went over all of the list
 pub done : {A B : Type 0} (f g : A → B) (xs : List A) (ys : List B) (i : ℕ) → length xs ≤ i → ys ≡ map f (take i xs) ++ map g (drop i xs) → ys ≡ map f xs
 done f g xs ys i le is = is ∙ all_done f g xs i le
@@ -219,6 +232,32 @@ map_same [] = refl
 map_same (x ∷ xs) = ap (λ l. x ∷ l) (map_same xs)
 
 -- the spot at an index of a list of queues
+map_snoc : {A B : Type 0} (f : A → B) (xs : List A) (x : A) → map f (xs ++ x ∷ []) ≡ map f xs ++ f x ∷ []
+map_snoc f [] x = refl
+map_snoc f (y ∷ ys) x = ap (λ l. f y ∷ l) (map_snoc f ys x)
+
+all_snoc : {X : Type 0} (P : X → Type 0) (xs : List X) (x : X) → All P xs → P x → All P (xs ++ x ∷ [])
+all_snoc P [] x all p zero d lt = p
+all_snoc P [] x all p (suc k) d lt = absurd (omega (arith, lt))
+all_snoc P (y ∷ ys) x all p zero d lt = all 0 y (omega arith)
+all_snoc P (y ∷ ys) x all p (suc k) d lt = all_snoc P ys x (λ j u l. all (suc j) u (omega (arith, l))) p k d (omega (arith, lt))
+
+pub all_more_of : {X : Type 0} (P : X → Type 0) (xs ys : List X) (x : X) → ys ≡ xs ++ x ∷ [] → All P xs → P x → All P ys
+all_more_of P xs ys x more all p = subst (All P) (sym more) (all_snoc P xs x all p)
+
+-- one more queue, and its end that has all senders and takers
+pub more_dealers : {S D Q A : Type 0} (n s t k : ℕ) (queues queues' : List (Slotted S D Q A)) (q : Slotted S D Q A) (ds ds' : List Dealing) (d : Dealing) → length queues ≡ k → ds ≡ map (dealing 0 t) (spots_from 0 n s t (names queues))
+    → d ≡ dealing 0 t (spot_of (name q) (place_at k n s t)) → queues' ≡ queues ++ q ∷ [] → ds' ≡ ds ++ d ∷ [] → ds' ≡ map (dealing 0 t) (spots_from 0 n s t (names queues'))
+more_dealers n s t k queues queues' q ds ds' d long is new more more' =
+    let all = ap names more ∙ map_snoc (λ q. name q) queues q in
+    let at : 0 + length (names queues) ≡ k = omega (arith, long, length-map queues (λ q. name q)) in
+    let spots' = ap (spots_from 0 n s t) all ∙ spots_more 0 n s t (names queues) (name q) ∙ ap (λ m. spots_from 0 n s t (names queues) ++ spot_of (name q) (place_at m n s t) ∷ []) at in
+    more' ∙ (λ i. is i ++ new i ∷ []) ∙ sym (ap (map (dealing 0 t)) spots' ∙ map_snoc (dealing 0 t) (spots_from 0 n s t (names queues)) (spot_of (name q) (place_at k n s t)))
+
+-- the spots by the number of queues that there are
+pub all_spots : {S D Q A : Type 0} (n s t : ℕ) (queues : List (Slotted S D Q A)) → length queues ≡ n → spots_from 0 n s t (names queues) ≡ spots (queues_of (names queues) s t)
+all_spots n s t queues long = let e : n ≡ length (names queues) = sym (length-map queues (λ q. name q) ∙ long) in ap (λ m. spots_from 0 m s t (names queues)) e
+
 pub spot_here : {S D Q A : Type 0} (queues : List (Slotted S D Q A)) (s t i : ℕ) (q : Slotted S D Q A) → i < length queues → q ≡ get_or queues i q
     → (i < length (spots (queues_of (names queues) s t))) × (spot_of (name q) (place_at i (length (names queues)) s t) ≡ get_or (spots (queues_of (names queues) s t)) i (spot_of (name q) (place_at i (length (names queues)) s t)))
 spot_here queues s t i q lt at =
@@ -227,7 +266,7 @@ spot_here queues s t i q lt at =
     let d = spot_of (name q) (place_at i n s t) in
     (omega (arith, within, length-spots 0 n s t (names queues)), sym (spot_at n s t (names queues) i (name q) d within (ap (λ q. name q) at ∙ sym (get_or-map' (λ q. name q) queues i q))))
 
-length_spots_of : {S D Q A : Type 0} (queues : List (Slotted S D Q A)) (s t : ℕ) → length (spots (queues_of (names queues) s t)) ≡ length queues
+pub length_spots_of : {S D Q A : Type 0} (queues : List (Slotted S D Q A)) (s t : ℕ) → length (spots (queues_of (names queues) s t)) ≡ length queues
 length_spots_of queues s t = length-spots 0 (length (names queues)) s t (names queues) ∙ length-map queues (λ q. name q)
 
 pub no_more_spots : {S D Q A : Type 0} (queues : List (Slotted S D Q A)) (s t i : ℕ) → length queues ≤ i → length (spots (queues_of (names queues) s t)) ≤ i
@@ -239,13 +278,16 @@ some_spots queues s t some = let e = length_spots_of queues s t in omega (arith,
 pub some_names : {S D Q A : Type 0} (queues : List (Slotted S D Q A)) → 0 < length queues → 0 < length (names queues)
 some_names queues some = omega (arith, some, length-map queues (λ q. name q))
 
-module _ {T : Type 0} where
+module _ (T : Type 0) where
+  abbrev empty : TableId → List (Ranked T)
+  empty q = []
+
   -- new ends at these spots
   pub new_send_view : (s t p : ℕ) (qs : List TableId) → record { queues = queues_of (map (λ (l : Sent T). l.spot.queue) (map (new_send p) (spots (queues_of qs s t)))) s t; sender = p; accepted = map (λ (l : Sent T). l.accepted) (map (new_send p) (spots (queues_of qs s t))) } ≡ new_sender {T = T} (queues_of qs s t) p
   new_send_view s t p qs =
       let xs = spots (queues_of qs s t) in
       let queues = map_twice (new_send {T = T} p) (λ l. l.spot.queue) xs ∙ queues_of_spots 0 (length qs) s t qs in
-      let none = map_twice (new_send {T = T} p) (λ l. l.accepted) xs ∙ sym (map_twice (λ (x : Spot). x.queue) (λ (q : TableId). [] {A = Ranked T}) xs) ∙ ap (map (λ (q : TableId). [] {A = Ranked T})) (queues_of_spots 0 (length qs) s t qs) in
+      let none = map_twice (new_send {T = T} p) (λ l. l.accepted) xs ∙ sym (map_twice (λ (x : Spot). x.queue) empty xs) ∙ ap (map empty) (queues_of_spots 0 (length qs) s t qs) in
       λ i. record { queues = queues_of (queues i) s t; sender = p; accepted = none i }
 
   pub new_send_placed : (s t p : ℕ) (qs : List TableId) → SendInPlace {T = T} s t (map (new_send p) (spots (queues_of qs s t)))
@@ -267,7 +309,7 @@ module _ {T : Type 0} where
       let xs = spots (queues_of qs s t) in
       let within : 0 < length xs = omega (arith, some, length-spots 0 (length qs) s t qs) in
       let queues = map_twice (new_take {T = T}) (λ l. l.spot.queue) xs ∙ queues_of_spots 0 (length qs) s t qs in
-      let none = map_twice (new_take {T = T}) (λ l. l.taken) xs ∙ sym (map_twice (λ (x : Spot). x.queue) (λ (q : TableId). [] {A = Ranked T}) xs) ∙ ap (map (λ (q : TableId). [] {A = Ranked T})) (queues_of_spots 0 (length qs) s t qs) in
+      let none = map_twice (new_take {T = T}) (λ l. l.taken) xs ∙ sym (map_twice (λ (x : Spot). x.queue) empty xs) ∙ ap (map empty) (queues_of_spots 0 (length qs) s t qs) in
       λ i. record { queues = queues_of (queues i) s t; takers = parts_of_new xs within i; taken = none i }
 
   pub new_take_placed : (s t : ℕ) (qs : List TableId) → TakeInPlace {T = T} s t (map new_take (spots (queues_of qs s t)))
@@ -283,6 +325,7 @@ module _ {T : Type 0} where
   pub new_take_parts : (xs : List Spot) → 0 < length xs → (0 < parts_of {T = T} (map new_take xs)) × All (λ (l : Got T). l.parts ≡ parts_of {T = T} (map new_take xs)) (map new_take xs)
   new_take_parts xs some = subst (λ (n : ℕ). (0 < n) × All (λ (l : Got T). l.parts ≡ n) (map new_take xs)) (sym (parts_of_new xs some)) (omega arith, new_take_ones xs)
 
+module _ {T : Type 0} where
   -- two takers' ends put together from the i-th on
   abbrev pub join_from : ℕ → List (Got T) → List (Got T) → List (Got T)
   join_from zero xs ys = join_lanes xs ys
@@ -326,7 +369,7 @@ module _ {T : Type 0} where
 
   join_all : (a b : ℕ) (xs ys : List (Got T)) → length xs ≡ length ys → All (λ (l : Got T). l.parts ≡ a) xs → All (λ (l : Got T). l.parts ≡ b) ys → All (λ (l : Got T). l.parts ≡ a + b) (join_lanes xs ys)
   join_all a b [] ys e p q k d lt = absurd (omega (arith, lt))
-  join_all a b (x ∷ xs) [] e p q = absurd (omega (arith, e))
+  join_all a b (x ∷ xs) [] e p q k d lt = absurd (omega (arith, e))
   join_all a b (x ∷ xs) (y ∷ ys) e p q zero d lt = λ i. p 0 x (omega arith) i + q 0 y (omega arith) i
   join_all a b (x ∷ xs) (y ∷ ys) e p q (suc k) d lt = join_all a b xs ys (omega (arith, e)) (λ j u l. p (suc j) u (omega (arith, l))) (λ j u l. q (suc j) u (omega (arith, l))) k d (omega (arith, lt))
 
@@ -338,6 +381,9 @@ module _ {T : Type 0} where
 
   queues_by_spots : (xs ys : List (Got T)) → map (λ (l : Got T). l.spot) ys ≡ map (λ (l : Got T). l.spot) xs → map (λ (l : Got T). l.spot.queue) ys ≡ map (λ (l : Got T). l.spot.queue) xs
   queues_by_spots xs ys e = sym (map_twice (λ (l : Got T). l.spot) (λ p. p.queue) ys) ∙ ap (map (λ (p : Spot). p.queue)) e ∙ map_twice (λ (l : Got T). l.spot) (λ p. p.queue) xs
+
+  pub spot_queues : (xs ys : List (Got T)) → map (λ (l : Got T). l.spot) xs ≡ map (λ (l : Got T). l.spot) ys → map (λ (l : Got T). l.spot.queue) xs ≡ map (λ (l : Got T). l.spot.queue) ys
+  spot_queues xs ys e = queues_by_spots ys xs e
 
   pub join_kept : (s t : ℕ) (xs ys : List (Got T)) → map (λ (l : Got T). l.spot) ys ≡ map (λ (l : Got T). l.spot) xs → TakeKept s t xs → (0 < parts_of ys) × All (λ (l : Got T). l.parts ≡ parts_of ys) ys → TakeKept s t (join_lanes xs ys)
   join_kept s t xs ys same kept theirs =
@@ -369,6 +415,22 @@ same_at f g xs ys i x y lt same at here = ap f at ∙ sym (get_or-map' f xs i x)
 
 pub length_by : {A C B : Type 0} (f : A → B) (g : C → B) (xs : List A) (ys : List C) → map f xs ≡ map g ys → length xs ≡ length ys
 length_by f g xs ys e = sym (length-map xs f) ∙ ap length e ∙ length-map ys g
+
+-- what the ends learned of a shard, of the passes
+pub first_of_lanes : {T : Type 0} (s t p : ℕ) (mine : List (Sent T)) (s' t' : ℕ) (theirs : List (Got T)) (k : ℕ) (x : Sent T) (z : Got T) → k < length mine → k < length theirs → x ≡ get_or mine k x → z ≡ get_or theirs k z
+    → SendInPlace s t mine → All (λ (l : Sent T). l.sender ≡ p) mine → All (λ (l : Got T). l.parts ≡ parts_of theirs) theirs
+    → (z.parts ≡ x.spot.place.takers → AreFirstOf (of x.sender z.taken) x.accepted)
+    → (v : Sender T) (u : Taker T) → send_view s t p mine ≡ v → take_view s' t' theirs ≡ u → u.queues ≡ v.queues → u.takers ≡ u.queues.takers
+    → AreFirstOf (of v.sender (at_shard u.taken k)) (at_shard v.accepted k)
+first_of_lanes {T} s t p mine s' t' theirs k x z lt gt at here placed senders parts learned v u is is' same whole =
+    let own : x.sender ≡ p = ap (λ (l : Sent T). l.sender) at ∙ All-get_or (λ (l : Sent T). l.sender ≡ p) mine k x lt senders in
+    let part : z.parts ≡ parts_of theirs = ap (λ (l : Got T). l.parts) here ∙ All-get_or (λ (l : Got T). l.parts ≡ parts_of theirs) theirs k z gt parts in
+    let takers = ap (λ q. q.takers) (send_place s t mine k x lt at placed) in
+    let all : parts_of theirs ≡ t = ap (λ (w : Taker T). w.takers) is' ∙ whole ∙ ap (λ (q : Queues). q.takers) same ∙ sym (ap (λ (w : Sender T). w.queues.takers) is) in
+    let accepted = at_old (λ (l : Sent T). l.accepted) mine k x lt at ∙ ap (λ (w : Sender T). at_shard w.accepted k) is in
+    let taken = at_old (λ (l : Got T). l.taken) theirs k z gt here ∙ ap (λ (w : Taker T). at_shard w.taken k) is' in
+    let who = own ∙ ap (λ (w : Sender T). w.sender) is in
+    subst (λ (q : ℕ × List (Ranked T) × List (Ranked T)). AreFirstOf (of q.0 q.1) q.2) (λ i. (who i, taken i, accepted i)) (learned (part ∙ all ∙ sym takers))
 
 pub more_passes : {B : Type 0} (f : ℕ → B) (n : ℕ) (xs ys : List B) (y : B) → xs ≡ map f (range_with_len 0 n) → y ≡ f n → ys ≡ xs ++ y ∷ [] → ys ≡ map f (range_with_len 0 (n + 1))
 more_passes f n xs ys y is so more = more ∙ (λ k. is k ++ so k ∷ []) ∙ sym (map-range_with_len_more f 0 n n (omega arith))

@@ -1,8 +1,15 @@
 use Rattle.std.proofs.Common.{◌≡◌, ◌+◌, ◌<◌, ◌≤◌, [], length, ap, ◌∙◌, arith}
 use Rattle.op_shards.specs.Order.{place_at}
 use Rattle.op_shards.specs.Passes.{name, names, queues_of, spots, spot_of, dealing, new_send}
-use Rattle.op_shards.proofs.Lanes.{spot_here, no_more_spots, at_turn, one_more, more_lanes, whole, done, send_view, new_send_view, new_send_placed, new_send_all}
+use Rattle.op_shards.proofs.Lanes.{spot_here, no_more_spots, length_spots_of, still_long, at_turn, one_more, more_lanes, whole, done, send_view, new_send_view, new_send_placed, new_send_all}
 use Rattle.op_shards.proofs.pass.deal_pass.Goals as goal
+
+pub index_mut-dealer-requires : goal.index_mut-dealer-requires
+index_mut-dealer-requires g c =
+    let queues = c.args.queues.now.items in
+    let xs = spots (queues_of (names queues) c.args.senders c.args.takers) in
+    let long = still_long (dealing (c.args.sender + 1) c.args.takers) (dealing c.args.sender c.args.takers) xs c.loop-i.dealers.items c.loop-i.i c.loop-i.invariant.dealers in
+    omega (arith, c.loop-i-test.true, c.len-i-end.ensures, long, length_spots_of queues c.args.senders c.args.takers)
 
 pub deal-requires : goal.deal-requires
 deal-requires g c =
@@ -51,7 +58,7 @@ invariant_of-result g c =
     let i = c.loop-i.i in
     let xs = spots (queues_of (names queues) s t) in
     let le : length queues ≤ i = omega (arith, c.loop-i-test.false, c.len-i-end.ensures) in
-    rw (whole (new_send c.args.sender) xs c.loop-i.lanes.items i (no_more_spots queues s t i le) c.loop-i.invariant.lanes) (new_send_placed s t c.args.sender (names queues), new_send_all c.args.sender xs)
+    rw (whole (new_send c.args.sender) xs c.loop-i.lanes.items i (no_more_spots queues s t i le) c.loop-i.invariant.lanes) (new_send_placed _ s t c.args.sender (names queues), new_send_all _ c.args.sender xs)
 
 pub returns-clause-dealers : goal.returns-clause-dealers
 returns-clause-dealers g c =
@@ -72,4 +79,4 @@ returns-clause-pass g c =
     let i = c.loop-i.i in
     let xs = spots (queues_of (names queues) s t) in
     let le : length queues ≤ i = omega (arith, c.loop-i-test.false, c.len-i-end.ensures) in
-    ap (send_view s t c.args.sender) (whole (new_send c.args.sender) xs c.loop-i.lanes.items i (no_more_spots queues s t i le) c.loop-i.invariant.lanes) ∙ new_send_view s t c.args.sender (names queues)
+    ap (send_view s t c.args.sender) (whole (new_send c.args.sender) xs c.loop-i.lanes.items i (no_more_spots queues s t i le) c.loop-i.invariant.lanes) ∙ new_send_view _ s t c.args.sender (names queues)

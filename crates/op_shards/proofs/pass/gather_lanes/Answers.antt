@@ -1,8 +1,55 @@
-use Rattle.std.proofs.Common.{◌≡◌, ap}
+use Rattle.std.proofs.Common.{◌≡◌, ◌<◌, ◌≤◌, length, map, ap, sym, ◌∙◌, arith}
+use Rattle.op_shards.specs.Passes.{name, names, Spot}
+use Rattle.op_shards.proofs.Lanes.{same_at, same_map, length_by, spot_queues, join_step, join_end}
 use Rattle.op_shards.proofs.pass.gather_lanes.Goals as goal
 
+pub index_mut-lane-requires : goal.index_mut-lane-requires
+index_mut-lane-requires g c =
+    let long = length_by (λ l. l.spot) (λ l. l.spot) c.loop-i.lanes.items c.args.lanes.now.items c.loop-i.invariant.lanes in
+    let all = length_by (λ l. l.spot.queue) (λ q. name q) c.args.lanes.now.items c.args.queues.now.items c.requires.lanes in
+    omega (arith, c.loop-i-test.true, c.len-i-end.ensures, long, all)
+
+pub index_mut-other-requires : goal.index_mut-other-requires
+index_mut-other-requires g c =
+    let long = length_by (λ l. l.spot) (λ l. l.spot) c.loop-i.others.items c.args.lanes.now.items c.loop-i.invariant.others in
+    let all = length_by (λ l. l.spot.queue) (λ q. name q) c.args.lanes.now.items c.args.queues.now.items c.requires.lanes in
+    omega (arith, c.loop-i-test.true, c.len-i-end.ensures, long, all)
+
 pub gather-requires : goal.gather-requires
-gather-requires g c = ?
+gather-requires g c =
+    let i = c.loop-i.i in
+    let lane = c.index_mut-lane in
+    let other = c.index_mut-other in
+    let long = length_by (λ l. l.spot) (λ l. l.spot) c.loop-i.lanes.items c.args.lanes.now.items c.loop-i.invariant.lanes in
+    let all = length_by (λ l. l.spot.queue) (λ q. name q) c.args.lanes.now.items c.args.queues.now.items c.requires.lanes in
+    let lt : i < length c.args.queues.now.items = omega (arith, c.loop-i-test.true, c.len-i-end.ensures) in
+    let gt : i < length c.loop-i.lanes.items = omega (arith, lt, long, all) in
+    record {
+      queue = same_at (λ l. l.spot.queue) (λ q. name q) c.loop-i.lanes.items c.args.queues.now.items i lane.result.now c.index-queue.result.now lt
+          (spot_queues c.loop-i.lanes.items c.args.lanes.now.items c.loop-i.invariant.lanes ∙ c.requires.lanes) lane.ensures.value c.index-queue.ensures;
+      other = same_at (λ l. l.spot) (λ l. l.spot) c.loop-i.others.items c.loop-i.lanes.items i other.result.now lane.result.now gt (c.loop-i.invariant.others ∙ sym c.loop-i.invariant.lanes) other.ensures.value lane.ensures.value;
+    }
 
 pub loop-i-preserved : goal.loop-i-preserved
-loop-i-preserved g c = ?
+loop-i-preserved g c =
+    let i = c.loop-i.i in
+    let lane = c.index_mut-lane in
+    let other = c.index_mut-other in
+    let long = length_by (λ l. l.spot) (λ l. l.spot) c.loop-i.lanes.items c.args.lanes.now.items c.loop-i.invariant.lanes in
+    let longer = length_by (λ l. l.spot) (λ l. l.spot) c.loop-i.others.items c.args.lanes.now.items c.loop-i.invariant.others in
+    let all = length_by (λ l. l.spot.queue) (λ q. name q) c.args.lanes.now.items c.args.queues.now.items c.requires.lanes in
+    let lt : i < length c.loop-i.lanes.items = omega (arith, c.loop-i-test.true, c.len-i-end.ensures, long, all) in
+    let gt : i < length c.loop-i.others.items = omega (arith, c.loop-i-test.true, c.len-i-end.ensures, longer, all) in
+    record {
+      lanes = same_map (λ l. l.spot) c.loop-i.lanes.items _ i lane.result.now c.gather.new.self lane.ensures.value (ap (λ l. l.spot) c.gather.ensures.mine) c.loop-i.invariant.lanes;
+      others = same_map (λ l. l.spot) c.loop-i.others.items _ i other.result.now c.gather.new.other other.ensures.value (ap (λ l. l.spot) c.gather.ensures.other) c.loop-i.invariant.others;
+      rest = join_step i c.loop-i.lanes.items c.loop-i.others.items lane.result.now other.result.now c.gather.new.self c.gather.new.other lt gt lane.ensures.value other.ensures.value c.gather.ensures.mine ∙ c.loop-i.invariant.rest;
+    }
+
+pub returns : goal.returns
+returns g c =
+    let i = c.loop-i.i in
+    let long = length_by (λ l. l.spot) (λ l. l.spot) c.loop-i.lanes.items c.args.lanes.now.items c.loop-i.invariant.lanes in
+    let all = length_by (λ l. l.spot.queue) (λ q. name q) c.args.lanes.now.items c.args.queues.now.items c.requires.lanes in
+    let le : length c.loop-i.lanes.items ≤ i = omega (arith, c.loop-i-test.false, c.len-i-end.ensures, long, all) in
+    sym (join_end i c.loop-i.lanes.items c.loop-i.others.items le) ∙ c.loop-i.invariant.rest

@@ -1,8 +1,15 @@
-use Rattle.std.proofs.Common.{◌≡◌, ◌+◌, ◌-◌, ◌<◌, ◌≤◌, [], length, ap, ◌∙◌, arith, length-map}
+use Rattle.std.proofs.Common.{◌≡◌, ◌+◌, ◌-◌, ◌<◌, ◌≤◌, [], length, ap, ◌∙◌, arith}
 use Rattle.op_shards.specs.Order.{place_at}
 use Rattle.op_shards.specs.Passes.{name, names, queues_of, spots, spot_of, dealing, new_take}
-use Rattle.op_shards.proofs.Lanes.{spot_here, no_more_spots, some_spots, some_names, at_turn, one_more, more_lanes, whole, done, take_view, new_take_view, new_take_placed, new_take_parts}
+use Rattle.op_shards.proofs.Lanes.{spot_here, no_more_spots, length_spots_of, still_long, some_spots, some_names, at_turn, one_more, more_lanes, whole, done, take_view, new_take_view, new_take_placed, new_take_parts}
 use Rattle.op_shards.proofs.pass.hire_pass.Goals as goal
+
+pub index_mut-dealer-requires : goal.index_mut-dealer-requires
+index_mut-dealer-requires g c =
+    let queues = c.args.queues.now.items in
+    let xs = spots (queues_of (names queues) c.args.senders c.args.takers) in
+    let long = still_long (dealing c.args.senders (c.args.left - 1)) (dealing c.args.senders c.args.left) xs c.loop-i.dealers.items c.loop-i.i c.loop-i.invariant.dealers in
+    omega (arith, c.loop-i-test.true, c.len-i-end.ensures, long, length_spots_of queues c.args.senders c.args.takers)
 
 pub hire-requires : goal.hire-requires
 hire-requires g c =
@@ -50,8 +57,8 @@ invariant_of-result g c =
     let i = c.loop-i.i in
     let xs = spots (queues_of (names queues) s t) in
     let le : length queues ≤ i = omega (arith, c.loop-i-test.false, c.len-i-end.ensures) in
-    let parts = new_take_parts xs (some_spots queues s t c.requires.some) in
-    rw (whole new_take xs c.loop-i.lanes.items i (no_more_spots queues s t i le) c.loop-i.invariant.lanes) (new_take_placed s t (names queues), parts.0, parts.1)
+    let parts = new_take_parts _ xs (some_spots queues s t c.requires.some) in
+    rw (whole new_take xs c.loop-i.lanes.items i (no_more_spots queues s t i le) c.loop-i.invariant.lanes) (new_take_placed _ s t (names queues), parts.0, parts.1)
 
 pub returns-clause-dealers : goal.returns-clause-dealers
 returns-clause-dealers g c =
@@ -72,4 +79,4 @@ returns-clause-pass g c =
     let i = c.loop-i.i in
     let xs = spots (queues_of (names queues) s t) in
     let le : length queues ≤ i = omega (arith, c.loop-i-test.false, c.len-i-end.ensures) in
-    ap (take_view s t) (whole new_take xs c.loop-i.lanes.items i (no_more_spots queues s t i le) c.loop-i.invariant.lanes) ∙ new_take_view s t (names queues) (some_names queues c.requires.some)
+    ap (take_view s t) (whole new_take xs c.loop-i.lanes.items i (no_more_spots queues s t i le) c.loop-i.invariant.lanes) ∙ new_take_view _ s t (names queues) (some_names queues c.requires.some)

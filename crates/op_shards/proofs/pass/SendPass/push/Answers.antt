@@ -1,7 +1,32 @@
-use Rattle.std.proofs.Common.{ap}
+use Rattle.std.proofs.Common.{◌≡◌, ◌%◌, ℕ, length, List, ap, sym, subst, ◌∙◌}
 use Rattle.std.proofs.lemmas.List.Elements.{All-get_or, All-set}
+use Rattle.atomic_table.specs.Seated.{TableId}
+use Rattle.op_shards.specs.declared.rule.Place.{Place}
 use Rattle.op_shards.proofs.Lanes.{in_range, send_place, send_place_still, sends}
 use Rattle.op_shards.proofs.pass.SendPass.push.Goals as goal
+
+pub push-requires-clause-here : goal.push-requires-clause-here
+push-requires-clause-here g c =
+    let lane = c.index_mut-lane in
+    let k = c.args.shard in
+    let lanes = c.self.inside.lanes.items in
+    let lt = in_range (λ l. l.spot.queue) lanes _ k _ (ap (λ s. s.queues.names) c.self.view_is) c.requires.queue in
+    let place = send_place c.self.inside.senders c.self.inside.takers lanes k lane.result.now lt lane.ensures.value c.self.invariant.0 in
+    subst (λ (q : Place). g.T.Op.group c.args.op % q.shards ≡ q.shard) (sym place)
+      (subst (λ (n : List TableId). g.T.Op.group c.args.op % length n ≡ k) (sym (ap (λ s. s.queues.names) c.self.view_is)) c.requires.here)
+
+pub invariant_of-self : goal.invariant_of-self
+invariant_of-self g c =
+    let lane = c.index_mut-lane in
+    let told = c.push.ensures in
+    let k = c.args.shard in
+    let lanes = c.self.inside.lanes.items in
+    let p = c.self.inside.sender in
+    let x = lane.result.now in
+    let lt = in_range (λ l. l.spot.queue) lanes _ k _ (ap (λ s. s.queues.names) c.self.view_is) c.requires.queue in
+    let own : x.sender ≡ p = ap (λ l. l.sender) lane.ensures.value ∙ All-get_or (λ l. l.sender ≡ p) lanes k x lt c.self.invariant.1 in
+    (send_place_still c.self.inside.senders c.self.inside.takers lanes k x c.push.new.self lt lane.ensures.value told.lane.0 c.self.invariant.0,
+      All-set (λ l. l.sender ≡ p) lanes k c.push.new.self (told.lane.1 ∙ own) c.self.invariant.1)
 
 pub returns : goal.returns
 returns g c =

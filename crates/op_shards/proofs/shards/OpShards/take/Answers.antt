@@ -1,5 +1,9 @@
-use Rattle.std.proofs.Common.{refl}
+use Rattle.std.proofs.Common.{refl, subst}
+use Rattle.op_shards.specs.Order.{IsHere}
+use Rattle.op_shards.specs.Passes.{Queues, shard_of}
 use Rattle.op_shards.proofs.shards.OpShards.take.Goals as goal
 
 pub returns-in-Some-clause-answer : goal.returns-in-Some-clause-answer
-returns-in-Some-clause-answer g c = (c.in-Some.ranked, refl, c.in-Some.ensures.0, c.in-Some.ensures.1, c.in-Some.ensures.2, c.in-Some.ensures.3)
+returns-in-Some-clause-answer g c =
+    let told = c.in-Some.ensures in
+    (c.in-Some.ranked, refl, told.0, subst (λ (q : Queues). IsHere g.T.Op.group (shard_of q c.args.shard) c.in-Some.ranked) c.requires.pass told.1, told.2, told.3)

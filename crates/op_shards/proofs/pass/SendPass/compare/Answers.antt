@@ -1,0 +1,33 @@
+use Rattle.std.proofs.Common.{◌<◌, length, ap, sym, ◌∙◌, arith}
+use Rattle.op_shards.specs.Passes.{spots}
+use Rattle.op_shards.proofs.Lanes.{in_range, same_at, length_by, same_set, first_of_lanes}
+use Rattle.op_shards.proofs.pass.SendPass.compare.Goals as goal
+
+pub compare-requires-clause-other : goal.compare-requires-clause-other
+compare-requires-clause-other g c =
+    let k = c.args.shard in
+    let mine = c.self.inside.lanes.items in
+    let theirs = c.other.inside.lanes.items in
+    let lt = in_range (λ l. l.spot.queue) mine _ k _ (ap (λ s. s.queues.names) c.self.view_is) c.requires.queue in
+    let queues = ap (λ t. t.queues) c.other.view_is ∙ c.requires.same ∙ sym (ap (λ s. s.queues) c.self.view_is) in
+    let spots_same = c.other.invariant.0 ∙ ap spots queues ∙ sym c.self.invariant.0 in
+    same_at (λ l. l.spot) (λ l. l.spot) theirs mine k c.index_mut-theirs.result.now c.index_mut-mine.result.now lt spots_same c.index_mut-theirs.ensures.value c.index_mut-mine.ensures.value
+
+pub invariant_of-self : goal.invariant_of-self
+invariant_of-self g c = rw (same_set c.self.inside.lanes.items c.args.shard c.index_mut-mine.result.now c.compare.new.self c.index_mut-mine.ensures.value c.compare.ensures.same.0) c.self.invariant
+
+pub invariant_of-other : goal.invariant_of-other
+invariant_of-other g c = rw (same_set c.other.inside.lanes.items c.args.shard c.index_mut-theirs.result.now c.compare.new.other c.index_mut-theirs.ensures.value c.compare.ensures.same.1) c.other.invariant
+
+pub returns-clause-first : goal.returns-clause-first
+returns-clause-first g c whole =
+    let k = c.args.shard in
+    let mine = c.self.inside.lanes.items in
+    let theirs = c.other.inside.lanes.items in
+    let lt = in_range (λ l. l.spot.queue) mine _ k _ (ap (λ s. s.queues.names) c.self.view_is) c.requires.queue in
+    let queues = ap (λ t. t.queues) c.other.view_is ∙ c.requires.same ∙ sym (ap (λ s. s.queues) c.self.view_is) in
+    let spots_same = c.other.invariant.0 ∙ ap spots queues ∙ sym c.self.invariant.0 in
+    let long = length_by (λ l. l.spot) (λ l. l.spot) theirs mine spots_same in
+    let gt : k < length theirs = omega (arith, lt, long) in
+    first_of_lanes c.self.inside.senders c.self.inside.takers c.self.inside.sender mine c.other.inside.senders c.other.inside.takers theirs k c.index_mut-mine.result.now c.index_mut-theirs.result.now lt gt c.index_mut-mine.ensures.value c.index_mut-theirs.ensures.value
+      c.self.invariant.0 c.self.invariant.1 c.other.invariant.2 c.compare.ensures.first c.args.self.now c.args.other.now c.self.view_is c.other.view_is c.requires.same whole
