@@ -47,9 +47,6 @@ longer_either (x ∷ xs) (y ∷ ys) (z ∷ zs) p q =
     ⊎_elim (λ (e : longer xs ys ≡ xs). inl (ap (λ (l : List ClientRequest). x ∷ l) e)) (λ (e : longer xs ys ≡ ys). inr (λ i. heads i ∷ e i))
       (longer_either xs ys zs (p.0, cc (p.1)) (q.0, cc (q.1)))
 
-pub list_at-nil : (i : ℕ) → list_at [] i ≡ []
-list_at-nil i = refl
-
 pub list_at-put : (xs : List (List ClientRequest)) (i : ℕ) (l : List ClientRequest) → list_at (put_at xs i l) i ≡ l
 list_at-put [] zero l = refl
 list_at-put [] (suc i) l = list_at-put [] i l

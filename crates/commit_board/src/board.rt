@@ -130,6 +130,17 @@ impl Board {
         ensures told { (i : ℕ) → IsPrefix (list_at note.lists i) (list_at seen.new.lists i) }
         ensures either { (i : ℕ) → (list_at seen.new.lists i ≡ list_at seen.old.lists i) ⊎ (list_at seen.new.lists i ≡ list_at note.lists i) }
     {
+        self.take_in(seen, note);
+    }
+
+    fn take_in(&self, seen: &mut Seen, note: Note)
+        requires seen { seen.old.board ≡ self.now }
+        requires note { note.board ≡ self.now }
+        ensures board { seen.new.board ≡ seen.old.board }
+        ensures known { (i : ℕ) → IsPrefix (list_at seen.old.lists i) (list_at seen.new.lists i) }
+        ensures told { (i : ℕ) → IsPrefix (list_at note.lists i) (list_at seen.new.lists i) }
+        ensures either { (i : ℕ) → (list_at seen.new.lists i ≡ list_at seen.old.lists i) ⊎ (list_at seen.new.lists i ≡ list_at note.lists i) }
+    {
         let Note { seat } = note;
         self.table.shared.join_seat::<Inform>(&mut seen.seat, seat);
         self.table.shared.load::<Merge>(&mut seen.seat, 0);

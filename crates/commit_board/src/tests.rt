@@ -97,11 +97,11 @@ fn notes_are_carried_between_threads(rt: HostRuntime) -> Result<(), Fail> {
     let ((mut writer, note), (mut late, rising)) = join(
         &rt,
         || -> (Writer, Note)
-            ensures writer { result.0.board ≡ board.now }
-            ensures note { result.1.board ≡ board.now }
+            ensures writer { result.0.board ≡ board }
+            ensures note { result.1.board ≡ board }
         { write(&board, writer, &request) },
         || -> (Seen, bool)
-            ensures { result.0.board ≡ board.now }
+            ensures { result.0.board ≡ board }
         { watch(&board, late) },
     );
     assert!(rt; rising);

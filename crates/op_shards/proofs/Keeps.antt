@@ -114,7 +114,7 @@ module _ {T : Type 0} (group : T → ℕ) where
       let w : Hand T = hand v.place v.first v.end v.parts v.put (v.got ++ x ∷ []) in
       let taken' : List (Ranked T) = kept.taken ++ x ∷ [] in
       let past' : (got : List (Ranked T)) → Each (λ y. y.rank < length (of y.sender kept.taken)) got → Each (λ y. y.rank < length (of y.sender taken')) got =
-          λ got. each_so (λ y. y.rank < length (of y.sender kept.taken)) (λ y. y.rank < length (of y.sender taken')) got (λ y lt. let le = length_of_more y.sender kept.taken x in omega (arith, lt, le)) in
+      λ got. each_so (λ y. y.rank < length (of y.sender kept.taken)) (λ y. y.rank < length (of y.sender taken')) got (λ y lt. let le = length_of_more y.sender kept.taken x in omega (arith, lt, le)) in
       let next = next_rank x items views kept in
       record {
         place = kept.place;
@@ -149,14 +149,18 @@ module _ {T : Type 0} (group : T → ℕ) where
       let fits = kept.passes by v at in
       let w : Hand T = hand v.place v.first v.end v.parts v.put (v.got ++ x ∷ []) in
       let kept' = takes_keeps by v x items views part kept at in
-      let next = next_rank x items views kept in
-      (w, inr kept',
-        (refl,
+      let next = next_rank x items views kept in (
+        w,
+        inr kept',
+        (
+          refl,
           subst (λ (q : Place). IsHere group q x) (sym (fits.placed some_shards)) kept.here.0,
           each_so (λ y. y.rank < length (of y.sender kept.taken)) (λ y. y.sender ≡ x.sender → y.rank < x.rank) v.got
-            (λ y lt same. let e : length (of y.sender kept.taken) ≡ length (of x.sender kept.taken) = ap (λ (p : ℕ). length (of p kept.taken)) same in omega (arith, lt, e, next))
-            fits.past,
-          (items, record { views = set views by w; by = by; kept = kept'; mine = set_here views by v w at })))
+              (λ y lt same. let e : length (of y.sender kept.taken) ≡ length (of x.sender kept.taken) = ap (λ (p : ℕ). length (of p kept.taken)) same in omega (arith, lt, e, next))
+              fits.past,
+          (items, record { views = set views by w; by = by; kept = kept'; mine = set_here views by v w at }),
+        ),
+      )
 
   pub learns : (by : ℕ) (v : Hand T) → 0 < v.place.shards → Learns (Rule group) by v (KeptWith group v)
   learns by v some_shards items views rule at = record { views = views; by = by; kept = opened items views by v rule at some_shards; mine = at }
@@ -176,8 +180,8 @@ module _ {T : Type 0} (group : T → ℕ) where
     passes = all_more (Fits p [] (λ q. []) (λ q. 0)) (dealer p 0 p.takers ∷ []) (taker p 0 [])
         (fits_idle p [] (λ q. []) (λ q. 0) 1 p (λ z. some_shards) (λ z. refl) 0)
         (all_more (Fits p [] (λ q. []) (λ q. 0)) [] (dealer p 0 p.takers)
-          (record { opened = λ z. some_shards; placed = λ z. refl; senders = λ q lo hi. (hi, refl, refl); past = tt; idle = λ z. refl })
-          (λ j u e. absurd (some-ne-none u (sym e))));
+        (record { opened = λ z. some_shards; placed = λ z. refl; senders = λ q lo hi. (hi, refl, refl); past = tt; idle = λ z. refl })
+        (λ j u e. absurd (some-ne-none u (sym e))));
   }
 
   pub opens : (by : ℕ) (p : Place) → 0 < p.shards → Forks (Rule group) by unopened (dealer p 0 p.takers) (taker p 0 [])
@@ -197,13 +201,13 @@ module _ {T : Type 0} (group : T → ℕ) where
       let r : Hand T = taker v.place 1 [] in
       let views' : List (Hand T) = set views by l in
       inr (changed items views (views' ++ r ∷ []) kept kept.seat
-        (λ h. let t = total_set (λ (u : Hand T). weigh h u.got) views by v l at in let m = total_add (λ (u : Hand T). weigh h u.got) views' r in omega (arith, t, m))
-        (let t = total_set (λ (u : Hand T). u.parts) views by v l at in let m = total_add (λ (u : Hand T). u.parts) views' r in omega (arith, t, m, part))
-        (all_more (Fits kept.place kept.taken kept.sent kept.seat) views' r
-          (fits_idle kept.place kept.taken kept.sent kept.seat (length views') v.place fits.opened fits.placed 1)
-          (all_set (Fits kept.place kept.taken kept.sent kept.seat) views by l
-            (record { opened = fits.opened; placed = fits.placed; senders = fits.senders; past = fits.past; idle = λ z. none })
-            (λ j u apart e. kept.passes j u e))))
+      (λ h. let t = total_set (λ (u : Hand T). weigh h u.got) views by v l at in let m = total_add (λ (u : Hand T). weigh h u.got) views' r in omega (arith, t, m))
+      (let t = total_set (λ (u : Hand T). u.parts) views by v l at in let m = total_add (λ (u : Hand T). u.parts) views' r in omega (arith, t, m, part))
+      (all_more (Fits kept.place kept.taken kept.sent kept.seat) views' r
+      (fits_idle kept.place kept.taken kept.sent kept.seat (length views') v.place fits.opened fits.placed 1)
+      (all_set (Fits kept.place kept.taken kept.sent kept.seat) views by l
+      (record { opened = fits.opened; placed = fits.placed; senders = fits.senders; past = fits.past; idle = λ z. none })
+      (λ j u apart e. kept.passes j u e))))
 
   pub deals : (by first end parts : ℕ) (place : Place) (v : Hand T) → first < end → 0 < place.shards → v ≡ hand place first end parts [] [] → Forks (Rule group) by v (other_senders v) (one_sender v)
   deals by first end parts place v lt some_shards is = subst (λ (x : Hand T). Forks (Rule group) by x (other_senders x) (one_sender x)) (sym is) here
@@ -219,31 +223,31 @@ module _ {T : Type 0} (group : T → ℕ) where
           let views' : List (Hand T) = set views by l in
           let seat' : ℕ → ℕ = swapped kept.seat first (length views') in
           inr (changed items views (views' ++ r ∷ []) kept seat'
-            (λ h. let t = total_set (λ (u : Hand T). weigh h u.got) views by v0 l at in let m = total_add (λ (u : Hand T). weigh h u.got) views' r in omega (arith, t, m))
-            (let t = total_set (λ (u : Hand T). u.parts) views by v0 l at in let m = total_add (λ (u : Hand T). u.parts) views' r in omega (arith, t, m))
-            (all_more (Fits kept.place kept.taken kept.sent seat') views' r
-              (record {
-                opened = fits.opened;
-                placed = fits.placed;
-                senders = λ q lo hi. let e : q ≡ first = omega (arith, lo, hi) in (subst (λ (k : ℕ). k < kept.place.senders) (sym e) owned.0, swapped_here kept.seat first q (length views') e, owned.2 ∙ ap kept.sent (sym e));
-                past = tt;
-                idle = λ z. refl;
-              })
-              (all_set (Fits kept.place kept.taken kept.sent seat') views by l
-                (record {
-                  opened = fits.opened;
-                  placed = fits.placed;
-                  senders = λ q lo hi. let o = fits.senders q (omega (arith, lo)) hi in (o.0, swapped_else kept.seat first q (length views') (λ e. omega (arith, lo, e)) ∙ o.1, o.2);
-                  past = tt;
-                  idle = λ z. refl;
-                })
-                (λ j u apart e. let f = kept.passes j u e in record {
-                  opened = f.opened;
-                  placed = f.placed;
-                  senders = λ q lo hi. let o = f.senders q lo hi in (o.0, swapped_else kept.seat first q (length views') (λ same. apart (sym o.1 ∙ ap kept.seat same ∙ owned.1)) ∙ o.1, o.2);
-                  past = f.past;
-                  idle = f.idle;
-                }))))
+          (λ h. let t = total_set (λ (u : Hand T). weigh h u.got) views by v0 l at in let m = total_add (λ (u : Hand T). weigh h u.got) views' r in omega (arith, t, m))
+          (let t = total_set (λ (u : Hand T). u.parts) views by v0 l at in let m = total_add (λ (u : Hand T). u.parts) views' r in omega (arith, t, m))
+          (all_more (Fits kept.place kept.taken kept.sent seat') views' r
+          (record {
+            opened = fits.opened;
+            placed = fits.placed;
+            senders = λ q lo hi. let e : q ≡ first = omega (arith, lo, hi) in (subst (λ (k : ℕ). k < kept.place.senders) (sym e) owned.0, swapped_here kept.seat first q (length views') e, owned.2 ∙ ap kept.sent (sym e));
+            past = tt;
+            idle = λ z. refl;
+          })
+          (all_set (Fits kept.place kept.taken kept.sent seat') views by l
+          (record {
+            opened = fits.opened;
+            placed = fits.placed;
+            senders = λ q lo hi. let o = fits.senders q (omega (arith, lo)) hi in (o.0, swapped_else kept.seat first q (length views') (λ e. omega (arith, lo, e)) ∙ o.1, o.2);
+            past = tt;
+            idle = λ z. refl;
+          })
+          (λ j u apart e. let f = kept.passes j u e in record {
+            opened = f.opened;
+            placed = f.placed;
+            senders = λ q lo hi. let o = f.senders q lo hi in (o.0, swapped_else kept.seat first q (length views') (λ same. apart (sym o.1 ∙ ap kept.seat same ∙ owned.1)) ∙ o.1, o.2);
+            past = f.past;
+            idle = f.idle;
+          }))))
 
   pub parts : (by : ℕ) (v : Hand T) → 0 < v.place.shards → Forks (Rule group) by v (put_alone v) (got_alone v)
   parts by v some_shards items views rule at =
@@ -253,13 +257,13 @@ module _ {T : Type 0} (group : T → ℕ) where
       let r : Hand T = got_alone v in
       let views' : List (Hand T) = set views by l in
       inr (changed items views (views' ++ r ∷ []) kept kept.seat
-        (λ h. let t = total_set (λ (u : Hand T). weigh h u.got) views by v l at in let m = total_add (λ (u : Hand T). weigh h u.got) views' r in omega (arith, t, m))
-        (let t = total_set (λ (u : Hand T). u.parts) views by v l at in let m = total_add (λ (u : Hand T). u.parts) views' r in omega (arith, t, m))
-        (all_more (Fits kept.place kept.taken kept.sent kept.seat) views' r
-          (record { opened = fits.opened; placed = fits.placed; senders = λ p lo hi. absurd (omega (arith, hi)); past = fits.past; idle = fits.idle })
-          (all_set (Fits kept.place kept.taken kept.sent kept.seat) views by l
-            (record { opened = fits.opened; placed = fits.placed; senders = fits.senders; past = tt; idle = λ z. refl })
-            (λ j u apart e. kept.passes j u e))))
+      (λ h. let t = total_set (λ (u : Hand T). weigh h u.got) views by v l at in let m = total_add (λ (u : Hand T). weigh h u.got) views' r in omega (arith, t, m))
+      (let t = total_set (λ (u : Hand T). u.parts) views by v l at in let m = total_add (λ (u : Hand T). u.parts) views' r in omega (arith, t, m))
+      (all_more (Fits kept.place kept.taken kept.sent kept.seat) views' r
+      (record { opened = fits.opened; placed = fits.placed; senders = λ p lo hi. absurd (omega (arith, hi)); past = fits.past; idle = fits.idle })
+      (all_set (Fits kept.place kept.taken kept.sent kept.seat) views by l
+      (record { opened = fits.opened; placed = fits.placed; senders = fits.senders; past = tt; idle = λ z. refl })
+      (λ j u apart e. kept.passes j u e))))
 
   pub meets : (by : ℕ) (v : Hand T) (other : ℕ) (w : Hand T) → 0 < v.place.shards → Merges (Rule group) by v other w (together v w) spent
   meets by v other w some_shards items views rule at apart at' =
@@ -268,26 +272,26 @@ module _ {T : Type 0} (group : T → ℕ) where
       let both : Hand T = together v w in
       let views' : List (Hand T) = set views by both in
       let was : get_elem? views other ≡ some w =
-          ⊎_elim (λ (x : (other ≡ by) × (both ≡ w)). absurd (apart x.0)) (λ (x : (other ≢ by) × (get_elem? views other ≡ some w)). x.1) (at_set views by other both w at') in
+      ⊎_elim (λ (x : (other ≡ by) × (both ≡ w)). absurd (apart x.0)) (λ (x : (other ≢ by) × (get_elem? views other ≡ some w)). x.1) (at_set views by other both w at') in
       let theirs = kept.passes other w was in
       inr (changed items views (set views' other spent) kept kept.seat
-        (λ h.
-          let t = total_set (λ (u : Hand T). weigh h u.got) views by v both at in
-          let u = total_set (λ (u : Hand T). weigh h u.got) views' other w spent at' in
-          let a = weigh_append h v.got w.got in
-          omega (arith, t, u, a))
-        (let t = total_set (λ (u : Hand T). u.parts) views by v both at in let u = total_set (λ (u : Hand T). u.parts) views' other w spent at' in omega (arith, t, u))
-        (all_set (Fits kept.place kept.taken kept.sent kept.seat) views' other spent
-          (fits_idle kept.place kept.taken kept.sent kept.seat other (spent {T = T}).place (λ z. absurd (omega (arith, z))) (λ z. absurd (omega (arith, z))) 0)
-          (λ j u apart' e. all_set (Fits kept.place kept.taken kept.sent kept.seat) views by both
-            (record {
-              opened = fits.opened;
-              placed = fits.placed;
-              senders = fits.senders;
-              past = each_append (λ y. y.rank < length (of y.sender kept.taken)) v.got w.got fits.past theirs.past;
-              idle = λ none. (λ i. fits.idle (omega (arith, none)) i ++ theirs.idle (omega (arith, none)) i);
-            })
-            (λ j u apart'' e. kept.passes j u e) j u e)))
+      (λ h.
+      let t = total_set (λ (u : Hand T). weigh h u.got) views by v both at in
+      let u = total_set (λ (u : Hand T). weigh h u.got) views' other w spent at' in
+      let a = weigh_append h v.got w.got in
+      omega (arith, t, u, a))
+      (let t = total_set (λ (u : Hand T). u.parts) views by v both at in let u = total_set (λ (u : Hand T). u.parts) views' other w spent at' in omega (arith, t, u))
+      (all_set (Fits kept.place kept.taken kept.sent kept.seat) views' other spent
+      (fits_idle kept.place kept.taken kept.sent kept.seat other (spent {T = T}).place (λ z. absurd (omega (arith, z))) (λ z. absurd (omega (arith, z))) 0)
+      (λ j u apart' e. all_set (Fits kept.place kept.taken kept.sent kept.seat) views by both
+      (record {
+        opened = fits.opened;
+        placed = fits.placed;
+        senders = fits.senders;
+        past = each_append (λ y. y.rank < length (of y.sender kept.taken)) v.got w.got fits.past theirs.past;
+        idle = λ none. (λ i. fits.idle (omega (arith, none)) i ++ theirs.idle (omega (arith, none)) i);
+      })
+      (λ j u apart'' e. kept.passes j u e) j u e)))
 
   pub accepts : (by : ℕ) (v : Hand T) → v.end ≡ suc v.first → 0 < v.place.shards → Learns (Rule group) by v (Accounts v)
   accepts by v end some_shards items views rule at =
@@ -296,22 +300,23 @@ module _ {T : Type 0} (group : T → ℕ) where
       let p = v.first in
       let put : of p kept.taken ++ of p items ≡ v.put = sym (of_append p kept.taken items) ∙ (kept.order p ∙ sym (fits.senders p (omega arith) (omega (arith, end))).2) in (
         (λ h.
-          let mine = weigh_of p h v.got in
-          let part = part_of_total (λ (u : Hand T). weigh (weight_of p h) u.got) views by v at in
-          let all = kept.once (weight_of p h) in
-          let took = weigh_of p h kept.taken in
-          let both = weigh_append h (of p kept.taken) (of p items) in
-          let is = ap (weigh h) put in
-          omega (arith, mine, part, all, took, both, is)),
+            let mine = weigh_of p h v.got in
+            let part = part_of_total (λ (u : Hand T). weigh (weight_of p h) u.got) views by v at in
+            let all = kept.once (weight_of p h) in
+            let took = weigh_of p h kept.taken in
+            let both = weigh_append h (of p kept.taken) (of p items) in
+            let is = ap (weigh h) put in
+            omega (arith, mine, part, all, took, both, is)),
         (λ whole h.
-          let same : (g : Ranked T → ℕ) → weigh g (of p v.got) ≡ weigh g (of p kept.taken) = λ g.
-              let mine = weigh_of p g v.got in
-              let alone = total_alone (λ (u : Hand T). weigh (weight_of p g) u.got) views by v at
-                  (kept.parts ∙ sym (whole ∙ ap (λ (q : Place). q.takers) (fits.placed some_shards)))
-                  (λ j u e none. ap (weigh (weight_of p g)) ((kept.passes j u e).idle none)) in
-              let all = kept.once (weight_of p g) in
-              let took = weigh_of p g kept.taken in
-              omega (arith, mine, alone, all, took) in
-          let n : length (of p v.got) ≡ length (of p kept.taken) = sym (weigh_ones (of p v.got)) ∙ same (λ _. 1) ∙ weigh_ones (of p kept.taken) in
-          let cut : take (length (of p kept.taken)) v.put ≡ of p kept.taken = ap (take (length (of p kept.taken))) (sym put) ∙ take-append_seam (of p kept.taken) (of p items) in
-          same h ∙ ap (weigh h) (sym (ap (λ (k : ℕ). take k v.put) n ∙ cut))))
+            let same : (g : Ranked T → ℕ) → weigh g (of p v.got) ≡ weigh g (of p kept.taken) = λ g.
+            let mine = weigh_of p g v.got in
+            let alone = total_alone (λ (u : Hand T). weigh (weight_of p g) u.got) views by v at
+            (kept.parts ∙ sym (whole ∙ ap (λ (q : Place). q.takers) (fits.placed some_shards)))
+            (λ j u e none. ap (weigh (weight_of p g)) ((kept.passes j u e).idle none)) in
+            let all = kept.once (weight_of p g) in
+            let took = weigh_of p g kept.taken in
+            omega (arith, mine, alone, all, took) in
+            let n : length (of p v.got) ≡ length (of p kept.taken) = sym (weigh_ones (of p v.got)) ∙ same (λ _. 1) ∙ weigh_ones (of p kept.taken) in
+            let cut : take (length (of p kept.taken)) v.put ≡ of p kept.taken = ap (take (length (of p kept.taken))) (sym put) ∙ take-append_seam (of p kept.taken) (of p items) in
+            same h ∙ ap (weigh h) (sym (ap (λ (k : ℕ). take k v.put) n ∙ cut))),
+      )

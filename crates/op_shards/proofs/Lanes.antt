@@ -46,8 +46,8 @@ module _ {A : Type 0} (spot : A → Spot) (s t : ℕ) where
       let here : q ≡ get_or (map (λ l. (spot l).queue) lanes) i q = ap (λ l. (spot l).queue) at ∙ sym (get_or-map' (λ l. (spot l).queue) lanes i x) in
       let within : i < length (map (λ l. (spot l).queue) lanes) = omega (arith, lt, length-map lanes (λ l. (spot l).queue)) in
       let whole : spot x ≡ spot_of q (shard_of (queues_by lanes) i) =
-          ap spot at ∙ sym (get_or-map' spot lanes i x) ∙ ap (λ l. get_or l i (spot x)) is
-          ∙ spot_at (length (map (λ l. (spot l).queue) lanes)) s t (map (λ l. (spot l).queue) lanes) i q (spot x) within here in
+      ap spot at ∙ sym (get_or-map' spot lanes i x) ∙ ap (λ l. get_or l i (spot x)) is
+      ∙ spot_at (length (map (λ l. (spot l).queue) lanes)) s t (map (λ l. (spot l).queue) lanes) i q (spot x) within here in
       ap (λ p. p.place) whole
 
   module _ (lanes : List A) (k : ℕ) (x y : A) (lt : k < length lanes) (at : x ≡ get_or lanes k x) (same : spot y ≡ spot x) where
@@ -123,10 +123,10 @@ module _ {T : Type 0} (group : T → ℕ) where
   pub sends : {U : Type 0} (s t p : ℕ) (lanes : List (Sent T)) (k : ℕ) (x y : Sent T) (n : ℕ) (op : T) (r : Result U T) → k < length lanes → x ≡ get_or lanes k x
       → SendInPlace s t lanes → All (λ (l : Sent T). l.sender ≡ p) lanes → y.spot ≡ x.spot → y.sender ≡ x.sender
       → MatchResult r (λ _. (y.accepted ≡ x.accepted ++ ranked x.sender (length x.accepted) op ∷ []) × WasKept group (sender x.spot.place x.sender y.accepted))
-          (λ o. (o ≡ op) × (y ≡ x) × Held n (KeptWith group (sender x.spot.place x.sender x.accepted)))
+      (λ o. (o ≡ op) × (y ≡ x) × Held n (KeptWith group (sender x.spot.place x.sender x.accepted)))
       → (v : Sender T) → send_view s t p lanes ≡ v
       → MatchResult r (λ _. (send_view s t p (set lanes k y) ≡ after_submit v k op) × SenderWasKept group (send_view s t p (set lanes k y)) k)
-          (λ o. (o ≡ op) × (send_view s t p (set lanes k y) ≡ v) × SenderWasKeptAt group n v k)
+      (λ o. (o ≡ op) × (send_view s t p (set lanes k y) ≡ v) × SenderWasKeptAt group n v k)
   sends s t p lanes k x y n op r lt at placed all spot same answer v is =
       let acc : Sent T → List (Ranked T) = λ l. l.accepted in
       let mine : x.sender ≡ p = ap (λ (l : Sent T). l.sender) at ∙ All-get_or (λ (l : Sent T). l.sender ≡ p) lanes k x lt all in
@@ -143,10 +143,10 @@ module _ {T : Type 0} (group : T → ℕ) where
   pub takes_one : (s t : ℕ) (lanes : List (Got T)) (k : ℕ) (x y : Got T) (r : Option (Ranked T)) → k < length lanes → x ≡ get_or lanes k x
       → TakeInPlace s t lanes → All (λ (l : Got T). l.parts ≡ parts_of lanes) lanes → y.spot ≡ x.spot → y.parts ≡ x.parts
       → MatchOption r ((y ≡ x) × Held 0 (KeptWith group (taker x.spot.place x.parts x.taken)))
-          (λ z. (y.taken ≡ x.taken ++ z ∷ []) × IsHere group x.spot.place z × IsNextAfter x.taken z × WasKept group (taker x.spot.place x.parts y.taken))
+      (λ z. (y.taken ≡ x.taken ++ z ∷ []) × IsHere group x.spot.place z × IsNextAfter x.taken z × WasKept group (taker x.spot.place x.parts y.taken))
       → (v : Taker T) → take_view s t lanes ≡ v
       → MatchOption r ((take_view s t (set lanes k y) ≡ v) × TakerWasKeptAt group 0 v k)
-          (λ z. (take_view s t (set lanes k y) ≡ after_take v k z) × IsHere group (shard_of v.queues k) z × IsNextAfter (at_shard v.taken k) z × TakerWasKept group (take_view s t (set lanes k y)) k)
+      (λ z. (take_view s t (set lanes k y) ≡ after_take v k z) × IsHere group (shard_of v.queues k) z × IsNextAfter (at_shard v.taken k) z × TakerWasKept group (take_view s t (set lanes k y)) k)
   takes_one s t lanes k x y r lt at placed all spot same answer v is =
       let acc : Got T → List (Ranked T) = λ l. l.taken in
       let old : x.taken ≡ at_shard (map acc lanes) k = at_old acc lanes k x lt at in
@@ -158,11 +158,12 @@ module _ {T : Type 0} (group : T → ℕ) where
       (MatchOption-weaker r answer
       (λ a. (ap (take_view s t) (lane_same acc lanes k x lt at y a.0), subst (λ w. Held 0 (KeptWith group w)) (λ i. taker (place i) (mine i) (old i)) a.1))
       (λ z a.
-      let more = with_new acc lanes k x lt at y z a.0 in
-      ((λ i. record { queues = queues i; takers = parts i; taken = more i }),
+      let more = with_new acc lanes k x lt at y z a.0 in (
+        (λ i. record { queues = queues i; takers = parts i; taken = more i }),
         subst (λ (q : Place). IsHere group q z) place a.1,
         subst (λ (l : List (Ranked T)). IsNextAfter l z) old a.2,
-        subst (WasKept group) (λ i. taker ((place ∙ ap (λ q. shard_of q k) (sym queues)) i) ((mine ∙ sym parts) i) (at_new acc lanes k x lt at y i)) a.3)))
+        subst (WasKept group) (λ i. taker ((place ∙ ap (λ q. shard_of q k) (sym queues)) i) ((mine ∙ sym parts) i) (at_new acc lanes k x lt at y i)) a.3,
+      )))
 
 -- one more of a list that a loop goes over by its index
 one_more_from : {A B : Type 0} (f g : A → B) (xs : List A) (i : ℕ) (q : A) (y : B) → i < length xs → y ≡ f (get_or xs i q) → set (map f (take i xs) ++ map g (drop i xs)) i y ≡ map f (take (suc i) xs) ++ map g (drop (suc i) xs)

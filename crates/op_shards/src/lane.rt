@@ -107,13 +107,7 @@ impl<T: Op> Dealer<T> {
 
 impl<T: Op> SendLane<T> {
     /// Puts the operation in. It comes back only if the queue was full at one moment of the call.
-    pub fn push<R: Wait>(
-        &mut self,
-        rt: &R,
-        queue: &Queue<T>,
-        number: u64,
-        op: T,
-    ) -> Result<(), T>
+    pub fn push<R: Wait>(&mut self, rt: &R, queue: &Queue<T>, number: u64, op: T) -> Result<(), T>
         requires queue { self.old.spot.queue ≡ name queue.now }
         requires number { self.old.sender ≡ number }
         requires here { T.group op % self.old.spot.place.shards ≡ self.old.spot.place.shard }

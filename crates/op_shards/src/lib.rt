@@ -13,3 +13,6 @@ pub use op::Op;
 pub use pass::{SendPass, TakePass};
 pub use rule::{Place, Ranked};
 pub use shards::OpShards;
+
+#[cfg(test)]
+mod tests;

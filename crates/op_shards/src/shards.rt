@@ -102,7 +102,7 @@ impl<T: Op, R: Wait> OpShards<T, R> {
         ensures answer { MatchOption result
             ((pass.new ≡ pass.old) × TakerWasKeptAt T.group 0 pass.old shard)
             (λ op. (x : Ranked T) × (x.op ≡ op) × (pass.new ≡ after_take pass.old shard x)
-              × IsHere T.group (shard_of self.now.queues shard) x × IsNextAfter (at_shard pass.old.taken shard) x × TakerWasKept T.group pass.new shard) }
+            × IsHere T.group (shard_of self.now.queues shard) x × IsNextAfter (at_shard pass.old.taken shard) x × TakerWasKept T.group pass.new shard) }
     {
         let queue = &self.queues[shard];
         match pass.pop(&self.rt, queue, shard) {

@@ -12,9 +12,9 @@ loop-shard-preserved g c =
     let queues = c.loop-shard.queues.items in
     let longer = ap length more in
     record {
-      count = omega (arith, i.count, longer, length-append queues (c.in_ok-open.field-0.0 ∷ []));
-      places = all_more_of (λ q. ruled_capacity q ≡ c.args.places) queues _ _ more i.places c.in_ok-open.ensures.queue;
-      dealers = more_dealers c.args.shards c.args.senders c.args.takers c.loop-shard.shard queues _ c.in_ok-open.field-0.0 c.loop-shard.dealers.items _ _ i.count i.dealers c.in_ok-open.ensures.dealer more c.in_ok-push.ensures.items;
+      count = omega (arith, i.count, longer, length-append queues (c.in_ok-queue.queue ∷ []));
+      places = all_more_of (λ q. ruled_capacity q ≡ c.args.places) queues _ _ more i.places c.in_ok-queue.ensures.queue;
+      dealers = more_dealers c.args.shards c.args.senders c.args.takers c.loop-shard.shard queues _ c.in_ok-queue.queue c.loop-shard.dealers.items _ _ i.count i.dealers c.in_ok-queue.ensures.dealer more c.in_ok-push.ensures.items;
     }
 
 pub returns-clause-dealers : goal.returns-clause-dealers

@@ -12,7 +12,7 @@ pub learn_as-requires-clause-rule : goal.learn_as-requires-clause-rule
 learn_as-requires-clause-rule g c =
     let met = c.absorb.ensures.rule in
     accepts g.T.Op.group _ _ (ap (λ v. v.end) met ∙ ap (λ v. v.end) c.self.invariant.0 ∙ sym (ap (λ v. suc v.first) met))
-      (subst (λ (k : ℕ). 0 < k) (sym (ap (λ v. v.place.shards) met)) c.self.invariant.1)
+    (subst (λ (k : ℕ). 0 < k) (sym (ap (λ v. v.place.shards) met)) c.self.invariant.1)
 
 pub another-requires-clause-rule : goal.another-requires-clause-rule
 another-requires-clause-rule g c =

@@ -30,4 +30,4 @@ returns-clause-first g c whole =
     let long = length_by (λ l. l.spot) (λ l. l.spot) theirs mine spots_same in
     let gt : k < length theirs = omega (arith, lt, long) in
     first_of_lanes c.self.inside.senders c.self.inside.takers c.self.inside.sender mine c.other.inside.senders c.other.inside.takers theirs k c.index_mut-mine.result.now c.index_mut-theirs.result.now lt gt c.index_mut-mine.ensures.value c.index_mut-theirs.ensures.value
-      c.self.invariant.0 c.self.invariant.1 c.other.invariant.2 c.compare.ensures.first c.args.self.now c.args.other.now c.self.view_is c.other.view_is c.requires.same whole
+    c.self.invariant.0 c.self.invariant.1 c.other.invariant.2 c.compare.ensures.first c.args.self.now c.args.other.now c.self.view_is c.other.view_is c.requires.same whole

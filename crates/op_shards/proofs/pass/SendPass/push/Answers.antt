@@ -13,7 +13,7 @@ push-requires-clause-here g c =
     let lt = in_range (λ l. l.spot.queue) lanes _ k _ (ap (λ s. s.queues.names) c.self.view_is) c.requires.queue in
     let place = send_place c.self.inside.senders c.self.inside.takers lanes k lane.result.now lt lane.ensures.value c.self.invariant.0 in
     subst (λ (q : Place). g.T.Op.group c.args.op % q.shards ≡ q.shard) (sym place)
-      (subst (λ (n : List TableId). g.T.Op.group c.args.op % length n ≡ k) (sym (ap (λ s. s.queues.names) c.self.view_is)) c.requires.here)
+    (subst (λ (n : List TableId). g.T.Op.group c.args.op % length n ≡ k) (sym (ap (λ s. s.queues.names) c.self.view_is)) c.requires.here)
 
 pub invariant_of-self : goal.invariant_of-self
 invariant_of-self g c =
@@ -24,9 +24,10 @@ invariant_of-self g c =
     let p = c.self.inside.sender in
     let x = lane.result.now in
     let lt = in_range (λ l. l.spot.queue) lanes _ k _ (ap (λ s. s.queues.names) c.self.view_is) c.requires.queue in
-    let own : x.sender ≡ p = ap (λ l. l.sender) lane.ensures.value ∙ All-get_or (λ l. l.sender ≡ p) lanes k x lt c.self.invariant.1 in
-    (send_place_still c.self.inside.senders c.self.inside.takers lanes k x c.push.new.self lt lane.ensures.value told.lane.0 c.self.invariant.0,
-      All-set (λ l. l.sender ≡ p) lanes k c.push.new.self (told.lane.1 ∙ own) c.self.invariant.1)
+    let own : x.sender ≡ p = ap (λ l. l.sender) lane.ensures.value ∙ All-get_or (λ l. l.sender ≡ p) lanes k x lt c.self.invariant.1 in (
+      send_place_still c.self.inside.senders c.self.inside.takers lanes k x c.push.new.self lt lane.ensures.value told.lane.0 c.self.invariant.0,
+      All-set (λ l. l.sender ≡ p) lanes k c.push.new.self (told.lane.1 ∙ own) c.self.invariant.1,
+    )
 
 pub returns : goal.returns
 returns g c =

@@ -5,7 +5,7 @@ use Rattle.commit_board.specs.Lists.{list_at}
 use Rattle.commit_board.specs.declared.view.View.{View}
 use Rattle.commit_board.specs.Rows.{view_of}
 use Rattle.commit_board.proofs.Moves.{informs, unites}
-use Rattle.commit_board.proofs.board.Board.meet.Goals as goal
+use Rattle.commit_board.proofs.board.Board.take_in.Goals as goal
 
 pub join_seat-requires : goal.join_seat-requires
 join_seat-requires c =
