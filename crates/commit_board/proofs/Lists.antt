@@ -45,7 +45,7 @@ longer_either (x ∷ xs) (y ∷ ys) [] p q = absurd (cc (p.1))
 longer_either (x ∷ xs) (y ∷ ys) (z ∷ zs) p q =
     let heads : x ≡ y = cc (p.1, q.1) in
     ⊎_elim (λ (e : longer xs ys ≡ xs). inl (ap (λ (l : List ClientRequest). x ∷ l) e)) (λ (e : longer xs ys ≡ ys). inr (λ i. heads i ∷ e i))
-      (longer_either xs ys zs (p.0, cc (p.1)) (q.0, cc (q.1)))
+    (longer_either xs ys zs (p.0, cc (p.1)) (q.0, cc (q.1)))
 
 pub list_at-put : (xs : List (List ClientRequest)) (i : ℕ) (l : List ClientRequest) → list_at (put_at xs i l) i ≡ l
 list_at-put [] zero l = refl

@@ -43,8 +43,8 @@ below_length (x ∷ xs) (suc j) u e = let h = below_length xs j u e in omega ari
 all_set : (F : ℕ → View → Type 0) (views : List View) (by : ℕ) (w : View) → F by w → ((j : ℕ) (u : View) → j ≢ by → get_elem? views j ≡ some u → F j u) → (j : ℕ) (u : View) → get_elem? (set views by w) j ≡ some u → F j u
 all_set F views by w mine others j u e =
     ⊎_elim (λ (x : (j ≡ by) × (w ≡ u)). subst (λ (y : ℕ × View). F y.0 y.1) (λ i. (sym x.0 i, x.1 i)) mine)
-        (λ (x : (j ≢ by) × (get_elem? views j ≡ some u)). others j u x.0 x.1)
-        (at_set views by j w u e)
+    (λ (x : (j ≢ by) × (get_elem? views j ≡ some u)). others j u x.0 x.1)
+    (at_set views by j w u e)
 
 all_more : (F : ℕ → View → Type 0) (views : List View) (w : View) → F (length views) w → ((j : ℕ) (u : View) → get_elem? views j ≡ some u → F j u) → (j : ℕ) (u : View) → get_elem? (views ++ w ∷ []) j ≡ some u → F j u
 all_more F [] w mine others zero u e = subst (F 0) (some-injective w u e) mine
@@ -99,9 +99,9 @@ grown rows id row own request s lt room kept at =
     let logs' : ℕ → List ClientRequest = swapped kept.logs row more in
     let here : logs' row ≡ more = swapped_here kept.logs row row more refl in
     let grows : (i : ℕ) → IsPrefix (kept.logs i) (logs' i) = λ i.
-          dite (ℕ_discrete i row)
-            (λ e. subst (λ (l : List ClientRequest). IsPrefix (kept.logs i) l) (sym (swapped_here kept.logs row i more e)) (request ∷ [], ap (λ (l : List ClientRequest). l ++ request ∷ []) (ap kept.logs e ∙ sym owned.2)))
-            (λ ne. subst (λ (l : List ClientRequest). IsPrefix (kept.logs i) l) (sym (swapped_else kept.logs row i more ne)) (prefix_self (kept.logs i))) in
+    dite (ℕ_discrete i row)
+    (λ e. subst (λ (l : List ClientRequest). IsPrefix (kept.logs i) l) (sym (swapped_here kept.logs row i more e)) (request ∷ [], ap (λ (l : List ClientRequest). l ++ request ∷ []) (ap kept.logs e ∙ sym owned.2)))
+    (λ ne. subst (λ (l : List ClientRequest). IsPrefix (kept.logs i) l) (sym (swapped_else kept.logs row i more ne)) (prefix_self (kept.logs i))) in
     let found : slice_index s.words row ≡ length own = kept.words row lt ∙ ap length (sym owned.2) in
     let n : ℕ = (slice_index s.words row + 1) % 2 ^ 64 in
     let grew : n ≡ length more = ap (λ (k : ℕ). (k + 1) % 2 ^ 64) found ∙ next (length own) room ∙ sym (length-append own (request ∷ [])) in
@@ -110,19 +110,19 @@ grown rows id row own request s lt room kept at =
       seat = kept.seat;
       count = length-set s.words row n ∙ kept.count;
       words = λ i h. dite (ℕ_discrete i row)
-        (λ e. ap (λ (k : ℕ). slice_index (set s.words row n) k) e ∙ index_set s.words row n within ∙ grew ∙ ap length (sym here ∙ ap logs' (sym e)))
-        (λ ne. index_set_else s.words row i n ne ∙ kept.words i h ∙ ap length (sym (swapped_else kept.logs row i more ne)));
+          (λ e. ap (λ (k : ℕ). slice_index (set s.words row n) k) e ∙ index_set s.words row n within ∙ grew ∙ ap length (sym here ∙ ap logs' (sym e)))
+          (λ ne. index_set_else s.words row i n ne ∙ kept.words i h ∙ ap length (sym (swapped_else kept.logs row i more ne)));
       views = all_set (Fits rows logs' kept.seat) s.views id (writes row (suc row) more)
-        record {
-          owns = λ i lo hi. let e : i ≡ row = omega arith in (subst (λ (k : ℕ). k < rows) (sym e) lt, ap kept.seat e ∙ owned.1, sym here ∙ ap logs' (sym e));
-          knows = λ i. prefix_none (logs' i);
-          told = λ i. prefix_none (logs' i);
-        }
-        (λ j u apart e. let f = kept.views j u e in record {
-          owns = λ i lo hi. let o = f.owns i lo hi in (o.0, o.1, o.2 ∙ sym (swapped_else kept.logs row i more (λ same. apart (sym o.1 ∙ ap kept.seat same ∙ owned.1))));
-          knows = λ i. prefix_trans (list_at u.known i) (kept.logs i) (logs' i) (f.knows i) (grows i);
-          told = λ i. prefix_trans (list_at u.told i) (kept.logs i) (logs' i) (f.told i) (grows i);
-        });
+          record {
+            owns = λ i lo hi. let e : i ≡ row = omega arith in (subst (λ (k : ℕ). k < rows) (sym e) lt, ap kept.seat e ∙ owned.1, sym here ∙ ap logs' (sym e));
+            knows = λ i. prefix_none (logs' i);
+            told = λ i. prefix_none (logs' i);
+          }
+          (λ j u apart e. let f = kept.views j u e in record {
+            owns = λ i lo hi. let o = f.owns i lo hi in (o.0, o.1, o.2 ∙ sym (swapped_else kept.logs row i more (λ same. apart (sym o.1 ∙ ap kept.seat same ∙ owned.1))));
+            knows = λ i. prefix_trans (list_at u.known i) (kept.logs i) (logs' i) (f.knows i) (grows i);
+            told = λ i. prefix_trans (list_at u.told i) (kept.logs i) (logs' i) (f.told i) (grows i);
+          });
     }
 
 -- the view of one seat changes, and nothing else
@@ -145,38 +145,46 @@ module _ (rows slots id : ℕ) where
       → Allows (Kept rows) slots id me row (λ n. (n + k) % 2 ^ 64) (Adds request (step slots row k 0 none) me)
   adds row k me own request lt room one is =
       let here : Allows (Kept rows) slots id (writes row (suc row) own, []) row (λ n. (n + 1) % 2 ^ 64) (Adds request (step slots row 1 0 none) (writes row (suc row) own, [])) =
-            λ s kept homes at small. (writes row (suc row) (own ++ request ∷ []), keeps, tt, grown rows id row own request s lt room kept at, refl) in
+      λ s kept homes at small. (writes row (suc row) (own ++ request ∷ []), keeps, tt, grown rows id row own request s lt room kept at, refl) in
       subst (λ (p : ℕ × Me ℕ View). Allows (Kept rows) slots id p.1 row (λ n. (n + p.0) % 2 ^ 64) (Adds request (step slots row p.0 0 none) p.1)) (λ i. (sym one i, sym is i)) here
 
   pub looks : (row : ℕ) (me : Me ℕ View) (known : List (List ClientRequest)) → row < rows → me ≡ (sees known [], [])
       → Allows (Kept rows) slots id me row (λ n. n) (Looks (step slots row 0 0 none) me)
   looks row me known lt is =
       let here : Allows (Kept rows) slots id (sees known [], []) row (λ n. n) (Looks (step slots row 0 0 none) (sees known [], [])) =
-            λ s kept homes at small.
-                let mine = kept.views id (sees known []) at in
-                let l : List ClientRequest = kept.logs row in
-                let put = put_at known row l in
-                let fits : (i : ℕ) → IsPrefix (list_at put i) (kept.logs i) = λ i.
-                      dite (ℕ_discrete i row)
-                        (λ e. subst (λ (x : List ClientRequest). IsPrefix x (kept.logs i)) (ap kept.logs e ∙ sym (list_at-put known row l) ∙ ap (list_at put) (sym e)) (prefix_self (kept.logs i)))
-                        (λ ne. subst (λ (x : List ClientRequest). IsPrefix x (kept.logs i)) (sym (list_at-put_else known row i l ne)) (mine.knows i)) in
-                (sees put [], keeps, tt, changed rows id s (sees put []) (set s.words row (slice_index s.words row)) (set_index s.words row) kept (reads rows kept.logs kept.seat id put [] fits (λ i. prefix_none (kept.logs i))), (l, sym (kept.words row lt), mine.knows row, refl)) in
+      λ s kept homes at small.
+      let mine = kept.views id (sees known []) at in
+      let l : List ClientRequest = kept.logs row in
+      let put = put_at known row l in
+      let fits : (i : ℕ) → IsPrefix (list_at put i) (kept.logs i) = λ i.
+      dite (ℕ_discrete i row)
+      (λ e. subst (λ (x : List ClientRequest). IsPrefix x (kept.logs i)) (ap kept.logs e ∙ sym (list_at-put known row l) ∙ ap (list_at put) (sym e)) (prefix_self (kept.logs i)))
+      (λ ne. subst (λ (x : List ClientRequest). IsPrefix x (kept.logs i)) (sym (list_at-put_else known row i l ne)) (mine.knows i)) in
+      (sees put [], keeps, tt, changed rows id s (sees put []) (set s.words row (slice_index s.words row)) (set_index s.words row) kept (reads rows kept.logs kept.seat id put [] fits (λ i. prefix_none (kept.logs i))), (l, sym (kept.words row lt), mine.knows row, refl)) in
       subst (λ (m : Me ℕ View). Allows (Kept rows) slots id m row (λ n. n) (Looks (step slots row 0 0 none) m)) (sym is) here
 
   pub unites : (row : ℕ) (me : Me ℕ View) (known told : List (List ClientRequest)) → me ≡ (sees known told, [])
       → Allows (Kept rows) slots id me row (λ n. n) (Merges (step slots row 0 0 none) me)
   unites row me known told is =
       let here : Allows (Kept rows) slots id (sees known told, []) row (λ n. n) (Merges (step slots row 0 0 none) (sees known told, [])) =
-            λ s kept homes at small.
-                let mine = kept.views id (sees known told) at in
-                let all = merged known told in
-                let at_all : (i : ℕ) → longer (list_at known i) (list_at told i) ≡ list_at all i = λ i. sym (list_at-merged known told i) in
-                (sees all [], keeps, tt,
-                  changed rows id s (sees all []) (set s.words row (slice_index s.words row)) (set_index s.words row) kept
-                    (reads rows kept.logs kept.seat id all [] (λ i. subst (λ (x : List ClientRequest). IsPrefix x (kept.logs i)) (at_all i) (longer_of (list_at known i) (list_at told i) (kept.logs i) (mine.knows i) (mine.told i))) (λ i. prefix_none (kept.logs i))),
-                  ((λ i. (subst (λ (x : List ClientRequest). IsPrefix (list_at known i) x) (at_all i) (longer_left (list_at known i) (list_at told i) (kept.logs i) (mine.knows i) (mine.told i)),
-                      subst (λ (x : List ClientRequest). IsPrefix (list_at told i) x) (at_all i) (longer_right (list_at known i) (list_at told i) (kept.logs i) (mine.knows i) (mine.told i)),
-                      subst (λ (x : List ClientRequest). (x ≡ list_at known i) ⊎ (x ≡ list_at told i)) (at_all i) (longer_either (list_at known i) (list_at told i) (kept.logs i) (mine.knows i) (mine.told i)))), refl)) in
+      λ s kept homes at small.
+      let mine = kept.views id (sees known told) at in
+      let all = merged known told in
+      let at_all : (i : ℕ) → longer (list_at known i) (list_at told i) ≡ list_at all i = λ i. sym (list_at-merged known told i) in (
+        sees all [],
+        keeps,
+        tt,
+        changed rows id s (sees all []) (set s.words row (slice_index s.words row)) (set_index s.words row) kept
+            (reads rows kept.logs kept.seat id all [] (λ i. subst (λ (x : List ClientRequest). IsPrefix x (kept.logs i)) (at_all i) (longer_of (list_at known i) (list_at told i) (kept.logs i) (mine.knows i) (mine.told i))) (λ i. prefix_none (kept.logs i))),
+        (
+          (λ i. (
+            subst (λ (x : List ClientRequest). IsPrefix (list_at known i) x) (at_all i) (longer_left (list_at known i) (list_at told i) (kept.logs i) (mine.knows i) (mine.told i)),
+            subst (λ (x : List ClientRequest). IsPrefix (list_at told i) x) (at_all i) (longer_right (list_at known i) (list_at told i) (kept.logs i) (mine.knows i) (mine.told i)),
+            subst (λ (x : List ClientRequest). (x ≡ list_at known i) ⊎ (x ≡ list_at told i)) (at_all i) (longer_either (list_at known i) (list_at told i) (kept.logs i) (mine.knows i) (mine.told i)),
+          )),
+          refl,
+        ),
+      ) in
       subst (λ (m : Me ℕ View). Allows (Kept rows) slots id m row (λ n. n) (Merges (step slots row 0 0 none) m)) (sym is) here
 
   pub compares : (row : ℕ) (me : Me ℕ View) (own : List ClientRequest) (told : List (List ClientRequest)) → row < rows → me ≡ (view_of row (suc row) own [] told, [])
@@ -184,14 +192,17 @@ module _ (rows slots id : ℕ) where
   compares row me own told lt is =
       let v : View = view_of row (suc row) own [] told in
       let here : Allows (Kept rows) slots id (v, []) row (λ n. n) (Compares (step slots row 0 0 none) (v, [])) =
-            λ s kept homes at small.
-                let mine = kept.views id v at in
-                let owned = mine.owns row (omega arith) (omega arith) in
-                let w : View = writes row (suc row) own in
-                (w, keeps, tt,
-                  changed rows id s w (set s.words row (slice_index s.words row)) (set_index s.words row) kept
-                    (record { owns = mine.owns; knows = λ i. prefix_none (kept.logs i); told = λ i. prefix_none (kept.logs i) }),
-                  (subst (λ (l : List ClientRequest). IsPrefix (list_at told row) l) (sym owned.2) (mine.told row), refl)) in
+      λ s kept homes at small.
+      let mine = kept.views id v at in
+      let owned = mine.owns row (omega arith) (omega arith) in
+      let w : View = writes row (suc row) own in (
+        w,
+        keeps,
+        tt,
+        changed rows id s w (set s.words row (slice_index s.words row)) (set_index s.words row) kept
+            (record { owns = mine.owns; knows = λ i. prefix_none (kept.logs i); told = λ i. prefix_none (kept.logs i) }),
+        (subst (λ (l : List ClientRequest). IsPrefix (list_at told row) l) (sym owned.2) (mine.told row), refl),
+      ) in
       subst (λ (m : Me ℕ View). Allows (Kept rows) slots id m row (λ n. n) (Compares (step slots row 0 0 none) m)) (sym is) here
 
 -- a seat gives a new one part of what it knows
@@ -203,7 +214,7 @@ gives rows id v known part s kept at =
       count = kept.count;
       words = kept.words;
       views = subst (λ (l : List View). (j : ℕ) (u : View) → get_elem? (l ++ sees known [] ∷ []) j ≡ some u → Fits rows kept.logs kept.seat j u) (sym same)
-        (all_more (Fits rows kept.logs kept.seat) s.views (sees known []) (reads rows kept.logs kept.seat (length s.views) known [] (part kept.logs kept.seat (kept.views id v at)) (λ i. prefix_none (kept.logs i))) (λ j u e. kept.views j u e));
+          (all_more (Fits rows kept.logs kept.seat) s.views (sees known []) (reads rows kept.logs kept.seat (length s.views) known [] (part kept.logs kept.seat (kept.views id v at)) (λ i. prefix_none (kept.logs i))) (λ j u e. kept.views j u e));
     }
 
 pub freshens : (rows id : ℕ) (v : View) → Splits (Kept rows) id v v (newcomer v)
@@ -215,9 +226,9 @@ tells rows id v = gives rows id v v.known (λ logs seat f i. f.knows i)
 pub shares : (rows id row : ℕ) (v : View) (own : List ClientRequest) → v ≡ writes row (suc row) own → Splits (Kept rows) id v v (shared v)
 shares rows id row v own is = subst (λ (x : View). Splits (Kept rows) id x x (shared x)) (sym is)
     (gives rows id (writes row (suc row) own) (put_at [] row own) (λ logs seat f i.
-      dite (ℕ_discrete i row)
-        (λ e. subst (λ (x : List ClientRequest). IsPrefix x (logs i)) (sym (f.owns i (omega arith) (omega arith)).2 ∙ sym (list_at-put [] row own) ∙ ap (list_at (put_at [] row own)) (sym e)) (prefix_self (logs i)))
-        (λ ne. subst (λ (x : List ClientRequest). IsPrefix x (logs i)) (sym (list_at-put_else [] row i own ne)) (prefix_none (logs i)))))
+    dite (ℕ_discrete i row)
+    (λ e. subst (λ (x : List ClientRequest). IsPrefix x (logs i)) (sym (f.owns i (omega arith) (omega arith)).2 ∙ sym (list_at-put [] row own) ∙ ap (list_at (put_at [] row own)) (sym e)) (prefix_self (logs i)))
+    (λ ne. subst (λ (x : List ClientRequest). IsPrefix x (logs i)) (sym (list_at-put_else [] row i own ne)) (prefix_none (logs i)))))
 
 pub informs : (rows id other : ℕ) (v u : View) (told : List (List ClientRequest)) → u ≡ sees told [] → Joins (Kept rows) id v other u (informed v u) (sees [] [])
 informs rows id other v u told is = subst (λ (x : View). Joins (Kept rows) id v other x (informed v x) (sees [] [])) (sym is) here
@@ -247,12 +258,12 @@ deals rows id first v lt is = subst (λ (x : View). Splits (Kept rows) id x (oth
           count = kept.count;
           words = kept.words;
           views = all_more (Fits rows kept.logs seat') views' new
-            record {
-              owns = λ i lo hi. let e : i ≡ first = omega arith in (subst (λ (k : ℕ). k < rows) (sym e) lt, swapped_here kept.seat first i (length views') e, owned.2 ∙ ap kept.logs (sym e));
-              knows = λ i. prefix_none (kept.logs i);
-              told = λ i. prefix_none (kept.logs i);
-            }
-            (all_set (Fits rows kept.logs seat') s.views id v'
+              record {
+                owns = λ i lo hi. let e : i ≡ first = omega arith in (subst (λ (k : ℕ). k < rows) (sym e) lt, swapped_here kept.seat first i (length views') e, owned.2 ∙ ap kept.logs (sym e));
+                knows = λ i. prefix_none (kept.logs i);
+                told = λ i. prefix_none (kept.logs i);
+              }
+              (all_set (Fits rows kept.logs seat') s.views id v'
               record {
                 owns = λ i lo hi. let o = mine.owns i (omega arith) hi in (o.0, swapped_else kept.seat first i (length views') (λ e. omega arith) ∙ o.1, o.2);
                 knows = λ i. prefix_none (kept.logs i);

@@ -154,7 +154,9 @@ impl Board {
         ensures same { (writer.new ≡ writer.old) × (seen.new ≡ seen.old) }
     {
         let seat = self.table.shared.split_seat::<Tell>(&mut seen.seat);
-        self.table.shared.join_seat::<Inform>(&mut writer.seat, seat);
+        self.table
+            .shared
+            .join_seat::<Inform>(&mut writer.seat, seat);
         self.table
             .shared
             .load::<Compare>(&mut writer.seat, writer.row);

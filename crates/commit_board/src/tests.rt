@@ -97,10 +97,14 @@ fn notes_are_carried_between_threads(rt: HostRuntime) -> Result<(), Fail> {
     let ((mut writer, note), (mut late, rising)) = join(
         &rt,
         || -> (Writer, Note)
+            requires board { writer.board ≡ board }
+            requires new { writer.list ≡ [] }
             ensures writer { result.0.board ≡ board }
             ensures note { result.1.board ≡ board }
         { write(&board, writer, &request) },
         || -> (Seen, bool)
+            requires board { late.board ≡ board }
+            requires rows { 1 ≤ board.words }
             ensures { result.0.board ≡ board }
         { watch(&board, late) },
     );

@@ -1,0 +1,75 @@
+ghost use Rattle.std.specs.Prelude.{◌≡◌, ◌<◌, ◌≤◌, [], length};
+
+use crate::figure::{Figure, Mode};
+use anyhow::{Context, Result};
+use commit_board::{Board, Seen, Writer};
+use interp::ObjectName;
+use pg_log::{ClientId, Request, RequestNumber};
+use std::alloc::Global;
+use std::time::{Clock, Instant};
+
+/// The requests that a run commits, which is less than a row has room for.
+const COMMITS: usize = 60_000;
+
+/// The looks of a run.
+const LOOKS: usize = 100_000;
+
+/// One writer commits.
+pub fn commits<C: Clock>(clock: &C, alloc: Global, mode: Mode) -> Result<Figure> {
+    let request = request(alloc)?;
+    let mut figure = Figure::new(mode);
+    for _ in 0..mode.runs() {
+        let (board, mut writers, mut seen) = Board::new(alloc, 1)?;
+        let mut writer = writers.pop().context("a writer")?;
+        let start = Instant::now(clock)?;
+        commit_all(&board, &mut writer, &request);
+        let count = board.look(&mut seen, 0) as usize;
+        figure.note(clock, start, count)?;
+    }
+    Ok(figure)
+}
+
+fn commit_all(board: &Board, writer: &mut Writer, request: &Request)
+    requires board { writer.old.board ≡ board.now }
+    requires new { writer.old.list ≡ [] }
+{
+    for _ in 0..COMMITS {
+        board.commit(writer, request);
+    }
+}
+
+/// One token looks at a row.
+pub fn looks<C: Clock>(clock: &C, alloc: Global, mode: Mode) -> Result<Figure> {
+    let request = request(alloc)?;
+    let (board, mut writers, mut seen) = Board::new(alloc, 1)?;
+    let mut writer = writers.pop().context("a writer")?;
+    board.commit(&mut writer, &request);
+    let mut figure = Figure::new(mode);
+    for _ in 0..mode.runs() {
+        let mut late = board.fresh(&mut seen);
+        let start = Instant::now(clock)?;
+        let count = look_often(&board, &mut late);
+        figure.note(clock, start, count)?;
+    }
+    Ok(figure)
+}
+
+/// The sum of what the looks find.
+fn look_often(board: &Board, seen: &mut Seen) -> usize
+    requires board { seen.old.board ≡ board.now }
+    requires row { 0 < board.now.words }
+{
+    let mut found: usize = 0;
+    for _ in 0..LOOKS {
+        found = found.wrapping_add(board.look(seen, 0) as usize);
+    }
+    found
+}
+
+fn request(alloc: Global) -> Result<Request> {
+    let client = ClientId::new(1).context("a client")?;
+    let number = RequestNumber::new(1).context("a number")?;
+    let object = ObjectName::new(alloc, "object")?;
+    let method = String::from_str(alloc, "lock")?;
+    Ok(Request::new(client, number, object, 0, method, Vec::new(alloc)))
+}

@@ -1,0 +1,73 @@
+use anyhow::Result;
+use std::fmt;
+use std::time::{Clock, Instant};
+
+/// Whether times are taken.
+#[derive(Clone, Copy, Debug, PartialEq, Eq)]
+pub enum Mode {
+    /// Each measurement runs once, and only its count is printed, which is the same on every machine.
+    Dry,
+    /// The least time of several runs is printed too.
+    Timed,
+}
+
+impl Mode {
+    /// The mode that the words of a command line ask for, of which the first is the program's own name.
+    pub fn of(words: &[String]) -> Option<Mode> {
+        match words {
+            [_] => Some(Mode::Timed),
+            [_, word] if word.as_str() == "--dry" => Some(Mode::Dry),
+            _ => None,
+        }
+    }
+
+    /// How often a measurement runs.
+    pub fn runs(self) -> usize {
+        match self {
+            Mode::Dry => 1,
+            Mode::Timed => 20,
+        }
+    }
+}
+
+/// How many there were, and the least picoseconds that one of them took, if times are taken.
+#[derive(Clone, Copy, Debug)]
+pub struct Figure {
+    mode: Mode,
+    count: usize,
+    picos: u64,
+}
+
+impl Figure {
+    /// Nothing was measured yet.
+    pub fn new(mode: Mode) -> Figure {
+        Figure {
+            mode,
+            count: 0,
+            picos: u64::MAX,
+        }
+    }
+
+    /// Notes a run that began at `start`.
+    pub fn note<C: Clock>(&mut self, clock: &C, start: Instant, count: usize) -> Result<()> {
+        self.count = count;
+        let nanos = start.elapsed(clock)?.as_nanos();
+        let picos = nanos.saturating_mul(1000) / count.max(1) as u128;
+        self.picos = self.picos.min(picos.min(u128::from(u64::MAX)) as u64);
+        Ok(())
+    }
+}
+
+impl fmt::Display for Figure {
+    fn fmt<W: fmt::Write>(&self, f: &mut fmt::Formatter<W>) -> fmt::Result {
+        write!(f, "{:>7}", self.count)?;
+        match self.mode {
+            Mode::Dry => Ok(()),
+            Mode::Timed => {
+                let whole = self.picos / 1000;
+                let rest = self.picos % 1000 / 10;
+                write!(f, "{whole:>8}.{rest:02} ns each")
+            }
+        }
+    }
+}

@@ -1,0 +1,156 @@
+ghost use Rattle.std.specs.Prelude.{◌≡◌, ◌<◌, length};
+
+use crate::figure::{Figure, Mode};
+use anyhow::{Context, Result};
+use op_shards::{Op, OpShards, SendPass, TakePass};
+use std::alloc::Global;
+use std::sync::Wait;
+use std::thread::{Threads, join, yield_now};
+use std::time::{Clock, Instant};
+
+/// The operations of a run.
+const PAIRS: usize = 100_000;
+
+/// An operation of a group.
+#[derive(Drop)]
+struct Asked {
+    group: usize,
+}
+
+impl Op for Asked {
+    ghost group = { λ o. o.group };
+
+    fn group(&self) -> usize {
+        self.group
+    }
+}
+
+/// One thread submits and takes each operation in turn.
+pub fn pairs_in_one_thread<R: Wait + Clock + Copy + Drop>(
+    rt: R,
+    alloc: Global,
+    mode: Mode,
+) -> Result<Figure> {
+    let mut figure = Figure::new(mode);
+    for _ in 0..mode.runs() {
+        let (shards, mut sends, mut takes) = OpShards::new(alloc, rt, 1, 64, 1, 1)?;
+        let send = sends.pop().context("a sender")?;
+        let take = takes.pop().context("a taker")?;
+        let start = Instant::now(&rt)?;
+        let taken = pairs(&shards, send, take);
+        figure.note(&rt, start, taken)?;
+    }
+    Ok(figure)
+}
+
+fn pairs<R: Wait>(
+    shards: &OpShards<Asked, R>,
+    mut send: SendPass<Asked>,
+    mut take: TakePass<Asked>,
+) -> usize
+    requires send { send.queues ≡ shards.now.queues }
+    requires take { take.queues ≡ shards.now.queues }
+    requires shard { 0 < length shards.now.queues.names }
+{
+    let mut taken: usize = 0;
+    for group in 0..PAIRS {
+        let sent = shards.submit(&mut send, Asked { group });
+        if sent.is_ok() && shards.take(&mut take, 0).is_some() {
+            taken = taken.wrapping_add(1);
+        }
+    }
+    taken
+}
+
+/// Two threads submit to two shards, and two take of one each.
+pub fn pairs_in_four_threads<R: Threads + Wait + Clock + Copy + Sync + Drop>(
+    rt: R,
+    alloc: Global,
+    mode: Mode,
+) -> Result<Figure> {
+    let mut figure = Figure::new(mode);
+    for _ in 0..mode.runs() {
+        let (shards, mut sends, mut takes) = OpShards::new(alloc, rt, 2, 64, 2, 2)?;
+        let one = sends.pop().context("a sender")?;
+        let two = sends.pop().context("a sender")?;
+        let first = takes.pop().context("a taker")?;
+        let second = takes.pop().context("a taker")?;
+        let start = Instant::now(&rt)?;
+        let ((), taken) = join(
+            &rt,
+            || send_two(&rt, &shards, one, two),
+            || take_two(&rt, &shards, first, second),
+        );
+        figure.note(&rt, start, taken)?;
+    }
+    Ok(figure)
+}
+
+fn send_two<R: Threads + Wait + Sync>(
+    rt: &R,
+    shards: &OpShards<Asked, R>,
+    one: SendPass<Asked>,
+    two: SendPass<Asked>,
+)
+    requires one { one.queues ≡ shards.now.queues }
+    requires two { two.queues ≡ shards.now.queues }
+{
+    join(rt, || send_half(rt, shards, one), || send_half(rt, shards, two));
+}
+
+fn take_two<R: Threads + Wait + Sync>(
+    rt: &R,
+    shards: &OpShards<Asked, R>,
+    first: TakePass<Asked>,
+    second: TakePass<Asked>,
+) -> usize
+    requires first { first.queues ≡ shards.now.queues }
+    requires second { second.queues ≡ shards.now.queues }
+    requires shards { length shards.now.queues.names ≡ 2 }
+{
+    let (low, high) = join(
+        rt,
+        || take_half(rt, shards, first, 0),
+        || take_half(rt, shards, second, 1),
+    );
+    low.wrapping_add(high)
+}
+
+/// Half of the operations, every other one to each shard.
+fn send_half<R: Wait>(rt: &R, shards: &OpShards<Asked, R>, mut send: SendPass<Asked>)
+    requires { send.queues ≡ shards.now.queues }
+{
+    let mut group = 0;
+    for _ in rt.forever() {
+        if group >= PAIRS / 2 {
+            break;
+        }
+        match shards.submit(&mut send, Asked { group }) {
+            Ok(()) => group += 1,
+            Err(_) => yield_now(),
+        }
+    }
+}
+
+/// All operations of a shard.
+fn take_half<R: Wait>(
+    rt: &R,
+    shards: &OpShards<Asked, R>,
+    mut take: TakePass<Asked>,
+    shard: usize,
+) -> usize
+    requires take { take.queues ≡ shards.now.queues }
+    requires shard { shard < length shards.now.queues.names }
+{
+    let mut taken = 0;
+    for _ in rt.forever() {
+        if taken >= PAIRS / 2 {
+            break;
+        }
+        match shards.take(&mut take, shard) {
+            Some(_) => taken += 1,
+            None => yield_now(),
+        }
+    }
+    taken
+}
