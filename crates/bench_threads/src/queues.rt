@@ -78,8 +78,15 @@ pub fn pairs_in_four_threads<R: Threads + Wait + Clock + Copy + Sync + Drop>(
         let start = Instant::now(&rt)?;
         let ((), taken) = join(
             &rt,
-            || send_two(&rt, &shards, one, two),
-            || take_two(&rt, &shards, first, second),
+            ||
+                requires one { one.queues ≡ shards.queues }
+                requires two { two.queues ≡ shards.queues }
+            { send_two(&rt, &shards, one, two) },
+            || -> usize
+                requires first { first.queues ≡ shards.queues }
+                requires second { second.queues ≡ shards.queues }
+                requires shards { length shards.queues.names ≡ 2 }
+            { take_two(&rt, &shards, first, second) },
         );
         figure.note(&rt, start, taken)?;
     }
@@ -95,7 +102,11 @@ fn send_two<R: Threads + Wait + Sync>(
     requires one { one.queues ≡ shards.now.queues }
     requires two { two.queues ≡ shards.now.queues }
 {
-    join(rt, || send_half(rt, shards, one), || send_half(rt, shards, two));
+    join(
+        rt,
+        || send_half(rt, shards, one),
+        || send_half(rt, shards, two),
+    );
 }
 
 fn take_two<R: Threads + Wait + Sync>(
@@ -110,8 +121,14 @@ fn take_two<R: Threads + Wait + Sync>(
 {
     let (low, high) = join(
         rt,
-        || take_half(rt, shards, first, 0),
-        || take_half(rt, shards, second, 1),
+        || -> usize
+            requires take { first.queues ≡ shards.now.queues }
+            requires shards { length shards.now.queues.names ≡ 2 }
+        { take_half(rt, shards, first, 0) },
+        || -> usize
+            requires take { second.queues ≡ shards.now.queues }
+            requires shards { length shards.now.queues.names ≡ 2 }
+        { take_half(rt, shards, second, 1) },
     );
     low.wrapping_add(high)
 }

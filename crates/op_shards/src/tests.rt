@@ -129,20 +129,33 @@ fn run_most<R: Threads + Wait + Sync>(
     rt: &R,
     alloc: Global,
     shards: &OpShards<Job, R>,
-    sends: (SendPass<Job>, SendPass<Job>, SendPass<Job>, SendPass<Job>),
+    a: SendPass<Job>,
+    b: SendPass<Job>,
+    c: SendPass<Job>,
+    d: SendPass<Job>,
     first: TakePass<Job>,
     second: TakePass<Job>,
     taken: &AtomicU64,
 ) -> Result<(Vec<Job>, Vec<Job>), AllocError>
-    requires sends { (sends.0.queues ≡ shards.now.queues) × (sends.1.queues ≡ shards.now.queues) × (sends.2.queues ≡ shards.now.queues) × (sends.3.queues ≡ shards.now.queues) }
+    requires a { a.queues ≡ shards.now.queues }
+    requires b { b.queues ≡ shards.now.queues }
+    requires c { c.queues ≡ shards.now.queues }
+    requires d { d.queues ≡ shards.now.queues }
     requires first { first.queues ≡ shards.now.queues }
     requires second { second.queues ≡ shards.now.queues }
 {
-    let (a, b, c, d) = sends;
     let ((), got) = join(
         rt,
-        || send_four(rt, shards, a, b, c, d),
-        || take_two(rt, alloc, shards, first, second, taken),
+        ||
+            requires a { a.queues ≡ shards.now.queues }
+            requires b { b.queues ≡ shards.now.queues }
+            requires c { c.queues ≡ shards.now.queues }
+            requires d { d.queues ≡ shards.now.queues }
+        { send_four(rt, shards, a, b, c, d) },
+        || -> Result<(Vec<Job>, Vec<Job>), AllocError>
+            requires first { first.queues ≡ shards.now.queues }
+            requires second { second.queues ≡ shards.now.queues }
+        { take_two(rt, alloc, shards, first, second, taken) },
     );
     got
 }
@@ -155,13 +168,21 @@ fn send_four<R: Threads + Wait + Sync>(
     c: SendPass<Job>,
     d: SendPass<Job>,
 )
-    requires low { (a.queues ≡ shards.now.queues) × (b.queues ≡ shards.now.queues) }
-    requires high { (c.queues ≡ shards.now.queues) × (d.queues ≡ shards.now.queues) }
+    requires a { a.queues ≡ shards.now.queues }
+    requires b { b.queues ≡ shards.now.queues }
+    requires c { c.queues ≡ shards.now.queues }
+    requires d { d.queues ≡ shards.now.queues }
 {
     join(
         rt,
-        || send_two(rt, shards, a, b, 0),
-        || send_two(rt, shards, c, d, 2),
+        ||
+            requires a { a.queues ≡ shards.now.queues }
+            requires b { b.queues ≡ shards.now.queues }
+        { send_two(rt, shards, a, b, 0) },
+        ||
+            requires c { c.queues ≡ shards.now.queues }
+            requires d { d.queues ≡ shards.now.queues }
+        { send_two(rt, shards, c, d, 2) },
     );
 }
 
@@ -207,7 +228,7 @@ fn each_once_and_in_order(rt: HostRuntime) -> Result<(), Fail> {
     let taken = AtomicU64::new(0);
     let (most, last) = join(
         &rt,
-        || run_most(&rt, alloc, &shards, (a, b, c, d), first, second, &taken),
+        || run_most(&rt, alloc, &shards, a, b, c, d, first, second, &taken),
         || take_all(&rt, alloc, &shards, third, &taken),
     );
     let (one, two) = most?;
