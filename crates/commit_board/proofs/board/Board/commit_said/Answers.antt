@@ -1,4 +1,4 @@
-use Rattle.std.proofs.Common.{◌≡◌, sym, ◌∙◌, ap, subst, refl, rules, ◌<◌, ℕ, arith, length}
+use Rattle.std.proofs.Common.{sym, ◌∙◌, ap, subst, refl, ◌<◌, ℕ, length}
 use Rattle.commit_board.proofs.Moves.{adds}
 use Rattle.commit_board.proofs.board.Board.commit_said.Goals as goal
 

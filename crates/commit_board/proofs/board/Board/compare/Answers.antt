@@ -1,8 +1,5 @@
-use Rattle.std.proofs.Common.{◌≡◌, sym, ◌∙◌, ap, subst, ◌<◌, ℕ, suc, List, []}
-use mathlib.Core.List.{IsPrefix}
-use Rattle.pg_log.specs.Requests.{ClientRequest}
+use Rattle.std.proofs.Common.{sym, ◌∙◌, ap, subst, ◌<◌, ℕ}
 use Rattle.commit_board.specs.declared.view.View.{View}
-use Rattle.commit_board.specs.Lists.{list_at}
 use Rattle.commit_board.specs.Rows.{view_of}
 use Rattle.commit_board.proofs.Moves.{tells, informs, compares}
 use Rattle.commit_board.proofs.board.Board.compare.Goals as goal

@@ -1,4 +1,4 @@
-use Rattle.std.proofs.Common.{◌≡◌, sym, ◌∙◌, ap, subst, refl, rules, ◌<◌, ℕ, arith, length}
+use Rattle.std.proofs.Common.{sym, ◌∙◌, ap}
 use Rattle.commit_board.proofs.Moves.{freshens}
 use Rattle.commit_board.proofs.board.Board.fresh.Goals as goal
 

@@ -1,7 +1,7 @@
-use Rattle.std.proofs.Common.{◌≡◌, ◌≢◌, sym, ◌∙◌, ap, subst, refl, rules, ◌<◌, ℕ, arith, length, List, [], ◌∷◌}
+use Rattle.std.proofs.Common.{sym, ◌∙◌, ap, subst, ◌<◌, ℕ, length, List}
 use mathlib.Core.List.{IsPrefix}
 use Rattle.pg_log.specs.Requests.{ClientRequest}
-use Rattle.commit_board.specs.Lists.{list_at, put_at}
+use Rattle.commit_board.specs.Lists.{list_at}
 use Rattle.commit_board.proofs.Lists.{list_at-put, list_at-put_else}
 use Rattle.commit_board.proofs.Moves.{looks}
 use Rattle.commit_board.proofs.board.Board.look.Goals as goal

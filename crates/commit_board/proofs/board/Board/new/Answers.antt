@@ -1,4 +1,4 @@
-use Rattle.std.proofs.Common.{◌≡◌, sym, ◌∙◌, ap, subst, refl, rules, ◌<◌, ℕ, arith, length, []}
+use Rattle.std.proofs.Common.{◌≡◌, sym, ◌∙◌, ap, rules, ◌<◌, ℕ, arith, []}
 use Rattle.commit_board.specs.Rows.{writes}
 use Rattle.commit_board.proofs.Moves.{begins, deals, freshens}
 use Rattle.commit_board.proofs.board.Board.new.Goals as goal

@@ -1,4 +1,4 @@
-use Rattle.std.proofs.Common.{◌≡◌, ◌<◌, ◌≤◌, [], vec_len, ℕ}
+use Rattle.std.proofs.Common.{◌≡◌, ◌≤◌, [], vec_len}
 use Rattle.std.specs.Prelude.{vec_capacity}
 use Rattle.commit_board.specs.Tokens.{writers_of}
 use Rattle.commit_board.specs.Rows.{writes}

@@ -1,4 +1,4 @@
-use Rattle.std.proofs.Common.{◌≡◌, sym, ◌∙◌, ap, subst, refl, rules, ◌<◌, ℕ, arith, length, []}
+use Rattle.std.proofs.Common.{sym, ◌∙◌, ap, ℕ, []}
 use Rattle.commit_board.specs.Lists.{list_at, put_at}
 use Rattle.commit_board.proofs.Lists.{list_at-put, list_at-put_else}
 use Rattle.commit_board.proofs.Moves.{shares}

@@ -1,4 +1,4 @@
-use Rattle.std.proofs.Common.{◌≡◌, ◌⊎◌, sym, ◌∙◌, ap, subst, refl, rules, ◌<◌, ℕ, arith, length, List, []}
+use Rattle.std.proofs.Common.{◌≡◌, ◌⊎◌, sym, ◌∙◌, ap, subst, List}
 use mathlib.Core.List.{IsPrefix}
 use Rattle.pg_log.specs.Requests.{ClientRequest}
 use Rattle.commit_board.specs.Lists.{list_at}

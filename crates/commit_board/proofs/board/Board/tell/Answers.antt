@@ -1,4 +1,4 @@
-use Rattle.std.proofs.Common.{◌≡◌, sym, ◌∙◌, ap, subst, refl, rules, ◌<◌, ℕ, arith, length}
+use Rattle.std.proofs.Common.{sym, ◌∙◌, ap}
 use Rattle.commit_board.proofs.Moves.{tells}
 use Rattle.commit_board.proofs.board.Board.tell.Goals as goal
 
