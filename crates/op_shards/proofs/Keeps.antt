@@ -1,5 +1,5 @@
 -- Each call keeps the rule of a queue.
-use Rattle.std.proofs.Common.{◌≡◌, ◌≢◌, ◌⊎◌, inl, inr, ⊎_elim, ℕ, suc, ◌+◌, ◌-◌, ◌%◌, ◌<◌, ◌≤◌, List, [], ◌∷◌, ◌++◌, length, take, set, refl, sym, ap, ◌∙◌, subst, arith, append_assoc, length-append}
+use Rattle.std.proofs.Common.{◌≡◌, ◌≢◌, inr, ⊎_elim, ℕ, suc, ◌-◌, ◌%◌, ◌<◌, List, [], ◌∷◌, ◌++◌, length, take, set, refl, sym, ap, ◌∙◌, subst, arith, append_assoc}
 use Rattle.std.proofs.lemmas.List.{append-nil}
 use Rattle.std.proofs.Math.Seq.{take-append_seam}
 use mathlib.Core.Logic.{dite}
@@ -7,11 +7,11 @@ use native.Mathlib.Decide.{ℕ_discrete}
 use mathlib.Core.Option.{some, some-ne-none}
 use lib.ListN.{get_elem?}
 use Rattle.crossbeam_queue.specs.Fifo.{Pushes, Pops, Forks, Merges, Learns}
-use Rattle.crossbeam_queue.proofs.Lists.{at_set, set_again}
+use Rattle.crossbeam_queue.proofs.Lists.{at_set}
 use Rattle.op_shards.specs.declared.rule.Place.{Place}
 use Rattle.op_shards.specs.declared.rule.Ranked.{Ranked}
 use Rattle.op_shards.specs.declared.rule.Hand.{Hand}
-use Rattle.op_shards.specs.Order.{hand, unopened, spent, sender, taker, dealer, other_senders, one_sender, put_alone, got_alone, together, of, IsRanked, Each, weigh, total, IsPartOf, AreFirstOf, IsNextAfter, IsHere, Fits, Kept, IsUnopened, Rule, KeptWith, Puts, Takes, Accounts}
+use Rattle.op_shards.specs.Order.{hand, unopened, spent, sender, taker, dealer, other_senders, one_sender, put_alone, got_alone, together, of, IsRanked, Each, weigh, total, IsHere, Fits, Kept, IsUnopened, Rule, KeptWith, Puts, Takes, Accounts}
 use Rattle.op_shards.proofs.Operations.{swapped, swapped_here, swapped_else, all_set, all_more, set_here, only_one, of_append, of_here, of_else, length_of_more, length_of_own, ranked_snoc, ranked_at, each_snoc, each_append, each_so, weigh_append, weigh_ones, total_set, total_add, part_of_total, total_alone, weight_of, weigh_of}
 
 module _ {T : Type 0} (group : T → ℕ) where

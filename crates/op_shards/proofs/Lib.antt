@@ -1,3 +1,5 @@
 pub mod Operations
 pub mod Keeps
 pub mod Lanes
+pub mod Dealt
+pub mod Gathered

@@ -1,7 +1,8 @@
 use Rattle.std.proofs.Common.{◌≡◌, ◌+◌, ◌<◌, ◌≤◌, [], length, ap, ◌∙◌, arith}
 use Rattle.op_shards.specs.Order.{place_at}
 use Rattle.op_shards.specs.Passes.{name, names, queues_of, spots, spot_of, dealing, new_send}
-use Rattle.op_shards.proofs.Lanes.{spot_here, no_more_spots, length_spots_of, still_long, at_turn, one_more, more_lanes, whole, done, send_view, new_send_view, new_send_placed, new_send_all}
+use Rattle.op_shards.proofs.Dealt.{spot_here, no_more_spots, length_spots_of, still_long, at_turn, one_more, more_lanes, whole, done, new_send_view, new_send_placed, new_send_all}
+use Rattle.op_shards.proofs.Lanes.{send_view}
 use Rattle.op_shards.proofs.pass.deal_pass.Goals as goal
 
 pub index_mut-dealer-requires : goal.index_mut-dealer-requires

@@ -1,5 +1,5 @@
 use Rattle.op_shards.specs.Passes.{names, queues_of, new_sender}
-use Rattle.op_shards.proofs.Lanes.{more_passes}
+use Rattle.op_shards.proofs.Dealt.{more_passes}
 use Rattle.op_shards.proofs.pass.deal_passes.Goals as goal
 
 pub loop-sender-preserved : goal.loop-sender-preserved

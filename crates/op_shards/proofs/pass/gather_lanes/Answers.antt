@@ -1,6 +1,7 @@
-use Rattle.std.proofs.Common.{◌≡◌, ◌<◌, ◌≤◌, length, map, ap, sym, ◌∙◌, arith}
-use Rattle.op_shards.specs.Passes.{name, names, Spot}
-use Rattle.op_shards.proofs.Lanes.{same_at, same_map, length_by, spot_queues, join_step, join_end}
+use Rattle.std.proofs.Common.{◌<◌, ◌≤◌, length, ap, sym, ◌∙◌, arith}
+use Rattle.op_shards.specs.Passes.{name}
+use Rattle.op_shards.proofs.Lanes.{same_at, same_map, length_by}
+use Rattle.op_shards.proofs.Gathered.{spot_queues, join_step, join_end}
 use Rattle.op_shards.proofs.pass.gather_lanes.Goals as goal
 
 pub index_mut-lane-requires : goal.index_mut-lane-requires

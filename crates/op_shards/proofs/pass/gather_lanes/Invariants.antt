@@ -1,6 +1,6 @@
 use Rattle.std.proofs.Common.{◌≡◌, map}
 use Rattle.op_shards.specs.Passes.{join_lanes}
-use Rattle.op_shards.proofs.Lanes.{join_from}
+use Rattle.op_shards.proofs.Gathered.{join_from}
 use Rattle.op_shards.proofs.pass.gather_lanes.Given as goal
 
 abbrev pub invariant-loop-i : goal.invariant-loop-i

@@ -1,7 +1,8 @@
-use Rattle.std.proofs.Common.{◌≡◌, ◌+◌, ◌-◌, ◌<◌, ◌≤◌, [], length, ap, ◌∙◌, arith}
+use Rattle.std.proofs.Common.{◌≡◌, ◌-◌, ◌<◌, ◌≤◌, [], length, ap, ◌∙◌, arith}
 use Rattle.op_shards.specs.Order.{place_at}
 use Rattle.op_shards.specs.Passes.{name, names, queues_of, spots, spot_of, dealing, new_take}
-use Rattle.op_shards.proofs.Lanes.{spot_here, no_more_spots, length_spots_of, still_long, some_spots, some_names, at_turn, one_more, more_lanes, whole, done, take_view, new_take_view, new_take_placed, new_take_parts}
+use Rattle.op_shards.proofs.Dealt.{spot_here, no_more_spots, length_spots_of, still_long, some_spots, some_names, at_turn, one_more, more_lanes, whole, done, new_take_view, new_take_placed, new_take_parts}
+use Rattle.op_shards.proofs.Lanes.{take_view}
 use Rattle.op_shards.proofs.pass.hire_pass.Goals as goal
 
 pub index_mut-dealer-requires : goal.index_mut-dealer-requires

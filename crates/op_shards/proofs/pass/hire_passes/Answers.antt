@@ -1,6 +1,6 @@
 use Rattle.std.proofs.Common.{◌≡◌, ◌+◌, ◌-◌, ap, ◌∙◌, map, arith}
 use Rattle.op_shards.specs.Passes.{names, queues_of, spots, dealing, new_taker}
-use Rattle.op_shards.proofs.Lanes.{more_passes}
+use Rattle.op_shards.proofs.Dealt.{more_passes}
 use Rattle.op_shards.proofs.pass.hire_passes.Goals as goal
 
 pub loop-taker-preserved : goal.loop-taker-preserved

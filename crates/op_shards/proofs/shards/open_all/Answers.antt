@@ -1,8 +1,7 @@
-use Rattle.std.proofs.Common.{◌≡◌, ◌+◌, ap, ◌∙◌, map, length, length-append, arith, rules, subst, [], ◌∷◌, ◌++◌, List}
-use Rattle.std.specs.Prelude.{All}
+use Rattle.std.proofs.Common.{◌≡◌, ap, ◌∙◌, map, length, length-append, arith, [], ◌∷◌}
 use Rattle.crossbeam_queue.specs.Passes.{ruled_capacity}
 use Rattle.op_shards.specs.Passes.{dealing}
-use Rattle.op_shards.proofs.Lanes.{more_dealers, all_spots, all_more_of}
+use Rattle.op_shards.proofs.Dealt.{more_dealers, all_spots, all_more_of}
 use Rattle.op_shards.proofs.shards.open_all.Goals as goal
 
 pub loop-shard-preserved : goal.loop-shard-preserved

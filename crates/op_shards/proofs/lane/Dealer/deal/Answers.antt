@@ -1,4 +1,4 @@
-use Rattle.std.proofs.Common.{◌<◌, ap, subst, ℕ, arith}
+use Rattle.std.proofs.Common.{◌<◌, ap, arith}
 use Rattle.op_shards.proofs.Keeps.{deals}
 use Rattle.op_shards.proofs.lane.Dealer.deal.Goals as goal
 

@@ -1,8 +1,3 @@
-use Rattle.std.proofs.Common.{◌≡◌, ap, sym, subst}
-use Rattle.op_shards.specs.Order.{dealer, taker}
-use Rattle.crossbeam_queue.specs.Fifo.{Forks}
-use Rattle.op_shards.specs.Order.{Rule}
-use Rattle.op_shards.specs.declared.rule.Hand.{Hand}
 use Rattle.op_shards.proofs.Keeps.{opens}
 use Rattle.op_shards.proofs.lane.Dealer.open.Goals as goal
 

@@ -1,6 +1,7 @@
-use Rattle.std.proofs.Common.{◌≡◌, ap, sym, ◌∙◌}
-use Rattle.op_shards.specs.Passes.{Taker, after_gather}
-use Rattle.op_shards.proofs.Lanes.{same_spots, take_view, join_kept, join_view}
+use Rattle.std.proofs.Common.{ap, sym, ◌∙◌}
+use Rattle.op_shards.specs.Passes.{after_gather}
+use Rattle.op_shards.proofs.Gathered.{same_spots, join_kept, join_view}
+use Rattle.op_shards.proofs.Lanes.{take_view}
 use Rattle.op_shards.proofs.pass.TakePass.gather.Goals as goal
 
 pub gather_lanes-requires : goal.gather_lanes-requires
