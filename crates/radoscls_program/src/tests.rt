@@ -69,16 +69,21 @@ impl Reads for Folder {
 
 impl Files for Folder {
     fn write(&mut self, name: &str, bytes: &[u8]) -> io::Result<()> {
-        let file = match name {
-            "image" => &mut self.image,
-            "text" => &mut self.text,
-            "out" => &mut self.out,
+        match name {
+            "image" => replace(&mut self.image, bytes)?,
+            "text" => replace(&mut self.text, bytes)?,
+            "out" => replace(&mut self.out, bytes)?,
             _ => return Err(io::Error::from(ErrorKind::StorageFull)),
-        };
+        }
         self.writes = self.writes.wrapping_add(1);
-        file.clear();
-        Ok(file.extend_from_slice(bytes)?)
+        Ok(())
     }
+}
+
+/// Makes those bytes the whole of a file.
+fn replace(file: &mut Vec<u8>, bytes: &[u8]) -> io::Result<()> {
+    file.clear();
+    Ok(file.extend_from_slice(bytes)?)
 }
 
 /// How a run ended: its status, and what it wrote to standard output and to standard error.
