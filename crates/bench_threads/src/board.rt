@@ -44,11 +44,18 @@ pub fn looks<C: Clock>(clock: &C, alloc: Global, mode: Mode) -> Result<Figure> {
     let (board, mut writers, mut seen) = Board::new(alloc, 1)?;
     let mut writer = writers.pop().context("a writer")?;
     board.commit(&mut writer, &request);
+    look_runs(clock, &board, &mut seen, mode)
+}
+
+fn look_runs<C: Clock>(clock: &C, board: &Board, seen: &mut Seen, mode: Mode) -> Result<Figure>
+    requires board { seen.old.board ≡ board.now }
+    requires row { 0 < board.now.words }
+{
     let mut figure = Figure::new(mode);
     for _ in 0..mode.runs() {
-        let mut late = board.fresh(&mut seen);
+        let mut late = board.fresh(seen);
         let start = Instant::now(clock)?;
-        let count = look_often(&board, &mut late);
+        let count = look_often(board, &mut late);
         figure.note(clock, start, count)?;
     }
     Ok(figure)
