@@ -72,7 +72,7 @@ one_outcome outcomes class name caller input o l is a logged hl ho =
     let out_cap = within.out_cap in
     let in16 : m.in_cap < 2 ^ 16 = omega (arith, in_cap) in
     let out16 : m.out_cap < 2 ^ 16 = omega (arith, out_cap) in
-    let one : call_outcome m None caller input ≡ outcome_of_answer None o = outcomes m in16 out16 None caller input (outcome_of_answer None o) o.steps a.bounded a.runs in
+    let one : call_outcome m None caller input ≡ outcome_of_answer None o = outcomes m in16 out16 None caller input (outcome_of_answer None o) o.steps a.answers.bounded a.answers.runs in
     let none : fin.get fin.empty r.object ≡ None = fin.get-empty _ r.object in
     let made : outcome (class ∷ []) fin.empty r ≡ outcome_of_answer None o =
       method_outcome m (method_named class name) (fin.get fin.empty r.object) r a.named ∙ ap (λ object. call_outcome m object caller input) none ∙ one in
