@@ -1,6 +1,6 @@
 -- A step keeps what is within the limits, and so does a run.
-use Rattle.std.proofs.Common.{◌≡◌, ℕ, zero, suc, ◌+◌, ◌-◌, ◌*◌, ◌/◌, ◌%◌, ◌^◌, ◌≤◌, List, [], ◌∷◌, ◌++◌, Option, Some, None, Bool, true, false, refl, ap, ◌∙◌, sym, subst, arith, length, take, drop, length-append, ◌⊎◌, inl, inr}
-use Rattle.std.specs.Prelude.{if◌then◌else◌, nat_lt, nat_le, ◌==◌, ◌&&◌, ◌||◌, not, replicate, slice_index}
+use Rattle.std.proofs.Common.{◌≡◌, ℕ, zero, suc, ◌+◌, ◌-◌, ◌*◌, ◌/◌, ◌%◌, ◌^◌, ◌≤◌, List, [], ◌∷◌, Option, Some, None, Bool, true, false, refl, sym, subst, arith, length, take, drop, length-append, ◌⊎◌, inl, inr}
+use Rattle.std.specs.Prelude.{if◌then◌else◌, nat_lt, ◌==◌, replicate, slice_index}
 use Rattle.std.proofs.lemmas.List.{length-take, length-replicate}
 use Rattle.std.proofs.lemmas.Bool.{ltb-false}
 use Rattle.std.proofs.lemmas.Option.{none-some, same_Some}
@@ -18,11 +18,11 @@ use Rattle.bpf_machine.specs.declared.argument.Argument.{Argument}
 use Rattle.bpf_machine.specs.declared.argument.Argument.TheVariants.{Number, OutputLength, Readable, Writable}
 use Rattle.bpf_machine.specs.declared.caps.Caps.{Caps}
 use Rattle.bpf_machine.specs.Object.{Object, IsObject, AreBytes, data_of, part, spliced}
-use Rattle.bpf_machine.specs.State.{◌>>=◌, only, le_value, le_bytes, Memory, cells, written, put, size, State, reg, set_reg, go, opening, Outcome, outcome_of, Ending, Ended, Stuck, Unfinished, goes_on, ends}
+use Rattle.bpf_machine.specs.State.{◌>>=◌, only, le_value, le_bytes, cells, put, size, State, reg, set_reg, go, opening, Outcome, outcome_of, Ending, Ended, Stuck, Unfinished, goes_on, ends}
 use Rattle.bpf_machine.specs.Helper.{signature_of, Given, effect, read_effect, write_effect, refused, first_text, bytes_in, write_room, Effect}
-use Rattle.bpf_machine.specs.Flat.{Layout, base, operand, at_slot, at_base, signed16, signed32, width_of, signed_width_of, find, range, load, load_signed, store, arguments, help, flat_after, operation_row, neg_row, mov_row, end_row, alu_row, mem_row, memsx_row, ldx_row, st_row, stx_row, wide_row, ja_row, ja32_row, call_row, branch_row, act, step, exit_code, run, entry}
+use Rattle.bpf_machine.specs.Flat.{Layout, base, operand, at_slot, at_base, signed16, signed32, width_of, signed_width_of, find, range, load, load_signed, store, arguments, help, flat_after, operation_row, neg_row, mov_row, end_row, alu_row, ldx_row, st_row, stx_row, wide_row, call_row, branch_row, act, step, exit_code, run, entry}
 use Rattle.bpf_machine.specs.Jump.{jump_target, branch_to}
-use Rattle.bpf_machine.specs.Safe.{caps_of, IsCall, first_layout, outcome_or_none}
+use Rattle.bpf_machine.specs.Safe.{caps_of, first_layout, outcome_or_none}
 use Rattle.bpf_machine.specs.Address.{IsMemory}
 use Rattle.bpf_machine.specs.Within.{IsWithinLimits, OutcomesAreWithinLimits, CallsAreWithinLimits}
 use Rattle.bpf_machine.proofs.Bytes.{are_append, are_take, are_zeros, are_part, are_le_bytes, are_written, part_short, are_spliced, spliced_short}

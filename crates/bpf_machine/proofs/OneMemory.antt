@@ -11,7 +11,7 @@ use Rattle.bpf_machine.specs.declared.region.Region.TheVariants.{Input, Output, 
 use Rattle.bpf_machine.specs.declared.caps.Caps.{Caps}
 use Rattle.bpf_machine.specs.Object.{part}
 use Rattle.bpf_machine.specs.State.{◌>>=◌, only, le_value, le_bytes, Memory, cells, written, put, may_store, size, State, set_reg}
-use Rattle.bpf_machine.specs.Flat.{Layout, base, IsIn, IsLayout, holds, find, load, load_signed, store}
+use Rattle.bpf_machine.specs.Flat.{Layout, base, IsLayout, holds, find, load, load_signed}
 use Rattle.bpf_machine.specs.Address.{byte_at, IsMemory, Reads, Writes, StandsAt, PlacesAreAddresses, NoByteElsewhere, LoadsAreOfAddresses, SignedLoadsAreOfAddresses, StoresAreAtAddresses}
 use Rattle.bpf_machine.proofs.Cells.{part_at, part_length, length-le_bytes, written_at, written_below, written_above, length-written}
 use Rattle.bpf_machine.proofs.Place.{find_at}
