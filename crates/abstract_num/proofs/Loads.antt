@@ -1,5 +1,5 @@
 -- What loads read lies between their ends.
-use Rattle.std.proofs.Common.{◌≡◌, ℕ, ℤ, pos, negsuc, ◌^◌, ◌<◌, ◌≤◌, Option, Some, subst, zero-le, arith}
+use Rattle.std.proofs.Common.{◌≡◌, ℕ, ℤ, ◌^◌, ◌<◌, ◌≤◌, Option, Some, subst, zero-le, arith}
 use Rattle.std.specs.Prelude.{◌≤ℤ◌, IsSomeAnd}
 use Rattle.std.proofs.lemmas.Int.{ints}
 use Rattle.bpf_decode.specs.Arithmetic.{signed_load_value}

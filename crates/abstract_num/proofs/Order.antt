@@ -1,5 +1,5 @@
 -- The laws of the number's join and order, from those of its parts.
-use Rattle.std.proofs.Common.{◌≡◌, ℕ, ℤ, ◌-◌, ap, sym, ◌∙◌, arith}
+use Rattle.std.proofs.Common.{◌≡◌, ℕ, ℤ, ap, arith}
 use Rattle.std.specs.Prelude.{◌≤ℤ◌}
 use Rattle.std.specs.Int.{bit_at}
 use mathlib.Core.Path.{ap₂}
@@ -9,7 +9,7 @@ use Rattle.abstract_num.specs.Masks.{clear}
 use Rattle.abstract_num.specs.PartsFit.{bit_at_clear}
 use Rattle.abstract_num.specs.RangeLaws.{urange_join_commutes, urange_join_associates, urange_join_of_same, urange_join_is_above, urange_below_holds, srange_join_commutes, srange_join_associates, srange_join_of_same, srange_join_is_above, srange_below_holds}
 use Rattle.abstract_num.specs.BitsLaws.{apart_at, bits_join_commutes, bits_join_associates, bits_join_of_same, bits_join_is_above, bits_below_holds}
-use Rattle.abstract_num.specs.Plain.{Number, Holds, Below, view}
+use Rattle.abstract_num.specs.Plain.{Number}
 use Rattle.abstract_num.specs.Laws.{JoinCommutes, JoinAssociates, JoinOfSame, JoinIsAbove, BelowIsReflexive, BelowIsTransitive, BelowHolds}
 use Rattle.abstract_num.specs.declared.urange.URange.{URange}
 use Rattle.abstract_num.specs.declared.srange.SRange.{SRange}

@@ -1,6 +1,6 @@
 -- What an edge leaves of two numbers keeps each pair for which the comparison goes that way.
-use Rattle.std.proofs.Common.{◌≡◌, ℕ, ℤ, ◌+◌, ◌%◌, ◌^◌, ◌<◌, ◌≤◌, Bool, true, false, Option, Some, None, ap, sym, subst, ◌∙◌, refl, arith, ⊎_elim}
-use Rattle.std.specs.Prelude.{◌≢◌, ◌==◌, ◌&&◌, ◌||◌, ◌⊎◌, not, nat_lt, bit_and, IsSomeAnd, option_map, option_and_then}
+use Rattle.std.proofs.Common.{◌≡◌, ℕ, ◌%◌, ◌^◌, ◌<◌, ◌≤◌, Bool, true, false, Option, Some, None, ap, sym, subst, ◌∙◌, refl, arith, ⊎_elim}
+use Rattle.std.specs.Prelude.{◌≢◌, ◌||◌, ◌⊎◌, nat_lt, bit_and, IsSomeAnd, option_map, option_and_then}
 use Rattle.std.specs.Int.{w32, w64, cast_signed}
 use lib.Signed.{lt_z, le_z}
 use mathlib.Core.Path.{ap₂}
@@ -13,19 +13,18 @@ use Rattle.bpf_decode.specs.declared.operation.Comparison.TheVariants as is
 use Rattle.abstract_num.specs.Both.{BothRefine}
 use Rattle.abstract_num.specs.Cases.{cond_both, and_first, and_second, or_false}
 use Rattle.abstract_num.specs.Meaning.{IsFact}
-use Rattle.abstract_num.specs.Signed.{signed}
 use Rattle.abstract_num.specs.UnsignedFacts.{unsigned_fact, crosses}
 use Rattle.abstract_num.specs.SignedFacts.{signed_fact, crosses as signs_cross}
-use Rattle.abstract_num.specs.BitsFacts.{bits_fact, denied}
+use Rattle.abstract_num.specs.BitsFacts.{denied}
 use Rattle.abstract_num.specs.UnsignedFactLaws.{URangeRefines, unsigned_fact_keeps, not_crossed}
 use Rattle.abstract_num.specs.SignedFactLaws.{SRangeRefines, signed_fact_keeps, not_crossed as signs_not_crossed}
 use Rattle.abstract_num.specs.BitsFactLaws.{BitsRefine, bits_fact_keeps}
 use Rattle.abstract_num.specs.Plain.{Plain, Number, Holds, GivesBoth, view}
 use Rattle.abstract_num.specs.Tighten.{tighten}
 use Rattle.abstract_num.specs.Transfer.{is_constant}
-use Rattle.abstract_num.specs.Edges.{Pair, told, leaves_nothing, left_of, by_fact, turned, first_of, other_than, both, by_edge, is_signed, short_end, tells, refined, tightened, along}
+use Rattle.abstract_num.specs.Edges.{Pair, told, leaves_nothing, left_of, by_fact, turned, first_of, other_than, both, by_edge, short_end, tells, refined, tightened, along}
 use Rattle.abstract_num.specs.declared.fact.Fact.{Fact}
-use Rattle.abstract_num.specs.declared.fact.Fact.TheVariants.{Same, Above, AtLeast, SignedAbove, SignedAtLeast, Meets, Not, NoneOf}
+use Rattle.abstract_num.specs.declared.fact.Fact.TheVariants.{Not, NoneOf}
 use Rattle.abstract_num.specs.declared.fact.Edge.{Edge}
 use Rattle.abstract_num.specs.declared.fact.Edge.TheVariants.{Ahead, Turned, Apart, Disjoint}
 use Rattle.abstract_num.proofs.Same.{plain_same}

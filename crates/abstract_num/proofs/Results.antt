@@ -4,14 +4,11 @@ use Rattle.std.specs.Prelude.{int_div, int_rem, ◌==◌}
 use Rattle.std.specs.Int.{Width, w8, w16, w32, w64, cast_signed, cast_unsigned, int_shr, swap_bytes}
 use Rattle.std.specs.Int.Signed.{mag, mag_rem, mag_shr}
 use Rattle.std.proofs.Math.IntN.{neg_ℤ}
-use Rattle.bpf_decode.specs.Instruction.{signed_byte_count}
 use Rattle.std.proofs.Math.Facts.{sfits_to_z}
 use Rattle.std.proofs.Math.Nat.{div-le_self, mod-le}
 use Rattle.std.proofs.lemmas.Nat.{or_lt, xor_lt, and_le_l}
 use Rattle.std.proofs.lemmas.Bool.{cond_both}
 use mir.Val.{bits, hbits}
-use Rattle.bpf_decode.specs.declared.access.SignedWidth.TheVariants as signed
-use Rattle.bpf_decode.specs.declared.access.SignedWidth.{SignedWidth}
 use Rattle.bpf_decode.specs.declared.operation.Bits.{Bits}
 use Rattle.bpf_decode.specs.declared.operation.Bits.TheVariants.{Bits32, Bits64}
 use Rattle.bpf_decode.specs.declared.operation.Arithmetic.{Arithmetic}
@@ -22,7 +19,7 @@ use Rattle.bpf_decode.specs.declared.operation.ByteOrder.{ByteOrder}
 use Rattle.bpf_decode.specs.declared.operation.ByteOrder.TheVariants.{ToLittle, ToBig, Swap}
 use Rattle.bpf_decode.specs.declared.operation.EndWidth.{EndWidth}
 use Rattle.bpf_decode.specs.declared.operation.EndWidth.TheVariants.{End16, End32, End64}
-use Rattle.bpf_decode.specs.Arithmetic.{computed, alu_value, neg_value, mov_value, signed_move_value, end_width, end_value, signed_load_value}
+use Rattle.bpf_decode.specs.Arithmetic.{computed, alu_value, signed_move_value, end_width, end_value}
 
 -- a number of a width as two's complement
 of_z_small : (w : Width) (z : ℤ) → 0 < 2 ^ bits w → mag z < 2 ^ bits w → cast_unsigned w z < 2 ^ bits w

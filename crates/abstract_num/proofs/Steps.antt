@@ -1,6 +1,6 @@
 -- Tightening, step after step.
-use Rattle.std.specs.Prelude.{ℕ, ℤ, ◌<ℤ◌, ◌≤ℤ◌, ◌≡◌, ◌≤◌, ◌<◌, ◌+◌, ◌^◌, bit_and, Bool, true, false, cond, nat_lt, int_lt, Option, Some, None, MatchOption}
-use Rattle.std.proofs.Common.{sym, ap, ◌∙◌, refl, arith, subst}
+use Rattle.std.specs.Prelude.{ℕ, ℤ, ◌<ℤ◌, ◌≤ℤ◌, ◌≡◌, ◌≤◌, ◌<◌, ◌+◌, ◌^◌, bit_and, Bool, true, false, cond, nat_lt, int_lt, Option, None}
+use Rattle.std.proofs.Common.{ap, ◌∙◌, refl, arith, subst}
 use Rattle.std.proofs.lemmas.Int.{ints}
 use Rattle.std.proofs.lemmas.Nat.{or_disjoint, or_lt}
 use Rattle.abstract_num.specs.Tighten.{by_bits, by_unsigned, by_signed, by_constant, tighten}

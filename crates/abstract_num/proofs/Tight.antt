@@ -1,8 +1,8 @@
 -- Tightening keeps every number.
-use Rattle.std.specs.Prelude.{ℕ, ℤ, pos, negsuc, ◌<ℤ◌, ◌+ℤ◌, ◌-ℤ◌, ◌≤ℤ◌, int_le, int_lt, nat_lt, nat_le, ◌==◌, ◌&&◌, unsigned_abs, ◌+◌, ◌-◌, ◌^◌, ◌≡◌, ◌≤◌, ◌<◌, min, max, Bool, true, false, cond, Option, Some, None, IsSomeAnd, bit_and, bit_or}
-use Rattle.std.specs.Int.{bit_at, int_max, int_min}
-use Rattle.std.proofs.Common.{sym, ap, ◌∙◌, refl, arith, subst}
-use Rattle.std.proofs.lemmas.Int.{ints, clamps, int_max_is, int_min_is}
+use Rattle.std.specs.Prelude.{ℕ, ℤ, pos, negsuc, ◌<ℤ◌, ◌+ℤ◌, ◌≤ℤ◌, int_le, int_lt, nat_lt, nat_le, ◌==◌, ◌+◌, ◌^◌, ◌≡◌, ◌≤◌, ◌<◌, true, false, cond, Option, Some, None, IsSomeAnd, bit_and, bit_or}
+use Rattle.std.specs.Int.{int_max, int_min}
+use Rattle.std.proofs.Common.{sym, ◌∙◌, refl, arith, subst}
+use Rattle.std.proofs.lemmas.Int.{ints, clamps}
 use Rattle.std.proofs.lemmas.Nat.{or_disjoint, and_le_r}
 use Rattle.std.proofs.lemmas.Nat.Bits.{bit_at_and, bit_at_or, bit_at-lt, bit_at-zero, same_from_bits}
 use Rattle.abstract_num.specs.Masks.{clear}
@@ -11,7 +11,7 @@ use Rattle.abstract_num.specs.BitsRowLaws.{clear_zero}
 use Rattle.abstract_num.specs.Cases.{cond_dec, cond_both}
 use Rattle.abstract_num.specs.Signed.{signed}
 use Rattle.abstract_num.specs.Plain.{Plain, Number, Holds, Gives, Kept, constant}
-use Rattle.abstract_num.specs.Tighten.{natural, less_all, plus_all, by_bits, meet_signed, meet_unsigned, by_unsigned, by_signed, agrees_with, by_constant, tighten}
+use Rattle.abstract_num.specs.Tighten.{natural, less_all, plus_all, by_bits, by_unsigned, by_signed, agrees_with, by_constant, tighten}
 
 -- the code's answer keeps what the table's keeps
 pub from_table : (t : Option Plain) (r : Option Number) (n : ℕ) → Gives t r → IsSomeAnd t (λ z. Holds z n) → Kept r n

@@ -1,13 +1,12 @@
 -- What the operations make of numbers keeps every number.
-use Rattle.std.proofs.Common.{◌≡◌, ℕ, ℤ, pos, ◌+◌, ◌-◌, ◌*◌, ◌/◌, ◌%◌, ◌^◌, ◌<◌, ◌≤◌, Bool, true, false, cond, Option, Some, None, ap, sym, subst, ◌∙◌, refl, arith}
-use Rattle.std.specs.Prelude.{◌==◌, ◌&&◌, nat_lt, bit_and, bit_or, bit_xor, IsSomeAnd, option_and_then}
+use Rattle.std.proofs.Common.{◌≡◌, ℕ, ◌*◌, ◌/◌, ◌%◌, ◌^◌, ◌<◌, true, cond, Option, Some, None, ap, sym, subst, ◌∙◌, refl, arith}
+use Rattle.std.specs.Prelude.{◌&&◌, nat_lt, IsSomeAnd, option_and_then}
 use Rattle.std.specs.Int.{w8, w16, w32, w64, cast_signed, cast_unsigned, int_shr}
 use Rattle.std.proofs.Math.Nat.{div-le_self}
 use mathlib.Core.Path.{ap₂}
 use Rattle.std.proofs.lemmas.Int.{ints}
 use Rattle.std.proofs.lemmas.Nat.{and_le_l, or_lt, xor_lt, shr_le}
 use Rattle.bpf_decode.specs.Arithmetic.{computed, alu_value, neg_value, mov_value, signed_move_value, end_value}
-use Rattle.bpf_decode.specs.Instruction.{signed_move_bits}
 use Rattle.bpf_decode.specs.declared.operation.Arithmetic.{Arithmetic}
 use Rattle.bpf_decode.specs.declared.operation.Arithmetic.TheVariants as op
 use Rattle.bpf_decode.specs.declared.operation.Bits.{Bits}
@@ -16,22 +15,21 @@ use Rattle.bpf_decode.specs.declared.operation.SignedMove.{SignedMove}
 use Rattle.bpf_decode.specs.declared.operation.SignedMove.TheVariants.{Byte64, Half64, Word64, Byte32, Half32}
 use Rattle.bpf_decode.specs.declared.operation.ByteOrder.{ByteOrder}
 use Rattle.bpf_decode.specs.declared.operation.EndWidth.{EndWidth}
-use Rattle.abstract_num.specs.Arsh.{arsh_low}
-use Rattle.abstract_num.specs.Cases.{cond_both, cond_dec, and_first, and_second}
+use Rattle.abstract_num.specs.Cases.{cond_both, and_first, and_second}
 use Rattle.abstract_num.specs.Meaning.{row_value}
 use Rattle.abstract_num.specs.RowsFit.{row_value_fits}
 use Rattle.abstract_num.specs.UnsignedRows.{unsigned_row}
 use Rattle.abstract_num.specs.UnsignedRowLaws.{unsigned_row_keeps, cut_between}
 use Rattle.abstract_num.specs.SignedRowLaws.{signed_row_keeps, signed_all_keeps}
 use Rattle.abstract_num.specs.BitsRowLaws.{bits_row_keeps, cut_agrees, unknown_keeps, clear_zero}
-use Rattle.abstract_num.specs.Plain.{Plain, Number, Holds, any, constant, view, Gives, Kept}
+use Rattle.abstract_num.specs.Plain.{Plain, Number, Holds, any, constant, view}
 use Rattle.abstract_num.specs.Tighten.{tighten}
-use Rattle.abstract_num.specs.Transfer.{row_of, row_of_32, is_constant, count_of, answer32, answer64, answered, moved, cut, finished32, finished64, transferred, copied, extended_of, sign_extended, ordered}
+use Rattle.abstract_num.specs.Transfer.{row_of, row_of_32, is_constant, count_of, answer32, answer64, moved, cut, finished32, finished64, transferred, copied, extended_of, sign_extended, ordered}
 use Rattle.abstract_num.specs.declared.row.Row.{Row}
 use Rattle.abstract_num.specs.declared.row.Row.TheVariants as row
 use Rattle.abstract_num.specs.declared.row.Answer.{Answer}
 use Rattle.abstract_num.specs.declared.row.Answer.TheVariants.{Exact, By, All}
-use Rattle.abstract_num.proofs.Results.{computed_small, alu_small, signed_move_small, signed_move_short8, signed_move_short16, end_value_small, Is32, Is64}
+use Rattle.abstract_num.proofs.Results.{computed_small, signed_move_small, signed_move_short8, signed_move_short16, end_value_small, Is32, Is64}
 use Rattle.abstract_num.proofs.Tight.{Fits, AllFit, tighten_sound, tighten_fits}
 
 pub view_fits : (x : Number) → Fits (view x)

@@ -1,10 +1,9 @@
 -- The laws of joining known bits, bit by bit.
-use Rattle.std.specs.Prelude.{◌≡◌, ℕ, ◌+◌, ◌-◌, ◌%◌, ◌^◌, ◌<◌, min, max, bit_and, bit_or, bit_xor}
+use Rattle.std.specs.Prelude.{◌≡◌, ℕ, ◌+◌, ◌-◌, ◌%◌, ◌^◌, ◌<◌, min, max, bit_and}
 use Rattle.std.specs.Int.{bit_at}
 use Rattle.std.proofs.Common.{sym, ap, ◌∙◌, refl, arith, subst}
 use Rattle.std.proofs.Props.{props}
 use Rattle.std.proofs.lemmas.Nat.Bits.{bit_at_and, bit_at_or, bit_at_xor, bit_at-lt, bit_at-zero, same_from_bits}
-use Rattle.abstract_num.specs.Masks.{clear}
 use Rattle.abstract_num.specs.PartsFit.{joined_unknown, bit_at_clear}
 use Rattle.abstract_num.specs.Parts.{InBits, joined_bits, BelowBits}
 use Rattle.abstract_num.specs.declared.bits.Bits.{Bits}

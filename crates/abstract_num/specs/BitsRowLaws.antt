@@ -1,5 +1,5 @@
 -- The known bits keep every number.
-use Rattle.std.specs.Prelude.{ℕ, ◌+◌, ◌-◌, ◌*◌, ◌/◌, ◌%◌, ◌^◌, min, max, ◌≡◌, ◌<◌, bit_and, bit_or, bit_xor}
+use Rattle.std.specs.Prelude.{ℕ, ◌+◌, ◌-◌, ◌*◌, ◌/◌, ◌%◌, ◌^◌, min, ◌≡◌, ◌<◌, bit_and, bit_or, bit_xor}
 use Rattle.std.specs.Int.{w64, bit_at, bit_not}
 use Rattle.std.proofs.Common.{sym, ap, ◌∙◌, arith, add-zero}
 use Rattle.std.proofs.lemmas.Nat.{and_le_l, and_mod, xor_mod, and_shr, xor_shr, and_block, xor_block, pow_pos}

@@ -1,5 +1,5 @@
 -- What the three parts of a number hold, their joins and their orders.
-use Rattle.std.specs.Prelude.{◌≡◌, ℕ, ℤ, ◌^◌, ◌<◌, ◌≤◌, ◌≤ℤ◌, min, max, bit_or, bit_xor}
+use Rattle.std.specs.Prelude.{◌≡◌, ℕ, ◌^◌, ◌<◌, ◌≤◌, ◌≤ℤ◌, min, max}
 use Rattle.std.specs.Int.{int_min, int_max}
 use Rattle.abstract_num.specs.Signed.{signed}
 use Rattle.abstract_num.specs.Masks.{clear}

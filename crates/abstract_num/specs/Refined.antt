@@ -1,5 +1,5 @@
 -- What a refinement of two values gives.
-use Rattle.std.specs.Prelude.{◌≡◌, Bool, true, false, Option, Some, None, MatchOption}
+use Rattle.std.specs.Prelude.{◌≡◌, Bool, true, false, Option, MatchOption}
 
 -- none where the test says that nothing is left, and else two values of which P holds
 abbrev pub IsRefined : {A : Type 0} → Bool → (A → Type 0) → Option A → Type 0

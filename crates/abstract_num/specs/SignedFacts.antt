@@ -1,5 +1,5 @@
 -- What a fact leaves of two signed ranges [p, q] and [r, s]: their ends after.
-use Rattle.std.specs.Prelude.{ℕ, ℤ, pos, ◌+ℤ◌, ◌-ℤ◌, int_le, int_lt, ◌&&◌, ◌||◌, Bool, if◌then◌else◌}
+use Rattle.std.specs.Prelude.{ℤ, pos, ◌+ℤ◌, ◌-ℤ◌, int_le, int_lt, ◌&&◌, ◌||◌, Bool, if◌then◌else◌}
 use Rattle.std.specs.Int.{int_min, int_max}
 use Rattle.abstract_num.specs.Signed.{signed}
 use Rattle.abstract_num.specs.declared.fact.Fact.{Fact}

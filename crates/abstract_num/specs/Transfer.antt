@@ -1,5 +1,5 @@
 -- What operations make of numbers.
-use Rattle.std.specs.Prelude.{ℕ, ℤ, pos, negsuc, ◌+◌, ◌-◌, ◌*◌, ◌%◌, ◌^◌, nat_lt, ◌==◌, ◌&&◌, Bool, if◌then◌else◌, Option, Some, None, option_and_then}
+use Rattle.std.specs.Prelude.{ℕ, ℤ, pos, negsuc, ◌-◌, ◌%◌, ◌^◌, nat_lt, ◌==◌, ◌&&◌, Bool, if◌then◌else◌, Option, Some, None, option_and_then}
 use Rattle.bpf_decode.specs.Arithmetic.{alu_value, signed_move_value, end_value}
 use Rattle.bpf_decode.specs.declared.operation.Arithmetic.{Arithmetic}
 use Rattle.bpf_decode.specs.declared.operation.Arithmetic.TheVariants as op

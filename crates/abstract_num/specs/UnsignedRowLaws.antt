@@ -1,5 +1,5 @@
 -- The unsigned part keeps every number.
-use Rattle.std.specs.Prelude.{ℕ, ◌+◌, ◌-◌, ◌*◌, ◌/◌, ◌%◌, ◌^◌, ◌≡◌, ◌≤◌, ◌<◌, min, max, nat_lt, bit_or, bit_xor}
+use Rattle.std.specs.Prelude.{ℕ, ◌*◌, ◌/◌, ◌%◌, ◌^◌, ◌≡◌, ◌≤◌, ◌<◌, max, nat_lt, bit_or, bit_xor}
 use Rattle.std.proofs.Common.{sym, arith, subst, zero-le}
 use Rattle.std.proofs.lemmas.Nat.{and_le_l, and_le_r, or_lt, xor_lt, le_or_l, le_or_r, leading_length, mul-le, shr_le, pow_pos, le-div, div-add-mod'}
 use Rattle.std.proofs.Math.Nat.{div-le_self}

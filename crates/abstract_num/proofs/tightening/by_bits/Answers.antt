@@ -1,4 +1,3 @@
-use Rattle.std.proofs.Common.{rules}
 use Rattle.abstract_num.proofs.Steps.{sum_fits}
 use Rattle.abstract_num.proofs.tightening.by_bits.Goals as goal
 

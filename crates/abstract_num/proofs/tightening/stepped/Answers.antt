@@ -1,4 +1,4 @@
-use Rattle.std.proofs.Common.{rules, subst, sym, ◌≡◌, Option}
+use Rattle.std.proofs.Common.{subst, sym, Option}
 use Rattle.abstract_num.specs.Plain.{Plain, Gives, view}
 use Rattle.abstract_num.proofs.Steps.{none_first, none_second, none_third, all_steps}
 use Rattle.abstract_num.proofs.tightening.stepped.Goals as goal

@@ -1,4 +1,4 @@
-use Rattle.std.proofs.Common.{rules, ◌%◌, ◌∙◌, ap, bit_and, ℕ}
+use Rattle.std.proofs.Common.{rules, ◌%◌, ◌∙◌, bit_and, ℕ}
 use mathlib.Core.Path.{ap₂}
 use Rattle.abstract_num.specs.BitsRowLaws.{apart_arsh}
 use Rattle.abstract_num.proofs.bits.rows.arsh.Goals as goal

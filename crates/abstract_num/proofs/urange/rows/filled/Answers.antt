@@ -1,4 +1,4 @@
-use Rattle.std.proofs.Common.{rules, refl, subst, sym, ℕ, ◌≡◌, ◌^◌, ◌-◌}
+use Rattle.std.proofs.Common.{refl, subst, sym, ℕ, ◌≡◌, ◌^◌, ◌-◌}
 use Rattle.abstract_num.specs.UnsignedRows.{digits}
 use Rattle.std.proofs.lemmas.Nat.{leading_le}
 use Rattle.std.proofs.lemmas.Nat.Bits.{ones_shr}

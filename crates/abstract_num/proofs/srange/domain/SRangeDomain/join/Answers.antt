@@ -1,4 +1,4 @@
-use Rattle.std.proofs.Common.{rules, arith}
+use Rattle.std.proofs.Common.{rules}
 use Rattle.abstract_num.specs.RangeLaws.{srange_same}
 use Rattle.abstract_num.proofs.srange.domain.SRangeDomain.join.Goals as goal
 
