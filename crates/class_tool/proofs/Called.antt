@@ -75,7 +75,7 @@ one_outcome outcomes class name caller input o l is a logged hl ho =
     let one : call_outcome m None caller input ≡ outcome_of_answer None o = outcomes m in16 out16 None caller input (outcome_of_answer None o) o.steps a.answers.bounded a.answers.runs in
     let none : fin.get fin.empty r.object ≡ None = fin.get-empty _ r.object in
     let made : outcome (class ∷ []) fin.empty r ≡ outcome_of_answer None o =
-      method_outcome m (method_named class name) (fin.get fin.empty r.object) r a.named ∙ ap (λ object. call_outcome m object caller input) none ∙ one in
+    method_outcome m (method_named class name) (fin.get fin.empty r.object) r a.named ∙ ap (λ object. call_outcome m object caller input) none ∙ one in
     let reply = same_Some {A = Reply} _ _ logged in
     let code : cast_unsigned w64 o.code ≡ cast_unsigned w64 l.code = sym (ap (λ (w : machine.Outcome). w.code) made) ∙ ap (λ (w : Reply). w.code) reply in
     let output : o.output.items ≡ l.output.items = sym (ap (λ (w : machine.Outcome). w.output) made) ∙ ap (λ (w : Reply). w.output) reply in

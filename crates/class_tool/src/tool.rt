@@ -13,11 +13,7 @@ use std::alloc::Global;
 /// Does what is asked for. The answer is true of the files as they were. No file is written but the one that is named
 /// for the image of a text, and that one only where the text is right; a failure says why, the first reason in the
 /// order of `Fails`.
-pub fn find<F: Files>(
-    alloc: Global,
-    files: &mut F,
-    action: &Action<'_>,
-) -> Result<Answer, Failure>
+pub fn find<F: Files>(alloc: Global, files: &mut F, action: &Action<'_>) -> Result<Answer, Failure>
     ensures settles { IfOk result (Settles (F.disk files.old) (F.disk files.new) action.now) }
     ensures fails { IfErr result (Fails (F.disk files.old) (F.disk files.new) action.now) }
 {

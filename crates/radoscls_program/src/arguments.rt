@@ -4,9 +4,9 @@ ghost use Rattle.clap.specs.Words.{app_of, fault_of, first_value, found_of, rule
 ghost use Rattle.radoscls_program.specs.CommandLine.{Asks, asm_line, caller_rule, command_line, dis_line, image_line, option_rule, plain_line, required_rule, run_line, verify_line};
 ghost use Rattle.radoscls_program.specs.Arguments.{AsksBy, IsClientNumber, NamesCall, NamesFiles, number_in};
 
-use class_tool::{Action, Call};
 use clap::error::{Error, ErrorKind};
 use clap::{Arg, ArgMatches, Command, value_parser};
+use class_tool::{Action, Call};
 use pg_log::ClientId;
 use std::alloc::{AllocError, Global};
 use std::convert::AsStr;

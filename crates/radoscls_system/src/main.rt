@@ -28,8 +28,24 @@ static CALLS: [&[&str]; 12] = [
     // a file that can't be written
     &["radoscls", "asm", "keep.txt", "."],
     // a call's input and caller
-    &["radoscls", "run", "keep.img", "keep", "--input", "726f6f74", "--caller", "4294967295"],
-    &["radoscls", "run", "keep.img", "keep", "--caller=7", "--input=7A"],
+    &[
+        "radoscls",
+        "run",
+        "keep.img",
+        "keep",
+        "--input",
+        "726f6f74",
+        "--caller",
+        "4294967295",
+    ],
+    &[
+        "radoscls",
+        "run",
+        "keep.img",
+        "keep",
+        "--caller=7",
+        "--input=7A",
+    ],
     &["radoscls", "run", "keep.img", "keep", "--caller", "0"],
 ];
 

@@ -277,7 +277,10 @@ fn passes<R: Abort + AllocGlobal>(rt: &R, rows: &[Row]) -> Result<(), Fail> {
         let printed = row.printed;
         assert!(rt; ended.printed.as_slice() == printed.as_bytes(), "{printed}");
         assert_eq!(rt; ended.status, row.status, "{printed}");
-        assert!(rt; ended.explained.is_empty() && folder.writes == 0, "{printed}");
+        assert!(rt;
+            ended.explained.is_empty() && folder.writes == 0,
+            "{printed}"
+        );
     }
     Ok(())
 }

@@ -57,7 +57,10 @@ fn assembles(rt: HostRuntime) -> Result<(), Fail> {
         let ended = assemble(rt.alloc(), &mut folder)?;
         assert!(rt; ended.status == 0 && ended.printed.is_empty(), "{text}");
         assert!(rt; folder.out == bytes_of(rt.alloc(), image)?, "{text}");
-        assert!(rt; folder.writes == 1 && folder.text.as_slice() == text.as_bytes(), "{text}");
+        assert!(rt;
+            folder.writes == 1 && folder.text.as_slice() == text.as_bytes(),
+            "{text}"
+        );
     }
     Ok(())
 }
