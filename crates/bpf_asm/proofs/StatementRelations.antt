@@ -22,7 +22,8 @@ use Rattle.bpf_asm.specs.Texts.{is_blank, content, first_word, after_word, is_la
 use Rattle.bpf_asm.specs.Operands.{both, unsigned_of}
 use Rattle.bpf_asm.specs.Drafts.{instruction_of}
 use Rattle.bpf_asm.specs.Statements.{flags_of, header_with, header_of, is_label_line, statement_of, lines_of, statements_of}
-use Rattle.bpf_asm.specs.Syntax.{Without, TextSays, HasWord, IsDraftText, IsPlainText, AreFlags, IsDirectiveText, IsStatementText, IsLine, AreLines}
+use Rattle.bpf_asm.specs.Syntax.{Without, HasWord, IsDraftText, IsPlainText, AreFlags, IsDirectiveText}
+use Rattle.bpf_asm.specs.Lines.{TextSays, IsStatementText, IsLine, AreLines}
 use Rattle.bpf_asm.proofs.PlainBytes.{Free, and_left, and_right, before_none, quiet_where}
 use Rattle.bpf_asm.proofs.TextLemmas.{front}
 use Rattle.bpf_asm.proofs.OperandTexts.{length_some, last_byte}

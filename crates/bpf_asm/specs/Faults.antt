@@ -1,5 +1,5 @@
 -- Why a text is refused, beside its grammar: "line n has fault f" as a relation, and the first fault of a text. A line's
--- faults are those of its place, whatever is wrong elsewhere.
+-- faults are those of its place, whatever is wrong elsewhere; a line that is none of its form has its own (Shapes).
 use Rattle.std.specs.Prelude.{◌≡◌, ◌⊎◌, ℕ, ℤ, pos, ◌+◌, ◌-ℤ◌, ◌<◌, ◌≤◌, false, List, [], ◌∷◌, ◌++◌, Option, Some, None, IsSome, Result, Ok, Err, FitsSigned}
 use Rattle.std.specs.Int.{w16, w32}
 use Rattle.std.specs.List.{before_first}
@@ -16,7 +16,7 @@ use Rattle.bpf_asm.specs.declared.statement.Statement.{Statement}
 use Rattle.bpf_asm.specs.declared.statement.Statement.TheVariants.{Empty, Label, Directive, Instruction}
 use Rattle.bpf_asm.specs.Fault.{fault_number}
 use Rattle.bpf_asm.specs.Headers.{MethodHeader}
-use Rattle.bpf_asm.specs.Statements.{statements_of}
+use Rattle.bpf_asm.specs.Lines.{TextSays}
 use Rattle.bpf_asm.specs.Bodies.{draft_slots, slot_of_label, has_instruction}
 use Rattle.bpf_asm.specs.Classes.{is_directive}
 
@@ -126,16 +126,24 @@ pub record IsFirstFault (Has : ℕ → AsmFault → Type 0) (line : ℕ) (f : As
   pub has : Has line f
   pub least : (n : ℕ) (g : AsmFault) → Has n g → (line < n) ⊎ ((line ≡ n) × (fault_number f ≤ fault_number g))
 
--- a refusal of one method's text, and of a class's
-abbrev pub RefusesText : List ℕ → AsmError → Type 0
-RefusesText text e = IsFirstFault (HasFault (statements_of text)) e.line e.fault
+-- a refusal of one method's text, and of a class's: the first fault of what its lines say
+pub record RefusesText (text : List ℕ) (e : AsmError) : Type 0 where
+  pub lines : List Statement
+  pub say : TextSays text lines
+  pub first : IsFirstFault (HasFault lines) e.line e.fault
 
-abbrev pub RefusesClassText : List ℕ → AsmError → Type 0
-RefusesClassText text e = IsFirstFault (HasClassFault (statements_of text)) e.line e.fault
+pub record RefusesClassText (text : List ℕ) (e : AsmError) : Type 0 where
+  pub lines : List Statement
+  pub say : TextSays text lines
+  pub first : IsFirstFault (HasClassFault lines) e.line e.fault
 
 -- a text without fault
-abbrev pub IsFaultless : List ℕ → Type 0
-IsFaultless text = (n : ℕ) (f : AsmFault) → ¬ HasFault (statements_of text) n f
+pub record IsFaultless (text : List ℕ) : Type 0 where
+  pub lines : List Statement
+  pub say : TextSays text lines
+  pub none : (n : ℕ) (f : AsmFault) → ¬ HasFault lines n f
 
-abbrev pub IsFaultlessClass : List ℕ → Type 0
-IsFaultlessClass text = (n : ℕ) (f : AsmFault) → ¬ HasClassFault (statements_of text) n f
+pub record IsFaultlessClass (text : List ℕ) : Type 0 where
+  pub lines : List Statement
+  pub say : TextSays text lines
+  pub none : (n : ℕ) (f : AsmFault) → ¬ HasClassFault lines n f

@@ -4,6 +4,8 @@ use Rattle.bpf_decode.specs.declared.insn.Insn.{Insn}
 use Rattle.bpf_decode.specs.Instruction.{AllFit, slot_total}
 use Rattle.bpf_asm.specs.Canonical.{canonical_text, class_text}
 use Rattle.bpf_asm.specs.Grammar.{IsMethodText, IsClassText}
+use Rattle.bpf_asm.specs.declared.statement.Statement.{Statement}
+use Rattle.bpf_asm.specs.Lines.{TextSays}
 use Rattle.bpf_asm.specs.Bodies.{read_text}
 use Rattle.bpf_asm.specs.Classes.{read_class_text}
 use Rattle.bpf_decode.specs.Class.{ClassMethod, IsClass}
@@ -24,3 +26,12 @@ ClassTextsGiveBack = (ms : List ClassMethod) → IsClass ms → read_class_text 
 -- and is in the grammar
 abbrev pub ClassTextsAreInGrammar : Type 0
 ClassTextsAreInGrammar = (ms : List ClassMethod) → IsClass ms → IsClassText (class_text ms) ms
+
+-- Each text says one list of lines, and only one.
+pub record SaysOnce (text : List ℕ) : Type 0 where
+  pub lines : List Statement
+  pub say : TextSays text lines
+  pub one : (others : List Statement) → TextSays text others → others ≡ lines
+
+abbrev pub TextsSayLines : Type 0
+TextsSayLines = (text : List ℕ) → SaysOnce text

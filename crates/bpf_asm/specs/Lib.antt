@@ -11,5 +11,7 @@ pub mod Classes
 pub mod Headers
 pub mod Laws
 pub mod Syntax
+pub mod Shapes
+pub mod Lines
 pub mod Grammar
 pub mod Faults

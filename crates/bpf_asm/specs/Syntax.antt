@@ -1,6 +1,6 @@
--- What a line says, as relations: its comment and blanks, its words, its operands and their numbers.
-use Rattle.std.specs.Prelude.{◌≡◌, ◌⊎◌, ℕ, ℤ, pos, negsuc, ◌==◌, ◌||◌, ◌≤◌, ◌-◌, not, suc, true, false, List, [], ◌∷◌, ◌++◌, length, slice_index, Ok, Err, FitsSigned, codes}
-use Rattle.std.specs.List.{list_all, join_with_byte}
+-- What a line is made of, as relations: its comment and blanks, its words, its operands and their numbers.
+use Rattle.std.specs.Prelude.{◌≡◌, ◌⊎◌, ℕ, ℤ, pos, negsuc, ◌==◌, ◌||◌, ◌≤◌, ◌-◌, not, suc, true, false, List, [], ◌∷◌, ◌++◌, length, slice_index, FitsSigned, codes}
+use Rattle.std.specs.List.{list_all}
 use Rattle.std.specs.Int.{w16, w32}
 use Rattle.std.specs.Str.Parse.{digits_value}
 use Rattle.bpf_decode.specs.declared.insn.Operand.{Operand}
@@ -12,8 +12,6 @@ use Rattle.bpf_asm.specs.declared.target.Target.{Target}
 use Rattle.bpf_asm.specs.declared.target.Target.TheVariants.{Slots, Label}
 use Rattle.bpf_asm.specs.declared.draft.Draft.{Draft}
 use Rattle.bpf_asm.specs.declared.draft.Draft.TheVariants as drafts
-use Rattle.bpf_asm.specs.declared.statement.Statement.{Statement}
-use Rattle.bpf_asm.specs.declared.statement.Statement.TheVariants as statements
 use Rattle.bpf_asm.specs.Texts.{is_blank, is_label_name}
 use Rattle.bpf_asm.specs.Numbers.{all_digits}
 use Rattle.bpf_asm.specs.Words.{word_of}
@@ -239,31 +237,3 @@ pub record IsDirectiveText (text : List ℕ) (header : MethodHeader) : Type 0 wh
   pub in_cap_word : HasWord caps in_cap out_cap
   pub is_in_cap : IsUnsigned CAPACITY_LIMIT in_cap header.in_cap
   pub is_out_cap : IsUnsigned CAPACITY_LIMIT out_cap header.out_cap
-
--- what a line says whose content that is
-abbrev pub IsStatementText : List ℕ → Statement → Type 0
-IsStatementText text statements.Empty = text ≡ []
-IsStatementText text (statements.Label name) = (text ≡ name ++ codes ":") × (is_label_name name ≡ true)
-IsStatementText text (statements.Directive (Ok header)) = IsDirectiveText text header
-IsStatementText text (statements.Directive (Err fault)) = ⊥
-IsStatementText text (statements.Instruction (Ok draft)) = IsInstructionText text draft
-IsStatementText text (statements.Instruction (Err fault)) = ⊥
-
-pub record IsLine (line : List ℕ) (statement : Statement) : Type 0 where
-  pub content : List ℕ
-  pub has_content : HasContent line content
-  pub says : IsStatementText content statement
-
--- each line says a statement, and none has a line feed
-abbrev pub AreLines : List (List ℕ) → List Statement → Type 0
-AreLines [] [] = Unit {0}
-AreLines [] (s ∷ ss) = ⊥
-AreLines (line ∷ lines) [] = ⊥
-AreLines (line ∷ lines) (s ∷ ss) = Without 10 line × IsLine line s × AreLines lines ss
-
--- the lines of a text, with line feeds between them: the last may be empty
-pub record TextSays (text : List ℕ) (statements : List Statement) : Type 0 where
-  pub lines : List (List ℕ)
-  pub joined : text ≡ join_with_byte 10 lines
-  pub some : 1 ≤ length lines
-  pub are_lines : AreLines lines statements

@@ -1,4 +1,6 @@
-ghost use Rattle.std.specs.Prelude.{◌≡◌, ◌==◌, ◌≤◌, ◌++◌, ◌∷◌, ◌↔◌, [], IfOk, OnErr, length, Err, slice_get};
+ghost use Rattle.std.specs.Prelude.{◌≡◌, ◌==◌, ◌≤◌, ◌++◌, ◌∷◌, ◌↔◌, [], IfOk, IfSome, OnErr, length, Err, slice_get};
+ghost use Rattle.std.specs.List.{AllByRecursion};
+ghost use Rattle.bpf_machine.specs.Safe.{IsSafe};
 ghost use Rattle.interp.specs.Plain.{given_class};
 ghost use Rattle.interp.specs.Refusal.{table_error_number, table_error_name};
 
@@ -98,12 +100,15 @@ impl ClassTable {
         }
     }
 
-    /// The class of that id, if there is one.
+    /// The class of that id, if there is one; each of its methods is safe.
     pub fn get(&self, id: usize) -> Option<&VerifiedClass>
         ensures found { given_class result ≡ slice_get self.now id }
+        ensures safe { IfSome result (λ class. AllByRecursion IsSafe class.now) }
         ensures limit { length self.now ≤ CLASS_LIMIT }
     {
-        self.classes.get(id)
+        let class = self.classes.get(id)?;
+        let _ = class.methods();
+        Some(class)
     }
 
     /// How many classes are loaded.

@@ -9,3 +9,4 @@ pub mod Named
 pub mod Kept
 pub mod Ran
 pub mod Carried
+pub mod Within

@@ -13,6 +13,7 @@ mod group;
 mod group_work;
 mod laws;
 mod log_error;
+mod object_limits;
 mod objects;
 mod places;
 mod request;
@@ -25,6 +26,7 @@ pub use group::{Group, LOG_LIMIT};
 pub use group_work::{GroupWork, go_on, go_on_as, start, with_group};
 pub use laws::{classes_added, folds, legal_lists, pairs, refusals, replies, undoing};
 pub use log_error::LogError;
+pub use object_limits::objects_within_limits;
 pub use request::Request;
 pub use request_number::RequestNumber;
 

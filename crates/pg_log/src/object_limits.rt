@@ -1,0 +1,12 @@
+//! The law that a group's objects are within the limits, for the proofs of the crates above.
+ghost use Rattle.pg_log.specs.Within.{FoldsAreWithinLimits};
+
+use bpf_machine::limits_are_kept;
+
+/// The objects of a legal list of requests are within the limits: each is absent, or of at most 65,536 bytes.
+/// The function does nothing.
+pub fn objects_within_limits()
+    ensures { FoldsAreWithinLimits }
+{
+    limits_are_kept();
+}
