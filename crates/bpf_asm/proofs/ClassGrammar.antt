@@ -21,9 +21,9 @@ use Rattle.bpf_asm.specs.Fault.{no_memory}
 use Rattle.bpf_asm.specs.Canonical.{class_text}
 use Rattle.bpf_asm.specs.Laws.{ClassTextsAreInGrammar}
 use Rattle.bpf_asm.specs.Grammar.{AreMethodLines, BeginsWithMethod, SayMethods, NamesAbove, AreClassLines, IsClassText}
-use Rattle.bpf_asm.proofs.StatementRelations.{AllSound, text_says, says_text}
+use Rattle.bpf_asm.proofs.StatementRelations.{text_says, says_text}
 use Rattle.bpf_asm.proofs.ClassTexts.{class_texts_give_back}
-use Rattle.bpf_asm.proofs.GrammarLemmas.{says_sound, lines_read, read_lines, lines_have}
+use Rattle.bpf_asm.proofs.GrammarLemmas.{lines_read, read_lines, lines_have}
 
 -- behind a method anything may stand, before the first nothing
 abbrev Begun : List ClassMethod → List Statement → Type 0
@@ -178,25 +178,6 @@ before_other s ss h =
     let next : 1 + position_or_len is_directive ss ≡ suc (position_or_len is_directive ss) = omega arith in
     rw (h, next) refl
 
--- lines above the first method are empty
-begins_sound : (ss : List Statement) → BeginsWithMethod ss → AllSound (before_first is_directive ss)
-begins_sound [] b = tt
-begins_sound (Empty ∷ ss) b = rw (before_other Empty ss refl) (tt, begins_sound ss b)
-begins_sound (Label name ∷ ss) b = absurd b
-begins_sound (Directive h ∷ ss) b = tt
-begins_sound (Instruction d ∷ ss) b = absurd b
-
-class_sound : (ss : List Statement) (ms : List ClassMethod) → SayMethods ss ms → AllSound (before_first is_directive ss) → AllSound ss
-class_sound [] ms s a = tt
-class_sound (Empty ∷ ss) ms s a = (tt, class_sound ss ms s (rw (before_other Empty ss refl) at a).1)
-class_sound (Label name ∷ ss) ms s a = (tt, class_sound ss ms s (rw (before_other (Label name) ss refl) at a).1)
-class_sound (Instruction d ∷ ss) ms s a = let both = rw (before_other (Instruction d) ss refl) at a in (both.0, class_sound ss ms s both.1)
-class_sound (Directive h ∷ ss) [] s a = absurd s
-class_sound (Directive (Err f) ∷ ss) (m ∷ ms) s a = absurd s.0
-class_sound (Directive (Ok h) ∷ ss) (m ∷ ms) s a =
-    let lines = before_first is_directive ss in
-    (tt, class_sound ss ms s.2 (says_sound lines 0 lines m.instructions s.1.says))
-
 pub read_is_class_text : (text : List ℕ) (ms : List ClassMethod) → read_class_text text ≡ Ok ms → IsClassText text ms
 unfolding read_class_text
 read_is_class_text text ms h =
@@ -206,7 +187,7 @@ read_is_class_text text ms h =
     let P : List ClassMethod → Type 0 = λ v. SayMethods ss v × NamesAbove [] v × (1 ≤ length v) × (length v ≤ 32) in
     let all = subst P (sym w.whole) (w.says, w.names, omega (arith, w.some), omega (arith, w.limit)) in
     let lines : AreClassLines ss ms = record { begins = w.begins; methods = all.0; names = all.1; some = all.2; limit = all.3 } in
-    record { lines = ss; say = text_says text (class_sound ss ms all.0 (begins_sound ss w.begins)); class = lines }
+    record { lines = ss; say = text_says text; class = lines }
 
 prefix_has : (n : ℕ) (xs : List Statement) → has_instruction (take n xs) ≡ true → has_instruction xs ≡ true
 prefix_has n xs h =

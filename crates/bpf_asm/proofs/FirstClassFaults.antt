@@ -1,5 +1,5 @@
 -- What a class's text is refused for is its first fault, and a text that is read has none.
-use Rattle.std.proofs.Common.{◌≡◌, ◌⊎◌, inl, inr, IfOk, IfErr, ℕ, ◌+◌, ◌==◌, ◌||◌, ◌<◌, ◌≤◌, not, Bool, true, false, List, [], ◌∷◌, ◌++◌, length, cond, Option, Some, None, Result, Ok, Err, refl, sym, ap, ◌∙◌, subst, arith}
+use Rattle.std.proofs.Common.{◌≡◌, ◌⊎◌, inl, inr, IfOk, IfErr, ℕ, ◌+◌, ◌==◌, ◌||◌, ◌<◌, ◌≤◌, not, Bool, true, false, List, [], ◌∷◌, ◌++◌, length, cond, Some, None, Result, Ok, Err, refl, sym, ap, ◌∙◌, subst, arith}
 use Rattle.std.specs.Prelude.{nat_le}
 use Rattle.std.specs.List.{before_first}
 use Rattle.std.proofs.lemmas.Bool.Decides.{nat_tests}
@@ -15,11 +15,11 @@ use Rattle.bpf_asm.specs.declared.statement.Statement.{Statement}
 use Rattle.bpf_asm.specs.declared.statement.Statement.TheVariants.{Empty, Label, Directive, Instruction}
 use Rattle.bpf_asm.specs.Fault.{fault_number, no_memory}
 use Rattle.bpf_asm.specs.Headers.{MethodHeader}
-use Rattle.bpf_asm.specs.Operands.{least}
 use Rattle.bpf_asm.specs.Statements.{statements_of}
-use Rattle.bpf_asm.specs.Bodies.{body, body_from, has_instruction}
+use Rattle.bpf_asm.specs.Bodies.{body, has_instruction}
 use Rattle.bpf_asm.specs.Classes.{is_directive, last_name, method_with, with_body, unless_fault, next_method, class_from, bare_class_fault, read_class_text}
-use Rattle.bpf_asm.specs.Faults.{LineFault, LinesHaveFault, slot_behind, Place, top, next_place, OpeningFault, EarlyFault, ClassLineFault, ClassLinesHaveFault, IsBare, HasClassFault, IsFirstFault, RefusesClassText, IsFaultlessClass}
+use Rattle.bpf_asm.specs.Faults.{LineFault, LinesHaveFault, slot_behind, Place, top, next_place, OpeningFault, EarlyFault, ClassLineFault, ClassLinesHaveFault, HasClassFault, IsFirstFault, RefusesClassText, IsFaultlessClass}
+use Rattle.bpf_asm.proofs.StatementRelations.{text_says}
 use Rattle.bpf_asm.proofs.BodyTexts.{some_instruction}
 use Rattle.bpf_asm.proofs.ClassGrammar.{last_push, before_other, some_methods}
 use Rattle.bpf_asm.proofs.FirstFaults.{Judged, judged}
@@ -274,12 +274,13 @@ refused_first : (text : List ℕ) (r : Result (List ClassMethod) AsmError) → r
 refused_first text (Ok is) q e h = absurd cc
 refused_first text (Err d) q e h =
     let same : d ≡ e = cc in
-    let first : RefusesClassText text d = subst (λ (v : Result (List ClassMethod) AsmError). Judged (HasClassFault (statements_of text)) v) (sym q) (text_judged text) in
-    subst (λ (v : AsmError). RefusesClassText text v) same first
+    let first : IsFirstFault (HasClassFault (statements_of text)) d.line d.fault = subst (λ (v : Result (List ClassMethod) AsmError). Judged (HasClassFault (statements_of text)) v) (sym q) (text_judged text) in
+    subst (λ (v : AsmError). RefusesClassText text v) same (record { lines = statements_of text; say = text_says text; first = first })
 
 read_faultless : (text : List ℕ) (r : Result (List ClassMethod) AsmError) → r ≡ read_class_text text → (ms : List ClassMethod) → r ≡ Ok ms → IsFaultlessClass text
 read_faultless text (Err d) q ms h = absurd cc
-read_faultless text (Ok ns) q ms h = subst (λ (v : Result (List ClassMethod) AsmError). Judged (HasClassFault (statements_of text)) v) (sym q) (text_judged text)
+read_faultless text (Ok ns) q ms h =
+    record { lines = statements_of text; say = text_says text; none = subst (λ (v : Result (List ClassMethod) AsmError). Judged (HasClassFault (statements_of text)) v) (sym q) (text_judged text) }
 
 pub first_if_refused : {V : Type 0} (r : Result V AsmError) (text : List ℕ) → IfErr r (λ e. (e ≡ no_memory) ⊎ (read_class_text text ≡ Err e)) → IfErr r (λ e. (e ≡ no_memory) ⊎ RefusesClassText text e)
 first_if_refused (Ok v) text h = tt

@@ -17,9 +17,10 @@ use Rattle.bpf_asm.specs.declared.statement.Statement.{Statement}
 use Rattle.bpf_asm.specs.declared.statement.Statement.TheVariants.{Empty, Label, Directive, Instruction}
 use Rattle.bpf_asm.specs.Operands.{filled}
 use Rattle.bpf_asm.specs.Statements.{statements_of}
-use Rattle.bpf_asm.specs.Bodies.{draft_slots, slot_of_label, distance_within, distance_to, resolved, finished, instruction_at, line_at, proceed, body_from, body, bare_fault, has_instruction, assembled, read_text}
+use Rattle.bpf_asm.specs.Bodies.{draft_slots, slot_of_label, distance_within, distance_to, resolved, finished, proceed, body_from, body, bare_fault, has_instruction, read_text}
 use Rattle.bpf_asm.specs.Fault.{fault_number, no_memory}
-use Rattle.bpf_asm.specs.Faults.{LabelFault, TargetFault, DraftFault, LineFault, slot_behind, LinesHaveFault, IsBare, HasFault, IsFirstFault, RefusesText, IsFaultless}
+use Rattle.bpf_asm.specs.Faults.{LabelFault, TargetFault, DraftFault, LineFault, slot_behind, LinesHaveFault, HasFault, IsFirstFault, RefusesText, IsFaultless}
+use Rattle.bpf_asm.proofs.StatementRelations.{text_says}
 use Rattle.bpf_asm.proofs.BodyTexts.{some_instruction}
 use Rattle.bpf_asm.proofs.GrammarLemmas.{slots_of}
 use Rattle.bpf_asm.proofs.JumpRelations.{near_fits, far_fits, within_near, within_far, within}
@@ -243,12 +244,13 @@ refused_first : (text : List ℕ) (r : Result (List Insn) AsmError) → r ≡ re
 refused_first text (Ok is) q e h = absurd cc
 refused_first text (Err d) q e h =
     let same : d ≡ e = cc in
-    let first : RefusesText text d = subst (λ (v : Result (List Insn) AsmError). Judged (HasFault (statements_of text)) v) (sym q) (text_judged text) in
-    subst (λ (v : AsmError). RefusesText text v) same first
+    let first : IsFirstFault (HasFault (statements_of text)) d.line d.fault = subst (λ (v : Result (List Insn) AsmError). Judged (HasFault (statements_of text)) v) (sym q) (text_judged text) in
+    subst (λ (v : AsmError). RefusesText text v) same (record { lines = statements_of text; say = text_says text; first = first })
 
 read_faultless : (text : List ℕ) (r : Result (List Insn) AsmError) → r ≡ read_text text → (is : List Insn) → r ≡ Ok is → IsFaultless text
 read_faultless text (Err d) q is h = absurd cc
-read_faultless text (Ok js) q is h = subst (λ (v : Result (List Insn) AsmError). Judged (HasFault (statements_of text)) v) (sym q) (text_judged text)
+read_faultless text (Ok js) q is h =
+    record { lines = statements_of text; say = text_says text; none = subst (λ (v : Result (List Insn) AsmError). Judged (HasFault (statements_of text)) v) (sym q) (text_judged text) }
 
 pub first_if_refused : {V : Type 0} (r : Result V AsmError) (text : List ℕ) → IfErr r (λ e. (e ≡ no_memory) ⊎ (read_text text ≡ Err e)) → IfErr r (λ e. (e ≡ no_memory) ⊎ RefusesText text e)
 first_if_refused (Ok v) text h = tt

@@ -22,7 +22,7 @@ use Rattle.bpf_asm.specs.Laws.{TextsAreInGrammar}
 use Rattle.bpf_asm.specs.Grammar.{LabelsOnce, SaysInsn, Says, IsMethodText, AreMethodLines}
 use Rattle.bpf_asm.proofs.BodyLemmas.{one_slot}
 use Rattle.bpf_asm.proofs.BodyTexts.{texts_give_back}
-use Rattle.bpf_asm.proofs.StatementRelations.{AllSound, text_says, says_text}
+use Rattle.bpf_asm.proofs.StatementRelations.{text_says, says_text}
 use Rattle.bpf_asm.proofs.JumpRelations.{says_insn, insn_said}
 
 one_by : (f : ℤ → Insn) → ((z : ℤ) → slot_count (f z) ≡ 1) → (r : Result ℤ AsmFault) (i : Insn) → filled f r ≡ Ok i → 1 ≡ slot_count i
@@ -167,17 +167,6 @@ lines_have ss is h =
 pub lines_read : (line : ℕ) (ss : List Statement) (is : List Insn) → AreMethodLines ss is → body line ss ≡ Ok is
 lines_read line ss is h = let limit = h.limit in reads ss [] line 0 [] is ss h.labels h.says (omega arith)
 
--- lines that say instructions have no fault
-pub says_sound : (all : List Statement) (slot : ℕ) (ss : List Statement) (is : List Insn) → Says all slot ss is → AllSound ss
-says_sound all slot [] [] s = tt
-says_sound all slot [] (i ∷ is) s = absurd s
-says_sound all slot (Empty ∷ ss) is s = (tt, says_sound all slot ss is s)
-says_sound all slot (Label name ∷ ss) is s = (tt, says_sound all slot ss is s)
-says_sound all slot (Directive d ∷ ss) is s = absurd s
-says_sound all slot (Instruction d ∷ ss) [] s = absurd s
-says_sound all slot (Instruction (Err f) ∷ ss) (i ∷ is) s = absurd s.0
-says_sound all slot (Instruction (Ok d) ∷ ss) (i ∷ is) s = (tt, says_sound all (slot + slot_count i) ss is s.1)
-
 -- what is read is in the grammar
 pub read_is_text : (text : List ℕ) (is : List Insn) → read_text text ≡ Ok is → IsMethodText text is
 unfolding read_text
@@ -185,7 +174,7 @@ read_is_text text is h =
     let ss = statements_of text in
     let p = if_then (has_instruction ss) (body 1 ss) (record { line = 1; fault = bare_fault ss }) is h in
     let method = read_lines 1 ss is p.0 p.1 in
-    record { lines = ss; say = text_says text (says_sound ss 0 ss is method.says); method = method }
+    record { lines = ss; say = text_says text; method = method }
 
 -- and what is in the grammar is read
 pub text_is_read : (text : List ℕ) (is : List Insn) → IsMethodText text is → read_text text ≡ Ok is

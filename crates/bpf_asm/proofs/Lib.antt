@@ -2,6 +2,7 @@ pub mod NumberLemmas
 pub mod TextLemmas
 pub mod StatementLemmas
 pub mod BodyLemmas
+pub mod LabelLemmas
 pub mod ClassLemmas
 pub mod PlainBytes
 pub mod WordLemmas
@@ -23,3 +24,5 @@ pub mod GrammarLemmas
 pub mod ClassGrammar
 pub mod FirstFaults
 pub mod FirstClassFaults
+pub mod ShapeLemmas
+pub mod FaultyLines

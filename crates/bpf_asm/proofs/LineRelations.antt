@@ -78,7 +78,7 @@ none_at (x ∷ xs) d e true t h = absurd (true_false (t ∙ length_some x xs))
 none_at rest d e false t h = absurd cc
 
 -- an instruction's operands are read where they are its
-draft_is : (f : Form) (rest : List ℕ) (d : Draft) → draft f rest ≡ Ok d → IsDraftText d (word_of f) rest
+pub draft_is : (f : Form) (rest : List ℕ) (d : Draft) → draft f rest ≡ Ok d → IsDraftText d (word_of f) rest
 draft_is (Alu bits operation) rest d h =
     let p = filled_is (λ p. drafts.Plain (insns.Alu bits operation p.0 p.1)) (of_two register_of source_of (pair rest)) d h in
     subst (λ (v : Draft). IsDraftText v (word_of (Alu bits operation)) rest) p.is (refl, register_and_source_is rest p.from p.read)
@@ -136,7 +136,7 @@ word_found : (fs : List Form) (w : List ℕ) (f : Form) → find (λ g. bytes_eq
 word_found [] w f h = absurd cc
 word_found (g ∷ fs) w f h = word_found_at g w f (find (λ g. bytes_eq (word_of g) w) fs) (word_found fs w f) (bytes_eq (word_of g) w) refl h
 
-form_found : (w : List ℕ) (f : Form) → form_of w ≡ Some f → w ≡ word_of f
+pub form_found : (w : List ℕ) (f : Form) → form_of w ≡ Some f → w ≡ word_of f
 unfolding form_of
 form_found w f h = word_found forms w f h
 
@@ -162,7 +162,7 @@ no_number : (xs : List ℕ) (n : ℕ) → IsNatural (108 ∷ xs) n → ⊥
 no_number xs n (inl d) = absurd (true_false (sym (rw (length_some 108 xs) at d.digits)))
 no_number xs n (inr h) = other_byte 108 48 (ap (λ (t : List ℕ). slice_index t 0) h.whole) refl refl
 
-not_local_at : (text rest : List ℕ) (n : ℕ) → IsNatural text n → HasWord text (codes "local") rest → ⊥
+pub not_local_at : (text rest : List ℕ) (n : ℕ) → IsNatural text n → HasWord text (codes "local") rest → ⊥
 not_local_at text rest n i h = no_number (codes "ocal" ++ (h.gap ++ rest)) n (subst (λ (t : List ℕ). IsNatural t n) h.whole i)
 
 not_local_by : (text : List ℕ) (n : ℕ) → IsNatural text n → (b : Bool) → b ≡ bytes_eq (first_word text) (codes "local") → b ≡ false
@@ -215,7 +215,7 @@ is_plain_draft (insns.JumpLong distance) w rest h = absurd h
 is_plain_draft (insns.Branch bits comparison dst source offset) w rest h = absurd h
 is_plain_draft (insns.CallLocal distance) w rest h = absurd h
 
-is_draft : (d : Draft) (w rest : List ℕ) → IsDraftText d w rest → draft_of (form_of w) rest ≡ Ok d
+pub is_draft : (d : Draft) (w rest : List ℕ) → IsDraftText d w rest → draft_of (form_of w) rest ≡ Ok d
 is_draft (drafts.Plain i) w rest h = is_plain_draft i w rest h
 is_draft (drafts.Jump target) w rest h = rw (known_word Jump w h.0, is_one near_target_of IsNearTarget is_near rest target h.1) refl
 is_draft (drafts.JumpLong target) w rest h = rw (known_word JumpLong w h.0, is_one far_target_of IsFarTarget is_far rest target h.1) refl

@@ -73,7 +73,7 @@ offset_or_none_is [] z h = let same : pos 0 ≡ z = cc in inr (refl, sym same)
 offset_or_none_is (c ∷ cs) z h = inl (offset_is (c ∷ cs) z (sym (if_some c cs (Ok (pos 0)) (offset_of (c ∷ cs))) ∙ h))
 
 -- a text is a front of it and the rest
-cut_after : (k : ℕ) (xs : List ℕ) → xs ≡ take k xs ++ drop (length (take k xs)) xs
+pub cut_after : (k : ℕ) (xs : List ℕ) → xs ≡ take k xs ++ drop (length (take k xs)) xs
 cut_after zero [] = refl
 cut_after zero (x ∷ xs) = refl
 cut_after (suc k) [] = refl
@@ -91,7 +91,7 @@ bracketed_more c cs some h k =
 lone_bracket : (c : ℕ) → (c == 91) ≡ true → (c == 93) ≡ false
 lone_bracket c h = grind (arith, nat_tests)
 
-bracketed : (text : List ℕ) → (slice_index text 0 == 91) ≡ true → (slice_index text (length text - 1) == 93) ≡ true → text ≡ 91 ∷ (take (length text - 2) (drop 1 text) ++ (93 ∷ []))
+pub bracketed : (text : List ℕ) → (slice_index text 0 == 91) ≡ true → (slice_index text (length text - 1) == 93) ≡ true → text ≡ 91 ∷ (take (length text - 2) (drop 1 text) ++ (93 ∷ []))
 bracketed [] h k = absurd cc
 bracketed (c ∷ []) h k = let other = lone_bracket c h in absurd cc
 bracketed (c ∷ d ∷ ds) h k = bracketed_more c (d ∷ ds) (omega arith) h k
@@ -128,7 +128,7 @@ place_of : (base offset : List ℕ) (p : ℕ × ℤ) → before_first is_sign (b
 unfolding place_within
 place_of base offset p cut r o = rw (cut, drop_seam base offset, r, o) refl
 
-before_signed : (base offset : List ℕ) (z : ℤ) → Free is_sign base → IsSigned offset z → before_first is_sign (base ++ offset) ≡ base
+pub before_signed : (base offset : List ℕ) (z : ℤ) → Free is_sign base → IsSigned offset z → before_first is_sign (base ++ offset) ≡ base
 before_signed base offset (pos n) free h = rw h.whole (before_at is_sign base 43 h.number free refl)
 before_signed base offset (negsuc k) free h = rw h.whole (before_at is_sign base 45 h.number free refl)
 

@@ -1,5 +1,5 @@
 -- What a line says is what the relations have it say.
-use Rattle.std.proofs.Common.{◌≡◌, ℕ, map, lit≤, ◌+◌, ◌==◌, ◌-◌, ◌≤◌, Bool, true, false, List, [], ◌∷◌, ◌++◌, length, take, cond, Option, Some, None, Result, Ok, Err, refl, sym, ap, subst, ◌∙◌, arith, codes, slice_index, length-append}
+use Rattle.std.proofs.Common.{◌≡◌, ℕ, map, lit≤, ◌+◌, ◌==◌, ◌-◌, ◌≤◌, Bool, true, false, List, [], ◌∷◌, ◌++◌, length, take, cond, Option, Some, None, Result, Ok, Err, inl, inr, refl, sym, ap, subst, ◌∙◌, arith, codes, slice_index, length-append}
 use Rattle.std.specs.List.{onto_first, join_with_byte}
 use Rattle.std.proofs.lemmas.List.Splits.{join_with_byte-slice_split, length-slice_split}
 use Rattle.std.specs.Str.{bytes_eq}
@@ -20,10 +20,15 @@ use Rattle.bpf_asm.specs.Headers.{MethodHeader}
 use Rattle.bpf_asm.specs.Words.{word_of, form_of}
 use Rattle.bpf_asm.specs.Texts.{is_blank, content, first_word, after_word, is_label_name}
 use Rattle.bpf_asm.specs.Operands.{both, unsigned_of}
-use Rattle.bpf_asm.specs.Drafts.{instruction_of}
+use Rattle.bpf_asm.specs.Drafts.{draft_of, instruction_of}
 use Rattle.bpf_asm.specs.Statements.{flags_of, header_with, header_of, is_label_line, statement_of, lines_of, statements_of}
 use Rattle.bpf_asm.specs.Syntax.{Without, HasWord, IsDraftText, IsPlainText, AreFlags, IsDirectiveText}
 use Rattle.bpf_asm.specs.Lines.{TextSays, IsStatementText, IsLine, AreLines}
+use Rattle.bpf_asm.specs.Shapes.{AnyNumber, IsLabelText, AnyDirective, DirectiveFault, IsFaultyInstruction}
+use Rattle.bpf_asm.specs.declared.fault.AsmFault.TheVariants as faults
+use Rattle.bpf_asm.proofs.ShapeLemmas.{Judged, judged_filled, judged_by, judged_both, judged_unsigned}
+use Rattle.bpf_asm.proofs.FaultyLines.{other_shape, no_such, fault_is, is_fault}
+use Rattle.std.proofs.lemmas.Option.{none-some}
 use Rattle.bpf_asm.proofs.PlainBytes.{Free, and_left, and_right, before_none, quiet_where}
 use Rattle.bpf_asm.proofs.TextLemmas.{front}
 use Rattle.bpf_asm.proofs.OperandTexts.{length_some, last_byte}
@@ -86,6 +91,13 @@ no_label_by text word rest h n true e =
 
 no_label : (text word rest : List ℕ) → HasWord text word rest → is_label_line word ≡ false → is_label_line text ≡ false
 no_label text word rest h n = no_label_by text word rest h n (is_label_line text) refl
+
+label_line : (name : List ℕ) → is_label_name name ≡ true → is_label_line (name ++ codes ":") ≡ true
+unfolding is_label_line
+label_line name h =
+    let whole : length (name ++ (58 ∷ [])) ≡ length name + 1 = length-append name (58 ∷ []) in
+    let less : length name + 1 - 1 ≡ length name = omega arith in
+    rw (whole, less, last_byte name 58, take-append_seam name (58 ∷ []), h) refl
 
 is_label : (name : List ℕ) → is_label_name name ≡ true → statement_of (name ++ codes ":") ≡ statements.Label name
 unfolding statement_of is_label_line
@@ -164,45 +176,117 @@ is_directive text h d =
     let flags : flags_of d.flags ≡ Some h.flags = ap flags_of d.are_flags.2 ∙ flags_read h.flags d.are_flags.0 d.are_flags.1 in
     rw (is_rest text (codes ".method") d.behind_word d.word, is_first d.behind_word h.name d.behind_name d.name, is_rest d.behind_word h.name d.behind_name d.name, d.is_name, is_first d.behind_name d.flags d.caps d.flags_word, is_rest d.behind_name d.flags d.caps d.flags_word, flags, is_first d.caps d.in_cap d.out_cap d.in_cap_word, is_rest d.caps d.in_cap d.out_cap d.in_cap_word, is_unsigned 4096 d.in_cap h.in_cap d.is_in_cap, is_unsigned 4096 d.out_cap h.out_cap d.is_out_cap) refl
 
--- ---- lines
+-- ---- directives that are none of their form
 
--- a line without fault
-abbrev pub IsSound : Statement → Type 0
-IsSound statements.Empty = Unit {0}
-IsSound (statements.Label name) = Unit {0}
-IsSound (statements.Directive (Ok header)) = Unit {0}
-IsSound (statements.Directive (Err fault)) = ⊥
-IsSound (statements.Instruction (Ok draft)) = Unit {0}
-IsSound (statements.Instruction (Err fault)) = ⊥
+judged_header_at : (text : List ℕ) (named : Bool) (o : Option ℕ) → named ≡ is_method_name (first_word text) → o ≡ flags_of (first_word (after_word text)) → Judged (AnyDirective text) (header_with named (first_word text) o (after_word (after_word text)))
+judged_header_at text named None e f = inl (refl, no_flags)
+  where
+    no_flags : ¬ AnyDirective text
+    no_flags d = none-some d.flags (f ∙ ap (λ (t : List ℕ). flags_of (first_word t)) (is_rest text d.name d.behind_name d.name_word) ∙ ap flags_of (is_first d.behind_name d.flags_text d.caps d.flags_word ∙ d.are_flags.2) ∙ flags_read d.flags d.are_flags.0 d.are_flags.1)
+judged_header_at text false (Some flags) e f = inl (refl, λ d. true_false (sym (e ∙ ap is_method_name (is_first text d.name d.behind_name d.name_word) ∙ d.is_name)))
+judged_header_at text true (Some flags) e f =
+    let caps = after_word (after_word text) in
+    judged_filled _ _ (both (unsigned_of 4096 (first_word caps)) (unsigned_of 4096 (after_word caps)))
+    (judged_by (both (unsigned_of 4096 (first_word caps)) (unsigned_of 4096 (after_word caps))) to from (judged_both _ _ (unsigned_of 4096 (first_word caps)) (unsigned_of 4096 (after_word caps)) (judged_unsigned 4096 (first_word caps)) (judged_unsigned 4096 (after_word caps))))
+  where
+    to : AnyNumber (first_word (after_word (after_word text))) × AnyNumber (after_word (after_word (after_word text))) → AnyDirective text
+    to p =
+        let rest = after_word text in
+        let caps = after_word rest in
+        record {
+          behind_name = rest;
+          name = first_word text;
+          flags_text = first_word rest;
+          flags = flags;
+          caps = caps;
+          in_cap = first_word caps;
+          out_cap = after_word caps;
+          name_word = has_word text;
+          is_name = sym e;
+          flags_word = has_word rest;
+          are_flags = flags_are (first_word rest) flags (sym f);
+          in_cap_word = has_word caps;
+          is_in_cap = p.0;
+          is_out_cap = p.1;
+        }
+
+    from : AnyDirective text → AnyNumber (first_word (after_word (after_word text))) × AnyNumber (after_word (after_word (after_word text)))
+    from d =
+        let caps : after_word (after_word text) ≡ d.caps = ap after_word (is_rest text d.name d.behind_name d.name_word) ∙ is_rest d.behind_name d.flags_text d.caps d.flags_word in
+        let in_cap : first_word (after_word (after_word text)) ≡ d.in_cap = ap first_word caps ∙ is_first d.caps d.in_cap d.out_cap d.in_cap_word in
+        let out_cap : after_word (after_word (after_word text)) ≡ d.out_cap = ap after_word caps ∙ is_rest d.caps d.in_cap d.out_cap d.in_cap_word in
+        (subst (λ (t : List ℕ). AnyNumber t) (sym in_cap) d.is_in_cap, subst (λ (t : List ℕ). AnyNumber t) (sym out_cap) d.is_out_cap)
+
+judged_header : (text : List ℕ) → Judged (AnyDirective text) (header_of text)
+unfolding header_of
+judged_header text = judged_header_at text (is_method_name (first_word text)) (flags_of (first_word (after_word text))) refl refl
+
+no_header : (text : List ℕ) (f : AsmFault) → header_of (after_word text) ≡ Err f → (h : MethodHeader) → ¬ IsDirectiveText text h
+no_header text f e h d = let read = is_directive text h d in absurd cc
+
+header_fault : (text : List ℕ) (r : Result MethodHeader AsmFault) (f : AsmFault) → r ≡ header_of (after_word text) → r ≡ Err f → Judged (AnyDirective (after_word text)) r → DirectiveFault text (after_word text) f
+header_fault text (Ok h) f e k j = absurd cc
+header_fault text (Err g) f e k (inl j) =
+    let same : g ≡ f = cc in
+    subst (λ (v : AsmFault). DirectiveFault text (after_word text) v) (sym j.0 ∙ same) j.1
+header_fault text (Err g) f e k (inr j) =
+    let same : g ≡ f = cc in
+    subst (λ (v : AsmFault). DirectiveFault text (after_word text) v) (sym j.0 ∙ same) (j.1, no_header text g (sym e))
+
+fault_header : (text rest : List ℕ) (f : AsmFault) → HasWord text (codes ".method") rest → DirectiveFault text rest f → header_of rest ≡ Err f
+fault_header text rest faults.Word w h = absurd h
+fault_header text rest faults.Operand w h = other_shape (AnyDirective rest) (header_of rest) (judged_header rest) h
+fault_header text rest faults.Range w h = no_such (AnyDirective rest) (header_of rest) (judged_header rest) h.0 none
+  where
+    none : (header : MethodHeader) → ¬ (header_of rest ≡ Ok header)
+    none header e = h.1 header (directive_is text header (is_first text (codes ".method") rest w) (ap header_of (is_rest text (codes ".method") rest w) ∙ e))
+fault_header text rest faults.Label w h = absurd h
+fault_header text rest faults.NoMemory w h = absurd h
+
+-- ---- lines
 
 no_bytes : (text : List ℕ) → true ≡ (length text == 0) → text ≡ []
 no_bytes [] h = refl
 no_bytes (x ∷ xs) h = absurd (true_false (h ∙ length_some x xs))
 
-says_directive : (text : List ℕ) (r : Result MethodHeader AsmFault) → first_word text ≡ codes ".method" → r ≡ header_of (after_word text) → IsSound (statements.Directive r) → IsStatementText text (statements.Directive r)
-says_directive text (Ok h) w e s = directive_is text h w (sym e)
-says_directive text (Err f) w e s = absurd s
+some_bytes : (text : List ℕ) → false ≡ (length text == 0) → 1 ≤ length text
+some_bytes text h = grind (arith, nat_tests)
 
-says_instruction : (text : List ℕ) (r : Result Draft AsmFault) → r ≡ instruction_of text → IsSound (statements.Instruction r) → IsStatementText text (statements.Instruction r)
-says_instruction text (Ok d) e s = instruction_is text d (sym e)
-says_instruction text (Err f) e s = absurd s
+says_directive : (text : List ℕ) (r : Result MethodHeader AsmFault) → first_word text ≡ codes ".method" → r ≡ header_of (after_word text) → IsStatementText text (statements.Directive r)
+says_directive text (Ok h) w e = directive_is text h w (sym e)
+says_directive text (Err f) w e =
+    record { rest = after_word text; word = subst (λ (v : List ℕ). HasWord text v (after_word text)) w (has_word text); faulty = header_fault text (header_of (after_word text)) f refl (sym e) (judged_header (after_word text)) }
 
-says_at : (text : List ℕ) (a b c : Bool) → a ≡ (length text == 0) → b ≡ is_label_line text → c ≡ bytes_eq (first_word text) (codes ".method") → (s : Statement) → cond a statements.Empty (cond b (statements.Label (take (length text - 1) text)) (cond c (statements.Directive (header_of (after_word text))) (statements.Instruction (instruction_of text)))) ≡ s → IsSound s → IsStatementText text s
-says_at text true b c e f g s h k = subst (λ (v : Statement). IsStatementText text v) h (no_bytes text e)
-says_at text false true c e f g s h k =
+says_fault : (text : List ℕ) (f : AsmFault) → false ≡ (length text == 0) → false ≡ is_label_line text → false ≡ bytes_eq (first_word text) (codes ".method") → Err f ≡ instruction_of text → IsFaultyInstruction text f
+unfolding instruction_of
+says_fault text f a b c e =
+    record {
+      word = first_word text;
+      rest = after_word text;
+      parts = has_word text;
+      some = some_bytes text a;
+      no_label = λ name h. true_false (sym (ap is_label_line h.0 ∙ label_line name h.1) ∙ sym b);
+      no_method = λ h. true_false (sym ((bytes_eq-Decides (first_word text) (codes ".method")).1 h) ∙ sym c);
+      faulty = fault_is (first_word text) (after_word text) f (sym e);
+    }
+
+says_instruction : (text : List ℕ) (r : Result Draft AsmFault) → false ≡ (length text == 0) → false ≡ is_label_line text → false ≡ bytes_eq (first_word text) (codes ".method") → r ≡ instruction_of text → IsStatementText text (statements.Instruction r)
+says_instruction text (Ok d) a b c e = instruction_is text d (sym e)
+says_instruction text (Err f) a b c e = says_fault text f a b c e
+
+says_at : (text : List ℕ) (a b c : Bool) → a ≡ (length text == 0) → b ≡ is_label_line text → c ≡ bytes_eq (first_word text) (codes ".method") → IsStatementText text (cond a statements.Empty (cond b (statements.Label (take (length text - 1) text)) (cond c (statements.Directive (header_of (after_word text))) (statements.Instruction (instruction_of text)))))
+says_at text true b c e f g = no_bytes text e
+says_at text false true c e f g =
     let l = label_is text (sym f) in
-    subst (λ (v : Statement). IsStatementText text v) h (l.whole, l.name)
-says_at text false false true e f g s h k =
+    (l.whole, l.name)
+says_at text false false true e f g =
     let word : first_word text ≡ codes ".method" = (bytes_eq-Decides (first_word text) (codes ".method")).0 (sym g) in
-    let sound = subst (λ (v : Statement). IsSound v) (sym h) k in
-    subst (λ (v : Statement). IsStatementText text v) h (says_directive text (header_of (after_word text)) word refl sound)
-says_at text false false false e f g s h k =
-    let sound = subst (λ (v : Statement). IsSound v) (sym h) k in
-    subst (λ (v : Statement). IsStatementText text v) h (says_instruction text (instruction_of text) refl sound)
+    says_directive text (header_of (after_word text)) word refl
+says_at text false false false e f g = says_instruction text (instruction_of text) e f g refl
 
-statement_is : (text : List ℕ) (s : Statement) → statement_of text ≡ s → IsSound s → IsStatementText text s
+statement_is : (text : List ℕ) → IsStatementText text (statement_of text)
 unfolding statement_of
-statement_is text s h k = says_at text (length text == 0) (is_label_line text) (bytes_eq (first_word text) (codes ".method")) refl refl refl s h k
+statement_is text = says_at text (length text == 0) (is_label_line text) (bytes_eq (first_word text) (codes ".method")) refl refl refl
 
 -- ---- and back
 
@@ -245,15 +329,38 @@ some_word [] word rest f h known =
 some_directive : (text rest : List ℕ) → HasWord text (codes ".method") rest → (length text == 0) ≡ false
 some_directive text rest h = ap (λ t. length t == 0) h.whole ∙ length_some 46 (codes "method" ++ (h.gap ++ rest))
 
+no_bytes_left : (n : ℕ) → 1 ≤ n → (n == 0) ≡ false
+no_bytes_left n h = grind (arith, nat_tests)
+
+unlabelled : (text : List ℕ) (b : Bool) → b ≡ is_label_line text → ((name : List ℕ) → ¬ IsLabelText text name) → b ≡ false
+unlabelled text false e h = refl
+unlabelled text true e h = let l = label_is text (sym e) in absurd (h (take (length text - 1) text) (l.whole, l.name))
+
+unmethod : (word : List ℕ) (b : Bool) → b ≡ bytes_eq word (codes ".method") → ¬ (word ≡ codes ".method") → b ≡ false
+unmethod word false e h = refl
+unmethod word true e h = absurd (h ((bytes_eq-Decides word (codes ".method")).0 (sym e)))
+
+faulty_instruction : (text : List ℕ) (f : AsmFault) → IsFaultyInstruction text f → instruction_of text ≡ Err f
+unfolding instruction_of
+faulty_instruction text f h =
+    ap (λ (w : List ℕ). draft_of (form_of w) (after_word text)) (is_first text h.word h.rest h.parts)
+    ∙ ap (λ (r : List ℕ). draft_of (form_of h.word) r) (is_rest text h.word h.rest h.parts)
+    ∙ is_fault h.word h.rest f h.faulty
+
 is_statement : (text : List ℕ) (s : Statement) → IsStatementText text s → statement_of text ≡ s
 unfolding statement_of
 is_statement text statements.Empty h = rw h refl
 is_statement text (statements.Label name) h = ap statement_of h.0 ∙ is_label name h.1
-is_statement text (statements.Directive (Err fault)) h = absurd h
+is_statement text (statements.Directive (Err fault)) h =
+    let label = no_label text (codes ".method") h.rest h.word (no_label_line (codes ".method") refl) in
+    rw (some_directive text h.rest h.word, label, is_first text (codes ".method") h.rest h.word, is_rest text (codes ".method") h.rest h.word, fault_header text h.rest fault h.word h.faulty) refl
 is_statement text (statements.Directive (Ok header)) h =
     let label = no_label text (codes ".method") h.behind_word h.word (no_label_line (codes ".method") refl) in
     rw (some_directive text h.behind_word h.word, label, is_first text (codes ".method") h.behind_word h.word, is_directive text header h) refl
-is_statement text (statements.Instruction (Err fault)) h = absurd h
+is_statement text (statements.Instruction (Err fault)) h =
+    let label = unlabelled text (is_label_line text) refl h.no_label in
+    let method = unmethod h.word (bytes_eq h.word (codes ".method")) refl h.no_method in
+    rw (no_bytes_left (length text) h.some, label, is_first text h.word h.rest h.parts, method, faulty_instruction text fault h) refl
 is_statement text (statements.Instruction (Ok d)) h =
     let f = draft_form d h.word h.rest h.says in
     let known = known_word f.form h.word f.is in
@@ -261,18 +368,13 @@ is_statement text (statements.Instruction (Ok d)) h =
     let label = no_label text h.word h.rest h.parts quiet in
     rw (some_word text h.word h.rest f.form h.parts known, label, is_first text h.word h.rest h.parts, not_directive h.word f.form known, is_instruction text d h) refl
 
-line_is : (line : List ℕ) (s : Statement) → statement_of (content line) ≡ s → IsSound s → IsLine line s
-line_is line s h k = record { content = content line; has_content = has_content line; says = statement_is (content line) s h k }
+line_is : (line : List ℕ) → IsLine line (statement_of (content line))
+line_is line = record { content = content line; has_content = has_content line; says = statement_is (content line) }
 
 is_line : (line : List ℕ) (s : Statement) → IsLine line s → statement_of (content line) ≡ s
 is_line line s h = ap statement_of (is_content line h.content h.has_content) ∙ is_statement h.content s h.says
 
 -- ---- texts
-
--- each line
-abbrev pub AllSound : List Statement → Type 0
-AllSound [] = Unit {0}
-AllSound (s ∷ ss) = IsSound s × AllSound ss
 
 -- no line has a line feed
 abbrev AllWithout : List (List ℕ) → Type 0
@@ -291,9 +393,9 @@ cut_without : (text : List ℕ) → AllWithout (lines_of text)
 cut_without [] = (refl, tt)
 cut_without (x ∷ xs) = cut_at x (x == 10) refl (lines_of xs) (cut_without xs)
 
-lines_are : (lines : List (List ℕ)) → AllWithout lines → AllSound (map (λ line. statement_of (content line)) lines) → AreLines lines (map (λ line. statement_of (content line)) lines)
-lines_are [] w h = tt
-lines_are (line ∷ lines) w h = (w.0, line_is line (statement_of (content line)) refl h.0, lines_are lines w.1 h.1)
+lines_are : (lines : List (List ℕ)) → AllWithout lines → AreLines lines (map (λ line. statement_of (content line)) lines)
+lines_are [] w = tt
+lines_are (line ∷ lines) w = (w.0, line_is line, lines_are lines w.1)
 
 are_lines : (lines : List (List ℕ)) (ss : List Statement) → AreLines lines ss → map (λ line. statement_of (content line)) lines ≡ ss
 are_lines [] [] h = refl
@@ -318,12 +420,12 @@ joined_lines (line ∷ []) (s ∷ ss) n h = one_line_of line (free_of line h.0)
 joined_lines (line ∷ next ∷ lines) (s ∷ ss) n h =
     split_line line (join_with_byte 10 (next ∷ lines)) (free_of line h.0) ∙ ap (λ r. line ∷ r) (joined_lines (next ∷ lines) ss (omega arith) h.2)
 
--- what the lines of a text say, if none has a fault
-pub text_says : (text : List ℕ) → AllSound (statements_of text) → TextSays text (statements_of text)
+-- what the lines of a text say
+pub text_says : (text : List ℕ) → TextSays text (statements_of text)
 unfolding statements_of
-text_says text h =
+text_says text =
     let many = length-slice_split (λ c. c == 10) text in
-    record { lines = lines_of text; joined = sym (join_with_byte-slice_split 10 text); some = omega (arith, many); are_lines = lines_are (lines_of text) (cut_without text) h }
+    record { lines = lines_of text; joined = sym (join_with_byte-slice_split 10 text); some = omega (arith, many); are_lines = lines_are (lines_of text) (cut_without text) }
 
 pub says_text : (text : List ℕ) (ss : List Statement) → TextSays text ss → statements_of text ≡ ss
 unfolding statements_of

@@ -1,5 +1,5 @@
 -- Laws of the texts.
-use Rattle.std.specs.Prelude.{◌≡◌, ◌≤◌, List, Ok}
+use Rattle.std.specs.Prelude.{◌≡◌, ℕ, ◌≤◌, List, Ok}
 use Rattle.bpf_decode.specs.declared.insn.Insn.{Insn}
 use Rattle.bpf_decode.specs.Instruction.{AllFit, slot_total}
 use Rattle.bpf_asm.specs.Canonical.{canonical_text, class_text}

@@ -7,6 +7,7 @@ pub mod Operands
 pub mod Drafts
 pub mod Statements
 pub mod Bodies
+pub mod Places
 pub mod Classes
 pub mod Headers
 pub mod Laws

@@ -55,13 +55,13 @@ AnyCall text = AnyLocal text ⊎ AnyNumber text
 
 -- one, two and three of them, with commas between them
 abbrev pub OfOne : (List ℕ → Type 0) → List ℕ → Type 0
-OfOne Any rest = One {Unit {0}} (λ text _. Any text) rest tt
+OfOne Any rest = One {A = Unit {0}} (λ text _. Any text) rest tt
 
 abbrev pub OfTwo : (List ℕ → Type 0) → (List ℕ → Type 0) → List ℕ → Type 0
-OfTwo Left Right rest = Two {Unit {0}} {Unit {0}} (λ text _. Left text) (λ text _. Right text) rest tt tt
+OfTwo Left Right rest = Two {A = Unit {0}} {B = Unit {0}} (λ text _. Left text) (λ text _. Right text) rest tt tt
 
 abbrev pub OfThree : (List ℕ → Type 0) → (List ℕ → Type 0) → (List ℕ → Type 0) → List ℕ → Type 0
-OfThree Left Middle Right rest = Three {Unit {0}} {Unit {0}} {Unit {0}} (λ text _. Left text) (λ text _. Middle text) (λ text _. Right text) rest tt tt tt
+OfThree Left Middle Right rest = Three {A = Unit {0}} {B = Unit {0}} {C = Unit {0}} (λ text _. Left text) (λ text _. Middle text) (λ text _. Right text) rest tt tt tt
 
 -- the operands of a form
 abbrev pub AnyOperands : Form → List ℕ → Type 0

@@ -39,7 +39,7 @@ fn assembled(alloc: Global, lines: &[Statement]) -> Result<Vec<Insn>, AsmError>
 /// The instructions of one method's text. What is refused is the lowest line that has a fault, with the least fault
 /// there; want of memory may come in place of any answer.
 ///
-/// Labels cost time: each jump to one goes over the lines up to it.
+/// It costs time by the text's length, and for each label and each jump to one a logarithm of the number of labels.
 #[tactic(auto, using(crate::proofs::GrammarLemmas::read_is_text), unfolding(crate::specs::Bodies::read_text))]
 pub fn assemble(alloc: Global, text: &str) -> Result<Vec<Insn>, AsmError>
     ensures found { IfOk result (λ v. read_text text.now ≡ Ok v.items) }

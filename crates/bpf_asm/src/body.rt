@@ -1,12 +1,13 @@
-ghost use Rattle.std.specs.Prelude.{◌≡◌, ◌≤◌, ◌<◌, ◌^◌, ◌+◌, ◌*◌, ◌⊎◌, ◌≤ℤ◌, IfOk, MatchResult, length, IfSome, is_some, count_by};
+ghost use Rattle.std.specs.Prelude.{◌≡◌, ◌≤◌, ◌<◌, ◌^◌, ◌+◌, ◌⊎◌, ◌≤ℤ◌, IfOk, MatchResult, length, is_some, take, count_by};
 ghost use Rattle.std.specs.Option.{ForSome};
 ghost use Rattle.bpf_decode.specs.Instruction.{slot_count, slot_total};
 ghost use Rattle.std.specs.List.{list_any};
 ghost use Rattle.bpf_asm.specs.Fault.{no_memory};
-ghost use Rattle.bpf_asm.specs.Bodies.{draft_slots, line_slots, is_label, slot_of_label, distance_within, resolved, near, far, finished, instruction_at, line_at, body, is_instruction, has_instruction};
+ghost use Rattle.bpf_asm.specs.Bodies.{draft_slots, line_slots, distance_within, resolved, near, far, finished, instruction_at, line_at, body, is_instruction, has_instruction};
 
 use crate::draft::Draft;
 use crate::fault::{AsmError, AsmFault};
+use crate::labels::Labels;
 use crate::statement::Statement;
 use crate::target::Target;
 use bpf_decode::{Insn, SLOT_LIMIT, width};
@@ -23,7 +24,8 @@ fn draft_slots(draft: &Result<Draft, AsmFault>) -> usize
     }
 }
 
-fn line_slots(line: &Statement) -> usize
+/// How many slots a line takes.
+pub(crate) fn line_slots(line: &Statement) -> usize
     ensures slots { result ≡ line_slots line.now }
     ensures few { result ≤ 2 }
 {
@@ -31,32 +33,6 @@ fn line_slots(line: &Statement) -> usize
         Statement::Instruction(draft) => draft_slots(draft),
         _ => 0,
     }
-}
-
-/// Whether a line is the label of that name.
-fn is_label(name: &[u8], line: &Statement) -> bool
-    ensures { result ≡ is_label name.now line.now }
-{
-    match line {
-        Statement::Label(other) => other.as_bytes() == name,
-        _ => false,
-    }
-}
-
-/// The slot at which the first label of that name stands.
-#[tactic(auto, unfolding(crate::specs::Bodies::slot_of_label))]
-fn slot_of_label(name: &[u8], lines: &[Statement]) -> Option<usize>
-    ensures found { result ≡ slot_of_label name.now 0 lines.now }
-    ensures small { IfSome result (λ slot. slot ≤ 2 * length lines.now) }
-{
-    let mut slot = 0;
-    for line in lines {
-        if is_label(name, line) {
-            return Some(slot);
-        }
-        slot += line_slots(line);
-    }
-    None
 }
 
 /// A distance from `low` to `high`.
@@ -76,18 +52,18 @@ fn distance_within(low: i128, high: i128, distance: i128) -> Result<i128, AsmFau
 fn resolved(
     low: i128,
     high: i128,
-    all: &[Statement],
+    labels: &Labels,
     slot: usize,
     target: &Target,
 ) -> Result<i128, AsmFault>
     requires { slot ≤ SLOT_LIMIT }
-    ensures read { result ≡ resolved low high all.now slot target.now }
+    ensures read { result ≡ resolved low high labels.now slot target.now }
     ensures low { IfOk result (λ z. low ≤ℤ z) }
     ensures high { IfOk result (λ z. z ≤ℤ high) }
 {
     match target {
         Target::Slots(slots) => distance_within(low, high, i128::from(*slots)),
-        Target::Label(name) => match slot_of_label(name.as_bytes(), all) {
+        Target::Label(name) => match labels.slot(name.as_bytes()) {
             None => Err(AsmFault::Label),
             Some(at) => distance_within(low, high, at as i128 - (slot + 1) as i128),
         },
@@ -95,55 +71,55 @@ fn resolved(
 }
 
 /// Where a jump by an offset goes.
-fn near(all: &[Statement], slot: usize, target: &Target) -> Result<i16, AsmFault>
+fn near(labels: &Labels, slot: usize, target: &Target) -> Result<i16, AsmFault>
     requires { slot ≤ SLOT_LIMIT }
-    ensures { result ≡ near all.now slot target.now }
+    ensures { result ≡ near labels.now slot target.now }
 {
-    Ok(resolved(-32768, 32767, all, slot, target)? as i16)
+    Ok(resolved(-32768, 32767, labels, slot, target)? as i16)
 }
 
 /// Where a jump by an immediate goes.
-fn far(all: &[Statement], slot: usize, target: &Target) -> Result<i32, AsmFault>
+fn far(labels: &Labels, slot: usize, target: &Target) -> Result<i32, AsmFault>
     requires { slot ≤ SLOT_LIMIT }
-    ensures { result ≡ far all.now slot target.now }
+    ensures { result ≡ far labels.now slot target.now }
 {
-    Ok(resolved(-2147483648, 2147483647, all, slot, target)? as i32)
+    Ok(resolved(-2147483648, 2147483647, labels, slot, target)? as i32)
 }
 
 /// The instruction at a slot.
-fn finished(all: &[Statement], slot: usize, draft: &Draft) -> Result<Insn, AsmFault>
+fn finished(labels: &Labels, slot: usize, draft: &Draft) -> Result<Insn, AsmFault>
     requires { slot ≤ SLOT_LIMIT }
-    ensures { result ≡ finished all.now slot draft.now }
+    ensures { result ≡ finished labels.now slot draft.now }
 {
     match draft {
         Draft::Plain(insn) => Ok(*insn),
         Draft::Jump(target) => Ok(Insn::Jump {
-            offset: near(all, slot, target)?,
+            offset: near(labels, slot, target)?,
         }),
         Draft::JumpLong(target) => Ok(Insn::JumpLong {
-            distance: far(all, slot, target)?,
+            distance: far(labels, slot, target)?,
         }),
         Draft::Branch(bits, comparison, dst, source, target) => Ok(Insn::Branch {
             bits: *bits,
             comparison: *comparison,
             dst: *dst,
             source: *source,
-            offset: near(all, slot, target)?,
+            offset: near(labels, slot, target)?,
         }),
         Draft::CallLocal(target) => Ok(Insn::CallLocal {
-            distance: far(all, slot, target)?,
+            distance: far(labels, slot, target)?,
         }),
     }
 }
 
 /// What an instruction's line gives at a slot.
 fn instruction_at(
-    all: &[Statement],
+    labels: &Labels,
     slot: usize,
     draft: &Result<Draft, AsmFault>,
 ) -> Result<Option<Insn>, AsmFault>
     requires { slot ≤ SLOT_LIMIT }
-    ensures { result ≡ instruction_at all.now slot draft.now }
+    ensures { result ≡ instruction_at labels.now slot draft.now }
 {
     match draft {
         Err(fault) => Err(*fault),
@@ -151,31 +127,33 @@ fn instruction_at(
             if slot + draft_slots(draft) > SLOT_LIMIT {
                 return Err(AsmFault::Range);
             }
-            Ok(Some(finished(all, slot, line)?))
+            Ok(Some(finished(labels, slot, line)?))
         }
     }
 }
 
-/// What a line gives at a slot, behind those before it.
+/// What the line at a place among the lines gives at a slot.
 fn line_at(
-    all: &[Statement],
-    before: &[Statement],
+    labels: &Labels,
+    index: usize,
     slot: usize,
     line: &Statement,
 ) -> Result<Option<Insn>, AsmFault>
     requires { slot ≤ SLOT_LIMIT }
-    ensures read { result ≡ line_at all.now before.now slot line.now }
+    ensures read { result ≡ line_at labels.now (take index labels.now) slot line.now }
     ensures room { IfOk result (λ found. ForSome found (λ insn. slot + slot_count insn ≤ SLOT_LIMIT)) }
     ensures some { IfOk result (λ found. is_instruction line.now ≡ is_some found) }
 {
     match line {
         Statement::Empty => Ok(None),
-        Statement::Label(name) => match slot_of_label(name.as_bytes(), before) {
-            Some(_) => Err(AsmFault::Label),
-            None => Ok(None),
-        },
+        Statement::Label(name) => {
+            if labels.stands_above(name.as_bytes(), index) {
+                return Err(AsmFault::Label);
+            }
+            Ok(None)
+        }
         Statement::Directive(_) => Err(AsmFault::Word),
-        Statement::Instruction(draft) => instruction_at(all, slot, draft),
+        Statement::Instruction(draft) => instruction_at(labels, slot, draft),
     }
 }
 
@@ -191,11 +169,12 @@ pub(crate) fn read_body(
     ensures slots { IfOk result (λ v. slot_total v.items ≤ SLOT_LIMIT) }
     ensures some { IfOk result (λ v. count_by is_instruction lines.now ≤ slot_total v.items) }
 {
+    let labels = Labels::of(alloc, lines)?;
     let mut insns = Vec::new(alloc);
     let mut slot = 0;
     let mut index = 0;
     while index < lines.len() {
-        match line_at(lines, &lines[..index], slot, &lines[index]) {
+        match line_at(&labels, index, slot, &lines[index]) {
             Err(fault) => {
                 return Err(AsmError {
                     line: first + index,

@@ -192,7 +192,7 @@ fn class_assembled(alloc: Global, lines: &[Statement]) -> Result<ClassImage, Asm
 }
 
 /// The class of a text. What is refused is the lowest line that has a fault, with the least fault there; want of memory
-/// may come in place of any answer.
+/// may come in place of any answer. It costs as much as `assemble`.
 #[tactic(auto, using(crate::proofs::ClassGrammar::read_is_class_text), unfolding(crate::specs::Classes::read_class_text))]
 pub fn assemble_class(alloc: Global, text: &str) -> Result<ClassImage, AsmError>
     ensures found { IfOk result (λ c. read_class_text text.now ≡ Ok c) }

@@ -9,6 +9,7 @@ mod draft;
 mod fault;
 mod form;
 mod header;
+mod labels;
 mod laws;
 mod number;
 mod operand;
