@@ -1,4 +1,5 @@
 mod class_texts;
+mod limits;
 
 use super::*;
 use bpf_decode::{
