@@ -7,7 +7,7 @@ use bpf_decode::{
     SignedWidth, Width, decode, encode,
 };
 use class_texts::{LOCK, LOCK_PLAIN};
-use std::alloc::Global;
+use std::alloc::{AllocError, Global};
 use std::process::Abort;
 use std::test::Fail;
 
@@ -20,7 +20,7 @@ fn reads(rt: &impl Abort, alloc: Global, text: &str, canonical: &str) -> Result<
     let bytes = encode(alloc, &assemble(alloc, text)?)?;
     let insns = decode(alloc, &bytes)?;
     let printed = push_all(alloc, &insns)?;
-    assert_eq!(rt; printed.as_str(), canonical);
+    assert!(rt; printed.as_str() == canonical, "{text}");
     Ok(())
 }
 
@@ -33,18 +33,14 @@ fn push_all(alloc: Global, insns: &[Insn]) -> Result<String, AsmError> {
 
 /// The text is refused so.
 fn refuses(rt: &impl Abort, alloc: Global, text: &str, line: usize, fault: AsmFault) {
-    match assemble(alloc, text) {
-        Ok(_) => panic!(rt; "read: {text}"),
-        Err(error) => assert_eq!(rt; error, AsmError { line, fault }),
-    }
+    let error = assemble(alloc, text).err();
+    assert!(rt; error == Some(AsmError { line, fault }), "{text}");
 }
 
 #[test]
 fn bytes_of_lines(rt: HostRuntime) -> Result<(), Fail> {
-    let bytes = encode(
-        rt.alloc(),
-        &assemble(rt.alloc(), "ldxw r0, [r1+4]\njgt r2, 15, +3\n")?,
-    )?;
+    let insns = assemble(rt.alloc(), "ldxw r0, [r1+4]\njgt r2, 15, +3\n")?;
+    let bytes = encode(rt.alloc(), &insns)?;
     let wanted: [u8; 16] = [
         0x61, 0x10, 0x04, 0, 0, 0, 0, 0, 0x25, 0x02, 0x03, 0, 0x0f, 0, 0, 0,
     ];
@@ -52,31 +48,53 @@ fn bytes_of_lines(rt: HostRuntime) -> Result<(), Fail> {
     Ok(())
 }
 
+/// Each word with each of the endings and each of the operands, a line each.
+fn lines(
+    alloc: Global,
+    words: &[&str],
+    endings: &[&str],
+    operands: &[&str],
+) -> Result<String, AllocError> {
+    let mut text = String::new(alloc);
+    for word in words {
+        for ending in endings {
+            for operand in operands {
+                for part in [*word, *ending, *operand] {
+                    text.push_str(part)?;
+                }
+            }
+        }
+    }
+    Ok(text)
+}
+
+/// Words of arithmetic and of conditional jumps, each also with `32`.
+const ARITHMETIC: [&str; 14] = [
+    "add", "sub", "mul", "div", "sdiv", "or", "and", "lsh", "rsh", "mod", "smod", "xor", "mov",
+    "arsh",
+];
+
+const COMPARISONS: [&str; 11] = [
+    "jeq", "jgt", "jge", "jset", "jne", "jsgt", "jsge", "jlt", "jle", "jslt", "jsle",
+];
+
+/// The other forms, in canonical text.
+const OTHERS: &str =
+    "neg r1\nneg32 r1\nmovsx8 r1, r2\nmovsx16 r1, r2\nmovsx32 r1, r2\nmovsx8_32 r1, r2\nmovsx16_32 r1, r2\nle16 r1\nle32 r1\nle64 r1\nbe16 r1\nbe32 r1\nbe64 r1\nbswap16 r1\nbswap32 r1\nbswap64 r1\nlddw r1, 0x0000000000000005\nlddw r0, 0xfedcba9876543210\nldxb r0, [r1+4]\nldxh r0, [r1+4]\nldxw r0, [r1-4]\nldxdw r0, [r1+4]\nldxsb r0, [r1+4]\nldxsh r0, [r1+4]\nldxsw r0, [r1+4]\nstb [r1+0], 5\nsth [r1+0], 5\nstw [r1+0], -2147483648\nstdw [r1+0], 5\nstxb [r1+0], r2\nstxh [r1+0], r2\nstxw [r1+0], r2\nstxdw [r1+0], r2\nja +3\nja32 -70000\ncall 1\ncall 4294967295\ncall local +2\nexit\n";
+
 #[test]
 fn every_form(rt: HostRuntime) -> Result<(), Fail> {
-    let words64 = [
-        "add", "sub", "mul", "div", "sdiv", "or", "and", "lsh", "rsh", "mod", "smod", "xor", "mov",
-        "arsh",
-    ];
-    for word in words64 {
-        for bits in ["", "32"] {
-            let text = format!(in rt.alloc(); "{word}{bits} r1, r2\n{word}{bits} r10, -5\n")?;
-            reads(&rt, rt.alloc(), text.as_str(), text.as_str())?;
-        }
-    }
-    for word in [
-        "jeq", "jgt", "jge", "jset", "jne", "jsgt", "jsge", "jlt", "jle", "jslt", "jsle",
-    ] {
-        for bits in ["", "32"] {
-            let text = format!(in rt.alloc();
-                "{word}{bits} r2, 15, +3\n{word}{bits} r2, r3, -32768\n"
-            )?;
-            reads(&rt, rt.alloc(), text.as_str(), text.as_str())?;
-        }
-    }
-    let others =
-        "neg r1\nneg32 r1\nmovsx8 r1, r2\nmovsx16 r1, r2\nmovsx32 r1, r2\nmovsx8_32 r1, r2\nmovsx16_32 r1, r2\nle16 r1\nle32 r1\nle64 r1\nbe16 r1\nbe32 r1\nbe64 r1\nbswap16 r1\nbswap32 r1\nbswap64 r1\nlddw r1, 0x0000000000000005\nlddw r0, 0xfedcba9876543210\nldxb r0, [r1+4]\nldxh r0, [r1+4]\nldxw r0, [r1-4]\nldxdw r0, [r1+4]\nldxsb r0, [r1+4]\nldxsh r0, [r1+4]\nldxsw r0, [r1+4]\nstb [r1+0], 5\nsth [r1+0], 5\nstw [r1+0], -2147483648\nstdw [r1+0], 5\nstxb [r1+0], r2\nstxh [r1+0], r2\nstxw [r1+0], r2\nstxdw [r1+0], r2\nja +3\nja32 -70000\ncall 1\ncall 4294967295\ncall local +2\nexit\n";
-    reads(&rt, rt.alloc(), others, others)
+    let arithmetic = [" r1, r2\n", " r10, -5\n"];
+    let text = lines(rt.alloc(), &ARITHMETIC, &["", "32"], &arithmetic)?;
+    reads(&rt, rt.alloc(), text.as_str(), text.as_str())?;
+    reads(&rt, rt.alloc(), OTHERS, OTHERS)
+}
+
+#[test]
+fn every_branch(rt: HostRuntime) -> Result<(), Fail> {
+    let operands = [" r2, 15, +3\n", " r2, r3, -32768\n"];
+    let text = lines(rt.alloc(), &COMPARISONS, &["", "32"], &operands)?;
+    reads(&rt, rt.alloc(), text.as_str(), text.as_str())
 }
 
 #[test]
@@ -138,7 +156,7 @@ fn instructions_of_lines(rt: HostRuntime) -> Result<(), Fail> {
         Insn::CallLocal { distance: -1 },
         Insn::Exit,
     ];
-    assert_eq!(rt; insns.as_slice(), wanted.as_slice());
+    assert!(rt; insns.as_slice() == wanted.as_slice());
     Ok(())
 }
 
@@ -230,37 +248,47 @@ fn refused(rt: HostRuntime) {
 
 #[test]
 fn slots(rt: HostRuntime) -> Result<(), Fail> {
-    let mut text = String::new(rt.alloc());
-    for _ in 0..2048 {
-        text.push_str("lddw r1, 5\n")?;
-    }
-    let insns = assemble(rt.alloc(), text.as_str())?;
-    assert_eq!(rt; insns.len(), 2048);
+    let wide = "lddw r1, 5\n".repeat(rt.alloc(), 2048)?;
+    let insns = assemble(rt.alloc(), wide.as_str())?;
+    assert!(rt; insns.len() == 2048);
+    Ok(())
+}
+
+#[test]
+fn a_slot_too_many(rt: HostRuntime) -> Result<(), Fail> {
+    let mut text = "lddw r1, 5\n".repeat(rt.alloc(), 2048)?;
     text.push_str("exit\n")?;
     refuses(&rt, rt.alloc(), text.as_str(), 2049, AsmFault::Range);
     Ok(())
 }
 
+/// The laws are called: they do nothing.
+#[test]
+fn laws(_rt: HostRuntime) {
+    one_text();
+    one_class_text();
+    one_reading();
+}
+
 #[test]
 fn prints(rt: HostRuntime) -> Result<(), Fail> {
-    let error = AsmError {
-        line: 4,
-        fault: AsmFault::Operand,
+    let line = 4;
+    let fault = AsmFault::Operand;
+    let text = AsmError { line, fault }.to_string(rt.alloc())?;
+    assert!(rt; text.as_str() == "line 4: 2 Operand");
+    assert!(rt; AsmFault::NoMemory.number() == 5);
+    Ok(())
+}
+
+#[test]
+fn prints_instructions(rt: HostRuntime) -> Result<(), Fail> {
+    let mov = Insn::Mov {
+        bits: Bits::Bits64,
+        dst: register(&rt, 0),
+        source: Operand::Immediate(0),
     };
-    assert_eq!(rt; error.to_string(rt.alloc())?.as_str(), "line 4: 2 Operand");
-    assert_eq!(rt; AsmFault::NoMemory.number(), 5);
-    let insns = [
-        Insn::Mov {
-            bits: Bits::Bits64,
-            dst: register(&rt, 0),
-            source: Operand::Immediate(0),
-        },
-        Insn::Exit,
-    ];
-    assert_eq!(rt;
-        disassemble(rt.alloc(), &insns)?.as_str(),
-        "mov r0, 0\nexit\n"
-    );
+    let text = disassemble(rt.alloc(), &[mov, Insn::Exit])?;
+    assert!(rt; text.as_str() == "mov r0, 0\nexit\n");
     Ok(())
 }
 
@@ -280,21 +308,20 @@ fn classes(rt: HostRuntime) -> Result<(), Fail> {
     ];
     for (text, canonical) in rows {
         let class = assemble_class(rt.alloc(), text)?;
-        assert_eq!(rt; disassemble_class(rt.alloc(), &class)?.as_str(), canonical);
+        let printed = disassemble_class(rt.alloc(), &class)?;
+        assert!(rt; printed.as_str() == canonical, "{text}");
     }
     Ok(())
 }
 
 /// The class's text is refused so.
 fn refuses_class(rt: &impl Abort, alloc: Global, text: &str, line: usize, fault: AsmFault) {
-    match assemble_class(alloc, text) {
-        Ok(_) => panic!(rt; "read: {text}"),
-        Err(error) => assert_eq!(rt; error, AsmError { line, fault }),
-    }
+    let error = assemble_class(alloc, text).err();
+    assert!(rt; error == Some(AsmError { line, fault }), "{text}");
 }
 
 #[test]
-fn refused_classes(rt: HostRuntime) -> Result<(), Fail> {
+fn refused_classes(rt: HostRuntime) {
     let rows = [
         ("", 1, AsmFault::Range),
         ("\n.method f r 0 0", 1, AsmFault::Range),
@@ -342,41 +369,35 @@ fn refused_classes(rt: HostRuntime) -> Result<(), Fail> {
     for (text, line, fault) in rows {
         refuses_class(&rt, rt.alloc(), text, line, fault);
     }
-    let mut many = String::new(rt.alloc());
-    for index in 0..32 {
-        many.push_str(format!(in rt.alloc(); ".method m{index:02} r 0 0\nexit\n")?.as_str())?;
-    }
-    assert_eq!(rt;
-        assemble_class(rt.alloc(), many.as_str())?.methods().len(),
-        32
-    );
-    many.push_str(".method n r 0 0\nexit\n")?;
-    refuses_class(&rt, rt.alloc(), many.as_str(), 65, AsmFault::Range);
-    Ok(())
 }
 
 /// Right, or out of memory at line 0: what a run sees in which one allocation fails.
 #[test]
 fn memory(rt: HostRuntime) {
-    let lack = AsmError {
-        line: 0,
-        fault: AsmFault::NoMemory,
-    };
     let text = ".method f r 0 0\na:\nmov r0, 1\njeq r0, r1, a\nexit\n";
-    match assemble_class(rt.alloc(), text) {
-        Ok(class) => match disassemble_class(rt.alloc(), &class) {
-            Ok(printed) => {
-                assert_eq!(rt;
-                    printed.as_str(),
-                    ".method f r 0 0\nmov r0, 1\njeq r0, r1, -2\nexit\n"
-                )
-            }
-            Err(error) => assert_eq!(rt; error, lack),
-        },
-        Err(error) => assert_eq!(rt; error, lack),
+    let found = match assemble_class(rt.alloc(), text) {
+        Ok(class) => disassemble_class(rt.alloc(), &class),
+        Err(error) => Err(error),
+    };
+    let printed = ".method f r 0 0\nmov r0, 1\njeq r0, r1, -2\nexit\n";
+    assert!(rt; is_or_lacks(found, printed));
+}
+
+/// Whether that text was found, or memory ran out at line 0.
+fn is_or_lacks(found: Result<String, AsmError>, text: &str) -> bool {
+    let fault = AsmFault::NoMemory;
+    match found {
+        Ok(found) => found.as_str() == text,
+        Err(error) => error == AsmError { line: 0, fault },
     }
-    match assemble(rt.alloc(), "ja a\nexit\na:\nexit") {
-        Ok(insns) => assert_eq!(rt; insns.len(), 3),
-        Err(error) => assert_eq!(rt; error, lack),
-    }
+}
+
+#[test]
+fn memory_of_one_method(rt: HostRuntime) {
+    let fault = AsmFault::NoMemory;
+    let right = match assemble(rt.alloc(), "ja a\nexit\na:\nexit") {
+        Ok(insns) => insns.len() == 3,
+        Err(error) => error == AsmError { line: 0, fault },
+    };
+    assert!(rt; right);
 }
