@@ -1,3 +1,4 @@
 pub mod Measure
 pub mod Mode
+pub mod Table
 pub mod Workload

@@ -4,17 +4,20 @@
 mod measure;
 mod mode;
 mod report;
+mod table;
 #[cfg(test)]
 mod tests;
 mod workload;
 
+use crate::measure::RUNS;
 use crate::mode::Mode;
 use crate::report::report;
+use crate::workload::WORKLOADS;
 use anyhow::{Context, Result};
 use std::env;
 
 fn main(rt: HostRuntime) -> Result<()> {
     let words: Vec<String> = env::args(&rt)?.collect(rt.alloc())?;
     let mode = Mode::of(&words).context("usage: bench [--dry]")?;
-    report(rt.alloc(), &rt, mode, &mut rt.stdout())
+    report(rt.alloc(), &rt, mode, RUNS, &WORKLOADS, &mut rt.stdout())
 }

@@ -1,4 +1,4 @@
-ghost use Rattle.std.specs.Prelude.{◌≡◌, ◌≤◌};
+ghost use Rattle.std.specs.Prelude.{◌≡◌, ◌-◌, ◌^◌, ◌≤◌, min};
 ghost use Rattle.bench.specs.Measure.{picos_each};
 
 use crate::workload::{Ready, steps};
@@ -27,32 +27,55 @@ pub fn picos_each(nanos: u128, count: usize) -> u64
     picos.min(u128::from(u64::MAX)) as u64
 }
 
+/// The least time of some measurements, in picoseconds.
+#[derive(Clone, Copy, Debug)]
+pub struct Least {
+    pub picos: u64,
+}
+
+impl Least {
+    /// Of no measurement: 2^64 - 1.
+    pub fn new() -> Least
+        ensures { result.picos ≡ 2 ^ 64 - 1 }
+    {
+        Least { picos: u64::MAX }
+    }
+
+    /// Notes a measurement, in which so many took so many nanoseconds.
+    pub fn note(&mut self, nanos: u128, count: usize)
+        requires { 1 ≤ count }
+        ensures { self.new.picos ≡ min self.old.picos (picos_each nanos count) }
+    {
+        self.picos = self.picos.min(picos_each(nanos, count));
+    }
+}
+
 /// The least picoseconds that a call of a method took, of so many runs.
 pub fn time_call<C: Clock>(alloc: Global, clock: &C, ready: &Ready, runs: usize) -> Result<u64> {
     let calls = UNITS / ready.steps.max(1) + 1;
-    let mut least = u64::MAX;
+    let mut least = Least::new();
     for _ in 0..runs {
         let start = Instant::now(clock)?;
         for _ in 0..calls {
             let _ = steps(alloc, &ready.class)?;
         }
-        least = least.min(picos_each(start.elapsed(clock)?.as_nanos(), calls));
+        least.note(start.elapsed(clock)?.as_nanos(), calls);
     }
-    Ok(least)
+    Ok(least.picos)
 }
 
 /// The least picoseconds that `verify` took of a method's class, of so many runs.
 pub fn time_verify<C: Clock>(alloc: Global, clock: &C, ready: &Ready, runs: usize) -> Result<u64> {
     let passes = UNITS / ready.instructions.max(1) / 10 + 1;
-    let mut least = u64::MAX;
+    let mut least = Least::new();
     for _ in 0..runs {
         let start = Instant::now(clock)?;
         for _ in 0..passes {
             let _ = verify(alloc, &ready.image)?;
         }
-        least = least.min(picos_each(start.elapsed(clock)?.as_nanos(), passes));
+        least.note(start.elapsed(clock)?.as_nanos(), passes);
     }
-    Ok(least)
+    Ok(least.picos)
 }
 
 /// The least picoseconds that an `append` to a group took that has so many entries, of so many runs: of requests of one
@@ -66,7 +89,7 @@ pub fn time_append<C: Clock>(
 ) -> Result<u64> {
     let mut table = ClassTable::new(alloc);
     let class = table.add(class)?;
-    let mut least = u64::MAX;
+    let mut least = Least::new();
     for _ in 0..runs {
         let work = Appends {
             clock,
@@ -74,9 +97,9 @@ pub fn time_append<C: Clock>(
             requests: requests(alloc, class, behind.saturating_add(REQUESTS))?,
         };
         let taken = with_group(alloc, &table, work)?;
-        least = least.min(picos_each(taken, REQUESTS as usize));
+        least.note(taken, REQUESTS as usize);
     }
-    Ok(least)
+    Ok(least.picos)
 }
 
 /// So many requests for the method `f` of a class, numbered from 1 on, the last first.

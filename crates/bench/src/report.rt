@@ -1,73 +1,150 @@
-use crate::measure::{RUNS, time_append, time_call, time_verify};
+ghost use Rattle.std.specs.Prelude.{◌≡◌, OnOk, IfOk};
+ghost use Rattle.std.specs.Io.KnownBytes.{Appends};
+ghost use Rattle.bench.specs.Table.{AreAppends, AreLines, AreTimes, IsLine, IsTable, table_text};
+ghost use Rattle.bench.specs.declared.table.Table.{Table as Printed};
+
+use crate::measure::{time_append, time_call, time_verify};
 use crate::mode::Mode;
-use crate::workload::{WORKLOADS, Workload};
+use crate::table::{AppendLine, AppendLines, Line, Nanos, Table, Times};
+use crate::workload::{Ready, WORKLOADS, Workload};
 use anyhow::Result;
 use std::alloc::Global;
+use std::io;
 use std::time::Clock;
-use std::{fmt, io};
 
-/// A time of so many picoseconds, which prints as nanoseconds with two digits.
-#[derive(Clone, Copy)]
-struct Nanos {
-    picos: u64,
-}
-
-impl fmt::Display for Nanos {
-    fn fmt<W: fmt::Write>(&self, f: &mut fmt::Formatter<W>) -> fmt::Result {
-        let whole = self.picos / 1000;
-        let rest = self.picos % 1000 / 10;
-        write!(f, "{whole:>8}.{rest:02}")
-    }
-}
-
-/// The lengths of a log at which `append` is measured.
-const LENGTHS: [u32; 2] = [100, 60_000];
-
-/// Prints the table: a line for each method and, where it is timed, one for `append` at each length.
+/// Prints the table: a line for each method and, where it is timed, one for `append` at each length, of the method of four
+/// steps. Each time is the least of so many.
 pub fn report<C: Clock, O: io::Write>(
     alloc: Global,
     clock: &C,
     mode: Mode,
+    runs: usize,
+    workloads: &[Workload],
     out: &mut O,
-) -> Result<()> {
-    write!(out, "method     slots  steps")?;
-    if let Mode::Timed = mode {
-        write!(out, "    ns/call    ns/step    ns/slot")?;
-    }
-    writeln!(out)?;
-    for workload in &WORKLOADS {
-        line(alloc, clock, mode, workload, out)?;
-    }
-    if let Mode::Timed = mode {
-        for behind in LENGTHS {
-            let ready = WORKLOADS[0].ready(alloc)?;
-            let picos = time_append(alloc, clock, ready.class, behind, RUNS)?;
-            writeln!(out, "ns/append behind {behind:>5}{}", Nanos { picos })?;
-        }
-    }
-    out.flush()?;
+) -> Result<()>
+    ensures { OnOk result ((table : Printed) × IsTable mode workloads.now table × Appends (O.contents out.old) (O.contents out.new) (table_text table)) }
+{
+    let table = table(alloc, clock, mode, runs, workloads)?;
+    print(&table, out)?;
     Ok(())
 }
 
-/// Prints a method's line.
-fn line<C: Clock, O: io::Write>(
+/// Prints a table.
+fn print<O: io::Write>(table: &Table, out: &mut O) -> io::Result<()>
+    ensures { OnOk result (Appends (O.contents out.old) (O.contents out.new) (table_text table.now)) }
+{
+    write!(out, "{table}")?;
+    out.flush()
+}
+
+/// Measures.
+fn table<C: Clock>(
     alloc: Global,
     clock: &C,
     mode: Mode,
+    runs: usize,
+    workloads: &[Workload],
+) -> Result<Table>
+    ensures { IfOk result (IsTable mode workloads.now) }
+{
+    Ok(Table {
+        mode,
+        lines: lines(alloc, clock, mode, runs, workloads)?,
+        appends: appends(alloc, clock, mode, runs)?,
+    })
+}
+
+/// A line for each method.
+fn lines<C: Clock>(
+    alloc: Global,
+    clock: &C,
+    mode: Mode,
+    runs: usize,
+    workloads: &[Workload],
+) -> Result<Vec<Line>>
+    ensures { IfOk result (λ lines. AreLines mode workloads.now lines.items) }
+{
+    let mut lines = Vec::new(alloc);
+    for workload in workloads {
+        lines.push(line(alloc, clock, mode, runs, workload)?)?;
+    }
+    Ok(lines)
+}
+
+/// A method's line.
+fn line<C: Clock>(
+    alloc: Global,
+    clock: &C,
+    mode: Mode,
+    runs: usize,
     workload: &Workload,
-    out: &mut O,
-) -> Result<()> {
+) -> Result<Line>
+    ensures { IfOk result (IsLine mode workload.now) }
+{
     let ready = workload.ready(alloc)?;
-    let (name, slots, steps) = (workload.name, ready.instructions, ready.steps);
-    write!(out, "{name:<9} {slots:>6} {steps:>6}")?;
-    if let Mode::Timed = mode {
-        let call = time_call(alloc, clock, &ready, RUNS)?;
-        let pass = time_verify(alloc, clock, &ready, RUNS)?;
-        let step = call / steps.max(1) as u64;
-        let slot = pass / slots.max(1) as u64;
-        for picos in [call, step, slot] {
-            write!(out, "{}", Nanos { picos })?;
+    Ok(Line {
+        name: workload.name,
+        slots: ready.instructions,
+        steps: ready.steps,
+        times: times(alloc, clock, mode, runs, &ready)?,
+    })
+}
+
+/// The times of a method, where they are taken.
+fn times<C: Clock>(
+    alloc: Global,
+    clock: &C,
+    mode: Mode,
+    runs: usize,
+    ready: &Ready,
+) -> Result<Option<Times>>
+    ensures { IfOk result (AreTimes mode) }
+{
+    match mode {
+        Mode::Dry => Ok(None),
+        Mode::Timed => {
+            let call = time_call(alloc, clock, ready, runs)?;
+            let pass = time_verify(alloc, clock, ready, runs)?;
+            Ok(Some(Times {
+                call: Nanos { picos: call },
+                step: Nanos {
+                    picos: call / ready.steps.max(1) as u64,
+                },
+                slot: Nanos {
+                    picos: pass / ready.instructions.max(1) as u64,
+                },
+            }))
         }
     }
-    Ok(writeln!(out)?)
+}
+
+/// The times of `append`, where they are taken.
+fn appends<C: Clock>(
+    alloc: Global,
+    clock: &C,
+    mode: Mode,
+    runs: usize,
+) -> Result<Option<AppendLines>>
+    ensures { IfOk result (AreAppends mode) }
+{
+    match mode {
+        Mode::Dry => Ok(None),
+        Mode::Timed => {
+            let short = append_line(alloc, clock, runs, 100)?;
+            let long = append_line(alloc, clock, runs, 60_000)?;
+            Ok(Some(AppendLines { short, long }))
+        }
+    }
+}
+
+/// The time of an `append` behind so many entries.
+fn append_line<C: Clock>(alloc: Global, clock: &C, runs: usize, behind: u32) -> Result<AppendLine>
+    ensures { IfOk result (λ line. line.behind ≡ behind) }
+{
+    let ready = WORKLOADS[0].ready(alloc)?;
+    let picos = time_append(alloc, clock, ready.class, behind, runs)?;
+    Ok(AppendLine {
+        behind,
+        time: Nanos { picos },
+    })
 }

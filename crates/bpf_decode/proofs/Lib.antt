@@ -8,3 +8,4 @@ pub mod ImageFields
 pub mod ImageLoop
 pub mod ImageLaws
 pub mod ClassLoop
+pub mod Longest

@@ -1,7 +1,8 @@
 //! Laws of the grammars, proved as contracts of functions that do nothing.
 
-ghost use Rattle.std.specs.Prelude.{◌≡◌, ◌<◌, ℕ, List, get_or, Some, IsSome, Ok};
+ghost use Rattle.std.specs.Prelude.{◌≡◌, ◌+◌, ◌<◌, ◌≤◌, ◌↔◌, ℕ, List, get_or, length, take, Some, IsSome, Ok};
 ghost use Rattle.bpf_decode.specs.declared.insn.Insn.{Insn};
+ghost use Rattle.bpf_decode.specs.declared.limits.TheConstants.{IMAGE_LIMIT};
 ghost use Rattle.bpf_decode.specs.declared.row.Row.{Row};
 ghost use Rattle.bpf_decode.specs.Instruction.{IsCode};
 ghost use Rattle.bpf_decode.specs.Class.{ClassMethod, IsImage};
@@ -33,4 +34,12 @@ pub fn round_trip()
     ensures read { (bytes written : List ℕ) (ms : List ClassMethod) → ((i : ℕ) → get_or bytes i 0 < 256) → image_of bytes ≡ Ok ms → IsImage written ms → written ≡ bytes }
     ensures written_code { (bytes : List ℕ) (is : List Insn) → IsCode bytes is → code_of bytes ≡ Ok is }
     ensures read_code { (bytes written : List ℕ) (is : List Insn) → ((i : ℕ) → get_or bytes i 0 < 256) → code_of bytes ≡ Ok is → IsCode written is → written ≡ bytes }
+{}
+
+/// No image has more than `IMAGE_LIMIT` bytes. So of a longer file one byte more is enough: those behind it change no answer
+/// of reading, a refusal neither.
+pub fn beginning()
+    ensures longest { (bytes : List ℕ) (ms : List ClassMethod) → IsImage bytes ms → length bytes ≤ IMAGE_LIMIT }
+    ensures image { (bytes : List ℕ) (ms : List ClassMethod) → IsImage (take (IMAGE_LIMIT + 1) bytes) ms ↔ IsImage bytes ms }
+    ensures read { (bytes : List ℕ) → image_of (take (IMAGE_LIMIT + 1) bytes) ≡ image_of bytes }
 {}

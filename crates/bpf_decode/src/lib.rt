@@ -29,9 +29,10 @@ pub use decode_error::DecodeError;
 pub use image::{read_image, write_image};
 pub use image_error::ImageError;
 pub use insn::{Insn, Operand, width};
-pub use laws::{every_row, one_class, one_spelling, round_trip};
+pub use laws::{beginning, every_row, one_class, one_spelling, round_trip};
 pub use limits::{
-    CAPACITY_LIMIT, METHOD_LIMIT, NAME_LIMIT, SLOT_LIMIT, are_name_bytes, is_method_name,
+    CAPACITY_LIMIT, IMAGE_LIMIT, METHOD_LIMIT, NAME_LIMIT, SLOT_LIMIT, are_name_bytes,
+    is_method_name,
 };
 pub use method::Method;
 pub use operation::{Arithmetic, Bits, ByteOrder, Comparison, EndWidth, SignedMove};

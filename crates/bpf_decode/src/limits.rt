@@ -16,6 +16,9 @@ pub const CAPACITY_LIMIT: u16 = 4096;
 /// A method has 1 to 4,096 slots.
 pub const SLOT_LIMIT: usize = 4096;
 
+/// The bytes of the longest image: 8, and for each of 32 methods 72 and 4,096 slots.
+pub const IMAGE_LIMIT: usize = 1_050_888;
+
 /// Whether a class may have so many methods.
 pub(crate) fn is_method_count(count: usize) -> bool
     ensures { result ≡ is_method_count count }

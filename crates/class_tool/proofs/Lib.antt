@@ -1,2 +1,3 @@
 mod Called
 mod Refused
+pub mod Longer

@@ -8,7 +8,7 @@ use Rattle.bpf_decode.specs.declared.image_error.ImageError.{ImageError}
 use Rattle.bpf_machine.specs.Safe.{IsSafe}
 use Rattle.verifier.specs.Verdict.{class_verdict, out_of_memory}
 use Rattle.verifier.specs.declared.refusal.Refusal.{Refusal}
-use Rattle.class_tool.specs.Files.{Disk, IsBeginning}
+use Rattle.class_tool.specs.Files.{Disk, Holds}
 use Rattle.class_tool.specs.declared.failure.Failure.{Failure}
 use Rattle.class_tool.specs.declared.failure.Failure.TheVariants.{CannotRead, CannotWrite, NoMemory, Text, Image, Verdict, InputNotHex, Call}
 use Rattle.class_tool.specs.Files.{IsUnreadable}
@@ -16,7 +16,7 @@ use Rattle.class_tool.specs.Files.{IsUnreadable}
 -- the file holds the image of the class
 pub record IsImageIn (disk : Option Disk) (name : List ℕ) (class : List ClassMethod) : Type 0 where
   pub bytes : List ℕ
-  pub held : IsBeginning disk name 1050889 bytes
+  pub held : Holds disk name bytes
   pub image : IsImage bytes class
 
 -- and each of its methods is safe
@@ -27,7 +27,7 @@ pub record IsSafeIn (disk : Option Disk) (name : List ℕ) (class : List ClassMe
 -- the file's bytes are refused so, the first refusal in reading order
 pub record IsRefusedIn (disk : Option Disk) (name : List ℕ) (error : ImageError) : Type 0 where
   pub bytes : List ℕ
-  pub held : IsBeginning disk name 1050889 bytes
+  pub held : Holds disk name bytes
   pub refused : image_of bytes ≡ Err error
 
 -- the file holds the image of a class whose verdict is that refusal; or memory was refused

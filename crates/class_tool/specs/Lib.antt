@@ -4,5 +4,6 @@ pub mod Failure
 pub mod Files
 pub mod Image
 pub mod Log
+pub mod Output
 pub mod Reply
 pub mod Run

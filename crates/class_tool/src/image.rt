@@ -3,20 +3,19 @@ ghost use Rattle.class_tool.specs.Image.{IsImageIn, IsSafeIn, ReadFails, LoadFai
 
 use crate::failure::Failure;
 use crate::files::Reads;
-use bpf_decode::{ClassImage, read_image};
+use bpf_decode::{ClassImage, IMAGE_LIMIT, beginning, read_image};
 use std::alloc::Global;
 use verifier::{VerifiedClass, verify};
 
-/// The bytes of an image at most.
-const MOST: usize = 1_050_888;
-
 /// The class whose image a file holds. Of a file that is longer than any image, one byte more than an image may have is
-/// read.
+/// read, which changes no answer.
 pub fn read_class<F: Reads>(alloc: Global, files: &F, image: &str) -> Result<ClassImage, Failure>
     ensures read { IfOk result (IsImageIn (F.disk files.now) image.now) }
     ensures fails { IfErr result (ReadFails (F.disk files.now) image.now) }
 {
-    let bytes = match files.read_first(alloc, image, MOST + 1) {
+    // What is proved of the bytes behind those; the call does nothing.
+    beginning();
+    let bytes = match files.read_first(alloc, image, IMAGE_LIMIT + 1) {
         Ok(bytes) => bytes,
         Err(error) => return Err(Failure::of_read(&error)),
     };

@@ -21,6 +21,6 @@ pub use action::{Action, Call};
 pub use answer::Answer;
 pub use failure::Failure;
 pub use files::{Files, Reads, SystemFiles};
-pub use output::Output;
+pub use output::{Output, Printer};
 pub use reply::Reply;
 pub use tool::find;

@@ -1,4 +1,4 @@
-ghost use Rattle.std.specs.Prelude.{◌≡◌, ℕ, List, Option, None, Bool, true, false, OnOk, IfSome, IsOk};
+ghost use Rattle.std.specs.Prelude.{◌≡◌, ℕ, List, Option, None, Bool, true, false, OnOk, IfSome, IsOk, IsErr};
 ghost use Rattle.std.specs.Io.KnownBytes.{Appends};
 
 use std::{fmt, io};
@@ -8,23 +8,66 @@ pub trait Output {
     // What was printed, where that is known.
     ghost printed: { Self → Option (List ℕ) } = { λ _. None };
 
-    // Whether it takes all that is printed.
-    ghost takes_all: { Bool } = { false };
+    // Whether a write or a flush of it failed.
+    ghost failed: { Self → Bool };
 
-    /// Prints a whole text, and lets nothing of it wait.
+    /// Prints a whole text, and lets nothing of it wait. It fails exactly where a write or a flush does, which `failed`
+    /// tells from then on.
     fn print<D: fmt::Display + Drop>(&mut self, text: D) -> io::Result<()>
         ensures printed { OnOk result (IfSome (D.output text) (Appends (printed self.old) (printed self.new))) }
-        ensures taken { takes_all ≡ true → IsOk result };
+        ensures took { IsOk result → failed self.new ≡ failed self.old }
+        ensures lost { IsErr result → failed self.new ≡ true };
 }
 
-/// Every writer is one.
-impl<W: io::Write> Output for W {
-    ghost printed = { λ w. W.contents w };
+/// A writer, and whether a write or a flush of it failed.
+#[derive(Drop)]
+pub struct Printer<W> {
+    writer: W,
+    failed: bool,
+}
 
-    ghost takes_all = { false };
+impl<W: io::Write> Printer<W> {
+    ghost use Rattle.class_tool.specs.Output.{has_failed, writer_of};
+
+    /// A writer of which nothing failed.
+    pub fn new(writer: W) -> Printer<W>
+        ensures writer { writer_of result ≡ writer }
+        ensures failed { has_failed result ≡ false }
+    {
+        Printer {
+            writer,
+            failed: false,
+        }
+    }
+
+    /// Whether a write or a flush failed.
+    pub fn has_failed(&self) -> bool
+        ensures { result ≡ has_failed self.now }
+    {
+        self.failed
+    }
+}
+
+impl<W: io::Write> Output for Printer<W> {
+    ghost use Rattle.class_tool.specs.Output.{has_failed, writer_of};
+
+    ghost printed = { λ p. W.contents (writer_of p) };
+
+    ghost failed = { λ p. has_failed p };
 
     fn print<D: fmt::Display + Drop>(&mut self, text: D) -> io::Result<()> {
-        self.write_fmt(text)?;
-        self.flush()
+        let printed = print_whole(&mut self.writer, text);
+        if printed.is_err() {
+            self.failed = true;
+        }
+        printed
     }
+}
+
+/// Writes a whole text, and flushes it.
+fn print_whole<W: io::Write, D: fmt::Display + Drop>(writer: &mut W, text: D) -> io::Result<()>
+    ensures { OnOk result (IfSome (D.output text) (Appends (W.contents writer.old) (W.contents writer.new))) }
+{
+    writer.write_fmt(text)?;
+    writer.flush()
 }

@@ -1,5 +1,5 @@
-ghost use Rattle.std.specs.Prelude.{◌≡◌, map};
-ghost use Rattle.radoscls_program.specs.Program.{Ends, IsDone, IsRefused, IsUsage, IsPrinted, Responds, failure_line};
+ghost use Rattle.std.specs.Prelude.{◌≡◌, true, false, map};
+ghost use Rattle.radoscls_program.specs.Program.{stream, Ends, IsDone, IsRefused, IsUsage, IsPrinted, Responds, failure_line};
 ghost use Rattle.radoscls_program.specs.Status.{code_of};
 ghost use Rattle.radoscls_program.specs.declared.status.Status.{Status as Ending};
 
@@ -14,7 +14,7 @@ use std::io;
 /// Prints a failure's line.
 pub fn refuse<O: Output>(failure: Failure, out: &mut O) -> Status
     ensures status { result ≡ Status.Refused }
-    ensures printed { IsPrinted O.takes_all (O.printed out.old) (O.printed out.new) (failure_line failure) }
+    ensures printed { IsPrinted (stream O.printed O.failed out.old) (stream O.printed O.failed out.new) (failure_line failure) }
 {
     let _ = out.print(format_args!("{failure}\n"));
     Status::Refused
@@ -22,7 +22,7 @@ pub fn refuse<O: Output>(failure: Failure, out: &mut O) -> Status
 
 /// Prints an answer or a failure.
 fn respond<O: Output>(found: Result<Answer, Failure>, out: &mut O) -> Status
-    ensures { Responds O.takes_all (O.printed out.old) (O.printed out.new) found result }
+    ensures { Responds (stream O.printed O.failed out.old) (stream O.printed O.failed out.new) found result }
 {
     match found {
         Ok(answer) => match out.print(&answer) {
@@ -40,7 +40,7 @@ fn perform<S: AsStr, F: Files, O: Output, E: io::Write>(
     out: &mut O,
     err: &mut E,
 ) -> Status
-    ensures { Ends (F.disk files.old) (F.disk files.new) O.takes_all (O.printed out.old) (O.printed out.new) (map S.text words.now) result }
+    ensures { Ends (F.disk files.old) (F.disk files.new) (stream O.printed O.failed out.old) (stream O.printed O.failed out.new) (map S.text words.now) result }
 {
     match parse(alloc, words) {
         Ok(action) => respond(find(alloc, files, &action), out),
@@ -55,8 +55,8 @@ fn perform<S: AsStr, F: Files, O: Output, E: io::Write>(
 /// Does what the words ask for; the first is the program's own name. Answers and refusals are printed on `out`, a line
 /// each; usage and help on `err`.
 ///
-/// The answer is what the process ends with: 0 where it was done and printed, 1 where it was refused or `out` took no
-/// more, 2 after usage or help. No file is written but the one that `asm` names for the image, and that one only where
+/// The answer is what the process ends with: 0 where it was done and printed, 1 where it was refused, or a write or a flush
+/// of `out` failed, 2 after usage or help. No file is written but the one that `asm` names for the image, and that one only where
 /// the text is right.
 pub fn program<S: AsStr, F: Files, O: Output, E: io::Write>(
     alloc: Global,
@@ -66,9 +66,11 @@ pub fn program<S: AsStr, F: Files, O: Output, E: io::Write>(
     err: &mut E,
 ) -> u8
     ensures status { (status : Ending) × (result ≡ code_of status) }
-    ensures done { result ≡ 0 → IsDone (F.disk files.old) (F.disk files.new) (O.printed out.old) (O.printed out.new) (map S.text words.now) }
-    ensures refused { result ≡ 1 → IsRefused (F.disk files.old) (F.disk files.new) O.takes_all (O.printed out.old) (O.printed out.new) (map S.text words.now) }
-    ensures usage { result ≡ 2 → IsUsage (F.disk files.old) (F.disk files.new) (O.printed out.old) (O.printed out.new) (map S.text words.now) }
+    ensures done { result ≡ 0 → IsDone (F.disk files.old) (F.disk files.new) (stream O.printed O.failed out.old) (stream O.printed O.failed out.new) (map S.text words.now) }
+    ensures refused { result ≡ 1 → IsRefused (F.disk files.old) (F.disk files.new) (stream O.printed O.failed out.old) (stream O.printed O.failed out.new) (map S.text words.now) }
+    ensures usage { result ≡ 2 → IsUsage (F.disk files.old) (F.disk files.new) (stream O.printed O.failed out.old) (stream O.printed O.failed out.new) (map S.text words.now) }
+    // Where a write or a flush of `out` fails, the ending is 1.
+    ensures failed { O.failed out.old ≡ false → O.failed out.new ≡ true → result ≡ 1 }
 {
     perform(alloc, words, files, out, err).code()
 }

@@ -1,5 +1,5 @@
 use crate::perform::{program, refuse};
-use class_tool::{Failure, SystemFiles};
+use class_tool::{Failure, Printer, SystemFiles};
 use std::process::ExitCode;
 use std::rt::{Env, Files};
 use std::{env, io};
@@ -16,9 +16,10 @@ pub fn start<R: Env + Files + AllocGlobal, O: io::Write, E: io::Write>(
     err: &mut E,
 ) -> ExitCode {
     let mut files = SystemFiles::new(rt);
+    let mut out = Printer::new(out);
     let status = match words(rt) {
-        Ok(words) => program(rt.alloc(), &words, &mut files, out, err),
-        Err(error) => refuse(Failure::of_read(&error), out).code(),
+        Ok(words) => program(rt.alloc(), &words, &mut files, &mut out, err),
+        Err(error) => refuse(Failure::of_read(&error), &mut out).code(),
     };
     ExitCode::from(status)
 }

@@ -3,7 +3,7 @@ mod streams;
 mod texts;
 
 use crate::perform::program;
-use class_tool::{Files, Reads};
+use class_tool::{Files, Printer, Reads};
 use std::alloc::Global;
 use std::cell::Cell;
 use std::io::{self, ErrorKind};
@@ -100,7 +100,8 @@ fn run_on(alloc: Global, words: &[&str], folder: &mut Folder) -> Result<Ended, F
     all.extend_from_slice(words)?;
     let mut printed = Vec::new(alloc);
     let mut explained = Vec::new(alloc);
-    let status = program(alloc, all.as_slice(), folder, &mut printed, &mut explained);
+    let mut out = Printer::new(&mut printed);
+    let status = program(alloc, all.as_slice(), folder, &mut out, &mut explained);
     Ok(Ended {
         status,
         printed,

@@ -1,5 +1,6 @@
 use super::{Folder, TWO, run_on};
 use crate::perform::program;
+use class_tool::Printer;
 use std::io::{self, ErrorKind, Write};
 use std::test::Fail;
 
@@ -71,10 +72,10 @@ static LIMITS: [(&[&str], usize, bool, u8); 6] = [
 fn fails_where_standard_output_does(rt: HostRuntime) -> Result<(), Fail> {
     for (words, room, flushes, want) in LIMITS {
         let mut folder = Folder::of(rt.alloc(), TWO, b".method f r 0 0\nexit\n")?;
-        let mut out = Limited { room, flushes };
+        let mut out = Printer::new(Limited { room, flushes });
         let mut err = Limited { room: 0, flushes };
         let status = program(rt.alloc(), words, &mut folder, &mut out, &mut err);
-        assert_eq!(rt; status, want, "{room}");
+        assert_eq!(rt; (status, out.has_failed()), (want, want == 1), "{room}");
     }
     Ok(())
 }

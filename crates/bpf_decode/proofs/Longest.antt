@@ -1,0 +1,295 @@
+-- Bytes behind the longest image change nothing of what is read.
+use Rattle.std.proofs.Common.{◌≡◌, ℕ, zero, suc, ◌+◌, ◌*◌, ◌<◌, ◌≤◌, Bool, true, false, List, [], ◌∷◌, ◌++◌, length, take, drop, Result, Ok, Err, refl, sym, ap, subst, ◌∙◌, arith, inl, inr}
+use Rattle.std.specs.Prelude.{⊤, nat_le, nat_eq, codes, ◌==◌}
+use Rattle.std.specs.Cmp.Lexicographic.{pointwise}
+use Rattle.byteorder.specs.Endian.{little_number}
+use Rattle.std.proofs.lemmas.Bool.{cases_lt, leb-true, le-leb, ne_eqb}
+use Rattle.std.proofs.lemmas.List.{take-append-drop, take-append-le, drop-append-le, take_all, length-take, length-take-le, length-drop, length-append}
+use Rattle.bpf_decode.specs.declared.decode_error.DecodeError.{DecodeError}
+use Rattle.bpf_decode.specs.declared.decode_error.DecodeError.TheVariants.{Truncated, Magic, Name, Order, Flags, Limit, Trailing}
+use Rattle.bpf_decode.specs.declared.image_error.ImageError.{ImageError}
+use Rattle.bpf_decode.specs.declared.insn.Insn.{Insn}
+use Rattle.bpf_decode.specs.Class.{ClassMethod, IsImage}
+use Rattle.bpf_decode.specs.Limits.{is_method_count, is_name_length, are_name_bytes, are_flags, is_capacity, is_slot_count}
+use Rattle.bpf_decode.specs.Reading.{◌>>=◌, checked, code_of}
+use Rattle.bpf_decode.specs.ImageReading.{is_above, after, byte_at, number_at, bytes_at, name_at, flags_at, capacity_at, code_at, method_at, methods_at, header_at, image_of}
+use Rattle.bpf_decode.proofs.Bytes.{bind_ok, checked_ok}
+use Rattle.bpf_decode.proofs.ImageFields.{between-true, ok_is}
+use Rattle.bpf_decode.proofs.ImageLaws.{image_is}
+
+-- what was read, with more bytes behind what is left
+abbrev longer : {A E : Type 0} → List ℕ → Result (A × List ℕ) E → Result (A × List ℕ) E
+longer more (Ok x) = Ok (x.0, x.1 ++ more)
+longer more (Err e) = Err e
+
+-- at most k of the bytes were read
+abbrev Leaves : {A E : Type 0} → ℕ → List ℕ → Result (A × List ℕ) E → Type 0
+Leaves k bytes (Ok x) = length bytes ≤ length x.1 + k
+Leaves k bytes (Err e) = ⊤
+
+-- it reads at most k bytes, and so of k bytes and more what it reads of those alone
+record Local {A E : Type 0} (k : ℕ) (read : List ℕ → Result (A × List ℕ) E) : Type 0 where
+  same : (front more : List ℕ) → k ≤ length front → read (front ++ more) ≡ longer more (read front)
+  few : (front : List ℕ) → Leaves k front (read front)
+
+Leaves-more : {A E : Type 0} (j k : ℕ) (bytes : List ℕ) (r : Result (A × List ℕ) E) → j ≤ k → Leaves j bytes r → Leaves k bytes r
+Leaves-more j k bytes (Ok x) h l = omega (arith, h, l)
+Leaves-more j k bytes (Err e) h l = tt
+
+Local-more : {A E : Type 0} (j k : ℕ) (read : List ℕ → Result (A × List ℕ) E) → j ≤ k → Local j read → Local k read
+Local-more j k read h l = record {
+  same = λ front more long. l.same front more (omega (arith, h, long));
+  few = λ front. Leaves-more j k front (read front) h (l.few front);
+}
+
+-- ---- one step after another
+
+then_same : {A B E : Type 0} (j k : ℕ) (front more : List ℕ) (f : A × List ℕ → Result (B × List ℕ) E) → ((x : A) → Local k (λ rest. f (x, rest))) → j + k ≤ length front → (read whole : Result (A × List ℕ) E) → whole ≡ longer more read → Leaves j front read → (whole >>= f) ≡ longer more (read >>= f)
+then_same j k front more f p long (Ok x) whole e l = rw e ((p x.0).same x.1 more (omega (arith, long, l)))
+then_same j k front more f p long (Err d) whole e l = rw e refl
+
+then_few : {B E : Type 0} (j k : ℕ) (front rest : List ℕ) (r : Result (B × List ℕ) E) → length front ≤ length rest + j → Leaves k rest r → Leaves (j + k) front r
+then_few j k front rest (Ok y) h l = omega (arith, h, l)
+then_few j k front rest (Err d) h l = tt
+
+then_leaves : {A B E : Type 0} (j k : ℕ) (front : List ℕ) (f : A × List ℕ → Result (B × List ℕ) E) → ((x : A) → Local k (λ rest. f (x, rest))) → (read : Result (A × List ℕ) E) → Leaves j front read → Leaves (j + k) front (read >>= f)
+then_leaves j k front f p (Ok x) l = then_few j k front x.1 (f x) l ((p x.0).few x.1)
+then_leaves j k front f p (Err d) l = tt
+
+Local-then : {A B E : Type 0} (j k : ℕ) (read : List ℕ → Result (A × List ℕ) E) (f : A × List ℕ → Result (B × List ℕ) E) → Local j read → ((x : A) → Local k (λ rest. f (x, rest))) → Local (j + k) (λ bytes. read bytes >>= f)
+Local-then j k read f l p = record {
+  same = λ front more long. then_same j k front more f p long (read front) (read (front ++ more)) (l.same front more (omega (arith, long))) (l.few front);
+  few = λ front. then_leaves j k front f p (read front) (l.few front);
+}
+
+abbrev kept : {A E : Type 0} → Bool → E → A → List ℕ → Result (A × List ℕ) E
+kept b e x rest = checked b e (x, rest)
+
+-- a test of what was read, before more is
+Local-checked : {A B E : Type 0} (k : ℕ) (b : Bool) (e : E) (x : A) (f : List ℕ → Result (B × List ℕ) E) → (b ≡ true → Local k f) → Local k (λ rest. kept b e x rest >>= λ _. f rest)
+Local-checked k true e x f p = p refl
+Local-checked k false e x f p = record { same = λ front more long. refl; few = λ front. tt }
+
+-- and at the end
+Local-tested : {A E : Type 0} (b : Bool) (e : E) (x : A) → Local 0 (λ rest. checked b e (x, rest))
+Local-tested true e x = record { same = λ front more long. refl; few = λ front. omega arith }
+Local-tested false e x = record { same = λ front more long. refl; few = λ front. tt }
+
+-- a value made of what was read
+Local-made : {A B E : Type 0} (r : Result A E) (f : A → B) → Local 0 (λ rest. r >>= λ y. Ok (f y, rest))
+Local-made (Ok y) f = record { same = λ front more long. refl; few = λ front. omega arith }
+Local-made (Err e) f = record { same = λ front more long. refl; few = λ front. tt }
+
+Local-ok : {A E : Type 0} (x : A) → Local {E = E} 0 (λ rest. Ok (x, rest))
+Local-ok x = record { same = λ front more long. refl; few = λ front. omega arith }
+
+-- ---- the fields
+
+byte_same : (front more : List ℕ) → 1 ≤ length front → byte_at (front ++ more) ≡ longer more (byte_at front)
+byte_same [] more long = absurd (omega (arith, long))
+byte_same (b ∷ front) more long = refl
+
+byte_few : (front : List ℕ) → Leaves 1 front (byte_at front)
+byte_few [] = tt
+byte_few (b ∷ front) = omega arith
+
+byte_local : Local 1 byte_at
+byte_local = record { same = byte_same; few = byte_few }
+
+-- a test of the length, and then that much less
+cut_few : {A : Type 0} (n : ℕ) (front : List ℕ) (x : A) (e : DecodeError) (b : Bool) → (b ≡ true → n ≤ length front) → Leaves n front (checked b e (x, drop n front))
+cut_few n front x e true h = omega (arith, h refl, length-drop n front)
+cut_few n front x e false h = tt
+
+number_same : (front more : List ℕ) → 2 ≤ length front → number_at (front ++ more) ≡ longer more (number_at front)
+number_same [] more long = absurd (omega (arith, long))
+number_same (a ∷ []) more long = absurd (omega (arith, long))
+number_same (a ∷ b ∷ front) more long =
+    rw (le-leb 2 (length (a ∷ b ∷ front)) long, le-leb 2 (length (a ∷ b ∷ (front ++ more))) (omega arith)) refl
+
+number_local : Local 2 number_at
+number_local = record {
+  same = number_same;
+  few = λ front. cut_few 2 front (little_number 2 front) Truncated (nat_le 2 (length front)) (leb-true 2 (length front));
+}
+
+bytes_same : (n : ℕ) (front more : List ℕ) → n ≤ length front → bytes_at n (front ++ more) ≡ longer more (bytes_at n front)
+bytes_same n front more long =
+    rw (le-leb n (length front) long, le-leb n (length (front ++ more)) (omega (arith, long, length-append front more)), take-append-le n front more long, drop-append-le n front more long) refl
+
+bytes_local : (n : ℕ) → Local n (bytes_at n)
+bytes_local n = record {
+  same = bytes_same n;
+  few = λ front. cut_few n front (take n front) Truncated (nat_le n (length front)) (leb-true n (length front));
+}
+
+name_local : (before : List ℕ) → Local 65 (name_at before)
+unfolding name_at
+name_local before =
+    Local-then 1 64 byte_at (λ n. checked (is_name_length n.0) Name n >>= λ sized. bytes_at n.0 n.1 >>= λ name. checked (are_name_bytes name.0) Name name >>= λ lettered. checked (is_above before name.0) Order name) byte_local (λ n.
+    Local-checked 64 (is_name_length n) Name n (λ rest. bytes_at n rest >>= λ name. checked (are_name_bytes name.0) Name name >>= λ lettered. checked (is_above before name.0) Order name) (λ few.
+    Local-more (n + 0) 64 (λ rest. bytes_at n rest >>= λ name. checked (are_name_bytes name.0) Name name >>= λ lettered. checked (is_above before name.0) Order name) (omega (arith, (between-true 1 64 n few).1))
+    (Local-then n 0 (bytes_at n) (λ name. checked (are_name_bytes name.0) Name name >>= λ lettered. checked (is_above before name.0) Order name) (bytes_local n) (λ name.
+    Local-checked 0 (are_name_bytes name) Name name (λ rest. checked (is_above before name) Order (name, rest)) (λ _. Local-tested (is_above before name) Order name)))))
+
+flags_local : Local 1 flags_at
+unfolding flags_at
+flags_local = Local-then 1 0 byte_at (λ flags. checked (are_flags flags.0) Flags flags) byte_local (λ n. Local-tested (are_flags n) Flags n)
+
+capacity_local : Local 2 capacity_at
+unfolding capacity_at
+capacity_local = Local-then 2 0 number_at (λ n. checked (is_capacity n.0) Limit n) number_local (λ n. Local-tested (is_capacity n) Limit n)
+
+code_local : Local 32770 code_at
+unfolding code_at
+code_local =
+    Local-then 2 32768 number_at (λ n. checked (is_slot_count n.0) Limit n >>= λ some. bytes_at (8 * n.0) n.1 >>= λ code. code_of code.0 >>= λ is. Ok (is, code.1)) number_local (λ n.
+    Local-checked 32768 (is_slot_count n) Limit n (λ rest. bytes_at (8 * n) rest >>= λ code. code_of code.0 >>= λ is. Ok (is, code.1)) (λ few.
+    Local-more (8 * n + 0) 32768 (λ rest. bytes_at (8 * n) rest >>= λ code. code_of code.0 >>= λ is. Ok (is, code.1)) (omega (arith, (between-true 1 4096 n few).1))
+    (Local-then (8 * n) 0 (bytes_at (8 * n)) (λ code. code_of code.0 >>= λ is. Ok (is, code.1)) (bytes_local (8 * n)) (λ code. Local-made (code_of code) (λ is. is)))))
+
+-- ---- a method, and the methods
+
+abbrev made : List ℕ → ℕ → ℕ → ℕ → List Insn → ClassMethod
+made name flags in_cap out_cap is = record { name = name; flags = flags; in_cap = in_cap; out_cap = out_cap; instructions = is }
+
+method_local : (before : List ℕ) → Local 32840 (method_at before)
+unfolding method_at
+method_local before =
+    Local-then 65 32775 (name_at before) (λ name. flags_at name.1 >>= λ flags. capacity_at flags.1 >>= λ in_cap. capacity_at in_cap.1 >>= λ out_cap. code_at out_cap.1 >>= λ code. Ok (made name.0 flags.0 in_cap.0 out_cap.0 code.0, code.1)) (name_local before) (λ name.
+    Local-then 1 32774 flags_at (λ flags. capacity_at flags.1 >>= λ in_cap. capacity_at in_cap.1 >>= λ out_cap. code_at out_cap.1 >>= λ code. Ok (made name flags.0 in_cap.0 out_cap.0 code.0, code.1)) flags_local (λ flags.
+    Local-then 2 32772 capacity_at (λ in_cap. capacity_at in_cap.1 >>= λ out_cap. code_at out_cap.1 >>= λ code. Ok (made name flags in_cap.0 out_cap.0 code.0, code.1)) capacity_local (λ in_cap.
+    Local-then 2 32770 capacity_at (λ out_cap. code_at out_cap.1 >>= λ code. Ok (made name flags in_cap out_cap.0 code.0, code.1)) capacity_local (λ out_cap.
+    Local-then 32770 0 code_at (λ code. Ok (made name flags in_cap out_cap code.0, code.1)) code_local (λ code. Local-ok (made name flags in_cap out_cap code))))))
+
+after_same : {A : Type 0} (done : ℕ) (more : List ℕ) (read whole : Result (A × List ℕ) DecodeError) → whole ≡ longer more read → after done whole ≡ longer more (after done read)
+after_same done more (Ok x) whole e = rw e refl
+after_same done more (Err d) whole e = rw e refl
+
+after_leaves : {A : Type 0} (done k : ℕ) (front : List ℕ) (read : Result (A × List ℕ) DecodeError) → Leaves k front read → Leaves k front (after done read)
+after_leaves done k front (Ok x) l = l
+after_leaves done k front (Err d) l = tt
+
+Local-after : {A : Type 0} (done k : ℕ) (read : List ℕ → Result (A × List ℕ) DecodeError) → Local k read → Local k (λ bytes. after done (read bytes))
+Local-after done k read l = record {
+  same = λ front more long. after_same done more (read front) (read (front ++ more)) (l.same front more long);
+  few = λ front. after_leaves done k front (read front) (l.few front);
+}
+
+methods_local : (n done : ℕ) (before : List ℕ) → Local (n * 32840) (methods_at n done before)
+unfolding methods_at
+methods_local zero done before = Local-ok []
+methods_local (suc n) done before =
+    Local-more (32840 + (n * 32840 + 0)) (suc n * 32840) (methods_at (suc n) done before) (omega arith)
+    (Local-then 32840 (n * 32840 + 0) (λ bytes. after done (method_at before bytes)) (λ first. methods_at n (done + 1) first.0.name first.1 >>= λ others. Ok (first.0 ∷ others.0, others.1)) (Local-after done 32840 (method_at before) (method_local before)) (λ first.
+    Local-then (n * 32840) 0 (methods_at n (done + 1) first.name) (λ others. Ok (first ∷ others.0, others.1)) (methods_local n (done + 1) first.name) (λ others. Local-ok (first ∷ others))))
+
+-- ---- the image
+
+abbrev header_rest : List ℕ → Result (ℕ × List ℕ) DecodeError
+header_rest bytes = number_at bytes >>= λ count. checked (is_method_count count.0) Limit count >>= λ some. number_at count.1 >>= λ none. checked (none.0 == 0) Magic none >>= λ nothing. Ok (count.0, none.1)
+
+header_rest_local : Local 4 header_rest
+header_rest_local =
+    Local-then 2 2 number_at (λ count. checked (is_method_count count.0) Limit count >>= λ some. number_at count.1 >>= λ none. checked (none.0 == 0) Magic none >>= λ nothing. Ok (count.0, none.1)) number_local (λ count.
+    Local-checked 2 (is_method_count count) Limit count (λ rest. number_at rest >>= λ none. checked (none.0 == 0) Magic none >>= λ nothing. Ok (count, none.1)) (λ _.
+    Local-then 2 0 number_at (λ none. checked (none.0 == 0) Magic none >>= λ nothing. Ok (count, none.1)) number_local (λ none.
+    Local-checked 0 (none == 0) Magic none (λ rest. Ok (count, rest)) (λ _. Local-ok count))))
+
+header_local : Local 8 header_at
+unfolding header_at
+header_local =
+    Local-then 4 4 (bytes_at 4) (λ magic. checked (pointwise nat_eq magic.0 (codes "RCL1")) Magic magic >>= λ known. header_rest magic.1) (bytes_local 4) (λ magic.
+    Local-checked 4 (pointwise nat_eq magic (codes "RCL1")) Magic magic header_rest (λ _. header_rest_local))
+
+-- a header that is read has at most 32 methods
+header_few : (bytes : List ℕ) (h : ℕ × List ℕ) → header_at bytes ≡ Ok h → h.0 ≤ 32
+unfolding header_at
+header_few bytes h e =
+    let a = bind_ok (bytes_at 4 bytes) (λ magic. checked (pointwise nat_eq magic.0 (codes "RCL1")) Magic magic >>= λ known. header_rest magic.1) h e in
+    let b = bind_ok (checked (pointwise nat_eq a.0.0 (codes "RCL1")) Magic a.0) (λ known. header_rest a.0.1) h a.2 in
+    let c = bind_ok (number_at a.0.1) (λ count. checked (is_method_count count.0) Limit count >>= λ some. number_at count.1 >>= λ none. checked (none.0 == 0) Magic none >>= λ nothing. Ok (count.0, none.1)) h b.2 in
+    let d = bind_ok (checked (is_method_count c.0.0) Limit c.0) (λ some. number_at c.0.1 >>= λ none. checked (none.0 == 0) Magic none >>= λ nothing. Ok (c.0.0, none.1)) h c.2 in
+    let f = bind_ok (number_at c.0.1) (λ none. checked (none.0 == 0) Magic none >>= λ nothing. Ok (c.0.0, none.1)) h d.2 in
+    let g = bind_ok (checked (f.0.0 == 0) Magic f.0) (λ nothing. Ok (c.0.0, f.0.1)) h f.2 in
+    let few = (between-true 1 32 c.0.0 (checked_ok (is_method_count c.0.0) Limit c.0 d.0 d.1).0).1 in
+    let same : (c.0.0, f.0.1) ≡ h = ok_is (c.0.0, f.0.1) h g.2 in
+    omega (arith, few, ap (λ (p : ℕ × List ℕ). p.0) same)
+
+-- the end of an image, behind its methods
+abbrev at_end : ℕ → List ClassMethod × List ℕ → Result (List ClassMethod) ImageError
+at_end count ms = after count (checked (length ms.1 == 0) Trailing ms.0)
+
+some_left : (rest : List ℕ) → 1 ≤ length rest → (length rest == 0) ≡ false
+some_left rest some = ne_eqb (length rest) 0 (λ e. omega (arith, some, e))
+
+trailing : (count : ℕ) (ms : List ClassMethod) (rest : List ℕ) → 1 ≤ length rest → at_end count (ms, rest) ≡ Err (record { methods = count; error = Trailing })
+trailing count ms rest some = rw (some_left rest some) refl
+
+end_same : (count : ℕ) (ms : List ClassMethod) (rest more : List ℕ) → 1 ≤ length rest → at_end count (ms, rest ++ more) ≡ at_end count (ms, rest)
+end_same count ms rest more some = trailing count ms (rest ++ more) (omega (arith, some, length-append rest more)) ∙ sym (trailing count ms rest some)
+
+methods_end : (count k : ℕ) (front more : List ℕ) → k + 1 ≤ length front → (read whole : Result (List ClassMethod × List ℕ) ImageError) → whole ≡ longer more read → Leaves k front read → (whole >>= at_end count) ≡ (read >>= at_end count)
+methods_end count k front more long (Ok x) whole e l = rw e (end_same count x.0 x.1 more (omega (arith, long, l)))
+methods_end count k front more long (Err d) whole e l = rw e refl
+
+behind_header : (front more : List ℕ) → 1050889 ≤ length front → (read whole : Result (ℕ × List ℕ) DecodeError) → ((h : ℕ × List ℕ) → read ≡ Ok h → h.0 ≤ 32) → whole ≡ longer more read → Leaves 8 front read → (after 0 whole >>= λ h. methods_at h.0 0 [] h.1 >>= at_end h.0) ≡ (after 0 read >>= λ h. methods_at h.0 0 [] h.1 >>= at_end h.0)
+behind_header front more long (Ok h) whole few e l =
+    let n = few h refl in
+    let m = methods_local h.0 0 [] in
+    let rest : h.0 * 32840 + 1 ≤ length h.1 = omega (arith, long, l, n) in
+    rw e (methods_end h.0 (h.0 * 32840) h.1 more rest (methods_at h.0 0 [] h.1) (methods_at h.0 0 [] (h.1 ++ more)) (m.same h.1 more (omega (arith, rest))) (m.few h.1))
+behind_header front more long (Err d) whole few e l = rw e refl
+
+-- bytes behind the first 1,050,889 change no answer
+same_image : (front more : List ℕ) → 1050889 ≤ length front → image_of (front ++ more) ≡ image_of front
+unfolding image_of
+same_image front more long =
+    behind_header front more long (header_at front) (header_at (front ++ more)) (header_few front) (header_local.same front more (omega (arith, long))) (header_local.few front)
+
+pub image_of-take : (bytes : List ℕ) → image_of (take 1050889 bytes) ≡ image_of bytes
+image_of-take bytes =
+    elim (cases_lt (length bytes) 1050889) [
+      | inl short ↦ ap image_of (take_all 1050889 bytes (omega (arith, short)))
+      | inr long ↦ sym (same_image (take 1050889 bytes) (drop 1050889 bytes) (omega (arith, long, length-take-le 1050889 bytes long))) ∙ ap image_of (take-append-drop 1050889 bytes)
+    ]
+
+-- ---- an image is no longer
+
+refusal-ne-class : (e : ImageError) (out : List ClassMethod) (r : Result (List ClassMethod) ImageError) → r ≡ Err e → r ≡ Ok out → ⊥
+refusal-ne-class e out (Ok x) f g = absurd cc
+refusal-ne-class e out (Err d) f g = absurd cc
+
+end_refused : (count : ℕ) (ms : List ClassMethod) (rest : List ℕ) (out : List ClassMethod) → 1 ≤ length rest → at_end count (ms, rest) ≡ Ok out → ⊥
+end_refused count ms rest out some e = refusal-ne-class (record { methods = count; error = Trailing }) out (at_end count (ms, rest)) (trailing count ms rest some) e
+
+methods_refused : (count k : ℕ) (front : List ℕ) (out : List ClassMethod) (read : Result (List ClassMethod × List ℕ) ImageError) → k + 1 ≤ length front → Leaves k front read → (read >>= at_end count) ≡ Ok out → ⊥
+methods_refused count k front out (Ok x) long l e = end_refused count x.0 x.1 out (omega (arith, long, l)) e
+methods_refused count k front out (Err d) long l e = absurd cc
+
+header_refused : (front : List ℕ) (out : List ClassMethod) (read : Result (ℕ × List ℕ) DecodeError) → 1050889 ≤ length front → ((h : ℕ × List ℕ) → read ≡ Ok h → h.0 ≤ 32) → Leaves 8 front read → (after 0 read >>= λ h. methods_at h.0 0 [] h.1 >>= at_end h.0) ≡ Ok out → ⊥
+header_refused front out (Ok h) long few l e =
+    let n = few h refl in
+    methods_refused h.0 (h.0 * 32840) h.1 out (methods_at h.0 0 [] h.1) (omega (arith, long, l, n)) ((methods_local h.0 0 []).few h.1) e
+header_refused front out (Err d) long few l e = absurd cc
+
+refused : (bytes : List ℕ) (ms : List ClassMethod) → 1050889 ≤ length bytes → image_of bytes ≡ Ok ms → ⊥
+unfolding image_of
+refused bytes ms long e = header_refused bytes ms (header_at bytes) long (header_few bytes) (header_local.few bytes) e
+
+pub length-image : (bytes : List ℕ) (ms : List ClassMethod) → IsImage bytes ms → length bytes ≤ 1050888
+length-image bytes ms i =
+    elim (cases_lt (length bytes) 1050889) [
+      | inl short ↦ omega (arith, short)
+      | inr long ↦ absurd (refused bytes ms long (image_is bytes ms i))
+    ]
+
+-- the bytes are an image where their first 1,050,889 are
+take_whole : (bytes : List ℕ) (ms : List ClassMethod) → IsImage (take 1050889 bytes) ms → take 1050889 bytes ≡ bytes
+take_whole bytes ms i = take_all 1050889 bytes (omega (arith, length-take 1050889 bytes, length-image (take 1050889 bytes) ms i))
+
+pub IsImage-from_take : (bytes : List ℕ) (ms : List ClassMethod) → IsImage (take 1050889 bytes) ms → IsImage bytes ms
+IsImage-from_take bytes ms i = subst (λ (b : List ℕ). IsImage b ms) (take_whole bytes ms i) i
+
+pub IsImage-take : (bytes : List ℕ) (ms : List ClassMethod) → IsImage bytes ms → IsImage (take 1050889 bytes) ms
+IsImage-take bytes ms i = subst (λ (b : List ℕ). IsImage b ms) (sym (take_all 1050889 bytes (omega (arith, length-image bytes ms i)))) i
