@@ -2,7 +2,7 @@
 //! them. Each line tells what was seen.
 #![tactic(auto)]
 
-use class_tool::{Files, Reads, SystemFiles};
+use class_tool::{Files, Printer, Reads, SystemFiles};
 use radoscls_program::{program, start};
 use std::alloc::Global;
 use std::io;
@@ -11,6 +11,9 @@ use std::rt::Files as Granted;
 
 /// How many bytes the long file has.
 const LONG: usize = 5_000;
+
+/// How many bytes of a file's beginning are asked for: of the long file all but one.
+const MOST: usize = 4_999;
 
 /// Words behind the program's name.
 static CALLS: [&[&str]; 12] = [
@@ -57,8 +60,8 @@ fn keeps<F: Files>(alloc: Global, files: &mut F, count: usize) -> io::Result<boo
     }
     files.write("made", &bytes)?;
     let whole = files.read(alloc, "made")?;
-    let first = files.read_first(alloc, "made", 3)?;
-    Ok(whole == bytes && first.as_slice() == &bytes[..bytes.len().min(3)])
+    let first = files.read_first(alloc, "made", MOST)?;
+    Ok(whole == bytes && first.as_slice() == &bytes[..bytes.len().min(MOST)])
 }
 
 /// Tells of a long file and of the short one that takes its place.
@@ -81,7 +84,8 @@ fn tell_of_calls<R: Granted + AllocGlobal + Print, O: io::Write>(
     for words in CALLS {
         let mut files = SystemFiles::new(rt);
         let mut err = Vec::new(rt.alloc());
-        let status = program(rt.alloc(), words, &mut files, out, &mut err);
+        let mut printer = Printer::new(&mut *out);
+        let status = program(rt.alloc(), words, &mut files, &mut printer, &mut err);
         let explained = !err.is_empty();
         println!(rt; "status {status}, explained: {explained}")?;
     }
