@@ -1,0 +1,17 @@
+pub mod Lists
+pub mod LogFacts
+pub mod View
+pub mod Moves
+pub mod Nodes
+pub mod Steps
+pub mod Following
+pub mod Leading
+pub mod Moving
+pub mod Installing
+pub mod Reach
+pub mod Monitoring
+pub mod Running
+pub mod Agreeing
+pub mod Growing
+pub mod Sending
+pub mod Resending

@@ -1,5 +1,5 @@
 -- From the world of one group to the agreed world. What a node does at an event is in Rules, the monitor in Monitor.
-use Rattle.std.specs.Prelude.{◌≡◌, ℕ, List, [], ◌∷◌, ◌++◌, Bool, ◌==◌, if◌then◌else◌, is_none, Option, Some, None, slice_get}
+use Rattle.std.specs.Prelude.{◌≡◌, ℕ, List, [], ◌∷◌, ◌++◌, ◌≤◌, length, Bool, ◌==◌, if◌then◌else◌, is_none, Option, Some, None, slice_get}
 use Rattle.std.specs.List.{Contains, AllByRecursion}
 use mathlib.Core.List.{IsPrefix}
 use Rattle.pg_log.specs.Requests.{ClientRequest}
@@ -151,3 +151,9 @@ IsUncut w v = (n : ℕ) → IsPrefix (committed_list (w.nodes n)) (committed_lis
 abbrev pub NoneIsCut : Type 0
 NoneIsCut = (classes : Classes) (events : List WorldEvent) (event : WorldEvent) →
     IsUncut (run events (opening classes)) (happens (run events (opening classes)) event)
+
+-- Of one node: an event keeps the committed length within the log, and cuts the committed list nowhere.
+abbrev pub StepsCutNothing : Type 0
+StepsCutNothing = (classes : Classes) (n : ℕ) (s : NodeState) (event : Event) → s.committed ≤ length s.log →
+    ((local_step classes n s event).node.committed ≤ length (local_step classes n s event).node.log)
+    × IsPrefix (committed_list s) (committed_list (local_step classes n s event).node)

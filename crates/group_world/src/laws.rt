@@ -1,5 +1,7 @@
-//! The theorem. The function does nothing.
-ghost use Rattle.group_world.specs.World.{AllAgree, NoneIsCut};
+//! The theorem, and what it comes to for one node. The functions do nothing.
+ghost use Rattle.group_world.specs.World.{AllAgree, NoneIsCut, StepsCutNothing};
+
+use pg_log::{legal_lists, pairs, refusals, replies};
 
 /// From the opening world every list of events leads to an agreed world, and a further event leaves each node's
 /// committed list a beginning of what it is then.
@@ -8,4 +10,14 @@ ghost use Rattle.group_world.specs.World.{AllAgree, NoneIsCut};
 pub fn agreement()
     ensures agreed { AllAgree }
     ensures kept { NoneIsCut }
+{
+    legal_lists();
+    replies();
+    pairs();
+    refusals();
+}
+
+/// An event keeps a node's committed length within its log, and what it had committed.
+pub fn nothing_is_cut()
+    ensures { StepsCutNothing }
 {}

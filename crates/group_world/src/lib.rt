@@ -22,7 +22,7 @@ pub use epoch::Epoch;
 pub use event::Event;
 pub use group_map::GroupMap;
 pub use handle_error::HandleError;
-pub use laws::agreement;
+pub use laws::{agreement, nothing_is_cut};
 pub use message::{Kind, Message, Packet, Place};
 pub use messages::Messages;
 pub use monitor_error::MonitorError;

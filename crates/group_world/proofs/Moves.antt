@@ -1,0 +1,410 @@
+-- What may happen to a view keeps it sound, and loses nothing.
+use Rattle.std.proofs.Common.{◌≡◌, ℕ, ◌+◌, ◌<◌, ◌≤◌, true, cond, ◌&&◌, eqb, leb, List, [], ◌∷◌, ◌++◌, Some, ◌⊎◌, inl, inr, sym, ◌∙◌, refl, ap, subst, arith}
+use Rattle.std.specs.List.{Contains, AllByRecursion}
+use Rattle.std.proofs.lemmas.List.Elements.{Contains-append_left}
+use Rattle.std.proofs.lemmas.Option.{same_Some}
+use Rattle.std.proofs.lemmas.Bool.{cond-true, cond-false, cases_lt, le-leb, lt-leb}
+use mathlib.Core.List.{IsPrefix}
+use Rattle.placement.specs.Placement.{has}
+use Rattle.pg_log.specs.Requests.{ClientRequest}
+use Rattle.pg_log.specs.Log.{Legal}
+use Rattle.group_world.specs.Maps.{GroupMap}
+use Rattle.group_world.specs.Rules.{begins}
+use Rattle.group_world.specs.World.{brought}
+use Rattle.group_world.proofs.Lists.{primary, prefix_refl, prefix_trans, prefix_same, cell_cases, spot_cases}
+use Rattle.group_world.proofs.View.{View, of_interval, acting, prev, first, HeldFrom, Covered, IsMade, Within, Proper, HeldBy, Sound, Later, covered_later, held_from_later}
+
+pub brought_later : (v w : View) (xs : List ClientRequest) → Later v w → AllByRecursion (Contains v.asked) xs → AllByRecursion (Contains w.asked) xs
+brought_later v w [] l h = h
+brought_later v w (x ∷ xs) l h = (l.asked x h.0, brought_later v w xs l h.1)
+
+pub proper_later : (v w : View) (xs : List ClientRequest) → Later v w → Proper v xs → Proper w xs
+proper_later v w xs l p = record { is_legal = subst (λ t. Legal t xs) (sym l.classes) p.is_legal; brought = brought_later v w xs l p.brought }
+
+pub made_later : (v w : View) (e : ℕ) → Later v w → e ≤ v.newest → IsMade v e → IsMade w e
+made_later v w e l n m =
+    let g : w.map_at e ≡ v.map_at e = l.maps e n in
+    let p : prev w e ≡ prev v e = ap (λ (x : GroupMap). x.prev) g in
+    let b : prev v e < e = m.prev_below in
+    let q : w.map_at (prev v e) ≡ v.map_at (prev v e) = l.maps (prev v e) (omega arith) in
+    record {
+      interval = ap (λ (x : GroupMap). x.interval) g ∙ m.interval;
+      first_acts = subst (λ (x : GroupMap). has (primary x) x.acting ≡ true) (sym g) m.first_acts;
+      prev_below = omega arith;
+      prev_active = subst (λ k. (k ≡ 0) ⊎ (w.active k ≡ true)) (sym p)
+          (elim m.prev_active [ inl z ↦ inl z | inr a ↦ inr (l.active (prev v e) a) ]);
+      prev_last = λ a h lt. subst (λ k. a ≤ k) (sym p)
+          (elim (l.activated a h) [ inl old ↦ m.prev_last a old lt | inr new ↦ absurd (omega arith) ]);
+      prev_acting = λ one.
+          ap (λ (x : GroupMap). x.prev_acting) g ∙ m.prev_acting (subst (λ k. 1 ≤ k) p one) ∙ sym (ap (λ (x : GroupMap). x.acting) (ap w.map_at p ∙ q));
+    }
+
+-- a change that leaves what is held
+pub record Steady (v w : View) : Type 0 where
+  pub held : (e n : ℕ) → w.held e n ≡ v.held e n
+  pub base : (e : ℕ) → w.base e ≡ v.base e
+  pub made : (e : ℕ) → 1 ≤ e → e ≤ w.newest → IsMade w e
+  pub active_made : (a : ℕ) → w.active a ≡ true → (1 ≤ a) × (a ≤ w.newest)
+  pub at_made : (n : ℕ) → w.at n ≤ w.newest
+  pub newly_held : (a m : ℕ) → w.active a ≡ true → v.newest ≤ a → has m (acting w a) ≡ true → HeldFrom w a m []
+
+pub steady_sound : (v w : View) → Sound v → Later v w → Steady v w → Sound w
+steady_sound v w s l t =
+    let same_map : (e n : ℕ) (xs : List ClientRequest) → v.held e n ≡ Some xs → w.map_at e ≡ v.map_at e = λ e n xs h.
+    let b : HeldBy v e n = s.held_by e n xs h in
+    let c : v.at n ≤ v.newest = s.at_made n in
+    let d : e ≤ v.at n = b.there in
+    l.maps e (omega arith) in
+    record {
+      log = s.log;
+      made = t.made;
+      active_made = t.active_made;
+      at_made = t.at_made;
+      held_by = λ e n xs h.
+          let old : v.held e n ≡ Some xs = sym (t.held e n) ∙ h in
+          let b : HeldBy v e n = s.held_by e n xs old in
+          let g : w.map_at e ≡ v.map_at e = same_map e n xs old in
+          let d : e ≤ v.at n = b.there in
+          let f : v.at n ≤ w.at n = l.at n in
+          record { made = b.made; there = omega arith; acts = ap (λ (x : GroupMap). has n x.acting) g ∙ b.acts };
+      held_within = λ e n xs h.
+          let old : v.held e n ≡ Some xs = sym (t.held e n) ∙ h in
+          let b : Within v e xs = s.held_within e n xs old in
+          let g : w.map_at e ≡ v.map_at e = same_map e n xs old in
+          record {
+            firsts = b.firsts;
+            held = t.held e (first w e) ∙ ap (λ (x : GroupMap). v.held e (primary x)) g ∙ b.held;
+            below = b.below;
+            above = subst (λ x. IsPrefix x xs) (sym (t.base e)) b.above;
+          };
+      active_held = λ a m h acts. elim (l.activated a h) [
+        | inl old ↦
+            (let g : w.map_at a ≡ v.map_at a = l.maps a (s.active_made a old).1 in
+            held_from_later v w a m [] l (s.active_held a m old (sym (ap (λ (x : GroupMap). has m x.acting) g) ∙ acts)))
+        | inr new ↦ t.newly_held a m h new acts
+      ];
+      covered = λ a e xs h lt top.
+          let old : v.held e (first w e) ≡ Some xs = sym (t.held e (first w e)) ∙ top in
+          let g : w.map_at e ≡ v.map_at e = same_map e (first w e) xs old in
+          let b : HeldBy v e (first w e) = s.held_by e (first w e) xs old in
+          let c : v.at (first w e) ≤ v.newest = s.at_made (first w e) in
+          let d : e ≤ v.at (first w e) = b.there in
+          let was : v.held e (first v e) ≡ Some xs = sym (ap (λ (x : GroupMap). v.held e (primary x)) g) ∙ old in
+          elim (l.activated a h) [
+            | inl now ↦ subst (λ x. Covered w a x) (sym (t.base e)) (covered_later v w a (v.base e) s l (s.covered a e xs now lt was))
+            | inr new ↦ absurd (omega arith)
+          ];
+      proper = λ e n xs h. proper_later v w xs l (s.proper e n xs (sym (t.held e n) ∙ h));
+    }
+
+-- a node moves to an interval
+abbrev pub move_view : View → ℕ → ℕ → View
+move_view v n e = record {
+  classes = v.classes;
+  newest = v.newest;
+  map_at = v.map_at;
+  active = v.active;
+  at = λ k. cond (eqb k n) e (v.at k);
+  held = v.held;
+  base = v.base;
+  asked = v.asked;
+}
+
+pub move_later : (v : View) (n e : ℕ) → v.at n < e → Later v (move_view v n e)
+move_later v n e lt = record {
+  classes = refl;
+  newest = omega arith;
+  maps = λ k h. refl;
+  active = λ a h. h;
+  activated = λ a h. inl h;
+  at = λ k. elim (spot_cases k n e (v.at k)) [
+    | inl p ↦ (let z : v.at k ≡ v.at n = ap v.at p.0 in let y : cond (eqb k n) e (v.at k) ≡ e = p.1 in omega arith)
+    | inr p ↦ (let y : cond (eqb k n) e (v.at k) ≡ v.at k = p.1 in omega arith)
+  ];
+  held = λ k m xs h. record { list = xs; held = h; begins = prefix_refl xs };
+  frozen = λ k m h. refl;
+  base = λ k xs h. refl;
+  asked = λ r h. h;
+}
+
+pub move_sound : (v : View) (n e : ℕ) → Sound v → v.at n < e → e ≤ v.newest → Sound (move_view v n e)
+move_sound v n e s lt new =
+    let l : Later v (move_view v n e) = move_later v n e lt in
+    steady_sound v (move_view v n e) s l (record {
+      held = λ k m. refl;
+      base = λ k. refl;
+      made = λ k one h. made_later v (move_view v n e) k l h (s.made k one h);
+      active_made = s.active_made;
+      at_made = λ k. elim (spot_cases k n e (v.at k)) [
+        | inl p ↦ (let y : cond (eqb k n) e (v.at k) ≡ e = p.1 in omega arith)
+        | inr p ↦ (let y : cond (eqb k n) e (v.at k) ≡ v.at k = p.1 in let z : v.at k ≤ v.newest = s.at_made k in omega arith)
+      ];
+      newly_held = λ a m h _ acts. held_from_later v (move_view v n e) a m [] l (s.active_held a m h acts);
+    })
+
+-- the monitor begins an interval; the intervals that were passed over count as made with the same map
+abbrev pub map_view : View → GroupMap → View
+map_view v m = record {
+  classes = v.classes;
+  newest = m.interval;
+  map_at = λ e. cond (leb e v.newest) (v.map_at e) (record (of_interval m) { interval = e });
+  active = v.active;
+  at = v.at;
+  held = v.held;
+  base = v.base;
+  asked = v.asked;
+}
+
+pub record Makes (v : View) (m : GroupMap) : Type 0 where
+  pub interval : v.newest < m.interval
+  pub first_acts : has (primary m) m.acting ≡ true
+  pub prev_made : m.prev ≤ v.newest
+  pub prev_active : (m.prev ≡ 0) ⊎ (v.active m.prev ≡ true)
+  pub prev_last : (a : ℕ) → v.active a ≡ true → a ≤ m.prev
+  pub prev_acting : 1 ≤ m.prev → m.prev_acting ≡ acting v m.prev
+
+pub map_later : (v : View) (m : GroupMap) → v.newest < m.interval → Later v (map_view v m)
+map_later v m new = record {
+  classes = refl;
+  newest = omega arith;
+  maps = λ e h. cond-true (leb e v.newest) (v.map_at e) (record (of_interval m) { interval = e }) (le-leb e v.newest h);
+  active = λ a h. h;
+  activated = λ a h. inl h;
+  at = λ k. omega arith;
+  held = λ k n xs h. record { list = xs; held = h; begins = prefix_refl xs };
+  frozen = λ k n h. refl;
+  base = λ k xs h. refl;
+  asked = λ r h. h;
+}
+
+pub map_at_new : (v : View) (m : GroupMap) (e : ℕ) → v.newest < e → (map_view v m).map_at e ≡ record (of_interval m) { interval = e }
+map_at_new v m e h = cond-false (leb e v.newest) (v.map_at e) (record (of_interval m) { interval = e }) (lt-leb e v.newest h)
+
+pub map_sound : (v : View) (m : GroupMap) → Sound v → Makes v m → Sound (map_view v m)
+map_sound v m s k =
+    let ep : v.newest < m.interval = k.interval in
+    let l : Later v (map_view v m) = map_later v m ep in
+    let new : (e : ℕ) → v.newest < e → IsMade (map_view v m) e = λ e z.
+    let g : (map_view v m).map_at e ≡ record (of_interval m) { interval = e } = map_at_new v m e z in
+    let pm : m.prev ≤ v.newest = k.prev_made in
+    let p : prev (map_view v m) e ≡ m.prev = ap (λ (x : GroupMap). x.prev) g in
+    record {
+      interval = ap (λ (x : GroupMap). x.interval) g;
+      first_acts = subst (λ (x : GroupMap). has (primary x) x.acting ≡ true) (sym g) k.first_acts;
+      prev_below = omega arith;
+      prev_active = subst (λ j. (j ≡ 0) ⊎ (v.active j ≡ true)) (sym p) k.prev_active;
+      prev_last = λ a h lt. subst (λ j. a ≤ j) (sym p) (k.prev_last a h);
+      prev_acting = λ one. ap (λ (x : GroupMap). x.prev_acting) g ∙ k.prev_acting (subst (λ j. 1 ≤ j) p one)
+          ∙ sym (ap (λ (x : GroupMap). x.acting) (ap (map_view v m).map_at p ∙ l.maps m.prev pm));
+    } in
+    steady_sound v (map_view v m) s l (record {
+      held = λ e n. refl;
+      base = λ e. refl;
+      made = λ e one h. elim (cases_lt v.newest e) [
+        | inl z ↦ new e z
+        | inr le ↦ made_later v (map_view v m) e l le (s.made e one le)
+      ];
+      active_made = λ a h. let p : (1 ≤ a) × (a ≤ v.newest) = s.active_made a h in omega arith;
+      at_made = λ n. let p : v.at n ≤ v.newest = s.at_made n in omega arith;
+      newly_held = λ a n h ge acts.
+          let p : (1 ≤ a) × (a ≤ v.newest) = s.active_made a h in
+          held_from_later v (map_view v m) a n [] l (s.active_held a n h (sym (ap (λ (x : GroupMap). has n x.acting) (l.maps a p.1)) ∙ acts));
+    })
+
+-- the monitor activates its newest interval
+abbrev pub activate_view : View → View
+activate_view v = record {
+  classes = v.classes;
+  newest = v.newest;
+  map_at = v.map_at;
+  active = λ a. cond (eqb a v.newest) true (v.active a);
+  at = v.at;
+  held = v.held;
+  base = v.base;
+  asked = v.asked;
+}
+
+pub activate_later : (v : View) → Later v (activate_view v)
+activate_later v = record {
+  classes = refl;
+  newest = omega arith;
+  maps = λ e h. refl;
+  active = λ a h. elim (spot_cases a v.newest true (v.active a)) [ inl p ↦ p.1 | inr p ↦ p.1 ∙ h ];
+  activated = λ a h. elim (spot_cases a v.newest true (v.active a)) [
+    | inl p ↦ inr (let z : a ≡ v.newest = p.0 in omega arith)
+    | inr p ↦ inl (sym p.1 ∙ h)
+  ];
+  at = λ k. omega arith;
+  held = λ k n xs h. record { list = xs; held = h; begins = prefix_refl xs };
+  frozen = λ k n h. refl;
+  base = λ k xs h. refl;
+  asked = λ r h. h;
+}
+
+pub activate_sound : (v : View) → Sound v → 1 ≤ v.newest → ((m : ℕ) → has m (acting v v.newest) ≡ true → HeldFrom v v.newest m []) → Sound (activate_view v)
+activate_sound v s one all =
+    let l : Later v (activate_view v) = activate_later v in
+    steady_sound v (activate_view v) s l (record {
+      held = λ e n. refl;
+      base = λ e. refl;
+      made = λ e k h. made_later v (activate_view v) e l h (s.made e k h);
+      active_made = λ a h. elim (spot_cases a v.newest true (v.active a)) [
+        | inl p ↦ (let z : a ≡ v.newest = p.0 in omega arith)
+        | inr p ↦ s.active_made a (sym p.1 ∙ h)
+      ];
+      at_made = s.at_made;
+      newly_held = λ a m h ge acts. elim (spot_cases a v.newest true (v.active a)) [
+        | inl p ↦ held_from_later v (activate_view v) a m [] l
+            (subst (λ k. HeldFrom v k m []) (sym p.0) (all m (ap (λ k. has m (acting v k)) (sym p.0) ∙ acts)))
+        | inr p ↦ held_from_later v (activate_view v) a m [] l (s.active_held a m (sym p.1 ∙ h) acts)
+      ];
+    })
+
+-- requests are brought
+abbrev pub ask_view : View → List ClientRequest → View
+ask_view v rs = record {
+  classes = v.classes;
+  newest = v.newest;
+  map_at = v.map_at;
+  active = v.active;
+  at = v.at;
+  held = v.held;
+  base = v.base;
+  asked = v.asked ++ rs;
+}
+
+pub ask_later : (v : View) (rs : List ClientRequest) → Later v (ask_view v rs)
+ask_later v rs = record {
+  classes = refl;
+  newest = omega arith;
+  maps = λ e h. refl;
+  active = λ a h. h;
+  activated = λ a h. inl h;
+  at = λ k. omega arith;
+  held = λ k n xs h. record { list = xs; held = h; begins = prefix_refl xs };
+  frozen = λ k n h. refl;
+  base = λ k xs h. refl;
+  asked = λ r h. Contains-append_left v.asked rs r h;
+}
+
+pub ask_sound : (v : View) (rs : List ClientRequest) → Sound v → Sound (ask_view v rs)
+ask_sound v rs s =
+    let l : Later v (ask_view v rs) = ask_later v rs in
+    steady_sound v (ask_view v rs) s l (record {
+      held = λ e n. refl;
+      base = λ e. refl;
+      made = λ e k h. made_later v (ask_view v rs) e l h (s.made e k h);
+      active_made = s.active_made;
+      at_made = s.at_made;
+      newly_held = λ a m h _ acts. held_from_later v (ask_view v rs) a m [] l (s.active_held a m h acts);
+    })
+
+-- a node holds a list in its interval: it adopts, installs or appends
+abbrev pub hold_view : View → ℕ → List ClientRequest → List ClientRequest → View
+hold_view v n xs b = record {
+  classes = v.classes;
+  newest = v.newest;
+  map_at = v.map_at;
+  active = v.active;
+  at = v.at;
+  held = λ e k. cond (eqb e (v.at n) && eqb k n) (Some xs) (v.held e k);
+  base = λ e. cond (eqb e (v.at n)) b (v.base e);
+  asked = v.asked;
+}
+
+pub record Holds (v : View) (n : ℕ) (xs b : List ClientRequest) : Type 0 where
+  pub made : 1 ≤ v.at n
+  pub acts : has n (acting v (v.at n)) ≡ true
+  pub grows : (ys : List ClientRequest) → v.held (v.at n) n ≡ Some ys → IsPrefix ys xs
+  pub base_kept : (ys : List ClientRequest) → v.held (v.at n) (first v (v.at n)) ≡ Some ys → b ≡ v.base (v.at n)
+  -- it is the primary, or holds no more than the primary does
+  pub top : (n ≡ first v (v.at n)) ⊎ HeldFrom v (v.at n) (first v (v.at n)) xs
+  pub above : IsPrefix b xs
+  pub covered : (a : ℕ) → v.active a ≡ true → a < v.at n → Covered v a b
+  pub proper : Proper v xs
+
+pub hold_later : (v : View) (n : ℕ) (xs b : List ClientRequest) → Holds v n xs b → Later v (hold_view v n xs b)
+hold_later v n xs b p = record {
+  classes = refl;
+  newest = omega arith;
+  maps = λ e h. refl;
+  active = λ a h. h;
+  activated = λ a h. inl h;
+  at = λ k. omega arith;
+  held = λ e k ys h. elim (cell_cases e (v.at n) k n (Some xs) (v.held e k)) [
+    | inl c ↦ record { list = xs; held = c.2; begins = p.grows ys (sym (λ i. v.held (c.0 i) (c.1 i)) ∙ h) }
+    | inr c ↦ record { list = ys; held = c.1 ∙ h; begins = prefix_refl ys }
+  ];
+  frozen = λ e k h. elim (cell_cases e (v.at n) k n (Some xs) (v.held e k)) [
+    | inl c ↦ absurd (let z : v.at k ≡ v.at n = ap v.at c.1 in let y : e ≡ v.at n = c.0 in omega arith)
+    | inr c ↦ c.1
+  ];
+  base = λ e ys h. elim (spot_cases e (v.at n) b (v.base e)) [
+    | inl c ↦ c.1 ∙ p.base_kept ys (sym (ap (λ k. v.held k (first v k)) c.0) ∙ h) ∙ sym (ap v.base c.0)
+    | inr c ↦ c.1
+  ];
+  asked = λ r h. h;
+}
+
+pub hold_sound : (v : View) (n : ℕ) (xs b : List ClientRequest) → Sound v → Holds v n xs b → Sound (hold_view v n xs b)
+hold_sound v n xs b s p =
+    let w : View = hold_view v n xs b in
+    let l : Later v (hold_view v n xs b) = hold_later v n xs b p in
+    let base_at : (e : ℕ) → e ≡ v.at n → (hold_view v n xs b).base e ≡ b = λ e z.
+    elim (spot_cases e (v.at n) b (v.base e)) [ inl c ↦ c.1 | inr c ↦ absurd (c.0 z) ] in
+    record {
+      log = s.log;
+      made = λ e k h. made_later v (hold_view v n xs b) e l h (s.made e k h);
+      active_made = s.active_made;
+      at_made = s.at_made;
+      held_by = λ e k ys h. elim (cell_cases e (v.at n) k n (Some xs) (v.held e k)) [
+        | inl c ↦ (let z : e ≡ v.at n = c.0 in let y : v.at k ≡ v.at n = ap v.at c.1 in let o : 1 ≤ v.at n = p.made in
+            record { made = omega arith; there = omega arith; acts = (λ i. has (c.1 i) (acting v (c.0 i))) ∙ p.acts })
+        | inr c ↦ (let o : HeldBy v e k = s.held_by e k ys (sym c.1 ∙ h) in record { made = o.made; there = o.there; acts = o.acts })
+      ];
+      held_within = λ e k ys h. elim (cell_cases e (v.at n) k n (Some xs) (v.held e k)) [
+        | inl c ↦
+            (let same : ys ≡ xs = same_Some _ _ (sym h ∙ c.2) in
+            let above : IsPrefix ((hold_view v n xs b).base e) ys = subst (λ x. IsPrefix x ys) (sym (base_at e c.0)) (prefix_same _ _ _ (sym same) p.above) in
+            let r : Within (hold_view v n xs b) e ys = elim p.top [
+              | inl f ↦ record {
+                firsts = ys;
+                held = ap (λ x. (hold_view v n xs b).held e x) (sym (c.1 ∙ f ∙ ap (λ x. first v x) (sym c.0))) ∙ h;
+                below = prefix_refl ys;
+                above = above;
+              }
+              | inr f ↦
+                  (let g : HeldFrom (hold_view v n xs b) e (first v e) xs = held_from_later v (hold_view v n xs b) e (first v e) xs l
+                  (subst (λ x. HeldFrom v x (first v x) xs) (sym c.0) f) in
+                  record {
+                    firsts = g.list;
+                    held = g.held;
+                    below = subst (λ x. IsPrefix x g.list) (sym same) g.begins;
+                    above = above;
+                  })
+            ] in r)
+        | inr c ↦
+            (let o : Within v e ys = s.held_within e k ys (sym c.1 ∙ h) in
+            let g : HeldFrom (hold_view v n xs b) e (first v e) o.firsts = l.held e (first v e) o.firsts o.held in
+            record {
+              firsts = g.list;
+              held = g.held;
+              below = prefix_trans _ _ _ o.below g.begins;
+              above = subst (λ x. IsPrefix x ys) (sym (l.base e o.firsts o.held)) o.above;
+            })
+      ];
+      active_held = λ a m h acts. held_from_later v (hold_view v n xs b) a m [] l (s.active_held a m h acts);
+      covered = λ a e ys h lt top. elim (spot_cases e (v.at n) b (v.base e)) [
+        | inl c ↦ subst (λ x. Covered (hold_view v n xs b) a x) (sym c.1)
+            (covered_later v (hold_view v n xs b) a b s l (p.covered a h (let z : e ≡ v.at n = c.0 in omega arith)))
+        | inr c ↦ elim (cell_cases e (v.at n) (first v e) n (Some xs) (v.held e (first v e))) [
+          | inl d ↦ absurd (c.0 d.0)
+          | inr d ↦ subst (λ x. Covered (hold_view v n xs b) a x) (sym c.1)
+              (covered_later v (hold_view v n xs b) a (v.base e) s l (s.covered a e ys h lt (sym d.1 ∙ top)))
+        ]
+      ];
+      proper = λ e k ys h. elim (cell_cases e (v.at n) k n (Some xs) (v.held e k)) [
+        | inl c ↦ proper_later v (hold_view v n xs b) ys l (subst (λ x. Proper v x) (same_Some _ _ (sym c.2 ∙ h)) p.proper)
+        | inr c ↦ proper_later v (hold_view v n xs b) ys l (s.proper e k ys (sym c.1 ∙ h))
+      ];
+    }
