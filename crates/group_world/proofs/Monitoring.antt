@@ -169,4 +169,3 @@ inv_map past w ns i =
     (λ y. inv_kept past w ns i (map_acting w.monitor ns t) y)
     (λ y. inv_begun past w ns i (map_acting w.monitor ns t)))
     (λ t. i)
-

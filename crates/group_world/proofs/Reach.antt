@@ -147,4 +147,3 @@ pub packet_at : (v : View) (ps : List Packet) (k : ℕ) (p : Packet) → AllByRe
 packet_at v [] k p h e = absurd (none-some p e)
 packet_at v (q ∷ ps) zero p h e = subst (λ x. PacketOk v x) (same_Some _ _ e) h.0
 packet_at v (q ∷ ps) (suc k) p h e = packet_at v ps k p h.1 e
-

@@ -50,4 +50,3 @@ inv_step past w (WithoutMemory e) h = inv_ask past (WithoutMemory e) w h
 pub inv_run : (past es : List WorldEvent) (w : World) → Inv past w → Inv (past ++ es) (run es w)
 inv_run past [] w h = subst (λ x. Inv x w) (sym (append-nil past)) h
 inv_run past (e ∷ es) w h = subst (λ x. Inv x (run es (happens w e))) (append_assoc past (e ∷ []) es) (inv_run (past ++ e ∷ []) es (happens w e) (inv_step past w e h))
-

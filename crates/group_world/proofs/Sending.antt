@@ -216,4 +216,3 @@ pub resends_local : (cl : Classes) (sent : List Packet) (n : ℕ) (s : NodeState
 resends_local cl sent n s (ARequest r) h = resends_request cl sent n s r h
 resends_local cl sent n s (AMap m) h = cond_both (would_forget n s m) (nothing s) _ (λ (o : Outcome). Resends sent n o) (λ t. resends_nothing sent n s h) (λ t. resends_arrive sent n s m h)
 resends_local cl sent n s (AMessage m) h = resends_message cl sent n s m.sender m.kind h
-

@@ -6,3 +6,4 @@ pub mod Rules
 pub mod Unanswered
 pub mod Monitor
 pub mod World
+pub mod Runs

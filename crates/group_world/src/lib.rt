@@ -15,6 +15,7 @@ mod messages;
 mod monitor_error;
 mod party;
 mod requests;
+mod runs;
 mod status;
 
 pub use answer::Answer;
@@ -28,6 +29,7 @@ pub use messages::Messages;
 pub use monitor_error::MonitorError;
 pub use party::Party;
 pub use requests::Requests;
+pub use runs::worked_runs;
 pub use status::Status;
 
 #[cfg(test)]
