@@ -1,6 +1,5 @@
 -- What the invariant says of a world: it is agreed.
 use Rattle.std.proofs.Common.{◌≡◌, ℕ, ◌<◌, ◌≤◌, true, List, [], length, take, Some, inl, inr, sym, ◌∙◌, subst, arith}
-use Rattle.std.specs.Prelude.{◌-◌}
 use Rattle.std.specs.List.{slice_get, Contains, AllByRecursion}
 use Rattle.std.proofs.lemmas.List.Elements.{All-from_recursion, All-contains}
 use Rattle.std.proofs.lemmas.Option.{slice_get_within}
@@ -8,7 +7,6 @@ use mathlib.Core.List.{IsPrefix}
 use Rattle.pg_log.specs.Requests.{ClientRequest}
 use Rattle.pg_log.specs.Log.{Classes, Legal}
 use Rattle.group_world.specs.Node.{NodeState}
-use Rattle.group_world.specs.Rules.{request}
 use Rattle.group_world.specs.Unanswered.{unanswered}
 use Rattle.group_world.specs.World.{World, opening, WorldEvent, run, brought, StandsAt, IsTrueOf, KeepsCommitted, IsAgreed, AllAgree}
 use Rattle.group_world.specs.declared.status.Status.{Status}

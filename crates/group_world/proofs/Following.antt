@@ -1,5 +1,5 @@
 -- The steps of a node that adopts, installs or follows.
-use Rattle.std.proofs.Common.{◌≡◌, ℕ, ◌+◌, ◌<◌, ◌≤◌, Bool, true, false, ◌&&◌, not, eqb, ltb, List, [], ◌∷◌, ◌++◌, length, take, Some, None, inl, inr, sym, ◌∙◌, refl, ap, subst, arith}
+use Rattle.std.proofs.Common.{◌≡◌, ℕ, ◌<◌, ◌≤◌, Bool, true, ◌&&◌, not, eqb, ltb, List, [], ◌∷◌, ◌++◌, length, take, Some, None, inl, inr, sym, ◌∙◌, refl, ap, subst, arith}
 use Rattle.std.specs.Prelude.{is_none}
 use Rattle.std.specs.List.{Contains, AllByRecursion, AllZip}
 use Rattle.std.proofs.lemmas.List.{take_all}
@@ -11,8 +11,7 @@ use Rattle.pg_log.specs.Requests.{ClientRequest}
 use Rattle.pg_log.specs.Refusals.{refusal}
 use Rattle.group_world.specs.Maps.{GroupMap, all_among}
 use Rattle.group_world.specs.Node.{NodeState, nothing, and_sends, packet, is_installed, is_asking, is_installing}
-use Rattle.group_world.specs.Rules.{begins, is_usable, ask_if, adopt, adopt_log, note_installed, each_at, activate, says_ack, replicate}
-use Rattle.group_world.specs.World.{brought}
+use Rattle.group_world.specs.Rules.{is_usable, ask_if, adopt, adopt_log, note_installed, each_at, activate, says_ack, replicate}
 use Rattle.group_world.specs.declared.status.Status.TheVariants.{Installed, Asking, Installing, Active}
 use Rattle.group_world.specs.declared.party.Party.{Party}
 use Rattle.group_world.specs.declared.party.Party.TheVariants.{Node as ANode, Monitor as TheMonitor, Client as AClient}

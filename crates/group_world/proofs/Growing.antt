@@ -1,6 +1,6 @@
 -- No event of a node cuts its committed list.
 use Rattle.std.proofs.Common.{◌≡◌, ℕ, ◌+◌, ◌<◌, ◌≤◌, false, ◌&&◌, ◌||◌, not, eqb, ltb, List, [], ◌∷◌, ◌++◌, length, take, Option, Some, None, inl, inr, sym, ◌∙◌, refl, ap, subst, arith}
-use Rattle.std.specs.Prelude.{is_none, ◌-◌}
+use Rattle.std.specs.Prelude.{is_none}
 use Rattle.std.specs.List.{slice_get}
 use Rattle.std.proofs.lemmas.List.{take-append-le, length-append, take-take}
 use Rattle.std.proofs.lemmas.Bool.{ltb-true, lt-ltb, and_parts, or_parts, cond_both}

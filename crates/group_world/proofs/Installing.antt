@@ -7,11 +7,9 @@ use mathlib.Core.List.{IsPrefix}
 use Rattle.placement.specs.Placement.{has}
 use Rattle.pg_log.specs.Requests.{ClientRequest}
 use Rattle.pg_log.specs.Log.{Legal}
-use Rattle.pg_log.specs.Refusals.{refusal}
 use Rattle.group_world.specs.Maps.{GroupMap}
 use Rattle.group_world.specs.Node.{NodeState, Outcome, nothing, and_sends, is_waiting, is_installed}
-use Rattle.group_world.specs.Rules.{begins, is_usable, arrive, would_forget, says_installed, install_after, install}
-use Rattle.group_world.specs.World.{brought}
+use Rattle.group_world.specs.Rules.{is_usable, arrive, would_forget, says_installed, install_after, install}
 use Rattle.group_world.specs.declared.status.Status.TheVariants.{Waiting, Installed}
 use Rattle.group_world.specs.declared.party.Party.{Party}
 use Rattle.group_world.proofs.Lists.{primary, prefix_refl, prefix_nil, prefix_cons}

@@ -1,5 +1,5 @@
 -- The steps of an active primary.
-use Rattle.std.proofs.Common.{◌≡◌, ℕ, zero, suc, ◌+◌, ◌<◌, ◌≤◌, true, false, ◌&&◌, ◌||◌, eqb, ltb, List, [], ◌∷◌, ◌++◌, length, take, drop, Option, Some, None, inl, inr, sym, ◌∙◌, refl, ap, subst, arith, min, max, append_assoc}
+use Rattle.std.proofs.Common.{◌≡◌, ℕ, zero, suc, ◌+◌, ◌<◌, ◌≤◌, true, ◌&&◌, ◌||◌, eqb, ltb, List, [], ◌∷◌, ◌++◌, length, take, drop, Option, Some, None, inl, inr, sym, ◌∙◌, refl, ap, subst, arith, min, max, append_assoc}
 use Rattle.std.specs.List.{slice_get, Contains, AllByRecursion, AllZip}
 use Rattle.std.proofs.lemmas.List.{take-append-drop, take-append-le, length-take-le, length-append, take-take}
 use Rattle.std.proofs.lemmas.Option.{same_Some}
@@ -12,8 +12,7 @@ use Rattle.pg_log.specs.declared.log_error.LogError.{LogError}
 use Rattle.group_world.specs.Maps.{GroupMap}
 use Rattle.group_world.specs.Refusal.{of_log}
 use Rattle.group_world.specs.Node.{NodeState, Outcome, nothing, refused, and_sends, to_others, is_asking, is_installing, is_active}
-use Rattle.group_world.specs.Rules.{begins, least_of, reply_packet, replies_from, commit, raised, append_new, append_unless, request_at, request, acknowledge}
-use Rattle.group_world.specs.World.{brought}
+use Rattle.group_world.specs.Rules.{least_of, reply_packet, replies_from, commit, raised, append_new, append_unless, request_at, request, acknowledge}
 use Rattle.group_world.specs.declared.status.Status.TheVariants.{Active}
 use Rattle.group_world.specs.declared.party.Party.{Party}
 use Rattle.group_world.specs.declared.party.Party.TheVariants.{Node as ANode, Monitor as TheMonitor, Client as AClient}

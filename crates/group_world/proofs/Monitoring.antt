@@ -1,5 +1,5 @@
 -- The steps of the monitor.
-use Rattle.std.proofs.Common.{◌≡◌, ℕ, zero, suc, ◌+◌, ◌<◌, ◌≤◌, Bool, true, false, cond, not, eqb, ltb, leb, List, [], ◌∷◌, ◌++◌, length, Option, Some, None, ◌⊎◌, inl, inr, sym, ◌∙◌, refl, ap, subst, arith}
+use Rattle.std.proofs.Common.{◌≡◌, ℕ, zero, suc, ◌<◌, ◌≤◌, Bool, true, false, cond, not, eqb, ltb, leb, List, [], ◌∷◌, ◌++◌, length, Option, Some, None, ◌⊎◌, inl, inr, sym, ◌∙◌, refl, ap, subst, arith}
 use Rattle.std.specs.Prelude.{is_none, ◌^◌, ◌-◌}
 use Rattle.std.specs.List.{slice_get}
 use Rattle.std.proofs.lemmas.Option.{none-some, same_Some}
@@ -12,7 +12,7 @@ use Rattle.group_world.specs.declared.party.Party.{Party}
 use Rattle.group_world.specs.declared.monitor_error.MonitorError.{MonitorError}
 use Rattle.group_world.specs.declared.monitor_error.MonitorError.TheVariants.{BadActing, NotNewest, EpochsUsedUp}
 use Rattle.group_world.proofs.Lists.{first_of, has_head, is_same_list_true}
-use Rattle.group_world.proofs.View.{View, acting, prev, HeldFrom, Sound, Later}
+use Rattle.group_world.proofs.View.{View, acting, HeldFrom, Sound, Later}
 use Rattle.group_world.proofs.Moves.{map_view, Makes, map_later, map_at_new, map_sound, activate_view, activate_later, activate_sound}
 use Rattle.group_world.proofs.Nodes.{MapOk, AllHold, map_ok_later, packets_later, node_later}
 use Rattle.group_world.proofs.Steps.{all_packets_append}

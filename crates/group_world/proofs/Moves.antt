@@ -1,5 +1,5 @@
 -- What may happen to a view keeps it sound, and loses nothing.
-use Rattle.std.proofs.Common.{◌≡◌, ℕ, ◌+◌, ◌<◌, ◌≤◌, true, cond, ◌&&◌, eqb, leb, List, [], ◌∷◌, ◌++◌, Some, ◌⊎◌, inl, inr, sym, ◌∙◌, refl, ap, subst, arith}
+use Rattle.std.proofs.Common.{◌≡◌, ℕ, ◌<◌, ◌≤◌, true, cond, ◌&&◌, eqb, leb, List, [], ◌∷◌, ◌++◌, Some, ◌⊎◌, inl, inr, sym, ◌∙◌, refl, ap, subst, arith}
 use Rattle.std.specs.List.{Contains, AllByRecursion}
 use Rattle.std.proofs.lemmas.List.Elements.{Contains-append_left}
 use Rattle.std.proofs.lemmas.Option.{same_Some}
@@ -9,8 +9,6 @@ use Rattle.placement.specs.Placement.{has}
 use Rattle.pg_log.specs.Requests.{ClientRequest}
 use Rattle.pg_log.specs.Log.{Legal}
 use Rattle.group_world.specs.Maps.{GroupMap}
-use Rattle.group_world.specs.Rules.{begins}
-use Rattle.group_world.specs.World.{brought}
 use Rattle.group_world.proofs.Lists.{primary, prefix_refl, prefix_trans, prefix_same, cell_cases, spot_cases}
 use Rattle.group_world.proofs.View.{View, of_interval, acting, prev, first, HeldFrom, Covered, IsMade, Within, Proper, HeldBy, Sound, Later, covered_later, held_from_later}
 

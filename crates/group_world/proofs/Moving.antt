@@ -5,11 +5,9 @@ use Rattle.std.proofs.lemmas.Bool.{ltb-true, ltb-false, lt-ltb, cond-true, cases
 use mathlib.Core.List.{IsPrefix}
 use Rattle.placement.specs.Placement.{has}
 use Rattle.pg_log.specs.Requests.{ClientRequest}
-use Rattle.pg_log.specs.Refusals.{refusal}
 use Rattle.group_world.specs.Maps.{GroupMap, is_primary}
 use Rattle.group_world.specs.Node.{NodeState, Outcome, nothing, and_sends, packet, to_all}
 use Rattle.group_world.specs.Rules.{adopt, at_map, move_to, arrive, would_forget, learn_map, answer_query}
-use Rattle.group_world.specs.World.{brought}
 use Rattle.group_world.specs.declared.status.Status.{Status}
 use Rattle.group_world.specs.declared.status.Status.TheVariants.{Out, Waiting, Installed, Asking, Installing, Active}
 use Rattle.group_world.specs.declared.party.Party.{Party}

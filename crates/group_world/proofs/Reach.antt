@@ -1,6 +1,5 @@
 -- What holds of every world that a run reaches.
-use Rattle.std.proofs.Common.{◌≡◌, ℕ, zero, suc, ◌+◌, ◌≤◌, true, false, List, [], ◌∷◌, ◌++◌, Some, None, ◌⊎◌, inl, inr, sym, ◌∙◌, refl, ap, subst, arith, append_assoc}
-use Rattle.std.specs.Prelude.{◌-◌}
+use Rattle.std.proofs.Common.{◌≡◌, ℕ, zero, suc, ◌≤◌, true, false, List, [], ◌∷◌, ◌++◌, Some, None, ◌⊎◌, inl, inr, sym, ◌∙◌, refl, ap, subst, arith, append_assoc}
 use Rattle.std.specs.List.{slice_get, AllByRecursion}
 use Rattle.std.proofs.lemmas.List.{append-nil}
 use Rattle.std.proofs.lemmas.Option.{none-some, same_Some}

@@ -1,6 +1,6 @@
 -- What a node has not been answered was sent.
 use Rattle.std.proofs.Common.{◌≡◌, ℕ, zero, suc, ◌+◌, Bool, true, ◌||◌, eqb, List, [], ◌∷◌, ◌++◌, drop, Option, Some, None, inl, inr, sym, ◌∙◌, refl, ap, subst, arith}
-use Rattle.std.specs.Prelude.{is_none, ◌-◌}
+use Rattle.std.specs.Prelude.{is_none}
 use Rattle.std.specs.List.{slice_get, Contains, AllByRecursion, AllZip}
 use Rattle.std.proofs.lemmas.Bool.{eqb-false, or_parts, cond_both}
 use Rattle.placement.specs.Placement.{has}

@@ -8,8 +8,6 @@ use Rattle.placement.specs.Placement.{has}
 use Rattle.pg_log.specs.Requests.{ClientRequest}
 use Rattle.pg_log.specs.Log.{Classes, Legal}
 use Rattle.group_world.specs.Maps.{GroupMap}
-use Rattle.group_world.specs.Rules.{begins}
-use Rattle.group_world.specs.World.{brought}
 use Rattle.group_world.proofs.Lists.{primary, prefix_trans, prefix_same}
 use Rattle.group_world.proofs.LogFacts.{LogLaws}
 

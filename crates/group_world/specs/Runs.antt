@@ -5,11 +5,10 @@ use Rattle.bpf_decode.specs.Class.{ClassMethod}
 use Rattle.pg_log.specs.Requests.{ClientRequest}
 use Rattle.pg_log.specs.Log.{Classes}
 use Rattle.group_world.specs.Maps.{GroupMap}
-use Rattle.group_world.specs.Node.{NodeState}
 use Rattle.group_world.specs.Unanswered.{unanswered}
 use Rattle.group_world.specs.World.{World, WorldEvent, RequestAt, MapMade, MapSeen, Delivered, opening, run}
 use Rattle.group_world.specs.declared.status.Status.{Status}
-use Rattle.group_world.specs.declared.status.Status.TheVariants.{Out, Waiting, Installed, Asking, Installing, Active}
+use Rattle.group_world.specs.declared.status.Status.TheVariants.{Installed, Asking, Installing, Active}
 use Rattle.group_world.specs.declared.party.Party.{Party}
 use Rattle.group_world.specs.declared.party.Party.TheVariants.{Node as ANode, Monitor as TheMonitor, Client as AClient}
 use Rattle.group_world.specs.declared.message.Kind.{Kind}
