@@ -19,7 +19,7 @@ use Rattle.group_world.specs.declared.message.Kind.TheVariants.{Install, AskActi
 use Rattle.group_world.proofs.Lists.{primary, has_head, has_tail, has_cases, has_push, all_among_has, prefix_refl, prefix_nil, prefix_trans, prefix_more, prefix_push, prefix_same, prefix_either, prefix_equal}
 use Rattle.group_world.proofs.LogFacts.{is_none_true, push_legal}
 use Rattle.group_world.proofs.View.{View, of_interval, acting, first, HeldFrom, Covered, Chosen, IsMade, Within, Proper, Sound, Later}
-use Rattle.group_world.proofs.Moves.{hold_view, Holds, hold_later, hold_sound}
+use Rattle.group_world.proofs.Holding.{hold_view, Holds, hold_later, hold_sound}
 use Rattle.group_world.proofs.Nodes.{Brought, HeldLong, MapOk, IsFirst, IsFollower, StatusOk, ChosenBefore, CommittedOk, NodeOk, ToNode, LogOk, InstallOk, RepOk, AllHold, PacketOk, chosen_before_later, Kept, later_refl, only_refl, kept_nothing}
 use Rattle.group_world.proofs.Steps.{installed_is, installing_is, asking_is, Usable, usable_true, usable_legal, usable_push, all_packets_append, to_others_ok, hold_only, hold_node, hold_held, hold_base}
 

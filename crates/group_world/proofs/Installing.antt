@@ -14,7 +14,7 @@ use Rattle.group_world.specs.declared.status.Status.TheVariants.{Waiting, Instal
 use Rattle.group_world.specs.declared.party.Party.{Party}
 use Rattle.group_world.proofs.Lists.{primary, prefix_refl, prefix_nil, prefix_cons}
 use Rattle.group_world.proofs.View.{View, acting, first, HeldFrom, Covered, Within, Proper, Sound, Later, held_from_later}
-use Rattle.group_world.proofs.Moves.{hold_view, Holds, hold_later, hold_sound}
+use Rattle.group_world.proofs.Holding.{hold_view, Holds, hold_later, hold_sound}
 use Rattle.group_world.proofs.Nodes.{Brought, IsFollower, StatusOk, ChosenBefore, CommittedOk, NodeOk, InstallOk, map_ok_later, packets_later, chosen_before_later, Kept, kept_nothing}
 use Rattle.group_world.proofs.Steps.{installed_is, waiting_is, Usable, usable_true, usable_legal, all_packets_append, later_trans, only_trans, hold_only, hold_node, hold_held}
 use Rattle.group_world.proofs.Moving.{kept_arrive, arrive_interval}

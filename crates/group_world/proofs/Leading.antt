@@ -22,7 +22,7 @@ use Rattle.group_world.specs.declared.handle_error.HandleError.TheVariants.{NotP
 use Rattle.group_world.proofs.Lists.{has_cases, prefix_refl, prefix_more, prefix_push, prefix_same, prefix_length, take_prefix, take_in_front}
 use Rattle.group_world.proofs.LogFacts.{LogLaws, push_legal, reply_answer}
 use Rattle.group_world.proofs.View.{View, acting, first, HeldFrom, Covered, Chosen, Within, HeldBy, Sound, Later, chosen_later}
-use Rattle.group_world.proofs.Moves.{hold_view, Holds, hold_later, hold_sound}
+use Rattle.group_world.proofs.Holding.{hold_view, Holds, hold_later, hold_sound}
 use Rattle.group_world.proofs.Nodes.{HeldLong, IsFirst, StatusOk, CommittedOk, NodeOk, ToNode, RepOk, PacketOk, zip_later, Kept, later_refl, only_refl, kept_nothing}
 use Rattle.group_world.proofs.Steps.{active_is, all_packets_append, to_others_ok, hold_only, hold_node, hold_held}
 use Rattle.group_world.proofs.Following.{brought_push}

@@ -2,6 +2,7 @@ pub mod Lists
 pub mod LogFacts
 pub mod View
 pub mod Moves
+pub mod Holding
 pub mod Nodes
 pub mod Steps
 pub mod Following

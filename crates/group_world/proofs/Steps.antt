@@ -20,7 +20,8 @@ use Rattle.group_world.specs.declared.message.Packet.{Packet}
 use Rattle.group_world.proofs.Lists.{primary, has_head, has_tail, begins_true, take_kept, take_within, cell_cases, cell_same, spot_cases}
 use Rattle.group_world.proofs.LogFacts.{LogLaws, list_legal}
 use Rattle.group_world.proofs.View.{View, of_interval, first, HeldFrom, HeldBy, Sound, Later, covered_longer, covered_later, held_from_later}
-use Rattle.group_world.proofs.Moves.{proper_later, hold_view, Holds, hold_later}
+use Rattle.group_world.proofs.Moves.{proper_later}
+use Rattle.group_world.proofs.Holding.{hold_view, Holds, hold_later}
 use Rattle.group_world.proofs.Nodes.{StatusOk, CommittedOk, NodeOk, MessageOk, PacketOk, Only, Kept}
 
 pub installed_is : (st : Status) → is_installed st ≡ true → st ≡ Installed
