@@ -1,0 +1,47 @@
+-- The monitor of a group: it makes maps and activates intervals. Its state has a constant size.
+use Rattle.std.specs.Prelude.{ℕ, suc, ◌-◌, ◌^◌, List, length, Bool, not, ◌&&◌, ◌==◌, nat_lt, nat_le, if◌then◌else◌, Option, Some, None}
+use Rattle.placement.specs.Placement.{are_nodes}
+use Rattle.group_world.specs.Maps.{GroupMap, no_map, is_same_list}
+use Rattle.group_world.specs.declared.monitor_error.MonitorError.{MonitorError}
+use Rattle.group_world.specs.declared.monitor_error.MonitorError.TheVariants.{BadActing, NotNewest, EpochsUsedUp}
+
+pub record MonitorState : Type 0 where
+  -- the newest map; its epoch is the number of maps made
+  pub newest : GroupMap
+  -- the newest map at the last activation
+  pub activated : GroupMap
+
+-- the monitor before its first map
+abbrev pub no_maps : MonitorState
+no_maps = record { newest = no_map; activated = no_map }
+
+-- one to three nodes, none twice
+abbrev pub is_acting : List ℕ → Bool
+is_acting acting = nat_lt 0 (length acting) && (nat_le (length acting) 3 && are_nodes acting)
+
+-- why the monitor makes no map of this acting list, if it doesn't
+abbrev pub map_refusal : MonitorState → List ℕ → Option MonitorError
+map_refusal m acting = if not (is_acting acting) then Some BadActing else
+    if nat_le (2 ^ 32 - 1) m.newest.epoch then Some EpochsUsedUp else None
+
+-- The next map. Where its acting list is that of the newest map, in the same order, it keeps that map's interval and what
+-- was before it. Else an interval begins, and before it was the last activated one.
+abbrev pub next_map : MonitorState → List ℕ → GroupMap
+next_map m acting = if is_same_list m.newest.acting acting
+    then record { epoch = suc m.newest.epoch; interval = m.newest.interval; acting = acting; prev = m.newest.prev; prev_acting = m.newest.prev_acting }
+    else record { epoch = suc m.newest.epoch; interval = suc m.newest.epoch; acting = acting; prev = m.activated.interval; prev_acting = m.activated.acting }
+
+-- the monitor after its next map
+abbrev pub with_map : MonitorState → List ℕ → MonitorState
+with_map m acting = record { newest = next_map m acting; activated = m.activated }
+
+-- the interval is that of the newest map, and there is one
+abbrev pub is_newest : MonitorState → ℕ → Bool
+is_newest m interval = nat_lt 0 interval && interval == m.newest.interval
+
+abbrev pub activation_refusal : MonitorState → ℕ → Option MonitorError
+activation_refusal m interval = if is_newest m interval then None else Some NotNewest
+
+-- the monitor after it activated its newest interval
+abbrev pub with_activated : MonitorState → MonitorState
+with_activated m = record { newest = m.newest; activated = m.newest }

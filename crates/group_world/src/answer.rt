@@ -1,0 +1,43 @@
+ghost use Rattle.std.specs.Prelude.{◌≡◌};
+ghost use Rattle.std.specs.Int.{w64, cast_unsigned};
+
+use std::marker::Model;
+
+/// What a request is answered: its code and its output. Contracts see the log's reply.
+#[derive(Drop)]
+pub struct Answer {
+    code: i64,
+    output: Vec<u8>,
+}
+
+impl Model for Answer {
+    ghost use Rattle.std.specs.Int.{w64, cast_unsigned};
+    ghost use Rattle.pg_log.specs.Log.{Reply};
+
+    ghost Value = { Reply };
+
+    ghost view = { λ a. record { code = cast_unsigned w64 a.code; output = a.output.items } };
+}
+
+impl Answer {
+    /// The answer of that code and output. It takes no memory.
+    pub fn new(code: i64, output: Vec<u8>) -> Answer
+        ensures { result ≡ record { code = cast_unsigned w64 code; output = output.items } }
+    {
+        Answer { code, output }
+    }
+
+    /// The code; a negative one is an error.
+    pub fn code(&self) -> i64
+        ensures { cast_unsigned w64 result ≡ self.now.code }
+    {
+        self.code
+    }
+
+    /// The output.
+    pub fn output(&self) -> &[u8]
+        ensures { result.now ≡ self.now.output }
+    {
+        &self.output
+    }
+}

@@ -1,0 +1,36 @@
+//! What a group of nodes agrees on, whatever the network loses, repeats or reorders and whichever nodes stop.
+//! The crate has the types that a node and the monitor handle (maps, events, messages, refusals), the rules of the
+//! protocol as definitions over lists (`specs/Rules.antt`, one definition a rule, and `specs/World.antt`, from the world to
+//! the agreed world), and the theorem: `agreement`. The crate above proves that its code carries out these rules.
+#![tactic(auto)]
+
+mod answer;
+mod epoch;
+mod event;
+mod group_map;
+mod handle_error;
+mod laws;
+mod message;
+mod messages;
+mod monitor_error;
+mod party;
+mod requests;
+mod runs;
+mod status;
+
+pub use answer::Answer;
+pub use epoch::Epoch;
+pub use event::Event;
+pub use group_map::GroupMap;
+pub use handle_error::HandleError;
+pub use laws::{agreement, nothing_is_cut};
+pub use message::{Kind, Message, Packet, Place};
+pub use messages::Messages;
+pub use monitor_error::MonitorError;
+pub use party::Party;
+pub use requests::Requests;
+pub use runs::worked_runs;
+pub use status::Status;
+
+#[cfg(test)]
+mod tests;

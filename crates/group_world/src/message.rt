@@ -1,0 +1,50 @@
+use crate::answer::Answer;
+use crate::epoch::Epoch;
+use crate::group_map::GroupMap;
+use crate::party::Party;
+use crate::requests::Requests;
+use pg_log::{ClientId, Request, RequestNumber};
+
+/// A place in a log, from 0 on, as `pg_log` counts them.
+pub type Place = usize;
+
+/// What a message says. Epochs are those in which an interval began.
+#[derive(Drop)]
+pub enum Kind {
+    /// The primary of the map asks a member of the interval before for its list.
+    Query(GroupMap),
+    /// A member's list, for the primary of that interval.
+    Log(Epoch, Requests),
+    /// The list that the map's primary adopted, for another member.
+    Install(GroupMap, Requests),
+    /// A member has installed that interval's list.
+    Installed(Epoch),
+    /// The primary of that interval asks the monitor to activate it.
+    AskActivate(Epoch),
+    /// The monitor has activated that interval.
+    Activated(Epoch),
+    /// The primary of that interval has this request at that place.
+    Rep(Epoch, Place, Request),
+    /// A member of that interval has a list of that length.
+    Ack(Epoch, usize),
+    /// The request of that client and number stands at that place, and is answered so.
+    Reply(ClientId, RequestNumber, Place, Answer),
+}
+
+/// A message, and who sends it.
+#[derive(Drop)]
+pub struct Message {
+    /// Who sends it.
+    pub sender: Party,
+    /// What it says.
+    pub kind: Kind,
+}
+
+/// A message on its way.
+#[derive(Drop)]
+pub struct Packet {
+    /// Whom it is for.
+    pub receiver: Party,
+    /// The message.
+    pub message: Message,
+}

@@ -1,0 +1,42 @@
+ghost use Rattle.std.specs.Prelude.{◌≡◌, IfOk};
+
+use crate::message::Packet;
+use std::marker::Model;
+
+/// The messages that an event sends, in their order, each with its receiver. Contracts see the list.
+#[derive(Drop)]
+pub struct Messages {
+    items: Vec<Packet>,
+}
+
+impl Model for Messages {
+    ghost use Rattle.std.specs.Prelude.{List};
+    ghost use Rattle.group_world.specs.declared.message.Packet.{Packet};
+
+    ghost Value = { List Packet };
+
+    ghost view = { λ m. m.items.items };
+}
+
+impl Messages {
+    /// Those messages. It takes no memory.
+    pub fn new(items: Vec<Packet>) -> Messages
+        ensures { result ≡ items.items }
+    {
+        Messages { items }
+    }
+
+    /// The messages, the first one first.
+    pub fn items(&self) -> &[Packet]
+        ensures { result.now ≡ self.now }
+    {
+        &self.items
+    }
+
+    /// The messages, of which nothing is kept here. It takes no memory.
+    pub fn into_items(self) -> Vec<Packet>
+        ensures { result.items ≡ self }
+    {
+        self.items
+    }
+}

@@ -1,0 +1,13 @@
+use pg_log::ClientId;
+use placement::NodeId;
+
+/// Who sends or receives a message.
+#[derive(Clone, Copy, Debug, PartialEq, Eq, Drop)]
+pub enum Party {
+    /// A node of the cluster.
+    Node(NodeId),
+    /// The monitor.
+    Monitor,
+    /// A client, who only receives replies.
+    Client(ClientId),
+}
