@@ -1,3 +1,6 @@
+ghost use Rattle.std.specs.Prelude.{◌≡◌, ◌-◌, ◌^◌, ◌≤◌, OnOk, map, string_bytes};
+ghost use Rattle.bench_threads.specs.Figure.{mode_of};
+
 use anyhow::Result;
 use std::fmt;
 use std::time::{Clock, Instant};
@@ -13,7 +16,9 @@ pub enum Mode {
 
 impl Mode {
     /// The mode that the words of a command line ask for, of which the first is the program's own name.
-    pub fn of(words: &[String]) -> Option<Mode> {
+    pub fn of(words: &[String]) -> Option<Mode>
+        ensures { result ≡ mode_of (map string_bytes words.now) }
+    {
         match words {
             [_] => Some(Mode::Timed),
             [_, word] if word.as_str() == "--dry" => Some(Mode::Dry),
@@ -40,7 +45,11 @@ pub struct Figure {
 
 impl Figure {
     /// Nothing was measured yet.
-    pub fn new(mode: Mode) -> Figure {
+    pub fn new(mode: Mode) -> Figure
+        ensures mode { result.mode ≡ mode }
+        ensures count { result.count ≡ 0 }
+        ensures picos { result.picos ≡ 2 ^ 64 - 1 }
+    {
         Figure {
             mode,
             count: 0,
@@ -48,8 +57,12 @@ impl Figure {
         }
     }
 
-    /// Notes a run that began at `start`.
-    pub fn note<C: Clock>(&mut self, clock: &C, start: Instant, count: usize) -> Result<()> {
+    /// Notes a run that began at `start`. The least time stands.
+    pub fn note<C: Clock>(&mut self, clock: &C, start: Instant, count: usize) -> Result<()>
+        ensures mode { self.new.mode ≡ self.old.mode }
+        ensures count { OnOk result (self.new.count ≡ count) }
+        ensures least { self.new.picos ≤ self.old.picos }
+    {
         self.count = count;
         let nanos = start.elapsed(clock)?.as_nanos();
         let picos = nanos.saturating_mul(1000) / count.max(1) as u128;
@@ -59,14 +72,19 @@ impl Figure {
 }
 
 impl fmt::Display for Figure {
+    ghost use Rattle.std.specs.Prelude.{Some};
+    ghost use Rattle.bench_threads.specs.Figure.{figure_text};
+
+    ghost output = { λ figure. Some (figure_text figure) };
+
     fn fmt<W: fmt::Write>(&self, f: &mut fmt::Formatter<W>) -> fmt::Result {
-        write!(f, "{:>7}", self.count)?;
+        let count = self.count;
         match self.mode {
-            Mode::Dry => Ok(()),
+            Mode::Dry => write!(f, "{count:>7}"),
             Mode::Timed => {
                 let whole = self.picos / 1000;
                 let rest = self.picos % 1000 / 10;
-                write!(f, "{whole:>8}.{rest:02} ns each")
+                write!(f, "{count:>7}{whole:>8}.{rest:02} ns each")
             }
         }
     }

@@ -4,6 +4,8 @@
 mod board;
 mod figure;
 mod queues;
+#[cfg(test)]
+mod tests;
 
 use crate::board::{commits, looks};
 use crate::figure::Mode;
