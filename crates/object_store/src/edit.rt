@@ -16,32 +16,32 @@ pub enum Edit {
 }
 
 /// Makes all edits in order, or none: it is refused as the first refused edit is, 4 TooBig or 7 NoMemory, and the data is then as it was.
-pub fn edit_all<D: Data>(alloc: Global, data: &mut D, edits: &[Edit]) -> Result<(), DataError>
-    ensures answer { GivesData (λ _. D.bytes data.new) result (all_edited (D.bytes data.old) edits.now) }
-    ensures err { OnErr result (D.bytes data.new ≡ D.bytes data.old) }
+pub fn edit_all<D: Data>(alloc: Global, content: &mut D, edits: &[Edit]) -> Result<(), DataError>
+    ensures answer { GivesData (λ _. D.bytes content.new) result (all_edited (D.bytes content.old) edits.now) }
+    ensures err { OnErr result (D.bytes content.new ≡ D.bytes content.old) }
 {
-    let mut copy = data.copy(alloc)?;
+    let mut copy = content.copy(alloc)?;
     make_all(alloc, &mut copy, edits)?;
-    *data = copy;
+    *content = copy;
     Ok(())
 }
 
 /// Makes edits in order, up to the first refused one.
-fn make_all<D: Data>(alloc: Global, data: &mut D, edits: &[Edit]) -> Result<(), DataError>
-    ensures { GivesData (λ _. D.bytes data.new) result (all_edited (D.bytes data.old) edits.now) }
+fn make_all<D: Data>(alloc: Global, content: &mut D, edits: &[Edit]) -> Result<(), DataError>
+    ensures { GivesData (λ _. D.bytes content.new) result (all_edited (D.bytes content.old) edits.now) }
 {
     for edit in edits {
-        make(alloc, data, edit)?;
+        make(alloc, content, edit)?;
     }
     Ok(())
 }
 
 /// Makes one edit.
-fn make<D: Data>(alloc: Global, data: &mut D, edit: &Edit) -> Result<(), DataError>
-    ensures { GivesData (λ _. D.bytes data.new) result (edited (D.bytes data.old) edit.now) }
+fn make<D: Data>(alloc: Global, content: &mut D, edit: &Edit) -> Result<(), DataError>
+    ensures { GivesData (λ _. D.bytes content.new) result (edited (D.bytes content.old) edit.now) }
 {
     match edit {
-        Edit::Write { at, text } => data.write(alloc, *at, text),
-        Edit::Truncate(len) => data.truncate(alloc, *len),
+        Edit::Write { at, text } => content.write(alloc, *at, text),
+        Edit::Truncate(len) => content.truncate(alloc, *len),
     }
 }

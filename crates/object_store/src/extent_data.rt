@@ -7,7 +7,7 @@ ghost use Rattle.object_store.specs.Returned.{GivesData};
 
 use crate::data::Data;
 use crate::data_error::DataError;
-use crate::extents::{Extent, before, copy_out, past, replaced, touched};
+use crate::extents::{Extent, copy_out, with_len, with_text};
 use crate::slices::place_of;
 use std::alloc::{AllocError, Global};
 use std::marker::Model;
@@ -81,16 +81,10 @@ impl ExtentData {
         if text.is_empty() {
             return self.share();
         }
-        let parts = self.parts();
-        let end = at + text.len();
-        let (kept, from) = before(parts, at);
-        let (others, to) = past(parts, end);
-        let gap = at.saturating_sub(self.len);
-        let middle = touched(alloc, parts, (from, at), gap, text, (end.min(to), to))?;
-        let parts = replaced(alloc, parts, kept, &middle, others)?;
+        let parts = with_text(alloc, self.parts(), self.len, at, text)?;
         Ok(ExtentData {
             parts: Some(Arc::new(alloc, parts)?),
-            len: self.len.max(end),
+            len: self.len.max(at + text.len()),
         })
     }
 
@@ -99,11 +93,7 @@ impl ExtentData {
         requires { len ≤ DATA_LIMIT }
         ensures { IfOk result (λ d. d ≡ resized self.now len) }
     {
-        let parts = self.parts();
-        let (kept, from) = before(parts, len);
-        let gap = len.saturating_sub(self.len);
-        let middle = touched(alloc, parts, (from, len), gap, &[], (0, 0))?;
-        let parts = replaced(alloc, parts, kept, &middle, parts.len())?;
+        let parts = with_len(alloc, self.parts(), self.len, len)?;
         Ok(ExtentData {
             parts: Some(Arc::new(alloc, parts)?),
             len,

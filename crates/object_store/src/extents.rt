@@ -1,4 +1,5 @@
 ghost use Rattle.std.specs.Prelude.{◌≡◌, ◌+◌, ◌-◌, ◌<◌, ◌≤◌, ◌^◌, ◌++◌, IfOk, OnOk, min, length, take, drop, replicate};
+ghost use Rattle.object_store.specs.Object.{spliced, resized};
 ghost use Rattle.object_store.specs.Extents.{flat, cut};
 
 use crate::slices::overlay;
@@ -11,8 +12,46 @@ pub(crate) type Extent = Arc<Vec<u8>>;
 /// The most bytes of an extent.
 pub(crate) const EXTENT_LIMIT: usize = 4096;
 
+/// The extents of the bytes with a text written over them at a place.
+pub(crate) fn with_text(
+    alloc: Global,
+    parts: &[Extent],
+    len: usize,
+    at: usize,
+    text: &[u8],
+) -> Result<Vec<Extent>, AllocError>
+    requires len { (len ≡ length (flat parts.now)) × (len ≤ 65536) }
+    requires text { 0 < length text.now }
+    requires end { at + length text.now ≤ 65536 }
+    ensures { IfOk result (λ v. flat v.items ≡ spliced (flat parts.now) at text.now) }
+{
+    let end = at + text.len();
+    let (kept, from) = before(parts, at);
+    let (others, to) = past(parts, end);
+    let gap = at.saturating_sub(len);
+    let middle = touched(alloc, parts, (from, at), gap, text, (end.min(to), to))?;
+    replaced(alloc, parts, kept, &middle, others)
+}
+
+/// The extents of the bytes cut, or extended with zeros, to a length.
+pub(crate) fn with_len(
+    alloc: Global,
+    parts: &[Extent],
+    len: usize,
+    new_len: usize,
+) -> Result<Vec<Extent>, AllocError>
+    requires len { (len ≡ length (flat parts.now)) × (len ≤ 65536) }
+    requires end { new_len ≤ 65536 }
+    ensures { IfOk result (λ v. flat v.items ≡ resized (flat parts.now) new_len) }
+{
+    let (kept, from) = before(parts, new_len);
+    let gap = new_len.saturating_sub(len);
+    let middle = touched(alloc, parts, (from, new_len), gap, &[], (0, 0))?;
+    replaced(alloc, parts, kept, &middle, parts.len())
+}
+
 /// The bytes of a range, zeros, a text, and the bytes of another range.
-pub(crate) fn touched(
+fn touched(
     alloc: Global,
     parts: &[Extent],
     low: (usize, usize),
@@ -34,7 +73,7 @@ pub(crate) fn touched(
 }
 
 /// The extents with those of a range replaced by new bytes.
-pub(crate) fn replaced(
+fn replaced(
     alloc: Global,
     parts: &[Extent],
     kept: usize,
@@ -105,7 +144,7 @@ pub(crate) fn copy_out(parts: &[Extent], from: usize, to: usize, out: &mut [u8])
 }
 
 /// How many full extents stand before a place, and how many bytes they have.
-pub(crate) fn before(parts: &[Extent], at: usize) -> (usize, usize)
+fn before(parts: &[Extent], at: usize) -> (usize, usize)
     requires { length (flat parts.now) ≤ 65536 }
     ensures { (result.0 ≤ length parts.now) × (result.1 ≡ length (flat (take result.0 parts.now))) × (result.1 ≤ at) }
 {
@@ -121,7 +160,7 @@ pub(crate) fn before(parts: &[Extent], at: usize) -> (usize, usize)
 }
 
 /// Where the extents past a place begin: how many stand before them, and with how many bytes.
-pub(crate) fn past(parts: &[Extent], end: usize) -> (usize, usize)
+fn past(parts: &[Extent], end: usize) -> (usize, usize)
     requires { length (flat parts.now) ≤ 65536 }
     ensures { (result.0 ≤ length parts.now) × (result.1 ≡ length (flat (take result.0 parts.now))) × (min end (length (flat parts.now)) ≤ result.1) }
 {

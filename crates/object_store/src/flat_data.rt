@@ -1,4 +1,4 @@
-ghost use Rattle.std.specs.Prelude.{◌≡◌, ◌+◌, ◌-◌, ◌≤◌, ◌++◌, [], IfOk, OnErr, IfErr, length, replicate, take, drop};
+ghost use Rattle.std.specs.Prelude.{◌≡◌, ◌+◌, ◌-◌, ◌<◌, ◌≤◌, ◌++◌, [], IfOk, OnOk, OnErr, IfErr, length, replicate, take, drop};
 ghost use Rattle.object_store.specs.Object.{part, spliced, resized};
 ghost use Rattle.object_store.specs.Edits.{written, truncated, overlaid};
 ghost use Rattle.object_store.specs.Returned.{GivesData};
@@ -6,7 +6,7 @@ ghost use Rattle.object_store.specs.Returned.{GivesData};
 use crate::data::Data;
 use crate::data_error::DataError;
 use crate::slices::{lengthen, overlay, part, place_of};
-use std::alloc::{Global};
+use std::alloc::{AllocError, Global};
 use std::marker::Model;
 
 /// Data in one vector. Contracts see the bytes.
@@ -56,8 +56,7 @@ impl Data for FlatData {
             return Ok(());
         }
         let at = place_of(at, text.len()).ok_or(DataError::TooBig)?;
-        lengthen(&mut self.content, at + text.len())?;
-        overlay(&mut self.content, at, text);
+        splice(&mut self.content, at, text)?;
         Ok(())
     }
 
@@ -73,4 +72,16 @@ impl Data for FlatData {
             content: Vec::from_slice(alloc, &self.content)?,
         })
     }
+}
+
+/// Writes text over bytes at a place, with zeros in a gap.
+fn splice(content: &mut Vec<u8>, at: usize, text: &[u8]) -> Result<(), AllocError>
+    requires text { 0 < length text.now }
+    requires end { at + length text.now ≤ 65536 }
+    ensures ok { OnOk result (content.new.items ≡ spliced content.old.items at text.now) }
+    ensures err { OnErr result (content.new.items ≡ content.old.items) }
+{
+    lengthen(content, at + text.len())?;
+    overlay(content, at, text);
+    Ok(())
 }
