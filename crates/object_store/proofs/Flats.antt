@@ -130,7 +130,7 @@ written s at text from to low high =
     let x = cut from at s in
     let y = cut (min (at + length text) to) to s in
     ap (λ l. l ++ drop to s) (sym (append_assoc (take from s) ((x ++ z) ++ text) y)
-        ∙ ap (λ l. l ++ y) (sym (append_assoc (take from s) (x ++ z) text) ∙ ap (λ l. l ++ text) (sym (append_assoc (take from s) x z) ∙ ap (λ l. l ++ z) (front_parts from at s low))))
+    ∙ ap (λ l. l ++ y) (sym (append_assoc (take from s) (x ++ z) text) ∙ ap (λ l. l ++ text) (sym (append_assoc (take from s) x z) ∙ ap (λ l. l ++ z) (front_parts from at s low))))
     ∙ append_assoc ((take at s ++ z) ++ text) y (drop to s)
     ∙ ap (λ l. ((take at s ++ z) ++ text) ++ l) (back_parts (at + length text) to s high)
 
@@ -141,9 +141,9 @@ module _ {Y Z : Type 0} where
       all ≡ (flat (take kept xs) ++ m) ++ flat (drop others xs) → all ≡ laid (flat xs) at text
   write_is xs at text kept from others to m all ef low et high em ea =
       let front : flat (take kept xs) ≡ take from (flat xs) =
-              sym (take_at (flat (take kept xs)) (flat (drop kept xs)) from (sym ef)) ∙ ap (take from) (flat-halves xs kept) in
+      sym (take_at (flat (take kept xs)) (flat (drop kept xs)) from (sym ef)) ∙ ap (take from) (flat-halves xs kept) in
       let back : flat (drop others xs) ≡ drop to (flat xs) =
-              sym (drop_at (flat (take others xs)) (flat (drop others xs)) to (sym et)) ∙ ap (drop to) (flat-halves xs others) in
+      sym (drop_at (flat (take others xs)) (flat (drop others xs)) to (sym et)) ∙ ap (drop to) (flat-halves xs others) in
       ea
       ∙ ap (λ b. (flat (take kept xs) ++ m) ++ b) back
       ∙ ap (λ f. (f ++ m) ++ drop to (flat xs)) front
@@ -177,7 +177,7 @@ module _ {Y Z : Type 0} where
   resized_is xs len kept from others m all ef low eo em ea =
       let z = replicate (len - length (flat xs)) 0 in
       let front : flat (take kept xs) ≡ take from (flat xs) =
-              sym (take_at (flat (take kept xs)) (flat (drop kept xs)) from (sym ef)) ∙ ap (take from) (flat-halves xs kept) in
+      sym (take_at (flat (take kept xs)) (flat (drop kept xs)) from (sym ef)) ∙ ap (take from) (flat-halves xs kept) in
       ea
       ∙ ap (λ n. (flat (take kept xs) ++ m) ++ flat (drop n xs)) eo
       ∙ ap (λ b. (flat (take kept xs) ++ m) ++ flat b) (drop_of_length-le xs {i = length xs} (omega arith))

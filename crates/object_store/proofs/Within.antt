@@ -67,13 +67,17 @@ module _ (most : ℕ) (m : Attributes) (k v : List ℕ) where
     where
       insert_is : (a b : Attributes) → ◌≡◌ {A = Result Attributes StoreError} (Ok a) (Ok b) → a ≡ b
       insert_is a b e = cc
+
       refused : (a : Attributes) → ◌≡◌ {A = Result Attributes StoreError} (Err TooMany) (Ok a) → ⊥
       refused a e = cc
+
       count : (b : Bool) → is_some (fin.get m k) ≡ b → fin.len (fin.insert m k v) ≡ cond b (fin.len m) (fin.len m + 1)
       count b e = fin.len-insert nat_list_cmp_total m k v ∙ ap (λ t. cond t (fin.len m) (fin.len m + 1)) e
+
       new : (b : Bool) → nat_lt (fin.len m) most ≡ b → is_some (fin.get m k) ≡ false → (if b then Ok (fin.insert m k v) else Err TooMany) ≡ Ok n → AreWithin most n
       new true t e f = subst (AreWithin most) (insert_is _ _ f) (inserted_within h name value (omega (arith, count false e, lt_from (fin.len m) most t)))
       new false t e f = absurd (refused n f)
+
       old : (b : Bool) → is_some (fin.get m k) ≡ b → (if b then Ok (fin.insert m k v) else if nat_lt (fin.len m) most then Ok (fin.insert m k v) else Err TooMany) ≡ Ok n → AreWithin most n
       old true e f = subst (AreWithin most) (insert_is _ _ f) (inserted_within h name value (omega (arith, count true e, h.number)))
       old false e f = new (nat_lt (fin.len m) most) refl e f
@@ -85,8 +89,10 @@ module _ (most : ℕ) (m : Attributes) (k v : List ℕ) where
     where
       remove_is : (a b : Attributes) → ◌≡◌ {A = Result Attributes StoreError} (Ok a) (Ok b) → a ≡ b
       remove_is a b e = cc
+
       refused : (a : Attributes) → ◌≡◌ {A = Result Attributes StoreError} (Err NoAttr) (Ok a) → ⊥
       refused a e = cc
+
       by : (b : Bool) → (if b then Ok (fin.remove m k) else Err NoAttr) ≡ Ok n → AreWithin most n
       by true f = subst (AreWithin most) (remove_is _ _ f) (removed_within h)
       by false f = absurd (refused n f)

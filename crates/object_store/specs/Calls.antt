@@ -72,15 +72,15 @@ with_omap c (Err e) = Err e
 abbrev pub set_xattr : PlainObject → List ℕ → List ℕ → Result Content StoreError
 set_xattr object name value =
     if is_named name then
-      if nat_lt VALUE_LIMIT (length value) then Err TooBig else
-      with_xattrs (content_of object) (set_in XATTR_LIMIT (content_of object).xattrs name value)
+    if nat_lt VALUE_LIMIT (length value) then Err TooBig else
+    with_xattrs (content_of object) (set_in XATTR_LIMIT (content_of object).xattrs name value)
     else Err Range
 
 abbrev pub set_key : PlainObject → List ℕ → List ℕ → Result Content StoreError
 set_key object key value =
     if is_named key then
-      if nat_lt VALUE_LIMIT (length value) then Err TooBig else
-      with_omap (content_of object) (set_in KEY_LIMIT (content_of object).omap key value)
+    if nat_lt VALUE_LIMIT (length value) then Err TooBig else
+    with_omap (content_of object) (set_in KEY_LIMIT (content_of object).omap key value)
     else Err Range
 
 abbrev pub remove_xattr : PlainObject → List ℕ → Result Content StoreError

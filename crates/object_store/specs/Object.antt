@@ -76,4 +76,4 @@ attributes_code = fin.code (coded_list coded_ℕ) (coded_list coded_ℕ)
 abbrev pub content_code : Coded Content
 content_code =
     code_by (List ℕ × (Attributes × Attributes)) (coded× (coded_list coded_ℕ) (coded× attributes_code attributes_code))
-        (λ c. (c.bytes, (c.xattrs, c.omap))) (λ p. record { bytes = p.0; xattrs = p.1.0; omap = p.1.1 }) (λ _. refl)
+    (λ c. (c.bytes, (c.xattrs, c.omap))) (λ p. record { bytes = p.0; xattrs = p.1.0; omap = p.1.1 }) (λ _. refl)

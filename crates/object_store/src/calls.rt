@@ -126,11 +126,7 @@ pub fn remove_xattr(
 }
 
 /// A key of the omap removed. Refused: 6 Range, 1 Absent, 3 NoAttr, 7 NoMemory.
-pub fn remove_key(
-    alloc: Global,
-    object: Option<&Object>,
-    key: &[u8],
-) -> Result<Object, StoreError>
+pub fn remove_key(alloc: Global, object: Option<&Object>, key: &[u8]) -> Result<Object, StoreError>
     ensures { Gives (λ o. o) result (spec.remove_key (option_copied object.entry) key.now) }
 {
     check_name(key)?;

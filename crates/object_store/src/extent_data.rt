@@ -134,3 +134,31 @@ impl Data for ExtentData {
         Ok(self.share()?)
     }
 }
+
+#[cfg(test)]
+impl ExtentData {
+    /// How many extents it has.
+    pub(crate) fn extent_count(&self) -> usize {
+        self.parts().len()
+    }
+
+    /// The length of its longest extent.
+    pub(crate) fn longest_extent(&self) -> usize {
+        let mut most = 0;
+        for part in self.parts() {
+            most = most.max(part.len());
+        }
+        most
+    }
+
+    /// How many of its extents lie where those of the other data at the same place do.
+    pub(crate) fn shared_with(&self, other: &ExtentData) -> usize {
+        let mut count = 0;
+        for (own, others) in self.parts().iter().zip(other.parts()) {
+            if Arc::as_ptr(own) == Arc::as_ptr(others) {
+                count = usize::saturating_add(count, 1);
+            }
+        }
+        count
+    }
+}

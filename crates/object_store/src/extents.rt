@@ -101,12 +101,7 @@ fn append_zeros(bytes: &mut Vec<u8>, more: usize) -> Result<(), AllocError>
 }
 
 /// Adds the bytes of a range to a buffer, as far as they exist.
-fn append(
-    parts: &[Extent],
-    from: usize,
-    to: usize,
-    out: &mut Vec<u8>,
-) -> Result<(), AllocError>
+fn append(parts: &[Extent], from: usize, to: usize, out: &mut Vec<u8>) -> Result<(), AllocError>
     requires order { from ≤ to }
     requires small { length (flat parts.now) ≤ 65536 }
     ensures { OnOk result (out.new.items ≡ out.old.items ++ cut from to (flat parts.now)) }

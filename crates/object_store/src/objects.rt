@@ -67,7 +67,12 @@ impl Objects {
     }
 
     /// Makes this the object of that name, in place of the one that is there. Refused: 7 NoMemory; nothing has changed then.
-    pub fn put(&mut self, alloc: Global, name: &ObjectName, object: Object) -> Result<(), StoreError>
+    pub fn put(
+        &mut self,
+        alloc: Global,
+        name: &ObjectName,
+        object: Object,
+    ) -> Result<(), StoreError>
         ensures ok { OnOk result (self.new ≡ fin.insert self.old name.now object) }
         ensures refused { IfErr result (λ e. e ≡ StoreError.NoMemory) }
         ensures err { OnErr result (self.new ≡ self.old) }
@@ -150,12 +155,7 @@ impl Objects {
     }
 
     /// Cuts the data of an object, or extends it with zeros. Refused: 4 TooBig, 1 Absent, 7 NoMemory; nothing has changed then.
-    pub fn truncate(
-        &mut self,
-        alloc: Global,
-        name: &ObjectName,
-        len: u64,
-    ) -> Result<(), StoreError>
+    pub fn truncate(&mut self, alloc: Global, name: &ObjectName, len: u64) -> Result<(), StoreError>
         ensures answer { Gives (λ _. self.new) result (after self.old name.now (spec.truncate (fin.get self.old name.now) len)) }
         ensures err { OnErr result (self.new ≡ self.old) }
     {

@@ -43,19 +43,19 @@ module _ {V : Type 0} where
   pub put-map : (es : Entries V) (k : List ℕ) (v : V) → IsTrue (sorted es) → map_of (put (slice_cmp nat_cmp) k v es) ≡ fin.insert (map_of es) k v
   put-map es k v h =
       fin.same_entries_map _ _
-          (entries-map (put (slice_cmp nat_cmp) k v es) (sorted-put k v es h)
-          ∙ ap (put (slice_cmp nat_cmp) k v) (sym (entries-map es h))
-          ∙ sym (fin.entries-insert nat_list_cmp_total (map_of es) k v))
+      (entries-map (put (slice_cmp nat_cmp) k v es) (sorted-put k v es h)
+      ∙ ap (put (slice_cmp nat_cmp) k v) (sym (entries-map es h))
+      ∙ sym (fin.entries-insert nat_list_cmp_total (map_of es) k v))
 
   pub without-map : (es : Entries V) (k : List ℕ) → IsTrue (sorted es) → map_of (without k es) ≡ fin.remove (map_of es) k
   without-map es k h =
       same _ _ (λ q.
-          get-map (without k es) q (sorted-without k es h)
-          ∙ find-where_key (slice_cmp nat_cmp) (λ x. not (eq_by_cmp (slice_cmp nat_cmp) k x)) q (λ x t. ap (λ r. not (is_eq r)) (sym (alike_right nat_list_cmp_total q x k t))) es
-          ∙ turned (eq_by_cmp (slice_cmp nat_cmp) k q) _ _
-          ∙ ap (λ b. cond b None (find (slice_cmp nat_cmp) q es)) ((eq_by_cmp_equiv nat_list_cmp_total).symm k q)
-          ∙ ap (λ o. cond (eq_by_cmp (slice_cmp nat_cmp) q k) None o) (sym (get-map es q h))
-          ∙ sym (fin.get-remove nat_list_cmp_total (map_of es) k q))
+      get-map (without k es) q (sorted-without k es h)
+      ∙ find-where_key (slice_cmp nat_cmp) (λ x. not (eq_by_cmp (slice_cmp nat_cmp) k x)) q (λ x t. ap (λ r. not (is_eq r)) (sym (alike_right nat_list_cmp_total q x k t))) es
+      ∙ turned (eq_by_cmp (slice_cmp nat_cmp) k q) _ _
+      ∙ ap (λ b. cond b None (find (slice_cmp nat_cmp) q es)) ((eq_by_cmp_equiv nat_list_cmp_total).symm k q)
+      ∙ ap (λ o. cond (eq_by_cmp (slice_cmp nat_cmp) q k) None o) (sym (get-map es q h))
+      ∙ sym (fin.get-remove nat_list_cmp_total (map_of es) k q))
 
   -- ---- how many
   pub length-put_old : (es : Entries V) (k : List ℕ) (v : V) → IsTrue (sorted es) → is_some (find (slice_cmp nat_cmp) k es) ≡ true → length (put (slice_cmp nat_cmp) k v es) ≡ length es
@@ -93,10 +93,10 @@ module _ {V : Type 0} where
   pub remove-absent : (m : ByteMap V) (k : List ℕ) → is_some (fin.get m k) ≡ false → m ≡ fin.remove m k
   remove-absent m k h =
       same _ _ (λ q. sym (fin.get-remove nat_list_cmp_total m k q
-          ∙ elim (eq_by_cmp (slice_cmp nat_cmp) q k) as (λ b. eq_by_cmp (slice_cmp nat_cmp) q k ≡ b → cond b None (fin.get m q) ≡ fin.get m q) [
-            | true ↦ λ e. sym (none _ h) ∙ fin.get_tied nat_list_cmp_total m q k (tied _ e)
-            | false ↦ λ e. refl
-          ] refl))
+      ∙ elim (eq_by_cmp (slice_cmp nat_cmp) q k) as (λ b. eq_by_cmp (slice_cmp nat_cmp) q k ≡ b → cond b None (fin.get m q) ≡ fin.get m q) [
+        | true ↦ λ e. sym (none _ h) ∙ fin.get_tied nat_list_cmp_total m q k (tied _ e)
+        | false ↦ λ e. refl
+      ] refl))
 
   pub is_some-copied : (o : Option (Bor V)) → is_some (option_copied o) ≡ is_some o
   is_some-copied None = refl

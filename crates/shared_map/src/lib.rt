@@ -7,3 +7,6 @@ mod shared_map;
 mod tree;
 
 pub use shared_map::SharedMap;
+
+#[cfg(test)]
+mod tests;

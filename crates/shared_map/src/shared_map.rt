@@ -70,7 +70,9 @@ impl<V: Drop> SharedMap<V> {
     {
         let len = self.len_with(key)?;
         let key = Vec::from_slice(alloc, key)?;
-        self.tree = self.tree.set(alloc, Arc::new(alloc, Entry { key, value })?)?;
+        self.tree = self
+            .tree
+            .set(alloc, Arc::new(alloc, Entry { key, value })?)?;
         self.len = len;
         Ok(())
     }
@@ -110,5 +112,13 @@ impl<V: Drop> SharedMap<V> {
             tree: self.tree.copy()?,
             len: self.len,
         })
+    }
+}
+
+#[cfg(test)]
+impl<V: Drop> SharedMap<V> {
+    /// How many nodes stand on the longest way down.
+    pub(crate) fn height(&self) -> u8 {
+        self.tree.height()
     }
 }

@@ -7,8 +7,8 @@ ghost use Rattle.std.specs.Option.{option_copied};
 ghost use Rattle.shared_map.specs.Tree.{pair, IsSplit};
 ghost use Rattle.shared_map.specs.Entries.{Entries, sorted, least_above, without};
 
-use std::cmp::Ordering;
 use std::alloc::{AllocError, Global};
+use std::cmp::Ordering;
 use std::marker::Model;
 use std::sync::Arc;
 
@@ -69,7 +69,7 @@ impl<V: Drop> Tree<V> {
         Tree { root: Link::Leaf }
     }
 
-    fn height(&self) -> u8 {
+    pub(crate) fn height(&self) -> u8 {
         match &self.root {
             Link::Leaf => 0,
             Link::Fork(b) => b.height,
@@ -191,7 +191,12 @@ impl<V: Drop> Tree<V> {
 }
 
 /// The tree of a branch.
-fn joined<V: Drop>(alloc: Global, left: Tree<V>, entry: Arc<Entry<V>>, right: Tree<V>) -> Result<Tree<V>, AllocError>
+fn joined<V: Drop>(
+    alloc: Global,
+    left: Tree<V>,
+    entry: Arc<Entry<V>>,
+    right: Tree<V>,
+) -> Result<Tree<V>, AllocError>
     requires { IsTrue (sorted (left ++ pair (arc_value entry) ∷ right)) }
     ensures { IfOk result (λ t. t ≡ left ++ pair (arc_value entry) ∷ right) }
 {
@@ -211,7 +216,12 @@ fn joined<V: Drop>(alloc: Global, left: Tree<V>, entry: Arc<Entry<V>>, right: Tr
 }
 
 /// The same, turned where one side is two higher than the other.
-fn balanced<V: Drop>(alloc: Global, left: Tree<V>, entry: Arc<Entry<V>>, right: Tree<V>) -> Result<Tree<V>, AllocError>
+fn balanced<V: Drop>(
+    alloc: Global,
+    left: Tree<V>,
+    entry: Arc<Entry<V>>,
+    right: Tree<V>,
+) -> Result<Tree<V>, AllocError>
     requires { IsTrue (sorted (left ++ pair (arc_value entry) ∷ right)) }
     ensures { IfOk result (λ t. t ≡ left ++ pair (arc_value entry) ∷ right) }
 {
@@ -226,14 +236,21 @@ fn balanced<V: Drop>(alloc: Global, left: Tree<V>, entry: Arc<Entry<V>>, right: 
 }
 
 /// The same, where the left side is two higher.
-fn lean_left<V: Drop>(alloc: Global, left: &Tree<V>, entry: Arc<Entry<V>>, right: Tree<V>) -> Result<Tree<V>, AllocError>
+fn lean_left<V: Drop>(
+    alloc: Global,
+    left: &Tree<V>,
+    entry: Arc<Entry<V>>,
+    right: Tree<V>,
+) -> Result<Tree<V>, AllocError>
     requires { IsTrue (sorted (left.now ++ pair (arc_value entry) ∷ right)) }
     ensures { IfOk result (λ t. t ≡ left.now ++ pair (arc_value entry) ∷ right) }
 {
     match &left.root {
         Link::Leaf => joined(alloc, Tree::new(), entry, right),
         Link::Fork(outer) => {
-            if outer.left.height() < outer.right.height() && let Link::Fork(inner) = &outer.right.root {
+            if outer.left.height() < outer.right.height()
+                && let Link::Fork(inner) = &outer.right.root
+            {
                 let low = joined(
                     alloc,
                     outer.left.copy()?,
@@ -244,20 +261,32 @@ fn lean_left<V: Drop>(alloc: Global, left: &Tree<V>, entry: Arc<Entry<V>>, right
                 return joined(alloc, low, Arc::try_clone(&inner.entry)?, high);
             }
             let high = joined(alloc, outer.right.copy()?, entry, right)?;
-            joined(alloc, outer.left.copy()?, Arc::try_clone(&outer.entry)?, high)
+            joined(
+                alloc,
+                outer.left.copy()?,
+                Arc::try_clone(&outer.entry)?,
+                high,
+            )
         }
     }
 }
 
 /// The same, where the right side is two higher.
-fn lean_right<V: Drop>(alloc: Global, left: Tree<V>, entry: Arc<Entry<V>>, right: &Tree<V>) -> Result<Tree<V>, AllocError>
+fn lean_right<V: Drop>(
+    alloc: Global,
+    left: Tree<V>,
+    entry: Arc<Entry<V>>,
+    right: &Tree<V>,
+) -> Result<Tree<V>, AllocError>
     requires { IsTrue (sorted (left ++ pair (arc_value entry) ∷ right.now)) }
     ensures { IfOk result (λ t. t ≡ left ++ pair (arc_value entry) ∷ right.now) }
 {
     match &right.root {
         Link::Leaf => joined(alloc, left, entry, Tree::new()),
         Link::Fork(outer) => {
-            if outer.right.height() < outer.left.height() && let Link::Fork(inner) = &outer.left.root {
+            if outer.right.height() < outer.left.height()
+                && let Link::Fork(inner) = &outer.left.root
+            {
                 let low = joined(alloc, left, entry, inner.left.copy()?)?;
                 let high = joined(
                     alloc,
@@ -268,7 +297,12 @@ fn lean_right<V: Drop>(alloc: Global, left: Tree<V>, entry: Arc<Entry<V>>, right
                 return joined(alloc, low, Arc::try_clone(&inner.entry)?, high);
             }
             let low = joined(alloc, left, entry, outer.left.copy()?)?;
-            joined(alloc, low, Arc::try_clone(&outer.entry)?, outer.right.copy()?)
+            joined(
+                alloc,
+                low,
+                Arc::try_clone(&outer.entry)?,
+                outer.right.copy()?,
+            )
         }
     }
 }

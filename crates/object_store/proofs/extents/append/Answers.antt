@@ -30,10 +30,10 @@ loop-part-preserved c =
     let low : c.min-low.result ≡ min (from - length f) (length b) = c.min-low.ensures ∙ ap (λ k. min k (length c.as_slice-bytes.result.now)) (c.saturating_sub.ensures ∙ ap (λ k. from - k) c.loop-part.invariant.place) ∙ ap (min (from - length f)) n in
     let high : c.min-high.result ≡ min (to - length f) (length b) = c.min-high.ensures ∙ ap (λ k. min k (length c.as_slice-bytes.result.now)) (c.saturating_sub-in-loop-part.ensures ∙ ap (λ k. to - k) c.loop-part.invariant.place) ∙ ap (min (to - length f)) n in
     let same : take (c.min-high.result - c.min-low.result) (drop c.min-low.result c.as_slice-bytes.result.now) ≡ cut (from - length f) (to - length f) b =
-        ap (λ l. take (c.min-high.result - c.min-low.result) (drop c.min-low.result l)) v
-        ∙ ap (λ m. take (c.min-high.result - m) (drop m b)) low
-        ∙ ap (λ m. take (m - min (from - length f) (length b)) (drop (min (from - length f) (length b)) b)) high
-        ∙ cut-min (from - length f) (to - length f) b (omega (arith, c.requires.order)) in
+    ap (λ l. take (c.min-high.result - c.min-low.result) (drop c.min-low.result l)) v
+    ∙ ap (λ m. take (c.min-high.result - m) (drop m b)) low
+    ∙ ap (λ m. take (m - min (from - length f) (length b)) (drop (min (from - length f) (length b)) b)) high
+    ∙ cut-min (from - length f) (to - length f) b (omega (arith, c.requires.order)) in
     let m = flat-more c.args.parts.now i x c.loop-part-test.true in
     record {
       place = omega (arith, n, c.loop-part.invariant.place, length-flat-more c.args.parts.now i x c.loop-part-test.true);
@@ -43,5 +43,5 @@ loop-part-preserved c =
           ∙ append_assoc o (cut from to f) _
           ∙ ap (λ l. o ++ (cut from to f ++ l)) same
           ∙ ap (λ l. o ++ l) (sym (cut-append from to f b c.requires.order))
-          ∙ ap (λ l. o ++ cut from to l) (sym m)
+          ∙ ap (λ l. o ++ cut from to l) (sym m);
     }

@@ -14,9 +14,9 @@ returns c =
     let from = c.before-kept.result.1 in
     let m = c.in_ok-middle.middle.items in
     let em : m ≡ ((cut from len (flat xs) ++ replicate (len - length (flat xs)) 0) ++ []) ++ cut 0 0 (flat xs) =
-            c.in_ok-middle.ensures
-            ∙ ap (λ n. ((cut from len (flat xs) ++ replicate n 0) ++ []) ++ cut 0 0 (flat xs)) (c.saturating_sub-gap.ensures ∙ ap (λ n. len - n) c.requires.len.0) in
+    c.in_ok-middle.ensures
+    ∙ ap (λ n. ((cut from len (flat xs) ++ replicate n 0) ++ []) ++ cut 0 0 (flat xs)) (c.saturating_sub-gap.ensures ∙ ap (λ n. len - n) c.requires.len.0) in
     IfOk-weaker c.replaced.result _ _
-        (λ v is. resized_is xs len kept from (length xs) m (flat v.items) c.before-kept.ensures.1 c.before-kept.ensures.2 refl em
-            (is ∙ ap (λ b. (flat (take kept xs) ++ b) ++ flat (drop (length xs) xs)) c.deref.ensures.value))
-        c.replaced.ensures
+    (λ v is. resized_is xs len kept from (length xs) m (flat v.items) c.before-kept.ensures.1 c.before-kept.ensures.2 refl em
+    (is ∙ ap (λ b. (flat (take kept xs) ++ b) ++ flat (drop (length xs) xs)) c.deref.ensures.value))
+    c.replaced.ensures

@@ -11,5 +11,5 @@ invariant_of-result c = record {
   length = subst (λ (b : List ℕ). length b ≤ DATA_LIMIT) (sym c.new.ensures) (omega arith);
   bytes = subst AreBytes (sym c.new.ensures) tt;
   xattrs = subst (AreWithin XATTR_LIMIT) (sym c.new-2.ensures) (none_within XATTR_LIMIT);
-  omap = subst (AreWithin KEY_LIMIT) (sym c.new-3.ensures) (none_within KEY_LIMIT)
+  omap = subst (AreWithin KEY_LIMIT) (sym c.new-3.ensures) (none_within KEY_LIMIT);
 }

@@ -9,5 +9,5 @@ invariant_of-self c = record {
   length = c.self.invariant.length;
   bytes = c.self.invariant.bytes;
   xattrs = c.self.invariant.xattrs;
-  omap = after_removal KEY_LIMIT c.self.inside.omap c.args.key.now c.args.key.now c.remove_in.result c.remove_in.new.attributes c.remove_in.ensures.answer c.remove_in.ensures.err c.self.invariant.omap
+  omap = after_removal KEY_LIMIT c.self.inside.omap c.args.key.now c.args.key.now c.remove_in.result c.remove_in.new.attributes c.remove_in.ensures.answer c.remove_in.ensures.err c.self.invariant.omap;
 }

@@ -9,5 +9,5 @@ invariant_of-self c = record {
   length = c.self.invariant.length;
   bytes = c.self.invariant.bytes;
   xattrs = after_removal XATTR_LIMIT c.self.inside.xattrs c.args.name.now c.args.name.now c.remove_in.result c.remove_in.new.attributes c.remove_in.ensures.answer c.remove_in.ensures.err c.self.invariant.xattrs;
-  omap = c.self.invariant.omap
+  omap = c.self.invariant.omap;
 }

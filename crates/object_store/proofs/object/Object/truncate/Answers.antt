@@ -11,5 +11,5 @@ invariant_of-self c = record {
   length = subst (λ n. n ≤ DATA_LIMIT) (sym (ap length c.in_ok-self-inside.ensures ∙ length_resized c.self.inside.bytes c.args.len)) c.requires;
   bytes = subst AreBytes (sym c.in_ok-self-inside.ensures) (are_resized c.self.inside.bytes c.args.len c.self.invariant.bytes);
   xattrs = c.self.invariant.xattrs;
-  omap = c.self.invariant.omap
+  omap = c.self.invariant.omap;
 }

@@ -24,4 +24,4 @@ returns-in_ok-self-inside-clause-ok g c =
 
 pub returns-else-is_some-clause-ok : goal.returns-else-is_some-clause-ok
 returns-else-is_some-clause-ok g c = remove-absent c.args.self.now c.args.key.now
-        (ap (λ m. is_some (fin.get m c.args.key.now)) (sym c.self.view_is) ∙ ap is_some (get-map _ c.args.key.now c.self.invariant.1) ∙ ap is_some (sym c.get.ensures) ∙ is_some-copied c.get.result ∙ sym c.is_some.ensures ∙ c.if-is_some.false)
+    (ap (λ m. is_some (fin.get m c.args.key.now)) (sym c.self.view_is) ∙ ap is_some (get-map _ c.args.key.now c.self.invariant.1) ∙ ap is_some (sym c.get.ensures) ∙ is_some-copied c.get.result ∙ sym c.is_some.ensures ∙ c.if-is_some.false)

@@ -18,15 +18,15 @@ invariant_of-self g c =
     let k = c.args.key.now in
     let v = c.args.value in
     let n : c.in_ok-self-inside.field-0 ≡ put (slice_cmp nat_cmp) k v es =
-            c.in_ok-self-inside.ensures
-            ∙ ap (λ (x : Entry g.row.V.Denot). put (slice_cmp nat_cmp) x.key.items x.value es) c.in_ok-new.ensures.ok
-            ∙ ap (λ q. put (slice_cmp nat_cmp) q v es) c.in_ok-key.ensures.items in
+    c.in_ok-self-inside.ensures
+    ∙ ap (λ (x : Entry g.row.V.Denot). put (slice_cmp nat_cmp) x.key.items x.value es) c.in_ok-new.ensures.ok
+    ∙ ap (λ q. put (slice_cmp nat_cmp) q v es) c.in_ok-key.ensures.items in
     let m : c.in_ok-len.len ≡ length (put (slice_cmp nat_cmp) k v es) =
-            c.in_ok-len.ensures
-            ∙ sym (fin.len-insert nat_list_cmp_total c.args.self.now k v)
-            ∙ ap (λ m. fin.len (fin.insert m k v)) (sym c.self.view_is)
-            ∙ sym (ap fin.len (put-map es k v c.self.invariant.1))
-            ∙ len-map (put (slice_cmp nat_cmp) k v es) (sorted-put k v es c.self.invariant.1) in
+    c.in_ok-len.ensures
+    ∙ sym (fin.len-insert nat_list_cmp_total c.args.self.now k v)
+    ∙ ap (λ m. fin.len (fin.insert m k v)) (sym c.self.view_is)
+    ∙ sym (ap fin.len (put-map es k v c.self.invariant.1))
+    ∙ len-map (put (slice_cmp nat_cmp) k v es) (sorted-put k v es c.self.invariant.1) in
     (m ∙ ap length (sym n), ap sorted n ∙ sorted-put k v es c.self.invariant.1)
 
 pub returns-clause-ok : goal.returns-clause-ok
@@ -35,7 +35,7 @@ returns-clause-ok g c =
     let k = c.args.key.now in
     let v = c.args.value in
     let n : c.in_ok-self-inside.field-0 ≡ put (slice_cmp nat_cmp) k v es =
-            c.in_ok-self-inside.ensures
-            ∙ ap (λ (x : Entry g.row.V.Denot). put (slice_cmp nat_cmp) x.key.items x.value es) c.in_ok-new.ensures.ok
-            ∙ ap (λ q. put (slice_cmp nat_cmp) q v es) c.in_ok-key.ensures.items in
+    c.in_ok-self-inside.ensures
+    ∙ ap (λ (x : Entry g.row.V.Denot). put (slice_cmp nat_cmp) x.key.items x.value es) c.in_ok-new.ensures.ok
+    ∙ ap (λ q. put (slice_cmp nat_cmp) q v es) c.in_ok-key.ensures.items in
     ap map_of n ∙ put-map es k v c.self.invariant.1 ∙ ap (λ m. fin.insert m k v) c.self.view_is

@@ -21,7 +21,7 @@ returns-in-Some g t c =
     let b = arc_value c.in-Fork.b in
     let o : slice_cmp nat_cmp c.args.key.now (pair (arc_value b.entry)).0 ≡ Less = cc in
     let f : least_above c.args.key.now b.left ≡ Some c.in-Some.found.now =
-        sym (c.above.ensures ∙ ap (λ (d : Branch g.row.V.Denot). least_above c.args.key.now d.left) c.deref-in-Less.ensures) ∙ ap option_copied c.in-Some.is in
+    sym (c.above.ensures ∙ ap (λ (d : Branch g.row.V.Denot). least_above c.args.key.now d.left) c.deref-in-Less.ensures) ∙ ap option_copied c.in-Some.is in
     let e = above-less c.args.key.now b.left (pair (arc_value b.entry)) b.right o ∙ ap (λ w. or_else w (Some (pair (arc_value b.entry)).0)) f in
     let s = sym c.self.view_is ∙ ap listed c.in-Fork.is in
     sym (ap (least_above c.args.key.now) s ∙ e)
@@ -31,7 +31,7 @@ returns-in-None g t c =
     let b = arc_value c.in-Fork.b in
     let o : slice_cmp nat_cmp c.args.key.now (pair (arc_value b.entry)).0 ≡ Less = cc in
     let f : least_above c.args.key.now b.left ≡ None =
-        sym (c.above.ensures ∙ ap (λ (d : Branch g.row.V.Denot). least_above c.args.key.now d.left) c.deref-in-Less.ensures) ∙ ap option_copied c.in-None.is in
+    sym (c.above.ensures ∙ ap (λ (d : Branch g.row.V.Denot). least_above c.args.key.now d.left) c.deref-in-Less.ensures) ∙ ap option_copied c.in-None.is in
     let e = above-less c.args.key.now b.left (pair (arc_value b.entry)) b.right o ∙ ap (λ w. or_else w (Some (pair (arc_value b.entry)).0)) f in
     let s = sym c.self.view_is ∙ ap listed c.in-Fork.is in
     let k = c.as_slice-in-None.ensures.value ∙ ap (λ (x : Entry g.row.V.Denot). x.key.items) (c.deref-entry.ensures ∙ ap (λ (d : Branch g.row.V.Denot). arc_value d.entry) c.deref.ensures) in
