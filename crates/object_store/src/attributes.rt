@@ -33,7 +33,7 @@ pub(crate) fn set_in(
     ensures answer { Gives (λ _. attributes.new) result (set_in most attributes.old name.now value.now) }
     ensures err { OnErr result (attributes.new ≡ attributes.old) }
 {
-    if attributes.get(name).is_none() && attributes.len() >= most {
+    if attributes.len() >= most && attributes.get(name).is_none() {
         return Err(StoreError::TooMany);
     }
     let value = StoredBytes::new(alloc, value)?;
