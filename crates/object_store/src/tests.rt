@@ -3,4 +3,4 @@ mod edits;
 mod extents;
 mod limits;
 mod names;
-mod objects;
+mod whole;

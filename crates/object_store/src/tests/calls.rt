@@ -1,233 +1,165 @@
+//! Calls one after another on the object of one name, with answers computed by hand.
+
 use crate::StoreError::{Absent, Exists, NoAttr, Range, TooBig};
-use crate::{Object, StoreError, calls};
+use crate::{ObjectName, Objects, StoreError};
 use std::alloc::Global;
 use std::test::Fail;
 
+/// A call.
+#[derive(Clone, Copy)]
+enum Call {
+    Stat,
+    Read(u64),
+    Write(u64, &'static [u8]),
+    Truncate(u64),
+    Create { exclusive: bool },
+    Remove,
+    GetXattr(&'static [u8]),
+    SetXattr(&'static [u8], &'static [u8]),
+    RemoveXattr(&'static [u8]),
+    GetKey(&'static [u8]),
+    SetKey(&'static [u8], &'static [u8]),
+    RemoveKey(&'static [u8]),
+    NextKey(&'static [u8]),
+}
+
+use Call::{
+    Create, GetKey, GetXattr, NextKey, Read, Remove, RemoveKey, RemoveXattr, SetKey, SetXattr,
+    Stat, Truncate, Write,
+};
+
 /// One byte more than a name may have, and than a value.
-const LONG_NAME: [u8; 65] = [b'n'; 65];
+const LONG: &[u8] = &[b'n'; 65];
 
-const LONG_VALUE: [u8; 4097] = [7; 4097];
+const LONG_VALUE: &[u8] = &[7; 4097];
 
-/// An object of data `abc`, the xattr `x`, and the keys `a` and `c`.
-fn sample(alloc: Global) -> Result<Object, Fail> {
-    let data = calls::write(alloc, None, 0, b"abc")?;
-    let xattr = calls::set_xattr(alloc, Some(&data), b"x", b"one")?;
-    let key = calls::set_key(alloc, Some(&xattr), b"a", b"A")?;
-    Ok(calls::set_key(alloc, Some(&key), b"c", b"C")?)
-}
+const NAME: &[u8] = &[b'n'; 64];
 
-/// A name, and what reading its xattr answers where the object is absent, and of the sample.
-type Named = (&'static [u8], StoreError, Result<&'static [u8], StoreError>);
+/// What a call answers: a number of three bytes, a buffer of four that had ones, or a value.
+type Answer = Result<&'static [u8], StoreError>;
 
-const XATTRS: [Named; 5] = [
-    (b"x", Absent, Ok(b"one")),
-    (b"y", Absent, Err(NoAttr)),
-    (b"a", Absent, Err(NoAttr)),
-    (b"", Range, Err(Range)),
-    (&LONG_NAME, Range, Err(Range)),
+const ROWS: [(Call, Answer); 71] = [
+    // absent
+    (Stat, Err(Absent)),
+    (Read(0), Err(Absent)),
+    (Truncate(0), Err(Absent)),
+    (Truncate(65_537), Err(TooBig)),
+    (Remove, Err(Absent)),
+    (GetXattr(b"x"), Err(Absent)),
+    (GetXattr(b""), Err(Range)),
+    (GetXattr(LONG), Err(Range)),
+    (RemoveXattr(b"x"), Err(Absent)),
+    (RemoveXattr(b""), Err(Range)),
+    (GetKey(b"k"), Err(Absent)),
+    (GetKey(LONG), Err(Range)),
+    (RemoveKey(b"k"), Err(Absent)),
+    (RemoveKey(LONG), Err(Range)),
+    (NextKey(b""), Err(Absent)),
+    (NextKey(LONG), Err(Range)),
+    // what is refused creates nothing
+    (Write(65_537, b""), Err(TooBig)),
+    (Write(65_536, b"z"), Err(TooBig)),
+    (Write(u64::MAX, b"z"), Err(TooBig)),
+    (SetXattr(b"", LONG_VALUE), Err(Range)),
+    (SetXattr(LONG, b""), Err(Range)),
+    (SetXattr(b"x", LONG_VALUE), Err(TooBig)),
+    (SetKey(b"", LONG_VALUE), Err(Range)),
+    (SetKey(b"k", LONG_VALUE), Err(TooBig)),
+    (Stat, Err(Absent)),
+    // no bytes at the limit create it
+    (Write(65_536, b""), Ok(b"")),
+    (Stat, Ok(&[0, 0, 0])),
+    (Create { exclusive: true }, Err(Exists)),
+    (Create { exclusive: false }, Ok(b"")),
+    // data
+    (Write(4094, b"abcd"), Ok(b"")),
+    (Stat, Ok(&[0, 0x10, 2])),
+    (Read(4094), Ok(b"abcd")),
+    (Read(0), Ok(&[0, 0, 0, 0])),
+    (Read(4096), Ok(b"cd\x01\x01")),
+    (Read(4098), Ok(&[1, 1, 1, 1])),
+    (Read(u64::MAX), Ok(&[1, 1, 1, 1])),
+    (Truncate(4095), Ok(b"")),
+    (Truncate(4098), Ok(b"")),
+    (Read(4094), Ok(b"a\0\0\0")),
+    (Write(0, b""), Ok(b"")),
+    (Write(65_535, b"z"), Ok(b"")),
+    (Stat, Ok(&[1, 0, 0])),
+    (Truncate(65_537), Err(TooBig)),
+    (Write(65_536, b"z"), Err(TooBig)),
+    (Truncate(65_536), Ok(b"")),
+    (Read(65_534), Ok(b"\0z\x01\x01")),
+    // xattrs
+    (GetXattr(b"x"), Err(NoAttr)),
+    (SetXattr(b"x", b"one"), Ok(b"")),
+    (SetXattr(NAME, b""), Ok(b"")),
+    (SetXattr(b"x", b"two"), Ok(b"")),
+    (GetXattr(b"x"), Ok(b"two")),
+    (GetXattr(NAME), Ok(b"")),
+    (RemoveXattr(b"x"), Ok(b"")),
+    (RemoveXattr(b"x"), Err(NoAttr)),
+    (GetXattr(b"x"), Err(NoAttr)),
+    // keys
+    (NextKey(b""), Err(NoAttr)),
+    (SetKey(b"c", b"C"), Ok(b"")),
+    (SetKey(b"a", b"A"), Ok(b"")),
+    (GetKey(b"a"), Ok(b"A")),
+    (NextKey(b""), Ok(b"a")),
+    (NextKey(b"a"), Ok(b"c")),
+    (NextKey(b"b"), Ok(b"c")),
+    (NextKey(b"c"), Err(NoAttr)),
+    (RemoveKey(b"b"), Err(NoAttr)),
+    (RemoveKey(b"a"), Ok(b"")),
+    (NextKey(b""), Ok(b"c")),
+    // a new object has nothing of the old
+    (Remove, Ok(b"")),
+    (Create { exclusive: true }, Ok(b"")),
+    (Stat, Ok(&[0, 0, 0])),
+    (GetXattr(NAME), Err(NoAttr)),
+    (NextKey(b""), Err(NoAttr)),
 ];
 
-const KEYS: [Named; 5] = [
-    (b"a", Absent, Ok(b"A")),
-    (b"c", Absent, Ok(b"C")),
-    (b"x", Absent, Err(NoAttr)),
-    (b"", Range, Err(Range)),
-    (&LONG_NAME, Range, Err(Range)),
-];
-
-/// What the next key after some bytes is.
-const NEXT: [Named; 6] = [
-    (b"", Absent, Ok(b"a")),
-    (b"a", Absent, Ok(b"c")),
-    (b"b", Absent, Ok(b"c")),
-    (b"c", Absent, Err(NoAttr)),
-    (&[0xff; 64], Absent, Err(NoAttr)),
-    (&LONG_NAME, Range, Err(Range)),
-];
-
-/// A place, a text, and the length of an absent object, and of the sample, after its write.
-type Write = (
-    u64,
-    &'static [u8],
-    Result<usize, StoreError>,
-    Result<usize, StoreError>,
-);
-
-const WRITES: [Write; 7] = [
-    (0, b"", Ok(0), Ok(3)),
-    (2, b"de", Ok(4), Ok(4)),
-    (65_535, b"z", Ok(65_536), Ok(65_536)),
-    (65_536, b"", Ok(0), Ok(3)),
-    (65_537, b"", Err(TooBig), Err(TooBig)),
-    (65_536, b"z", Err(TooBig), Err(TooBig)),
-    (u64::MAX, b"z", Err(TooBig), Err(TooBig)),
-];
-
-fn len_of(object: Result<Object, StoreError>) -> Result<usize, StoreError> {
-    Ok(object?.len())
-}
-
-#[test]
-fn xattrs(rt: HostRuntime) -> Result<(), Fail> {
-    let object = sample(rt.alloc())?;
-    for (name, absent, there) in XATTRS {
-        assert_eq!(rt; calls::get_xattr(None, name), Err(absent));
-        assert_eq!(rt; calls::get_xattr(Some(&object), name), there);
+/// What a change answers.
+fn done(changed: Result<(), StoreError>) -> Result<&'static [u8], StoreError> {
+    match changed {
+        Ok(()) => Ok(b""),
+        Err(error) => Err(error),
     }
-    Ok(())
 }
 
-#[test]
-fn keys(rt: HostRuntime) -> Result<(), Fail> {
-    let object = sample(rt.alloc())?;
-    for (key, absent, there) in KEYS {
-        assert_eq!(rt; calls::get_key(None, key), Err(absent));
-        assert_eq!(rt; calls::get_key(Some(&object), key), there);
+/// Whether the call answers so.
+fn answers(alloc: Global, objects: &mut Objects, name: &ObjectName, row: (Call, Answer)) -> bool {
+    let (call, wanted) = row;
+    let mut buffer = [1; 4];
+    match call {
+        Stat => match objects.stat(name) {
+            Ok(len) => wanted == Ok(&len.to_be_bytes()[5..]),
+            Err(error) => wanted == Err(error),
+        },
+        Read(at) => match objects.read(name, at, &mut buffer) {
+            Ok(_) => wanted == Ok(&buffer),
+            Err(error) => wanted == Err(error) && buffer == [1; 4],
+        },
+        Write(at, text) => done(objects.write(alloc, name, at, text)) == wanted,
+        Truncate(len) => done(objects.truncate(alloc, name, len)) == wanted,
+        Create { exclusive } => done(objects.create(alloc, name, exclusive)) == wanted,
+        Remove => done(objects.remove(alloc, name)) == wanted,
+        GetXattr(xattr) => objects.get_xattr(name, xattr) == wanted,
+        SetXattr(xattr, value) => done(objects.set_xattr(alloc, name, xattr, value)) == wanted,
+        RemoveXattr(xattr) => done(objects.remove_xattr(alloc, name, xattr)) == wanted,
+        GetKey(key) => objects.get_key(name, key) == wanted,
+        SetKey(key, value) => done(objects.set_key(alloc, name, key, value)) == wanted,
+        RemoveKey(key) => done(objects.remove_key(alloc, name, key)) == wanted,
+        NextKey(key) => objects.next_key(name, key) == wanted,
     }
-    Ok(())
 }
 
 #[test]
-fn next_keys(rt: HostRuntime) -> Result<(), Fail> {
-    let object = sample(rt.alloc())?;
-    for (key, absent, there) in NEXT {
-        assert_eq!(rt; calls::next_key(None, key), Err(absent));
-        assert_eq!(rt; calls::next_key(Some(&object), key), there);
-    }
-    Ok(())
-}
-
-#[test]
-fn removed_names(rt: HostRuntime) -> Result<(), Fail> {
-    let object = sample(rt.alloc())?;
-    for (name, absent, there) in XATTRS {
-        assert_eq!(rt;
-            calls::remove_xattr(rt.alloc(), None, name).err(),
-            Some(absent)
-        );
-        assert_eq!(rt;
-            calls::remove_xattr(rt.alloc(), Some(&object), name).err(),
-            there.err()
-        );
-    }
-    for (key, absent, there) in KEYS {
-        assert_eq!(rt;
-            calls::remove_key(rt.alloc(), None, key).err(),
-            Some(absent)
-        );
-        assert_eq!(rt;
-            calls::remove_key(rt.alloc(), Some(&object), key).err(),
-            there.err()
-        );
-    }
-    Ok(())
-}
-
-#[test]
-fn what_is_removed_is_gone(rt: HostRuntime) -> Result<(), Fail> {
-    let object = sample(rt.alloc())?;
-    let fewer = calls::remove_xattr(rt.alloc(), Some(&object), b"x")?;
-    assert_eq!(rt;
-        (fewer.xattr_count(), fewer.key_count(), fewer.len()),
-        (0, 2, 3)
-    );
-    let fewer = calls::remove_key(rt.alloc(), Some(&object), b"a")?;
-    assert_eq!(rt; (fewer.xattr_count(), fewer.key_count()), (1, 1));
-    assert_eq!(rt;
-        (fewer.xattr(b"x"), fewer.key(b"c")),
-        (Some(b"one".as_slice()), Some(b"C".as_slice()))
-    );
-    assert_eq!(rt;
-        (
-            object.xattr_count(),
-            object.key_count(),
-            object.key_above(b"")
-        ),
-        (1, 2, Some(b"a".as_slice()))
-    );
-    Ok(())
-}
-
-#[test]
-fn writes(rt: HostRuntime) -> Result<(), Fail> {
-    let object = sample(rt.alloc())?;
-    for (at, text, absent, there) in WRITES {
-        assert_eq!(rt; len_of(calls::write(rt.alloc(), None, at, text)), absent);
-        assert_eq!(rt;
-            len_of(calls::write(rt.alloc(), Some(&object), at, text)),
-            there
-        );
-    }
-    Ok(())
-}
-
-#[test]
-fn lengths(rt: HostRuntime) -> Result<(), Fail> {
-    let object = sample(rt.alloc())?;
-    for (len, absent, there) in [
-        (1, Absent, Ok(1)),
-        (65_536, Absent, Ok(65_536)),
-        (65_537, TooBig, Err(TooBig)),
-    ] {
-        assert_eq!(rt; calls::truncate(rt.alloc(), None, len).err(), Some(absent));
-        assert_eq!(rt;
-            len_of(calls::truncate(rt.alloc(), Some(&object), len)),
-            there
-        );
-    }
-    assert_eq!(rt;
-        (calls::stat(None), calls::stat(Some(&object))),
-        (Err(Absent), Ok(3))
-    );
-    Ok(())
-}
-
-#[test]
-fn bytes(rt: HostRuntime) -> Result<(), Fail> {
-    let object = sample(rt.alloc())?;
-    let mut buffer = [9; 4];
-    assert_eq!(rt;
-        (calls::read(None, 0, &mut buffer), buffer),
-        (Err(Absent), [9; 4])
-    );
-    for (at, count, after) in [
-        (3, 0, [9; 4]),
-        (u64::MAX, 0, [9; 4]),
-        (1, 2, *b"bc\x09\x09"),
-        (0, 3, *b"abc\x09"),
-    ] {
-        assert_eq!(rt;
-            (calls::read(Some(&object), at, &mut buffer), buffer),
-            (Ok(count), after)
-        );
-    }
-    Ok(())
-}
-
-#[test]
-fn creations(rt: HostRuntime) -> Result<(), Fail> {
-    let object = sample(rt.alloc())?;
-    assert_eq!(rt; len_of(calls::create(None, true)), Ok(0));
-    assert_eq!(rt; len_of(calls::create(Some(&object), false)), Ok(3));
-    assert_eq!(rt; calls::create(Some(&object), true).err(), Some(Exists));
-    assert_eq!(rt;
-        (calls::remove(None), calls::remove(Some(&object))),
-        (Err(Absent), Ok(()))
-    );
-    Ok(())
-}
-
-#[test]
-fn the_first_refusal(rt: HostRuntime) -> Result<(), Fail> {
-    for (name, refusal) in [(b"".as_slice(), Range), (&LONG_NAME, Range), (b"x", TooBig)] {
-        assert_eq!(rt;
-            calls::set_xattr(rt.alloc(), None, name, &LONG_VALUE).err(),
-            Some(refusal)
-        );
-        assert_eq!(rt;
-            calls::set_key(rt.alloc(), None, name, &LONG_VALUE).err(),
-            Some(refusal)
-        );
+fn rows(rt: HostRuntime) -> Result<(), Fail> {
+    let mut objects = Objects::new();
+    let name = ObjectName::new(rt.alloc(), "o")?;
+    for (i, row) in ROWS.into_iter().enumerate() {
+        assert!(rt; answers(rt.alloc(), &mut objects, &name, row), "at row {i}");
     }
     Ok(())
 }

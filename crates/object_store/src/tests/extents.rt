@@ -13,9 +13,8 @@ fn sevens(alloc: Global, len: usize) -> Result<ExtentData, Fail> {
 fn extents_are_at_most_4096_bytes(rt: HostRuntime) -> Result<(), Fail> {
     for (len, count) in [(1, 1), (4096, 1), (4097, 2), (65_536, 16)] {
         let mut data = sevens(rt.alloc(), len)?;
-        assert_eq!(rt; data.extent_count(), count);
         data.write(rt.alloc(), 0, b"a")?;
-        assert!(rt; data.longest_extent() <= 4096);
+        assert!(rt; data.extent_count() == count && data.longest_extent() <= 4096);
     }
     Ok(())
 }
@@ -24,15 +23,12 @@ fn extents_are_at_most_4096_bytes(rt: HostRuntime) -> Result<(), Fail> {
 fn a_write_shares_what_it_does_not_touch(rt: HostRuntime) -> Result<(), Fail> {
     let old = sevens(rt.alloc(), 65_536)?;
     let mut new = old.copy(rt.alloc())?;
-    assert_eq!(rt; new.shared_with(&old), 16);
+    let at_first = new.shared_with(&old);
     new.write(rt.alloc(), 5000, b"a")?;
-    assert_eq!(rt; new.shared_with(&old), 15);
+    let once_written = new.shared_with(&old);
     new.truncate(rt.alloc(), 10_000)?;
-    assert_eq!(rt; new.shared_with(&old), 1);
+    assert!(rt; (at_first, once_written, new.shared_with(&old)) == (16, 15, 1));
     let mut byte = [0];
-    assert_eq!(rt;
-        (old.len(), old.read(5000, &mut byte), byte),
-        (65_536, 1, [7])
-    );
+    assert!(rt; old.read(5000, &mut byte) == 1 && byte == [7]);
     Ok(())
 }

@@ -28,29 +28,22 @@ fn full(alloc: Global) -> Result<Object, Fail> {
     Ok(object)
 }
 
-#[test]
-fn the_largest_object(rt: HostRuntime) -> Result<(), Fail> {
-    let object = full(rt.alloc())?.copy()?;
-    assert_eq!(rt;
-        (object.len(), object.xattr_count(), object.key_count()),
-        (65_536, 32, 1024)
-    );
-    assert_eq!(rt; object.xattr(&name_of(31)), Some(LONGEST_VALUE.as_slice()));
-    assert_eq!(rt; object.key(&name_of(1023)), Some(LONGEST_VALUE.as_slice()));
-    Ok(())
+/// Whether the object has all that, with this value of a name.
+fn is_full(object: &Object, name: &[u8], value: &[u8]) -> bool {
+    let counts = (object.len(), object.xattr_count(), object.key_count());
+    counts == (65_536, 32, 1024)
+        && object.xattr(name) == Some(value)
+        && object.key(name) == Some(value)
 }
 
 #[test]
-fn one_name_more(rt: HostRuntime) -> Result<(), Fail> {
-    let object = full(rt.alloc())?;
-    assert_eq!(rt;
-        calls::set_xattr(rt.alloc(), Some(&object), &name_of(32), b"").err(),
-        Some(StoreError::TooMany)
-    );
-    assert_eq!(rt;
-        calls::set_key(rt.alloc(), Some(&object), &name_of(1024), b"").err(),
-        Some(StoreError::TooMany)
-    );
+fn the_largest_object(rt: HostRuntime) -> Result<(), Fail> {
+    let object = full(rt.alloc())?.copy()?;
+    assert!(rt; is_full(&object, &name_of(31), &LONGEST_VALUE));
+    let more = calls::set_xattr(rt.alloc(), Some(&object), &name_of(32), b"");
+    assert!(rt; more.err() == Some(StoreError::TooMany));
+    let more = calls::set_key(rt.alloc(), Some(&object), &name_of(1024), b"");
+    assert!(rt; more.err() == Some(StoreError::TooMany));
     Ok(())
 }
 
@@ -58,15 +51,8 @@ fn one_name_more(rt: HostRuntime) -> Result<(), Fail> {
 fn an_old_name_at_the_limit(rt: HostRuntime) -> Result<(), Fail> {
     let object = full(rt.alloc())?;
     let changed = calls::set_xattr(rt.alloc(), Some(&object), &name_of(5), b"new")?;
-    assert_eq!(rt;
-        (changed.xattr(&name_of(5)), changed.xattr_count()),
-        (Some(b"new".as_slice()), 32)
-    );
-    let changed = calls::set_key(rt.alloc(), Some(&object), &name_of(5), b"new")?;
-    assert_eq!(rt;
-        (changed.key(&name_of(5)), changed.key_count()),
-        (Some(b"new".as_slice()), 1024)
-    );
-    assert_eq!(rt; object.key(&name_of(5)), Some(LONGEST_VALUE.as_slice()));
+    let changed = calls::set_key(rt.alloc(), Some(&changed), &name_of(5), b"new")?;
+    assert!(rt; is_full(&changed, &name_of(5), b"new"));
+    assert!(rt; is_full(&object, &name_of(5), &LONGEST_VALUE));
     Ok(())
 }
