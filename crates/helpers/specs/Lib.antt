@@ -1,0 +1,5 @@
+-- A reader must believe Effect, what a helper is given and what it does, and Table, all helpers by id. View says what
+-- the code's signatures and memory are to these.
+pub mod Effect
+pub mod Table
+pub mod View
