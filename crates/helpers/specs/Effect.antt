@@ -1,8 +1,7 @@
 -- What a helper is given, and what it does.
-use Rattle.std.specs.Prelude.{ℕ, ◌-◌, ◌^◌, ◌&&◌, Bool, List, [], ◌∷◌, Option, Some, None, not, nat_le, slice_get, slice_index, length, unwrap_or}
+use Rattle.std.specs.Prelude.{ℕ, ◌-◌, ◌^◌, ◌&&◌, Bool, List, [], ◌∷◌, Option, Some, None, not, nat_lt, slice_get, slice_index, length, unwrap_or}
 use Rattle.std.specs.FinMap as fin
-use Rattle.object_store.specs.PlainObject.{PlainMap, PlainObject}
-use Rattle.object_store.specs.declared.limits.TheConstants.{NAME_LIMIT}
+use Rattle.object_store.specs.Object.{Attributes, Content, PlainObject}
 use Rattle.helpers.specs.declared.errno.TheConstants.{ENOENT}
 use Rattle.helpers.specs.declared.argument.Argument.{Argument}
 
@@ -42,7 +41,7 @@ abbrev pub copies : List ℕ → Answer
 copies bytes = record { number = length bytes; bytes = bytes }
 
 -- an answer where the object is there
-abbrev pub where_present : Option PlainObject → (PlainObject → Answer) → Answer
+abbrev pub where_present : PlainObject → (Content → Answer) → Answer
 where_present None answer = refuses ENOENT
 where_present (Some o) answer = answer o
 
@@ -50,29 +49,25 @@ where_present (Some o) answer = answer o
 pub record Effect : Type 0 where
   pub answer : ℕ
   pub bytes : List ℕ
-  pub object : Option PlainObject
+  pub object : PlainObject
   pub out_len : Option ℕ
 
 -- it leaves the object as it is
-abbrev pub leaves : Option PlainObject → Answer → Effect
+abbrev pub leaves : PlainObject → Answer → Effect
 leaves object a = record { answer = a.number; bytes = a.bytes; object = object; out_len = None }
 
 -- a refusal, which changes nothing
-abbrev pub refused : ℕ → Option PlainObject → Effect
+abbrev pub refused : ℕ → PlainObject → Effect
 refused errno object = leaves object (refuses errno)
 
 -- it makes an object of the one that was
-abbrev pub changes : Option PlainObject → ℕ → Effect
+abbrev pub changes : PlainObject → ℕ → Effect
 changes object n = record { answer = n; bytes = []; object = object; out_len = None }
 
-abbrev pub on_present : Option PlainObject → (PlainObject → Effect) → Effect
+abbrev pub on_present : PlainObject → (Content → Effect) → Effect
 on_present None effect = refused ENOENT None
 on_present (Some o) effect = effect o
 
--- a name of an attribute, or a key of an omap
-abbrev pub is_name : List ℕ → Bool
-is_name name = nat_le 1 (length name) && nat_le (length name) NAME_LIMIT
-
 -- a new name or key would be one too many
-abbrev pub is_full : ℕ → PlainMap → List ℕ → Bool
-is_full limit m name = nat_le limit (fin.len m) && not (fin.contains_key m name)
+abbrev pub is_full : ℕ → Attributes → List ℕ → Bool
+is_full limit m name = not (fin.contains_key m name) && not (nat_lt (fin.len m) limit)

@@ -1,12 +1,9 @@
 ghost use Rattle.std.specs.Prelude.{◌≡◌, ◌≤◌, IfOk, OnErr, length};
 ghost use Rattle.object_store.specs.declared.limits.TheConstants.{VALUE_LIMIT};
-ghost use Rattle.helpers.specs.Effect.{is_full};
 ghost use Rattle.helpers.specs.Table.{write_effect, truncate_effect, remove_effect, setxattr_effect, rmxattr_effect, map_set_effect, map_rm_effect, create_effect};
-ghost use Rattle.txn.specs.Versions.{object_or_empty};
 
-use crate::answer::{is_name, negative};
-use crate::errno::{EEXIST, EFBIG, EINVAL, ENODATA, ENOENT, ENOSPC};
-use object_store::{KEY_LIMIT, OBJECT_LIMIT, XATTR_LIMIT};
+use crate::answer::{answered, negative};
+use crate::errno::{EEXIST, ENOENT};
 use std::alloc::Global;
 use txn::{NoMemory, Staged};
 
@@ -16,15 +13,9 @@ pub fn write(alloc: Global, staged: &mut Staged, at: u64, bytes: &[u8]) -> Resul
     ensures answer { IfOk result (λ n. n ≡ (write_effect staged.old.after at bytes.now).answer) }
     ensures object { IfOk result (λ _. staged.new.after ≡ (write_effect staged.old.after at bytes.now).object) }
     ensures before { staged.new.before ≡ staged.old.before }
-    ensures refused { OnErr result (staged.new.after ≡ staged.old.after) }
+    ensures refused { OnErr result (staged.new ≡ staged.old) }
 {
-    let limit = OBJECT_LIMIT as u64;
-    let count = bytes.len() as u64;
-    if limit < count || limit - count < at {
-        return Ok(negative(EFBIG));
-    }
-    staged.write(alloc, at as usize, bytes)?;
-    Ok(count)
+    answered(staged.write(alloc, at, bytes), bytes.len() as u64)
 }
 
 /// Helper 4, `truncate`: cuts the data to a length, or extends it with zeros. It answers 0. Refused, in this order:
@@ -33,19 +24,12 @@ pub fn truncate(alloc: Global, staged: &mut Staged, size: u64) -> Result<u64, No
     ensures answer { IfOk result (λ n. n ≡ (truncate_effect staged.old.after size).answer) }
     ensures object { IfOk result (λ _. staged.new.after ≡ (truncate_effect staged.old.after size).object) }
     ensures before { staged.new.before ≡ staged.old.before }
-    ensures refused { OnErr result (staged.new.after ≡ staged.old.after) }
+    ensures refused { OnErr result (staged.new ≡ staged.old) }
 {
-    if size > OBJECT_LIMIT as u64 {
-        return Ok(negative(EFBIG));
-    }
-    if staged.object().is_none() {
-        return Ok(negative(ENOENT));
-    }
-    staged.truncate(alloc, size as usize)?;
-    Ok(0)
+    answered(staged.truncate(alloc, size), 0)
 }
 
-/// Helper 5, `remove`: data, attributes and omap go. It answers 0 and takes no memory. Refused: ENOENT.
+/// Helper 5, `remove`: data, xattrs and omap go. It answers 0 and takes no memory. Refused: ENOENT.
 pub fn remove(staged: &mut Staged) -> u64
     ensures answer { result ≡ (remove_effect staged.old.after).answer }
     ensures object { staged.new.after ≡ (remove_effect staged.old.after).object }
@@ -58,96 +42,38 @@ pub fn remove(staged: &mut Staged) -> u64
     0
 }
 
-/// Whether an attribute of a new name would be one too many.
-fn has_all_xattrs(staged: &Staged, name: &[u8]) -> bool
-    ensures { result ≡ is_full XATTR_LIMIT (object_or_empty staged.entry.now.after).xattrs name.now }
-{
-    match staged.object() {
-        None => false,
-        Some(object) => {
-            XATTR_LIMIT <= object.xattrs().len() && object.xattrs().get(name).is_none()
-        }
-    }
-}
-
-/// Whether a new key would be one too many.
-fn has_all_keys(staged: &Staged, key: &[u8]) -> bool
-    ensures { result ≡ is_full KEY_LIMIT (object_or_empty staged.entry.now.after).omap key.now }
-{
-    match staged.object() {
-        None => false,
-        Some(object) => KEY_LIMIT <= object.omap().len() && object.omap().get(key).is_none(),
-    }
-}
-
-/// Helper 7, `setxattr`: sets an attribute, of an absent object too, which it creates. It answers 0. Refused, in this
-/// order: EINVAL where the name is none, ENOSPC where it is new and the object has all attributes that it may have.
-pub fn setxattr(
-    alloc: Global,
-    staged: &mut Staged,
-    name: &[u8],
-    value: &[u8],
-) -> Result<u64, NoMemory>
+/// Helper 7, `setxattr`: sets an xattr, of an absent object too, which it creates. It answers 0. Refused, in this
+/// order: EINVAL where the name is none, ENOSPC where it is new and the object has all xattrs that it may have.
+pub fn setxattr(alloc: Global, staged: &mut Staged, name: &[u8], value: &[u8]) -> Result<u64, NoMemory>
     requires { length value.now ≤ VALUE_LIMIT }
     ensures answer { IfOk result (λ n. n ≡ (setxattr_effect staged.old.after name.now value.now).answer) }
     ensures object { IfOk result (λ _. staged.new.after ≡ (setxattr_effect staged.old.after name.now value.now).object) }
     ensures before { staged.new.before ≡ staged.old.before }
-    ensures refused { OnErr result (staged.new.after ≡ staged.old.after) }
+    ensures refused { OnErr result (staged.new ≡ staged.old) }
 {
-    if !is_name(name) {
-        return Ok(negative(EINVAL));
-    }
-    if has_all_xattrs(staged, name) {
-        return Ok(negative(ENOSPC));
-    }
-    staged.set_xattr(alloc, name, value)?;
-    Ok(0)
+    answered(staged.set_xattr(alloc, name, value), 0)
 }
 
-/// Helper 8, `rmxattr`: removes an attribute. It answers 0. Refused, in this order: EINVAL where the name is none,
-/// ENOENT, ENODATA where it has no such attribute.
+/// Helper 8, `rmxattr`: removes an xattr. It answers 0. Refused, in this order: EINVAL where the name is none, ENOENT,
+/// ENODATA where it has no such xattr.
 pub fn rmxattr(alloc: Global, staged: &mut Staged, name: &[u8]) -> Result<u64, NoMemory>
     ensures answer { IfOk result (λ n. n ≡ (rmxattr_effect staged.old.after name.now).answer) }
     ensures object { IfOk result (λ _. staged.new.after ≡ (rmxattr_effect staged.old.after name.now).object) }
     ensures before { staged.new.before ≡ staged.old.before }
-    ensures refused { OnErr result (staged.new.after ≡ staged.old.after) }
+    ensures refused { OnErr result (staged.new ≡ staged.old) }
 {
-    if !is_name(name) {
-        return Ok(negative(EINVAL));
-    }
-    match staged.object() {
-        None => return Ok(negative(ENOENT)),
-        Some(object) => {
-            if object.xattrs().get(name).is_none() {
-                return Ok(negative(ENODATA));
-            }
-        }
-    }
-    staged.remove_xattr(alloc, name)?;
-    Ok(0)
+    answered(staged.remove_xattr(alloc, name), 0)
 }
 
 /// Helper 10, `map_set`: as `setxattr`, on the omap with its limit.
-pub fn map_set(
-    alloc: Global,
-    staged: &mut Staged,
-    key: &[u8],
-    value: &[u8],
-) -> Result<u64, NoMemory>
+pub fn map_set(alloc: Global, staged: &mut Staged, key: &[u8], value: &[u8]) -> Result<u64, NoMemory>
     requires { length value.now ≤ VALUE_LIMIT }
     ensures answer { IfOk result (λ n. n ≡ (map_set_effect staged.old.after key.now value.now).answer) }
     ensures object { IfOk result (λ _. staged.new.after ≡ (map_set_effect staged.old.after key.now value.now).object) }
     ensures before { staged.new.before ≡ staged.old.before }
-    ensures refused { OnErr result (staged.new.after ≡ staged.old.after) }
+    ensures refused { OnErr result (staged.new ≡ staged.old) }
 {
-    if !is_name(key) {
-        return Ok(negative(EINVAL));
-    }
-    if has_all_keys(staged, key) {
-        return Ok(negative(ENOSPC));
-    }
-    staged.set_key(alloc, key, value)?;
-    Ok(0)
+    answered(staged.set_key(alloc, key, value), 0)
 }
 
 /// Helper 11, `map_rm`: as `rmxattr`, on the omap.
@@ -155,33 +81,21 @@ pub fn map_rm(alloc: Global, staged: &mut Staged, key: &[u8]) -> Result<u64, NoM
     ensures answer { IfOk result (λ n. n ≡ (map_rm_effect staged.old.after key.now).answer) }
     ensures object { IfOk result (λ _. staged.new.after ≡ (map_rm_effect staged.old.after key.now).object) }
     ensures before { staged.new.before ≡ staged.old.before }
-    ensures refused { OnErr result (staged.new.after ≡ staged.old.after) }
+    ensures refused { OnErr result (staged.new ≡ staged.old) }
 {
-    if !is_name(key) {
-        return Ok(negative(EINVAL));
-    }
-    match staged.object() {
-        None => return Ok(negative(ENOENT)),
-        Some(object) => {
-            if object.omap().get(key).is_none() {
-                return Ok(negative(ENODATA));
-            }
-        }
-    }
-    staged.remove_key(alloc, key)?;
-    Ok(0)
+    answered(staged.remove_key(alloc, key), 0)
 }
 
-/// Helper 14, `create`: creates an absent object. It answers 0. Refused: EEXIST where the object is there and is to be
-/// new, which any number but 0 says.
-pub fn create(alloc: Global, staged: &mut Staged, exclusive: u64) -> u64
+/// Helper 14, `create`: creates an absent object. It answers 0 and takes no memory. Refused: EEXIST where the object is
+/// there and is to be new, which any number but 0 says.
+pub fn create(staged: &mut Staged, exclusive: u64) -> u64
     ensures answer { result ≡ (create_effect staged.old.after exclusive).answer }
     ensures object { staged.new.after ≡ (create_effect staged.old.after exclusive).object }
     ensures before { staged.new.before ≡ staged.old.before }
 {
-    if staged.object().is_some() && exclusive != 0 {
+    if exclusive != 0 && staged.object().is_some() {
         return negative(EEXIST);
     }
-    staged.create(alloc);
+    staged.create();
     0
 }

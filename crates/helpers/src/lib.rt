@@ -22,7 +22,7 @@ pub use errno::{
 };
 pub use helper::{Helper, signature};
 pub use lookups::{key_above, map_value, stat, xattr_value};
-pub use memory::{getxattr, map_get, map_next};
+pub use memory::{getxattr, map_get, map_next, read};
 pub use plain::{caller, out_len};
 pub use span::Span;
 

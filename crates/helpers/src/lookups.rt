@@ -1,9 +1,9 @@
 ghost use Rattle.std.specs.Prelude.{◌≡◌, ◌≤◌, length};
 ghost use Rattle.helpers.specs.Table.{stat_answer, getxattr_answer, map_get_answer, map_next_answer};
 
-use crate::answer::{Answer, found, is_name, negative, refused};
-use crate::errno::{EINVAL, ENOENT};
-use object_store::NAME_LIMIT;
+use crate::answer::{Answer, looked_up, negative};
+use crate::errno::ENOENT;
+use object_store::calls;
 use txn::Staged;
 
 /// Helper 1, `stat`: the length of the data. Refused: ENOENT.
@@ -12,23 +12,17 @@ pub fn stat(staged: &Staged) -> u64
 {
     match staged.object() {
         None => negative(ENOENT),
-        Some(object) => object.bytes().len() as u64,
+        Some(object) => object.len() as u64,
     }
 }
 
-/// What `getxattr` answers: the value of an attribute. Refused: EINVAL, ENOENT, ENODATA, ERANGE.
+/// What `getxattr` answers: the value of an xattr. Refused: EINVAL, ENOENT, ENODATA, ERANGE.
 pub fn xattr_value<'a>(staged: &'a Staged, name: &[u8], room: u64) -> Answer<'a>
     ensures number { result.number ≡ (getxattr_answer staged.entry.now.after name.now room).number }
     ensures bytes { result.bytes.now ≡ (getxattr_answer staged.entry.now.after name.now room).bytes }
     ensures short { length result.bytes.now ≤ room }
 {
-    if !is_name(name) {
-        return refused(EINVAL);
-    }
-    match staged.object() {
-        None => refused(ENOENT),
-        Some(object) => found(object.xattrs().get(name), room),
-    }
+    looked_up(calls::get_xattr(staged.object(), name), room)
 }
 
 /// What `map_get` answers: the value of a key of the omap. Refused: EINVAL, ENOENT, ENODATA, ERANGE.
@@ -37,13 +31,7 @@ pub fn map_value<'a>(staged: &'a Staged, key: &[u8], room: u64) -> Answer<'a>
     ensures bytes { result.bytes.now ≡ (map_get_answer staged.entry.now.after key.now room).bytes }
     ensures short { length result.bytes.now ≤ room }
 {
-    if !is_name(key) {
-        return refused(EINVAL);
-    }
-    match staged.object() {
-        None => refused(ENOENT),
-        Some(object) => found(object.omap().get(key), room),
-    }
+    looked_up(calls::get_key(staged.object(), key), room)
 }
 
 /// What `map_next` answers: the least key of the omap above some bytes, and with no bytes the least key. Refused:
@@ -53,11 +41,5 @@ pub fn key_above<'a>(staged: &'a Staged, key: &[u8], room: u64) -> Answer<'a>
     ensures bytes { result.bytes.now ≡ (map_next_answer staged.entry.now.after key.now room).bytes }
     ensures short { length result.bytes.now ≤ room }
 {
-    if NAME_LIMIT < key.len() {
-        return refused(EINVAL);
-    }
-    match staged.object() {
-        None => refused(ENOENT),
-        Some(object) => found(object.omap().above(key), room),
-    }
+    looked_up(calls::next_key(staged.object(), key), room)
 }

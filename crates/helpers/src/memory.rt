@@ -1,9 +1,13 @@
-ghost use Rattle.std.specs.Prelude.{◌≡◌, ◌≤◌, length};
-ghost use Rattle.helpers.specs.Table.{getxattr_answer, map_get_answer, map_next_answer};
-ghost use Rattle.helpers.specs.View.{IsWithin, bytes_in, filled};
+ghost use Rattle.std.specs.Prelude.{◌≡◌, ◌+◌, ◌≤◌, length};
+ghost use Rattle.object_store.specs.Object.{part};
+ghost use Rattle.helpers.specs.Table.{read_answer, getxattr_answer, map_get_answer, map_next_answer};
+ghost use Rattle.helpers.specs.View.{IsWithin, bytes_in, filled, written};
 
+use crate::answer::negative;
+use crate::errno::ENOENT;
 use crate::lookups::{key_above, map_value, xattr_value};
 use crate::span::Span;
+use object_store::Object;
 use txn::Staged;
 
 /// The bytes of a range.
@@ -28,6 +32,36 @@ pub fn fill(memory: &mut [u8], span: Span, bytes: &[u8])
     }
     let at = span.at as usize;
     memory[at..at + bytes.len()].copy_from_slice(bytes);
+}
+
+/// Copies the data from a place on to a range of at most so many bytes, and answers how many it copied.
+fn read_into(object: &Object, at: u64, memory: &mut [u8], start: usize, most: usize) -> usize
+    requires { start + most ≤ length memory.old }
+    ensures count { result ≡ length (part object.now.bytes at most) }
+    ensures bytes { memory.new ≡ written memory.old start (part object.now.bytes at most) }
+{
+    object.read(at, &mut memory[start..start + most])
+}
+
+/// Helper 2, `read`: copies the data from a place on, as far as it goes and at most as many bytes as the range has. It
+/// answers how many. Refused: ENOENT.
+pub fn read(staged: &Staged, at: u64, memory: &mut [u8], room: Span) -> u64
+    requires { IsWithin memory.old room }
+    ensures answer { result ≡ (read_answer staged.entry.now.after at room.len).number }
+    ensures bytes { memory.new ≡ filled memory.old room (read_answer staged.entry.now.after at room.len).bytes }
+{
+    match staged.object() {
+        None => {
+            fill(memory, room, &[]);
+            negative(ENOENT)
+        }
+        Some(object) => {
+            if room.len == 0 {
+                return 0;
+            }
+            read_into(object, at, memory, room.at as usize, room.len as usize) as u64
+        }
+    }
 }
 
 /// Helper 6, `getxattr`: copies the value of an attribute. The name is read whole before the value is written: the two

@@ -1,0 +1,5 @@
+mod calls;
+mod data;
+mod limits;
+mod names;
+mod ranges;

@@ -1,12 +1,13 @@
 ghost use Rattle.std.specs.Prelude.{◌≡◌, IfOk, OnOk, OnErr};
 ghost use Rattle.std.specs.FinMap as fin;
-ghost use Rattle.object_store.specs.Objects.{given, store, PlainObjects};
+ghost use Rattle.object_store.specs.Names.{PlainObjects, stored};
+ghost use Rattle.std.specs.Option.{option_copied};
 
 use crate::no_memory::NoMemory;
 use object_store::{Object, ObjectName, Objects};
 use std::alloc::Global;
 
-/// What a call did: the object before and after, of which none is absent. Each shares what the call didn't touch.
+/// What a call did: the object before and after, none where it is absent. Each shares what the call didn't touch.
 #[derive(Drop)]
 pub struct Change {
     pub before: Option<Object>,
@@ -16,8 +17,8 @@ pub struct Change {
 impl Change {
     /// The change from one object to another. It copies neither.
     pub fn of(before: Option<&Object>, after: Option<&Object>) -> Result<Change, NoMemory>
-        ensures before { IfOk result (λ c. c.before ≡ given before.entry) }
-        ensures after { IfOk result (λ c. c.after ≡ given after.entry) }
+        ensures before { IfOk result (λ c. c.before ≡ option_copied before.entry) }
+        ensures after { IfOk result (λ c. c.after ≡ option_copied after.entry) }
     {
         let before = shared(before)?;
         let after = shared(after)?;
@@ -34,11 +35,30 @@ impl Change {
 
 /// The same object once more, where there is one.
 fn shared(object: Option<&Object>) -> Result<Option<Object>, NoMemory>
-    ensures { IfOk result (λ o. o ≡ given object.entry) }
+    ensures { IfOk result (λ o. o ≡ option_copied object.entry) }
 {
     match object {
         None => Ok(None),
-        Some(object) => Ok(Some(object.copy()?)),
+        Some(object) => match object.copy() {
+            Ok(object) => Ok(Some(object)),
+            Err(_) => Err(NoMemory),
+        },
+    }
+}
+
+/// Makes the object of a name this one, or absent.
+fn put(
+    alloc: Global,
+    objects: &mut Objects,
+    name: &ObjectName,
+    object: Option<&Object>,
+) -> Result<(), NoMemory>
+    ensures ok { OnOk result (objects.new ≡ stored objects.old name.now (option_copied object.entry)) }
+    ensures err { OnErr result (objects.new ≡ objects.old) }
+{
+    match objects.store(alloc, name, object) {
+        Ok(()) => Ok(()),
+        Err(_) => Err(NoMemory),
     }
 }
 
@@ -50,11 +70,10 @@ pub fn apply(
     change: &Change,
 ) -> Result<(), NoMemory>
     requires { fin.get objects.old name.now ≡ change.now.before }
-    ensures ok { OnOk result (objects.new ≡ store objects.old name.now change.now.after) }
+    ensures ok { OnOk result (objects.new ≡ stored objects.old name.now change.now.after) }
     ensures err { OnErr result (objects.new ≡ objects.old) }
 {
-    objects.put(alloc, name, change.after.as_ref())?;
-    Ok(())
+    put(alloc, objects, name, change.after.as_ref())
 }
 
 /// Undoes a change on the objects that `apply` left: all objects are then as they were before. It costs a put into
@@ -65,11 +84,10 @@ pub fn undo(
     name: &ObjectName,
     change: &Change,
 ) -> Result<(), NoMemory>
-    ensures ok { OnOk result (objects.new ≡ store objects.old name.now change.now.before) }
+    ensures ok { OnOk result (objects.new ≡ stored objects.old name.now change.now.before) }
     // the objects as they were, of which `apply` made these
-    ensures restored { OnOk result ((was : PlainObjects) → fin.get was name.now ≡ change.now.before → objects.old ≡ store was name.now change.now.after → objects.new ≡ was) }
+    ensures restored { OnOk result ((was : PlainObjects) → fin.get was name.now ≡ change.now.before → objects.old ≡ stored was name.now change.now.after → objects.new ≡ was) }
     ensures err { OnErr result (objects.new ≡ objects.old) }
 {
-    objects.put(alloc, name, change.before.as_ref())?;
-    Ok(())
+    put(alloc, objects, name, change.before.as_ref())
 }

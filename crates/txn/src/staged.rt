@@ -1,14 +1,13 @@
-ghost use Rattle.std.specs.Prelude.{◌≡◌, ◌+◌, ◌<◌, ◌≤◌, ◌⊎◌, IfOk, OnOk, OnErr, Option, Some, None, IsTrue, length};
-ghost use Rattle.std.specs.Option.{option_map};
-ghost use Rattle.std.specs.FinMap as fin;
-ghost use Rattle.object_store.specs.PlainObject.{spliced, resized};
-ghost use Rattle.object_store.specs.Objects.{given};
-ghost use Rattle.object_store.specs.declared.limits.TheConstants.{OBJECT_LIMIT, XATTR_LIMIT, KEY_LIMIT};
-ghost use Rattle.txn.specs.Versions.{object_or_empty, with_bytes, with_xattrs, with_omap};
+ghost use Rattle.std.specs.Prelude.{◌≡◌, IfOk, OnOk, OnErr, None, Some, Ok, Result, length};
+ghost use Rattle.std.specs.Option.{option_copied};
+ghost use Rattle.object_store.specs.Object.{content_of};
+ghost use Rattle.object_store.specs.Calls as spec;
+ghost use Rattle.object_store.specs.Returned.{Gives};
+ghost use Rattle.txn.specs.Versions.{made};
 
 use crate::change::Change;
 use crate::no_memory::NoMemory;
-use object_store::Object;
+use object_store::{Object, StoreError, calls};
 use std::alloc::Global;
 use std::marker::Model;
 
@@ -19,9 +18,9 @@ enum Newest {
     Written(Option<Object>),
 }
 
-/// An object as a call has it so far. Contracts see it as the call found it and as it is now; reads are reads of
-/// `object`. Until the first write it holds a reference and copies nothing; a write costs what it touches. A write
-/// that is refused leaves it as it was.
+/// An object as a call has it so far. Contracts see it as the call found it and as it is now. Reads are reads of
+/// `object`, the newest version. Until the first write it holds a reference and copies nothing; a write costs what it
+/// touches. A write is the one of `object_store::calls` of the same name: where that refuses it, all stays as it was.
 #[derive(Drop)]
 pub struct Staged<'a> {
     base: Option<&'a Object>,
@@ -35,17 +34,17 @@ impl<'a> Model for Staged<'a> {
 
     ghost coded = { versions_code };
 
-    ghost use Rattle.object_store.specs.Objects.{given};
+    ghost use Rattle.std.specs.Option.{option_copied};
     ghost use Rattle.txn.specs.Staging.{shown};
 
-    ghost view = { λ s. record { before = given s.base; after = shown s.base s.newest } };
+    ghost view = { λ s. record { before = option_copied s.base; after = shown s.base s.newest } };
 }
 
 impl<'a> Staged<'a> {
     /// The object as it stands; none where it is absent. It takes no memory.
     pub fn over(base: Option<&'a Object>) -> Staged<'a>
-        ensures before { result.before ≡ given base.entry }
-        ensures after { result.after ≡ given base.entry }
+        ensures before { result.before ≡ option_copied base.entry }
+        ensures after { result.after ≡ option_copied base.entry }
     {
         Staged {
             base,
@@ -55,7 +54,7 @@ impl<'a> Staged<'a> {
 
     /// The object as it is now; none where it is absent.
     pub fn object(&self) -> Option<&Object>
-        ensures { given result ≡ self.entry.now.after }
+        ensures { option_copied result ≡ self.entry.now.after }
     {
         match &self.newest {
             Newest::Untouched => self.base,
@@ -64,105 +63,89 @@ impl<'a> Staged<'a> {
     }
 
     /// Writes bytes into the data at a place. An absent object comes to be, zeros fill a gap, and no bytes leave the
-    /// data as it is.
-    pub fn write(&mut self, alloc: Global, at: usize, text: &[u8]) -> Result<(), NoMemory>
-        requires { at + length text.now ≤ OBJECT_LIMIT }
+    /// data as it is. Refused: 4 TooBig, 7 NoMemory.
+    pub fn write(&mut self, alloc: Global, at: u64, text: &[u8]) -> Result<(), StoreError>
         ensures before { self.new.before ≡ self.old.before }
-        ensures ok { OnOk result (self.new.after ≡ Some (with_bytes (spliced (object_or_empty self.old.after).bytes at text.now) (object_or_empty self.old.after))) }
-        ensures err { OnErr result (self.new.after ≡ self.old.after) }
+        ensures answer { Gives (λ _. self.new.after) result (made (spec.write self.old.after at text.now)) }
+        ensures refused { OnErr result (self.new ≡ self.old) }
     {
-        let object = match self.object() {
-            None => Object::new(alloc).with_text(alloc, at, text)?,
-            Some(object) => object.with_text(alloc, at, text)?,
-        };
+        let object = calls::write(alloc, self.object(), at, text)?;
         self.newest = Newest::Written(Some(object));
         Ok(())
     }
 
-    /// Cuts the data to a length, or extends it with zeros. An absent object stays absent.
-    pub fn truncate(&mut self, alloc: Global, size: usize) -> Result<(), NoMemory>
-        requires { size ≤ OBJECT_LIMIT }
+    /// Cuts the data to a length, or extends it with zeros. Refused: 4 TooBig, 1 Absent, 7 NoMemory.
+    pub fn truncate(&mut self, alloc: Global, len: u64) -> Result<(), StoreError>
         ensures before { self.new.before ≡ self.old.before }
-        ensures ok { OnOk result (self.new.after ≡ option_map (λ o. with_bytes (resized o.bytes size) o) self.old.after) }
-        ensures err { OnErr result (self.new.after ≡ self.old.after) }
+        ensures answer { Gives (λ _. self.new.after) result (made (spec.truncate self.old.after len)) }
+        ensures refused { OnErr result (self.new ≡ self.old) }
     {
-        let object = match self.object() {
-            None => return Ok(()),
-            Some(object) => object.with_size(alloc, size)?,
-        };
+        let object = calls::truncate(alloc, self.object(), len)?;
         self.newest = Newest::Written(Some(object));
         Ok(())
     }
 
-    /// Sets an extended attribute. An absent object comes to be.
-    pub fn set_xattr(&mut self, alloc: Global, name: &[u8], value: &[u8]) -> Result<(), NoMemory>
-        requires { fin.len (object_or_empty self.old.after).xattrs < XATTR_LIMIT ⊎ IsTrue (fin.contains_key (object_or_empty self.old.after).xattrs name.now) }
+    /// Sets an xattr. An absent object comes to be. Refused: 6 Range, 4 TooBig, 5 TooMany, 7 NoMemory.
+    pub fn set_xattr(
+        &mut self,
+        alloc: Global,
+        name: &[u8],
+        value: &[u8],
+    ) -> Result<(), StoreError>
         ensures before { self.new.before ≡ self.old.before }
-        ensures ok { OnOk result (self.new.after ≡ Some (with_xattrs (fin.insert (object_or_empty self.old.after).xattrs name.now value.now) (object_or_empty self.old.after))) }
-        ensures err { OnErr result (self.new.after ≡ self.old.after) }
+        ensures answer { Gives (λ _. self.new.after) result (made (spec.set_xattr self.old.after name.now value.now)) }
+        ensures refused { OnErr result (self.new ≡ self.old) }
     {
-        let object = match self.object() {
-            None => Object::new(alloc).with_xattr(alloc, name, value)?,
-            Some(object) => object.with_xattr(alloc, name, value)?,
-        };
+        let object = calls::set_xattr(alloc, self.object(), name, value)?;
         self.newest = Newest::Written(Some(object));
         Ok(())
     }
 
-    /// Removes an extended attribute, where it is there.
-    pub fn remove_xattr(&mut self, alloc: Global, name: &[u8]) -> Result<(), NoMemory>
+    /// Removes an xattr. Refused: 6 Range, 1 Absent, 3 NoAttr, 7 NoMemory.
+    pub fn remove_xattr(&mut self, alloc: Global, name: &[u8]) -> Result<(), StoreError>
         ensures before { self.new.before ≡ self.old.before }
-        ensures ok { OnOk result (self.new.after ≡ option_map (λ o. with_xattrs (fin.remove o.xattrs name.now) o) self.old.after) }
-        ensures err { OnErr result (self.new.after ≡ self.old.after) }
+        ensures answer { Gives (λ _. self.new.after) result (made (spec.remove_xattr self.old.after name.now)) }
+        ensures refused { OnErr result (self.new ≡ self.old) }
     {
-        let object = match self.object() {
-            None => return Ok(()),
-            Some(object) => object.without_xattr(alloc, name)?,
-        };
+        let object = calls::remove_xattr(alloc, self.object(), name)?;
         self.newest = Newest::Written(Some(object));
         Ok(())
     }
 
-    /// Sets the value of a key of the omap. An absent object comes to be.
-    pub fn set_key(&mut self, alloc: Global, key: &[u8], value: &[u8]) -> Result<(), NoMemory>
-        requires { fin.len (object_or_empty self.old.after).omap < KEY_LIMIT ⊎ IsTrue (fin.contains_key (object_or_empty self.old.after).omap key.now) }
+    /// Sets the value of a key of the omap. An absent object comes to be. Refused: 6 Range, 4 TooBig, 5 TooMany,
+    /// 7 NoMemory.
+    pub fn set_key(&mut self, alloc: Global, key: &[u8], value: &[u8]) -> Result<(), StoreError>
         ensures before { self.new.before ≡ self.old.before }
-        ensures ok { OnOk result (self.new.after ≡ Some (with_omap (fin.insert (object_or_empty self.old.after).omap key.now value.now) (object_or_empty self.old.after))) }
-        ensures err { OnErr result (self.new.after ≡ self.old.after) }
+        ensures answer { Gives (λ _. self.new.after) result (made (spec.set_key self.old.after key.now value.now)) }
+        ensures refused { OnErr result (self.new ≡ self.old) }
     {
-        let object = match self.object() {
-            None => Object::new(alloc).with_key(alloc, key, value)?,
-            Some(object) => object.with_key(alloc, key, value)?,
-        };
+        let object = calls::set_key(alloc, self.object(), key, value)?;
         self.newest = Newest::Written(Some(object));
         Ok(())
     }
 
-    /// Removes a key of the omap, where it is there.
-    pub fn remove_key(&mut self, alloc: Global, key: &[u8]) -> Result<(), NoMemory>
+    /// Removes a key of the omap. Refused: 6 Range, 1 Absent, 3 NoAttr, 7 NoMemory.
+    pub fn remove_key(&mut self, alloc: Global, key: &[u8]) -> Result<(), StoreError>
         ensures before { self.new.before ≡ self.old.before }
-        ensures ok { OnOk result (self.new.after ≡ option_map (λ o. with_omap (fin.remove o.omap key.now) o) self.old.after) }
-        ensures err { OnErr result (self.new.after ≡ self.old.after) }
+        ensures answer { Gives (λ _. self.new.after) result (made (spec.remove_key self.old.after key.now)) }
+        ensures refused { OnErr result (self.new ≡ self.old) }
     {
-        let object = match self.object() {
-            None => return Ok(()),
-            Some(object) => object.without_key(alloc, key)?,
-        };
+        let object = calls::remove_key(alloc, self.object(), key)?;
         self.newest = Newest::Written(Some(object));
         Ok(())
     }
 
-    /// Makes an absent object, with nothing in it. It takes no memory.
-    pub fn create(&mut self, alloc: Global)
+    /// Makes an object with nothing in it where it is absent; one that is there stays as it is. It takes no memory.
+    pub fn create(&mut self)
         ensures before { self.new.before ≡ self.old.before }
-        ensures after { self.new.after ≡ Some (object_or_empty self.old.after) }
+        ensures after { self.new.after ≡ Some (content_of self.old.after) }
     {
         if self.object().is_none() {
-            self.newest = Newest::Written(Some(Object::new(alloc)));
+            self.newest = Newest::Written(Some(Object::new()));
         }
     }
 
-    /// Removes the object: data, attributes and omap. It takes no memory.
+    /// Removes the object: data, xattrs and omap. It takes no memory.
     pub fn remove(&mut self)
         ensures before { self.new.before ≡ self.old.before }
         ensures after { self.new.after ≡ None }
