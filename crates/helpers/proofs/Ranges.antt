@@ -13,7 +13,7 @@ overlaid_part s k xs front short within =
     let ys = drop s xs in
     let len : length (take k ys) ≡ k = length-take-le k ys (omega (arith, length-drop s xs)) in
     let rest : drop (length front) (take k ys) ++ drop k ys ≡ drop (length front) ys =
-        sym (drop-append-le (length front) (take k ys) (drop k ys) (omega arith)) ∙ ap (drop (length front)) (take-append-drop k ys) in
+    sym (drop-append-le (length front) (take k ys) (drop k ys) (omega arith)) ∙ ap (drop (length front)) (take-append-drop k ys) in
     ap (λ l. take s xs ++ l) (append_assoc front (drop (length front) (take k ys)) (drop k ys) ∙ ap (λ l. front ++ l) (rest ∙ drop-drop (length front) s xs))
 
 -- a memory after a read into a part of it

@@ -44,7 +44,12 @@ pub fn remove(staged: &mut Staged) -> u64
 
 /// Helper 7, `setxattr`: sets an xattr, of an absent object too, which it creates. It answers 0. Refused, in this
 /// order: EINVAL where the name is none, ENOSPC where it is new and the object has all xattrs that it may have.
-pub fn setxattr(alloc: Global, staged: &mut Staged, name: &[u8], value: &[u8]) -> Result<u64, NoMemory>
+pub fn setxattr(
+    alloc: Global,
+    staged: &mut Staged,
+    name: &[u8],
+    value: &[u8],
+) -> Result<u64, NoMemory>
     requires { length value.now ≤ VALUE_LIMIT }
     ensures answer { IfOk result (λ n. n ≡ (setxattr_effect staged.old.after name.now value.now).answer) }
     ensures object { IfOk result (λ _. staged.new.after ≡ (setxattr_effect staged.old.after name.now value.now).object) }
@@ -66,7 +71,12 @@ pub fn rmxattr(alloc: Global, staged: &mut Staged, name: &[u8]) -> Result<u64, N
 }
 
 /// Helper 10, `map_set`: as `setxattr`, on the omap with its limit.
-pub fn map_set(alloc: Global, staged: &mut Staged, key: &[u8], value: &[u8]) -> Result<u64, NoMemory>
+pub fn map_set(
+    alloc: Global,
+    staged: &mut Staged,
+    key: &[u8],
+    value: &[u8],
+) -> Result<u64, NoMemory>
     requires { length value.now ≤ VALUE_LIMIT }
     ensures answer { IfOk result (λ n. n ≡ (map_set_effect staged.old.after key.now value.now).answer) }
     ensures object { IfOk result (λ _. staged.new.after ≡ (map_set_effect staged.old.after key.now value.now).object) }

@@ -17,9 +17,7 @@ mod span;
 pub use answer::Answer;
 pub use argument::{Argument, Signature};
 pub use changes::{create, map_rm, map_set, remove, rmxattr, setxattr, truncate, write};
-pub use errno::{
-    EBUSY, EEXIST, EFBIG, EINVAL, EIO, ENODATA, ENOENT, ENOMEM, ENOSPC, ERANGE,
-};
+pub use errno::{EBUSY, EEXIST, EFBIG, EINVAL, EIO, ENODATA, ENOENT, ENOMEM, ENOSPC, ERANGE};
 pub use helper::{Helper, signature};
 pub use lookups::{key_above, map_value, stat, xattr_value};
 pub use memory::{getxattr, map_get, map_next, read};

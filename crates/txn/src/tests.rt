@@ -202,9 +202,7 @@ fn an_object_of_full_size(rt: HostRuntime) -> Result<(), Fail> {
     assert_eq!(rt; staged.set_xattr(alloc, b"one more", b""), Err(StoreError::TooMany));
     assert_eq!(rt; staged.write(alloc, 65_536, b"z"), Err(StoreError::TooBig));
     let change = staged.finish()?;
-    if change.before.is_some() || objects.get(&name).is_some() {
-        return Ok(());
-    }
+    assert!(rt; change.before.is_none() && objects.get(&name).is_none());
     apply(alloc, &mut objects, &name, &change)?;
     assert_eq!(rt; length(objects.get(&name)), Some(65_536));
     Ok(())

@@ -1,8 +1,8 @@
 //! Calls as rows of tables.
 
 use crate::{
-    create, key_above, map_rm, map_set, map_value, read, remove, rmxattr, setxattr, stat, truncate,
-    write, xattr_value,
+    Span, create, key_above, map_rm, map_set, map_value, read, remove, rmxattr, setxattr, stat,
+    truncate, write, xattr_value,
 };
 use object_store::VALUE_LIMIT;
 use std::alloc::Global;
@@ -13,7 +13,7 @@ use txn::Staged;
 #[derive(Clone, Copy, Debug)]
 pub enum Call {
     Stat,
-    Read(u64, usize),
+    Read(u64, u64),
     Write(u64, &'static [u8]),
     Truncate(u64),
     Remove,
@@ -32,6 +32,7 @@ pub type Row = (Call, i64, &'static [u8]);
 
 /// 64 bytes, the most that a name has, and one more.
 pub const LONGEST: &[u8] = b"0123456789abcdef0123456789abcdef0123456789abcdef0123456789abcdef";
+
 pub const TOO_LONG: &[u8] = b"0123456789abcdef0123456789abcdef0123456789abcdef0123456789abcdefg";
 
 /// Does a call that reads; none of one that may write.
@@ -67,7 +68,7 @@ fn changes(alloc: Global, staged: &mut Staged, call: Call) -> Result<Option<u64>
         Call::Remove => Some(remove(staged)),
         Call::RmXattr(name) => Some(rmxattr(alloc, staged, name)?),
         Call::MapRm(key) => Some(map_rm(alloc, staged, key)?),
-        Call::Create(exclusive) => Some(create(alloc, staged, exclusive)),
+        Call::Create(exclusive) => Some(create(staged, exclusive)),
         _ => None,
     })
 }
@@ -76,12 +77,12 @@ fn changes(alloc: Global, staged: &mut Staged, call: Call) -> Result<Option<u64>
 fn answers(alloc: Global, staged: &mut Staged, (call, want, bytes): Row) -> Result<bool, Fail> {
     let mut room = [0xee; 16];
     if let Call::Read(at, n) = call {
-        if n > room.len() {
+        if n > 14 {
             return Ok(false);
         }
-        let number = read(staged, at, &mut room[..n]);
-        let rest = room[bytes.len()..].iter().all(|b| *b == 0xee);
-        return Ok(number.cast_signed() == want && room.starts_with(bytes) && rest);
+        let number = read(staged, at, &mut room, Span { at: 2, len: n });
+        let rest = room.iter().skip(2 + bytes.len()).all(|b| *b == 0xee);
+        return Ok(number.cast_signed() == want && room[2..].starts_with(bytes) && rest);
     }
     if let Some((number, same)) = reads(staged, call, bytes) {
         return Ok(number.cast_signed() == want && same);

@@ -1,4 +1,4 @@
-use crate::{getxattr, map_get, map_rm, map_set, rmxattr, setxattr, stat, write, Span};
+use crate::{map_rm, map_set, map_value, setxattr, xattr_value};
 use std::alloc::Global;
 use std::test::Fail;
 use txn::Staged;
@@ -41,10 +41,16 @@ fn attributes_have_a_limit(rt: HostRuntime) -> Result<(), Fail> {
     let alloc = rt.alloc();
     let mut staged = Staged::over(None);
     assert!(rt; fills_xattrs(alloc, &mut staged, 32)?);
-    assert_eq!(rt; setxattr(alloc, &mut staged, &numbered(32), b"v")?, NO_SPACE);
+    assert_eq!(rt;
+        setxattr(alloc, &mut staged, &numbered(32), b"v")?,
+        NO_SPACE
+    );
     assert_eq!(rt; setxattr(alloc, &mut staged, &numbered(31), b"new")?, 0);
-    assert_eq!(rt; crate::xattr_value(&staged, &numbered(32), 9).number, u64::MAX - 60);
-    assert_eq!(rt; crate::xattr_value(&staged, &numbered(31), 9).bytes, b"new");
+    assert_eq!(rt;
+        xattr_value(&staged, &numbered(32), 9).number,
+        u64::MAX - 60
+    );
+    assert_eq!(rt; xattr_value(&staged, &numbered(31), 9).bytes, b"new".as_slice());
     Ok(())
 }
 
@@ -53,9 +59,12 @@ fn keys_have_a_limit(rt: HostRuntime) -> Result<(), Fail> {
     let alloc = rt.alloc();
     let mut staged = Staged::over(None);
     assert!(rt; fills_omap(alloc, &mut staged, 1024)?);
-    assert_eq!(rt; map_set(alloc, &mut staged, &numbered(1024), b"v")?, NO_SPACE);
+    assert_eq!(rt;
+        map_set(alloc, &mut staged, &numbered(1024), b"v")?,
+        NO_SPACE
+    );
     assert_eq!(rt; map_set(alloc, &mut staged, &numbered(0), b"new")?, 0);
-    assert_eq!(rt; crate::map_value(&staged, &numbered(0), 9).bytes, b"new");
+    assert_eq!(rt; map_value(&staged, &numbered(0), 9).bytes, b"new".as_slice());
     assert_eq!(rt; map_rm(alloc, &mut staged, &numbered(5))?, 0);
     assert_eq!(rt; map_set(alloc, &mut staged, &numbered(1024), b"v")?, 0);
     Ok(())

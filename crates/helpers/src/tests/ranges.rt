@@ -1,5 +1,6 @@
 use crate::{
-    Argument, Helper, Span, caller, getxattr, map_get, map_next, map_set, out_len, setxattr, signature,
+    Argument, Helper, Span, caller, getxattr, map_get, map_next, map_set, out_len, setxattr,
+    signature,
 };
 use std::test::Fail;
 use txn::Staged;
@@ -38,7 +39,7 @@ fn letter(argument: Argument) -> u8 {
 /// Whether an id has that signature.
 fn takes(id: u32, want: &[u8]) -> bool {
     match signature(id) {
-        None => want == b"none",
+        None => want == b"none".as_slice(),
         Some(signature) => {
             let letters = signature.arguments.iter().map(|a| letter(*a));
             let star = if signature.writes { Some(b'*') } else { None };
@@ -87,7 +88,10 @@ fn a_key_is_copied_over_the_one_before(rt: HostRuntime) -> Result<(), Fail> {
     let mut memory = *b"a...";
     assert_eq!(rt; map_next(&staged, &mut memory, span(0, 1), span(0, 2)), 2);
     assert_eq!(rt; memory, *b"bb..");
-    assert_eq!(rt; map_next(&staged, &mut memory, span(0, 2), span(0, 4)), u64::MAX - 60);
+    assert_eq!(rt;
+        map_next(&staged, &mut memory, span(0, 2), span(0, 4)),
+        u64::MAX - 60
+    );
     assert_eq!(rt; memory, *b"bb..");
     Ok(())
 }
@@ -98,9 +102,18 @@ fn an_empty_range_is_nowhere(rt: HostRuntime) -> Result<(), Fail> {
     let mut staged = Staged::over(None);
     assert_eq!(rt; map_set(rt.alloc(), &mut staged, b"b", b"")?, 0);
     let mut memory = *b"b";
-    assert_eq!(rt; map_get(&staged, &mut memory, span(0, 1), span(u64::MAX, 0)), 0);
-    assert_eq!(rt; map_next(&staged, &mut memory, span(u64::MAX, 0), span(0, 1)), 1);
-    assert_eq!(rt; map_next(&staged, &mut memory, span(u64::MAX, 0), span(u64::MAX, 0)), u64::MAX - 33);
+    assert_eq!(rt;
+        map_get(&staged, &mut memory, span(0, 1), span(u64::MAX, 0)),
+        0
+    );
+    assert_eq!(rt;
+        map_next(&staged, &mut memory, span(u64::MAX, 0), span(0, 1)),
+        1
+    );
+    assert_eq!(rt;
+        map_next(&staged, &mut memory, span(u64::MAX, 0), span(u64::MAX, 0)),
+        u64::MAX - 33
+    );
     assert_eq!(rt; memory, *b"b");
     Ok(())
 }
