@@ -3,3 +3,4 @@ mod data;
 mod limits;
 mod names;
 mod ranges;
+mod signatures;

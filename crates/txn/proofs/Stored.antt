@@ -36,6 +36,6 @@ pub stored-stored : (objects : PlainObjects) (name : List ℕ) (o : PlainObject)
 stored-stored objects name o =
     fin.same_map nat_list_cmp_total (slice_cmp-IsAntisymmetric nat_cmp-IsAntisymmetric) _ _
     (λ q. get-stored (stored objects name o) name (fin.get objects name) q
-        ∙ ap (λ w. cond (eq_by_cmp (slice_cmp nat_cmp) q name) (fin.get objects name) w) (get-stored objects name o q)
-        ∙ cond-cond (eq_by_cmp (slice_cmp nat_cmp) q name) (fin.get objects name) o (fin.get objects q)
-        ∙ at_ties objects name q)
+    ∙ ap (λ w. cond (eq_by_cmp (slice_cmp nat_cmp) q name) (fin.get objects name) w) (get-stored objects name o q)
+    ∙ cond-cond (eq_by_cmp (slice_cmp nat_cmp) q name) (fin.get objects name) o (fin.get objects q)
+    ∙ at_ties objects name q)

@@ -86,12 +86,7 @@ impl<'a> Staged<'a> {
     }
 
     /// Sets an xattr. An absent object comes to be. Refused: 6 Range, 4 TooBig, 5 TooMany, 7 NoMemory.
-    pub fn set_xattr(
-        &mut self,
-        alloc: Global,
-        name: &[u8],
-        value: &[u8],
-    ) -> Result<(), StoreError>
+    pub fn set_xattr(&mut self, alloc: Global, name: &[u8], value: &[u8]) -> Result<(), StoreError>
         ensures before { self.new.before ≡ self.old.before }
         ensures answer { Gives (λ _. self.new.after) result (made (spec.set_xattr self.old.after name.now value.now)) }
         ensures refused { OnErr result (self.new ≡ self.old) }

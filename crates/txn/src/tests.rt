@@ -112,9 +112,8 @@ fn step_on(
     Ok(change)
 }
 
-/// Whether the object of a name has these data, this value of the xattr `n` and of the key `k`.
-fn holds(objects: &Objects, name: &ObjectName, data: [u8; 4], value: &[u8]) -> bool {
-    let object = objects.get(name);
+/// Whether an object has these data, this value of the xattr `n` and of the key `k`.
+fn holds(object: Option<&Object>, data: [u8; 4], value: &[u8]) -> bool {
     let sized = length(object) == Some(4) && reads(object, 0, data);
     match object {
         None => false,
@@ -122,6 +121,15 @@ fn holds(objects: &Objects, name: &ObjectName, data: [u8; 4], value: &[u8]) -> b
             sized && object.xattr(b"n") == Some(value) && object.key(b"k") == Some(value)
         }
     }
+}
+
+/// Stages data, an xattr and a key.
+fn stage(alloc: Global, staged: &mut Staged, data: &[u8], value: &[u8]) -> Result<(), StoreError>
+    ensures { staged.new.before ≡ staged.old.before }
+{
+    staged.write(alloc, 0, data)?;
+    staged.set_xattr(alloc, b"n", value)?;
+    staged.set_key(alloc, b"k", value)
 }
 
 /// Makes an object with data, an xattr and a key.
@@ -133,52 +141,73 @@ fn add(
     value: &[u8],
 ) -> Result<(), Fail> {
     let mut staged = Staged::over(objects.get(name));
-    staged.write(alloc, 0, data)?;
-    staged.set_xattr(alloc, b"n", value)?;
-    staged.set_key(alloc, b"k", value)?;
+    stage(alloc, &mut staged, data, value)?;
     let change = staged.finish()?;
     Ok(apply(alloc, objects, name, &change)?)
 }
 
+/// Two objects, of which the first one is changed.
+#[derive(Drop)]
+struct Pair {
+    objects: Objects,
+    one: ObjectName,
+    other: ObjectName,
+}
+
+fn two_objects(alloc: Global) -> Result<Pair, Fail> {
+    let mut pair = Pair {
+        objects: Objects::new(),
+        one: ObjectName::new(alloc, "a")?,
+        other: ObjectName::new(alloc, "b")?,
+    };
+    add(alloc, &mut pair.objects, &pair.one, b"abcd", b"value")?;
+    add(alloc, &mut pair.objects, &pair.other, b"efgh", b"other")?;
+    Ok(pair)
+}
+
+/// Whether both objects are as they were made.
+fn is_as_made(pair: &Pair) -> bool {
+    holds(pair.objects.get(&pair.one), *b"abcd", b"value")
+        && holds(pair.objects.get(&pair.other), *b"efgh", b"other")
+        && pair.objects.len() == 2
+}
+
+/// Whether a step changes the first object, and undoing it restores both.
+fn undoes(alloc: Global, pair: &mut Pair, step: Step) -> Result<bool, Fail> {
+    let change = step_on(alloc, &mut pair.objects, &pair.one, step)?;
+    let changed = !is_as_made(pair);
+    undo(alloc, &mut pair.objects, &pair.one, &change)?;
+    Ok(changed && is_as_made(pair))
+}
+
 #[test]
 fn undo_restores_what_was(rt: HostRuntime) -> Result<(), Fail> {
-    let alloc = rt.alloc();
-    let (one, other) = (ObjectName::new(alloc, "a")?, ObjectName::new(alloc, "b")?);
-    let mut objects = Objects::new();
-    add(alloc, &mut objects, &one, b"abcd", b"value")?;
-    add(alloc, &mut objects, &other, b"efgh", b"other")?;
+    let mut pair = two_objects(rt.alloc())?;
     for step in STEPS {
-        let change = step_on(alloc, &mut objects, &one, step)?;
-        assert!(rt; !holds(&objects, &one, *b"abcd", b"value"));
-        undo(alloc, &mut objects, &one, &change)?;
-        assert!(rt; holds(&objects, &one, *b"abcd", b"value"));
-        assert!(rt; holds(&objects, &other, *b"efgh", b"other"));
+        assert!(rt; undoes(rt.alloc(), &mut pair, step)?);
     }
-    assert_eq!(rt; objects.len(), 2);
     Ok(())
 }
 
-// An object that a call creates is absent again.
+/// Whether undoing a copy of the change that creates an object makes it absent again.
+fn undoes_creation(alloc: Global, objects: &mut Objects, name: &ObjectName) -> Result<bool, Fail> {
+    let change = step_on(alloc, objects, name, Step::Write)?.copy()?;
+    let created = length(objects.get(name)) == Some(4);
+    undo(alloc, objects, name, &change)?;
+    Ok(created && objects.get(name).is_none() && objects.len() == 0)
+}
+
 #[test]
 fn undo_makes_it_absent(rt: HostRuntime) -> Result<(), Fail> {
-    let alloc = rt.alloc();
-    let name = ObjectName::new(alloc, "a")?;
-    let mut objects = Objects::new();
-    let change = step_on(alloc, &mut objects, &name, Step::Write)?;
-    assert_eq!(rt; length(objects.get(&name)), Some(4));
-    let again = change.copy()?;
-    undo(alloc, &mut objects, &name, &again)?;
-    assert!(rt; objects.get(&name).is_none() && objects.len() == 0);
+    let name = ObjectName::new(rt.alloc(), "a")?;
+    assert!(rt; undoes_creation(rt.alloc(), &mut Objects::new(), &name)?);
     Ok(())
 }
 
-/// Writes an object of full size: all data, xattrs and keys, with the longest names and values.
-fn fill(alloc: Global, staged: &mut Staged) -> Result<(), Fail>
-    ensures { staged.new.before ≡ staged.old.before }
-{
+/// Sets keys and xattrs, as many as an object may have, with the longest names and values.
+fn fill(alloc: Global, staged: &mut Staged) -> Result<(), StoreError> {
     let value = [0x5a; 4096];
     let mut name = [b'k'; 64];
-    staged.write(alloc, DATA_LIMIT as u64 - 1, b"z")?;
     for n in 0..KEY_LIMIT as u16 {
         let [high, low] = n.to_be_bytes();
         name[62] = high;
@@ -194,16 +223,18 @@ fn fill(alloc: Global, staged: &mut Staged) -> Result<(), Fail>
 #[test]
 fn an_object_of_full_size(rt: HostRuntime) -> Result<(), Fail> {
     let alloc = rt.alloc();
-    let name = ObjectName::new(alloc, "a")?;
-    let mut objects = Objects::new();
     let mut staged = Staged::over(None);
     fill(alloc, &mut staged)?;
-    assert_eq!(rt; staged.set_key(alloc, b"one more", b""), Err(StoreError::TooMany));
-    assert_eq!(rt; staged.set_xattr(alloc, b"one more", b""), Err(StoreError::TooMany));
+    staged.write(alloc, DATA_LIMIT as u64 - 1, b"z")?;
+    assert_eq!(rt;
+        staged.set_key(alloc, b"one more", b""),
+        Err(StoreError::TooMany)
+    );
+    assert_eq!(rt;
+        staged.set_xattr(alloc, b"one more", b""),
+        Err(StoreError::TooMany)
+    );
     assert_eq!(rt; staged.write(alloc, 65_536, b"z"), Err(StoreError::TooBig));
-    let change = staged.finish()?;
-    assert!(rt; change.before.is_none() && objects.get(&name).is_none());
-    apply(alloc, &mut objects, &name, &change)?;
-    assert_eq!(rt; length(objects.get(&name)), Some(65_536));
+    assert_eq!(rt; length(staged.finish()?.after.as_ref()), Some(65_536));
     Ok(())
 }

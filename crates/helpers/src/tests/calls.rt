@@ -1,13 +1,12 @@
 //! Calls as rows of tables.
 
 use crate::{
-    Span, create, key_above, map_rm, map_set, map_value, read, remove, rmxattr, setxattr, stat,
-    truncate, write, xattr_value,
+    Answer, Span, create, key_above, map_rm, map_set, map_value, read, remove, rmxattr, setxattr,
+    stat, truncate, write, xattr_value,
 };
 use object_store::VALUE_LIMIT;
 use std::alloc::Global;
-use std::test::Fail;
-use txn::Staged;
+use txn::{NoMemory, Staged};
 
 /// A call, with what it is given.
 #[derive(Clone, Copy, Debug)]
@@ -35,65 +34,64 @@ pub const LONGEST: &[u8] = b"0123456789abcdef0123456789abcdef0123456789abcdef012
 
 pub const TOO_LONG: &[u8] = b"0123456789abcdef0123456789abcdef0123456789abcdef0123456789abcdefg";
 
-/// Does a call that reads; none of one that may write.
-fn reads(staged: &Staged, call: Call, want: &[u8]) -> Option<(u64, bool)> {
-    let answer = match call {
-        Call::Stat => return Some((stat(staged), true)),
-        Call::GetXattr(name, room) => xattr_value(staged, name, room),
-        Call::MapGet(key, room) => map_value(staged, key, room),
-        Call::MapNext(key, room) => key_above(staged, key, room),
-        _ => return None,
-    };
-    Some((answer.number, answer.bytes == want))
+/// What a call that looks something up answers; none of another call.
+fn looks_up<'a>(staged: &'a Staged, call: Call) -> Option<Answer<'a>> {
+    match call {
+        Call::Stat => Some(Answer {
+            number: stat(staged),
+            bytes: &[],
+        }),
+        Call::GetXattr(name, room) => Some(xattr_value(staged, name, room)),
+        Call::MapGet(key, room) => Some(map_value(staged, key, room)),
+        Call::MapNext(key, room) => Some(key_above(staged, key, room)),
+        _ => None,
+    }
 }
 
-/// Does a call that writes what it is given; none of another.
-fn sets(alloc: Global, staged: &mut Staged, call: Call) -> Result<Option<u64>, Fail> {
-    Ok(match call {
-        Call::Write(at, bytes) => Some(write(alloc, staged, at, bytes)?),
+/// What a call that may change the object answers; 1 of another call.
+fn changes(alloc: Global, staged: &mut Staged, call: Call) -> Result<u64, NoMemory> {
+    match call {
+        Call::Write(at, bytes) => write(alloc, staged, at, bytes),
+        Call::Truncate(size) => truncate(alloc, staged, size),
+        Call::Remove => Ok(remove(staged)),
         Call::SetXattr(name, value) if value.len() <= VALUE_LIMIT => {
-            Some(setxattr(alloc, staged, name, value)?)
+            setxattr(alloc, staged, name, value)
         }
-        Call::MapSet(key, value) if value.len() <= VALUE_LIMIT => {
-            Some(map_set(alloc, staged, key, value)?)
-        }
-        _ => None,
-    })
+        Call::RmXattr(name) => rmxattr(alloc, staged, name),
+        Call::MapSet(key, value) if value.len() <= VALUE_LIMIT => map_set(
+            alloc, staged, key, value,
+        ),
+        Call::MapRm(key) => map_rm(alloc, staged, key),
+        Call::Create(exclusive) => Ok(create(staged, exclusive)),
+        _ => Ok(1),
+    }
 }
 
-/// Does a call that changes or removes; none of another.
-fn changes(alloc: Global, staged: &mut Staged, call: Call) -> Result<Option<u64>, Fail> {
-    Ok(match call {
-        Call::Truncate(size) => Some(truncate(alloc, staged, size)?),
-        Call::Remove => Some(remove(staged)),
-        Call::RmXattr(name) => Some(rmxattr(alloc, staged, name)?),
-        Call::MapRm(key) => Some(map_rm(alloc, staged, key)?),
-        Call::Create(exclusive) => Some(create(staged, exclusive)),
-        _ => None,
-    })
+/// Whether `read` answers so, and copies these bytes and no other. The room has at most 14 bytes.
+fn reads(staged: &Staged, at: u64, len: u64, want: u64, bytes: &[u8]) -> bool {
+    let mut memory = [0xee; 16];
+    if len > 14 {
+        return false;
+    }
+    let number = read(staged, at, &mut memory, Span { at: 2, len });
+    let rest = memory.iter().skip(2 + bytes.len()).all(|b| *b == 0xee);
+    number == want && memory[2..].starts_with(bytes) && rest
 }
 
 /// Whether a call gives the row's answer and bytes.
-fn answers(alloc: Global, staged: &mut Staged, (call, want, bytes): Row) -> Result<bool, Fail> {
-    let mut room = [0xee; 16];
-    if let Call::Read(at, n) = call {
-        if n > 14 {
-            return Ok(false);
-        }
-        let number = read(staged, at, &mut room, Span { at: 2, len: n });
-        let rest = room.iter().skip(2 + bytes.len()).all(|b| *b == 0xee);
-        return Ok(number.cast_signed() == want && room[2..].starts_with(bytes) && rest);
+fn answers(alloc: Global, staged: &mut Staged, (call, want, bytes): Row) -> Result<bool, NoMemory> {
+    let want = want.cast_unsigned();
+    if let Call::Read(at, len) = call {
+        return Ok(reads(staged, at, len, want, bytes));
     }
-    if let Some((number, same)) = reads(staged, call, bytes) {
-        return Ok(number.cast_signed() == want && same);
+    if let Some(answer) = looks_up(staged, call) {
+        return Ok(answer.number == want && answer.bytes == bytes);
     }
-    let set = sets(alloc, staged, call)?;
-    let changed = changes(alloc, staged, call)?;
-    Ok(set.or(changed) == Some(want.cast_unsigned()))
+    Ok(changes(alloc, staged, call)? == want)
 }
 
 /// Whether calls that are made one after the other give their rows' answers.
-pub fn all_answer(alloc: Global, staged: &mut Staged, rows: &[Row]) -> Result<bool, Fail> {
+pub fn all_answer(alloc: Global, staged: &mut Staged, rows: &[Row]) -> Result<bool, NoMemory> {
     for row in rows {
         if !answers(alloc, staged, *row)? {
             return Ok(false);

@@ -1,7 +1,9 @@
-use crate::{map_rm, map_set, map_value, setxattr, xattr_value};
+use super::calls::Call::{GetXattr, MapGet, MapNext, MapRm, MapSet, SetXattr};
+use super::calls::{Row, all_answer};
+use crate::{map_set, setxattr};
 use std::alloc::Global;
 use std::test::Fail;
-use txn::Staged;
+use txn::{NoMemory, Staged};
 
 /// A name of 64 bytes that ends in a number.
 fn numbered(n: u16) -> [u8; 64] {
@@ -12,60 +14,73 @@ fn numbered(n: u16) -> [u8; 64] {
     name
 }
 
+/// The names of the numbers 0, 31, 32, 1,023 and 1,024.
+const FIRST: &[u8] = b"kkkkkkkkkkkkkkkkkkkkkkkkkkkkkkkkkkkkkkkkkkkkkkkkkkkkkkkkkkkkkk\x00\x00";
+
+const NAME_31: &[u8] = b"kkkkkkkkkkkkkkkkkkkkkkkkkkkkkkkkkkkkkkkkkkkkkkkkkkkkkkkkkkkkkk\x00\x1f";
+
+const NAME_32: &[u8] = b"kkkkkkkkkkkkkkkkkkkkkkkkkkkkkkkkkkkkkkkkkkkkkkkkkkkkkkkkkkkkkk\x00\x20";
+
+const NAME_1023: &[u8] = b"kkkkkkkkkkkkkkkkkkkkkkkkkkkkkkkkkkkkkkkkkkkkkkkkkkkkkkkkkkkkkk\x03\xff";
+
+const NAME_1024: &[u8] = b"kkkkkkkkkkkkkkkkkkkkkkkkkkkkkkkkkkkkkkkkkkkkkkkkkkkkkkkkkkkkkk\x04\x00";
+
 /// Sets that many keys with values of 4,096 bytes; false where one is refused.
-fn fills_omap(alloc: Global, staged: &mut Staged, count: u16) -> Result<bool, Fail> {
+fn fills_omap(alloc: Global, staged: &mut Staged, count: u16) -> Result<bool, NoMemory> {
     let value = [0x5a; 4096];
-    let mut all = true;
     for n in 0..count {
-        all = all && map_set(alloc, staged, &numbered(n), &value)? == 0;
+        if map_set(alloc, staged, &numbered(n), &value)? != 0 {
+            return Ok(false);
+        }
     }
-    Ok(all)
+    Ok(true)
 }
 
-/// The same of attributes.
-fn fills_xattrs(alloc: Global, staged: &mut Staged, count: u16) -> Result<bool, Fail> {
+/// The same of xattrs.
+fn fills_xattrs(alloc: Global, staged: &mut Staged, count: u16) -> Result<bool, NoMemory> {
     let value = [0x5a; 4096];
-    let mut all = true;
     for n in 0..count {
-        all = all && setxattr(alloc, staged, &numbered(n), &value)? == 0;
+        if setxattr(alloc, staged, &numbered(n), &value)? != 0 {
+            return Ok(false);
+        }
     }
-    Ok(all)
+    Ok(true)
 }
 
-/// -28, as register 0 holds it.
-const NO_SPACE: u64 = u64::MAX - 27;
+/// Beside 32 xattrs. What is refused changes no value, and one that is there may be set anew.
+const FULL_XATTRS: [Row; 6] = [
+    (SetXattr(NAME_32, b"v"), -28, b""),
+    (GetXattr(NAME_32, 9), -61, b""),
+    (GetXattr(NAME_31, 9), -34, b""),
+    (GetXattr(NAME_31, 4_095), -34, b""),
+    (SetXattr(NAME_31, b"new"), 0, b""),
+    (GetXattr(NAME_31, 9), 3, b"new"),
+];
 
-// A refused attribute at the limit changes no value, and one that is there may be set anew.
+/// Beside 1,024 keys.
+const FULL_OMAP: [Row; 8] = [
+    (MapSet(NAME_1024, b"v"), -28, b""),
+    (MapGet(NAME_1024, 9), -61, b""),
+    (MapSet(FIRST, b"new"), 0, b""),
+    (MapGet(FIRST, 9), 3, b"new"),
+    (MapNext(NAME_1023, 64), -61, b""),
+    (MapRm(FIRST), 0, b""),
+    (MapSet(NAME_1024, b"v"), 0, b""),
+    (MapNext(NAME_1023, 64), 64, NAME_1024),
+];
+
 #[test]
-fn attributes_have_a_limit(rt: HostRuntime) -> Result<(), Fail> {
-    let alloc = rt.alloc();
+fn xattrs_have_a_limit(rt: HostRuntime) -> Result<(), Fail> {
     let mut staged = Staged::over(None);
-    assert!(rt; fills_xattrs(alloc, &mut staged, 32)?);
-    assert_eq!(rt;
-        setxattr(alloc, &mut staged, &numbered(32), b"v")?,
-        NO_SPACE
-    );
-    assert_eq!(rt; setxattr(alloc, &mut staged, &numbered(31), b"new")?, 0);
-    assert_eq!(rt;
-        xattr_value(&staged, &numbered(32), 9).number,
-        u64::MAX - 60
-    );
-    assert_eq!(rt; xattr_value(&staged, &numbered(31), 9).bytes, b"new".as_slice());
+    assert!(rt; fills_xattrs(rt.alloc(), &mut staged, 32)?);
+    assert!(rt; all_answer(rt.alloc(), &mut staged, &FULL_XATTRS)?);
     Ok(())
 }
 
 #[test]
 fn keys_have_a_limit(rt: HostRuntime) -> Result<(), Fail> {
-    let alloc = rt.alloc();
     let mut staged = Staged::over(None);
-    assert!(rt; fills_omap(alloc, &mut staged, 1024)?);
-    assert_eq!(rt;
-        map_set(alloc, &mut staged, &numbered(1024), b"v")?,
-        NO_SPACE
-    );
-    assert_eq!(rt; map_set(alloc, &mut staged, &numbered(0), b"new")?, 0);
-    assert_eq!(rt; map_value(&staged, &numbered(0), 9).bytes, b"new".as_slice());
-    assert_eq!(rt; map_rm(alloc, &mut staged, &numbered(5))?, 0);
-    assert_eq!(rt; map_set(alloc, &mut staged, &numbered(1024), b"v")?, 0);
+    assert!(rt; fills_omap(rt.alloc(), &mut staged, 1024)?);
+    assert!(rt; all_answer(rt.alloc(), &mut staged, &FULL_OMAP)?);
     Ok(())
 }

@@ -19,7 +19,7 @@ const XATTRS: [Row; 19] = [
     (GetXattr(TOO_LONG, 9), -22, b""),
     (SetXattr(LONGEST, b"w"), 0, b""),
     (GetXattr(LONGEST, 9), 1, b"w"),
-    // an attribute is no key of the omap
+    // an xattr is no key of the omap
     (MapGet(b"n", 9), -61, b""),
     (RmXattr(b""), -22, b""),
     (RmXattr(TOO_LONG), -22, b""),
@@ -57,7 +57,7 @@ const OMAP: [Row; 23] = [
 ];
 
 #[test]
-fn attributes_are_set_and_looked_up(rt: HostRuntime) -> Result<(), Fail> {
+fn xattrs_are_set_and_looked_up(rt: HostRuntime) -> Result<(), Fail> {
     let mut staged = Staged::over(None);
     assert!(rt; all_answer(rt.alloc(), &mut staged, &XATTRS)?);
     Ok(())

@@ -1,119 +1,133 @@
-use crate::{
-    Argument, Helper, Span, caller, getxattr, map_get, map_next, map_set, out_len, setxattr,
-    signature,
-};
-use std::test::Fail;
-use txn::Staged;
+ghost use Rattle.std.specs.Prelude.{◌≡◌, ◌+◌, ◌≤◌, IfSome};
 
-/// For each id what its helper takes, a letter an argument (n a number, o an output length, r and w ranges that are
-/// read and written), and a star where it may change the object.
-const SIGNATURES: [(u32, &str); 17] = [
-    (0, "none"),
-    (1, ""),
-    (2, "nw"),
-    (3, "nr*"),
-    (4, "n*"),
-    (5, "*"),
-    (6, "rw"),
-    (7, "rr*"),
-    (8, "r*"),
-    (9, "rw"),
-    (10, "rr*"),
-    (11, "r*"),
-    (12, "rw"),
-    (13, "o"),
-    (14, "n*"),
-    (15, ""),
-    (16, "none"),
+use crate::{Span, getxattr, map_get, map_next, map_set, setxattr};
+use std::alloc::Global;
+use std::test::Fail;
+use txn::{NoMemory, Staged};
+
+/// A helper that looks up bytes and copies what it finds.
+#[derive(Clone, Copy)]
+enum Copying {
+    GetXattr,
+    MapGet,
+    MapNext,
+}
+
+/// Twelve bytes of memory, the ranges of a name and of a value as place and length, the answer, and the memory after.
+type Row = (Copying, [u8; 12], (u64, u64), (u64, u64), i64, [u8; 12]);
+
+/// No bytes lie anywhere.
+const NOWHERE: (u64, u64) = (u64::MAX, 0);
+
+/// Beside the xattr `lock` and the keys `bb` and `lock`.
+const COPIES: [Row; 8] = [
+    // the value comes to stand over its name
+    (
+        Copying::GetXattr,
+        *b"..lock......",
+        (2, 4),
+        (1, 9),
+        8,
+        *b".12345678...",
+    ),
+    (
+        Copying::MapGet,
+        *b"..lock......",
+        (2, 4),
+        (3, 8),
+        8,
+        *b"..l12345678.",
+    ),
+    (
+        Copying::GetXattr,
+        *b"..lock......",
+        (2, 4),
+        (2, 7),
+        -34,
+        *b"..lock......",
+    ),
+    // and a key over the one before
+    (
+        Copying::MapNext,
+        *b"a...........",
+        (0, 1),
+        (0, 2),
+        2,
+        *b"bb..........",
+    ),
+    (
+        Copying::MapNext,
+        *b"bb..........",
+        (0, 2),
+        (1, 9),
+        4,
+        *b"block.......",
+    ),
+    (
+        Copying::MapNext,
+        *b"lock........",
+        (0, 4),
+        (0, 9),
+        -61,
+        *b"lock........",
+    ),
+    (
+        Copying::MapNext,
+        *b"............",
+        NOWHERE,
+        (0, 2),
+        2,
+        *b"bb..........",
+    ),
+    (
+        Copying::MapGet,
+        *b"bb..........",
+        (0, 2),
+        NOWHERE,
+        0,
+        *b"bb..........",
+    ),
 ];
 
-fn letter(argument: Argument) -> u8 {
-    match argument {
-        Argument::Number => b'n',
-        Argument::OutputLength => b'o',
-        Argument::Readable => b'r',
-        Argument::Writable => b'w',
+/// A range within twelve bytes.
+fn span(range: (u64, u64)) -> Option<Span>
+    ensures { IfSome result (λ s. (s.len ≡ 0 → ⊥) → s.at + s.len ≤ 12) }
+{
+    let (at, len) = range;
+    if len == 0 || (at <= 12 && len <= 12 - at) {
+        Some(Span { at, len })
+    } else {
+        None
     }
 }
 
-/// Whether an id has that signature.
-fn takes(id: u32, want: &[u8]) -> bool {
-    match signature(id) {
-        None => want == b"none".as_slice(),
-        Some(signature) => {
-            let letters = signature.arguments.iter().map(|a| letter(*a));
-            let star = if signature.writes { Some(b'*') } else { None };
-            letters.chain(star.into_iter()).eq(want.iter().copied())
-        }
+/// Whether a helper answers and copies so.
+fn copies(staged: &Staged, (copying, before, name, value, want, after): Row) -> bool {
+    let (Some(name), Some(value)) = (span(name), span(value)) else {
+        return false;
+    };
+    let mut memory = before;
+    let answer = match copying {
+        Copying::GetXattr => getxattr(staged, &mut memory, name, value),
+        Copying::MapGet => map_get(staged, &mut memory, name, value),
+        Copying::MapNext => map_next(staged, &mut memory, name, value),
+    };
+    answer == want.cast_unsigned() && memory == after
+}
+
+fn sets(alloc: Global, staged: &mut Staged) -> Result<bool, NoMemory> {
+    let lock = setxattr(alloc, staged, b"lock", b"12345678")?;
+    let key = map_set(alloc, staged, b"lock", b"12345678")?;
+    let short = map_set(alloc, staged, b"bb", b"")?;
+    Ok(lock == 0 && key == 0 && short == 0)
+}
+
+#[test]
+fn ranges_may_overlap(rt: HostRuntime) -> Result<(), Fail> {
+    let mut staged = Staged::over(None);
+    assert!(rt; sets(rt.alloc(), &mut staged)?);
+    for row in COPIES {
+        assert!(rt; copies(&staged, row));
     }
-}
-
-#[test]
-fn ids_have_signatures(rt: HostRuntime) {
-    for (id, want) in SIGNATURES {
-        assert!(rt; takes(id, want.as_bytes()), "at {id}");
-    }
-    assert_eq!(rt; Helper::of(u32::MAX), None);
-    assert_eq!(rt; Helper::of(12), Some(Helper::MapNext));
-}
-
-#[test]
-fn numbers_are_given(rt: HostRuntime) {
-    let mut output_len = 7;
-    assert_eq!(rt; out_len(&mut output_len, 4096, 4096), 0);
-    assert_eq!(rt; output_len, 4096);
-    assert_eq!(rt; caller(u32::MAX), 4_294_967_295);
-}
-
-/// A range of a method's memory.
-const fn span(at: u64, len: u64) -> Span {
-    Span { at, len }
-}
-
-// The name stands where the value is written.
-#[test]
-fn a_value_is_copied_over_its_name(rt: HostRuntime) -> Result<(), Fail> {
-    let mut staged = Staged::over(None);
-    assert_eq!(rt; setxattr(rt.alloc(), &mut staged, b"lock", b"12345678")?, 0);
-    let mut memory = *b"..lock......";
-    assert_eq!(rt; getxattr(&staged, &mut memory, span(2, 4), span(1, 9)), 8);
-    assert_eq!(rt; memory, *b".12345678...");
-    Ok(())
-}
-
-#[test]
-fn a_key_is_copied_over_the_one_before(rt: HostRuntime) -> Result<(), Fail> {
-    let mut staged = Staged::over(None);
-    assert_eq!(rt; map_set(rt.alloc(), &mut staged, b"bb", b"")?, 0);
-    let mut memory = *b"a...";
-    assert_eq!(rt; map_next(&staged, &mut memory, span(0, 1), span(0, 2)), 2);
-    assert_eq!(rt; memory, *b"bb..");
-    assert_eq!(rt;
-        map_next(&staged, &mut memory, span(0, 2), span(0, 4)),
-        u64::MAX - 60
-    );
-    assert_eq!(rt; memory, *b"bb..");
-    Ok(())
-}
-
-// A range of length 0 lies wherever its pointer says.
-#[test]
-fn an_empty_range_is_nowhere(rt: HostRuntime) -> Result<(), Fail> {
-    let mut staged = Staged::over(None);
-    assert_eq!(rt; map_set(rt.alloc(), &mut staged, b"b", b"")?, 0);
-    let mut memory = *b"b";
-    assert_eq!(rt;
-        map_get(&staged, &mut memory, span(0, 1), span(u64::MAX, 0)),
-        0
-    );
-    assert_eq!(rt;
-        map_next(&staged, &mut memory, span(u64::MAX, 0), span(0, 1)),
-        1
-    );
-    assert_eq!(rt;
-        map_next(&staged, &mut memory, span(u64::MAX, 0), span(u64::MAX, 0)),
-        u64::MAX - 33
-    );
-    assert_eq!(rt; memory, *b"b");
     Ok(())
 }
