@@ -14,7 +14,11 @@ pub fn report<C: Clock, O: io::Write>(
     out: &mut O,
 ) -> Result<()> {
     let full = full_object(alloc)?;
-    writeln!(out, "call      object  answer{}", if timed { "  ns" } else { "" })?;
+    writeln!(
+        out,
+        "call      object  answer{}",
+        if timed { "  ns" } else { "" }
+    )?;
     for reading in [Reading::Stat, Reading::MapGet] {
         line(clock, timed, reading, None, out)?;
         line(clock, timed, reading, Some(&full), out)?;

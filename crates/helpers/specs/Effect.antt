@@ -18,6 +18,7 @@ pub record Given : Type 0 where
   pub room : ℕ
   pub caller : ℕ
 
+-- its numbers and its texts, from 0 on
 abbrev pub number : Given → ℕ → ℕ
 number g k = slice_index g.numbers k
 
@@ -29,6 +30,7 @@ pub record Answer : Type 0 where
   pub number : ℕ
   pub bytes : List ℕ
 
+-- a number, and nothing that is copied
 abbrev pub gives : ℕ → Answer
 gives n = record { number = n; bytes = [] }
 
@@ -64,6 +66,7 @@ refused errno object = leaves object (refuses errno)
 abbrev pub changes : PlainObject → ℕ → Effect
 changes object n = record { answer = n; bytes = []; object = object; out_len = None }
 
+-- an effect where the object is there
 abbrev pub on_present : PlainObject → (Content → Effect) → Effect
 on_present None effect = refused ENOENT None
 on_present (Some o) effect = effect o

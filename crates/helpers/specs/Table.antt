@@ -35,7 +35,7 @@ truncate_effect object size =
     if nat_lt DATA_LIMIT size then refused EFBIG object else
     on_present object (λ o. changes (Some (record o { bytes = resized o.bytes size })) 0)
 
--- remove: data, attributes and omap go
+-- remove: data, xattrs and omap go
 abbrev pub remove_effect : PlainObject → Effect
 remove_effect object = on_present object (λ o. changes None 0)
 
@@ -58,7 +58,7 @@ setxattr_effect object name value =
     if is_full XATTR_LIMIT (content_of object).xattrs name then refused ENOSPC object else
     changes (Some (record (content_of object) { xattrs = fin.insert (content_of object).xattrs name value })) 0
 
--- rmxattr: refused where the name is none, then where the object is absent, then where it has no such attribute
+-- rmxattr: refused where the name is none, then where the object is absent, then where it has no such xattr
 abbrev pub rmxattr_effect : PlainObject → List ℕ → Effect
 rmxattr_effect object name =
     if not (is_named name) then refused EINVAL object else
@@ -113,6 +113,7 @@ reads arguments effect = record { takes = record { arguments = arguments; writes
 abbrev pub writes : List Argument → (PlainObject → Given → Effect) → Row
 writes arguments effect = record { takes = record { arguments = arguments; writes = true }; effect = effect }
 
+-- the table
 abbrev pub row : Helper → Row
 row Stat = reads [] (λ object g. leaves object (stat_answer object))
 row Read = reads (Number ∷ Writable ∷ []) (λ object g. leaves object (read_answer object (number g 0) g.room))
@@ -153,10 +154,11 @@ helper_of id =
 abbrev pub signature_of : ℕ → Option Takes
 signature_of id = option_map (λ h. (row h).takes) (helper_of id)
 
--- what the helper of an id does; an id of no helper does nothing
+-- what a helper does; none does nothing
 abbrev pub effect_of : Option Helper → PlainObject → Given → Effect
 effect_of None object g = leaves object (gives 0)
 effect_of (Some h) object g = (row h).effect object g
 
+-- what the helper of an id does
 abbrev pub effect : ℕ → PlainObject → Given → Effect
 effect id object g = effect_of (helper_of id) object g

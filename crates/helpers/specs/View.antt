@@ -5,6 +5,7 @@ use Rattle.helpers.specs.declared.argument.Signature as code
 use Rattle.helpers.specs.declared.span.Span.{Span}
 use Rattle.helpers.specs.Effect.{Takes}
 
+-- what the code answers, as a signature
 abbrev pub given_signature : Option code.Signature → Option Takes
 given_signature None = None
 given_signature (Some s) = Some (record { arguments = s.arguments.now; writes = s.writes })

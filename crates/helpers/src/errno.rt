@@ -21,11 +21,11 @@ pub const EINVAL: u64 = 22;
 /// The data would pass its limit.
 pub const EFBIG: u64 = 27;
 
-/// The object has as many attributes or keys as it may have.
+/// The object has as many xattrs or keys as it may have.
 pub const ENOSPC: u64 = 28;
 
 /// The buffer is too short.
 pub const ERANGE: u64 = 34;
 
-/// There is no such attribute or key.
+/// There is no such xattr or key.
 pub const ENODATA: u64 = 61;

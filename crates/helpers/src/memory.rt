@@ -64,9 +64,9 @@ pub fn read(staged: &Staged, at: u64, memory: &mut [u8], room: Span) -> u64
     }
 }
 
-/// Helper 6, `getxattr`: copies the value of an attribute. The name is read whole before the value is written: the two
+/// Helper 6, `getxattr`: copies the value of an xattr. The name is read whole before the value is written: the two
 /// ranges may overlap. Refused, in this order: EINVAL where the name is none, ENOENT, ENODATA where it has no such
-/// attribute, ERANGE where the value is longer than the range.
+/// xattr, ERANGE where the value is longer than the range.
 pub fn getxattr(staged: &Staged, memory: &mut [u8], name: Span, value: Span) -> u64
     requires name { IsWithin memory.old name }
     requires value { IsWithin memory.old value }
