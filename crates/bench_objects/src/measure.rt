@@ -1,0 +1,95 @@
+use anyhow::Result;
+use object_store::{Object, calls};
+use std::alloc::Global;
+use std::time::{Clock, Instant};
+
+/// How often a subject is timed, of which the least time counts, and how many calls each time has.
+const RUNS: usize = 50;
+
+const CALLS: u32 = 1024;
+
+const LONGEST_VALUE: [u8; 4096] = [7; 4096];
+
+/// What is measured.
+#[derive(Clone, Copy, Debug)]
+pub enum Subject {
+    /// A copy of the largest object.
+    Copy,
+    /// A write of one byte to an object of so many bytes.
+    Write { len: u64 },
+    /// A set of a new key to 8 bytes, beside so many others of 4,096 bytes each.
+    Set { others: u32 },
+    /// A read of 64 bytes of an object of so many.
+    Read { len: u64 },
+}
+
+/// The least picoseconds that one call took.
+pub fn time<C: Clock>(alloc: Global, clock: &C, subject: Subject) -> Result<u64> {
+    let object = object_of(alloc, subject)?;
+    let mut least = u64::MAX;
+    for _ in 0..RUNS {
+        let start = Instant::now(clock)?;
+        for n in 0..CALLS {
+            call(alloc, &object, subject, n)?;
+        }
+        let nanos = start.elapsed(clock)?.as_nanos();
+        least = least.min(picos_each(nanos));
+    }
+    Ok(least)
+}
+
+/// The picoseconds that each call took, where all took so many nanoseconds.
+fn picos_each(nanos: u128) -> u64 {
+    let picos = nanos.saturating_mul(1000) / u128::from(CALLS);
+    picos.min(u128::from(u64::MAX)) as u64
+}
+
+/// A key for each number.
+fn key(n: u32) -> [u8; 4] {
+    n.wrapping_mul(2_654_435_761).to_be_bytes()
+}
+
+/// An object of so many bytes, and so many keys.
+fn filled(alloc: Global, len: u64, keys: u32) -> Result<Object> {
+    let empty = calls::create(None, true)?;
+    let mut object = calls::truncate(alloc, Some(&empty), len)?;
+    for n in 0..keys {
+        object = calls::set_key(alloc, Some(&object), &key(n), &LONGEST_VALUE)?;
+    }
+    Ok(object)
+}
+
+/// The object that a subject is measured on.
+fn object_of(alloc: Global, subject: Subject) -> Result<Object> {
+    match subject {
+        Subject::Copy => filled(alloc, 65_536, 1024),
+        Subject::Write { len } | Subject::Read { len } => filled(alloc, len, 0),
+        Subject::Set { others } => filled(alloc, 0, others),
+    }
+}
+
+/// One call, the n-th.
+fn call(alloc: Global, object: &Object, subject: Subject, n: u32) -> Result<()> {
+    match subject {
+        Subject::Copy => {
+            let _ = object.copy()?;
+        }
+        Subject::Write { len } => {
+            let _ = calls::write(alloc, Some(object), place(n, len), b"x")?;
+        }
+        Subject::Set { others } => {
+            let new = key(n.saturating_add(others));
+            let _ = calls::set_key(alloc, Some(object), &new, b"8 bytes!")?;
+        }
+        Subject::Read { len } => {
+            let mut buffer = [0; 64];
+            let _ = calls::read(Some(object), place(n, len), &mut buffer)?;
+        }
+    }
+    Ok(())
+}
+
+/// A place in so many bytes, another for each number.
+fn place(n: u32, len: u64) -> u64 {
+    u64::from(n).wrapping_mul(977) % len.max(1)
+}

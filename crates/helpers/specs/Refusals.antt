@@ -1,0 +1,36 @@
+-- The store's refusals as a helper's answers: what the code's own contracts name.
+use Rattle.std.specs.Prelude.{◌≡◌, ℕ, ◌-◌, ◌^◌, List, Some, Result, Ok, Err, if◌then◌else◌, nat_lt, length}
+use Rattle.object_store.specs.Object.{Content, PlainObject}
+use Rattle.object_store.specs.declared.store_error.StoreError.{StoreError}
+use Rattle.object_store.specs.declared.store_error.StoreError.TheVariants.{Absent, Exists, NoAttr, TooBig, TooMany, Range, NoMemory}
+use Rattle.helpers.specs.declared.errno.TheConstants.{ENOENT, ENOMEM, EEXIST, EINVAL, EFBIG, ENOSPC, ERANGE, ENODATA}
+use Rattle.helpers.specs.Effect.{Answer, refuses, copies, Effect, refused, changes}
+
+abbrev pub errno_of : StoreError → ℕ
+errno_of Absent = ENOENT
+errno_of Exists = EEXIST
+errno_of NoAttr = ENODATA
+errno_of TooBig = EFBIG
+errno_of TooMany = ENOSPC
+errno_of Range = EINVAL
+errno_of NoMemory = ENOMEM
+
+-- want of memory is no answer
+abbrev pub IsAnswer : Result (Unit {0}) StoreError → Type 0
+IsAnswer (Ok _) = Unit {0}
+IsAnswer (Err e) = e ≡ NoMemory → ⊥
+
+-- the number that is answered where a change answered this
+abbrev pub number_of : Result (Unit {0}) StoreError → ℕ → ℕ
+number_of (Ok _) n = n
+number_of (Err e) n = 2 ^ 64 - errno_of e
+
+-- what a helper does that makes this change
+abbrev pub answered : PlainObject → Result Content StoreError → ℕ → Effect
+answered object (Ok c) n = changes (Some c) n
+answered object (Err e) n = refused (errno_of e) object
+
+-- what is answered where a value was looked up
+abbrev pub looked_up : ℕ → Result (List ℕ) StoreError → Answer
+looked_up room (Ok bytes) = if nat_lt room (length bytes) then refuses ERANGE else copies bytes
+looked_up room (Err e) = refuses (errno_of e)

@@ -1,0 +1,164 @@
+-- The helpers, one row each: what it takes and what it does. Where a row names several conditions they are tried in
+-- the order in which they stand. Numbers are whole numbers: nothing wraps.
+use Rattle.std.specs.Prelude.{ℕ, ◌+◌, ◌==◌, List, [], ◌∷◌, Option, Some, None, Bool, true, false, if◌then◌else◌, not, nat_lt, length}
+use Rattle.std.specs.Option.{option_map}
+use Rattle.std.specs.FinMap as fin
+use Rattle.shared_map.specs.Entries.{key_above}
+use Rattle.object_store.specs.Object.{Content, PlainObject, nothing, content_of, part, spliced, resized}
+use Rattle.object_store.specs.declared.limits.TheConstants.{DATA_LIMIT, NAME_LIMIT, XATTR_LIMIT, KEY_LIMIT}
+use Rattle.object_store.specs.Calls.{is_named}
+use Rattle.helpers.specs.declared.errno.TheConstants.{EEXIST, EINVAL, EFBIG, ENOSPC, ERANGE, ENODATA}
+use Rattle.helpers.specs.declared.helper.Helper.{Helper}
+use Rattle.helpers.specs.declared.helper.Helper.TheVariants.{Stat, Read, Write, Truncate, Remove, GetXattr, SetXattr, RmXattr, MapGet, MapSet, MapRm, MapNext, OutLen, Create, Caller}
+use Rattle.helpers.specs.declared.argument.Argument.{Argument}
+use Rattle.helpers.specs.declared.argument.Argument.TheVariants.{Number, OutputLength, Readable, Writable}
+use Rattle.helpers.specs.Effect.{Takes, Given, number, text, Answer, gives, refuses, copies, where_present, Effect, leaves, refused, changes, on_present, is_full}
+
+-- stat: the length of the data
+abbrev pub stat_answer : PlainObject → Answer
+stat_answer object = where_present object (λ o. gives (length o.bytes))
+
+-- read: copies the bytes from a place on that exist, at most as many as there is room for; answers their count
+abbrev pub read_answer : PlainObject → ℕ → ℕ → Answer
+read_answer object at room = where_present object (λ o. copies (part o.bytes at room))
+
+-- write: refused where it would pass the limit; creates an absent object, zeros fill a gap, and no bytes leave the data
+-- as it is; answers how many bytes it wrote
+abbrev pub write_effect : PlainObject → ℕ → List ℕ → Effect
+write_effect object at bytes =
+    if nat_lt DATA_LIMIT (at + length bytes) then refused EFBIG object else
+    changes (Some (record (content_of object) { bytes = spliced (content_of object).bytes at bytes })) (length bytes)
+
+-- truncate: refused past the limit, then where the object is absent; cuts the data or extends it with zeros
+abbrev pub truncate_effect : PlainObject → ℕ → Effect
+truncate_effect object size =
+    if nat_lt DATA_LIMIT size then refused EFBIG object else
+    on_present object (λ o. changes (Some (record o { bytes = resized o.bytes size })) 0)
+
+-- remove: data, xattrs and omap go
+abbrev pub remove_effect : PlainObject → Effect
+remove_effect object = on_present object (λ o. changes None 0)
+
+-- a value or a key that is looked up: refused where there is none, then where there is too little room for it; copies
+-- it and answers its length
+abbrev pub found_answer : Option (List ℕ) → ℕ → Answer
+found_answer None room = refuses ENODATA
+found_answer (Some bytes) room = if nat_lt room (length bytes) then refuses ERANGE else copies bytes
+
+-- getxattr: refused where the name is none, then where the object is absent
+abbrev pub getxattr_answer : PlainObject → List ℕ → ℕ → Answer
+getxattr_answer object name room =
+    if not (is_named name) then refuses EINVAL else
+    where_present object (λ o. found_answer (fin.get o.xattrs name) room)
+
+-- setxattr: refused where the name is none, then where it is new and past the limit; creates an absent object
+abbrev pub setxattr_effect : PlainObject → List ℕ → List ℕ → Effect
+setxattr_effect object name value =
+    if not (is_named name) then refused EINVAL object else
+    if is_full XATTR_LIMIT (content_of object).xattrs name then refused ENOSPC object else
+    changes (Some (record (content_of object) { xattrs = fin.insert (content_of object).xattrs name value })) 0
+
+-- rmxattr: refused where the name is none, then where the object is absent, then where it has no such xattr
+abbrev pub rmxattr_effect : PlainObject → List ℕ → Effect
+rmxattr_effect object name =
+    if not (is_named name) then refused EINVAL object else
+    on_present object (λ o. if not (fin.contains_key o.xattrs name) then refused ENODATA (Some o) else
+    changes (Some (record o { xattrs = fin.remove o.xattrs name })) 0)
+
+-- map_get: as getxattr, on the omap
+abbrev pub map_get_answer : PlainObject → List ℕ → ℕ → Answer
+map_get_answer object key room =
+    if not (is_named key) then refuses EINVAL else
+    where_present object (λ o. found_answer (fin.get o.omap key) room)
+
+-- map_set: as setxattr, on the omap with its limit
+abbrev pub map_set_effect : PlainObject → List ℕ → List ℕ → Effect
+map_set_effect object key value =
+    if not (is_named key) then refused EINVAL object else
+    if is_full KEY_LIMIT (content_of object).omap key then refused ENOSPC object else
+    changes (Some (record (content_of object) { omap = fin.insert (content_of object).omap key value })) 0
+
+-- map_rm: as rmxattr, on the omap
+abbrev pub map_rm_effect : PlainObject → List ℕ → Effect
+map_rm_effect object key =
+    if not (is_named key) then refused EINVAL object else
+    on_present object (λ o. if not (fin.contains_key o.omap key) then refused ENODATA (Some o) else
+    changes (Some (record o { omap = fin.remove o.omap key })) 0)
+
+-- map_next: the least key above the given bytes, which are no key where they are none; refused where these are too
+-- many, then where the object is absent
+abbrev pub map_next_answer : PlainObject → List ℕ → ℕ → Answer
+map_next_answer object key room =
+    if nat_lt NAME_LIMIT (length key) then refuses EINVAL else
+    where_present object (λ o. found_answer (key_above o.omap key) room)
+
+-- out_len: so many bytes of the output region are output
+abbrev pub out_len_effect : PlainObject → ℕ → Effect
+out_len_effect object n = record { answer = 0; bytes = []; object = object; out_len = Some n }
+
+-- create: creates an absent object; where it is there, refused if it is to be new
+abbrev pub create_effect : PlainObject → ℕ → Effect
+create_effect None exclusive = changes (Some nothing) 0
+create_effect (Some o) exclusive = if exclusive == 0 then changes (Some o) 0 else refused EEXIST (Some o)
+
+-- what a helper takes, whether it may change the object, and what it does
+pub record Row : Type 0 where
+  pub takes : Takes
+  pub effect : PlainObject → Given → Effect
+
+-- a helper that only reads the object, and one that may change it
+abbrev pub reads : List Argument → (PlainObject → Given → Effect) → Row
+reads arguments effect = record { takes = record { arguments = arguments; writes = false }; effect = effect }
+
+abbrev pub writes : List Argument → (PlainObject → Given → Effect) → Row
+writes arguments effect = record { takes = record { arguments = arguments; writes = true }; effect = effect }
+
+-- the table
+abbrev pub row : Helper → Row
+row Stat = reads [] (λ object g. leaves object (stat_answer object))
+row Read = reads (Number ∷ Writable ∷ []) (λ object g. leaves object (read_answer object (number g 0) g.room))
+row Write = writes (Number ∷ Readable ∷ []) (λ object g. write_effect object (number g 0) (text g 0))
+row Truncate = writes (Number ∷ []) (λ object g. truncate_effect object (number g 0))
+row Remove = writes [] (λ object g. remove_effect object)
+row GetXattr = reads (Readable ∷ Writable ∷ []) (λ object g. leaves object (getxattr_answer object (text g 0) g.room))
+row SetXattr = writes (Readable ∷ Readable ∷ []) (λ object g. setxattr_effect object (text g 0) (text g 1))
+row RmXattr = writes (Readable ∷ []) (λ object g. rmxattr_effect object (text g 0))
+row MapGet = reads (Readable ∷ Writable ∷ []) (λ object g. leaves object (map_get_answer object (text g 0) g.room))
+row MapSet = writes (Readable ∷ Readable ∷ []) (λ object g. map_set_effect object (text g 0) (text g 1))
+row MapRm = writes (Readable ∷ []) (λ object g. map_rm_effect object (text g 0))
+row MapNext = reads (Readable ∷ Writable ∷ []) (λ object g. leaves object (map_next_answer object (text g 0) g.room))
+row OutLen = reads (OutputLength ∷ []) (λ object g. out_len_effect object (number g 0))
+row Create = writes (Number ∷ []) (λ object g. create_effect object (number g 0))
+row Caller = reads [] (λ object g. leaves object (gives g.caller))
+
+-- the helpers by id
+abbrev pub helper_of : ℕ → Option Helper
+helper_of id =
+    if id == 1 then Some Stat else
+    if id == 2 then Some Read else
+    if id == 3 then Some Write else
+    if id == 4 then Some Truncate else
+    if id == 5 then Some Remove else
+    if id == 6 then Some GetXattr else
+    if id == 7 then Some SetXattr else
+    if id == 8 then Some RmXattr else
+    if id == 9 then Some MapGet else
+    if id == 10 then Some MapSet else
+    if id == 11 then Some MapRm else
+    if id == 12 then Some MapNext else
+    if id == 13 then Some OutLen else
+    if id == 14 then Some Create else
+    if id == 15 then Some Caller else None
+
+-- what the helper of an id takes; none where no helper has that id
+abbrev pub signature_of : ℕ → Option Takes
+signature_of id = option_map (λ h. (row h).takes) (helper_of id)
+
+-- what a helper does; none does nothing
+abbrev pub effect_of : Option Helper → PlainObject → Given → Effect
+effect_of None object g = leaves object (gives 0)
+effect_of (Some h) object g = (row h).effect object g
+
+-- what the helper of an id does
+abbrev pub effect : ℕ → PlainObject → Given → Effect
+effect id object g = effect_of (helper_of id) object g

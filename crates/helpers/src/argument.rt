@@ -1,0 +1,19 @@
+/// What a helper takes from a register, or from two for a range: a pointer and a length in bytes.
+#[derive(Clone, Copy, Debug, PartialEq, Eq)]
+pub enum Argument {
+    /// A number.
+    Number,
+    /// A number that is at most out_cap.
+    OutputLength,
+    /// A range that is read.
+    Readable,
+    /// A range that may be written.
+    Writable,
+}
+
+/// What a helper takes from register 1 on, and whether it may change the object.
+#[derive(Clone, Copy, Debug)]
+pub struct Signature {
+    pub arguments: &'static [Argument],
+    pub writes: bool,
+}

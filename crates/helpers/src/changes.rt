@@ -1,0 +1,111 @@
+ghost use Rattle.std.specs.Prelude.{◌≡◌, ◌≤◌, IfOk, OnErr, length};
+ghost use Rattle.object_store.specs.declared.limits.TheConstants.{VALUE_LIMIT};
+ghost use Rattle.helpers.specs.Table.{write_effect, truncate_effect, remove_effect, setxattr_effect, rmxattr_effect, map_set_effect, map_rm_effect, create_effect};
+
+use crate::answer::{answered, negative};
+use crate::errno::{EEXIST, ENOENT};
+use std::alloc::Global;
+use txn::{NoMemory, Staged};
+
+/// Helper 3, `write`: writes bytes into the data at a place. It creates an absent object, zeros fill a gap, and no
+/// bytes leave the data as it is. It answers how many bytes it wrote. Refused: EFBIG past the most bytes of an object.
+pub fn write(alloc: Global, staged: &mut Staged, at: u64, bytes: &[u8]) -> Result<u64, NoMemory>
+    ensures answer { IfOk result (λ n. n ≡ (write_effect staged.old.after at bytes.now).answer) }
+    ensures object { IfOk result (λ _. staged.new.after ≡ (write_effect staged.old.after at bytes.now).object) }
+    ensures before { staged.new.before ≡ staged.old.before }
+    ensures refused { OnErr result (staged.new ≡ staged.old) }
+{
+    answered(staged.write(alloc, at, bytes), bytes.len() as u64)
+}
+
+/// Helper 4, `truncate`: cuts the data to a length, or extends it with zeros. It answers 0. Refused, in this order:
+/// EFBIG past the most bytes of an object, ENOENT.
+pub fn truncate(alloc: Global, staged: &mut Staged, size: u64) -> Result<u64, NoMemory>
+    ensures answer { IfOk result (λ n. n ≡ (truncate_effect staged.old.after size).answer) }
+    ensures object { IfOk result (λ _. staged.new.after ≡ (truncate_effect staged.old.after size).object) }
+    ensures before { staged.new.before ≡ staged.old.before }
+    ensures refused { OnErr result (staged.new ≡ staged.old) }
+{
+    answered(staged.truncate(alloc, size), 0)
+}
+
+/// Helper 5, `remove`: data, xattrs and omap go. It answers 0 and takes no memory. Refused: ENOENT.
+pub fn remove(staged: &mut Staged) -> u64
+    ensures answer { result ≡ (remove_effect staged.old.after).answer }
+    ensures object { staged.new.after ≡ (remove_effect staged.old.after).object }
+    ensures before { staged.new.before ≡ staged.old.before }
+{
+    if staged.object().is_none() {
+        return negative(ENOENT);
+    }
+    staged.remove();
+    0
+}
+
+/// Helper 7, `setxattr`: sets an xattr, of an absent object too, which it creates. It answers 0. Refused, in this
+/// order: EINVAL where the name is none, ENOSPC where it is new and the object has all xattrs that it may have.
+pub fn setxattr(
+    alloc: Global,
+    staged: &mut Staged,
+    name: &[u8],
+    value: &[u8],
+) -> Result<u64, NoMemory>
+    requires { length value.now ≤ VALUE_LIMIT }
+    ensures answer { IfOk result (λ n. n ≡ (setxattr_effect staged.old.after name.now value.now).answer) }
+    ensures object { IfOk result (λ _. staged.new.after ≡ (setxattr_effect staged.old.after name.now value.now).object) }
+    ensures before { staged.new.before ≡ staged.old.before }
+    ensures refused { OnErr result (staged.new ≡ staged.old) }
+{
+    answered(staged.set_xattr(alloc, name, value), 0)
+}
+
+/// Helper 8, `rmxattr`: removes an xattr. It answers 0. Refused, in this order: EINVAL where the name is none, ENOENT,
+/// ENODATA where it has no such xattr.
+pub fn rmxattr(alloc: Global, staged: &mut Staged, name: &[u8]) -> Result<u64, NoMemory>
+    ensures answer { IfOk result (λ n. n ≡ (rmxattr_effect staged.old.after name.now).answer) }
+    ensures object { IfOk result (λ _. staged.new.after ≡ (rmxattr_effect staged.old.after name.now).object) }
+    ensures before { staged.new.before ≡ staged.old.before }
+    ensures refused { OnErr result (staged.new ≡ staged.old) }
+{
+    answered(staged.remove_xattr(alloc, name), 0)
+}
+
+/// Helper 10, `map_set`: as `setxattr`, on the omap with its limit.
+pub fn map_set(
+    alloc: Global,
+    staged: &mut Staged,
+    key: &[u8],
+    value: &[u8],
+) -> Result<u64, NoMemory>
+    requires { length value.now ≤ VALUE_LIMIT }
+    ensures answer { IfOk result (λ n. n ≡ (map_set_effect staged.old.after key.now value.now).answer) }
+    ensures object { IfOk result (λ _. staged.new.after ≡ (map_set_effect staged.old.after key.now value.now).object) }
+    ensures before { staged.new.before ≡ staged.old.before }
+    ensures refused { OnErr result (staged.new ≡ staged.old) }
+{
+    answered(staged.set_key(alloc, key, value), 0)
+}
+
+/// Helper 11, `map_rm`: as `rmxattr`, on the omap.
+pub fn map_rm(alloc: Global, staged: &mut Staged, key: &[u8]) -> Result<u64, NoMemory>
+    ensures answer { IfOk result (λ n. n ≡ (map_rm_effect staged.old.after key.now).answer) }
+    ensures object { IfOk result (λ _. staged.new.after ≡ (map_rm_effect staged.old.after key.now).object) }
+    ensures before { staged.new.before ≡ staged.old.before }
+    ensures refused { OnErr result (staged.new ≡ staged.old) }
+{
+    answered(staged.remove_key(alloc, key), 0)
+}
+
+/// Helper 14, `create`: creates an absent object. It answers 0 and takes no memory. Refused: EEXIST where the object is
+/// there and is to be new, which any number but 0 says.
+pub fn create(staged: &mut Staged, exclusive: u64) -> u64
+    ensures answer { result ≡ (create_effect staged.old.after exclusive).answer }
+    ensures object { staged.new.after ≡ (create_effect staged.old.after exclusive).object }
+    ensures before { staged.new.before ≡ staged.old.before }
+{
+    if exclusive != 0 && staged.object().is_some() {
+        return negative(EEXIST);
+    }
+    staged.create();
+    0
+}

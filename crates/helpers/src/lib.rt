@@ -1,0 +1,28 @@
+//! The helpers, through which a method reads and changes its object. `Helper::of` is the one place where ids stand;
+//! `signature` says what the helper of an id takes; and one function a helper does what its row of the table says
+//! (`specs/Table.antt`), over a staged object where it touches that. A refused helper changes nothing, nor does one
+//! whose memory was refused.
+#![tactic(auto)]
+
+mod answer;
+mod argument;
+mod changes;
+mod errno;
+mod helper;
+mod lookups;
+mod memory;
+mod plain;
+mod span;
+
+pub use answer::Answer;
+pub use argument::{Argument, Signature};
+pub use changes::{create, map_rm, map_set, remove, rmxattr, setxattr, truncate, write};
+pub use errno::{EBUSY, EEXIST, EFBIG, EINVAL, EIO, ENODATA, ENOENT, ENOMEM, ENOSPC, ERANGE};
+pub use helper::{Helper, signature};
+pub use lookups::{key_above, map_value, stat, xattr_value};
+pub use memory::{getxattr, map_get, map_next, read};
+pub use plain::{caller, out_len};
+pub use span::Span;
+
+#[cfg(test)]
+mod tests;

@@ -1,0 +1,106 @@
+ghost use Rattle.std.specs.Prelude.{◌≡◌, ◌+◌, ◌≤◌, length};
+ghost use Rattle.object_store.specs.Object.{part};
+ghost use Rattle.helpers.specs.Table.{read_answer, getxattr_answer, map_get_answer, map_next_answer};
+ghost use Rattle.helpers.specs.View.{IsWithin, bytes_in, filled, written};
+
+use crate::answer::negative;
+use crate::errno::ENOENT;
+use crate::lookups::{key_above, map_value, xattr_value};
+use crate::span::Span;
+use object_store::Object;
+use txn::Staged;
+
+/// The bytes of a range.
+pub fn bytes_in(memory: &[u8], span: Span) -> &[u8]
+    requires { IsWithin memory.now span }
+    ensures { result.now ≡ bytes_in memory.now span }
+{
+    if span.len == 0 {
+        return &memory[..0];
+    }
+    &memory[span.at as usize..(span.at + span.len) as usize]
+}
+
+/// Writes bytes over those at the beginning of a range.
+pub fn fill(memory: &mut [u8], span: Span, bytes: &[u8])
+    requires within { IsWithin memory.old span }
+    requires short { length bytes.now ≤ span.len }
+    ensures { memory.new ≡ filled memory.old span bytes.now }
+{
+    if span.len == 0 {
+        return;
+    }
+    let at = span.at as usize;
+    memory[at..at + bytes.len()].copy_from_slice(bytes);
+}
+
+/// Copies the data from a place on to a range of at most so many bytes, and answers how many it copied.
+fn read_into(object: &Object, at: u64, memory: &mut [u8], start: usize, most: usize) -> usize
+    requires { start + most ≤ length memory.old }
+    ensures count { result ≡ length (part object.now.bytes at most) }
+    ensures bytes { memory.new ≡ written memory.old start (part object.now.bytes at most) }
+{
+    object.read(at, &mut memory[start..start + most])
+}
+
+/// Helper 2, `read`: copies the data from a place on, as far as it goes and at most as many bytes as the range has. It
+/// answers how many. Refused: ENOENT.
+pub fn read(staged: &Staged, at: u64, memory: &mut [u8], room: Span) -> u64
+    requires { IsWithin memory.old room }
+    ensures answer { result ≡ (read_answer staged.entry.now.after at room.len).number }
+    ensures bytes { memory.new ≡ filled memory.old room (read_answer staged.entry.now.after at room.len).bytes }
+{
+    match staged.object() {
+        None => {
+            fill(memory, room, &[]);
+            negative(ENOENT)
+        }
+        Some(object) => {
+            if room.len == 0 {
+                return 0;
+            }
+            read_into(object, at, memory, room.at as usize, room.len as usize) as u64
+        }
+    }
+}
+
+/// Helper 6, `getxattr`: copies the value of an xattr. The name is read whole before the value is written: the two
+/// ranges may overlap. Refused, in this order: EINVAL where the name is none, ENOENT, ENODATA where it has no such
+/// xattr, ERANGE where the value is longer than the range.
+pub fn getxattr(staged: &Staged, memory: &mut [u8], name: Span, value: Span) -> u64
+    requires name { IsWithin memory.old name }
+    requires value { IsWithin memory.old value }
+    ensures answer { result ≡ (getxattr_answer staged.entry.now.after (bytes_in memory.old name) value.len).number }
+    ensures bytes { memory.new ≡ filled memory.old value (getxattr_answer staged.entry.now.after (bytes_in memory.old name) value.len).bytes }
+{
+    let answer = xattr_value(staged, bytes_in(memory, name), value.len);
+    fill(memory, value, answer.bytes);
+    answer.number
+}
+
+/// Helper 9, `map_get`: as `getxattr`, on the omap.
+pub fn map_get(staged: &Staged, memory: &mut [u8], key: Span, value: Span) -> u64
+    requires key { IsWithin memory.old key }
+    requires value { IsWithin memory.old value }
+    ensures answer { result ≡ (map_get_answer staged.entry.now.after (bytes_in memory.old key) value.len).number }
+    ensures bytes { memory.new ≡ filled memory.old value (map_get_answer staged.entry.now.after (bytes_in memory.old key) value.len).bytes }
+{
+    let answer = map_value(staged, bytes_in(memory, key), value.len);
+    fill(memory, value, answer.bytes);
+    answer.number
+}
+
+/// Helper 12, `map_next`: copies the least key of the omap above the given bytes, of which none stand below all keys.
+/// The bytes are read whole before the key is written: the two ranges may overlap. Refused, in this order: EINVAL where
+/// the bytes are more than a key has, ENOENT, ENODATA where no key is above them, ERANGE where the key is longer than
+/// the range.
+pub fn map_next(staged: &Staged, memory: &mut [u8], key: Span, next: Span) -> u64
+    requires key { IsWithin memory.old key }
+    requires next { IsWithin memory.old next }
+    ensures answer { result ≡ (map_next_answer staged.entry.now.after (bytes_in memory.old key) next.len).number }
+    ensures bytes { memory.new ≡ filled memory.old next (map_next_answer staged.entry.now.after (bytes_in memory.old key) next.len).bytes }
+{
+    let answer = key_above(staged, bytes_in(memory, key), next.len);
+    fill(memory, next, answer.bytes);
+    answer.number
+}

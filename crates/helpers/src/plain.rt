@@ -1,0 +1,20 @@
+ghost use Rattle.std.specs.Prelude.{◌≡◌, None, Some};
+ghost use Rattle.helpers.specs.Effect.{gives};
+ghost use Rattle.helpers.specs.Table.{out_len_effect};
+
+/// Helper 13, `out_len`: so many bytes of the output region are output, which are at most out_cap by its signature. It
+/// answers 0 and touches no object.
+pub fn out_len(output_len: &mut usize, n: u64) -> u64
+    ensures answer { result ≡ (out_len_effect None n).answer }
+    ensures length { Some output_len.new ≡ (out_len_effect None n).out_len }
+{
+    *output_len = n as usize;
+    0
+}
+
+/// Helper 15, `caller`: the number of the client for whom the method runs.
+pub fn caller(client: u32) -> u64
+    ensures { result ≡ (gives client).number }
+{
+    u64::from(client)
+}

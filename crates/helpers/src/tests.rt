@@ -1,0 +1,6 @@
+mod calls;
+mod data;
+mod limits;
+mod names;
+mod ranges;
+mod signatures;

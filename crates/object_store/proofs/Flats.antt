@@ -1,0 +1,188 @@
+-- Lemmas on the bytes of extents.
+use Rattle.std.proofs.Common.{◌≡◌, ℕ, max, zero, suc, ◌⊎◌, inl, inr, length-drop, ◌+◌, ◌-◌, ◌<◌, ◌≤◌, min, List, [], ◌∷◌, ◌++◌, length, take, drop, replicate, get_or, refl, ap, sym, ◌∙◌, append_assoc, arith, length-append}
+use Rattle.std.proofs.lemmas.List.{drop-drop, take_at, drop_at, length-take, length-replicate, append-nil, take-append-drop, take_more, take-append-le, drop-append-le}
+use Rattle.std.proofs.Math.Seq.{take-add, take-append-add, drop-append-add, take-nil, drop-nil}
+use Rattle.std.proofs.Math.ListN.{drop_of_length-le}
+use Rattle.std.specs.Arc.{arc_value}
+use Rattle.std.specs.declared.sync.Arc.{Arc}
+use Rattle.std.specs.declared.vec.Vec.{Vec}
+use Rattle.object_store.proofs.Splice.{spliced_some}
+use Rattle.object_store.specs.Object.{spliced, resized}
+use Rattle.object_store.specs.Extents.{flat, cut}
+
+module _ {Y Z : Type 0} where
+  pub flat-append : (xs ys : List (Arc (Vec ℕ Y) Z)) → flat (xs ++ ys) ≡ flat xs ++ flat ys
+  flat-append [] ys = refl
+  flat-append (x ∷ xs) ys = ap (λ r. (arc_value x).items ++ r) (flat-append xs ys) ∙ sym (append_assoc (arc_value x).items (flat xs) (flat ys))
+
+  pub flat-push : (xs : List (Arc (Vec ℕ Y) Z)) (x : Arc (Vec ℕ Y) Z) → flat (xs ++ x ∷ []) ≡ flat xs ++ (arc_value x).items
+  flat-push xs x = flat-append xs (x ∷ []) ∙ ap (λ r. flat xs ++ r) (append-nil _)
+
+  pub flat-halves : (xs : List (Arc (Vec ℕ Y) Z)) (i : ℕ) → flat (take i xs) ++ flat (drop i xs) ≡ flat xs
+  flat-halves xs i = sym (flat-append (take i xs) (drop i xs)) ∙ ap flat (take-append-drop i xs)
+
+  pub length-flat-take : (xs : List (Arc (Vec ℕ Y) Z)) (i : ℕ) → length (flat (take i xs)) ≤ length (flat xs)
+  length-flat-take xs i = omega (arith, sym (ap length (flat-halves xs i)), length-append (flat (take i xs)) (flat (drop i xs)))
+
+  pub flat-more : (xs : List (Arc (Vec ℕ Y) Z)) (i : ℕ) (d : Arc (Vec ℕ Y) Z) → i < length xs → flat (take (i + 1) xs) ≡ flat (take i xs) ++ (arc_value (get_or xs i d)).items
+  flat-more xs i d h = ap flat (take_more xs i d h) ∙ flat-push (take i xs) (get_or xs i d)
+
+  pub length-flat-more : (xs : List (Arc (Vec ℕ Y) Z)) (i : ℕ) (d : Arc (Vec ℕ Y) Z) → i < length xs → length (flat (take (i + 1) xs)) ≡ length (flat (take i xs)) + length (arc_value (get_or xs i d)).items
+  length-flat-more xs i d h = ap length (flat-more xs i d h) ∙ length-append (flat (take i xs)) (arc_value (get_or xs i d)).items
+
+  pub flat-more-fits : (xs : List (Arc (Vec ℕ Y) Z)) (i : ℕ) (d : Arc (Vec ℕ Y) Z) → i < length xs → length (flat (take i xs)) + length (arc_value (get_or xs i d)).items ≤ length (flat xs)
+  flat-more-fits xs i d h = omega (arith, length-flat-take xs (i + 1), length-flat-more xs i d h)
+
+le_or : (a b : ℕ) → (a ≤ b) ⊎ (b ≤ a)
+le_or zero b = inl (omega arith)
+le_or (suc a) zero = inr (omega arith)
+le_or (suc a) (suc b) = elim (le_or a b) [ inl p ↦ inl (omega (arith, p)) | inr p ↦ inr (omega (arith, p)) ]
+
+take_whole : (xs : List ℕ) (n : ℕ) → length xs ≤ n → take n xs ≡ xs
+take_whole xs n h =
+    let e : n ≡ length xs + (n - length xs) = omega arith in
+    ap (λ l. take n l) (sym (append-nil xs)) ∙ ap (λ m. take m (xs ++ [])) e ∙ take-append-add xs [] (n - length xs) ∙ ap (λ l. xs ++ l) (take-nil (n - length xs)) ∙ append-nil xs
+
+pub drop-both : (n : ℕ) (xs ys : List ℕ) → drop n (xs ++ ys) ≡ drop n xs ++ drop (n - length xs) ys
+drop-both n xs ys =
+    elim (le_or n (length xs)) [
+      | inl h ↦ let e : 0 ≡ n - length xs = omega (arith, h) in drop-append-le n xs ys h ∙ ap (λ m. drop n xs ++ drop m ys) e
+      | inr h ↦ let e : n ≡ length xs + (n - length xs) = omega (arith, h) in
+          ap (λ m. drop m (xs ++ ys)) e ∙ drop-append-add xs ys (n - length xs) ∙ ap (λ l. l ++ drop (n - length xs) ys) (sym (drop_of_length-le xs h))
+    ]
+
+pub take-both : (n : ℕ) (xs ys : List ℕ) → take n (xs ++ ys) ≡ take n xs ++ take (n - length xs) ys
+take-both n xs ys =
+    elim (le_or n (length xs)) [
+      | inl h ↦ let e : 0 ≡ n - length xs = omega (arith, h) in take-append-le n xs ys h ∙ sym (append-nil (take n xs)) ∙ ap (λ m. take n xs ++ take m ys) e
+      | inr h ↦ let e : n ≡ length xs + (n - length xs) = omega (arith, h) in
+          ap (λ m. take m (xs ++ ys)) e ∙ take-append-add xs ys (n - length xs) ∙ ap (λ l. l ++ take (n - length xs) ys) (sym (take_whole xs n h))
+    ]
+
+-- a range over two parts
+pub cut-append : (from to : ℕ) (xs ys : List ℕ) → from ≤ to → cut from to (xs ++ ys) ≡ cut from to xs ++ cut (from - length xs) (to - length xs) ys
+cut-append from to xs ys h =
+    let e : (to - from) - length (drop from xs) ≡ (to - length xs) - (from - length xs) = omega (arith, length-drop from xs) in
+    ap (take (to - from)) (drop-both from xs ys)
+    ∙ take-both (to - from) (drop from xs) (drop (from - length xs) ys)
+    ∙ ap (λ m. cut from to xs ++ take m (drop (from - length xs) ys)) e
+
+-- a range as far as there are bytes
+pub cut-min : (from to : ℕ) (xs : List ℕ) → from ≤ to → cut (min from (length xs)) (min to (length xs)) xs ≡ cut from to xs
+cut-min from to xs h =
+    elim (le_or from (length xs)) [
+      | inl p ↦
+          let f : min from (length xs) ≡ from = omega (arith, p) in
+          ap (λ m. take (min to (length xs) - m) (drop m xs)) f
+          ∙ elim (le_or to (length xs)) [
+            | inl q ↦ let t : min to (length xs) ≡ to = omega (arith, q) in ap (λ m. take (m - from) (drop from xs)) t
+            | inr q ↦ take_whole (drop from xs) (min to (length xs) - from) (omega (arith, length-drop from xs, q)) ∙ sym (take_whole (drop from xs) (to - from) (omega (arith, length-drop from xs, q)))
+          ]
+      | inr p ↦
+          ap (take (min to (length xs) - min from (length xs))) (drop_of_length-le xs {i = min from (length xs)} (omega (arith, p)))
+          ∙ take-nil _
+          ∙ sym (ap (take (to - from)) (drop_of_length-le xs {i = from} p) ∙ take-nil _)
+    ]
+
+front_parts : (from at : ℕ) (s : List ℕ) → from ≤ at → take from s ++ cut from at s ≡ take at s
+front_parts from at s h =
+    let e : from + (at - from) ≡ at = omega (arith, h) in
+    sym (take-add from (at - from) s) ∙ ap (λ n. take n s) e
+
+back_parts : (end to : ℕ) (s : List ℕ) → min end (length s) ≤ to → cut (min end to) to s ++ drop to s ≡ drop end s
+back_parts end to s h =
+    elim (le_or end to) [
+      | inl p ↦
+          let e : min end to ≡ end = omega (arith, p) in
+          let t : end + (to - end) ≡ to = omega (arith, p) in
+          ap (λ m. cut m to s ++ drop to s) e
+          ∙ ap (λ l. cut end to s ++ l) (ap (λ n. drop n s) (sym t) ∙ sym (drop-drop (to - end) end s))
+          ∙ take-append-drop (to - end) (drop end s)
+      | inr p ↦
+          let e : min end to ≡ to = omega (arith, p) in
+          let z : to - to ≡ 0 = omega arith in
+          ap (λ m. cut m to s ++ drop to s) e
+          ∙ ap (λ n. take n (drop to s) ++ drop to s) z
+          ∙ elim (le_or end (length s)) [
+            | inl q ↦ let same : to ≡ end = omega (arith, p, q, h) in ap (λ n. drop n s) same
+            | inr q ↦ drop_of_length-le s {i = to} (omega (arith, q, h)) ∙ sym (drop_of_length-le s {i = end} q)
+          ]
+    ]
+
+-- text laid over bytes at a place, with zeros in a gap
+abbrev pub laid : List ℕ → ℕ → List ℕ → List ℕ
+laid bytes at text = take at bytes ++ replicate (at - length bytes) 0 ++ text ++ drop (at + length text) bytes
+
+pub overlay_next : (front chunk rest : List ℕ) (done : ℕ) → done ≡ length front →
+    take done (front ++ drop done rest) ++ chunk ++ drop (done + length chunk) (front ++ drop done rest) ≡ (front ++ chunk) ++ drop (done + length chunk) rest
+overlay_next front chunk rest done e =
+    ap (λ l. (l ++ chunk) ++ drop (done + length chunk) (front ++ drop done rest)) (take_at front (drop done rest) done (sym e))
+    ∙ ap (λ l. (front ++ chunk) ++ l) (ap (λ n. drop (n + length chunk) (front ++ drop done rest)) e ∙ drop-append-add front (drop done rest) (length chunk) ∙ drop-drop (length chunk) done rest)
+
+pub length-cut : (from to : ℕ) (xs : List ℕ) → length (cut from to xs) ≤ to - from
+length-cut from to xs = omega (arith, length-take (to - from) (drop from xs))
+
+-- the bytes that a write leaves, in the pieces that it makes
+pub written : (s : List ℕ) (at : ℕ) (text : List ℕ) (from to : ℕ) → from ≤ at → min (at + length text) (length s) ≤ to →
+    (take from s ++ (((cut from at s ++ replicate (at - length s) 0) ++ text) ++ cut (min (at + length text) to) to s)) ++ drop to s ≡ laid s at text
+written s at text from to low high =
+    let z = replicate (at - length s) 0 in
+    let x = cut from at s in
+    let y = cut (min (at + length text) to) to s in
+    ap (λ l. l ++ drop to s) (sym (append_assoc (take from s) ((x ++ z) ++ text) y)
+    ∙ ap (λ l. l ++ y) (sym (append_assoc (take from s) (x ++ z) text) ∙ ap (λ l. l ++ text) (sym (append_assoc (take from s) x z) ∙ ap (λ l. l ++ z) (front_parts from at s low))))
+    ∙ append_assoc ((take at s ++ z) ++ text) y (drop to s)
+    ∙ ap (λ l. ((take at s ++ z) ++ text) ++ l) (back_parts (at + length text) to s high)
+
+module _ {Y Z : Type 0} where
+  pub write_is : (xs : List (Arc (Vec ℕ Y) Z)) (at : ℕ) (text : List ℕ) (kept from others to : ℕ) (m all : List ℕ) →
+      from ≡ length (flat (take kept xs)) → from ≤ at → to ≡ length (flat (take others xs)) → min (at + length text) (length (flat xs)) ≤ to →
+      m ≡ ((cut from at (flat xs) ++ replicate (at - length (flat xs)) 0) ++ text) ++ cut (min (at + length text) to) to (flat xs) →
+      all ≡ (flat (take kept xs) ++ m) ++ flat (drop others xs) → all ≡ laid (flat xs) at text
+  write_is xs at text kept from others to m all ef low et high em ea =
+      let front : flat (take kept xs) ≡ take from (flat xs) =
+      sym (take_at (flat (take kept xs)) (flat (drop kept xs)) from (sym ef)) ∙ ap (take from) (flat-halves xs kept) in
+      let back : flat (drop others xs) ≡ drop to (flat xs) =
+      sym (drop_at (flat (take others xs)) (flat (drop others xs)) to (sym et)) ∙ ap (drop to) (flat-halves xs others) in
+      ea
+      ∙ ap (λ b. (flat (take kept xs) ++ m) ++ b) back
+      ∙ ap (λ f. (f ++ m) ++ drop to (flat xs)) front
+      ∙ ap (λ w. (take from (flat xs) ++ w) ++ drop to (flat xs)) em
+      ∙ written (flat xs) at text from to low high
+
+pub length-laid : (s : List ℕ) (at : ℕ) (text : List ℕ) → length (laid s at text) ≡ max (length s) (at + length text)
+length-laid s at text =
+    let z : length {A = ℕ} (replicate (at - length s) 0) ≡ at - length s = length-replicate (at - length s) 0 in
+    length-append ((take at s ++ replicate (at - length s) 0) ++ text) (drop (at + length text) s)
+    ∙ ap (λ n. n + length (drop (at + length text) s)) (length-append (take at s ++ replicate (at - length s) 0) text ∙ ap (λ n. n + length text) (length-append (take at s) (replicate (at - length s) 0)))
+    ∙ omega (arith, z, length-take at s, length-drop (at + length text) s)
+
+pub spliced_laid : (s : List ℕ) (at : ℕ) (text : List ℕ) → 0 < length text → spliced s at text ≡ laid s at text
+spliced_laid s at text h = spliced_some s at text h
+
+pub length_spliced : (s : List ℕ) (at : ℕ) (text : List ℕ) → 0 < length text → length (spliced s at text) ≡ max (length s) (at + length text)
+length_spliced s at text h = ap length (spliced_laid s at text h) ∙ length-laid s at text
+
+pub length_resized : (s : List ℕ) (len : ℕ) → length (resized s len) ≡ len
+length_resized s len =
+    let z : length {A = ℕ} (replicate (len - length s) 0) ≡ len - length s = length-replicate (len - length s) 0 in
+    length-append (take len s) (replicate (len - length s) 0) ∙ omega (arith, z, length-take len s)
+
+module _ {Y Z : Type 0} where
+  -- the bytes that a truncation leaves, in the pieces that it makes
+  pub resized_is : (xs : List (Arc (Vec ℕ Y) Z)) (len kept from others : ℕ) (m all : List ℕ) →
+      from ≡ length (flat (take kept xs)) → from ≤ len → others ≡ length xs →
+      m ≡ ((cut from len (flat xs) ++ replicate (len - length (flat xs)) 0) ++ []) ++ cut 0 0 (flat xs) →
+      all ≡ (flat (take kept xs) ++ m) ++ flat (drop others xs) → all ≡ resized (flat xs) len
+  resized_is xs len kept from others m all ef low eo em ea =
+      let z = replicate (len - length (flat xs)) 0 in
+      let front : flat (take kept xs) ≡ take from (flat xs) =
+      sym (take_at (flat (take kept xs)) (flat (drop kept xs)) from (sym ef)) ∙ ap (take from) (flat-halves xs kept) in
+      ea
+      ∙ ap (λ n. (flat (take kept xs) ++ m) ++ flat (drop n xs)) eo
+      ∙ ap (λ b. (flat (take kept xs) ++ m) ++ flat b) (drop_of_length-le xs {i = length xs} (omega arith))
+      ∙ append-nil (flat (take kept xs) ++ m)
+      ∙ ap (λ f. f ++ m) front
+      ∙ ap (λ w. take from (flat xs) ++ w) (em ∙ append-nil _ ∙ append-nil _)
+      ∙ sym (append_assoc (take from (flat xs)) (cut from len (flat xs)) z)
+      ∙ ap (λ l. l ++ z) (front_parts from len (flat xs) low)

@@ -1,0 +1,4 @@
+mod Bytes
+mod Flats
+mod Splice
+mod Within

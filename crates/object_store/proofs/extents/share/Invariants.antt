@@ -1,0 +1,6 @@
+use Rattle.std.proofs.Common.{◌≡◌, ◌≤◌, ◌++◌, length, take}
+use Rattle.object_store.specs.Extents.{flat, cut}
+use Rattle.object_store.proofs.extents.share.Given as goal
+
+abbrev pub invariant-loop-part : goal.invariant-loop-part
+invariant-loop-part l = flat l.parts.items ≡ flat l.initial.parts.items ++ flat (take l.part-index l.others)

@@ -1,0 +1,58 @@
+ghost use Rattle.std.specs.Prelude.{◌≡◌, OnErr};
+ghost use Rattle.std.specs.Option.{option_copied};
+ghost use Rattle.std.specs.FinMap as fin;
+ghost use Rattle.object_store.specs.Calls.{set_in, removed_in};
+ghost use Rattle.object_store.specs.Returned.{Gives};
+
+use crate::store_error::StoreError;
+use crate::stored_bytes::StoredBytes;
+use shared_map::SharedMap;
+use std::alloc::Global;
+
+/// Names and their values.
+pub(crate) type Attributes = SharedMap<StoredBytes>;
+
+/// The value of a name.
+pub(crate) fn value_in<'a>(attributes: &'a Attributes, name: &[u8]) -> Option<&'a [u8]>
+    ensures { option_copied result ≡ fin.get attributes.now name.now }
+{
+    match attributes.get(name) {
+        Some(value) => Some(value.bytes()),
+        None => None,
+    }
+}
+
+/// Sets the value of a name, where there are at most so many names then.
+pub(crate) fn set_in(
+    alloc: Global,
+    attributes: &mut Attributes,
+    most: usize,
+    name: &[u8],
+    value: &[u8],
+) -> Result<(), StoreError>
+    ensures answer { Gives (λ _. attributes.new) result (set_in most attributes.old name.now value.now) }
+    ensures err { OnErr result (attributes.new ≡ attributes.old) }
+{
+    if attributes.len() >= most && attributes.get(name).is_none() {
+        return Err(StoreError::TooMany);
+    }
+    let value = StoredBytes::new(alloc, value)?;
+    attributes.set(alloc, name, value)?;
+    Ok(())
+}
+
+/// Removes a name that has to be there.
+pub(crate) fn remove_in(
+    alloc: Global,
+    attributes: &mut Attributes,
+    name: &[u8],
+) -> Result<(), StoreError>
+    ensures answer { Gives (λ _. attributes.new) result (removed_in attributes.old name.now) }
+    ensures err { OnErr result (attributes.new ≡ attributes.old) }
+{
+    if attributes.get(name).is_none() {
+        return Err(StoreError::NoAttr);
+    }
+    attributes.remove(alloc, name)?;
+    Ok(())
+}

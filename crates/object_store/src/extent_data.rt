@@ -1,0 +1,164 @@
+ghost use Rattle.std.specs.Prelude.{◌≡◌, ◌+◌, ◌≤◌, [], IfOk, OnErr, IfErr, length};
+ghost use Rattle.object_store.specs.declared.limits.TheConstants.{DATA_LIMIT};
+ghost use Rattle.object_store.specs.Object.{part, spliced, resized};
+ghost use Rattle.object_store.specs.Edits.{written, truncated, overlaid};
+ghost use Rattle.object_store.specs.Extents.{flat};
+ghost use Rattle.object_store.specs.Returned.{GivesData};
+
+use crate::data::Data;
+use crate::data_error::DataError;
+use crate::extents::{Extent, copy_out, with_len, with_text};
+use crate::slices::place_of;
+use std::alloc::{AllocError, Global};
+use std::marker::Model;
+use std::sync::Arc;
+
+/// Data in extents of at most 4,096 bytes, which never change once they are made: a copy costs one pointer, and a write makes anew what it touches and
+/// shares the other extents. Contracts see the bytes.
+#[derive(Drop)]
+pub struct ExtentData {
+    parts: Option<Arc<Vec<Extent>>>,
+    len: usize,
+}
+
+impl Model for ExtentData {
+    ghost use Rattle.std.specs.Prelude.{◌≡◌, ◌≤◌, ℕ, List, length};
+    ghost use Rattle.object_store.specs.declared.limits.TheConstants.{DATA_LIMIT};
+    ghost use Rattle.object_store.specs.Extents.{flat_shared};
+
+    ghost Value = { List ℕ };
+
+    ghost view = { λ d. flat_shared d.parts };
+
+    ghost invariant = { λ d. (d.len ≡ length (flat_shared d.parts)) × (d.len ≤ DATA_LIMIT) };
+}
+
+impl ExtentData {
+    /// No bytes. It takes no memory.
+    pub fn new() -> ExtentData
+        ensures { result ≡ [] }
+    {
+        ExtentData {
+            parts: None,
+            len: 0,
+        }
+    }
+
+    /// The extents in order.
+    fn parts(&self) -> &[Extent]
+        ensures { flat result.now ≡ self.now }
+    {
+        match &self.parts {
+            Some(parts) => parts.as_slice(),
+            None => &[],
+        }
+    }
+
+    /// The same bytes, in the same extents.
+    pub(crate) fn share(&self) -> Result<ExtentData, AllocError>
+        ensures { IfOk result (λ d. d ≡ self.now) }
+    {
+        let parts = match &self.parts {
+            Some(parts) => Some(Arc::try_clone(parts)?),
+            None => None,
+        };
+        Ok(ExtentData {
+            parts,
+            len: self.len,
+        })
+    }
+
+    /// The bytes with text written over them at a place.
+    pub(crate) fn with_text(
+        &self,
+        alloc: Global,
+        at: usize,
+        text: &[u8],
+    ) -> Result<ExtentData, AllocError>
+        requires { at + length text.now ≤ DATA_LIMIT }
+        ensures { IfOk result (λ d. d ≡ spliced self.now at text.now) }
+    {
+        if text.is_empty() {
+            return self.share();
+        }
+        let parts = with_text(alloc, self.parts(), self.len, at, text)?;
+        Ok(ExtentData {
+            parts: Some(Arc::new(alloc, parts)?),
+            len: self.len.max(at + text.len()),
+        })
+    }
+
+    /// The bytes cut, or extended with zeros, to a length.
+    pub(crate) fn with_len(&self, alloc: Global, len: usize) -> Result<ExtentData, AllocError>
+        requires { len ≤ DATA_LIMIT }
+        ensures { IfOk result (λ d. d ≡ resized self.now len) }
+    {
+        let parts = with_len(alloc, self.parts(), self.len, len)?;
+        Ok(ExtentData {
+            parts: Some(Arc::new(alloc, parts)?),
+            len,
+        })
+    }
+}
+
+impl Data for ExtentData {
+    ghost bytes = { λ d. d };
+
+    fn len(&self) -> usize {
+        self.len
+    }
+
+    fn read(&self, at: u64, out: &mut [u8]) -> usize {
+        let from = at.min(self.len as u64) as usize;
+        let to = from + out.len().min(self.len - from);
+        copy_out(self.parts(), from, to, out)
+    }
+
+    fn write(&mut self, alloc: Global, at: u64, text: &[u8]) -> Result<(), DataError> {
+        if text.is_empty() {
+            return Ok(());
+        }
+        let at = place_of(at, text.len()).ok_or(DataError::TooBig)?;
+        *self = self.with_text(alloc, at, text)?;
+        Ok(())
+    }
+
+    fn truncate(&mut self, alloc: Global, len: u64) -> Result<(), DataError> {
+        let len = place_of(len, 0).ok_or(DataError::TooBig)?;
+        *self = self.with_len(alloc, len)?;
+        Ok(())
+    }
+
+    fn copy(&self, alloc: Global) -> Result<ExtentData, DataError> {
+        let _ = alloc;
+        Ok(self.share()?)
+    }
+}
+
+#[cfg(test)]
+impl ExtentData {
+    /// How many extents it has.
+    pub(crate) fn extent_count(&self) -> usize {
+        self.parts().len()
+    }
+
+    /// The length of its longest extent.
+    pub(crate) fn longest_extent(&self) -> usize {
+        let mut most = 0;
+        for part in self.parts() {
+            most = most.max(part.len());
+        }
+        most
+    }
+
+    /// How many of its extents lie where those of the other data at the same place do.
+    pub(crate) fn shared_with(&self, other: &ExtentData) -> usize {
+        let mut count = 0;
+        for (own, others) in self.parts().iter().zip(other.parts()) {
+            if Arc::as_ptr(own) == Arc::as_ptr(others) {
+                count = usize::saturating_add(count, 1);
+            }
+        }
+        count
+    }
+}

@@ -1,0 +1,197 @@
+ghost use Rattle.std.specs.Prelude.{◌≡◌, ◌+◌, ◌-◌, ◌<◌, ◌≤◌, ◌^◌, ◌++◌, IfOk, OnOk, min, length, take, drop, replicate};
+ghost use Rattle.object_store.specs.Object.{spliced, resized};
+ghost use Rattle.object_store.specs.Extents.{flat, cut};
+
+use crate::slices::overlay;
+use std::alloc::{AllocError, Global};
+use std::sync::Arc;
+
+/// Bytes that never change once they are made, shared by all data that has them.
+pub(crate) type Extent = Arc<Vec<u8>>;
+
+/// The most bytes of an extent.
+pub(crate) const EXTENT_LIMIT: usize = 4096;
+
+/// The extents of the bytes with a text written over them at a place.
+pub(crate) fn with_text(
+    alloc: Global,
+    parts: &[Extent],
+    len: usize,
+    at: usize,
+    text: &[u8],
+) -> Result<Vec<Extent>, AllocError>
+    requires len { (len ≡ length (flat parts.now)) × (len ≤ 65536) }
+    requires text { 0 < length text.now }
+    requires end { at + length text.now ≤ 65536 }
+    ensures { IfOk result (λ v. flat v.items ≡ spliced (flat parts.now) at text.now) }
+{
+    let end = at + text.len();
+    let (kept, from) = before(parts, at);
+    let (others, to) = past(parts, end);
+    let gap = at.saturating_sub(len);
+    let middle = touched(alloc, parts, (from, at), gap, text, (end.min(to), to))?;
+    replaced(alloc, parts, kept, &middle, others)
+}
+
+/// The extents of the bytes cut, or extended with zeros, to a length.
+pub(crate) fn with_len(
+    alloc: Global,
+    parts: &[Extent],
+    len: usize,
+    new_len: usize,
+) -> Result<Vec<Extent>, AllocError>
+    requires len { (len ≡ length (flat parts.now)) × (len ≤ 65536) }
+    requires end { new_len ≤ 65536 }
+    ensures { IfOk result (λ v. flat v.items ≡ resized (flat parts.now) new_len) }
+{
+    let (kept, from) = before(parts, new_len);
+    let gap = new_len.saturating_sub(len);
+    let middle = touched(alloc, parts, (from, new_len), gap, &[], (0, 0))?;
+    replaced(alloc, parts, kept, &middle, parts.len())
+}
+
+/// The bytes of a range, zeros, a text, and the bytes of another range.
+fn touched(
+    alloc: Global,
+    parts: &[Extent],
+    low: (usize, usize),
+    gap: usize,
+    text: &[u8],
+    high: (usize, usize),
+) -> Result<Vec<u8>, AllocError>
+    requires small { length (flat parts.now) ≤ 65536 }
+    requires orders { (low.0 ≤ low.1) × (high.0 ≤ high.1) }
+    requires gap { gap ≤ 65536 }
+    ensures { IfOk result (λ v. v.items ≡ ((cut low.0 low.1 (flat parts.now) ++ replicate gap 0) ++ text.now) ++ cut high.0 high.1 (flat parts.now)) }
+{
+    let mut bytes = Vec::with_capacity(alloc, EXTENT_LIMIT)?;
+    append(parts, low.0, low.1, &mut bytes)?;
+    append_zeros(&mut bytes, gap)?;
+    bytes.extend_from_slice(text)?;
+    append(parts, high.0, high.1, &mut bytes)?;
+    Ok(bytes)
+}
+
+/// The extents with those of a range replaced by new bytes.
+fn replaced(
+    alloc: Global,
+    parts: &[Extent],
+    kept: usize,
+    bytes: &[u8],
+    others: usize,
+) -> Result<Vec<Extent>, AllocError>
+    requires { (kept ≤ length parts.now) × (others ≤ length parts.now) }
+    ensures { IfOk result (λ v. flat v.items ≡ (flat (take kept parts.now) ++ bytes.now) ++ flat (drop others parts.now)) }
+{
+    let mut all = Vec::with_capacity(alloc, parts.len().saturating_add(1))?;
+    share(&mut all, &parts[..kept])?;
+    push_cut(alloc, &mut all, bytes)?;
+    share(&mut all, &parts[others..])?;
+    Ok(all)
+}
+
+/// Adds zeros.
+fn append_zeros(bytes: &mut Vec<u8>, more: usize) -> Result<(), AllocError>
+    requires { length bytes.old.items + more < 2 ^ 32 }
+    ensures { OnOk result (bytes.new.items ≡ bytes.old.items ++ replicate more 0) }
+{
+    let len = bytes.as_slice().len() + more;
+    bytes.resize(len, 0)?;
+    Ok(())
+}
+
+/// Adds the bytes of a range to a buffer, as far as they exist.
+fn append(parts: &[Extent], from: usize, to: usize, out: &mut Vec<u8>) -> Result<(), AllocError>
+    requires order { from ≤ to }
+    requires small { length (flat parts.now) ≤ 65536 }
+    ensures { OnOk result (out.new.items ≡ out.old.items ++ cut from to (flat parts.now)) }
+{
+    let mut start = 0;
+    for part in parts {
+        let bytes: &[u8] = part.as_slice();
+        let low = from.saturating_sub(start).min(bytes.len());
+        let high = to.saturating_sub(start).min(bytes.len());
+        out.extend_from_slice(&bytes[low..high])?;
+        start += bytes.len();
+    }
+    Ok(())
+}
+
+/// Copies the bytes of a range to the front of a buffer, as far as they exist, and answers how many.
+pub(crate) fn copy_out(parts: &[Extent], from: usize, to: usize, out: &mut [u8]) -> usize
+    requires order { from ≤ to }
+    requires room { to - from ≤ length out.old }
+    requires small { length (flat parts.now) ≤ 65536 }
+    ensures count { result ≡ length (cut from to (flat parts.now)) }
+    ensures bytes { out.new ≡ cut from to (flat parts.now) ++ drop result out.old }
+{
+    let mut start = 0;
+    let mut done = 0;
+    for part in parts {
+        let bytes: &[u8] = part.as_slice();
+        let low = from.saturating_sub(start).min(bytes.len());
+        let high = to.saturating_sub(start).min(bytes.len());
+        overlay(out, done, &bytes[low..high]);
+        done += high - low;
+        start += bytes.len();
+    }
+    done
+}
+
+/// How many full extents stand before a place, and how many bytes they have.
+fn before(parts: &[Extent], at: usize) -> (usize, usize)
+    requires { length (flat parts.now) ≤ 65536 }
+    ensures { (result.0 ≤ length parts.now) × (result.1 ≡ length (flat (take result.0 parts.now))) × (result.1 ≤ at) }
+{
+    let mut start = 0;
+    for (i, part) in parts.iter().enumerate() {
+        let bytes: &[u8] = part.as_slice();
+        if bytes.len() < EXTENT_LIMIT || at < start + bytes.len() {
+            return (i, start);
+        }
+        start += bytes.len();
+    }
+    (parts.len(), start)
+}
+
+/// Where the extents past a place begin: how many stand before them, and with how many bytes.
+fn past(parts: &[Extent], end: usize) -> (usize, usize)
+    requires { length (flat parts.now) ≤ 65536 }
+    ensures { (result.0 ≤ length parts.now) × (result.1 ≡ length (flat (take result.0 parts.now))) × (min end (length (flat parts.now)) ≤ result.1) }
+{
+    let mut start = 0;
+    for (i, part) in parts.iter().enumerate() {
+        if end <= start {
+            return (i, start);
+        }
+        let bytes: &[u8] = part.as_slice();
+        start += bytes.len();
+    }
+    (parts.len(), start)
+}
+
+/// Adds the same extents.
+fn share(parts: &mut Vec<Extent>, others: &[Extent]) -> Result<(), AllocError>
+    ensures { OnOk result (flat parts.new.items ≡ flat parts.old.items ++ flat others.now) }
+{
+    for part in others {
+        parts.push(Arc::try_clone(part)?)?;
+    }
+    Ok(())
+}
+
+/// Adds extents of new bytes.
+fn push_cut(alloc: Global, parts: &mut Vec<Extent>, bytes: &[u8]) -> Result<(), AllocError>
+    ensures { OnOk result (flat parts.new.items ≡ flat parts.old.items ++ bytes.now) }
+{
+    let mut rest = bytes;
+    while rest.len() > EXTENT_LIMIT {
+        let (first, others) = rest.split_at(EXTENT_LIMIT);
+        parts.push(Arc::new(alloc, Vec::from_slice(alloc, first)?)?)?;
+        rest = others;
+    }
+    if !rest.is_empty() {
+        parts.push(Arc::new(alloc, Vec::from_slice(alloc, rest)?)?)?;
+    }
+    Ok(())
+}

@@ -1,0 +1,35 @@
+//! Objects in memory: data, xattrs and an omap, by name. `Objects` is a finite map from names to what the objects hold, and each of its reads and changes is
+//! the one of its definition, or the first refusal that applies, after which nothing has changed. The same calls on one object, absent or there, are in
+//! `calls`: a change makes a new object, which shares with the old one all that it didn't touch. An object is always within its limits. `edit_all` makes
+//! several edits of data or none, however the data is kept (`Data`).
+#![tactic(auto)]
+
+mod attributes;
+pub mod calls;
+mod data;
+mod data_error;
+mod edit;
+mod extent_data;
+mod extents;
+mod flat_data;
+mod limits;
+mod object;
+mod object_name;
+mod objects;
+mod slices;
+mod store_error;
+mod stored_bytes;
+
+pub use data::Data;
+pub use data_error::DataError;
+pub use edit::{Edit, edit_all};
+pub use extent_data::ExtentData;
+pub use flat_data::FlatData;
+pub use limits::{DATA_LIMIT, KEY_LIMIT, NAME_LIMIT, OBJECT_NAME_LIMIT, VALUE_LIMIT, XATTR_LIMIT};
+pub use object::Object;
+pub use object_name::ObjectName;
+pub use objects::Objects;
+pub use store_error::StoreError;
+
+#[cfg(test)]
+mod tests;

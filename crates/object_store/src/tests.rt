@@ -1,0 +1,6 @@
+mod calls;
+mod edits;
+mod extents;
+mod limits;
+mod names;
+mod whole;

@@ -1,0 +1,52 @@
+use Rattle.std.proofs.Common.{◌≡◌, ℕ, List, Option, Some, None, [], ◌∷◌, ◌++◌, IsTrue, subst, ap, sym, ◌∙◌, append_assoc, refl}
+use Rattle.std.specs.Arc.{arc_value}
+use Rattle.std.specs.Ordering.{nat_cmp}
+use Rattle.std.specs.Cmp.Lexicographic.{slice_cmp}
+use Rattle.std.specs.declared.cmp.Ordering.{Ordering}
+use Rattle.std.specs.declared.cmp.Ordering.TheVariants.{Less, Equal, Greater}
+use Rattle.std.specs.FinMap.{put, find}
+use Rattle.std.specs.Option.{option_copied}
+use Rattle.std.specs.Result.{IfOk}
+use Rattle.std.proofs.lemmas.Result.{IfOk-weaker}
+use Rattle.std.proofs.lemmas.Map.Lookups.{exact_bytes}
+use Rattle.shared_map.specs.Entries.{Entries, Pair, sorted, least_above, without}
+use Rattle.shared_map.specs.Tree.{pair, listed}
+use Rattle.shared_map.specs.declared.tree.Branch.{Branch}
+use Rattle.shared_map.specs.declared.tree.Entry.{Entry}
+use Rattle.shared_map.proofs.Halves.{low_part, high_part, sorted-along, same_parts}
+use Rattle.shared_map.proofs.tree.lean_left.Goals as goal
+
+pub joined-requires-in-Fork : goal.joined-requires-in-Fork
+joined-requires-in-Fork g c =
+    let o = arc_value c.in-Fork.outer in
+    let i = arc_value c.in-Fork-root.inner in
+    let right : o.right ≡ i.left ++ pair (arc_value i.entry) ∷ i.right = ap (λ (d : Branch g.row.V.Denot). d.right) (sym c.deref-in-Fork-2.ensures) ∙ ap (λ (d : Branch g.row.V.Denot). d.right) (sym c.behind-outer.view_is) ∙ ap listed c.in-Fork-root.is in
+    let h = sorted-along _ (o.left ++ pair (arc_value o.entry) ∷ (i.left ++ pair (arc_value i.entry) ∷ i.right)) (ap listed c.in-Fork.is ∙ ap (λ r. o.left ++ pair (arc_value o.entry) ∷ r) right) c.left.invariant in
+    sorted-along _ _
+    (sym (same_parts _ _ _ _ _ _
+    (c.in_ok-copy-in-Fork.ensures ∙ ap (λ (d : Branch g.row.V.Denot). d.left) c.deref-in-Fork-3.ensures)
+    (ap pair (c.in_ok-try_clone-in-Fork.ensures ∙ ap (λ (d : Branch g.row.V.Denot). arc_value d.entry) c.deref-in-Fork-4.ensures))
+    (c.in_ok-copy-in-Fork-2.ensures ∙ ap (λ (d : Branch g.row.V.Denot). d.left) c.deref-in-Fork-5.ensures)))
+    (low_part o.left (pair (arc_value o.entry)) i.left (pair (arc_value i.entry)) i.right h)
+
+pub joined-requires-in-Fork-2 : goal.joined-requires-in-Fork-2
+joined-requires-in-Fork-2 g c =
+    let o = arc_value c.in-Fork.outer in
+    let i = arc_value c.in-Fork-root.inner in
+    let e = pair (arc_value c.args.entry) in
+    let right : o.right ≡ i.left ++ pair (arc_value i.entry) ∷ i.right = ap (λ (d : Branch g.row.V.Denot). d.right) (sym c.deref-in-Fork-2.ensures) ∙ ap (λ (d : Branch g.row.V.Denot). d.right) (sym c.behind-outer.view_is) ∙ ap listed c.in-Fork-root.is in
+    let h = sorted-along _ ((o.left ++ pair (arc_value o.entry) ∷ (i.left ++ pair (arc_value i.entry) ∷ i.right)) ++ e ∷ c.args.right)
+    (ap (λ l. l ++ e ∷ c.args.right) (sym c.left.view_is ∙ ap listed c.in-Fork.is ∙ ap (λ r. o.left ++ pair (arc_value o.entry) ∷ r) right)) c.requires in
+    sorted-along _ _
+    (ap (λ r. r ++ e ∷ c.args.right) (sym (c.in_ok-copy-in-Fork-3.ensures ∙ ap (λ (d : Branch g.row.V.Denot). d.right) c.deref-in-Fork-6.ensures)))
+    (high_part i.left (pair (arc_value i.entry)) i.right e c.args.right (high_part o.left (pair (arc_value o.entry)) (i.left ++ pair (arc_value i.entry) ∷ i.right) e c.args.right h))
+
+pub joined-requires-in-Fork-4 : goal.joined-requires-in-Fork-4
+joined-requires-in-Fork-4 g c =
+    let o = arc_value c.in-Fork.outer in
+    let e = pair (arc_value c.args.entry) in
+    let h = sorted-along _ ((o.left ++ pair (arc_value o.entry) ∷ o.right) ++ e ∷ c.args.right)
+    (ap (λ l. l ++ e ∷ c.args.right) (sym c.left.view_is ∙ ap listed c.in-Fork.is)) c.requires in
+    sorted-along _ _
+    (ap (λ r. r ++ e ∷ c.args.right) (sym (c.in_ok-copy-in-Fork-4.ensures ∙ ap (λ (d : Branch g.row.V.Denot). d.right) c.deref-in-Fork-8.ensures)))
+    (high_part o.left (pair (arc_value o.entry)) o.right e c.args.right h)

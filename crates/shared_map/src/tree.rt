@@ -1,0 +1,308 @@
+ghost use Rattle.std.specs.Prelude.{◌≡◌, IfOk, [], ◌∷◌, ◌++◌, IsTrue};
+ghost use Rattle.std.specs.FinMap.{put, find};
+ghost use Rattle.std.specs.Ordering.{nat_cmp};
+ghost use Rattle.std.specs.Cmp.Lexicographic.{slice_cmp};
+ghost use Rattle.std.specs.Arc.{arc_value};
+ghost use Rattle.std.specs.Option.{option_copied};
+ghost use Rattle.shared_map.specs.Tree.{pair, IsSplit};
+ghost use Rattle.shared_map.specs.Entries.{Entries, sorted, least_above, without};
+
+use std::alloc::{AllocError, Global};
+use std::cmp::Ordering;
+use std::marker::Model;
+use std::sync::Arc;
+
+/// A key and its value.
+#[derive(Drop)]
+pub(crate) struct Entry<V> {
+    pub(crate) key: Vec<u8>,
+    pub(crate) value: V,
+}
+
+/// A search tree whose nodes never change. Contracts see its entries in order.
+#[cycle(tree)]
+#[derive(Drop)]
+pub(crate) struct Tree<V> {
+    root: Link<V>,
+}
+
+#[cycle(tree)]
+#[derive(Drop)]
+enum Link<V> {
+    Leaf,
+    Fork(Arc<Branch<V>>),
+}
+
+#[cycle(tree)]
+#[derive(Drop)]
+struct Branch<V> {
+    left: Tree<V>,
+    entry: Arc<Entry<V>>,
+    right: Tree<V>,
+    height: u8,
+}
+
+impl<V> Model for Tree<V> {
+    ghost use Rattle.std.specs.Prelude.{IsTrue, length};
+    ghost use Rattle.shared_map.specs.Entries.{Entries, sorted};
+
+    ghost Value = { Entries V };
+
+    ghost use Rattle.shared_map.specs.Tree.{listed};
+
+    ghost view = { λ t. listed t.root };
+
+    ghost invariant = { λ t. IsTrue (sorted (listed t.root)) };
+
+    ghost size = { length };
+
+    ghost use Rattle.shared_map.specs.TreeFalls.{depth_le-length-listed};
+
+    ghost size_decreases = { λ t h. depth_le-length-listed t.root };
+}
+
+impl<V: Drop> Tree<V> {
+    /// No entries.
+    pub(crate) fn new() -> Tree<V>
+        ensures { result ≡ [] }
+    {
+        Tree { root: Link::Leaf }
+    }
+
+    pub(crate) fn height(&self) -> u8 {
+        match &self.root {
+            Link::Leaf => 0,
+            Link::Fork(b) => b.height,
+        }
+    }
+
+    /// An equal tree. It shares all nodes.
+    pub(crate) fn copy(&self) -> Result<Tree<V>, AllocError>
+        ensures { IfOk result (λ t. t ≡ self.now) }
+    {
+        match &self.root {
+            Link::Leaf => Ok(Tree { root: Link::Leaf }),
+            Link::Fork(b) => Ok(Tree {
+                root: Link::Fork(Arc::try_clone(b)?),
+            }),
+        }
+    }
+
+    /// The value of a key.
+    pub(crate) fn get(&self, key: &[u8]) -> Option<&V>
+        ensures { option_copied result ≡ find (slice_cmp nat_cmp) key.now self.now }
+    {
+        match &self.root {
+            Link::Leaf => None,
+            Link::Fork(b) => {
+                let entry: &Entry<V> = &b.entry;
+                match key.cmp(entry.key.as_slice()) {
+                    Ordering::Less => b.left.get(key),
+                    Ordering::Equal => Some(&entry.value),
+                    Ordering::Greater => b.right.get(key),
+                }
+            }
+        }
+    }
+
+    /// The least key above one.
+    pub(crate) fn above(&self, key: &[u8]) -> Option<&[u8]>
+        ensures { option_copied result ≡ least_above key.now self.now }
+    {
+        match &self.root {
+            Link::Leaf => None,
+            Link::Fork(b) => {
+                let entry: &Entry<V> = &b.entry;
+                match key.cmp(entry.key.as_slice()) {
+                    Ordering::Less => match b.left.above(key) {
+                        Some(found) => Some(found),
+                        None => Some(entry.key.as_slice()),
+                    },
+                    _ => b.right.above(key),
+                }
+            }
+        }
+    }
+
+    /// The tree with a value at a key. At an error nothing was made.
+    pub(crate) fn set(&self, alloc: Global, new: Arc<Entry<V>>) -> Result<Tree<V>, AllocError>
+        ensures { IfOk result (λ t. t ≡ put (slice_cmp nat_cmp) (pair (arc_value new)).0 (pair (arc_value new)).1 self.now) }
+    {
+        match &self.root {
+            Link::Leaf => joined(alloc, Tree::new(), new, Tree::new()),
+            Link::Fork(b) => {
+                let entry: &Entry<V> = &b.entry;
+                match new.key.as_slice().cmp(entry.key.as_slice()) {
+                    Ordering::Less => {
+                        let left = b.left.set(alloc, new)?;
+                        balanced(alloc, left, Arc::try_clone(&b.entry)?, b.right.copy()?)
+                    }
+                    Ordering::Equal => joined(alloc, b.left.copy()?, new, b.right.copy()?),
+                    Ordering::Greater => {
+                        let right = b.right.set(alloc, new)?;
+                        balanced(alloc, b.left.copy()?, Arc::try_clone(&b.entry)?, right)
+                    }
+                }
+            }
+        }
+    }
+
+    /// The tree without its least entry, and that entry.
+    fn split_first(&self, alloc: Global) -> Result<Option<(Arc<Entry<V>>, Tree<V>)>, AllocError>
+        ensures { IfOk result (IsSplit self.now) }
+    {
+        match &self.root {
+            Link::Leaf => Ok(None),
+            Link::Fork(b) => match b.left.split_first(alloc)? {
+                None => Ok(Some((Arc::try_clone(&b.entry)?, b.right.copy()?))),
+                Some((first, left)) => {
+                    let rest = balanced(alloc, left, Arc::try_clone(&b.entry)?, b.right.copy()?)?;
+                    Ok(Some((first, rest)))
+                }
+            },
+        }
+    }
+
+    /// The tree without a key.
+    pub(crate) fn remove(&self, alloc: Global, key: &[u8]) -> Result<Tree<V>, AllocError>
+        ensures { IfOk result (λ t. t ≡ without key.now self.now) }
+    {
+        match &self.root {
+            Link::Leaf => Ok(Tree::new()),
+            Link::Fork(b) => {
+                let entry: &Entry<V> = &b.entry;
+                match key.cmp(entry.key.as_slice()) {
+                    Ordering::Less => {
+                        let left = b.left.remove(alloc, key)?;
+                        balanced(alloc, left, Arc::try_clone(&b.entry)?, b.right.copy()?)
+                    }
+                    Ordering::Equal => match b.right.split_first(alloc)? {
+                        None => b.left.copy(),
+                        Some((first, right)) => balanced(alloc, b.left.copy()?, first, right),
+                    },
+                    Ordering::Greater => {
+                        let right = b.right.remove(alloc, key)?;
+                        balanced(alloc, b.left.copy()?, Arc::try_clone(&b.entry)?, right)
+                    }
+                }
+            }
+        }
+    }
+}
+
+/// The tree of a branch.
+fn joined<V: Drop>(
+    alloc: Global,
+    left: Tree<V>,
+    entry: Arc<Entry<V>>,
+    right: Tree<V>,
+) -> Result<Tree<V>, AllocError>
+    requires { IsTrue (sorted (left ++ pair (arc_value entry) ∷ right)) }
+    ensures { IfOk result (λ t. t ≡ left ++ pair (arc_value entry) ∷ right) }
+{
+    let height = left.height().max(right.height()).saturating_add(1);
+    let branch = Arc::new(
+        alloc,
+        Branch {
+            left,
+            entry,
+            right,
+            height,
+        },
+    )?;
+    Ok(Tree {
+        root: Link::Fork(branch),
+    })
+}
+
+/// The same, turned where one side is two higher than the other.
+fn balanced<V: Drop>(
+    alloc: Global,
+    left: Tree<V>,
+    entry: Arc<Entry<V>>,
+    right: Tree<V>,
+) -> Result<Tree<V>, AllocError>
+    requires { IsTrue (sorted (left ++ pair (arc_value entry) ∷ right)) }
+    ensures { IfOk result (λ t. t ≡ left ++ pair (arc_value entry) ∷ right) }
+{
+    let (high_left, high_right) = (left.height(), right.height());
+    if high_left > high_right.saturating_add(1) {
+        lean_left(alloc, &left, entry, right)
+    } else if high_right > high_left.saturating_add(1) {
+        lean_right(alloc, left, entry, &right)
+    } else {
+        joined(alloc, left, entry, right)
+    }
+}
+
+/// The same, where the left side is two higher.
+fn lean_left<V: Drop>(
+    alloc: Global,
+    left: &Tree<V>,
+    entry: Arc<Entry<V>>,
+    right: Tree<V>,
+) -> Result<Tree<V>, AllocError>
+    requires { IsTrue (sorted (left.now ++ pair (arc_value entry) ∷ right)) }
+    ensures { IfOk result (λ t. t ≡ left.now ++ pair (arc_value entry) ∷ right) }
+{
+    match &left.root {
+        Link::Leaf => joined(alloc, Tree::new(), entry, right),
+        Link::Fork(outer) => {
+            if outer.left.height() < outer.right.height()
+                && let Link::Fork(inner) = &outer.right.root
+            {
+                let low = joined(
+                    alloc,
+                    outer.left.copy()?,
+                    Arc::try_clone(&outer.entry)?,
+                    inner.left.copy()?,
+                )?;
+                let high = joined(alloc, inner.right.copy()?, entry, right)?;
+                return joined(alloc, low, Arc::try_clone(&inner.entry)?, high);
+            }
+            let high = joined(alloc, outer.right.copy()?, entry, right)?;
+            joined(
+                alloc,
+                outer.left.copy()?,
+                Arc::try_clone(&outer.entry)?,
+                high,
+            )
+        }
+    }
+}
+
+/// The same, where the right side is two higher.
+fn lean_right<V: Drop>(
+    alloc: Global,
+    left: Tree<V>,
+    entry: Arc<Entry<V>>,
+    right: &Tree<V>,
+) -> Result<Tree<V>, AllocError>
+    requires { IsTrue (sorted (left ++ pair (arc_value entry) ∷ right.now)) }
+    ensures { IfOk result (λ t. t ≡ left ++ pair (arc_value entry) ∷ right.now) }
+{
+    match &right.root {
+        Link::Leaf => joined(alloc, left, entry, Tree::new()),
+        Link::Fork(outer) => {
+            if outer.right.height() < outer.left.height()
+                && let Link::Fork(inner) = &outer.left.root
+            {
+                let low = joined(alloc, left, entry, inner.left.copy()?)?;
+                let high = joined(
+                    alloc,
+                    inner.right.copy()?,
+                    Arc::try_clone(&outer.entry)?,
+                    outer.right.copy()?,
+                )?;
+                return joined(alloc, low, Arc::try_clone(&inner.entry)?, high);
+            }
+            let low = joined(alloc, left, entry, outer.left.copy()?)?;
+            joined(
+                alloc,
+                low,
+                Arc::try_clone(&outer.entry)?,
+                outer.right.copy()?,
+            )
+        }
+    }
+}

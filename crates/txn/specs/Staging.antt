@@ -1,0 +1,12 @@
+-- What the code's own staged object is seen as.
+use Rattle.std.specs.Prelude.{Option}
+use Rattle.std.specs.Borrow.{Bor}
+use Rattle.std.specs.Option.{option_copied}
+use Rattle.object_store.specs.Object.{Content, PlainObject}
+use Rattle.txn.specs.declared.staged.Newest.{Newest}
+use Rattle.txn.specs.declared.staged.Newest.TheVariants.{Untouched, Written}
+
+-- the newest version: the object that was given until a call writes
+abbrev pub shown : Option (Bor Content) → Newest → PlainObject
+shown base Untouched = option_copied base
+shown base (Written object) = object

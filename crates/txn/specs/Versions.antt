@@ -1,0 +1,18 @@
+-- An object as a call found it and as it is now, and what its calls answer.
+use Rattle.std.specs.Prelude.{◌≡◌, ℕ, refl, List, Some, Result, Ok, Err}
+use Rattle.std.specs.Coded.{Coded, code_by, coded×, coded_option}
+use Rattle.object_store.specs.Object.{Content, PlainObject, content_code}
+use Rattle.object_store.specs.declared.store_error.StoreError.{StoreError}
+
+pub record Versions : Type 0 where
+  pub before : PlainObject
+  pub after : PlainObject
+
+abbrev pub versions_code : Coded Versions
+versions_code =
+    code_by (PlainObject × PlainObject) (coded× (coded_option content_code) (coded_option content_code)) (λ v. (v.before, v.after)) (λ p. record { before = p.0; after = p.1 }) (λ _. refl)
+
+-- the object that a change makes
+abbrev pub made : Result Content StoreError → Result PlainObject StoreError
+made (Ok c) = Ok (Some c)
+made (Err e) = Err e

@@ -1,0 +1,16 @@
+//! Changes of one object that a call stages. Reads of a staged object are reads of the object as `finish` and `apply`
+//! leave it. A change is the object before and after, which share all that the call didn't touch: so staging,
+//! finishing, applying and undoing cost what was touched and never the object's size. `undo` restores all objects as
+//! they were before `apply`.
+#![tactic(auto)]
+
+mod change;
+mod no_memory;
+mod staged;
+
+pub use change::{Change, apply, undo};
+pub use no_memory::NoMemory;
+pub use staged::Staged;
+
+#[cfg(test)]
+mod tests;

@@ -1,0 +1,158 @@
+ghost use Rattle.std.specs.Prelude.{◌≡◌, IfOk, OnOk, OnErr, None, Some, Ok, Result, length};
+ghost use Rattle.std.specs.Option.{option_copied};
+ghost use Rattle.object_store.specs.Object.{content_of};
+ghost use Rattle.object_store.specs.Calls as spec;
+ghost use Rattle.object_store.specs.Returned.{Gives};
+ghost use Rattle.txn.specs.Versions.{made};
+
+use crate::change::Change;
+use crate::no_memory::NoMemory;
+use object_store::{Object, StoreError, calls};
+use std::alloc::Global;
+use std::marker::Model;
+
+/// The newest version of a staged object: the given one until a call writes.
+#[derive(Drop)]
+enum Newest {
+    Untouched,
+    Written(Option<Object>),
+}
+
+/// An object as a call has it so far. Contracts see it as the call found it and as it is now. Reads are reads of
+/// `object`, the newest version. Until the first write it holds a reference and copies nothing; a write costs what it
+/// touches. A write is the one of `object_store::calls` of the same name: where that refuses it, all stays as it was.
+#[derive(Drop)]
+pub struct Staged<'a> {
+    base: Option<&'a Object>,
+    newest: Newest,
+}
+
+impl<'a> Model for Staged<'a> {
+    ghost use Rattle.txn.specs.Versions.{Versions, versions_code};
+
+    ghost Value = { Versions };
+
+    ghost coded = { versions_code };
+
+    ghost use Rattle.std.specs.Option.{option_copied};
+    ghost use Rattle.txn.specs.Staging.{shown};
+
+    ghost view = { λ s. record { before = option_copied s.base; after = shown s.base s.newest } };
+}
+
+impl<'a> Staged<'a> {
+    /// The object as it stands; none where it is absent. It takes no memory.
+    pub fn over(base: Option<&'a Object>) -> Staged<'a>
+        ensures before { result.before ≡ option_copied base.entry }
+        ensures after { result.after ≡ option_copied base.entry }
+    {
+        Staged {
+            base,
+            newest: Newest::Untouched,
+        }
+    }
+
+    /// The object as it is now; none where it is absent.
+    pub fn object(&self) -> Option<&Object>
+        ensures { option_copied result ≡ self.entry.now.after }
+    {
+        match &self.newest {
+            Newest::Untouched => self.base,
+            Newest::Written(object) => object.as_ref(),
+        }
+    }
+
+    /// Writes bytes into the data at a place. An absent object comes to be, zeros fill a gap, and no bytes leave the
+    /// data as it is. Refused: 4 TooBig, 7 NoMemory.
+    pub fn write(&mut self, alloc: Global, at: u64, text: &[u8]) -> Result<(), StoreError>
+        ensures before { self.new.before ≡ self.old.before }
+        ensures answer { Gives (λ _. self.new.after) result (made (spec.write self.old.after at text.now)) }
+        ensures refused { OnErr result (self.new ≡ self.old) }
+    {
+        let object = calls::write(alloc, self.object(), at, text)?;
+        self.newest = Newest::Written(Some(object));
+        Ok(())
+    }
+
+    /// Cuts the data to a length, or extends it with zeros. Refused: 4 TooBig, 1 Absent, 7 NoMemory.
+    pub fn truncate(&mut self, alloc: Global, len: u64) -> Result<(), StoreError>
+        ensures before { self.new.before ≡ self.old.before }
+        ensures answer { Gives (λ _. self.new.after) result (made (spec.truncate self.old.after len)) }
+        ensures refused { OnErr result (self.new ≡ self.old) }
+    {
+        let object = calls::truncate(alloc, self.object(), len)?;
+        self.newest = Newest::Written(Some(object));
+        Ok(())
+    }
+
+    /// Sets an xattr. An absent object comes to be. Refused: 6 Range, 4 TooBig, 5 TooMany, 7 NoMemory.
+    pub fn set_xattr(&mut self, alloc: Global, name: &[u8], value: &[u8]) -> Result<(), StoreError>
+        ensures before { self.new.before ≡ self.old.before }
+        ensures answer { Gives (λ _. self.new.after) result (made (spec.set_xattr self.old.after name.now value.now)) }
+        ensures refused { OnErr result (self.new ≡ self.old) }
+    {
+        let object = calls::set_xattr(alloc, self.object(), name, value)?;
+        self.newest = Newest::Written(Some(object));
+        Ok(())
+    }
+
+    /// Removes an xattr. Refused: 6 Range, 1 Absent, 3 NoAttr, 7 NoMemory.
+    pub fn remove_xattr(&mut self, alloc: Global, name: &[u8]) -> Result<(), StoreError>
+        ensures before { self.new.before ≡ self.old.before }
+        ensures answer { Gives (λ _. self.new.after) result (made (spec.remove_xattr self.old.after name.now)) }
+        ensures refused { OnErr result (self.new ≡ self.old) }
+    {
+        let object = calls::remove_xattr(alloc, self.object(), name)?;
+        self.newest = Newest::Written(Some(object));
+        Ok(())
+    }
+
+    /// Sets the value of a key of the omap. An absent object comes to be. Refused: 6 Range, 4 TooBig, 5 TooMany,
+    /// 7 NoMemory.
+    pub fn set_key(&mut self, alloc: Global, key: &[u8], value: &[u8]) -> Result<(), StoreError>
+        ensures before { self.new.before ≡ self.old.before }
+        ensures answer { Gives (λ _. self.new.after) result (made (spec.set_key self.old.after key.now value.now)) }
+        ensures refused { OnErr result (self.new ≡ self.old) }
+    {
+        let object = calls::set_key(alloc, self.object(), key, value)?;
+        self.newest = Newest::Written(Some(object));
+        Ok(())
+    }
+
+    /// Removes a key of the omap. Refused: 6 Range, 1 Absent, 3 NoAttr, 7 NoMemory.
+    pub fn remove_key(&mut self, alloc: Global, key: &[u8]) -> Result<(), StoreError>
+        ensures before { self.new.before ≡ self.old.before }
+        ensures answer { Gives (λ _. self.new.after) result (made (spec.remove_key self.old.after key.now)) }
+        ensures refused { OnErr result (self.new ≡ self.old) }
+    {
+        let object = calls::remove_key(alloc, self.object(), key)?;
+        self.newest = Newest::Written(Some(object));
+        Ok(())
+    }
+
+    /// Makes an object with nothing in it where it is absent; one that is there stays as it is. It takes no memory.
+    pub fn create(&mut self)
+        ensures before { self.new.before ≡ self.old.before }
+        ensures after { self.new.after ≡ Some (content_of self.old.after) }
+    {
+        if self.object().is_none() {
+            self.newest = Newest::Written(Some(Object::new()));
+        }
+    }
+
+    /// Removes the object: data, xattrs and omap. It takes no memory.
+    pub fn remove(&mut self)
+        ensures before { self.new.before ≡ self.old.before }
+        ensures after { self.new.after ≡ None }
+    {
+        self.newest = Newest::Written(None);
+    }
+
+    /// The change from the object as the call found it to the object as it is now.
+    pub fn finish(self) -> Result<Change, NoMemory>
+        ensures before { IfOk result (λ c. c.before ≡ self.entry.before) }
+        ensures after { IfOk result (λ c. c.after ≡ self.entry.after) }
+    {
+        Change::of(self.base, self.object())
+    }
+}
