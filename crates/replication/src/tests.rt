@@ -57,10 +57,14 @@ const POINTS: [([usize; 3], usize); 4] = [
     ([1, 0, 1], 0),
 ];
 
+fn point(lengths: [usize; 3]) -> usize {
+    commit_point(&lengths)
+}
+
 #[test]
 fn least_lengths(rt: HostRuntime) {
     for (lengths, least) in POINTS {
-        assert!(rt; commit_point(&lengths) == least);
+        assert!(rt; point(lengths) == least);
     }
 }
 
