@@ -84,7 +84,7 @@ unrefused classes xs r f =
     none_cond (nat_le LOG_LIMIT (length xs)) LogFull _ (grind (arith, nat_tests))
     (none_cond (is_reached r.client r.number xs) StaleNumber _ (all_above r.client r.number xs f.above) (can_run_back classes r f.run))
 
-or_else_none : (o p : Option LogError) → or_else o p ≡ None → (o ≡ None) × (p ≡ None)
+pub or_else_none : (o p : Option LogError) → or_else o p ≡ None → (o ≡ None) × (p ≡ None)
 or_else_none None p e = (refl, e)
 or_else_none (Some why) p e = absurd (none-some why (sym e))
 

@@ -1,5 +1,5 @@
 -- What a group keeps of its list, where it is read and where a request is added.
-use Rattle.std.proofs.Common.{◌≡◌, ℕ, zero, suc, true, false, List, [], ◌∷◌, ◌++◌, length, take, drop, ◌+◌, Some, None, Result, Ok, Err, is_err, OnErr, OnOk, option_map, refl, ap, sym, ◌∙◌, subst, arith, ⊎_elim}
+use Rattle.std.proofs.Common.{◌≡◌, ℕ, zero, suc, true, false, List, [], ◌∷◌, ◌++◌, length, take, drop, ◌+◌, Some, None, Result, Ok, Err, is_err, OnErr, OnOk, IfOk, IfErr, Option, ◌⊎◌, inl, inr, option_map, refl, ap, sym, ◌∙◌, subst, arith, ⊎_elim}
 use Rattle.std.specs.List.{slice_get}
 use Rattle.std.specs.Int.{w64, cast_unsigned}
 use Rattle.std.specs.FinMap as fin
@@ -8,7 +8,9 @@ use Rattle.pg_log.specs.declared.entry.Entry.{Entry}
 use Rattle.pg_log.specs.declared.places.Places.{Places}
 use Rattle.pg_log.specs.Requests.{ClientRequest}
 use Rattle.pg_log.specs.Log.{Classes, Objects, Legal, after, store, fold, fold_from, reply_to, reply_at}
-use Rattle.pg_log.specs.Refusals.{place_of}
+use Rattle.pg_log.specs.declared.log_error.LogError.{LogError}
+use Rattle.pg_log.specs.declared.log_error.LogError.TheVariants.{NoMemory}
+use Rattle.pg_log.specs.Refusals.{place_of, answer_of, list_after}
 use Rattle.pg_log.specs.Objects.{changed}
 use Rattle.pg_log.specs.Places.{ArePlaces}
 use Rattle.pg_log.specs.Entries.{IsOutcomeOn, AreEntries, IsSafeRequest, AreSafe, requests_of, undone, Keeps}
@@ -134,3 +136,17 @@ entry_follows classes es k e l p =
 
 pub entry_next : (es : List Entry) (k : ℕ) (e : Entry) → slice_get es k ≡ Some e → take k (requests_of es) ++ e.request ∷ [] ≡ take (k + 1) (requests_of es)
 entry_next es k e p = sym (take_get (requests_of es) k e.request (requests_at es k e p))
+
+-- what keeping a request that wasn't logged makes of an append
+pub kept_answer : (place : Option ℕ) (why : Option LogError) (xs new : List ClientRequest) (s : ClientRequest) (o : Result ℕ LogError) → place ≡ None → why ≡ None →
+    IfOk o (λ k. (k ≡ length xs) × (new ≡ xs ++ s ∷ [])) → IfErr o (λ e. (e ≡ NoMemory) × (new ≡ xs)) →
+    (o ≡ answer_of place why (length xs)) ⊎ ((o ≡ Err NoMemory) × (place ≡ None) × (why ≡ None))
+kept_answer place why xs new s (Ok k) none unrefused h f =
+    inl (ap Ok h.0 ∙ sym (ap (λ w. answer_of w why (length xs)) none ∙ ap (λ w. answer_of None w (length xs)) unrefused))
+kept_answer place why xs new s (Err e) none unrefused h f = inr (ap Err f.0, none, unrefused)
+
+pub kept_list : (place : Option ℕ) (xs new : List ClientRequest) (s r : ClientRequest) (o : Result ℕ LogError) → place ≡ None → s ≡ r →
+    IfOk o (λ k. (k ≡ length xs) × (new ≡ xs ++ s ∷ [])) → OnOk o (new ≡ list_after place xs r)
+kept_list place xs new s r (Ok k) none same h =
+    h.1 ∙ ap (λ w. xs ++ w ∷ []) same ∙ sym (ap (λ w. list_after w xs r) none)
+kept_list place xs new s r (Err e) none same h = tt

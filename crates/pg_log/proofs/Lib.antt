@@ -10,3 +10,5 @@ pub mod Kept
 pub mod Ran
 pub mod Carried
 pub mod Within
+pub mod Room
+pub mod Adopted

@@ -13,7 +13,9 @@ use Rattle.std.specs.Option.{option_copied}
 use Rattle.std.specs.FinMap as fin
 use Rattle.std.specs.FinMap.{nat_cmp-IsAntisymmetric, slice_cmp-IsAntisymmetric}
 use Rattle.std.specs.BTreeMap as tree
-use Rattle.std.specs.Map.{lookup}
+use Rattle.std.specs.List.{AllByRecursion}
+use Rattle.std.specs.List.Sorted.{IsStrictlySortedBy}
+use Rattle.std.specs.Map.{lookup, keys_of}
 use Rattle.std.specs.BTreeMap.{BTreeMap}
 use Rattle.std.proofs.lemmas.Map.Text.{btree_map_updates_text, is_eq-slice_cmp}
 use Rattle.bpf_machine.specs.Object.{Object}
@@ -108,3 +110,45 @@ undone-changed objects name (Changed before after) h =
 pub changed-store : (objects : Objects) (name : List ℕ) (change : Change) → changed objects name change ≡ store objects name (after_change (fin.get objects name) change)
 changed-store objects name Unchanged = sym (store-same objects name)
 changed-store objects name (Changed before after) = refl
+
+-- the objects with these entries put in, the first one first
+abbrev pub put_all : {Z : Type 0} → List (String Z × List ℕ) → Objects → Objects
+put_all [] objects = objects
+put_all (e ∷ es) objects = put_all es (store objects (string_bytes e.0) (Some e.1))
+
+abbrev or_at : Object → Object → Object
+or_at None o = o
+or_at (Some x) o = Some x
+
+or_at-cond : (b : Bool) (x : List ℕ) (f o : Object) → (b ≡ true → f ≡ None) → or_at f (cond b (Some x) o) ≡ or_at (cond b (Some x) f) o
+or_at-cond true x f o h = ap (λ w. or_at w (Some x)) (h refl)
+or_at-cond false x f o h = refl
+
+or_at-none : (o : Object) → or_at o None ≡ o
+or_at-none None = refl
+or_at-none (Some x) = refl
+
+module _ {Z : Type 0} where
+  -- no later key is one that a key before it is
+  none_later : (q : List ℕ) (k : String Z) (es : List (String Z × List ℕ)) → is_eq (slice_cmp nat_cmp q (string_bytes k)) ≡ true →
+      AllByRecursion (λ w. string_cmp k w ≡ Less) (keys_of es) → lookup (λ w. is_eq (slice_cmp nat_cmp q (string_bytes w))) es ≡ None
+  none_later q k [] e h = refl
+  none_later q k (x ∷ es) e h =
+      let same : q ≡ string_bytes k = slice_cmp-IsAntisymmetric nat_cmp-IsAntisymmetric q (string_bytes k) (tied _ e) in
+      let less : slice_cmp nat_cmp q (string_bytes x.0) ≡ Less = ap (λ w. slice_cmp nat_cmp w (string_bytes x.0)) same ∙ h.0 in
+      ap (λ o. cond (is_eq o) (Some x.1) (lookup (λ w. is_eq (slice_cmp nat_cmp q (string_bytes w))) es)) less ∙ none_later q k es e h.1
+
+  get-put_all : (es : List (String Z × List ℕ)) (objects : Objects) (q : List ℕ) → IsStrictlySortedBy string_cmp (keys_of es) →
+      fin.get (put_all es objects) q ≡ or_at (lookup (λ k. is_eq (slice_cmp nat_cmp q (string_bytes k))) es) (fin.get objects q)
+  unfolding IsStrictlySortedBy
+  get-put_all [] objects q h = refl
+  get-put_all (e ∷ es) objects q h =
+      get-put_all es (store objects (string_bytes e.0) (Some e.1)) q h.1
+      ∙ ap (or_at (lookup (λ k. is_eq (slice_cmp nat_cmp q (string_bytes k))) es)) (stored objects (string_bytes e.0) (Some e.1) q)
+      ∙ or_at-cond (is_eq (slice_cmp nat_cmp q (string_bytes e.0))) e.1 _ _ (λ t. none_later q e.0 es t h.0)
+
+  -- all entries of a map, put in one after another, are the map's objects
+  pub put_all-all : (m : BTreeMap (String Z) (List ℕ)) → IsStrictlySortedBy string_cmp (keys_of m.entries) → put_all m.entries fin.empty ≡ objects_of m.entries
+  put_all-all m h =
+      fin.same_map nat_list_cmp_total (slice_cmp-IsAntisymmetric nat_cmp-IsAntisymmetric) _ _
+      (λ q. get-put_all m.entries fin.empty q h ∙ ap (or_at (lookup (λ k. is_eq (slice_cmp nat_cmp q (string_bytes k))) m.entries)) (fin.get-empty (slice_cmp nat_cmp) q) ∙ or_at-none _ ∙ sym (fin.get-from_entries nat_list_cmp_total (map (λ e. (string_bytes e.0, e.1)) m.entries) q ∙ find-names q m.entries))

@@ -15,10 +15,11 @@ use Rattle.interp.specs.declared.outcome.Outcome.{Outcome}
 use Rattle.interp.specs.Plain.{Answers}
 use Rattle.pg_log.specs.declared.group.TheConstants.{LOG_LIMIT}
 use Rattle.pg_log.specs.declared.log_error.LogError.TheVariants.{LogFull, StaleNumber, InputTooLong}
+use Rattle.pg_log.specs.declared.entry.Entry.{Entry}
 use Rattle.pg_log.specs.Requests.{ClientRequest}
-use Rattle.pg_log.specs.Log.{Classes, Objects, Legal, CanRun, method_in, outcome_of_method}
+use Rattle.pg_log.specs.Log.{Classes, Objects, Legal, CanRun, method_in, outcome_of_method, fold}
 use Rattle.pg_log.specs.Refusals.{refusal_of_method, refusal_of_class, refusal, is_reached}
-use Rattle.pg_log.specs.Entries.{IsOutcome, IsOutcomeOn, IsSafeRequest}
+use Rattle.pg_log.specs.Entries.{IsOutcome, IsOutcomeOn, IsSafeRequest, IsNextEntry}
 use Rattle.pg_log.proofs.Legal.{legal_push}
 use Rattle.pg_log.proofs.Exact.{follows_unrefused}
 use Rattle.pg_log.proofs.Tables.{CanRun-more, loaded-more}
@@ -97,3 +98,20 @@ next_safe table classes xs r pre e s =
     let f = follows_unrefused table xs r e in
     let P : Classes → Type 0 = λ w. IsSafeRequest w r in
     subst P pre.1 (more-safe table pre.0 r f.run s)
+
+-- an entry that was made of a request and its outcome
+pub entry_made : (classes : Classes) (xs : List ClientRequest) (r : ClientRequest) (o : Outcome) (e : Entry) →
+    e.request ≡ r → e.code ≡ o.code → e.output.items ≡ o.output.items → e.change ≡ o.change →
+    Legal classes (xs ++ r ∷ []) → IsSafeRequest classes r → IsOutcomeOn classes (fold classes xs) r o.code o.output.items o.change → IsNextEntry classes xs e
+entry_made classes xs r o e request code output change legal safe ran =
+    let L : ClientRequest → Type 0 = λ w. Legal classes (xs ++ w ∷ []) in
+    let S : ClientRequest → Type 0 = IsSafeRequest classes in
+    let R : ClientRequest → Type 0 = λ w. IsOutcomeOn classes (fold classes xs) w e.code e.output.items e.change in
+    let C : ℤ → Type 0 = λ w. IsOutcomeOn classes (fold classes xs) r w e.output.items e.change in
+    let U : List ℕ → Type 0 = λ w. IsOutcomeOn classes (fold classes xs) r o.code w e.change in
+    let D : Change → Type 0 = λ w. IsOutcomeOn classes (fold classes xs) r o.code o.output.items w in
+    record {
+      legal = subst L (sym request) legal;
+      safe = subst S (sym request) safe;
+      outcome = subst R (sym request) (subst C (sym code) (subst U (sym output) (subst D (sym change) ran)));
+    }

@@ -1,5 +1,5 @@
 -- What a group keeps of its list.
-use Rattle.std.specs.Prelude.{◌≡◌, ℕ, ℤ, List, [], ◌∷◌, Option, Some, None, map, slice_get}
+use Rattle.std.specs.Prelude.{◌≡◌, ℕ, ℤ, List, [], ◌∷◌, ◌++◌, Option, Some, None, map, slice_get}
 use Rattle.std.specs.Borrow.{Bor}
 use Rattle.std.specs.FinMap as fin
 use Rattle.std.specs.Int.{w64, cast_unsigned}
@@ -55,6 +55,12 @@ AreSafe classes list = (i : ℕ) (r : ClientRequest) → slice_get list i ≡ So
 abbrev pub given_reply : Option (ℤ × Bor (List ℕ)) → Option Reply
 given_reply None = None
 given_reply (Some p) = Some (record { code = cast_unsigned w64 p.0; output = p.1.now })
+
+-- What may be kept after the entries of a list: its request may follow, is safe, and reply and change are its.
+pub record IsNextEntry (classes : Classes) (xs : List ClientRequest) (e : Entry) : Type 0 where
+  pub legal : Legal classes (xs ++ e.request ∷ [])
+  pub safe : IsSafeRequest classes e.request
+  pub outcome : IsOutcomeOn classes (fold classes xs) e.request e.code e.output.items e.change
 
 -- What a group keeps: a legal log of safe methods, replies and changes of its requests, their fold, and their places.
 pub record Keeps (classes : Classes) (entries : List Entry) (objects : Objects) (places : Places) : Type 0 where

@@ -5,7 +5,8 @@ use Rattle.pg_log.specs.declared.entry.Entry.{Entry}
 use Rattle.pg_log.specs.Requests.{ClientRequest}
 use Rattle.pg_log.specs.Log.{Classes, Legal, after, fold, fold_from, reply_at, reply_to}
 use Rattle.pg_log.specs.Entries.{AreEntries, requests_of, undone}
-use Rattle.pg_log.specs.Refusals.{Follows, place_of, refusal, first_refusal}
+use Rattle.pg_log.specs.Refusals.{Follows, place_of, refusal, first_refusal, SomeCanRun}
+use Rattle.pg_log.specs.Adopting.{IsCommonBeginning, rest_refusal}
 
 -- every beginning of a legal list is legal
 abbrev pub BeginningsAreLegal : Type 0
@@ -82,3 +83,13 @@ RefusalsAreExact = (classes : Classes) (xs : List ClientRequest) (r : ClientRequ
 -- a list is legal exactly where each of its requests can follow those before it
 abbrev pub ListsAreExact : Type 0
 ListsAreExact = (classes : Classes) (xs : List ClientRequest) → (first_refusal classes xs ≡ None) ↔ Legal classes xs
+
+-- a log that is legal by the table becomes a list as the list would be replayed: what refuses the list is what refuses
+-- its rest, and where there is a common beginning some request of the list can run
+pub record IsAsReplayed (classes : Classes) (list : List ClientRequest) (k : ℕ) : Type 0 where
+  pub same : rest_refusal classes list k ≡ first_refusal classes list
+  pub some : 0 < k → SomeCanRun classes list
+
+abbrev pub AdoptingIsReplaying : Type 0
+AdoptingIsReplaying =
+    (classes : Classes) (own list : List ClientRequest) (k : ℕ) → Legal classes own → IsCommonBeginning own list k → IsAsReplayed classes list k

@@ -3,6 +3,7 @@ pub mod Requests
 pub mod Log
 pub mod Refusals
 pub mod Entries
+pub mod Adopting
 pub mod Same
 pub mod Laws
 pub mod Within

@@ -1,5 +1,5 @@
 -- The index of a list, which the code keeps: the requests of each client, by rising numbers.
-use Rattle.std.specs.Prelude.{◌≡◌, ℕ, suc, ◌<◌, List, [], ◌∷◌, Option, Some, None, Bool, false, if◌then◌else◌, ◌==◌, ◌||◌, nat_le, Vec}
+use Rattle.std.specs.Prelude.{◌≡◌, ℕ, suc, ◌<◌, List, [], ◌∷◌, Option, Some, None, Bool, false, if◌then◌else◌, ◌==◌, ◌||◌, nat_le, Vec, ◌≤◌, length}
 use Rattle.std.specs.List.{AllByRecursion}
 use Rattle.std.specs.Ordering.{nat_cmp}
 use Rattle.std.specs.BTreeMap as tree
@@ -37,3 +37,16 @@ kept_of (Some v) = v.items
 -- the index has the requests of each client, and nothing else
 abbrev pub ArePlaces : Places → List ClientRequest → Type 0
 ArePlaces places list = (client : ℕ) → kept_of (tree.get nat_cmp places.by_client client) ≡ standing client list
+
+-- how many requests of a client the index has room for
+abbrev pub room_of : {A : Type 0} → Option (Vec (ℕ × ℕ) A) → ℕ
+room_of None = 0
+room_of (Some v) = v.cap
+
+-- the index has room for the requests of each client
+abbrev pub HasRoom : Places → List ClientRequest → Type 0
+HasRoom places list = (client : ℕ) → length (standing client list) ≤ room_of (tree.get nat_cmp places.by_client client)
+
+-- no client has less room
+abbrev pub RoomStays : Places → Places → Type 0
+RoomStays old new = (client : ℕ) → room_of (tree.get nat_cmp old.by_client client) ≤ room_of (tree.get nat_cmp new.by_client client)

@@ -7,6 +7,7 @@ ghost use Rattle.pg_log.specs.Log.{Legal, fold, reply_at};
 ghost use Rattle.pg_log.specs.Refusals.{place_of};
 ghost use Rattle.pg_log.specs.Entries.{AreEntries, AreSafe, requests_of, given_reply};
 
+mod adopt;
 mod append;
 mod replay;
 

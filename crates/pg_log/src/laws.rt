@@ -1,5 +1,5 @@
 //! Laws of legal lists, of their objects and of their replies, for the proofs of the crates above. Each function does nothing.
-ghost use Rattle.pg_log.specs.Laws.{BeginningsAreLegal, EmptyIsLegal, AppendIsAStep, FoldIsAStep, FoldGoesOn, FoldsStay, UndoingGoesBack, RepliesStay, LastReply, RepliesAreThere, PairsStandOnce, PlaceIsThePairs, PlaceHasThePair, ClassesAdded, RefusalsAreExact, ListsAreExact};
+ghost use Rattle.pg_log.specs.Laws.{BeginningsAreLegal, EmptyIsLegal, AppendIsAStep, FoldIsAStep, FoldGoesOn, FoldsStay, UndoingGoesBack, RepliesStay, LastReply, RepliesAreThere, PairsStandOnce, PlaceIsThePairs, PlaceHasThePair, ClassesAdded, RefusalsAreExact, ListsAreExact, AdoptingIsReplaying};
 
 /// Every beginning of a legal list is legal, the empty list too; a list with one request more is legal exactly where
 /// the list is and the request may follow it.
@@ -47,4 +47,9 @@ pub fn classes_added()
 pub fn refusals()
     ensures requests { RefusalsAreExact }
     ensures lists { ListsAreExact }
+{}
+
+/// A log that is legal by the table becomes a list exactly as the list would be replayed, though only its rest is run.
+pub fn adopting()
+    ensures { AdoptingIsReplaying }
 {}

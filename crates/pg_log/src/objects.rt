@@ -1,8 +1,9 @@
-ghost use Rattle.std.specs.Prelude.{◌≡◌, OnOk, OnErr};
+ghost use Rattle.std.specs.Prelude.{◌≡◌, IfOk, OnOk, OnErr};
 ghost use Rattle.std.specs.FinMap as fin;
 ghost use Rattle.interp.specs.Plain.{given_object};
 ghost use Rattle.pg_log.specs.Log.{store};
 ghost use Rattle.pg_log.specs.Objects.{changed};
+ghost use Rattle.pg_log.specs.Entries.{undone};
 
 use interp::{Change, Object, ObjectName};
 use std::alloc::{AllocError, Global};
@@ -84,5 +85,33 @@ impl Objects {
             Change::Unchanged => Ok(()),
             Change::Changed { before: _, after } => self.store(alloc, name, after.as_ref()),
         }
+    }
+
+    /// Undoes to the object of a name what a call did to it. It is copied only where the call changed it.
+    pub(crate) fn undo(
+        &mut self,
+        alloc: Global,
+        name: &ObjectName,
+        change: &Change,
+    ) -> Result<(), AllocError>
+        ensures ok { OnOk result (self.new ≡ undone self.old name.now change.now) }
+        ensures err { OnErr result (self.new ≡ self.old) }
+    {
+        match change {
+            Change::Unchanged => Ok(()),
+            Change::Changed { before, after: _ } => self.store(alloc, name, before.as_ref()),
+        }
+    }
+
+    /// Equal objects. It costs a copy of each.
+    pub(crate) fn copy(&self, alloc: Global) -> Result<Objects, AllocError>
+        ensures { IfOk result (λ o. o ≡ self.now) }
+    {
+        let mut copy = BTreeMap::new(alloc);
+        for (name, object) in &self.by_name {
+            let name = String::from_str(alloc, name.as_str())?;
+            copy.insert(name, object.copy(alloc)?)?;
+        }
+        Ok(Objects { by_name: copy })
     }
 }

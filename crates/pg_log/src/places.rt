@@ -1,10 +1,14 @@
-ghost use Rattle.std.specs.Prelude.{◌≡◌, ◌∷◌, ◌++◌, [], List, length, OnOk, OnErr};
+ghost use Rattle.std.specs.Prelude.{◌≡◌, ◌<◌, ◌∷◌, ◌++◌, [], List, length, take, IsOk, OnOk, OnErr};
+ghost use Rattle.std.specs.Ordering.{nat_cmp};
+ghost use Rattle.std.specs.BTreeMap as tree;
 ghost use Rattle.pg_log.specs.Requests.{ClientRequest};
 ghost use Rattle.pg_log.specs.Log.{NumbersRise};
 ghost use Rattle.pg_log.specs.Refusals.{place_of, is_reached};
-ghost use Rattle.pg_log.specs.Places.{ArePlaces, IsRising, place_in, reaches_in};
+ghost use Rattle.pg_log.specs.Places.{ArePlaces, IsRising, place_in, reaches_in, kept_of, room_of, HasRoom, RoomStays};
+ghost use Rattle.pg_log.specs.Entries.{requests_of};
 
 use crate::client_id::ClientId;
+use crate::entry::Entry;
 use crate::request_number::RequestNumber;
 use std::alloc::{AllocError, Global};
 use std::collections::BTreeMap;
@@ -47,6 +51,7 @@ impl Places {
     }
 
     /// Adds the place of a request that follows the list.
+    /// It needs no memory where the client has room.
     pub(crate) fn add(
         &mut self,
         alloc: Global,
@@ -57,6 +62,8 @@ impl Places {
         ensures ok { OnOk result ((list : List ClientRequest) (r : ClientRequest) → ArePlaces self.old list
             → client ≡ r.client → number ≡ r.number → place ≡ length list → ArePlaces self.new (list ++ r ∷ [])) }
         ensures err { OnErr result ((list : List ClientRequest) → ArePlaces self.old list → ArePlaces self.new list) }
+        ensures room { RoomStays self.old self.new }
+        ensures succeeds { length (kept_of (tree.get nat_cmp self.old.by_client client)) < room_of (tree.get nat_cmp self.old.by_client client) → IsOk result }
     {
         let request = (number.get(), place);
         let key = client.get();
@@ -73,10 +80,39 @@ impl Places {
 
     /// Takes back the place of a list's last request.
     pub(crate) fn remove(&mut self, client: ClientId)
-        ensures { (list : List ClientRequest) (r : ClientRequest) → ArePlaces self.old (list ++ r ∷ []) → client ≡ r.client → ArePlaces self.new list }
+        ensures places { (list : List ClientRequest) (r : ClientRequest) → ArePlaces self.old (list ++ r ∷ []) → client ≡ r.client → ArePlaces self.new list }
+        ensures room { RoomStays self.old self.new }
     {
         if let Some(requests) = self.by_client.get_mut(&client.get()) {
             let _ = requests.pop();
+        }
+    }
+
+    /// Takes back the places of a list's last requests, those of these entries.
+    pub(crate) fn take_back(&mut self, entries: &[Entry])
+        ensures places { (list : List ClientRequest) → ArePlaces self.old (list ++ requests_of entries.now) → ArePlaces self.new list }
+        ensures room { RoomStays self.old self.new }
+    {
+        for back in 0..entries.len() {
+            let entry = &entries[entries.len() - 1 - back];
+            self.remove(entry.request.client());
+        }
+    }
+
+    /// Adds the places of these entries from a place on, for which there is room.
+    pub(crate) fn give_back(&mut self, alloc: Global, entries: &[Entry], at: usize)
+        requires places { ArePlaces self.old (take at (requests_of entries.now)) }
+        requires room { HasRoom self.old (requests_of entries.now) }
+        ensures { ArePlaces self.new (requests_of entries.now) }
+    {
+        for place in at..entries.len() {
+            let request = &entries[place].request;
+            if self
+                .add(alloc, request.client(), request.number(), place)
+                .is_err()
+            {
+                unreachable!();
+            }
         }
     }
 }

@@ -1,11 +1,12 @@
 mod added;
+mod adopt;
 mod append;
 mod full;
 mod replay;
 
 use crate::{
-    Classes, ClientId, Group, LogError, Request, RequestNumber, classes_added, folds, legal_lists,
-    pairs, refusals, replies, undoing,
+    Classes, ClientId, Group, LogError, Request, RequestNumber, adopting, classes_added, folds,
+    legal_lists, pairs, refusals, replies, undoing,
 };
 use bpf_decode::{ClassImage, Method, decode};
 use interp::{ClassTable, Object, ObjectName};
@@ -148,6 +149,7 @@ fn laws_do_nothing(rt: HostRuntime) {
     pairs();
     undoing();
     classes_added();
+    adopting();
     refusals();
     assert!(rt; LogError::InputTooLong.number() == 6 && LogError::NoClass.name() == "NoClass");
 }

@@ -1,17 +1,22 @@
-ghost use Rattle.std.specs.Prelude.{◌≡◌, ◌∷◌, ◌++◌, ◌⊎◌, [], length, IfOk, IfErr, OnOk, OnErr, Some, None, Ok, Err};
+ghost use Rattle.std.specs.Int.{w64, cast_unsigned};
+ghost use Rattle.std.specs.Prelude.{◌≡◌, ◌≤◌, ◌∷◌, ◌++◌, ◌⊎◌, [], List, length, vec_capacity, IfOk, IfErr, OnOk, OnErr, Some, None, Ok, Err};
 ghost use mathlib.Core.List.{IsPrefix};
 ghost use Rattle.bpf_decode.specs.Class.{ClassMethod};
 ghost use Rattle.bpf_machine.specs.Safe.{IsSafe};
 ghost use Rattle.verifier.specs.Verified.{method_named};
 ghost use Rattle.interp.specs.Plain.{given_object};
-ghost use Rattle.pg_log.specs.Log.{Legal, fold};
+ghost use Rattle.pg_log.specs.Requests.{ClientRequest};
+ghost use Rattle.pg_log.specs.Log.{Legal, NumbersRise, fold, reply_at};
+ghost use Rattle.pg_log.specs.Places.{ArePlaces, RoomStays};
 ghost use Rattle.pg_log.specs.Refusals.{place_of, refusal, refusal_of_method, Refuses, append_answer, list_after};
-ghost use Rattle.pg_log.specs.Entries.{IsOutcome, IsOutcomeOn, IsSafeRequest};
+ghost use Rattle.pg_log.specs.Entries.{IsOutcome, IsOutcomeOn, IsSafeRequest, IsNextEntry, Keeps, requests_of};
 
 use crate::classes::Classes;
 use crate::entry::Entry;
 use crate::group::{Group, LOG_LIMIT};
 use crate::log_error::LogError;
+use crate::objects::Objects;
+use crate::places::Places;
 use crate::request::Request;
 use bpf_machine::outcomes;
 use interp::{CallError, ClassTable, Object, Outcome, call};
@@ -40,13 +45,37 @@ impl<C: Classes> Group<C> {
         if let Some(place) = self.places.place(request.client(), request.number()) {
             return Ok(place);
         }
+        let entry = self.next_entry(table, request)?;
+        self.keep(entry)
+    }
+
+    /// The entry that a request would be, with its reply and what it would do to its object. It changes nothing, and
+    /// refuses as `append` does where the request's pair isn't logged; a pair that is logged is `StaleNumber`, on a full
+    /// log `LogFull`. It costs the call.
+    ///
+    /// The table is that of the earlier calls, or that one with classes added.
+    pub fn next_entry(&self, table: &ClassTable, request: Request) -> Result<Entry, LogError>
+        requires { IsPrefix table.now C.classes }
+        ensures next { IfOk result (λ e. IsNextEntry C.classes self.now e) }
+        ensures request { IfOk result (λ e. e.request ≡ request) }
+        ensures unrefused { IfOk result (λ _. refusal table.now self.now request ≡ None) }
+        ensures reply { IfOk result (λ e. reply_at C.classes (self.now ++ request ∷ []) (length self.now) ≡ Some (record { code = cast_unsigned w64 e.code; output = e.output.items })) }
+        ensures err { IfErr result (λ e. Refuses (refusal table.now self.now request) e) }
+    {
         let outcome = self.run(table, &request)?;
-        self.keep(Entry {
-            request,
-            code: outcome.code,
-            output: outcome.output,
-            change: outcome.change,
-        })
+        Ok(entry_of(request, outcome))
+    }
+
+    /// The same of an equal request, which is copied once nothing refuses it.
+    pub fn next_entry_of(&self, table: &ClassTable, request: &Request) -> Result<Entry, LogError>
+        requires { IsPrefix table.now C.classes }
+        ensures next { IfOk result (λ e. IsNextEntry C.classes self.now e) }
+        ensures request { IfOk result (λ e. e.request ≡ request.now) }
+        ensures unrefused { IfOk result (λ _. refusal table.now self.now request.now ≡ None) }
+        ensures err { IfErr result (λ e. Refuses (refusal table.now self.now request.now) e) }
+    {
+        let outcome = self.run(table, request)?;
+        Ok(entry_of(request.copy(self.alloc)?, outcome))
     }
 
     /// What a request that may follow the log makes of its object. It changes nothing.
@@ -56,48 +85,108 @@ impl<C: Classes> Group<C> {
         ensures safe { IfOk result (λ _. IsSafeRequest table.now request.now) }
         ensures legal { Legal C.classes self.now }
     {
-        let full = self.entries.len() >= LOG_LIMIT;
-        if full {
-            return Err(LogError::LogFull);
-        }
-        if self.places.is_reached(request.client(), request.number()) {
-            return Err(LogError::StaleNumber);
-        }
-        let Some(class) = table.get(request.class()) else {
-            return Err(LogError::NoClass);
-        };
-        run_method(
+        run_after(
             self.alloc,
-            class,
-            self.objects.get(request.object()),
+            table,
+            self.entries.len(),
+            &self.places,
+            &self.objects,
             request,
         )
     }
 
-    /// Adds an entry that may follow the log, and gives its place. All its growths come first: the log's, the index's
-    /// and, where the call changed it, that of the object.
-    pub(crate) fn keep(&mut self, entry: Entry) -> Result<usize, LogError>
-        requires legal { Legal C.classes (self.old ++ entry.request ∷ []) }
-        requires safe { IsSafeRequest C.classes entry.request }
-        requires outcome { IsOutcomeOn C.classes (fold C.classes self.old) entry.request entry.code entry.output.items entry.change }
+    /// Adds an entry that may follow the log, as `next_entry` gives it, and gives its place. It refuses by `NoMemory`
+    /// alone, and then leaves the group as it was. All its growths come first: the log's, the index's and, where the
+    /// call changed it, that of the object.
+    pub fn keep(&mut self, entry: Entry) -> Result<usize, LogError>
+        requires { IsNextEntry C.classes self.old entry }
         ensures ok { IfOk result (λ place. (place ≡ length self.old) × (self.new ≡ self.old ++ entry.request ∷ [])) }
         ensures err { IfErr result (λ e. (e ≡ LogError.NoMemory) × (self.new ≡ self.old)) }
     {
         let place = self.entries.len();
+        Self::add(
+            self.alloc,
+            entry,
+            &mut self.entries,
+            &mut self.objects,
+            &mut self.places,
+        )?;
+        Ok(place)
+    }
+
+    /// Adds an entry that may follow a log to its entries, objects and index.
+    pub(crate) fn add(
+        alloc: Global,
+        entry: Entry,
+        entries: &mut Vec<Entry>,
+        objects: &mut Objects,
+        places: &mut Places,
+    ) -> Result<(), LogError>
+        requires kept { Keeps C.classes entries.old.items objects.old places.old }
+        requires next { IsNextEntry C.classes (requests_of entries.old.items) entry }
+        ensures ok { OnOk result (entries.new.items ≡ entries.old.items ++ entry ∷ []) }
+        ensures err { IfErr result (λ e. (e ≡ LogError.NoMemory) × (entries.new.items ≡ entries.old.items)) }
+        ensures kept { Keeps C.classes entries.new.items objects.new places.new }
+        ensures entries_room { vec_capacity entries.old ≤ vec_capacity entries.new }
+        ensures room { RoomStays places.old places.new }
+    {
+        let place = entries.len();
         let client = entry.request.client();
         let number = entry.request.number();
-        self.entries.reserve(1)?;
-        self.places.add(self.alloc, client, number, place)?;
-        if self
-            .objects
-            .apply(self.alloc, entry.request.object(), &entry.change)
+        entries.reserve(1)?;
+        places.add(alloc, client, number, place)?;
+        if objects
+            .apply(alloc, entry.request.object(), &entry.change)
             .is_err()
         {
-            self.places.remove(client);
+            places.remove(client);
             return Err(LogError::NoMemory);
         }
-        self.entries.push_reserved(entry);
-        Ok(place)
+        entries.push_reserved(entry);
+        Ok(())
+    }
+}
+
+/// What a request that may follow a list makes of its object, by the list's length, index and objects.
+pub(crate) fn run_after(
+    alloc: Global,
+    table: &ClassTable,
+    place: usize,
+    places: &Places,
+    objects: &Objects,
+    request: &Request,
+) -> Result<Outcome, LogError>
+    ensures ok { (list : List ClientRequest) → length list ≡ place → ArePlaces places.now list → NumbersRise list
+        → IfOk result (λ o. (refusal table.now list request.now ≡ None) × IsOutcomeOn table.now objects.now request.now o.code o.output.items o.change) }
+    ensures err { (list : List ClientRequest) → length list ≡ place → ArePlaces places.now list → NumbersRise list
+        → IfErr result (λ e. Refuses (refusal table.now list request.now) e) }
+    ensures safe { IfOk result (λ _. IsSafeRequest table.now request.now) }
+{
+    let full = place >= LOG_LIMIT;
+    if full {
+        return Err(LogError::LogFull);
+    }
+    if places.is_reached(request.client(), request.number()) {
+        return Err(LogError::StaleNumber);
+    }
+    let Some(class) = table.get(request.class()) else {
+        return Err(LogError::NoClass);
+    };
+    run_method(alloc, class, objects.get(request.object()), request)
+}
+
+/// A request with what it made.
+pub(crate) fn entry_of(request: Request, outcome: Outcome) -> Entry
+    ensures request { result.request ≡ request }
+    ensures code { result.code ≡ outcome.code }
+    ensures output { result.output.items ≡ outcome.output.items }
+    ensures change { result.change ≡ outcome.change }
+{
+    Entry {
+        request,
+        code: outcome.code,
+        output: outcome.output,
+        change: outcome.change,
     }
 }
 

@@ -1,28 +1,24 @@
-use Rattle.std.proofs.Common.{sym, subst, List, ℤ, rules, FitsSigned, w64}
-use Rattle.std.proofs.lemmas.Int.{to_z-of_z}
+use Rattle.std.proofs.Common.{◌≡◌, ◌++◌, ◌∷◌, [], None, subst}
 use Rattle.pg_log.specs.Requests.{ClientRequest}
-use Rattle.pg_log.specs.Log.{Legal, fold}
-use Rattle.pg_log.specs.Entries.{IsOutcomeOn}
-use Rattle.pg_log.proofs.Ran.{next_legal, next_outcome, next_safe}
+use Rattle.pg_log.specs.Log.{Legal}
+use Rattle.pg_log.specs.Refusals.{place_of, refusal}
+use Rattle.pg_log.proofs.Kept.{fresh, kept_answer, kept_list}
 use Rattle.pg_log.proofs.group.Group.append.Goals as goal
 
-pub keep-requires-clause-legal : goal.keep-requires-clause-legal
-keep-requires-clause-legal g c =
-    let P : List ClientRequest → Type 0 = Legal g.C.Classes.classes in
-    next_legal c.args.table.now g.C.Classes.classes c.args.self.now c.args.request c.requires
-    (subst P c.self.view_is c.self.invariant.legal) c.in_ok-outcome.ensures.ok.0
-
-pub keep-requires-clause-outcome : goal.keep-requires-clause-outcome
-keep-requires-clause-outcome g c =
-    let classes = g.C.Classes.classes in
+pub returns-clause-answer : goal.returns-clause-answer
+returns-clause-answer g c =
     let xs = c.args.self.now in
     let r = c.args.request in
-    let o = c.in_ok-outcome.outcome in
-    let fits : FitsSigned w64 o.code = search rules in
-    let P : ℤ → Type 0 = λ z. IsOutcomeOn classes (fold classes xs) r z o.output.items o.change in
-    subst P (sym (to_z-of_z w64 o.code fits))
-    (next_outcome c.args.table.now classes xs (fold classes xs) r o.code o.output.items o.change c.requires c.in_ok-outcome.ensures.ok.0 c.in_ok-outcome.ensures.ok.1)
+    let next = c.in_ok-entry.ensures in
+    let L : ClientRequest → Type 0 = λ w. Legal g.C.Classes.classes (xs ++ w ∷ []) in
+    let none : place_of r.client r.number xs ≡ None = fresh g.C.Classes.classes xs r (subst L next.request next.next.legal) in
+    kept_answer (place_of r.client r.number xs) (refusal c.args.table.now xs r) xs c.keep.new.self c.in_ok-entry.entry.request c.keep.result none next.unrefused c.keep.ensures.ok c.keep.ensures.err
 
-pub keep-requires-clause-safe : goal.keep-requires-clause-safe
-keep-requires-clause-safe g c =
-    next_safe c.args.table.now g.C.Classes.classes c.args.self.now c.args.request c.requires c.in_ok-outcome.ensures.ok.0 c.in_ok-outcome.ensures.safe
+pub returns-clause-ok : goal.returns-clause-ok
+returns-clause-ok g c =
+    let xs = c.args.self.now in
+    let r = c.args.request in
+    let next = c.in_ok-entry.ensures in
+    let L : ClientRequest → Type 0 = λ w. Legal g.C.Classes.classes (xs ++ w ∷ []) in
+    let none : place_of r.client r.number xs ≡ None = fresh g.C.Classes.classes xs r (subst L next.request next.next.legal) in
+    kept_list (place_of r.client r.number xs) xs c.keep.new.self c.in_ok-entry.entry.request r c.keep.result none next.request c.keep.ensures.ok

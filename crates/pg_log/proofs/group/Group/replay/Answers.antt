@@ -11,34 +11,6 @@ use Rattle.pg_log.proofs.Exact.{some_can_run, unrefused_next}
 use Rattle.pg_log.proofs.Ran.{next_legal, next_outcome, next_safe}
 use Rattle.pg_log.proofs.group.Group.replay.Goals as goal
 
-pub keep-requires-clause-legal : goal.keep-requires-clause-legal
-keep-requires-clause-legal g c =
-    let classes = g.C.Classes.classes in
-    let xs = c.loop-request.group in
-    let P : ClientRequest → Type 0 = λ w. Legal classes (xs ++ w ∷ []) in
-    subst P (sym c.in_ok-copy.ensures.ok)
-    (next_legal c.args.table.now classes xs c.request-item.result c.requires c.run.ensures.legal c.in_ok-outcome.ensures.ok.0)
-
-pub keep-requires-clause-outcome : goal.keep-requires-clause-outcome
-keep-requires-clause-outcome g c =
-    let classes = g.C.Classes.classes in
-    let xs = c.loop-request.group in
-    let r = c.request-item.result in
-    let o = c.in_ok-outcome.outcome in
-    let fits : FitsSigned w64 o.code = search rules in
-    let P : ℤ → Type 0 = λ z. IsOutcomeOn classes (fold classes xs) c.in_ok-copy.field-0 z o.output.items o.change in
-    let Q : ClientRequest → Type 0 = λ w. IsOutcomeOn classes (fold classes xs) w o.code o.output.items o.change in
-    subst P (sym (to_z-of_z w64 o.code fits))
-    (subst Q (sym c.in_ok-copy.ensures.ok)
-    (next_outcome c.args.table.now classes xs (fold classes xs) r o.code o.output.items o.change c.requires c.in_ok-outcome.ensures.ok.0 c.in_ok-outcome.ensures.ok.1))
-
-pub keep-requires-clause-safe : goal.keep-requires-clause-safe
-keep-requires-clause-safe g c =
-    let classes = g.C.Classes.classes in
-    let P : ClientRequest → Type 0 = IsSafeRequest classes in
-    subst P (sym c.in_ok-copy.ensures.ok)
-    (next_safe c.args.table.now classes c.loop-request.group c.request-item.result c.requires c.in_ok-outcome.ensures.ok.0 c.in_ok-outcome.ensures.safe)
-
 pub returns-in_err-copy-clause-err : goal.returns-in_err-copy-clause-err
 returns-in_err-copy-clause-err g c =
     let table = c.args.table.now in
@@ -78,3 +50,29 @@ loop-request-preserved g c =
           ∙ ap (λ o. or_else o (first_refusal_from table (take k list ++ r ∷ []) (drop (k + 1) list))) why
           ∙ ap (λ w. first_refusal_from table w (drop (k + 1) list)) (sym longer);
     }
+
+pub keep-requires : goal.keep-requires
+keep-requires g c = record {
+  legal =
+      let classes = g.C.Classes.classes in
+      let xs = c.loop-request.group in
+      let P : ClientRequest → Type 0 = λ w. Legal classes (xs ++ w ∷ []) in
+      subst P (sym c.in_ok-copy.ensures.ok)
+      (next_legal c.args.table.now classes xs c.request-item.result c.requires c.run.ensures.legal c.in_ok-outcome.ensures.ok.0);
+  safe =
+      let classes = g.C.Classes.classes in
+      let P : ClientRequest → Type 0 = IsSafeRequest classes in
+      subst P (sym c.in_ok-copy.ensures.ok)
+      (next_safe c.args.table.now classes c.loop-request.group c.request-item.result c.requires c.in_ok-outcome.ensures.ok.0 c.in_ok-outcome.ensures.safe);
+  outcome =
+      let classes = g.C.Classes.classes in
+      let xs = c.loop-request.group in
+      let r = c.request-item.result in
+      let o = c.in_ok-outcome.outcome in
+      let fits : FitsSigned w64 o.code = search rules in
+      let P : ℤ → Type 0 = λ z. IsOutcomeOn classes (fold classes xs) c.in_ok-copy.field-0 z o.output.items o.change in
+      let Q : ClientRequest → Type 0 = λ w. IsOutcomeOn classes (fold classes xs) w o.code o.output.items o.change in
+      subst P (sym (to_z-of_z w64 o.code fits))
+      (subst Q (sym c.in_ok-copy.ensures.ok)
+      (next_outcome c.args.table.now classes xs (fold classes xs) r o.code o.output.items o.change c.requires c.in_ok-outcome.ensures.ok.0 c.in_ok-outcome.ensures.ok.1));
+}

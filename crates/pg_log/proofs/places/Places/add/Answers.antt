@@ -1,9 +1,10 @@
-use Rattle.std.proofs.Common.{◌∙◌, ap, sym, refl, IsSome, subst, Option, ◌++◌, ◌∷◌, [], Vec, ℕ}
+use Rattle.std.proofs.Common.{◌≡◌, length, arith, ◌∙◌, ap, sym, refl, IsSome, subst, Option, ◌++◌, ◌∷◌, [], Vec, ℕ}
 use Rattle.std.specs.declared.alloc.Global.{Global}
 use Rattle.std.specs.Ordering.{nat_cmp}
 use Rattle.std.specs.BTreeMap as tree
-use Rattle.pg_log.specs.Places.{kept_of}
+use Rattle.pg_log.specs.Places.{kept_of, room_of}
 use Rattle.pg_log.proofs.Indexed.{added}
+use Rattle.pg_log.proofs.Room.{room_put}
 use Rattle.pg_log.proofs.places.Places.add.Goals as goal
 
 pub returns-in_ok-push-in-Some-clause-ok : goal.returns-in_ok-push-in-Some-clause-ok
@@ -24,3 +25,36 @@ returns-in_ok-insert-in-None-clause-ok c = λ list r is client number at.
     added m c.insert.new.self c.get-key.result c.get.result c.args.place c.push-in-None.new.self c.in_ok-insert-in-None.ensures.updates
     (c.in_ok-push-in-None.ensures.items ∙ ap (λ l. l ++ (c.get.result, c.args.place) ∷ []) (c.new-requests.ensures.items ∙ ap (λ o. kept_of o) none))
     list r (λ q. ap (λ w. kept_of (tree.get nat_cmp w q)) same ∙ is q) (c.get-key.ensures.value ∙ client) (c.get.ensures.value ∙ number) at
+
+pub returns-in_err-push-in-Some-clause-succeeds : goal.returns-in_err-push-in-Some-clause-succeeds
+returns-in_err-push-in-Some-clause-succeeds c = λ h.
+    let m = c.args.self.now.by_client in
+    let v = c.in-Some.requests.now in
+    let held = c.in-Some.ensures.value in
+    let key = c.get-key.ensures.value in
+    let kept : length v.items ≡ length (kept_of (tree.get nat_cmp m c.args.client)) = ap (λ o. length (kept_of o)) held ∙ ap (λ k. length (kept_of (tree.get nat_cmp m k))) key in
+    let room : v.cap ≡ room_of (tree.get nat_cmp m c.args.client) = ap (λ o. room_of o) held ∙ ap (λ k. room_of (tree.get nat_cmp m k)) key in
+    let same = v.ok.0 in
+    let full = c.in_err-push-in-Some.ensures.full in
+    absurd (omega (arith, h, kept, room, same, full))
+
+pub returns-in_err-push-in-None-clause-succeeds : goal.returns-in_err-push-in-None-clause-succeeds
+returns-in_err-push-in-None-clause-succeeds c = λ h.
+    let m = c.args.self.now.by_client in
+    let room : 0 ≡ room_of (tree.get nat_cmp m c.args.client) = ap (λ o. room_of o) c.in-None.ensures.value ∙ ap (λ k. room_of (tree.get nat_cmp m k)) c.get-key.ensures.value in
+    absurd (omega (arith, h, room))
+
+pub returns-in_err-insert-in-None-clause-succeeds : goal.returns-in_err-insert-in-None-clause-succeeds
+returns-in_err-insert-in-None-clause-succeeds c = λ h.
+    let m = c.args.self.now.by_client in
+    let room : 0 ≡ room_of (tree.get nat_cmp m c.args.client) = ap (λ o. room_of o) c.in-None.ensures.value ∙ ap (λ k. room_of (tree.get nat_cmp m k)) c.get-key.ensures.value in
+    absurd (omega (arith, h, room))
+
+pub returns-in_ok-insert-in-None-clause-room : goal.returns-in_ok-insert-in-None-clause-room
+returns-in_ok-insert-in-None-clause-room c = λ client.
+    let m = c.get_mut.follows.lender-at-none in
+    let same = c.get_mut.follows.holds-at-none in
+    let none = c.in-None.ensures.value ∙ sym (ap (λ w. tree.get nat_cmp w c.get-key.result) same) in
+    let more = room_put m c.insert.new.self c.get-key.result c.push-in-None.new.self c.in_ok-insert-in-None.ensures.updates none client in
+    let was = ap (λ w. room_of (tree.get nat_cmp w client)) same in
+    omega (arith, more, was)

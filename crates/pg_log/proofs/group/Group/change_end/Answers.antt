@@ -1,0 +1,42 @@
+use Rattle.std.proofs.Common.{◌≡◌, ◌∙◌, ap, sym, subst, refl, List, ◌++◌, take, drop}
+use Rattle.std.proofs.lemmas.List.{take-append-drop}
+use Rattle.pg_log.specs.Requests.{ClientRequest}
+use Rattle.pg_log.specs.Places.{ArePlaces, HasRoom}
+use Rattle.pg_log.specs.Entries.{requests_of}
+use Rattle.pg_log.proofs.Kept.{keeps_same}
+use Rattle.pg_log.proofs.Adopted.{requests_of-take, requests_of-drop, keeps_beginning, cut_again, cut_entries}
+use Rattle.pg_log.proofs.Room.{own_room, room_later}
+use Rattle.pg_log.proofs.group.Group.change_end.Goals as goal
+
+pub extend-requires-clause-kept : goal.extend-requires-clause-kept
+extend-requires-clause-kept g c =
+    let es = c.args.entries.now.items in
+    let xs = requests_of es in
+    let k = c.args.at in
+    let tail : c.deref.result.now ≡ drop k es = c.deref.ensures.value ∙ c.in_ok-tail.ensures.tail in
+    let P : List ClientRequest → Type 0 = ArePlaces c.args.places.now in
+    let whole = subst P (sym (take-append-drop k xs) ∙ ap (λ (w : List ClientRequest). take k xs ++ w) (sym (requests_of-drop es k) ∙ sym (ap requests_of tail))) c.requires.kept.indexed in
+    keeps_beginning g.C.Classes.classes es c.split_off.new.self.items c.args.objects.now c.args.before c.args.places.now c.take_back.new.self k c.requires.kept
+    c.in_ok-tail.ensures.items c.requires.objects (c.take_back.ensures.places (take k xs) whole)
+
+pub extend-requires-clause-begun : goal.extend-requires-clause-begun
+extend-requires-clause-begun g c = ap requests_of c.in_ok-tail.ensures.items ∙ requests_of-take c.args.entries.now.items c.args.at ∙ c.requires.common
+
+pub put_back-requires-clause-room : goal.put_back-requires-clause-room
+put_back-requires-clause-room g c =
+    let es = c.args.entries.now.items in
+    let k = c.args.at in
+    let same = cut_again es c.split_off.new.self.items c.extend.new.entries.items c.in_ok-tail.tail.items k c.requires.within.1 c.in_ok-tail.ensures.items c.in_ok-tail.ensures.tail c.extend.ensures.begun in
+    let P : List ClientRequest → Type 0 = HasRoom c.extend.new.places in
+    subst P (sym same)
+    (room_later c.take_back.new.self c.extend.new.places _ (room_later c.args.places.now c.take_back.new.self _ (own_room c.args.places.now (requests_of es) c.requires.kept.indexed) c.take_back.ensures.room) c.extend.ensures.room)
+
+pub returns-clause-kept : goal.returns-clause-kept
+returns-clause-kept g c =
+    let es = c.args.entries.now.items in
+    let k = c.args.at in
+    let same = cut_again es c.split_off.new.self.items c.extend.new.entries.items c.in_ok-tail.tail.items k c.requires.within.1 c.in_ok-tail.ensures.items c.in_ok-tail.ensures.tail c.extend.ensures.begun in
+    let back = c.put_back.ensures.entries ∙ cut_entries es c.split_off.new.self.items c.extend.new.entries.items c.in_ok-tail.tail.items k c.requires.within.1 c.in_ok-tail.ensures.items c.in_ok-tail.ensures.tail c.extend.ensures.begun in
+    let P : List ClientRequest → Type 0 = ArePlaces c.put_back.new.places in
+    keeps_same g.C.Classes.classes es c.put_back.new.entries.items c.args.objects.now c.args.objects.now c.args.places.now c.put_back.new.places c.requires.kept back refl
+    (subst P same c.put_back.ensures.places)

@@ -1,0 +1,186 @@
+ghost use Rattle.std.specs.Prelude.{◌≡◌, ◌<◌, ◌≤◌, ◌+◌, ◌++◌, List, Some, None, IfOk, IfErr, OnOk, OnErr, Ok, Err, length, take, drop, vec_capacity};
+ghost use Rattle.std.specs.FinMap as fin;
+ghost use mathlib.Core.List.{IsPrefix};
+ghost use Rattle.pg_log.specs.Log.{Legal, fold};
+ghost use Rattle.pg_log.specs.Requests.{ClientRequest};
+ghost use Rattle.pg_log.specs.Refusals.{first_refusal, SomeCanRun};
+ghost use Rattle.pg_log.specs.Adopting.{IsCommonBeginning, rest_refusal, RestRefuses, AdoptRefuses};
+ghost use Rattle.pg_log.specs.Places.{ArePlaces, HasRoom, RoomStays};
+ghost use Rattle.pg_log.specs.Entries.{AreEntries, Keeps, requests_of};
+
+use crate::classes::Classes;
+use crate::entry::Entry;
+use crate::group::Group;
+use crate::group::append::run_after;
+use crate::log_error::LogError;
+use crate::objects::Objects;
+use crate::places::Places;
+use crate::request::Request;
+use interp::ClassTable;
+use std::alloc::{AllocError, Global};
+use std::mem;
+
+impl<C: Classes> Group<C> {
+    /// Makes the log this list: gives the length of the beginning that the old log and the list have in common.
+    /// What the log has past it is undone, the last entry first, and only the list's rest is run. It refuses as
+    /// `replay` refuses the list, by a request of the rest. A refusal leaves the group as it was.
+    ///
+    /// The table is that of the earlier calls, or that one with classes added. It costs a comparison of the lists, a
+    /// copy of the objects, and what the entries past the common beginning and the requests of the rest cost. Entries
+    /// and index of the common beginning stay where they are.
+    pub fn adopt(&mut self, table: &ClassTable, list: &[Request]) -> Result<usize, LogError>
+        requires { IsPrefix table.now C.classes }
+        ensures common { IfOk result (λ k. IsCommonBeginning self.old list.now k) }
+        ensures ok { OnOk result (self.new ≡ list.now) }
+        ensures ran { IfOk result (λ k. rest_refusal table.now list.now k ≡ None) }
+        ensures refused { OnErr result (self.new ≡ self.old) }
+        ensures err { IfErr result (λ e. AdoptRefuses table.now self.old list.now e) }
+    {
+        let common = common_beginning(&self.entries, list);
+        let alloc = self.alloc;
+        if common == 0 {
+            *self = Self::replay(alloc, table, list)?;
+            return Ok(0);
+        }
+        let Ok(objects) = Self::objects_before(alloc, &self.entries, &self.objects, common) else {
+            return Err(LogError::NoMemory);
+        };
+        Self::change_end(
+            alloc,
+            table,
+            list,
+            common,
+            objects,
+            &mut self.entries,
+            &mut self.objects,
+            &mut self.places,
+        )?;
+        Ok(common)
+    }
+
+    /// A copy of the objects as they were before the entry of a place, by undoing the changes from the last one back.
+    fn objects_before(
+        alloc: Global,
+        entries: &[Entry],
+        objects: &Objects,
+        at: usize,
+    ) -> Result<Objects, AllocError>
+        requires within { at ≤ length entries.now }
+        requires kept { AreEntries C.classes fin.empty entries.now }
+        requires folded { objects.now ≡ fold C.classes (requests_of entries.now) }
+        ensures { IfOk result (λ o. o ≡ fold C.classes (take at (requests_of entries.now))) }
+    {
+        let mut before = objects.copy(alloc)?;
+        for back in 0..entries.len() - at {
+            let entry = &entries[entries.len() - 1 - back];
+            before.undo(alloc, entry.request.object(), &entry.change)?;
+        }
+        Ok(before)
+    }
+
+    /// Puts the rest of a list, from a place on, in place of what the log has from there on.
+    fn change_end(
+        alloc: Global,
+        table: &ClassTable,
+        list: &[Request],
+        at: usize,
+        mut before: Objects,
+        entries: &mut Vec<Entry>,
+        objects: &mut Objects,
+        places: &mut Places,
+    ) -> Result<(), LogError>
+        requires table { IsPrefix table.now C.classes }
+        requires kept { Keeps C.classes entries.old.items objects.old places.old }
+        requires common { take at (requests_of entries.old.items) ≡ take at list.now }
+        requires within { (0 < at) × (at ≤ length entries.old.items) × (at ≤ length list.now) }
+        requires objects { before ≡ fold C.classes (take at (requests_of entries.old.items)) }
+        ensures ok { OnOk result ((requests_of entries.new.items ≡ list.now) × (rest_refusal table.now list.now at ≡ None)) }
+        ensures refused { OnErr result (entries.new.items ≡ entries.old.items) }
+        ensures err { IfErr result (λ e. RestRefuses table.now list.now at e) }
+        ensures kept { Keeps C.classes entries.new.items objects.new places.new }
+    {
+        let mut tail = entries.split_off(at)?;
+        places.take_back(&tail);
+        match Self::extend(alloc, table, list, at, entries, &mut before, places) {
+            Ok(()) => {
+                mem::swap(objects, &mut before);
+                Ok(())
+            }
+            Err(error) => {
+                put_back(alloc, at, &mut tail, entries, places);
+                Err(error)
+            }
+        }
+    }
+
+    /// Runs the requests of a list from a place on, after those before it. At a refusal those run stay.
+    fn extend(
+        alloc: Global,
+        table: &ClassTable,
+        list: &[Request],
+        at: usize,
+        entries: &mut Vec<Entry>,
+        objects: &mut Objects,
+        places: &mut Places,
+    ) -> Result<(), LogError>
+        requires table { IsPrefix table.now C.classes }
+        requires kept { Keeps C.classes entries.old.items objects.old places.old }
+        requires begun { requests_of entries.old.items ≡ take at list.now }
+        requires within { (0 < at) × (at ≤ length list.now) }
+        ensures ok { OnOk result ((requests_of entries.new.items ≡ list.now) × (rest_refusal table.now list.now at ≡ None)) }
+        ensures err { IfErr result (λ e. RestRefuses table.now list.now at e) }
+        ensures kept { Keeps C.classes entries.new.items objects.new places.new }
+        ensures begun { IsPrefix entries.old.items entries.new.items }
+        ensures entries_room { vec_capacity entries.old ≤ vec_capacity entries.new }
+        ensures room { RoomStays places.old places.new }
+    {
+        for k in at..list.len() {
+            let request = &list[k];
+            let outcome = run_after(alloc, table, k, places, objects, request)?;
+            let entry = Entry {
+                request: request.copy(alloc)?,
+                code: outcome.code,
+                output: outcome.output,
+                change: outcome.change,
+            };
+            Self::add(alloc, entry, entries, objects, places)?;
+        }
+        Ok(())
+    }
+}
+
+/// Cuts the log back to a place, and puts these entries there again.
+fn put_back(
+    alloc: Global,
+    at: usize,
+    tail: &mut Vec<Entry>,
+    entries: &mut Vec<Entry>,
+    places: &mut Places,
+)
+    requires fits { at ≤ length entries.old.items }
+    requires places { ArePlaces places.old (requests_of entries.old.items) }
+    requires entries_room { at + length tail.old.items ≤ vec_capacity entries.old }
+    requires room { HasRoom places.old (take at (requests_of entries.old.items) ++ requests_of tail.old.items) }
+    ensures entries { entries.new.items ≡ take at entries.old.items ++ tail.old.items }
+    ensures places { ArePlaces places.new (take at (requests_of entries.old.items) ++ requests_of tail.old.items) }
+{
+    places.take_back(&entries[at..]);
+    entries.truncate(at);
+    if entries.append(tail).is_err() {
+        unreachable!();
+    }
+    places.give_back(alloc, entries, at);
+}
+
+/// The length of the beginning that a log and a list have in common.
+fn common_beginning(entries: &[Entry], list: &[Request]) -> usize
+    ensures { IsCommonBeginning (requests_of entries.now) list.now result }
+{
+    let most = entries.len().min(list.len());
+    for k in 0..most {
+        if !entries[k].request.is(&list[k]) {
+            return k;
+        }
+    }
+    most
+}

@@ -1,0 +1,59 @@
+-- The least of some lengths.
+use Rattle.std.proofs.Common.{◌≡◌, ℕ, zero, suc, ◌<◌, ◌≤◌, ◌⊎◌, List, [], ◌∷◌, ◌++◌, length, get_or, min, refl, ap, sym, ◌∙◌, arith, subst, inl, inr, ⊎_elim}
+use Rattle.std.specs.List.{All, AllByRecursion, Contains}
+use Rattle.std.proofs.lemmas.List.Elements.{All-from_recursion, Contains-append_right, Contains-get_or}
+use Rattle.replication.specs.Places.{IsLeast, least_from}
+
+min_assoc : (a b c : ℕ) → min a (min b c) ≡ min (min a b) c
+min_assoc a b c = omega arith
+
+min-least_from : (own a : ℕ) (xs : List ℕ) → min own (least_from a xs) ≡ least_from (min own a) xs
+min-least_from own a [] = refl
+min-least_from own a (x ∷ xs) = min-least_from own (min a x) xs ∙ ap (λ n. least_from n xs) (min_assoc own a x)
+
+min_same : (a : ℕ) → min a a ≡ a
+min_same a = omega arith
+
+-- the least of a list from its first element on is the least beside any other
+pub own_least : (own d : ℕ) (xs : List ℕ) → 0 < length xs → min own (least_from (get_or xs 0 d) xs) ≡ least_from own xs
+own_least own d [] h = absurd (omega (arith, h))
+own_least own d (x ∷ xs) h = min-least_from own (min x x) xs ∙ ap (λ n. least_from (min own n) xs) (min_same x)
+
+min_cases : (a b : ℕ) → (min a b ≡ a) ⊎ (min a b ≡ b)
+min_cases zero b = inl (omega arith)
+min_cases (suc a) zero = inr (omega arith)
+min_cases (suc a) (suc b) = ⊎_elim (λ h. inl (omega (arith, h))) (λ h. inr (omega (arith, h))) (min_cases a b)
+
+one_of : (own : ℕ) (xs : List ℕ) → (least_from own xs ≡ own) ⊎ Contains xs (least_from own xs)
+one_of own [] = inl refl
+one_of own (x ∷ xs) =
+    ⊎_elim
+    (λ e. ⊎_elim (λ m. inl (e ∙ m)) (λ m. inr (0, omega arith, sym (e ∙ m))) (min_cases own x))
+    (λ c. inr (Contains-append_right (x ∷ []) xs (least_from (min own x) xs) c))
+    (one_of (min own x) xs)
+
+lower : (own : ℕ) (xs : List ℕ) → (least_from own xs ≤ own) × AllByRecursion (λ n. least_from own xs ≤ n) xs
+lower own [] = (omega arith, tt)
+lower own (x ∷ xs) =
+    let rest = lower (min own x) xs in
+    let low = rest.0 in
+    (omega (arith, low), (omega (arith, low), rest.1))
+
+-- the least of a list, from an element of it on
+pub least_is : (xs : List ℕ) (first : ℕ) → Contains xs first → IsLeast (least_from first xs) xs
+least_is xs first c =
+    let C : ℕ → Type 0 = Contains xs in
+    record {
+      among = ⊎_elim (λ e. subst C (sym e) c) (λ h. h) (one_of first xs);
+      below = All-from_recursion (λ n. least_from first xs ≤ n) xs (lower first xs).1;
+    }
+
+-- the least from the first element on is the least of the list
+pub least_first : (xs : List ℕ) (r d : ℕ) → 0 < length xs → r ≡ least_from (get_or xs 0 d) xs → IsLeast r xs
+least_first xs r d h e =
+    let P : ℕ → Type 0 = λ n. IsLeast n xs in
+    subst P (sym e) (least_is xs (get_or xs 0 d) (Contains-get_or xs 0 d h))
+
+-- and beside another one the least of both
+pub least_beside_own : (own : ℕ) (xs : List ℕ) (r d : ℕ) → 0 < length xs → r ≡ least_from (get_or xs 0 d) xs → min own r ≡ least_from own xs
+least_beside_own own xs r d h e = ap (min own) e ∙ own_least own d xs h

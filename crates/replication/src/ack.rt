@@ -1,0 +1,12 @@
+use placement::NodeId;
+
+/// That a member's log has come to a length in an epoch.
+#[derive(Clone, Copy, Debug, PartialEq, Eq, Drop)]
+pub struct Ack {
+    /// The sender's epoch.
+    pub epoch: u32,
+    /// Whose log it is.
+    pub sender: NodeId,
+    /// How many entries its log has.
+    pub length: usize,
+}

@@ -1,0 +1,24 @@
+ghost use Rattle.std.specs.Prelude.{◌≡◌, ◌<◌, ℕ, length, min};
+ghost use Rattle.replication.specs.Places.{IsLeast, least_from};
+
+/// How many entries all members have: the least of the acknowledged lengths, the primary's own among them. It takes no
+/// memory.
+pub fn commit_point(acked: &[usize]) -> usize
+    requires { 0 < length acked.now }
+    ensures least { IsLeast result acked.now }
+    ensures from { (own : ℕ) → min own result ≡ least_from own acked.now }
+{
+    let first = acked[0];
+    least_beside(first, acked)
+}
+
+/// The least of these and of one more.
+fn least_beside(own: usize, acked: &[usize]) -> usize
+    ensures { result ≡ least_from own acked.now }
+{
+    let mut point = own;
+    for come in acked {
+        point = point.min(*come);
+    }
+    point
+}

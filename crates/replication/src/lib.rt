@@ -1,0 +1,26 @@
+//! What a group's nodes say to one another about their logs: a request at its place (`Rep`), how far a member has come
+//! (`Ack`), and a list of which the receiver has the beginning (`PackedLog`). `append_at` puts a request at its place
+//! and nowhere else, `commit_point` is how far all have come, and a list that was packed and unpacked is the same list
+//! wherever the receiver's own has the left-out beginning.
+#![tactic(auto)]
+
+mod ack;
+mod committed;
+mod laws;
+mod no_memory;
+mod packed_log;
+mod placed;
+mod rep;
+mod unpack_error;
+
+pub use ack::Ack;
+pub use committed::commit_point;
+pub use laws::packed_lists;
+pub use no_memory::NoMemory;
+pub use packed_log::{PackedLog, pack_log, unpack_log};
+pub use placed::append_at;
+pub use rep::Rep;
+pub use unpack_error::UnpackError;
+
+#[cfg(test)]
+mod tests;
