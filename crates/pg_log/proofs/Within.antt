@@ -47,7 +47,7 @@ takes_input classes r can m e =
 after_within : CallsAreWithinLimits → (classes : Classes) (objects : Objects) (r : ClientRequest) → CanRun classes r → IsRequest r → AreWithinLimits objects → AreWithinLimits (after classes objects r)
 after_within calls classes objects r can q h =
     store_within objects r.object (outcome_of_method (method_of classes r) (map.get objects r.object) r).object h
-        (left_within calls (method_of classes r) (map.get objects r.object) r (h r.object) q (takes_input classes r can))
+    (left_within calls (method_of classes r) (map.get objects r.object) r (h r.object) q (takes_input classes r can))
 
 from_within : CallsAreWithinLimits → (classes : Classes) (objects : Objects) (list : List ClientRequest) →
     ((i : ℕ) (r : ClientRequest) → slice_get list i ≡ Some r → CanRun classes r) → AllByRecursion IsRequest list → AreWithinLimits objects → AreWithinLimits (fold_from classes objects list)

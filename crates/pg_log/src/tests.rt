@@ -5,7 +5,7 @@ mod replay;
 
 use crate::{
     Classes, ClientId, Group, LogError, Request, RequestNumber, classes_added, folds, legal_lists,
-    pairs, refusals, replies, undoing,
+    objects_within_limits, pairs, refusals, replies, undoing,
 };
 use bpf_decode::{ClassImage, Method, decode};
 use interp::{ClassTable, Object, ObjectName};
@@ -149,5 +149,6 @@ fn laws_do_nothing(rt: HostRuntime) {
     undoing();
     classes_added();
     refusals();
+    objects_within_limits();
     assert!(rt; LogError::InputTooLong.number() == 6 && LogError::NoClass.name() == "NoClass");
 }
