@@ -1,3 +1,7 @@
+-- A reader must believe Words, Fault, Canonical, Headers, Syntax, Shapes, Lines, Grammar and Faults (with Texts' blanks and
+-- label names, Numbers' digits, and of Bodies where a label stands): the grammar, why a text is refused, the one text.
+-- Laws are proved of these. Operands, Drafts, Statements, Bodies and Classes are the reader as a function, which is proved
+-- to be what the relations say; Places is a step of the code, in private contracts.
 pub mod Words
 pub mod Fault
 pub mod Canonical

@@ -6,22 +6,21 @@ use bpf_decode::{
     Arithmetic, Bits, ByteOrder, Comparison, EndWidth, Insn, Operand, Register, SignedMove,
     SignedWidth, Width, decode, encode,
 };
-use class_texts::{LOCK, LOCK_PLAIN};
+use class_texts::{LOCK, LOCK_PLAIN, OTHERS};
 use std::alloc::{AllocError, Global};
 use std::process::Abort;
-use std::test::Fail;
 
 fn register(rt: &impl Abort, number: u8) -> Register {
     Register::new(number).expect(rt, "a register")
 }
 
 /// The text is assembled, and the bytes that it gives are read and printed as `canonical`.
-fn reads(rt: &impl Abort, alloc: Global, text: &str, canonical: &str) -> Result<(), Fail> {
-    let bytes = encode(alloc, &assemble(alloc, text)?)?;
-    let insns = decode(alloc, &bytes)?;
-    let printed = push_all(alloc, &insns)?;
+fn reads(rt: &impl Abort, alloc: Global, text: &str, canonical: &str) {
+    let insns = assemble(alloc, text).expect(rt, "instructions");
+    let bytes = encode(alloc, &insns).expect(rt, "memory");
+    let insns = decode(alloc, &bytes).expect(rt, "instructions");
+    let printed = push_all(alloc, &insns).expect(rt, "memory");
     assert!(rt; printed.as_str() == canonical, "{text}");
-    Ok(())
 }
 
 /// The canonical text, of slots within the limits or not.
@@ -38,14 +37,16 @@ fn refuses(rt: &impl Abort, alloc: Global, text: &str, line: usize, fault: AsmFa
 }
 
 #[test]
-fn bytes_of_lines(rt: HostRuntime) -> Result<(), Fail> {
-    let insns = assemble(rt.alloc(), "ldxw r0, [r1+4]\njgt r2, 15, +3\n")?;
-    let bytes = encode(rt.alloc(), &insns)?;
+fn bytes_of_lines(rt: HostRuntime) {
+    let insns = assemble(rt.alloc(), "ldxw r0, [r1+4]\njgt r2, 15, +3\n").expect(
+        &rt,
+        "instructions",
+    );
+    let bytes = encode(rt.alloc(), &insns).expect(&rt, "memory");
     let wanted: [u8; 16] = [
         0x61, 0x10, 0x04, 0, 0, 0, 0, 0, 0x25, 0x02, 0x03, 0, 0x0f, 0, 0, 0,
     ];
     assert!(rt; bytes.as_slice() == wanted.as_slice());
-    Ok(())
 }
 
 /// Each word with each of the endings and each of the operands, a line each.
@@ -78,34 +79,31 @@ const COMPARISONS: [&str; 11] = [
     "jeq", "jgt", "jge", "jset", "jne", "jsgt", "jsge", "jlt", "jle", "jslt", "jsle",
 ];
 
-/// The other forms, in canonical text.
-const OTHERS: &str =
-    "neg r1\nneg32 r1\nmovsx8 r1, r2\nmovsx16 r1, r2\nmovsx32 r1, r2\nmovsx8_32 r1, r2\nmovsx16_32 r1, r2\nle16 r1\nle32 r1\nle64 r1\nbe16 r1\nbe32 r1\nbe64 r1\nbswap16 r1\nbswap32 r1\nbswap64 r1\nlddw r1, 0x0000000000000005\nlddw r0, 0xfedcba9876543210\nldxb r0, [r1+4]\nldxh r0, [r1+4]\nldxw r0, [r1-4]\nldxdw r0, [r1+4]\nldxsb r0, [r1+4]\nldxsh r0, [r1+4]\nldxsw r0, [r1+4]\nstb [r1+0], 5\nsth [r1+0], 5\nstw [r1+0], -2147483648\nstdw [r1+0], 5\nstxb [r1+0], r2\nstxh [r1+0], r2\nstxw [r1+0], r2\nstxdw [r1+0], r2\nja +3\nja32 -70000\ncall 1\ncall 4294967295\ncall local +2\nexit\n";
-
 #[test]
-fn every_form(rt: HostRuntime) -> Result<(), Fail> {
+fn every_form(rt: HostRuntime) {
     let arithmetic = [" r1, r2\n", " r10, -5\n"];
-    let text = lines(rt.alloc(), &ARITHMETIC, &["", "32"], &arithmetic)?;
-    reads(&rt, rt.alloc(), text.as_str(), text.as_str())?;
-    reads(&rt, rt.alloc(), OTHERS, OTHERS)
+    let text = lines(rt.alloc(), &ARITHMETIC, &["", "32"], &arithmetic).expect(&rt, "memory");
+    reads(&rt, rt.alloc(), text.as_str(), text.as_str());
+    reads(&rt, rt.alloc(), OTHERS, OTHERS);
 }
 
 #[test]
-fn every_branch(rt: HostRuntime) -> Result<(), Fail> {
+fn every_branch(rt: HostRuntime) {
     let operands = [" r2, 15, +3\n", " r2, r3, -32768\n"];
-    let text = lines(rt.alloc(), &COMPARISONS, &["", "32"], &operands)?;
-    reads(&rt, rt.alloc(), text.as_str(), text.as_str())
+    let text = lines(rt.alloc(), &COMPARISONS, &["", "32"], &operands).expect(&rt, "memory");
+    reads(&rt, rt.alloc(), text.as_str(), text.as_str());
 }
 
 #[test]
-fn instructions_of_lines(rt: HostRuntime) -> Result<(), Fail> {
+fn instructions_of_lines(rt: HostRuntime) {
     let r0 = register(&rt, 0);
     let r1 = register(&rt, 1);
     let r2 = register(&rt, 2);
     let insns = assemble(
         rt.alloc(),
         "ldxw r0, [r1+4]\njgt r2, 15, +3\nadd32 r0, r2\nlddw r1, 5\nmovsx8_32 r0, r1\nbswap16 r2\nldxsh r0, [r1]\nstxdw [r1-8], r2\nneg r1\ncall local -1\nexit",
-    )?;
+    )
+    .expect(&rt, "instructions");
     let wanted = [
         Insn::Load {
             width: Width::Word,
@@ -157,11 +155,10 @@ fn instructions_of_lines(rt: HostRuntime) -> Result<(), Fail> {
         Insn::Exit,
     ];
     assert!(rt; insns.as_slice() == wanted.as_slice());
-    Ok(())
 }
 
 #[test]
-fn also_read(rt: HostRuntime) -> Result<(), Fail> {
+fn also_read(rt: HostRuntime) {
     let rows = [
         ("exit", "exit\n"),
         ("\n ; nothing\n\t exit \t; the end\n", "exit\n"),
@@ -189,9 +186,8 @@ fn also_read(rt: HostRuntime) -> Result<(), Fail> {
         ("ja32 +0x10", "ja32 +16\n"),
     ];
     for (text, canonical) in rows {
-        reads(&rt, rt.alloc(), text, canonical)?;
+        reads(&rt, rt.alloc(), text, canonical);
     }
-    Ok(())
 }
 
 #[test]
@@ -247,19 +243,21 @@ fn refused(rt: HostRuntime) {
 }
 
 #[test]
-fn slots(rt: HostRuntime) -> Result<(), Fail> {
-    let wide = "lddw r1, 5\n".repeat(rt.alloc(), 2048)?;
-    let insns = assemble(rt.alloc(), wide.as_str())?;
+fn slots(rt: HostRuntime) {
+    let wide = "lddw r1, 5\n"
+        .repeat(rt.alloc(), 2048)
+        .expect(&rt, "memory");
+    let insns = assemble(rt.alloc(), wide.as_str()).expect(&rt, "instructions");
     assert!(rt; insns.len() == 2048);
-    Ok(())
 }
 
 #[test]
-fn a_slot_too_many(rt: HostRuntime) -> Result<(), Fail> {
-    let mut text = "lddw r1, 5\n".repeat(rt.alloc(), 2048)?;
-    text.push_str("exit\n")?;
+fn a_slot_too_many(rt: HostRuntime) {
+    let mut text = "lddw r1, 5\n"
+        .repeat(rt.alloc(), 2048)
+        .expect(&rt, "memory");
+    text.push_str("exit\n").expect(&rt, "memory");
     refuses(&rt, rt.alloc(), text.as_str(), 2049, AsmFault::Range);
-    Ok(())
 }
 
 /// The laws are called: they do nothing.
@@ -271,29 +269,29 @@ fn laws(_rt: HostRuntime) {
 }
 
 #[test]
-fn prints(rt: HostRuntime) -> Result<(), Fail> {
+fn prints(rt: HostRuntime) {
     let line = 4;
     let fault = AsmFault::Operand;
-    let text = AsmError { line, fault }.to_string(rt.alloc())?;
+    let text = AsmError { line, fault }
+        .to_string(rt.alloc())
+        .expect(&rt, "memory");
     assert!(rt; text.as_str() == "line 4: 2 Operand");
     assert!(rt; AsmFault::NoMemory.number() == 5);
-    Ok(())
 }
 
 #[test]
-fn prints_instructions(rt: HostRuntime) -> Result<(), Fail> {
+fn prints_instructions(rt: HostRuntime) {
     let mov = Insn::Mov {
         bits: Bits::Bits64,
         dst: register(&rt, 0),
         source: Operand::Immediate(0),
     };
-    let text = disassemble(rt.alloc(), &[mov, Insn::Exit])?;
+    let text = disassemble(rt.alloc(), &[mov, Insn::Exit]).expect(&rt, "memory");
     assert!(rt; text.as_str() == "mov r0, 0\nexit\n");
-    Ok(())
 }
 
 #[test]
-fn classes(rt: HostRuntime) -> Result<(), Fail> {
+fn classes(rt: HostRuntime) {
     let rows = [
         (LOCK, LOCK_PLAIN),
         (LOCK_PLAIN, LOCK_PLAIN),
@@ -307,11 +305,10 @@ fn classes(rt: HostRuntime) -> Result<(), Fail> {
         ),
     ];
     for (text, canonical) in rows {
-        let class = assemble_class(rt.alloc(), text)?;
-        let printed = disassemble_class(rt.alloc(), &class)?;
+        let class = assemble_class(rt.alloc(), text).expect(&rt, "a class");
+        let printed = disassemble_class(rt.alloc(), &class).expect(&rt, "memory");
         assert!(rt; printed.as_str() == canonical, "{text}");
     }
-    Ok(())
 }
 
 /// The class's text is refused so.

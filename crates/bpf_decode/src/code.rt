@@ -10,6 +10,7 @@ ghost use Rattle.bpf_decode.specs.declared.decode_error.DecodeError.TheVariants.
 
 use crate::decode_error::DecodeError;
 use crate::insn::{Insn, Operand, width};
+use crate::ranges::fits;
 use crate::register::Register;
 use crate::row::Row;
 use crate::slot::Slot;
@@ -296,78 +297,6 @@ pub fn encode(alloc: Global, insns: &[Insn]) -> Result<Vec<u8>, DecodeError>
     let mut out = Vec::new(alloc);
     put_code(&mut out, insns)?;
     Ok(out)
-}
-
-/// Whether its numbers are within their fields: they are, by their types.
-fn fits(insn: &Insn) -> bool
-    ensures always { result ≡ true }
-    ensures fit { Fits insn.now }
-{
-    match *insn {
-        Insn::Alu {
-            bits: _,
-            operation: _,
-            dst,
-            source,
-        } => dst.number() <= 10 && operand_fits(source),
-        Insn::Neg { bits: _, dst } => dst.number() <= 10,
-        Insn::Mov {
-            bits: _,
-            dst,
-            source,
-        } => dst.number() <= 10 && operand_fits(source),
-        Insn::MovSigned {
-            extension: _,
-            dst,
-            src,
-        } => dst.number() <= 10 && src.number() <= 10,
-        Insn::End {
-            order: _,
-            width: _,
-            dst,
-        } => dst.number() <= 10,
-        Insn::LoadWide { dst, value } => dst.number() <= 10 && value <= u64::MAX,
-        Insn::Load {
-            width: _,
-            dst,
-            base,
-            offset,
-        } => dst.number() <= 10 && base.number() <= 10 && offset <= i16::MAX,
-        Insn::LoadSigned {
-            width: _,
-            dst,
-            base,
-            offset,
-        } => dst.number() <= 10 && base.number() <= 10 && offset <= i16::MAX,
-        Insn::Store {
-            width: _,
-            base,
-            offset,
-            source,
-        } => base.number() <= 10 && offset <= i16::MAX && operand_fits(source),
-        Insn::Jump { offset } => offset <= i16::MAX,
-        Insn::JumpLong { distance } => operand_fits(Operand::Immediate(distance)),
-        Insn::Branch {
-            bits: _,
-            comparison: _,
-            dst,
-            source,
-            offset,
-        } => dst.number() <= 10 && offset <= i16::MAX && operand_fits(source),
-        Insn::Call { helper } => helper <= u32::MAX,
-        Insn::CallLocal { distance } => operand_fits(Operand::Immediate(distance)),
-        Insn::Exit => true,
-    }
-}
-
-fn operand_fits(operand: Operand) -> bool
-    ensures always { result ≡ true }
-    ensures fit { OperandFits operand }
-{
-    match operand {
-        Operand::Immediate(_) => true,
-        Operand::Register(src) => src.number() <= 10,
-    }
 }
 
 /// How many slots the instructions take.

@@ -18,6 +18,7 @@ mod laws;
 mod limits;
 mod method;
 mod operation;
+mod ranges;
 mod register;
 mod row;
 mod slot;

@@ -3,7 +3,7 @@ mod opcodes;
 
 use super::*;
 use std::alloc::Global;
-use std::test::Fail;
+use std::process::Abort;
 
 /// One method `f`, flags 1, capacities 0, the code `mov r0, 0` and `exit`.
 const IMAGE: [u8; 33] = [
@@ -87,52 +87,72 @@ fn mov(dst: Register, source: Operand) -> Insn {
     }
 }
 
-fn register_of(number: u8) -> Result<Register, Fail> {
-    Ok(Register::new(number).ok_or("a register")?)
+fn register_of(rt: &impl Abort, number: u8) -> Register {
+    Register::new(number).expect(rt, "a register")
 }
 
-fn insns(alloc: Global) -> Result<Vec<Insn>, Fail> {
-    let r0 = register_of(0)?;
-    let r1 = register_of(1)?;
-    let r2 = register_of(2)?;
-    let r3 = register_of(3)?;
-    let r4 = register_of(4)?;
-    let r5 = register_of(5)?;
-    let r6 = register_of(6)?;
-    let r7 = register_of(7)?;
-    let r8 = register_of(8)?;
-    let r9 = register_of(9)?;
-    let r10 = register_of(10)?;
-    let mut list = Vec::new(alloc);
-    list.push(Insn::Alu {
+/// The instructions of the first half of `CODE`.
+fn first_insns(rt: &impl Abort) -> [Insn; 8] {
+    let (r0, r1, r8) = (register_of(rt, 0), register_of(rt, 1), register_of(rt, 8));
+    let (r6, r7, r9) = (register_of(rt, 6), register_of(rt, 7), register_of(rt, 9));
+    let add = Insn::Alu {
         bits: Bits::Bits64,
         operation: Arithmetic::Add,
         dst: r1,
         source: Operand::Immediate(-4),
-    })?;
-    list.push(mov(r2, Operand::Immediate(5)))?;
-    list.push(mov(r3, Operand::Register(r4)))?;
-    list.push(Insn::LoadWide {
-        dst: r5,
+    };
+    let wide = Insn::LoadWide {
+        dst: register_of(rt, 5),
         value: 0x1122_3344_5566_7788,
-    })?;
-    list.push(load(Width::Word, r0, r1, 4))?;
-    list.push(load(Width::Half, r6, r7, -2))?;
-    list.push(load(Width::Byte, r8, r9, 0))?;
-    list.push(load(Width::Double, r1, r10, -8))?;
-    list.push(store(Width::Word, r1, 0, Operand::Immediate(5)))?;
-    list.push(store(Width::Half, r1, 2, Operand::Immediate(-1)))?;
-    list.push(store(Width::Byte, r2, 3, Operand::Immediate(7)))?;
-    list.push(store(Width::Double, r10, -8, Operand::Immediate(1)))?;
-    list.push(store(Width::Word, r1, 0, Operand::Register(r2)))?;
-    list.push(store(Width::Half, r1, 2, Operand::Register(r3)))?;
-    list.push(store(Width::Byte, r4, 1, Operand::Register(r5)))?;
-    list.push(store(Width::Double, r10, -16, Operand::Register(r6)))?;
-    list.push(Insn::Jump { offset: 3 })?;
-    list.push(Insn::Call { helper: 4294967295 })?;
-    list.push(Insn::CallLocal { distance: -2 })?;
-    list.push(Insn::Exit)?;
-    Ok(list)
+    };
+    [
+        add,
+        mov(register_of(rt, 2), Operand::Immediate(5)),
+        mov(register_of(rt, 3), Operand::Register(register_of(rt, 4))),
+        wide,
+        load(Width::Word, r0, r1, 4),
+        load(Width::Half, r6, r7, -2),
+        load(Width::Byte, r8, r9, 0),
+        load(Width::Double, r1, register_of(rt, 10), -8),
+    ]
+}
+
+/// Those of the second half.
+fn last_insns(rt: &impl Abort) -> [Insn; 12] {
+    let (r1, r2, r10) = (register_of(rt, 1), register_of(rt, 2), register_of(rt, 10));
+    let (r3, r4, r5) = (register_of(rt, 3), register_of(rt, 4), register_of(rt, 5));
+    [
+        store(Width::Word, r1, 0, Operand::Immediate(5)),
+        store(Width::Half, r1, 2, Operand::Immediate(-1)),
+        store(Width::Byte, r2, 3, Operand::Immediate(7)),
+        store(Width::Double, r10, -8, Operand::Immediate(1)),
+        store(Width::Word, r1, 0, Operand::Register(r2)),
+        store(Width::Half, r1, 2, Operand::Register(r3)),
+        store(Width::Byte, r4, 1, Operand::Register(r5)),
+        store(
+            Width::Double,
+            r10,
+            -16,
+            Operand::Register(register_of(rt, 6)),
+        ),
+        Insn::Jump { offset: 3 },
+        Insn::Call { helper: 4294967295 },
+        Insn::CallLocal { distance: -2 },
+        Insn::Exit,
+    ]
+}
+
+/// Whether the instructions are written as those bytes, and the bytes read as them.
+fn are_spelled(alloc: Global, insns: &[Insn], bytes: &[u8]) -> bool {
+    let are_written = match encode(alloc, insns) {
+        Ok(code) => code.as_slice() == bytes,
+        Err(_) => false,
+    };
+    let are_read = match decode(alloc, bytes) {
+        Ok(read) => read.as_slice() == insns,
+        Err(_) => false,
+    };
+    are_written && are_read
 }
 
 /// The image with one byte changed.
@@ -144,193 +164,256 @@ fn changed(place: usize, value: u8) -> [u8; 33] {
     image
 }
 
-fn method(alloc: Global, name: &str, flags: u8, in_cap: u16) -> Result<Method, Fail> {
-    let mut code = Vec::new(alloc);
-    code.push(mov(register_of(0)?, Operand::Immediate(0)))?;
-    code.push(Insn::Exit)?;
-    Ok(Method::new(String::from_str(alloc, name)?, flags, in_cap, 4096, code))
+/// A method whose code is `exit`.
+fn method(rt: &impl Abort, alloc: Global, name: &str, flags: u8, in_cap: u16) -> Method {
+    let code = Vec::from_slice(alloc, &[Insn::Exit]).expect(rt, "memory");
+    let name = String::from_str(alloc, name).expect(rt, "memory");
+    Method::new(name, flags, in_cap, 4096, code)
+}
+
+/// A class's two methods.
+fn methods(rt: &impl Abort, alloc: Global, first: Method, second: Method) -> Vec<Method> {
+    let mut methods = Vec::new(alloc);
+    methods.push(first).expect(rt, "memory");
+    methods.push(second).expect(rt, "memory");
+    methods
 }
 
 #[test]
-fn every_instruction(rt: HostRuntime) -> Result<(), Fail> {
-    let list = insns(rt.alloc())?;
-    let code = encode(rt.alloc(), &list)?;
-    assert_eq!(rt; code.as_slice(), CODE.as_slice());
-    let again = decode(rt.alloc(), &CODE)?;
-    assert_eq!(rt; again.as_slice(), list.as_slice());
-    assert_eq!(rt; check(&CODE), Ok(20));
+fn first_instructions(rt: HostRuntime) {
+    let list = first_insns(&rt);
+    assert!(rt; are_spelled(rt.alloc(), &list, &CODE[..72]));
+    assert!(rt; check(&CODE[..72]) == Ok(8));
+}
+
+#[test]
+fn last_instructions(rt: HostRuntime) {
+    let list = last_insns(&rt);
+    assert!(rt; are_spelled(rt.alloc(), &list, &CODE[72..]));
+    assert!(rt; check(&CODE) == Ok(20));
+}
+
+/// The first eight instructions take nine slots: the wide one takes two.
+#[test]
+fn widths(rt: HostRuntime) {
     let mut slots = 0u64;
-    for insn in &list {
-        slots = slots.wrapping_add(width(insn) as u64);
+    for insn in first_insns(&rt) {
+        slots = slots.wrapping_add(width(&insn) as u64);
     }
-    assert_eq!(rt; slots, 21);
-    Ok(())
+    assert!(rt; slots == 9);
+}
+
+/// Code, and what `check` says of it.
+const CHECKED: [(&[u8], Result<usize, DecodeError>); 5] = [
+    (&[], Ok(0)),
+    (
+        &[0x07, 0x01, 0, 0, 0xfc, 0xff, 0xff],
+        Err(DecodeError::Truncated),
+    ),
+    (
+        &[0x07, 0x01, 0, 0, 0xfc, 0xff, 0xff, 0xff, 0xb7],
+        Err(DecodeError::Truncated),
+    ),
+    (
+        &[0x18, 0x05, 0, 0, 0x88, 0x77, 0x66, 0x55],
+        Err(DecodeError::WideHalf(0)),
+    ),
+    (
+        &[0x95, 0, 0, 0, 0, 0, 0, 0, 0x85, 0x20, 0, 0, 0, 0, 0, 0],
+        Err(DecodeError::NonzeroField(1)),
+    ),
+];
+
+/// What `decode` says of code, as a number of instructions.
+fn decoded(alloc: Global, code: &[u8]) -> Result<usize, DecodeError> {
+    Ok(decode(alloc, code)?.len())
 }
 
 #[test]
 fn code_alone(rt: HostRuntime) {
-    assert_eq!(rt; check(&[]), Ok(0));
-    assert_eq!(rt; check(&CODE[..7]), Err(DecodeError::Truncated));
-    assert!(rt; matches!(decode(rt.alloc(), &CODE[..12]), Err(DecodeError::Truncated)));
-    assert_eq!(rt; check(&CODE[24..32]), Err(DecodeError::WideHalf(0)));
-    assert_eq!(rt;
-        check(&[0x95, 0, 0, 0, 0, 0, 0, 0, 0x85, 0x20, 0, 0, 0, 0, 0, 0]),
-        Err(DecodeError::NonzeroField(1))
-    );
-}
-
-#[test]
-fn reads_the_image(rt: HostRuntime) -> Result<(), Fail> {
-    let class = read_image(rt.alloc(), &IMAGE)?;
-    let methods = class.methods();
-    assert_eq!(rt; methods.len(), 1);
-    let method = &methods[0];
-    assert_eq!(rt; method.name(), "f");
-    assert_eq!(rt; method.flags(), 1);
-    assert_eq!(rt; method.in_cap(), 0);
-    assert_eq!(rt; method.out_cap(), 0);
-    let mov = mov(register_of(0)?, Operand::Immediate(0));
-    assert_eq!(rt; method.instructions(), [mov, Insn::Exit].as_slice());
-    let bytes = write_image(rt.alloc(), &class)?;
-    assert_eq!(rt; bytes.as_slice(), IMAGE.as_slice());
-    Ok(())
-}
-
-#[test]
-fn refuses_images(rt: HostRuntime) -> Result<(), Fail> {
-    for (place, value, methods, error) in REFUSED {
-        let found = read_image(rt.alloc(), &changed(place, value));
-        assert_eq!(rt; found.err(), Some(ImageError { methods, error }));
+    for (code, found) in CHECKED {
+        assert!(rt; check(code) == found);
+        assert!(rt; decoded(rt.alloc(), code) == found);
     }
-    let none = read_image(rt.alloc(), &[]).err();
-    let truncated = DecodeError::Truncated;
-    assert_eq!(rt;
-        none,
-        Some(ImageError {
-            methods: 0,
-            error: truncated
-        })
-    );
-    let mut longer = Vec::from_slice(rt.alloc(), &IMAGE)?;
-    longer.push(0)?;
-    let trailing = DecodeError::Trailing;
-    assert_eq!(rt;
-        read_image(rt.alloc(), &longer).err(),
-        Some(ImageError {
-            methods: 1,
-            error: trailing
-        })
-    );
-    let mut twice = Vec::from_slice(rt.alloc(), &changed(4, 2))?;
-    twice.extend_from_slice(&IMAGE[8..])?;
-    let order = DecodeError::Order;
-    assert_eq!(rt;
-        read_image(rt.alloc(), &twice).err(),
-        Some(ImageError {
-            methods: 1,
-            error: order
-        })
-    );
-    Ok(())
 }
 
-/// Whatever is read is written as the same bytes.
+/// Whether it is the method of `IMAGE`.
+fn is_the_method(rt: &impl Abort, method: &Method) -> bool {
+    let code = [mov(register_of(rt, 0), Operand::Immediate(0)), Insn::Exit];
+    let numbers = (method.flags(), method.in_cap(), method.out_cap());
+    method.name() == "f" && numbers == (1, 0, 0) && method.instructions() == code.as_slice()
+}
+
 #[test]
-fn every_changed_byte(rt: HostRuntime) -> Result<(), Fail> {
+fn reads_the_image(rt: HostRuntime) {
+    let class = read_image(rt.alloc(), &IMAGE).expect(&rt, "a class");
+    let is_read = match class.methods() {
+        [method] => is_the_method(&rt, method),
+        _ => false,
+    };
+    assert!(rt; is_read);
+}
+
+/// The image is refused so.
+fn refuses(rt: &impl Abort, alloc: Global, image: &[u8], methods: usize, error: DecodeError) {
+    let found = read_image(alloc, image).err();
+    assert!(rt; found == Some(ImageError { methods, error }));
+}
+
+#[test]
+fn refuses_images(rt: HostRuntime) {
+    for (place, value, methods, error) in REFUSED {
+        refuses(&rt, rt.alloc(), &changed(place, value), methods, error);
+    }
+    refuses(&rt, rt.alloc(), &[], 0, DecodeError::Truncated);
+}
+
+#[test]
+fn refuses_longer_images(rt: HostRuntime) {
+    let mut longer = Vec::from_slice(rt.alloc(), &IMAGE).expect(&rt, "memory");
+    longer.push(0).expect(&rt, "memory");
+    refuses(&rt, rt.alloc(), &longer, 1, DecodeError::Trailing);
+}
+
+/// Two methods of one name.
+#[test]
+fn refuses_equal_names(rt: HostRuntime) {
+    let mut twice = Vec::from_slice(rt.alloc(), &changed(4, 2)).expect(&rt, "memory");
+    twice.extend_from_slice(&IMAGE[8..]).expect(&rt, "memory");
+    refuses(&rt, rt.alloc(), &twice, 1, DecodeError::Order);
+}
+
+/// Whether the image is refused, or written as it was read.
+fn is_kept(alloc: Global, image: &[u8]) -> bool {
+    let Ok(class) = read_image(alloc, image) else {
+        return true;
+    };
+    match write_image(alloc, &class) {
+        Ok(bytes) => bytes.as_slice() == image,
+        Err(_) => false,
+    }
+}
+
+#[test]
+fn every_changed_byte(rt: HostRuntime) {
     for place in 0..33 {
         for value in 0..=255u8 {
-            let image = changed(place, value);
-            if let Ok(class) = read_image(rt.alloc(), &image) {
-                let bytes = write_image(rt.alloc(), &class)?;
-                assert_eq!(rt; bytes.as_slice(), image.as_slice());
-            }
+            assert!(rt; is_kept(rt.alloc(), &changed(place, value)));
         }
     }
-    Ok(())
 }
 
 #[test]
-fn builds_classes(rt: HostRuntime) -> Result<(), Fail> {
-    let alloc = rt.alloc();
-    let mut methods = Vec::new(alloc);
-    methods.push(method(alloc, "get_2", 1, 0)?)?;
-    methods.push(method(alloc, "set", 3, 4096)?)?;
-    let class = ClassImage::new(methods)?;
-    let bytes = write_image(alloc, &class)?;
-    let again = read_image(alloc, &bytes)?;
-    assert_eq!(rt; again.methods().len(), 2);
-    for found in again.methods() {
-        assert_eq!(rt; found.out_cap(), 4096);
+fn writes_the_image(rt: HostRuntime) {
+    let class = read_image(rt.alloc(), &IMAGE).expect(&rt, "a class");
+    let bytes = write_image(rt.alloc(), &class).expect(&rt, "memory");
+    assert!(rt; bytes.as_slice() == IMAGE.as_slice());
+}
+
+/// The in_caps of a class's two methods.
+fn in_caps(class: &ClassImage) -> Option<(u16, u16)> {
+    match class.methods() {
+        [first, second] => Some((first.in_cap(), second.in_cap())),
+        _ => None,
     }
-    Ok(())
 }
 
 #[test]
-fn refuses_methods(rt: HostRuntime) -> Result<(), Fail> {
+fn builds_classes(rt: HostRuntime) {
     let alloc = rt.alloc();
-    let none = ClassImage::new(Vec::new(alloc)).err();
-    let limit = DecodeError::Limit;
-    assert_eq!(rt;
-        none,
-        Some(ImageError {
-            methods: 0,
-            error: limit
-        })
+    let (first, second) = (
+        method(&rt, alloc, "get_2", 1, 0),
+        method(&rt, alloc, "set", 3, 4096),
     );
-    let bad = [
-        ("", 1, 0, DecodeError::Name),
-        ("B", 1, 0, DecodeError::Name),
-        ("a", 1, 0, DecodeError::Order),
-        ("b", 0, 0, DecodeError::Flags),
-        ("b", 4, 0, DecodeError::Flags),
-        ("b", 2, 4097, DecodeError::Limit),
-    ];
-    for (name, flags, in_cap, error) in bad {
-        let mut methods = Vec::new(alloc);
-        methods.push(method(alloc, "a", 1, 0)?)?;
-        methods.push(method(alloc, name, flags, in_cap)?)?;
-        let found = ClassImage::new(methods).err();
-        assert_eq!(rt; found, Some(ImageError { methods: 1, error }));
+    let class = ClassImage::new(methods(&rt, alloc, first, second)).expect(&rt, "a class");
+    let bytes = write_image(alloc, &class).expect(&rt, "memory");
+    let again = read_image(alloc, &bytes).expect(&rt, "a class");
+    assert!(rt; in_caps(&again) == Some((0, 4096)));
+}
+
+/// Name, flags and in_cap of a second method behind `a`, and its refusal.
+const SECOND: [(&str, u8, u16, DecodeError); 6] = [
+    ("", 1, 0, DecodeError::Name),
+    ("B", 1, 0, DecodeError::Name),
+    ("a", 1, 0, DecodeError::Order),
+    ("b", 0, 0, DecodeError::Flags),
+    ("b", 4, 0, DecodeError::Flags),
+    ("b", 2, 4097, DecodeError::Limit),
+];
+
+#[test]
+fn refuses_methods(rt: HostRuntime) {
+    for (name, flags, in_cap, error) in SECOND {
+        let first = method(&rt, rt.alloc(), "a", 1, 0);
+        let second = method(&rt, rt.alloc(), name, flags, in_cap);
+        let found = ClassImage::new(methods(&rt, rt.alloc(), first, second)).err();
+        assert!(rt; found == Some(ImageError { methods: 1, error }));
     }
-    Ok(())
 }
 
 #[test]
-fn prints_refusals(rt: HostRuntime) -> Result<(), Fail> {
-    let alloc = rt.alloc();
+fn refuses_no_methods(rt: HostRuntime) {
+    let (methods, error) = (0, DecodeError::Limit);
+    let found = ClassImage::new(Vec::new(rt.alloc())).err();
+    assert!(rt; found == Some(ImageError { methods, error }));
+}
+
+#[test]
+fn numbers_refusals(rt: HostRuntime) {
     let error = DecodeError::Opcode(3);
-    assert_eq!(rt; error.number(), 3);
-    assert_eq!(rt; error.name(), "Opcode");
-    assert_eq!(rt; error.slot(), Some(3));
-    assert_eq!(rt; format!(in alloc; "{error}")?.as_str(), "3 Opcode");
-    assert_eq!(rt;
-        format!(in alloc; "{}", DecodeError::NoMemory)?.as_str(),
-        "12 NoMemory"
-    );
-    let whole = ImageError {
-        methods: 0,
-        error: DecodeError::Truncated,
-    };
-    assert_eq!(rt;
-        format!(in alloc; "{whole}")?.as_str(),
-        "image refused after 0 methods: 1 Truncated"
-    );
-    let at_slot = ImageError { methods: 0, error };
-    assert_eq!(rt;
-        format!(in alloc; "{at_slot}")?.as_str(),
-        "image refused after 0 methods, slot 3: 3 Opcode"
-    );
-    Ok(())
+    assert!(rt; error.number() == 3 && error.name() == "Opcode");
+    assert!(rt; error.slot() == Some(3));
+}
+
+/// Refusals, and what they print.
+const PRINTED: [(DecodeError, &str); 2] = [
+    (DecodeError::Opcode(3), "3 Opcode"),
+    (DecodeError::NoMemory, "12 NoMemory"),
+];
+
+const PRINTED_IMAGES: [(DecodeError, &str); 2] = [
+    (
+        DecodeError::Truncated,
+        "image refused after 0 methods: 1 Truncated",
+    ),
+    (
+        DecodeError::Opcode(3),
+        "image refused after 0 methods, slot 3: 3 Opcode",
+    ),
+];
+
+#[test]
+fn prints_refusals(rt: HostRuntime) {
+    for (error, text) in PRINTED {
+        let printed = error.to_string(rt.alloc()).expect(&rt, "memory");
+        assert!(rt; printed.as_str() == text);
+    }
+}
+
+#[test]
+fn prints_images_refusals(rt: HostRuntime) {
+    let methods = 0;
+    for (error, text) in PRINTED_IMAGES {
+        let refusal = ImageError { methods, error };
+        let printed = refusal.to_string(rt.alloc()).expect(&rt, "memory");
+        assert!(rt; printed.as_str() == text);
+    }
 }
 
 #[test]
 fn small_types(rt: HostRuntime) {
-    assert_eq!(rt; Width::Byte.bytes(), 1);
-    assert_eq!(rt; Width::Double.bytes(), 8);
-    assert_eq!(rt; Width::Double.size_code(), 3);
-    assert_eq!(rt; Register::new(11), None);
-    assert_eq!(rt; Register::new(10).map(|r| r.number()), Some(10));
+    assert!(rt; Width::Byte.bytes() == 1 && Width::Double.bytes() == 8);
+    assert!(rt; Width::Double.size_code() == 3);
+    assert!(rt; Register::new(11) == None);
+    assert!(rt; register_of(&rt, 10).number() == 10);
+}
+
+/// The laws are called: they do nothing.
+#[test]
+fn laws(_rt: HostRuntime) {
     one_class();
     one_spelling();
     round_trip();
+    beginning();
+    every_row();
 }

@@ -3,6 +3,7 @@ ghost use Rattle.std.specs.Prelude.{◌≡◌, ◌≢◌, ◌⊎◌, ℕ, ◌<�
 ghost use mathlib.Core.List.{IsPrefix};
 ghost use Rattle.commit_board.specs.Lists.{list_at};
 ghost use Rattle.commit_board.specs.Tokens.{writer_of, writers_of, knows};
+ghost use Rattle.pg_log.specs.declared.group.TheConstants.{LOG_LIMIT};
 
 use crate::no_memory::NoMemory;
 use crate::steps::{Add, Compare, Deal, Fresh, Inform, Look, Merge, Said, Share, Tell};
@@ -57,7 +58,7 @@ impl Board {
     /// Adds the request to the writer's list, by one atomic addition to its row's word.
     pub fn commit(&self, writer: &mut Writer, request: &Request)
         requires board { writer.old.board ≡ self.now }
-        requires room { length writer.old.list < 65536 }
+        requires room { length writer.old.list < LOG_LIMIT }
         ensures { writer.new ≡ writer_of writer.old.board writer.old.row (writer.old.list ++ request.now ∷ []) }
     {
         self.commit_said::<Brand>(writer, request);
@@ -66,7 +67,7 @@ impl Board {
     fn commit_said<J: Said>(&self, writer: &mut Writer, request: &Request)
         requires said { J.request ≡ request.now }
         requires board { writer.old.board ≡ self.now }
-        requires room { length writer.old.list < 65536 }
+        requires room { length writer.old.list < LOG_LIMIT }
         ensures { writer.new ≡ writer_of writer.old.board writer.old.row (writer.old.list ++ request.now ∷ []) }
     {
         self.table

@@ -1,3 +1,4 @@
+-- A reader must believe Plain (what a call answers) and Refusal. Run is what the code keeps, in private contracts.
 pub mod Plain
 pub mod Run
 pub mod Refusal

@@ -5,7 +5,7 @@ ghost use Rattle.bpf_machine.specs.Helper.{read_effect, write_effect};
 ghost use Rattle.bpf_machine.specs.Flat.{help};
 ghost use Rattle.bpf_machine.specs.Safe.{first_layout};
 ghost use Rattle.interp.specs.Plain.{given_object};
-ghost use Rattle.interp.specs.Run.{current, given_bytes, CanDo, Does};
+ghost use Rattle.interp.specs.Run.{current, CanDo, Does};
 
 use crate::memory::overwrite;
 use crate::object::Object;
@@ -31,8 +31,8 @@ fn bytes_from(bytes: &[u8], at: u64, n: u64) -> &[u8]
 /// What `read` does to the memory, and its answer: the bytes that there are, or -2 (ENOENT) where the object is absent.
 fn read_object(object: Option<&[u8]>, at: u64, memory: &mut [u8], room: u64, n: u64) -> u64
     requires { (n ≡ 0 → ⊥) → room + n ≤ length memory.old }
-    ensures answer { result ≡ (read_effect (given_bytes object.entry) 0 at n).answer }
-    ensures bytes { memory.new ≡ (if n == 0 then memory.old else written memory.old room (read_effect (given_bytes object.entry) 0 at n).bytes) }
+    ensures answer { result ≡ (read_effect (given_object object.entry) 0 at n).answer }
+    ensures bytes { memory.new ≡ (if n == 0 then memory.old else written memory.old room (read_effect (given_object object.entry) 0 at n).bytes) }
 {
     match object {
         None => u64::MAX - 1,

@@ -2,6 +2,7 @@ ghost use Rattle.std.specs.Prelude.{◌≡◌, ◌==◌, ◌+◌, ◌-◌, ◌++
 ghost use Rattle.bpf_machine.specs.Object.{spliced};
 
 use crate::memory::overwrite;
+use bpf_machine::OBJECT_LIMIT;
 use std::alloc::{AllocError, Global};
 use std::marker::Model;
 
@@ -13,22 +14,23 @@ pub struct Object {
 
 impl Model for Object {
     ghost use Rattle.std.specs.Prelude.{ℕ, List, ◌≤◌, length};
+    ghost use Rattle.bpf_machine.specs.declared.limits.TheConstants.{OBJECT_LIMIT};
 
     ghost Value = { List ℕ };
 
     ghost view = { λ o. o.content.items };
 
-    ghost invariant = { λ o. length o.content.items ≤ 65536 };
+    ghost invariant = { λ o. length o.content.items ≤ OBJECT_LIMIT };
 }
 
 impl Object {
     /// The most bytes of data that an object has.
-    pub const LIMIT: usize = 65536;
+    pub const LIMIT: usize = OBJECT_LIMIT;
 
     /// An object of that data, where it is within the limit. It takes no memory.
     pub fn new(content: Vec<u8>) -> Option<Object>
         ensures value { IfSome result (λ o. o ≡ content.items) }
-        ensures within { IsSome result ↔ (length content.items ≤ 65536) }
+        ensures within { IsSome result ↔ (length content.items ≤ OBJECT_LIMIT) }
     {
         if content.len() <= Object::LIMIT {
             Some(Object { content })
@@ -40,7 +42,7 @@ impl Object {
     /// Its data.
     pub fn bytes(&self) -> &[u8]
         ensures value { result.now ≡ self.now }
-        ensures within { length self.now ≤ 65536 }
+        ensures within { length self.now ≤ OBJECT_LIMIT }
     {
         &self.content
     }
@@ -48,7 +50,7 @@ impl Object {
     /// How many bytes of data it has.
     pub fn len(&self) -> usize
         ensures value { result ≡ length self.now }
-        ensures within { result ≤ 65536 }
+        ensures within { result ≤ OBJECT_LIMIT }
     {
         self.content.len()
     }
@@ -63,7 +65,7 @@ impl Object {
     /// Its data, where the object is done with. It takes no memory.
     pub fn into_bytes(self) -> Vec<u8>
         ensures value { result.items ≡ self }
-        ensures within { length self ≤ 65536 }
+        ensures within { length self ≤ OBJECT_LIMIT }
     {
         let Object { content: data } = self;
         data
@@ -89,7 +91,7 @@ impl Object {
 
     /// Writes bytes at a place. Zeros fill a gap, and no bytes leave the data as it is.
     pub(crate) fn write(&mut self, at: usize, text: &[u8]) -> Result<(), AllocError>
-        requires { at + length text.now ≤ 65536 }
+        requires { at + length text.now ≤ OBJECT_LIMIT }
         ensures written { IfOk result (λ _. self.new ≡ spliced self.old at text.now) }
         ensures refused { OnErr result (self.new ≡ self.old) }
     {

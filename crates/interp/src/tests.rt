@@ -6,29 +6,31 @@ mod tables;
 use crate::{Change, Object, Outcome, call};
 use bpf_decode::{ClassImage, Method, decode};
 use std::alloc::Global;
-use std::test::Fail;
+use std::process::Abort;
 use verifier::{VerifiedClass, verify};
 
 /// A class with one method `f` of that code.
 fn class_of(
+    rt: &impl Abort,
     alloc: Global,
     code: &[u8],
     flags: u8,
     in_cap: u16,
     out_cap: u16,
-) -> Result<VerifiedClass, Fail> {
-    let name = String::from_str(alloc, "f")?;
+) -> VerifiedClass {
+    let name = String::from_str(alloc, "f").expect(rt, "memory");
+    let code = decode(alloc, code).expect(rt, "code");
     let mut methods = Vec::new(alloc);
-    methods.push(Method::new(name, flags, in_cap, out_cap, decode(alloc, code)?))?;
-    Ok(verify(alloc, &ClassImage::new(methods)?)?)
+    methods
+        .push(Method::new(name, flags, in_cap, out_cap, code))
+        .expect(rt, "memory");
+    let image = ClassImage::new(methods).expect(rt, "a class");
+    verify(alloc, &image).expect(rt, "a safe class")
 }
 
 /// An object of those bytes, or none.
-fn object_of(alloc: Global, bytes: Option<&[u8]>) -> Result<Option<Object>, Fail> {
-    match bytes {
-        None => Ok(None),
-        Some(bytes) => Ok(Object::new(Vec::from_slice(alloc, bytes)?)),
-    }
+fn object_of(rt: &impl Abort, alloc: Global, bytes: Option<&[u8]>) -> Option<Object> {
+    Object::new(Vec::from_slice(alloc, bytes?).expect(rt, "memory"))
 }
 
 fn bytes_of(object: &Option<Object>) -> Option<&[u8]> {
@@ -51,10 +53,11 @@ fn changes(change: &Change, before: Option<&[u8]>, after: Option<&[u8]>, wrote: 
 
 /// Calls `f` for client 7.
 fn call_f(
+    rt: &impl Abort,
     alloc: Global,
     class: &VerifiedClass,
     object: &Option<Object>,
     input: &[u8],
-) -> Result<Outcome, Fail> {
-    Ok(call(alloc, class, "f", object.as_ref(), 7, input)?)
+) -> Outcome {
+    call(alloc, class, "f", object.as_ref(), 7, input).expect(rt, "an answer")
 }

@@ -1,16 +1,15 @@
 -- The objects of a legal list are within the limits.
-use Rattle.std.proofs.Common.{◌≡◌, ℕ, zero, suc, ◌<◌, ◌≤◌, ◌^◌, List, [], ◌∷◌, ◌++◌, Option, Some, None, Bool, true, false, cond, length, refl, ap, sym, ◌∙◌, subst}
+use Rattle.std.proofs.Common.{◌≡◌, ℕ, zero, suc, ◌≤◌, List, [], ◌∷◌, Option, Some, None, Bool, true, false, cond, length, refl, ap, sym, ◌∙◌, subst}
 use Rattle.std.specs.List.{AllByRecursion, slice_get}
 use Rattle.std.specs.FinMap as map
 use Rattle.std.specs.Cmp.Lexicographic.{slice_cmp}
 use Rattle.std.specs.Ordering.{nat_cmp, eq_by_cmp}
 use Rattle.std.proofs.lemmas.Cmp.{nat_list_cmp_total}
 use Rattle.bpf_decode.specs.Class.{ClassMethod}
-use Rattle.bpf_machine.specs.Object.{Object, IsObject, AreBytes}
+use Rattle.bpf_machine.specs.Object.{Object, IsObject}
 use Rattle.bpf_machine.specs.Within.{CallsAreWithinLimits}
-use Rattle.verifier.specs.Verified.{method_named}
 use Rattle.pg_log.specs.Requests.{ClientRequest}
-use Rattle.pg_log.specs.Log.{Classes, Objects, CanRun, Legal, method_in, method_of, outcome_of_method, store, after, fold_from, fold}
+use Rattle.pg_log.specs.Log.{Classes, Objects, CanRun, method_in, method_of, outcome_of_method, store, after, fold_from}
 use Rattle.pg_log.specs.Within.{IsRequest, AreWithinLimits, FoldsAreWithinLimits}
 
 within_cond : (b : Bool) (x y : Object) → IsObject x → IsObject y → IsObject (cond b x y)
@@ -47,7 +46,7 @@ takes_input classes r can m e =
 after_within : CallsAreWithinLimits → (classes : Classes) (objects : Objects) (r : ClientRequest) → CanRun classes r → IsRequest r → AreWithinLimits objects → AreWithinLimits (after classes objects r)
 after_within calls classes objects r can q h =
     store_within objects r.object (outcome_of_method (method_of classes r) (map.get objects r.object) r).object h
-        (left_within calls (method_of classes r) (map.get objects r.object) r (h r.object) q (takes_input classes r can))
+    (left_within calls (method_of classes r) (map.get objects r.object) r (h r.object) q (takes_input classes r can))
 
 from_within : CallsAreWithinLimits → (classes : Classes) (objects : Objects) (list : List ClientRequest) →
     ((i : ℕ) (r : ClientRequest) → slice_get list i ≡ Some r → CanRun classes r) → AllByRecursion IsRequest list → AreWithinLimits objects → AreWithinLimits (fold_from classes objects list)

@@ -6,7 +6,7 @@ mod replay;
 
 use crate::{
     Classes, ClientId, Group, LogError, Request, RequestNumber, adopting, classes_added, folds,
-    legal_lists, pairs, refusals, replies, undoing,
+    legal_lists, objects_within_limits, pairs, refusals, replies, undoing,
 };
 use bpf_decode::{ClassImage, Method, decode};
 use interp::{ClassTable, Object, ObjectName};
@@ -151,5 +151,6 @@ fn laws_do_nothing(rt: HostRuntime) {
     classes_added();
     adopting();
     refusals();
+    objects_within_limits();
     assert!(rt; LogError::InputTooLong.number() == 6 && LogError::NoClass.name() == "NoClass");
 }

@@ -57,3 +57,45 @@ jeq r1, r6, +1
 mov r0, -16
 exit
 ";
+
+/// The forms without arithmetic and comparisons, a canonical line each.
+pub const OTHERS: &str = "neg r1
+neg32 r1
+movsx8 r1, r2
+movsx16 r1, r2
+movsx32 r1, r2
+movsx8_32 r1, r2
+movsx16_32 r1, r2
+le16 r1
+le32 r1
+le64 r1
+be16 r1
+be32 r1
+be64 r1
+bswap16 r1
+bswap32 r1
+bswap64 r1
+lddw r1, 0x0000000000000005
+lddw r0, 0xfedcba9876543210
+ldxb r0, [r1+4]
+ldxh r0, [r1+4]
+ldxw r0, [r1-4]
+ldxdw r0, [r1+4]
+ldxsb r0, [r1+4]
+ldxsh r0, [r1+4]
+ldxsw r0, [r1+4]
+stb [r1+0], 5
+sth [r1+0], 5
+stw [r1+0], -2147483648
+stdw [r1+0], 5
+stxb [r1+0], r2
+stxh [r1+0], r2
+stxw [r1+0], r2
+stxdw [r1+0], r2
+ja +3
+ja32 -70000
+call 1
+call 4294967295
+call local +2
+exit
+";

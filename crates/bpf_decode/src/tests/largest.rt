@@ -1,6 +1,5 @@
 use crate::{read_image, write_image};
 use std::alloc::{AllocError, Global};
-use std::test::Fail;
 
 /// The image of 32 methods of 4,096 slots: `mov r0, 0`, and `exit` at the end.
 fn largest(alloc: Global) -> Result<Vec<u8>, AllocError> {
@@ -16,10 +15,9 @@ fn largest(alloc: Global) -> Result<Vec<u8>, AllocError> {
 }
 
 #[test]
-fn largest_image(rt: HostRuntime) -> Result<(), Fail> {
-    let image = largest(rt.alloc())?;
-    let class = read_image(rt.alloc(), &image)?;
-    let written = write_image(rt.alloc(), &class)?;
+fn largest_image(rt: HostRuntime) {
+    let image = largest(rt.alloc()).expect(&rt, "memory");
+    let class = read_image(rt.alloc(), &image).expect(&rt, "a class");
+    let written = write_image(rt.alloc(), &class).expect(&rt, "memory");
     assert!(rt; written.as_slice() == image.as_slice());
-    Ok(())
 }

@@ -1,10 +1,10 @@
-use super::register_of;
+use super::{are_spelled, register_of};
 use crate::{
-    Arithmetic, Bits, ByteOrder, Comparison, DecodeError, EndWidth, Insn, Operand, SignedMove,
-    SignedWidth, check, decode, encode,
+    Arithmetic, Bits, ByteOrder, Comparison, DecodeError, EndWidth, Insn, Operand, Register,
+    SignedMove, SignedWidth, check,
 };
 use std::alloc::Global;
-use std::test::Fail;
+use std::process::Abort;
 
 /// Each operation's opcodes: ALU with an immediate and a register, ALU64 with an immediate and a register; its offset.
 const ARITHMETIC: [(Arithmetic, u8, u8, u8, u8, u8); 13] = [
@@ -38,148 +38,160 @@ const COMPARISONS: [(Comparison, u8, u8, u8, u8); 11] = [
     (Comparison::SignedLessEqual, 0xd5, 0xdd, 0xd6, 0xde),
 ];
 
-/// The instruction is spelled by those bytes, and they are read as it.
-fn is_spelled(alloc: Global, insn: Insn, bytes: [u8; 8]) -> Result<(), Fail> {
-    let code = encode(alloc, &[insn])?;
-    let read = decode(alloc, &bytes)?;
-    let is_read = match read.as_slice() {
-        [one] => *one == insn,
-        _ => false,
-    };
-    if code.as_slice() != bytes.as_slice() || !is_read {
-        Err("another spelling")?;
+/// The first four bytes of an instruction of register 3, and of registers 3 and 9, with an offset's low byte.
+fn of_one(opcode: u8, offset: u8) -> [u8; 4] {
+    [opcode, 0x03, offset, 0]
+}
+
+fn of_two(opcode: u8, offset: u8) -> [u8; 4] {
+    [opcode, 0x93, offset, 0]
+}
+
+/// The instruction is spelled by those four bytes and that immediate.
+fn spells(rt: &impl Abort, alloc: Global, insn: Insn, front: [u8; 4], imm: i32) {
+    let [a, b, c, d] = front;
+    let [e, f, g, h] = imm.to_le_bytes();
+    assert!(rt; are_spelled(alloc, &[insn], &[a, b, c, d, e, f, g, h]));
+}
+
+fn alu(bits: Bits, operation: Arithmetic, dst: Register, source: Operand) -> Insn {
+    Insn::Alu {
+        bits,
+        operation,
+        dst,
+        source,
     }
-    Ok(())
+}
+
+fn branch(bits: Bits, comparison: Comparison, dst: Register, source: Operand, offset: i16) -> Insn {
+    Insn::Branch {
+        bits,
+        comparison,
+        dst,
+        source,
+        offset,
+    }
 }
 
 #[test]
-fn every_operation(rt: HostRuntime) -> Result<(), Fail> {
-    let (dst, src) = (register_of(3)?, register_of(9)?);
-    let immediate = Operand::Immediate(-2);
-    let imm = [0xfe, 0xff, 0xff, 0xff];
+fn every_operation(rt: HostRuntime) {
+    let (dst, src) = (register_of(&rt, 3), register_of(&rt, 9));
     for (operation, k32, x32, k64, x64, offset) in ARITHMETIC {
         for (bits, k, x) in [(Bits::Bits32, k32, x32), (Bits::Bits64, k64, x64)] {
-            let by_number = Insn::Alu {
-                bits,
-                operation,
-                dst,
-                source: immediate,
-            };
-            is_spelled(
-                rt.alloc(),
-                by_number,
-                [k, 0x03, offset, 0, imm[0], imm[1], imm[2], imm[3]],
-            )?;
-            let by_register = Insn::Alu {
-                bits,
-                operation,
-                dst,
-                source: Operand::Register(src),
-            };
-            is_spelled(rt.alloc(), by_register, [x, 0x93, offset, 0, 0, 0, 0, 0])?;
+            let by_number = alu(bits, operation, dst, Operand::Immediate(-2));
+            spells(&rt, rt.alloc(), by_number, of_one(k, offset), -2);
+            let by_register = alu(bits, operation, dst, Operand::Register(src));
+            spells(&rt, rt.alloc(), by_register, of_two(x, offset), 0);
         }
     }
-    for (comparison, k64, x64, k32, x32) in COMPARISONS {
-        for (bits, k, x) in [(Bits::Bits32, k32, x32), (Bits::Bits64, k64, x64)] {
-            let by_number = Insn::Branch {
-                bits,
-                comparison,
-                dst,
-                source: immediate,
-                offset: -3,
-            };
-            is_spelled(
-                rt.alloc(),
-                by_number,
-                [k, 0x03, 0xfd, 0xff, imm[0], imm[1], imm[2], imm[3]],
-            )?;
-            let by_register = Insn::Branch {
-                bits,
-                comparison,
-                dst,
-                source: Operand::Register(src),
-                offset: 258,
-            };
-            is_spelled(rt.alloc(), by_register, [x, 0x93, 2, 1, 0, 0, 0, 0])?;
-        }
-    }
-    Ok(())
 }
 
 #[test]
-fn every_other_row(rt: HostRuntime) -> Result<(), Fail> {
-    let (dst, src) = (register_of(3)?, register_of(9)?);
-    for (bits, neg, mov_k, mov_x) in [
-        (Bits::Bits32, 0x84, 0xb4, 0xbc),
-        (Bits::Bits64, 0x87, 0xb7, 0xbf),
-    ] {
-        is_spelled(
-            rt.alloc(),
-            Insn::Neg { bits, dst },
-            [neg, 3, 0, 0, 0, 0, 0, 0],
-        )?;
-        let by_number = Insn::Mov {
-            bits,
-            dst,
-            source: Operand::Immediate(1),
-        };
-        is_spelled(rt.alloc(), by_number, [mov_k, 3, 0, 0, 1, 0, 0, 0])?;
-        let by_register = Insn::Mov {
-            bits,
-            dst,
-            source: Operand::Register(src),
-        };
-        is_spelled(rt.alloc(), by_register, [mov_x, 0x93, 0, 0, 0, 0, 0, 0])?;
+fn every_comparison(rt: HostRuntime) {
+    let (dst, src) = (register_of(&rt, 3), register_of(&rt, 9));
+    for (comparison, k64, x64, k32, x32) in COMPARISONS {
+        for (bits, k, x) in [(Bits::Bits32, k32, x32), (Bits::Bits64, k64, x64)] {
+            let number = Operand::Immediate(-2);
+            let by_number = branch(bits, comparison, dst, number, -3);
+            spells(&rt, rt.alloc(), by_number, [k, 0x03, 0xfd, 0xff], -2);
+            let by_register = branch(bits, comparison, dst, Operand::Register(src), 258);
+            spells(&rt, rt.alloc(), by_register, [x, 0x93, 2, 1], 0);
+        }
     }
-    for (extension, opcode, offset) in [
-        (SignedMove::Byte64, 0xbf, 8),
-        (SignedMove::Half64, 0xbf, 16),
-        (SignedMove::Word64, 0xbf, 32),
-        (SignedMove::Byte32, 0xbc, 8),
-        (SignedMove::Half32, 0xbc, 16),
-    ] {
+}
+
+/// The opcodes of NEG, MOV of an immediate, MOV of a register.
+const MOVES: [(Bits, u8, u8, u8); 2] = [
+    (Bits::Bits32, 0x84, 0xb4, 0xbc),
+    (Bits::Bits64, 0x87, 0xb7, 0xbf),
+];
+
+#[test]
+fn moves(rt: HostRuntime) {
+    let (dst, src) = (register_of(&rt, 3), register_of(&rt, 9));
+    for (bits, neg, by_number, by_register) in MOVES {
+        let source = Operand::Immediate(1);
+        spells(&rt, rt.alloc(), Insn::Neg { bits, dst }, of_one(neg, 0), 0);
+        spells(
+            &rt,
+            rt.alloc(),
+            Insn::Mov { bits, dst, source },
+            of_one(by_number, 0),
+            1,
+        );
+        let source = Operand::Register(src);
+        spells(
+            &rt,
+            rt.alloc(),
+            Insn::Mov { bits, dst, source },
+            of_two(by_register, 0),
+            0,
+        );
+    }
+}
+
+/// Moves with sign extension: the opcode and the offset.
+const SIGNED_MOVES: [(SignedMove, u8, u8); 5] = [
+    (SignedMove::Byte64, 0xbf, 8),
+    (SignedMove::Half64, 0xbf, 16),
+    (SignedMove::Word64, 0xbf, 32),
+    (SignedMove::Byte32, 0xbc, 8),
+    (SignedMove::Half32, 0xbc, 16),
+];
+
+/// Loads with sign extension: the opcode.
+const SIGNED_LOADS: [(SignedWidth, u8); 3] = [
+    (SignedWidth::Word, 0x81),
+    (SignedWidth::Half, 0x89),
+    (SignedWidth::Byte, 0x91),
+];
+
+#[test]
+fn signed_rows(rt: HostRuntime) {
+    let (dst, src) = (register_of(&rt, 3), register_of(&rt, 9));
+    for (extension, opcode, offset) in SIGNED_MOVES {
         let insn = Insn::MovSigned {
             extension,
             dst,
             src,
         };
-        is_spelled(rt.alloc(), insn, [opcode, 0x93, offset, 0, 0, 0, 0, 0])?;
+        spells(&rt, rt.alloc(), insn, of_two(opcode, offset), 0);
     }
-    for (order, opcode) in [
-        (ByteOrder::ToLittle, 0xd4),
-        (ByteOrder::ToBig, 0xdc),
-        (ByteOrder::Swap, 0xd7),
-    ] {
-        for (width, imm) in [
-            (EndWidth::End16, 16),
-            (EndWidth::End32, 32),
-            (EndWidth::End64, 64),
-        ] {
-            is_spelled(
-                rt.alloc(),
-                Insn::End { order, width, dst },
-                [opcode, 3, 0, 0, imm, 0, 0, 0],
-            )?;
-        }
-    }
-    for (width, opcode) in [
-        (SignedWidth::Word, 0x81),
-        (SignedWidth::Half, 0x89),
-        (SignedWidth::Byte, 0x91),
-    ] {
+    for (width, opcode) in SIGNED_LOADS {
         let insn = Insn::LoadSigned {
             width,
             dst,
             base: src,
             offset: -1,
         };
-        is_spelled(rt.alloc(), insn, [opcode, 0x93, 0xff, 0xff, 0, 0, 0, 0])?;
+        spells(&rt, rt.alloc(), insn, [opcode, 0x93, 0xff, 0xff], 0);
     }
-    is_spelled(
-        rt.alloc(),
-        Insn::JumpLong { distance: -2 },
-        [0x06, 0, 0, 0, 0xfe, 0xff, 0xff, 0xff],
-    )
+}
+
+/// Changes of byte order: the opcode; and the widths by the immediate.
+const ORDERS: [(ByteOrder, u8); 3] = [
+    (ByteOrder::ToLittle, 0xd4),
+    (ByteOrder::ToBig, 0xdc),
+    (ByteOrder::Swap, 0xd7),
+];
+
+const END_WIDTHS: [(EndWidth, i32); 3] = [
+    (EndWidth::End16, 16),
+    (EndWidth::End32, 32),
+    (EndWidth::End64, 64),
+];
+
+#[test]
+fn byte_orders(rt: HostRuntime) {
+    let dst = register_of(&rt, 3);
+    for (order, opcode) in ORDERS {
+        for (width, imm) in END_WIDTHS {
+            let insn = Insn::End { order, width, dst };
+            spells(&rt, rt.alloc(), insn, of_one(opcode, 0), imm);
+        }
+    }
+    let jump = Insn::JumpLong { distance: -2 };
+    spells(&rt, rt.alloc(), jump, [0x06, 0, 0, 0], -2);
 }
 
 /// The opcodes that the tables above don't have.
@@ -188,31 +200,37 @@ const OTHERS: [u8; 29] = [
     0x71, 0x79, 0x81, 0x89, 0x91, 0x62, 0x6a, 0x72, 0x7a, 0x63, 0x6b, 0x73, 0x7b,
 ];
 
+/// Whether the tables have an opcode.
+fn is_known(opcode: u8) -> bool {
+    let mut known = OTHERS.contains(&opcode);
+    for (_, k32, x32, k64, x64, _) in ARITHMETIC {
+        known = known || opcode == k32 || opcode == x32 || opcode == k64 || opcode == x64;
+    }
+    for (_, k64, x64, k32, x32) in COMPARISONS {
+        known = known || opcode == k32 || opcode == x32 || opcode == k64 || opcode == x64;
+    }
+    known
+}
+
+/// An immediate that the opcode allows: END wants a width.
+fn own_imm(opcode: u8) -> u8 {
+    if matches!(opcode, 0xd4 | 0xd7 | 0xdc) {
+        32
+    } else {
+        0
+    }
+}
+
 #[test]
 fn no_other_opcode(rt: HostRuntime) {
     for opcode in 0..=255u8 {
-        let among = OTHERS.contains(&opcode)
-            || ARITHMETIC.iter().any(|row| {
-                opcode == row.1 || opcode == row.2 || opcode == row.3 || opcode == row.4
-            })
-            || COMPARISONS.iter().any(|row| {
-                opcode == row.1 || opcode == row.2 || opcode == row.3 || opcode == row.4
-            });
-        // END wants a width
-        let imm = if opcode == 0xd4 || opcode == 0xd7 || opcode == 0xdc {
-            32
-        } else {
-            0
-        };
-        let bytes = [opcode, 0, 0, 0, imm, 0, 0, 0, 0, 0, 0, 0, 0, 0, 0, 0];
-        let slots = if opcode == 0x18 { 16 } else { 8 };
-        let read = check(&bytes[..slots]);
-        let expected = if among {
+        let expected = if is_known(opcode) {
             Ok(1)
         } else {
             Err(DecodeError::Opcode(0))
         };
-        assert_eq!(rt; read, expected, "opcode {opcode}");
+        let found = read(opcode, 0, 0, own_imm(opcode));
+        assert!(rt; found == expected, "opcode {opcode}");
     }
 }
 
@@ -295,24 +313,28 @@ fn allowed(is_allowed: bool) -> Result<usize, DecodeError> {
 fn unused_fields(rt: HostRuntime) {
     for (opcodes, dst, src, offset, imm) in USES {
         for opcode in opcodes {
-            let opcode = *opcode;
-            // END wants a width
-            let own = if matches!(opcode, 0xd4 | 0xd7 | 0xdc) {
-                32
-            } else {
-                0
-            };
-            assert_eq!(rt; read(opcode, 0, 0, own), Ok(1), "opcode {opcode}");
-            assert_eq!(rt; read(opcode, 0x02, 0, own), allowed(dst), "opcode {opcode}");
-            assert_eq!(rt; read(opcode, 0x20, 0, own), allowed(src), "opcode {opcode}");
-            assert_eq!(rt; read(opcode, 0, 4, own), allowed(offset), "opcode {opcode}");
-            assert_eq!(rt;
-                read(opcode, 0, 0, own + 3),
-                allowed(imm),
-                "opcode {opcode}"
-            );
-            assert_eq!(rt; read(opcode, 0x0b, 0, own), Err(DecodeError::Register(0)));
-            assert_eq!(rt; read(opcode, 0xb0, 0, own), Err(DecodeError::Register(0)));
+            let (opcode, own) = (*opcode, own_imm(*opcode));
+            let found = [
+                read(opcode, 0, 0, own),
+                read(opcode, 0x02, 0, own),
+                read(opcode, 0x20, 0, own),
+                read(opcode, 0, 4, own),
+                read(opcode, 0, 0, own | 3),
+            ];
+            let expected = [true, dst, src, offset, imm].map(allowed);
+            assert!(rt; found == expected, "opcode {opcode}");
+        }
+    }
+}
+
+#[test]
+fn no_such_register(rt: HostRuntime) {
+    let refused = Err(DecodeError::Register(0));
+    for (opcodes, _, _, _, _) in USES {
+        for opcode in opcodes {
+            let (opcode, own) = (*opcode, own_imm(*opcode));
+            let found = [read(opcode, 0x0b, 0, own), read(opcode, 0xb0, 0, own)];
+            assert!(rt; found == [refused, refused], "opcode {opcode}");
         }
     }
 }
@@ -334,25 +356,35 @@ const SELECTED: [(u8, &[u16]); 12] = [
 ];
 
 #[test]
-fn selecting_fields(rt: HostRuntime) {
+fn selecting_offsets(rt: HostRuntime) {
     for (opcode, offsets) in SELECTED {
         for offset in 0..=0xffffu16 {
-            let among = offsets.contains(&offset);
-            assert_eq!(rt;
-                read(opcode, 0, offset, 0),
-                allowed(among),
+            let found = read(opcode, 0, offset, 0);
+            assert!(rt;
+                found == allowed(offsets.contains(&offset)),
                 "opcode {opcode}"
             );
         }
     }
+}
+
+#[test]
+fn selecting_immediates(rt: HostRuntime) {
     for opcode in [0xd4, 0xdc, 0xd7] {
         for imm in 0..=255u8 {
-            let among = [16, 32, 64].contains(&imm);
-            assert_eq!(rt; read(opcode, 0, 0, imm), allowed(among), "opcode {opcode}");
+            let found = read(opcode, 0, 0, imm);
+            assert!(rt;
+                found == allowed([16, 32, 64].contains(&imm)),
+                "opcode {opcode}"
+            );
         }
     }
+}
+
+#[test]
+fn selecting_registers(rt: HostRuntime) {
     for src in 0..=10u8 {
-        assert_eq!(rt; read(0x85, src << 4, 0, 0), allowed(src <= 1));
-        assert_eq!(rt; read(0x18, src << 4, 0, 0), allowed(src == 0));
+        assert!(rt; read(0x85, src << 4, 0, 0) == allowed(src <= 1));
+        assert!(rt; read(0x18, src << 4, 0, 0) == allowed(src == 0));
     }
 }

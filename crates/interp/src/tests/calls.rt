@@ -3,7 +3,7 @@
 use super::{call_f, changes, class_of, object_of};
 use crate::{CallError, call};
 use std::alloc::Global;
-use std::test::Fail;
+use std::process::Abort;
 
 /// A call: the code's slots, what the method declares, the object, the input, and the answer: code, output, the object
 /// after and whether it was written, and steps.
@@ -249,40 +249,39 @@ static ROWS: [Row; 15] = [
 ];
 
 /// Whether a call answers so.
-fn answers_row(alloc: Global, row: &Row) -> Result<bool, Fail> {
-    let class = class_of(alloc, row.code, row.flags, row.in_cap, row.out_cap)?;
-    let object = object_of(alloc, row.object)?;
-    let outcome = call_f(alloc, &class, &object, row.input)?;
-    Ok(
-        outcome.code == row.answer
-            && outcome.output.as_slice() == row.output
-            && outcome.steps == row.steps
-            && changes(&outcome.change, row.object, row.after, row.wrote),
-    )
+fn answers_row(rt: &impl Abort, alloc: Global, row: &Row) -> bool {
+    let class = class_of(rt, alloc, row.code, row.flags, row.in_cap, row.out_cap);
+    let object = object_of(rt, alloc, row.object);
+    let outcome = call_f(rt, alloc, &class, &object, row.input);
+    outcome.code == row.answer
+        && outcome.output.as_slice() == row.output
+        && outcome.steps == row.steps
+        && changes(&outcome.change, row.object, row.after, row.wrote)
 }
 
 #[test]
-fn answers(rt: HostRuntime) -> Result<(), Fail> {
+fn answers(rt: HostRuntime) {
     for row in &ROWS {
-        assert!(rt; answers_row(rt.alloc(), row)?, "{}", row.name);
+        assert!(rt; answers_row(&rt, rt.alloc(), row), "{}", row.name);
     }
-    Ok(())
 }
 
 /// What a call of that method on that input is refused by.
-fn refusal(alloc: Global, method: &str, input: &[u8]) -> Result<Option<CallError>, Fail> {
-    let class = class_of(alloc, WRITES.code, 2, 3, 0)?;
-    Ok(call(alloc, &class, method, None, 7, input).err())
+fn refusal(rt: &impl Abort, alloc: Global, method: &str, input: &[u8]) -> Option<CallError> {
+    let class = class_of(rt, alloc, WRITES.code, 2, 3, 0);
+    call(alloc, &class, method, None, 7, input).err()
 }
 
+/// A method's name, an input, and the refusal.
+const REFUSED: [(&str, &[u8], Option<CallError>); 3] = [
+    ("g", b"abcd", Some(CallError::NoMethod)),
+    ("f", b"abcd", Some(CallError::InputTooLong)),
+    ("f", b"abc", None),
+];
+
 #[test]
-fn refuses(rt: HostRuntime) -> Result<(), Fail> {
-    for (method, input, refused) in [
-        ("g", b"abcd".as_slice(), Some(CallError::NoMethod)),
-        ("f", b"abcd".as_slice(), Some(CallError::InputTooLong)),
-        ("f", b"abc".as_slice(), None),
-    ] {
-        assert_eq!(rt; refusal(rt.alloc(), method, input)?, refused);
+fn refuses(rt: HostRuntime) {
+    for (method, input, refused) in REFUSED {
+        assert!(rt; refusal(&rt, rt.alloc(), method, input) == refused);
     }
-    Ok(())
 }

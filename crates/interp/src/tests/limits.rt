@@ -3,7 +3,7 @@
 use super::{bytes_of, call_f, class_of};
 use crate::{Change, Object, Outcome};
 use std::alloc::Global;
-use std::test::Fail;
+use std::process::Abort;
 
 /// Copies the input's last byte to the output's last, writes the input to the object's last 4,096 bytes, and answers
 /// with all of the output.
@@ -22,10 +22,10 @@ const LONGEST: [u8; 88] = [
 ];
 
 /// What `LONGEST` answers on 4,096 bytes of 0x5a.
-fn longest(alloc: Global, object: &Option<Object>) -> Result<Outcome, Fail> {
-    let class = class_of(alloc, &LONGEST, 2, 4096, 4096)?;
-    let input = vec![in alloc; 0x5a; 4096]?;
-    call_f(alloc, &class, object, &input)
+fn longest(rt: &impl Abort, alloc: Global, object: &Option<Object>) -> Outcome {
+    let class = class_of(rt, alloc, &LONGEST, 2, 4096, 4096);
+    let input = [0x5a; 4096];
+    call_f(rt, alloc, &class, object, &input)
 }
 
 /// Whether those bytes begin by so many of the one byte, and the rest are of the other.
@@ -38,40 +38,37 @@ fn begins(bytes: &[u8], first: u8, count: usize, then: u8) -> bool {
 }
 
 #[test]
-fn a_call_has_all_output(rt: HostRuntime) -> Result<(), Fail> {
-    let outcome = longest(rt.alloc(), &None)?;
-    assert_eq!(rt;
-        (outcome.code, outcome.steps, outcome.output.len()),
-        (4096, 11, 4096)
-    );
+fn a_call_has_all_output(rt: HostRuntime) {
+    let outcome = longest(&rt, rt.alloc(), &None);
+    assert!(rt; outcome.code == 4096 && outcome.steps == 11 && outcome.output.len() == 4096);
     assert!(rt; begins(&outcome.output, 0, 4095, 0x5a));
-    Ok(())
 }
 
-/// The objects before and after, where the call wrote one.
-fn written(outcome: &Outcome) -> Option<(Option<&[u8]>, Option<&[u8]>)> {
-    match &outcome.change {
-        Change::Unchanged => None,
-        Change::Changed { before, after } => Some((bytes_of(before), bytes_of(after))),
+/// Whether the call wrote the object, from that one to 61,440 bytes of the one byte and the input behind them.
+fn wrote(change: &Change, object: &Option<Object>, first: u8) -> bool {
+    match change {
+        Change::Changed {
+            before,
+            after: Some(after),
+        } => {
+            let bytes = after.bytes();
+            let is_full = bytes.len() == Object::LIMIT;
+            bytes_of(before) == bytes_of(object) && is_full && begins(bytes, first, 61440, 0x5a)
+        }
+        _ => false,
     }
 }
 
 #[test]
-fn an_object_grows_to_its_limit(rt: HostRuntime) -> Result<(), Fail> {
-    let outcome = longest(rt.alloc(), &None)?;
-    let (before, after) = written(&outcome).ok_or("nothing written")?;
-    let bytes = after.ok_or("no object")?;
-    assert_eq!(rt; (before.is_none(), bytes.len()), (true, Object::LIMIT));
-    assert!(rt; begins(bytes, 0, 61440, 0x5a));
-    Ok(())
+fn an_object_grows_to_its_limit(rt: HostRuntime) {
+    let outcome = longest(&rt, rt.alloc(), &None);
+    assert!(rt; wrote(&outcome.change, &None, 0));
 }
 
 #[test]
-fn a_full_object_is_copied(rt: HostRuntime) -> Result<(), Fail> {
-    let full = Object::new(vec![in rt.alloc(); 0x33; Object::LIMIT]?);
-    let outcome = longest(rt.alloc(), &full)?;
-    let (before, after) = written(&outcome).ok_or("nothing written")?;
-    assert!(rt; before == bytes_of(&full));
-    assert!(rt; begins(after.ok_or("no object")?, 0x33, 61440, 0x5a));
-    Ok(())
+fn a_full_object_is_copied(rt: HostRuntime) {
+    let bytes = vec![in rt.alloc(); 0x33; Object::LIMIT].expect(&rt, "memory");
+    let full = Object::new(bytes);
+    let outcome = longest(&rt, rt.alloc(), &full);
+    assert!(rt; wrote(&outcome.change, &full, 0x33));
 }

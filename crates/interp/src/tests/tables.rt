@@ -1,120 +1,116 @@
 //! Names, objects and the table of classes.
 
-use super::class_of;
+use super::{class_of, object_of};
 use crate::{CallError, ClassTable, Object, ObjectName, StoreError, TableError};
 use std::alloc::Global;
-use std::test::Fail;
+use std::process::Abort;
+use verifier::VerifiedClass;
 
 const RETURNS_ZERO: [u8; 16] = [0xb7, 0, 0, 0, 0, 0, 0, 0, 0x95, 0, 0, 0, 0, 0, 0, 0];
 
 /// How long a name of so many letters is, if that is one.
-fn length_of(alloc: Global, len: usize) -> Result<Option<usize>, Fail> {
-    let text = "n".repeat(alloc, len)?;
+fn length_of(rt: &impl Abort, alloc: Global, len: usize) -> Option<usize> {
+    let text = "n".repeat(alloc, len).expect(rt, "memory");
     match ObjectName::new(alloc, text.as_str()) {
-        Ok(name) => Ok(Some(name.text().len())),
-        Err(StoreError::Range) => Ok(None),
-        Err(error) => Err(error)?,
+        Ok(name) => Some(name.text().len()),
+        Err(_) => None,
     }
 }
 
 #[test]
-fn names(rt: HostRuntime) -> Result<(), Fail> {
+fn names(rt: HostRuntime) {
     for (len, named) in [(0, None), (1, Some(1)), (255, Some(255)), (256, None)] {
-        assert_eq!(rt; length_of(rt.alloc(), len)?, named);
+        assert!(rt; length_of(&rt, rt.alloc(), len) == named);
     }
-    Ok(())
 }
 
 #[test]
-fn objects(rt: HostRuntime) -> Result<(), Fail> {
-    let object = Object::new(Vec::from_slice(rt.alloc(), b"abc")?).ok_or("short")?;
-    assert_eq!(rt; (object.bytes(), object.len()), (b"abc".as_slice(), 3));
-    assert!(rt; !object.is_empty());
-    assert_eq!(rt;
-        object.copy(rt.alloc())?.into_bytes().as_slice(),
-        b"abc".as_slice()
-    );
-    Ok(())
+fn objects(rt: HostRuntime) {
+    let object = object_of(&rt, rt.alloc(), Some(b"abc")).expect(&rt, "short");
+    assert!(rt; object.bytes() == b"abc".as_slice() && object.len() == 3 && !object.is_empty());
+    let copy = object.copy(rt.alloc()).expect(&rt, "memory");
+    assert!(rt; copy.into_bytes().as_slice() == b"abc".as_slice());
+}
+
+/// An object of so many bytes, if it is one.
+fn of_length(rt: &impl Abort, alloc: Global, len: usize) -> Option<Object> {
+    Object::new(vec![in alloc; 7; len].expect(rt, "memory"))
 }
 
 #[test]
-fn long_objects(rt: HostRuntime) -> Result<(), Fail> {
-    let most = Object::new(vec![in rt.alloc(); 7; Object::LIMIT]?).ok_or("the longest")?;
-    assert!(rt; most.copy(rt.alloc())?.bytes() == most.bytes());
-    assert!(rt; Object::new(vec![in rt.alloc(); 7; Object::LIMIT + 1]?).is_none());
-    Ok(())
+fn long_objects(rt: HostRuntime) {
+    let most = of_length(&rt, rt.alloc(), Object::LIMIT).expect(&rt, "the longest");
+    let copy = most.copy(rt.alloc()).expect(&rt, "memory");
+    assert!(rt; copy.bytes() == most.bytes());
+    assert!(rt; of_length(&rt, rt.alloc(), Object::LIMIT + 1).is_none());
 }
 
-/// A table of 64 classes, of which each has its id as in_cap.
-fn full(alloc: Global) -> Result<ClassTable, Fail> {
-    let mut table = ClassTable::new(alloc);
-    for id in 0..64 {
-        let _ = table.add(class_of(alloc, &RETURNS_ZERO, 1, id, 0)?)?;
-    }
-    Ok(table)
+/// A class of one method, of that in_cap.
+fn class(rt: &impl Abort, alloc: Global, in_cap: u16) -> VerifiedClass {
+    class_of(rt, alloc, &RETURNS_ZERO, 1, in_cap, 0)
 }
 
 #[test]
-fn classes(rt: HostRuntime) -> Result<(), Fail> {
-    let mut table = full(rt.alloc())?;
-    assert_eq!(rt; (table.len(), table.is_empty()), (64, false));
-    let class = class_of(rt.alloc(), &RETURNS_ZERO, 1, 64, 0)?;
-    assert_eq!(rt; table.add(class).err(), Some(TableError::TooMany));
-    Ok(())
-}
-
-#[test]
-fn ids(rt: HostRuntime) -> Result<(), Fail> {
+fn classes(rt: HostRuntime) {
     let mut table = ClassTable::new(rt.alloc());
-    for in_cap in [5, 6] {
-        let class = class_of(rt.alloc(), &RETURNS_ZERO, 1, in_cap, 0)?;
-        assert_eq!(rt; table.add(class)?, usize::from(in_cap).wrapping_sub(5));
+    for id in 0..64u16 {
+        assert!(rt; table.add(class(&rt, rt.alloc(), id)) == Ok(usize::from(id)));
     }
-    let found = table.get(1).ok_or("no class 1")?;
-    assert_eq!(rt; found.method("f").ok_or("no method f")?.caps().in_cap, 6);
-    assert!(rt; table.get(2).is_none());
-    Ok(())
+    assert!(rt; table.len() == 64 && !table.is_empty());
+    assert!(rt; table.add(class(&rt, rt.alloc(), 64)) == Err(TableError::TooMany));
+}
+
+/// The in_cap of the method `f` of a class.
+fn in_cap(table: &ClassTable, id: usize) -> Option<u16> {
+    Some(table.get(id)?.method("f")?.caps().in_cap)
 }
 
 #[test]
-fn call_errors(rt: HostRuntime) -> Result<(), Fail> {
-    for (error, number, text) in [
-        (CallError::NoMethod, 1, "1 NoMethod"),
-        (CallError::InputTooLong, 2, "2 InputTooLong"),
-        (CallError::NoMemory, 3, "3 NoMemory"),
-    ] {
-        assert_eq!(rt;
-            (error.number(), format!(in rt.alloc(); "{error}")?.as_str()),
-            (number, text)
-        );
+fn ids(rt: HostRuntime) {
+    let mut table = ClassTable::new(rt.alloc());
+    for cap in [5, 6] {
+        let _ = table.add(class(&rt, rt.alloc(), cap));
     }
-    Ok(())
+    assert!(rt; in_cap(&table, 0) == Some(5) && in_cap(&table, 1) == Some(6));
+    assert!(rt; in_cap(&table, 2).is_none());
+}
+
+const CALL_ERRORS: [(CallError, u8, &str); 3] = [
+    (CallError::NoMethod, 1, "1 NoMethod"),
+    (CallError::InputTooLong, 2, "2 InputTooLong"),
+    (CallError::NoMemory, 3, "3 NoMemory"),
+];
+
+const TABLE_ERRORS: [(TableError, u8, &str); 2] = [
+    (TableError::TooMany, 1, "1 TooMany"),
+    (TableError::NoMemory, 2, "2 NoMemory"),
+];
+
+const STORE_ERRORS: [(StoreError, u8, &str); 2] = [
+    (StoreError::Range, 6, "6 Range"),
+    (StoreError::NoMemory, 7, "7 NoMemory"),
+];
+
+#[test]
+fn call_errors(rt: HostRuntime) {
+    for (error, number, text) in CALL_ERRORS {
+        let printed = error.to_string(rt.alloc()).expect(&rt, "memory");
+        assert!(rt; error.number() == number && printed.as_str() == text);
+    }
 }
 
 #[test]
-fn table_errors(rt: HostRuntime) -> Result<(), Fail> {
-    for (error, number, text) in [
-        (TableError::TooMany, 1, "1 TooMany"),
-        (TableError::NoMemory, 2, "2 NoMemory"),
-    ] {
-        assert_eq!(rt;
-            (error.number(), format!(in rt.alloc(); "{error}")?.as_str()),
-            (number, text)
-        );
+fn table_errors(rt: HostRuntime) {
+    for (error, number, text) in TABLE_ERRORS {
+        let printed = error.to_string(rt.alloc()).expect(&rt, "memory");
+        assert!(rt; error.number() == number && printed.as_str() == text);
     }
-    Ok(())
 }
 
 #[test]
-fn store_errors(rt: HostRuntime) -> Result<(), Fail> {
-    for (error, number, text) in [
-        (StoreError::Range, 6, "6 Range"),
-        (StoreError::NoMemory, 7, "7 NoMemory"),
-    ] {
-        assert_eq!(rt;
-            (error.number(), format!(in rt.alloc(); "{error}")?.as_str()),
-            (number, text)
-        );
+fn store_errors(rt: HostRuntime) {
+    for (error, number, text) in STORE_ERRORS {
+        let printed = error.to_string(rt.alloc()).expect(&rt, "memory");
+        assert!(rt; error.number() == number && printed.as_str() == text);
     }
-    Ok(())
 }

@@ -3,7 +3,7 @@ use Rattle.std.specs.Prelude.{slice_index, if◌then◌else◌, ◌==◌}
 use Rattle.bpf_machine.specs.State.{written}
 use Rattle.bpf_machine.specs.Helper.{read_effect}
 use Rattle.interp.specs.Plain.{given_object}
-use Rattle.interp.specs.Run.{given_bytes}
+use Rattle.interp.specs.Plain.{given_object}
 use Rattle.interp.proofs.Effects.{read_can, read_does}
 use Rattle.interp.proofs.helpers.read.Goals as goal
 
@@ -15,7 +15,7 @@ read_object-answer-requires c =
 pub returns : goal.returns
 returns c =
     let memory = c.args.memory.now in
-    let object = given_bytes c.object.result in
+    let object = given_object c.object.result in
     let registers = c.args.run.now.registers in
     let at = slice_index registers 1 in
     let n = slice_index registers 3 in
