@@ -96,7 +96,7 @@ set_xattr_keeps name value n v o c h e =
     let w = content_within o h in
     let r = with_xattrs_is (content_of o) c _ q.1 in
     with_xattrs_within (content_of o) c r.0 w
-    (after_set XATTR_LIMIT (content_of o).xattrs name value (Ok tt) r.0 r.1 tt w.xattrs (is_name name n p.0) (le_from _ _ q.0, v)) r.2
+    (after_set XATTR_LIMIT (content_of o).xattrs name value (Ok (tt {0})) r.0 r.1 tt w.xattrs (is_name name n p.0) (le_from _ _ q.0, v)) r.2
 
 pub set_key_keeps : (name value : List ℕ) → AreBytes name → AreBytes value → Keeps (λ o. calls.set_key o name value)
 set_key_keeps name value n v o c h e =
@@ -105,7 +105,7 @@ set_key_keeps name value n v o c h e =
     let w = content_within o h in
     let r = with_omap_is (content_of o) c _ q.1 in
     with_omap_within (content_of o) c r.0 w
-    (after_set KEY_LIMIT (content_of o).omap name value (Ok tt) r.0 r.1 tt w.omap (is_name name n p.0) (le_from _ _ q.0, v)) r.2
+    (after_set KEY_LIMIT (content_of o).omap name value (Ok (tt {0})) r.0 r.1 tt w.omap (is_name name n p.0) (le_from _ _ q.0, v)) r.2
 
 pub remove_xattr_keeps : (name : List ℕ) → Keeps (λ o. calls.remove_xattr o name)
 remove_xattr_keeps name o c h e =
@@ -113,7 +113,7 @@ remove_xattr_keeps name o c h e =
     let f = found o _ c p.1 in
     let w = within_some o f.0 h f.1 in
     let r = with_xattrs_is f.0 c _ f.2 in
-    with_xattrs_within f.0 c r.0 w (after_removal XATTR_LIMIT f.0.xattrs name name (Ok tt) r.0 r.1 tt w.xattrs) r.2
+    with_xattrs_within f.0 c r.0 w (after_removal XATTR_LIMIT f.0.xattrs name name (Ok (tt {0})) r.0 r.1 tt w.xattrs) r.2
 
 pub remove_key_keeps : (name : List ℕ) → Keeps (λ o. calls.remove_key o name)
 remove_key_keeps name o c h e =
@@ -121,7 +121,7 @@ remove_key_keeps name o c h e =
     let f = found o _ c p.1 in
     let w = within_some o f.0 h f.1 in
     let r = with_omap_is f.0 c _ f.2 in
-    with_omap_within f.0 c r.0 w (after_removal KEY_LIMIT f.0.omap name name (Ok tt) r.0 r.1 tt w.omap) r.2
+    with_omap_within f.0 c r.0 w (after_removal KEY_LIMIT f.0.omap name name (Ok (tt {0})) r.0 r.1 tt w.omap) r.2
 
 pub create_keeps : (exclusive : Bool) → Keeps (λ o. calls.create o exclusive)
 create_keeps exclusive None c h e = subst IsContent (same_ok nothing c e) (content_within None tt)
