@@ -2,7 +2,7 @@
 use Rattle.std.proofs.Common.{◌≡◌, ℕ, zero, suc, ◌+◌, ◌-◌, ◌<◌, ◌≤◌, List, [], ◌∷◌, ◌++◌, Bool, true, false, arith, length, take, drop, length-append, length-drop, get_or}
 use Rattle.std.specs.Prelude.{if◌then◌else◌, ◌==◌, replicate}
 use Rattle.std.proofs.lemmas.List.{length-take, length-replicate}
-use Rattle.object_store.specs.Object.{AreBytes, spliced, resized}
+use Rattle.object_store.specs.Object.{AreBytes, part, spliced, resized}
 
 pub each_below : (xs : List ℕ) → ((i : ℕ) → get_or xs i 0 < 256) → AreBytes xs
 each_below [] h = tt
@@ -29,6 +29,9 @@ are_drop (suc n) (x ∷ xs) h = are_drop n xs h.1
 are_zeros : (n : ℕ) → AreBytes (replicate n 0)
 are_zeros zero = tt
 are_zeros (suc n) = (omega arith, are_zeros n)
+
+pub are_part : (xs : List ℕ) (place n : ℕ) → AreBytes xs → AreBytes (part xs place n)
+are_part xs place n h = are_take n (drop place xs) (are_drop place xs h)
 
 pub are_resized : (xs : List ℕ) (len : ℕ) → AreBytes xs → AreBytes (resized xs len)
 are_resized xs len h = are_append (take len xs) (replicate (len - length xs) 0) (are_take len xs h) (are_zeros (len - length xs))

@@ -1,4 +1,5 @@
 mod Bytes
 mod Flats
+mod Kept
 mod Splice
 mod Within

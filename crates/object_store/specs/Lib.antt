@@ -5,3 +5,4 @@ pub mod Names
 pub mod Refusal
 pub mod Returned
 pub mod Extents
+pub mod Laws

@@ -119,38 +119,62 @@ const ROWS: [(Call, Answer); 71] = [
     (NextKey(b""), Err(NoAttr)),
 ];
 
-/// What a change answers.
-fn done(changed: Result<(), StoreError>) -> Result<&'static [u8], StoreError> {
-    match changed {
-        Ok(()) => Ok(b""),
-        Err(error) => Err(error),
+/// Makes a change.
+fn change(
+    alloc: Global,
+    objects: &mut Objects,
+    name: &ObjectName,
+    call: Call,
+) -> Result<(), StoreError> {
+    match call {
+        Write(at, text) => objects.write(alloc, name, at, text),
+        Truncate(len) => objects.truncate(alloc, name, len),
+        Create { exclusive } => objects.create(alloc, name, exclusive),
+        SetXattr(xattr, value) => objects.set_xattr(alloc, name, xattr, value),
+        RemoveXattr(xattr) => objects.remove_xattr(alloc, name, xattr),
+        SetKey(key, value) => objects.set_key(alloc, name, key, value),
+        RemoveKey(key) => objects.remove_key(alloc, name, key),
+        _ => objects.remove(alloc, name),
+    }
+}
+
+/// Reads a value or a key.
+fn value<'a>(objects: &'a Objects, name: &ObjectName, call: Call) -> Result<&'a [u8], StoreError> {
+    match call {
+        GetXattr(xattr) => objects.get_xattr(name, xattr),
+        GetKey(key) => objects.get_key(name, key),
+        NextKey(key) => objects.next_key(name, key),
+        _ => Err(StoreError::NoMemory),
+    }
+}
+
+/// Whether a read of four bytes answers so, and leaves the buffer where it is refused.
+fn reads(objects: &Objects, name: &ObjectName, at: u64, wanted: Answer) -> bool {
+    let mut buffer = [1; 4];
+    match (objects.read(name, at, &mut buffer), wanted) {
+        (Ok(_), Ok(bytes)) => bytes == buffer.as_slice(),
+        (Err(error), Err(refusal)) => error == refusal && buffer == [1; 4],
+        _ => false,
+    }
+}
+
+/// Whether the length of the data is so.
+fn has_length(objects: &Objects, name: &ObjectName, wanted: Answer) -> bool {
+    match (objects.stat(name), wanted) {
+        (Ok(len), Ok(bytes)) => len.to_be_bytes().ends_with(bytes),
+        (Err(error), Err(refusal)) => error == refusal,
+        _ => false,
     }
 }
 
 /// Whether the call answers so.
 fn answers(alloc: Global, objects: &mut Objects, name: &ObjectName, row: (Call, Answer)) -> bool {
     let (call, wanted) = row;
-    let mut buffer = [1; 4];
     match call {
-        Stat => match objects.stat(name) {
-            Ok(len) => wanted == Ok(&len.to_be_bytes()[5..]),
-            Err(error) => wanted == Err(error),
-        },
-        Read(at) => match objects.read(name, at, &mut buffer) {
-            Ok(_) => wanted == Ok(&buffer),
-            Err(error) => wanted == Err(error) && buffer == [1; 4],
-        },
-        Write(at, text) => done(objects.write(alloc, name, at, text)) == wanted,
-        Truncate(len) => done(objects.truncate(alloc, name, len)) == wanted,
-        Create { exclusive } => done(objects.create(alloc, name, exclusive)) == wanted,
-        Remove => done(objects.remove(alloc, name)) == wanted,
-        GetXattr(xattr) => objects.get_xattr(name, xattr) == wanted,
-        SetXattr(xattr, value) => done(objects.set_xattr(alloc, name, xattr, value)) == wanted,
-        RemoveXattr(xattr) => done(objects.remove_xattr(alloc, name, xattr)) == wanted,
-        GetKey(key) => objects.get_key(name, key) == wanted,
-        SetKey(key, value) => done(objects.set_key(alloc, name, key, value)) == wanted,
-        RemoveKey(key) => done(objects.remove_key(alloc, name, key)) == wanted,
-        NextKey(key) => objects.next_key(name, key) == wanted,
+        Stat => has_length(objects, name, wanted),
+        Read(at) => reads(objects, name, at, wanted),
+        GetXattr(_) | GetKey(_) | NextKey(_) => value(objects, name, call) == wanted,
+        _ => change(alloc, objects, name, call).err() == wanted.err(),
     }
 }
 

@@ -1,18 +1,7 @@
-use Rattle.std.proofs.Common.{◌≡◌, ℕ, List, Option, Some, None, [], ◌∷◌, ◌++◌, IsTrue, subst, ap, sym, ◌∙◌, append_assoc, refl}
+use Rattle.std.proofs.Common.{◌≡◌, ◌∷◌, ◌++◌, ap, sym, ◌∙◌}
 use Rattle.std.specs.Arc.{arc_value}
-use Rattle.std.specs.Ordering.{nat_cmp}
-use Rattle.std.specs.Cmp.Lexicographic.{slice_cmp}
-use Rattle.std.specs.declared.cmp.Ordering.{Ordering}
-use Rattle.std.specs.declared.cmp.Ordering.TheVariants.{Less, Equal, Greater}
-use Rattle.std.specs.FinMap.{put, find}
-use Rattle.std.specs.Option.{option_copied}
-use Rattle.std.specs.Result.{IfOk}
-use Rattle.std.proofs.lemmas.Result.{IfOk-weaker}
-use Rattle.std.proofs.lemmas.Map.Lookups.{exact_bytes}
-use Rattle.shared_map.specs.Entries.{Entries, Pair, sorted, least_above, without}
 use Rattle.shared_map.specs.Tree.{pair, listed}
 use Rattle.shared_map.specs.declared.tree.Branch.{Branch}
-use Rattle.shared_map.specs.declared.tree.Entry.{Entry}
 use Rattle.shared_map.proofs.Halves.{low_part, high_part, sorted-along, same_parts}
 use Rattle.shared_map.proofs.tree.lean_left.Goals as goal
 

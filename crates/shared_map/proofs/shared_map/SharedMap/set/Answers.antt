@@ -1,12 +1,10 @@
-use Rattle.std.proofs.Common.{◌≡◌, ℕ, IsTrue, List, length, ap, sym, ◌∙◌}
+use Rattle.std.proofs.Common.{◌≡◌, length, ap, sym, ◌∙◌}
 use Rattle.std.specs.Ordering.{nat_cmp}
 use Rattle.std.specs.Cmp.Lexicographic.{slice_cmp}
 use Rattle.std.proofs.lemmas.Cmp.{nat_list_cmp_total}
-use Rattle.std.specs.Arc.{arc_value}
 use Rattle.std.specs.FinMap as fin
 use Rattle.std.specs.FinMap.{put}
 use Rattle.shared_map.specs.Entries.{sorted}
-use Rattle.shared_map.specs.Tree.{pair}
 use Rattle.shared_map.specs.declared.tree.Entry.{Entry}
 use Rattle.shared_map.proofs.Halves.{sorted-put}
 use Rattle.shared_map.proofs.Maps.{map_of, len-map, put-map}

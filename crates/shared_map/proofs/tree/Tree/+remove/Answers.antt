@@ -1,20 +1,13 @@
-use Rattle.std.proofs.Common.{◌≡◌, ℕ, List, Option, Some, None, [], ◌∷◌, ◌++◌, IsTrue, subst, ap, sym, ◌∙◌, append_assoc, refl}
+use Rattle.std.proofs.Common.{◌≡◌, [], ◌∷◌, ◌++◌, IsTrue, subst, ap, sym, ◌∙◌}
 use Rattle.std.specs.Arc.{arc_value}
 use Rattle.std.specs.Ordering.{nat_cmp}
 use Rattle.std.specs.Cmp.Lexicographic.{slice_cmp}
-use Rattle.std.specs.declared.cmp.Ordering.{Ordering}
 use Rattle.std.specs.declared.cmp.Ordering.TheVariants.{Less, Equal, Greater}
-use Rattle.std.specs.FinMap.{put, find}
-use Rattle.std.specs.Option.{option_copied}
-use Rattle.std.specs.Result.{IfOk}
-use Rattle.std.specs.declared.sync.Arc.{Arc}
 use Rattle.std.proofs.lemmas.List.{append-nil}
 use Rattle.std.proofs.lemmas.Result.{IfOk-weaker}
-use Rattle.std.proofs.lemmas.Map.Lookups.{exact_bytes}
-use Rattle.shared_map.specs.Entries.{Entries, Pair, sorted, least_above, without}
+use Rattle.shared_map.specs.Entries.{sorted, without}
 use Rattle.shared_map.specs.Tree.{pair, listed, IsSplit}
 use Rattle.shared_map.specs.declared.tree.Branch.{Branch}
-use Rattle.shared_map.specs.declared.tree.Entry.{Entry}
 use Rattle.shared_map.proofs.Halves.{without-less, without-equal, without-greater, sorted-without, sorted-along, same_parts}
 use Rattle.shared_map.proofs.tree.Tree.+remove.Goals as goal
 

@@ -1,0 +1,23 @@
+//! Laws of the definitions, for the proofs of the crates above. Their functions do nothing.
+ghost use Rattle.std.specs.Prelude.{ℕ, Bool, List};
+ghost use Rattle.object_store.specs.Object.{AreBytes, IsValue};
+ghost use Rattle.object_store.specs.Calls as spec;
+ghost use Rattle.object_store.specs.Laws.{Keeps, Reads};
+
+/// A change of an object within the limits leaves one within them, where it is given bytes.
+pub fn changes_keep_the_limits()
+    ensures write { (at : ℕ) (text : List ℕ) → AreBytes text → Keeps (λ o. spec.write o at text) }
+    ensures truncate { (len : ℕ) → Keeps (λ o. spec.truncate o len) }
+    ensures set_xattr { (name value : List ℕ) → AreBytes name → AreBytes value → Keeps (λ o. spec.set_xattr o name value) }
+    ensures set_key { (key value : List ℕ) → AreBytes key → AreBytes value → Keeps (λ o. spec.set_key o key value) }
+    ensures remove_xattr { (name : List ℕ) → Keeps (λ o. spec.remove_xattr o name) }
+    ensures remove_key { (key : List ℕ) → Keeps (λ o. spec.remove_key o key) }
+    ensures create { (exclusive : Bool) → Keeps (λ o. spec.create o exclusive) }
+{}
+
+/// What is read of an object within the limits is bytes, or a value.
+pub fn reads_are_within()
+    ensures read { (at n : ℕ) → Reads (λ o. spec.read o at n) AreBytes }
+    ensures get_xattr { (name : List ℕ) → Reads (λ o. spec.get_xattr o name) IsValue }
+    ensures get_key { (key : List ℕ) → Reads (λ o. spec.get_key o key) IsValue }
+{}
