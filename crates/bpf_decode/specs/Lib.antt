@@ -1,5 +1,7 @@
 pub mod Instruction
 pub mod Arithmetic
+pub mod Jump
+pub mod Values
 pub mod Fields
 pub mod Refusal
 pub mod Opcodes

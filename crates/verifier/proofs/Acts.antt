@@ -18,9 +18,9 @@ use Rattle.bpf_decode.specs.declared.operation.EndWidth.{EndWidth}
 use Rattle.bpf_decode.specs.declared.operation.Comparison.{Comparison}
 use Rattle.bpf_decode.specs.Arithmetic.{neg_value, signed_move_value, end_value, signed_load_value, is_taken}
 use Rattle.bpf_machine.specs.Jump.{branch_to}
-use Rattle.bpf_machine.specs.declared.region.Region.{Region}
-use Rattle.bpf_machine.specs.declared.value.Value.{Value}
-use Rattle.bpf_machine.specs.declared.value.Value.TheVariants as values
+use Rattle.bpf_decode.specs.declared.region.Region.{Region}
+use Rattle.bpf_decode.specs.declared.value.Value.{Value}
+use Rattle.bpf_decode.specs.declared.value.Value.TheVariants as values
 use Rattle.bpf_machine.specs.declared.caps.Caps.{Caps}
 use Rattle.bpf_machine.specs.Object.{part}
 use Rattle.bpf_machine.specs.State.{le_value, le_bytes, cells, put, may_store, size, set_reg, go}

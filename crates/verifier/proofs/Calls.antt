@@ -3,9 +3,9 @@ use Rattle.std.proofs.Common.{◌≡◌, ℕ, ◌+◌, ◌%◌, ◌^◌, ◌<◌
 use Rattle.std.specs.Prelude.{◌==◌, ◌&&◌, ◌||◌, not, nat_lt, nat_le, if◌then◌else◌, is_some}
 use Rattle.std.proofs.lemmas.Bool.{leb-true, le-leb, false≢true, cond-true, cond_both}
 use Rattle.std.proofs.lemmas.Option.{same_Some}
-use Rattle.bpf_machine.specs.declared.region.Region.{Region}
-use Rattle.bpf_machine.specs.declared.value.Value.{Value}
-use Rattle.bpf_machine.specs.declared.value.Value.TheVariants as values
+use Rattle.bpf_decode.specs.declared.region.Region.{Region}
+use Rattle.bpf_decode.specs.declared.value.Value.{Value}
+use Rattle.bpf_decode.specs.declared.value.Value.TheVariants as values
 use Rattle.bpf_machine.specs.declared.caps.Caps.{Caps}
 use Rattle.bpf_machine.specs.declared.argument.Argument.{Argument}
 use Rattle.bpf_machine.specs.declared.argument.Argument.TheVariants.{Number, OutputLength, Readable, Writable}

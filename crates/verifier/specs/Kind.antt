@@ -1,9 +1,9 @@
 -- What is known of a register: nothing, a number, or a pointer into a region.
 use Rattle.std.specs.Prelude.{◌≡◌, ℕ, ◌+◌, Option, Some, None, Bool, true, false, if◌then◌else◌, nat_le, not}
-use Rattle.bpf_machine.specs.declared.region.Region.{Region}
-use Rattle.bpf_machine.specs.declared.region.Region.TheVariants.{Input, Output, Stack}
-use Rattle.bpf_machine.specs.declared.value.Value.{Value}
-use Rattle.bpf_machine.specs.declared.value.Value.TheVariants as values
+use Rattle.bpf_decode.specs.declared.region.Region.{Region}
+use Rattle.bpf_decode.specs.declared.region.Region.TheVariants.{Input, Output, Stack}
+use Rattle.bpf_decode.specs.declared.value.Value.{Value}
+use Rattle.bpf_decode.specs.declared.value.Value.TheVariants as values
 use Rattle.bpf_machine.specs.declared.caps.Caps.{Caps}
 use Rattle.bpf_machine.specs.State.{may_store, size}
 use Rattle.bpf_decode.specs.declared.operation.Bits.{Bits}

@@ -8,8 +8,7 @@ ghost use Rattle.bpf_machine.specs.inner.FlatState.{memory_of, flat_state, Gives
 use crate::caps::Caps;
 use crate::flat::state::{FlatState, set};
 use crate::layout::Layout;
-use crate::region::Region;
-use bpf_decode::SignedWidth;
+use bpf_decode::{Region, SignedWidth};
 use bpf_decode::arithmetic::sign_extended_load;
 
 /// The regions' bytes.

@@ -1,6 +1,6 @@
 ghost use Rattle.std.specs.Prelude.{◌≡◌, ◌<◌, ◌^◌};
-ghost use Rattle.bpf_machine.specs.Jump.{jump_target};
-ghost use Rattle.bpf_machine.specs.Typed.{extended};
+ghost use Rattle.bpf_decode.specs.Jump.{jump_target};
+ghost use Rattle.bpf_decode.specs.Values.{extended};
 
 /// The slot to which a jump goes: its distance counts from the slot after it (RFC 9669 section 4.3).
 pub fn jump_target(slot: usize, distance: i64) -> usize

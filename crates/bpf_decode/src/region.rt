@@ -1,5 +1,5 @@
 ghost use Rattle.std.specs.Prelude.{◌≡◌};
-ghost use Rattle.bpf_machine.specs.State.{may_store};
+ghost use Rattle.bpf_decode.specs.Values.{may_store};
 
 /// One of the three pieces of memory that a method sees.
 #[derive(Clone, Copy, Debug, PartialEq, Eq)]
