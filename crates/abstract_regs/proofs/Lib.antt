@@ -1,2 +1,3 @@
 mod Joins
 mod Keeping
+mod Places

@@ -1,10 +1,13 @@
 -- The laws of the join of frames, and that a join holds what either part holds.
-use Rattle.std.specs.Prelude.{◌≡◌, List, [], ◌∷◌, Option, length}
-use Rattle.abstract_num.specs.Plain.{Below}
+use Rattle.std.specs.Prelude.{◌≡◌, ℕ, ◌+◌, ◌%◌, ◌^◌, ◌<◌, ◌≤◌, List, [], ◌∷◌, Option, Some, None, true, length}
+use Rattle.abstract_num.specs.Plain.{Plain, Holds, Below}
+use Rattle.abstract_num.specs.Keeping.{Fits}
+use Rattle.bpf_decode.specs.declared.region.Region.TheVariants.{Input, Output, Stack}
+use Rattle.bpf_decode.specs.declared.value.Value.TheVariants as values
 use Rattle.bpf_decode.specs.declared.value.Value.{Value}
 use Rattle.abstract_regs.specs.declared.kind.Kind.{Kind}
-use Rattle.abstract_regs.specs.Kind.{PlainKind, Unset, Num, Ptr}
-use Rattle.abstract_regs.specs.Frame.{PlainFrame, join_each, join, HoldsEach}
+use Rattle.abstract_regs.specs.Kind.{PlainKind, Unset, Num, Ptr, access_fits}
+use Rattle.abstract_regs.specs.Frame.{PlainFrame, join_each, join, entry_frame, HoldsEach}
 use Rattle.abstract_regs.specs.Seen.{seen_each}
 
 -- the order: what a kind holds, each greater one holds
@@ -45,3 +48,16 @@ pub record JoinHolds (f g : PlainFrame) : Type 0 where
 
 abbrev pub JoinsHold : Type 0
 JoinsHold = (f g : PlainFrame) → JoinHolds f g
+
+-- What a method begins with, an input of n bytes: the entry frame holds it.
+abbrev pub EntryHolds : Type 0
+EntryHolds =
+    (in_cap stack n : ℕ) → in_cap < 2 ^ 64 → stack < 2 ^ 64 → n ≤ in_cap →
+    HoldsEach (entry_frame in_cap stack).registers
+    (None ∷ Some (values.Ptr Input 0) ∷ Some (values.Num n) ∷ Some (values.Ptr Output 0) ∷ None ∷ None ∷ None ∷ None ∷ None ∷ None ∷ Some (values.Ptr Stack stack) ∷ [])
+
+-- An access that fits by an offset stays within the first so many bytes, at every place that the offset holds.
+abbrev pub AccessesFit : Type 0
+AccessesFit =
+    (k : Plain) → Fits k → (distance w size : ℕ) → distance < 2 ^ 64 → access_fits k distance w size ≡ true →
+    (at : ℕ) → Holds k at → (at + distance) % 2 ^ 64 + w ≤ size

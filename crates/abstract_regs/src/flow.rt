@@ -4,7 +4,7 @@ ghost use Rattle.bpf_decode.specs.Instruction.{slot_count};
 ghost use Rattle.abstract_regs.specs.Seen.{seen, seen_both};
 ghost use Rattle.abstract_regs.specs.Kind.{along_kinds};
 ghost use Rattle.abstract_regs.specs.Flow.{edge_to, computed, same_register, with_operand, with_both, along_edge, flow};
-ghost use Rattle.abstract_regs.specs.Moves.{Keeps};
+ghost use Rattle.abstract_regs.specs.Moves.{EachFits, Keeps};
 ghost use Rattle.abstract_regs.specs.Edged.{with_edges};
 
 use crate::edges::Edges;
@@ -30,6 +30,7 @@ impl Frame {
         ensures table { flow insn.now slot self.old ≡ with_edges result (slot + slot_count insn.now) self.new }
         // What was held before it, a frame along an edge holds after it.
         ensures keeps { Keeps insn.now slot self.old }
+        ensures fits { EachFits self.old.registers }
     {
         keeping_laws();
         self.fits();

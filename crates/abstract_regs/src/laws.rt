@@ -1,4 +1,4 @@
-ghost use Rattle.abstract_regs.specs.Laws.{JoinCommutes, JoinAssociates, JoinOfSame, JoinIsAbove, JoinsHold};
+ghost use Rattle.abstract_regs.specs.Laws.{JoinCommutes, JoinAssociates, JoinOfSame, JoinIsAbove, JoinsHold, EntryHolds, AccessesFit};
 
 use abstract_num::keeping_laws;
 
@@ -13,9 +13,12 @@ pub fn join_laws()
     abstract_num::join_laws();
 }
 
-/// A law. What either of two frames holds, their join holds.
-pub fn joins_hold()
-    ensures { JoinsHold }
+/// A law. What either of two frames holds, their join holds; what a method begins with, the entry frame holds; the bytes
+/// of an access that fits are in the region, at every place that its offset holds.
+pub fn holding_laws()
+    ensures joins { JoinsHold }
+    ensures entry { EntryHolds }
+    ensures accesses { AccessesFit }
 {
     keeping_laws();
 }

@@ -17,7 +17,7 @@ pub use bounds::{access_fits, range_fits};
 pub use edges::Edges;
 pub use frame::Frame;
 pub use kind::Kind;
-pub use laws::{join_laws, joins_hold};
+pub use laws::{holding_laws, join_laws};
 
 #[cfg(test)]
 mod tests;
