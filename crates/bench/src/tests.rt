@@ -8,7 +8,7 @@ use std::test::Fail;
 use std::time::{Clock, Duration};
 
 /// Instructions and steps of each method, counted by hand.
-const COUNTS: [(&str, usize, usize); 8] = [
+const COUNTS: [(&str, usize, usize); 10] = [
     ("call", 4, 4),
     ("alu_100", 100, 100),
     ("alu_4000", 4000, 4000),
@@ -17,6 +17,8 @@ const COUNTS: [(&str, usize, usize); 8] = [
     ("checksum", 2052, 2052),
     ("branches", 1000, 1000),
     ("diamonds", 4004, 2504),
+    ("ranges", 1000, 1000),
+    ("checked", 1000, 1000),
 ];
 
 #[test]
