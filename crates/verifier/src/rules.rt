@@ -272,7 +272,12 @@ fn stays(caps: &Caps, frame: &Frame, base: Register, offset: i16, bytes: usize) 
     ensures { result ≡ stays caps.now (kind_at frame.now base) (extended offset) bytes }
 {
     let distance = i64::from(offset).cast_unsigned();
-    kind_rules::stays(caps, frame.kind(usize::from(base.number())), distance, bytes)
+    kind_rules::stays(
+        caps,
+        frame.kind(usize::from(base.number())),
+        distance,
+        bytes,
+    )
 }
 
 /// It writes into the region that is read only.
@@ -280,7 +285,9 @@ fn writes_read_only(caps: &Caps, frame: &Frame, insn: &Insn) -> bool
     ensures { result ≡ writes_read_only caps.now frame.now insn.now }
 {
     match *insn {
-        Insn::Store { base, .. } => kind_rules::is_read_only(frame.kind(usize::from(base.number()))),
+        Insn::Store { base, .. } => kind_rules::is_read_only(frame.kind(usize::from(
+            base.number(),
+        ))),
         Insn::Call { helper } => Fault::ReadOnly.is_in_call(caps, frame, helper),
         _ => false,
     }

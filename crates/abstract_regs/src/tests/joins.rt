@@ -10,7 +10,10 @@ use std::test::Fail;
 fn joins_numbers(rt: HostRuntime) -> Result<(), Fail> {
     let low = Kind::Num(constant(0));
     let high = Kind::Num(constant(3));
-    assert_eq!(rt; low.join(high), Kind::Num(abstract_num::join(constant(0), constant(3))));
+    assert_eq!(rt;
+        low.join(high),
+        Kind::Num(abstract_num::join(constant(0), constant(3)))
+    );
     assert_eq!(rt; low.join(high), high.join(low));
     Ok(())
 }

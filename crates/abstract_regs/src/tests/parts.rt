@@ -34,8 +34,14 @@ fn knows_nothing_of_the_others(rt: HostRuntime) -> Result<(), Fail> {
 fn tells_kinds_apart(rt: HostRuntime) -> Result<(), Fail> {
     let number = Kind::Num(byte());
     let pointer = Kind::Ptr(Region::Stack, byte());
-    assert_eq!(rt; (number.is_num(), number.is_ptr(), number.is_unset()), (true, false, false));
-    assert_eq!(rt; (pointer.is_num(), pointer.is_ptr(), pointer.is_unset()), (false, true, false));
+    assert_eq!(rt;
+        (number.is_num(), number.is_ptr(), number.is_unset()),
+        (true, false, false)
+    );
+    assert_eq!(rt;
+        (pointer.is_num(), pointer.is_ptr(), pointer.is_unset()),
+        (false, true, false)
+    );
     Ok(())
 }
 
