@@ -7,13 +7,13 @@ use bpf_decode::{Arithmetic, Bits, Comparison, Insn, Operand, Region, Width};
 use std::process::Abort;
 use std::test::Fail;
 
-/// A 64-bit jump of five slots by register 2 and a number.
-fn jump(comparison: Comparison, number: i32) -> Result<Insn, Fail> {
+/// A 64-bit jump of five slots by register 2 and a source.
+fn jump(comparison: Comparison, source: Operand) -> Result<Insn, Fail> {
     Ok(Insn::Branch {
         bits: Bits::Bits64,
         comparison,
         dst: register(2)?,
-        source: Operand::Immediate(number),
+        source,
         offset: 5,
     })
 }
@@ -33,7 +33,7 @@ fn loads_bytes(rt: HostRuntime) -> Result<(), Fail> {
     let insn = load(Width::Byte, 4)?;
     let mut frame = entry();
     assert!(rt; falls(frame.flow(&insn, 0)));
-    assert!(rt; tells(frame.kind(4), 255, 256));
+    assert!(rt; tells(frame.operand(Operand::Register(register(4)?)), 255, 256));
     Ok(())
 }
 
@@ -79,7 +79,7 @@ fn jumps(rt: HostRuntime) -> Result<(), Fail> {
 /// Both edges of `jgt r2, 3`: 4 to 16, and 0 to 3.
 #[test]
 fn refines_both_edges(rt: HostRuntime) -> Result<(), Fail> {
-    let insn = jump(Comparison::Greater, 3)?;
+    let insn = jump(Comparison::Greater, Operand::Immediate(3))?;
     let mut frame = entry();
     match frame.flow(&insn, 2) {
         Edges::Branches(target, taken) => {
@@ -95,7 +95,7 @@ fn refines_both_edges(rt: HostRuntime) -> Result<(), Fail> {
 /// Of a length of at most 16.
 #[test]
 fn falls_past_a_dead_edge(rt: HostRuntime) -> Result<(), Fail> {
-    let insn = jump(Comparison::Greater, 16)?;
+    let insn = jump(Comparison::Greater, Operand::Immediate(16))?;
     let mut frame = entry();
     assert!(rt; falls(frame.flow(&insn, 0)));
     Ok(())
@@ -103,7 +103,7 @@ fn falls_past_a_dead_edge(rt: HostRuntime) -> Result<(), Fail> {
 
 #[test]
 fn jumps_where_it_cannot_fall(rt: HostRuntime) -> Result<(), Fail> {
-    let insn = jump(Comparison::LessEqual, 16)?;
+    let insn = jump(Comparison::LessEqual, Operand::Immediate(16))?;
     let mut frame = entry();
     match frame.flow(&insn, 0) {
         Edges::Jumps(target) => assert_eq!(rt; target, 6),
