@@ -1,3 +1,4 @@
+mod Keepings
 mod Loads
 mod Order
 mod Pairs

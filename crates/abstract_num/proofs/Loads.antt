@@ -15,13 +15,13 @@ use Rattle.abstract_num.specs.Transfer.{ranged, signed_ranged, load_high, signed
 use Rattle.abstract_num.proofs.Tight.{tighten_sound}
 use Rattle.abstract_num.proofs.Transfers.{any_holds}
 
-load_small : (w : Width) (n : ℕ) → n < 256 ^ byte_count w → n ≤ load_high w
+pub load_small : (w : Width) (n : ℕ) → n < 256 ^ byte_count w → n ≤ load_high w
 load_small width.Byte n h = omega arith
 load_small width.Half n h = omega arith
 load_small width.Word n h = omega arith
 load_small width.Double n h = omega arith
 
-signed_load_between : (w : SignedWidth) (n : ℕ) → n < 256 ^ signed_byte_count w
+pub signed_load_between : (w : SignedWidth) (n : ℕ) → n < 256 ^ signed_byte_count w
     → (signed_load_value w n < 2 ^ 64) × (signed_low w ≤ℤ signed (signed_load_value w n)) × (signed (signed_load_value w n) ≤ℤ signed_high w)
 signed_load_between Byte n h = (omega (arith, ints), omega (arith, ints), omega (arith, ints))
 signed_load_between Half n h = (omega (arith, ints), omega (arith, ints), omega (arith, ints))
@@ -40,7 +40,7 @@ signed_range_holds low high x e n f l h =
     subst (λ (o : Option Plain). IsSomeAnd o (λ z. Holds z n)) e
     (tighten_sound (signed_ranged low high) n (record { fits = f; above = a.above; below = a.below; at_least = l; at_most = h; agrees = a.agrees }))
 
-load_fits : (w : Width) → load_high w < 2 ^ 64
+pub load_fits : (w : Width) → load_high w < 2 ^ 64
 load_fits width.Byte = omega arith
 load_fits width.Half = omega arith
 load_fits width.Word = omega arith

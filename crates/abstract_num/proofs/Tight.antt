@@ -11,6 +11,7 @@ use Rattle.abstract_num.specs.BitsRowLaws.{clear_zero}
 use Rattle.abstract_num.specs.Cases.{cond_dec, cond_both}
 use Rattle.abstract_num.specs.Signed.{signed}
 use Rattle.abstract_num.specs.Plain.{Plain, Number, Holds, Gives, Kept, constant}
+pub use Rattle.abstract_num.specs.Keeping.{Fits}
 use Rattle.abstract_num.specs.Tighten.{natural, less_all, plus_all, by_bits, by_unsigned, by_signed, agrees_with, by_constant, tighten}
 
 -- the code's answer keeps what the table's keeps
@@ -157,10 +158,6 @@ tighten_sound x n h =
     (λ e. settle_sound w n hw)))
 
 -- a number whose numbers are below 2 ^ 64 stays so
-pub record Fits (x : Plain) : Type 0 where
-  pub high : x.high < 2 ^ 64
-  pub unknown : x.unknown < 2 ^ 64
-
 record Shrinks (x z : Plain) : Type 0 where
   high : z.high ≤ x.high
   unknown : z.unknown ≡ x.unknown

@@ -9,6 +9,7 @@ pub mod Plain
 pub mod Tighten
 pub mod Transfer
 pub mod Laws
+pub mod Keeping
 pub mod Edges
 pub mod Both
 pub mod Cases

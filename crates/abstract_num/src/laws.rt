@@ -1,3 +1,4 @@
+ghost use Rattle.abstract_num.specs.Keeping.{NumbersFit, ConstantsFit, AnyHolds, ConstantHolds, ArithmeticKeeps, NegativeKeeps, CopyKeeps, ExtensionKeeps, OrderKeeps, RangeKeeps, LoadKeeps, SignedLoadKeeps, TightenKeeps, EdgeKeeps, JoinKeeps};
 ghost use Rattle.abstract_num.specs.Laws.{JoinCommutes, JoinAssociates, JoinOfSame, JoinIsAbove, BelowIsReflexive, BelowIsTransitive, BelowHolds};
 
 /// A law, proved when the crate is checked; a call does nothing. The join of numbers is a commutative, associative and
@@ -14,4 +15,24 @@ pub fn order_laws()
     ensures reflexive { BelowIsReflexive }
     ensures transitive { BelowIsTransitive }
     ensures holds { BelowHolds }
+{}
+
+/// A law. The tables of specs/ keep every number: what the machine computes of held numbers is held by what they give.
+/// Numbers of the code fit.
+pub fn keeping_laws()
+    ensures fits { NumbersFit }
+    ensures constants_fit { ConstantsFit }
+    ensures any { AnyHolds }
+    ensures constant { ConstantHolds }
+    ensures arithmetic { ArithmeticKeeps }
+    ensures negative { NegativeKeeps }
+    ensures copies { CopyKeeps }
+    ensures extensions { ExtensionKeeps }
+    ensures orders { OrderKeeps }
+    ensures ranges { RangeKeeps }
+    ensures loads { LoadKeeps }
+    ensures signed_loads { SignedLoadKeeps }
+    ensures tighten { TightenKeeps }
+    ensures edges { EdgeKeeps }
+    ensures join { JoinKeeps }
 {}

@@ -22,7 +22,7 @@ mod urange;
 pub use bits::Bits;
 pub use domain::Domain;
 pub use fact::Fact;
-pub use laws::{join_laws, order_laws};
+pub use laws::{join_laws, keeping_laws, order_laws};
 pub use number::{
     Number, any, between, constant, constant_of, highest, holds, is_below, join, loaded,
     loaded_signed, signed_between,

@@ -8,7 +8,7 @@ use std::test::Fail;
 use std::time::{Clock, Duration};
 
 /// Instructions and steps of each method, counted by hand.
-const COUNTS: [(&str, usize, usize); 8] = [
+const COUNTS: [(&str, usize, usize); 10] = [
     ("call", 4, 4),
     ("alu_100", 100, 100),
     ("alu_4000", 4000, 4000),
@@ -17,6 +17,8 @@ const COUNTS: [(&str, usize, usize); 8] = [
     ("checksum", 2052, 2052),
     ("branches", 1000, 1000),
     ("diamonds", 4004, 2504),
+    ("ranges", 1000, 1000),
+    ("checked", 1000, 1000),
 ];
 
 #[test]
@@ -117,6 +119,8 @@ loads       1000   1000    9900.99       9.90      90.90
 checksum    2052   2052   20408.16       9.94      97.46
 branches    1000   1000    9900.99       9.90      90.90
 diamonds    4004   2504   25000.00       9.98      83.25
+ranges      1000   1000    9900.99       9.90      90.90
+checked     1000   1000    9900.99       9.90      90.90
 ns/append behind   100     244.14
 ns/append behind 60000     244.14
 ";

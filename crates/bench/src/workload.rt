@@ -98,8 +98,24 @@ const DIAMOND: [Slot; 4] = [
     [0x07, 0x00, 0, 0, 0xff, 0xff, 0xff, 0xff],
 ];
 
+/// `ldxb r4, [r6+0]`, `mov r5, r6`, `add r5, r4`, `ldxb r0, [r5+0]`: a place that is a range.
+const RANGES: [Slot; 4] = [
+    [0x71, 0x64, 0, 0, 0, 0, 0, 0],
+    [0xbf, 0x65, 0, 0, 0, 0, 0, 0],
+    [0x0f, 0x45, 0, 0, 0, 0, 0, 0],
+    [0x71, 0x50, 0, 0, 0, 0, 0, 0],
+];
+
+/// `ldxdw r4, [r6+0]`, `jgt r4, 511, +2`, `add r4, r6`, `ldxb r0, [r4+0]`: a place that a jump has checked.
+const CHECKED: [Slot; 4] = [
+    [0x79, 0x64, 0, 0, 0, 0, 0, 0],
+    [0x25, 0x04, 2, 0, 0xff, 1, 0, 0],
+    [0x0f, 0x64, 0, 0, 0, 0, 0, 0],
+    [0x71, 0x40, 0, 0, 0, 0, 0, 0],
+];
+
 /// The methods that are measured, in the table's order. What the first takes is what a call costs beside its steps.
-pub const WORKLOADS: [Workload; 8] = [
+pub const WORKLOADS: [Workload; 10] = [
     Workload {
         name: "call",
         head: NUMBERS,
@@ -147,6 +163,18 @@ pub const WORKLOADS: [Workload; 8] = [
         head: NUMBERS,
         cycle: DIAMOND,
         rounds: 1000,
+    },
+    Workload {
+        name: "ranges",
+        head: STACK,
+        cycle: RANGES,
+        rounds: 249,
+    },
+    Workload {
+        name: "checked",
+        head: STACK,
+        cycle: CHECKED,
+        rounds: 249,
     },
 ];
 

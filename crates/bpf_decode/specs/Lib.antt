@@ -3,6 +3,8 @@
 -- Opcodes for the machine, whose definition reads a slot by them.
 pub mod Instruction
 pub mod Arithmetic
+pub mod Jump
+pub mod Values
 pub mod Fields
 pub mod Refusal
 pub mod Opcodes

@@ -14,14 +14,17 @@ mod decode_error;
 mod image;
 mod image_error;
 mod insn;
+mod jump;
 mod laws;
 mod limits;
 mod method;
 mod operation;
 mod ranges;
+mod region;
 mod register;
 mod row;
 mod slot;
+mod value;
 
 pub use access::{SignedWidth, Width};
 pub use class_image::ClassImage;
@@ -30,6 +33,7 @@ pub use decode_error::DecodeError;
 pub use image::{read_image, write_image};
 pub use image_error::ImageError;
 pub use insn::{Insn, Operand, width};
+pub use jump::jump_target;
 pub use laws::{beginning, every_row, one_class, one_spelling, round_trip};
 pub use limits::{
     CAPACITY_LIMIT, IMAGE_LIMIT, METHOD_LIMIT, NAME_LIMIT, SLOT_LIMIT, are_name_bytes,
@@ -37,8 +41,10 @@ pub use limits::{
 };
 pub use method::Method;
 pub use operation::{Arithmetic, Bits, ByteOrder, Comparison, EndWidth, SignedMove};
+pub use region::Region;
 pub use register::Register;
 pub use slot::Slot;
+pub use value::Value;
 
 #[cfg(test)]
 mod tests;

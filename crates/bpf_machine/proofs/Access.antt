@@ -10,8 +10,8 @@ use Rattle.bpf_decode.specs.declared.insn.Insn.TheVariants.{Load, LoadSigned, St
 use Rattle.bpf_decode.specs.declared.access.SignedWidth.{SignedWidth}
 use Rattle.bpf_decode.specs.declared.access.SignedWidth.TheVariants as signed
 use Rattle.bpf_decode.specs.Instruction.{byte_count, signed_byte_count, size_code, signed_size_code, bytes_of, slot, imm_field, offset_field, OperandFits}
-use Rattle.bpf_machine.specs.declared.value.Value.{Value}
-use Rattle.bpf_machine.specs.declared.value.Value.TheVariants.{Num}
+use Rattle.bpf_decode.specs.declared.value.Value.{Value}
+use Rattle.bpf_decode.specs.declared.value.Value.TheVariants.{Num}
 use Rattle.bpf_machine.specs.declared.caps.Caps.{Caps}
 use Rattle.bpf_machine.specs.Object.{part}
 use Rattle.bpf_machine.specs.State.{◌>>=◌, le_value, le_bytes, cells, put, may_store, State, reg}

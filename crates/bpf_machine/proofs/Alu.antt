@@ -14,7 +14,7 @@ use Rattle.bpf_decode.specs.declared.insn.Operand.{Operand}
 use Rattle.bpf_decode.specs.declared.insn.Operand.TheVariants.{Immediate, Register}
 use Rattle.bpf_decode.specs.declared.insn.Insn.TheVariants.{Alu, Neg, Mov, MovSigned, End, LoadWide}
 use Rattle.bpf_decode.specs.Instruction.{bytes_of, slot, imm_field, OperandFits, alu_class, operation_code, operation_offset}
-use Rattle.bpf_machine.specs.declared.value.Value.TheVariants.{Num}
+use Rattle.bpf_decode.specs.declared.value.Value.TheVariants.{Num}
 use Rattle.bpf_machine.specs.declared.caps.Caps.{Caps}
 use Rattle.bpf_decode.specs.Arithmetic.{alu_value, neg_value, mov_value, signed_move_value, end_value}
 use Rattle.bpf_machine.specs.State.{◌>>=◌, State, reg, set_reg, go}

@@ -4,9 +4,9 @@ use Rattle.std.specs.Prelude.{◌==◌, ◌||◌, not}
 use Rattle.std.specs.Option.{option_map}
 use Rattle.std.proofs.lemmas.List.{drop-map}
 use Rattle.std.proofs.lemmas.Bool.{eqb-false}
-use Rattle.bpf_machine.specs.declared.region.Region.{Region}
-use Rattle.bpf_machine.specs.declared.value.Value.{Value}
-use Rattle.bpf_machine.specs.declared.value.Value.TheVariants.{Num, Ptr}
+use Rattle.bpf_decode.specs.declared.region.Region.{Region}
+use Rattle.bpf_decode.specs.declared.value.Value.{Value}
+use Rattle.bpf_decode.specs.declared.value.Value.TheVariants.{Num, Ptr}
 use Rattle.bpf_machine.specs.declared.caps.Caps.{Caps}
 use Rattle.bpf_machine.specs.declared.argument.Argument.{Argument}
 use Rattle.bpf_machine.specs.declared.argument.Argument.TheVariants.{Number, OutputLength, Readable, Writable}

@@ -12,7 +12,7 @@ use Rattle.bpf_decode.specs.declared.insn.Insn.TheVariants.{Jump, JumpLong, Bran
 use Rattle.bpf_decode.specs.Instruction.{bytes_of, slot, imm_field, offset_field, OperandFits, jump_class, comparison_code}
 use Rattle.bpf_machine.specs.declared.caps.Caps.{Caps}
 use Rattle.bpf_decode.specs.Arithmetic.{is_taken}
-use Rattle.bpf_machine.specs.Jump.{branch_to}
+use Rattle.bpf_decode.specs.Jump.{branch_to}
 use Rattle.bpf_machine.specs.State.{◌>>=◌, State, reg, go}
 use Rattle.bpf_machine.specs.Flat.{Layout, signed16, signed32, act_on}
 use Rattle.bpf_machine.specs.Typed.{Typed, extended, number, typed_act, address, image}

@@ -12,8 +12,8 @@ use Rattle.bpf_decode.specs.Arithmetic.{alu_value, neg_value, mov_value, signed_
 use Rattle.bpf_decode.specs.declared.operation.Bits.{Bits}
 use Rattle.bpf_decode.specs.declared.operation.Bits.TheVariants.{Bits32, Bits64}
 use Rattle.bpf_machine.specs.declared.limits.TheConstants.{OBJECT_LIMIT, STACK_SIZE}
-use Rattle.bpf_machine.specs.declared.region.Region.{Region}
-use Rattle.bpf_machine.specs.declared.region.Region.TheVariants.{Input, Output, Stack}
+use Rattle.bpf_decode.specs.declared.region.Region.{Region}
+use Rattle.bpf_decode.specs.declared.region.Region.TheVariants.{Input, Output, Stack}
 use Rattle.bpf_machine.specs.declared.argument.Argument.{Argument}
 use Rattle.bpf_machine.specs.declared.argument.Argument.TheVariants.{Number, OutputLength, Readable, Writable}
 use Rattle.bpf_machine.specs.declared.caps.Caps.{Caps}
@@ -21,7 +21,7 @@ use Rattle.bpf_machine.specs.Object.{Object, IsObject, AreBytes, data_of, part, 
 use Rattle.bpf_machine.specs.State.{◌>>=◌, only, le_value, le_bytes, cells, put, size, State, reg, set_reg, go, opening, Outcome, outcome_of, Ending, Ended, Stuck, Unfinished, goes_on, ends}
 use Rattle.bpf_machine.specs.Helper.{signature_of, Given, effect, read_effect, write_effect, refused, first_text, bytes_in, write_room, Effect}
 use Rattle.bpf_machine.specs.Flat.{Layout, base, operand, at_slot, at_base, signed16, signed32, width_of, signed_width_of, find, range, load, load_signed, store, arguments, help, flat_after, operation_row, neg_row, mov_row, end_row, alu_row, ldx_row, st_row, stx_row, wide_row, call_row, branch_row, act, step, exit_code, run, entry}
-use Rattle.bpf_machine.specs.Jump.{jump_target, branch_to}
+use Rattle.bpf_decode.specs.Jump.{jump_target, branch_to}
 use Rattle.bpf_machine.specs.Safe.{caps_of, first_layout, outcome_or_none}
 use Rattle.bpf_machine.specs.Address.{IsMemory}
 use Rattle.bpf_machine.specs.Within.{IsWithinLimits, OutcomesAreWithinLimits, CallsAreWithinLimits}

@@ -6,8 +6,8 @@ use Rattle.std.proofs.lemmas.Option.{none-some, same_Some}
 use Rattle.bpf_decode.specs.declared.access.SignedWidth.{SignedWidth}
 use Rattle.bpf_decode.specs.Instruction.{signed_byte_count}
 use Rattle.bpf_decode.specs.Arithmetic.{signed_load_value}
-use Rattle.bpf_machine.specs.declared.region.Region.{Region}
-use Rattle.bpf_machine.specs.declared.region.Region.TheVariants.{Input, Output, Stack}
+use Rattle.bpf_decode.specs.declared.region.Region.{Region}
+use Rattle.bpf_decode.specs.declared.region.Region.TheVariants.{Input, Output, Stack}
 use Rattle.bpf_machine.specs.declared.caps.Caps.{Caps}
 use Rattle.bpf_machine.specs.Object.{part}
 use Rattle.bpf_machine.specs.State.{◌>>=◌, only, le_value, le_bytes, Memory, cells, written, put, may_store, size, State, set_reg}

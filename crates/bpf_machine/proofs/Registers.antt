@@ -6,11 +6,11 @@ use Rattle.bpf_decode.specs.declared.operation.Arithmetic.{Arithmetic}
 use Rattle.bpf_decode.specs.declared.operation.Arithmetic.TheVariants.{Add, Sub}
 use Rattle.bpf_decode.specs.declared.insn.Operand.{Operand}
 use Rattle.bpf_decode.specs.declared.insn.Operand.TheVariants.{Immediate, Register}
-use Rattle.bpf_machine.specs.declared.region.Region.{Region}
+use Rattle.bpf_decode.specs.declared.region.Region.{Region}
 use Rattle.std.specs.Option.{option_map}
 use Rattle.std.proofs.lemmas.List.{map-set}
-use Rattle.bpf_machine.specs.declared.value.Value.{Value}
-use Rattle.bpf_machine.specs.declared.value.Value.TheVariants.{Num, Ptr}
+use Rattle.bpf_decode.specs.declared.value.Value.{Value}
+use Rattle.bpf_decode.specs.declared.value.Value.TheVariants.{Num, Ptr}
 use Rattle.bpf_machine.specs.declared.caps.Caps.{Caps}
 use Rattle.bpf_machine.specs.State.{◌>>=◌, State, reg, set_reg}
 use Rattle.bpf_machine.specs.Flat.{Layout, base, flat_after}

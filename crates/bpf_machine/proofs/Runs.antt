@@ -4,8 +4,8 @@ use Rattle.std.proofs.Math.Nat.{mod-eq_of_lt}
 use Rattle.std.proofs.lemmas.Option.{none-some}
 use Rattle.bpf_decode.specs.declared.insn.Insn.{Insn}
 use Rattle.bpf_decode.specs.Instruction.{spelling, slots, AllFit}
-use Rattle.bpf_machine.specs.declared.region.Region.TheVariants.{Input, Output, Stack}
-use Rattle.bpf_machine.specs.declared.region.Region.{Region}
+use Rattle.bpf_decode.specs.declared.region.Region.TheVariants.{Input, Output, Stack}
+use Rattle.bpf_decode.specs.declared.region.Region.{Region}
 use Rattle.bpf_machine.specs.declared.caps.Caps.{Caps}
 use Rattle.bpf_machine.specs.Object.{Object}
 use Rattle.bpf_machine.specs.State.{◌>>=◌, size, State, entry_regs, opening, Outcome, Ending, Ended, one_more, goes_on, ends}

@@ -3,7 +3,7 @@ use Rattle.std.specs.Prelude.{◌≡◌, ℕ, ◌+◌, ◌<◌, ◌≤◌, List,
 use Rattle.bpf_decode.specs.declared.access.SignedWidth.{SignedWidth}
 use Rattle.bpf_decode.specs.Instruction.{signed_byte_count}
 use Rattle.bpf_decode.specs.Arithmetic.{signed_load_value}
-use Rattle.bpf_machine.specs.declared.region.Region.{Region}
+use Rattle.bpf_decode.specs.declared.region.Region.{Region}
 use Rattle.bpf_machine.specs.declared.caps.Caps.{Caps}
 use Rattle.bpf_machine.specs.State.{◌>>=◌, le_value, le_bytes, Memory, cells, size, State, set_reg}
 use Rattle.bpf_machine.specs.Flat.{Layout, base, IsIn, IsLayout, find, load, load_signed, store}

@@ -5,7 +5,7 @@
 pub mod Object
 pub mod State
 pub mod Helper
-pub mod Jump
+pub use Rattle.bpf_decode.specs.Jump
 pub mod Flat
 pub mod Typed
 pub mod Decoded

@@ -3,8 +3,7 @@ ghost use Rattle.bpf_machine.specs.State.{size};
 ghost use Rattle.bpf_machine.specs.Safe.{caps_of};
 
 use crate::limits::STACK_SIZE;
-use crate::region::Region;
-use bpf_decode::Method;
+use bpf_decode::{Method, Region};
 
 /// What a method declares: the lengths of its regions in bytes, and whether it may change the object.
 #[derive(Clone, Copy, Debug, PartialEq, Eq)]

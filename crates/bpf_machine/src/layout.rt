@@ -4,7 +4,7 @@ ghost use Rattle.bpf_machine.specs.State.{size};
 ghost use Rattle.bpf_machine.specs.View.{layout_of};
 
 use crate::caps::Caps;
-use crate::region::Region;
+use bpf_decode::Region;
 
 /// Where the regions lie: the address of the first byte of each.
 #[derive(Clone, Copy, Debug, PartialEq, Eq)]

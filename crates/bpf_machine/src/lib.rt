@@ -7,26 +7,20 @@ mod argument;
 mod caps;
 mod flat;
 mod helper;
-mod jump;
 mod laws;
 mod layout;
 mod limits;
-mod region;
-mod value;
 
 pub use argument::{Argument, Signature};
-pub use bpf_decode::arithmetic;
+pub use bpf_decode::{Region, Value, arithmetic, jump_target};
 pub use caps::Caps;
 pub use flat::{Ending, flat_run};
 pub use helper::signature;
-pub use jump::jump_target;
 pub use laws::{
     addresses, chains, decoded, layouts, limits_are_kept, other_runs, outcomes, simulation,
 };
 pub use layout::{Layout, is_layout};
 pub use limits::{OBJECT_LIMIT, STACK_SIZE};
-pub use region::Region;
-pub use value::Value;
 
 #[cfg(test)]
 mod tests;

@@ -1,5 +1,5 @@
 -- A method that no rule refuses is verified, and so is each of a class.
-use Rattle.std.proofs.Common.{◌≡◌, ℕ, zero, suc, ◌+◌, ◌-◌, ◌^◌, ◌<◌, ◌≤◌, List, [], ◌∷◌, ◌++◌, Option, Some, None, refl, ap, ◌∙◌, sym, subst, arith, length, length-append}
+use Rattle.std.proofs.Common.{◌≡◌, ℕ, zero, suc, ◌+◌, ◌-◌, ◌^◌, ◌<◌, ◌≤◌, List, [], ◌∷◌, ◌++◌, Option, Some, None, refl, ap, ◌∙◌, sym, subst, arith, length, take, length-append}
 use Rattle.std.specs.Prelude.{slice_get, replicate}
 use Rattle.std.specs.List.{AllByRecursion}
 use Rattle.std.proofs.lemmas.List.{length-replicate}
@@ -12,10 +12,11 @@ use Rattle.bpf_machine.specs.Typed.{fetch, typed_entry}
 use Rattle.bpf_machine.specs.Safe.{caps_of, IsSafe, EndsAlways, EndsAlwaysIsSafe}
 use Rattle.verifier.specs.declared.rule.Rule.{Rule}
 use Rattle.verifier.specs.declared.refusal.Refusal.{Refusal}
-use Rattle.verifier.specs.Pass.{IsSpaced}
+use Rattle.verifier.specs.Pass.{IsSpaced, AllSound}
 use Rattle.verifier.specs.Verified.{IsVerified}
 use Rattle.verifier.specs.Verdict.{method_verdict, or_later, verdict_from, class_verdict}
-use Rattle.verifier.proofs.Runs.{ends_at_exit, entry_holds}
+use Rattle.verifier.proofs.Runs.{ends_at_exit, entry_is_held}
+use Rattle.abstract_regs.specs.Laws.{JoinsHold, EntryHolds, AccessesFit}
 
 length-slots : (is : List Insn) → length (slots is) ≡ slot_total is
 length-slots [] = refl
@@ -72,37 +73,34 @@ slots_spaced (j ∷ is) zero (suc q) i at lt le =
 slots_spaced (j ∷ is) (suc p) zero i at lt le = absurd (omega arith)
 slots_spaced (j ∷ is) (suc p) (suc q) i at lt le = spaced_past (slot_count j - 1) (slots is) p q i (slots_spaced is) at (omega arith) (omega arith)
 
-ends_always : (m : ClassMethod) → IsMethod m → method_verdict m ≡ None → EndsAlways m
-ends_always m ok clear object caller input call =
+-- the laws of frames
+pub record Laws : Type 0 where
+  pub joins : JoinsHold
+  pub entry : EntryHolds
+  pub accesses : AccessesFit
+
+ends_always : Laws → (m : ClassMethod) → IsMethod m → AllSound (caps_of m) (slots m.instructions) → method_verdict m ≡ None → EndsAlways m
+ends_always laws m ok sound clear object caller input call =
     let first = first_begins m.instructions ok.some_slot in
     let s = typed_entry (caps_of m) object caller input in
-    ends_at_exit (caps_of m) m.instructions ok.fit (slots_small m ok) clear object s first.0 refl first.1
-    (entry_holds (caps_of m) object caller input call.within_limits call.short (omega (arith, ok.in_cap)) call.bytes)
+    ends_at_exit laws.joins laws.accesses (caps_of m) m.instructions sound ok.fit (slots_small m ok) clear object s first.0 refl first.1
+    (entry_is_held laws.entry (caps_of m) object caller input call.within_limits call.short (omega (arith, ok.in_cap)) call.bytes)
 
-pub accept : EndsAlwaysIsSafe → (m : ClassMethod) → IsMethod m → method_verdict m ≡ None → IsVerified m
-accept law m ok clear =
-    record { method = ok; safe = law m ok.fit (ends_always m ok clear) }
+pub accept : EndsAlwaysIsSafe → Laws → (m : ClassMethod) → IsMethod m → AllSound (caps_of m) (slots m.instructions) → method_verdict m ≡ None → IsVerified m
+accept law laws m ok sound clear =
+    record { method = ok; safe = law m ok.fit (ends_always laws m ok sound clear) }
 
--- a fact of all elements, at one
-pub all_at : {A : Type 0} (P : A → Type 0) (xs : List A) (k : ℕ) (x : A) → AllByRecursion P xs → slice_get xs k ≡ Some x → P x
-all_at P [] k x h e = absurd (none-some x e)
-all_at P (y ∷ xs) zero x h e = subst P (same_Some y x e) h.0
-all_at P (y ∷ xs) (suc k) x h e = all_at P xs k x h.1 e
+-- a fact of the first elements and of the next
+pub all_more : {A : Type 0} (P : A → Type 0) (xs : List A) (n : ℕ) (x : A) → slice_get xs n ≡ Some x → AllByRecursion P (take n xs) → P x → AllByRecursion P (take (n + 1) xs)
+all_more P [] n x e h p = absurd (none-some x e)
+all_more P (y ∷ xs) zero x e h p = (subst P (sym (same_Some y x e)) p, tt)
+all_more P (y ∷ xs) (suc n) x e h p =
+    let more : suc (n + 1) ≡ suc n + 1 = omega arith in
+    subst (λ k. AllByRecursion P (take k (y ∷ xs))) more (h.0, all_more P xs n x e h.1 p)
 
-clear_first : (k : ℕ) (o : Option (ℕ × Rule)) (later : Option Refusal) → or_later k o later ≡ None → (o ≡ None) × (later ≡ None)
-clear_first k None later h = (refl, h)
-clear_first k (Some at) later h = absurd (none-some _ (sym h))
-
-accept_from : EndsAlwaysIsSafe → (ms : List ClassMethod) (k : ℕ) → AllByRecursion IsMethod ms → verdict_from k ms ≡ None → AllByRecursion IsVerified ms
-accept_from law [] k ok h = tt
-accept_from law (m ∷ ms) k ok h =
-    let c = clear_first k (method_verdict m) (verdict_from (k + 1) ms) h in
-    (accept law m ok.0 c.0, accept_from law ms (k + 1) ok.1 c.1)
-
--- each method of a class without refusal is verified
-pub accept_all : EndsAlwaysIsSafe → (ms : List ClassMethod) → AllByRecursion IsMethod ms → class_verdict ms ≡ None → AllByRecursion IsVerified ms
-accept_all law ms ok h = accept_from law ms 0 ok h
-
-pub all_safe : (ms : List ClassMethod) → AllByRecursion IsVerified ms → AllByRecursion IsSafe ms
-all_safe [] h = tt
-all_safe (m ∷ ms) h = (h.0.safe, all_safe ms h.1)
+pub take_next : {A : Type 0} (xs : List A) (n : ℕ) (x : A) → slice_get xs n ≡ Some x → take (n + 1) xs ≡ take n xs ++ x ∷ []
+take_next [] n x e = absurd (none-some x e)
+take_next (y ∷ xs) zero x e = ap (λ z. z ∷ []) (same_Some y x e)
+take_next (y ∷ xs) (suc n) x e =
+    let more : suc n + 1 ≡ suc (n + 1) = omega arith in
+    ap (λ k. take k (y ∷ xs)) more ∙ ap (λ zs. y ∷ zs) (take_next xs n x e)

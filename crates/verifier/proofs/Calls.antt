@@ -1,11 +1,11 @@
 -- A helper's call that no rule refuses has its arguments, and what it leaves is what its frame says.
-use Rattle.std.proofs.Common.{◌≡◌, ℕ, ◌+◌, ◌%◌, ◌^◌, ◌<◌, ◌≤◌, List, [], ◌∷◌, Option, Some, None, Bool, true, false, refl, ap, ◌∙◌, sym, arith, length, length-take}
-use Rattle.std.specs.Prelude.{◌==◌, ◌&&◌, ◌||◌, not, nat_lt, nat_le, if◌then◌else◌, is_some}
+use Rattle.std.proofs.Common.{◌≡◌, ℕ, zero, suc, ◌+◌, ◌%◌, ◌^◌, ◌<◌, ◌≤◌, List, [], ◌∷◌, Option, Some, None, Bool, true, false, refl, ap, ◌∙◌, sym, arith, length, length-take}
+use Rattle.std.specs.Prelude.{◌==◌, ◌&&◌, ◌||◌, not, nat_lt, nat_le, if◌then◌else◌, is_some, slice_get}
 use Rattle.std.proofs.lemmas.Bool.{leb-true, le-leb, false≢true, cond-true, cond_both}
 use Rattle.std.proofs.lemmas.Option.{same_Some}
-use Rattle.bpf_machine.specs.declared.region.Region.{Region}
-use Rattle.bpf_machine.specs.declared.value.Value.{Value}
-use Rattle.bpf_machine.specs.declared.value.Value.TheVariants as values
+use Rattle.bpf_decode.specs.declared.region.Region.{Region}
+use Rattle.bpf_decode.specs.declared.value.Value.{Value}
+use Rattle.bpf_decode.specs.declared.value.Value.TheVariants as values
 use Rattle.bpf_machine.specs.declared.caps.Caps.{Caps}
 use Rattle.bpf_machine.specs.declared.argument.Argument.{Argument}
 use Rattle.bpf_machine.specs.declared.argument.Argument.TheVariants.{Number, OutputLength, Readable, Writable}
@@ -13,16 +13,15 @@ use Rattle.bpf_machine.specs.Object.{Object, AreBytes, data_of}
 use Rattle.bpf_machine.specs.State.{◌>>=◌, only, Memory, cells, may_store, size, reg}
 use Rattle.bpf_machine.specs.Helper.{Takes, signature_of, Given, nothing_given, with_number, with_text, with_room, Effect, effect, first_text, read_effect, write_effect, answered, bytes_in, write_room}
 use Rattle.bpf_machine.specs.Typed.{Typed, number, locate, typed_range, typed_arguments, typed_help}
-use Rattle.verifier.specs.declared.kind.Kind.{Kind}
-use Rattle.verifier.specs.declared.kind.Kind.TheVariants.{Unset, Num, Ptr}
+use Rattle.abstract_regs.specs.Kind.{PlainKind, Unset, Num, Ptr}
 use Rattle.verifier.specs.declared.fault.Fault.TheVariants.{OutOfRegion, ReadOnly, WrongKind}
-use Rattle.verifier.specs.Known.{upper}
-use Rattle.verifier.specs.Kind.{is_num, is_ptr, is_at_most, range_leaves, range_is_read_only}
-use Rattle.verifier.specs.declared.frame.Frame.{Frame}
-use Rattle.verifier.specs.Frame.{kind_at, after_call, ObjectIsBytes, Holds}
+use Rattle.abstract_regs.specs.Kind.{is_num, is_ptr, range_fits}
+use Rattle.verifier.specs.Kind.{is_at_most, range_leaves, range_is_read_only}
+use Rattle.abstract_regs.specs.Frame.{PlainFrame, or_unset, kind_at}
+use Rattle.abstract_regs.specs.Moves.{KindFits, EachFits}
+use Rattle.verifier.specs.Frame.{ObjectIsBytes, Holds}
 use Rattle.verifier.specs.Rules.{has_fault, some_fault, taken_fault, call_fault, writes_object}
-use Rattle.verifier.proofs.Numbers.{known_small, holds_upper, holds_any}
-use Rattle.verifier.proofs.Holding.{not_false, HoldsValue, Read, read, num_is_set, ptr_is_set, numbered, drop_each}
+use Rattle.verifier.proofs.Holding.{not_false, HoldsValue, Read, read, num_is_set, ptr_is_set, numbered}
 use Rattle.verifier.proofs.Bytes.{bytes_take, bytes_drop, bytes_put, bytes_spliced}
 use Rattle.verifier.proofs.Passed.{neither}
 
@@ -30,7 +29,7 @@ pub one_more : {A B : Type 0} (o : Option A) (x : A) (g : A → Option B) (y : B
 one_more o x g y e h = ap (λ o. o >>= g) e ∙ h
 
 -- a register that has a number
-record Counted (f : Frame) (s : Typed) (k : ℕ) : Type 0 where
+record Counted (f : PlainFrame) (s : Typed) (k : ℕ) : Type 0 where
   n : ℕ
   value : Value
   there : reg s k ≡ Some value
@@ -38,25 +37,24 @@ record Counted (f : Frame) (s : Typed) (k : ℕ) : Type 0 where
   holds : HoldsValue (kind_at f k) value
   small : n < 2 ^ 64
 
-counted : (f : Frame) (s : Typed) (k : ℕ) → Holds f s → is_num (kind_at f k) ≡ true → Counted f s k
+counted : (f : PlainFrame) (s : Typed) (k : ℕ) → Holds f s → is_num (kind_at f k) ≡ true → Counted f s k
 counted f s k h b =
     let v = read f s k h (num_is_set _ b) in
     let n = numbered (kind_at f k) v.value v.holds b in
     record { n = n.0; value = v.value; there = v.there; is = n.1; holds = v.holds; small = n.2 }
 
-at_most_is_num : (n : ℕ) (x : Kind) → is_at_most n x ≡ true → is_num x ≡ true
+at_most_is_num : (n : ℕ) (x : PlainKind) → is_at_most n x ≡ true → is_num x ≡ true
 at_most_is_num n Unset h = h
 at_most_is_num n (Num k) h = refl
 at_most_is_num n (Ptr r k) h = h
 
-below_cap : (x : Kind) (v : Value) (n cap : ℕ) → HoldsValue x v → number v ≡ Some n → is_at_most cap x ≡ true → nat_le n cap ≡ true
+below_cap : (x : PlainKind) (v : Value) (n cap : ℕ) → HoldsValue x v → number v ≡ Some n → is_at_most cap x ≡ true → nat_le n cap ≡ true
 below_cap Unset v n cap h e b = absurd (false≢true b)
 below_cap (Ptr r k) v n cap h e b = absurd (false≢true b)
 below_cap (Num k) (values.Num m) n cap h e b =
     let same = same_Some m n e in
-    let up = holds_upper k m h in
-    let le = leb-true (upper k) cap b in
-    le-leb n cap (omega arith)
+    let le = leb-true k.high cap b in
+    le-leb n cap (omega (arith, le, h.below, same))
 below_cap (Num k) (values.Ptr r at) n cap h e b = absurd h
 
 target_of : (none writes : Bool) (p : Region × ℕ) → (writes ≡ true → may_store p.0 ≡ true) → (t : Option (Region × ℕ)) × ((if none then Some None else if writes then only (may_store p.0) (Some (Some p)) else Some (Some p)) ≡ Some t)
@@ -70,7 +68,7 @@ range_made caps writes v n p found h =
     (t.0, ap (λ p. p >>= λ p. if n == 0 then Some None else if writes then only (may_store p.0) (Some (Some p)) else Some (Some p)) found ∙ t.1)
 
 -- a range that was not refused is one
-ranged : (caps : Caps) (writes : Bool) (x y : Kind) (v w : Value) (n : ℕ) → HoldsValue x v → HoldsValue y w → number w ≡ Some n → is_ptr x ≡ true → is_num y ≡ true → range_leaves caps x y ≡ false → (writes ≡ true → range_is_read_only x y ≡ false) → (p : Option (Region × ℕ)) × (typed_range caps writes v n ≡ Some p)
+ranged : (caps : Caps) (writes : Bool) (x y : PlainKind) (v w : Value) (n : ℕ) → HoldsValue x v → HoldsValue y w → number w ≡ Some n → is_ptr x ≡ true → is_num y ≡ true → range_leaves caps x y ≡ false → (writes ≡ true → range_is_read_only x y ≡ false) → (p : Option (Region × ℕ)) × (typed_range caps writes v n ≡ Some p)
 ranged caps writes Unset y v w n h i e a b c d = absurd (false≢true a)
 ranged caps writes (Num k) y v w n h i e a b c d = absurd (false≢true a)
 ranged caps writes (Ptr r k) Unset v w n h i e a b c d = absurd (false≢true b)
@@ -79,11 +77,12 @@ ranged caps writes (Ptr r k) (Num l) (values.Num m) w n h i e a b c d = absurd h
 ranged caps writes (Ptr r k) (Num l) (values.Ptr q at) (values.Ptr p o) n h i e a b c d = absurd i
 ranged caps writes (Ptr r k) (Num l) (values.Ptr q at) (values.Num m) n h i e a b c d =
     let same = same_Some m n e in
-    let up = holds_upper k at h.1 in
-    let up' = holds_upper l m i in
-    let le = leb-true (upper k + upper l) (size caps r) (not_false _ c) in
+    let place = h.1 in
+    let up = place.below in
+    let up' = i.below in
+    let le = leb-true (k.high + l.high) (size caps r) (not_false _ c) in
     let same_size : size caps r ≡ size caps q = ap (size caps) h.0 in
-    let at_small = known_small k at h.1 in
+    let at_small = place.fits in
     let whole : (at + 0) % 2 ^ 64 ≡ at = omega arith in
     let fits : (at + 0) % 2 ^ 64 + n ≤ size caps q = omega arith in
     let found = cond-true (nat_le ((at + 0) % 2 ^ 64 + n) (size caps q)) (Some (q, (at + 0) % 2 ^ 64)) None (le-leb _ _ fits) in
@@ -104,7 +103,7 @@ bytes_of : (m : Memory) (p : Option (Region × ℕ)) (n : ℕ) → ((r : Region)
 bytes_of m None n h small = (tt, omega arith)
 bytes_of m (Some p) n h small = (bytes_take n _ (bytes_drop p.1 (cells m p.0) (h p.0)), simp length-take (omega arith))
 
-module _ (caps : Caps) (f : Frame) (s : Typed) (h : Holds f s) where
+module _ (caps : Caps) (f : PlainFrame) (s : Typed) (h : Holds f s) where
   number_gets : (more : List Argument) (k : ℕ) → Counted f s k → Gets caps s more (k + 1) → Gets caps s (Number ∷ more) k
   number_gets more k n g = record {
     given = with_number n.n g.given;
@@ -216,8 +215,18 @@ may_write true true h = refl
 may_write true false h = absurd (false≢true (sym h))
 may_write false c h = refl
 
--- a call that no rule refuses is made, and the frame after it is true
-pub call_made : (caps : Caps) (helper : ℕ) (f : Frame) (s : Typed) → Holds f s → not (is_some (signature_of helper)) ≡ false → call_fault caps f OutOfRegion helper ≡ false → call_fault caps f ReadOnly helper ≡ false → call_fault caps f WrongKind helper ≡ false → (writes_object (signature_of helper) && not caps.writes) ≡ false → (t : Typed) × (typed_help caps helper s ≡ Some t) × Holds (after_call f) t
+-- a call that was made
+pub record Made (caps : Caps) (helper : ℕ) (s : Typed) : Type 0 where
+  pub to : Typed
+  pub made : typed_help caps helper s ≡ Some to
+  pub answer : ℕ
+  pub small : answer < 2 ^ 64
+  pub regs : to.regs ≡ answered s.regs (values.Num answer)
+  pub memory : (r : Region) → AreBytes (cells to.memory r)
+  pub object : ObjectIsBytes to.object
+
+-- a call that no rule refuses is made
+pub call_made : (caps : Caps) (helper : ℕ) (f : PlainFrame) (s : Typed) → Holds f s → not (is_some (signature_of helper)) ≡ false → call_fault caps f OutOfRegion helper ≡ false → call_fault caps f ReadOnly helper ≡ false → call_fault caps f WrongKind helper ≡ false → (writes_object (signature_of helper) && not caps.writes) ≡ false → Made caps helper s
 call_made caps helper f s h known a b c w =
     let sig = there (signature_of helper) known in
     let takes = sig.0 in
@@ -228,12 +237,19 @@ call_made caps helper f s h known a b c w =
     let g = gets caps f s h takes.arguments 1 a' b' c' in
     let e = effect helper s.object s.out_len g.given in
     let l = effect_left helper s.object s.out_len g.given g.room g.texts h.object in
-    let t : Typed = record { slot = s.slot; regs = answered s.regs (values.Num e.answer); memory = write_room s.memory g.given.target e.bytes; object = e.object; out_len = e.out_len; caller = s.caller } in (
-      t,
-      one_more (signature_of helper) takes _ t sig.1 (cond-true _ _ _ (may_write takes.writes caps.writes w') ∙ one_more _ _ _ _ g.is refl),
-      record {
-        regs = (holds_any e.answer l.answer, (tt, (tt, (tt, (tt, (tt, drop_each 6 f.registers s.regs h.regs))))));
-        memory = room_bytes s.memory g.given.target e.bytes h.memory l.bytes;
-        object = l.object;
-      },
-    )
+    let t : Typed = record { slot = s.slot; regs = answered s.regs (values.Num e.answer); memory = write_room s.memory g.given.target e.bytes; object = e.object; out_len = e.out_len; caller = s.caller } in
+    record {
+      to = t;
+      made = one_more (signature_of helper) takes _ t sig.1 (cond-true _ _ _ (may_write takes.writes caps.writes w') ∙ one_more _ _ _ _ g.is refl);
+      answer = e.answer;
+      small = l.answer;
+      regs = refl;
+      memory = room_bytes s.memory g.given.target e.bytes h.memory l.bytes;
+      object = l.object;
+    }
+
+-- the numbers of a register's kind fit
+pub fits_in : (xs : List PlainKind) (r : ℕ) → EachFits xs → KindFits (or_unset (slice_get xs r))
+fits_in [] r h = tt
+fits_in (x ∷ xs) zero h = h.0
+fits_in (x ∷ xs) (suc r) h = fits_in xs r h.1

@@ -1,5 +1,3 @@
-pub mod Results
-pub mod Numbers
 pub mod Bytes
 pub mod Holding
 pub mod Passed

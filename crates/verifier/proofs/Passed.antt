@@ -6,7 +6,7 @@ use Rattle.std.proofs.lemmas.Option.{none-some, same_Some}
 use Rattle.bpf_decode.specs.declared.insn.Insn.{Insn}
 use Rattle.bpf_machine.specs.declared.caps.Caps.{Caps}
 use Rattle.verifier.specs.declared.rule.Rule.{Rule}
-use Rattle.verifier.specs.declared.frame.Frame.{Frame}
+use Rattle.abstract_regs.specs.Frame.{PlainFrame}
 use Rattle.verifier.specs.Rules.{is_backward, misses, falls_off, is_local_call, reads_unset, writes_r10, computes_with_pointer, compares_pointer, stores_pointer, leaves_region, writes_read_only, calls_unknown, passes_wrong_kind, writes_in_reader, returns_pointer, breaks_shape, breaks_frame, breaks, shape_rules, frame_rules, first_broken, shape_rule, frame_rule, else_under, rule_at}
 
 pub neither : (a b : Bool) → (a || b) ≡ false → (a ≡ false) × (b ≡ false)
@@ -48,7 +48,7 @@ module _ (caps : Caps) (code : List (Option Insn)) (p : ℕ) (i : Insn) (r : Rul
   shape_is_broken : shape_rule code p i ≡ Some r → breaks_shape code p i r ≡ true
   shape_is_broken h = first_is_broken (breaks_shape code p i) shape_rules r h
 
-  either_is_broken : (f : Frame) (o : Option Rule) → shape_rule code p i ≡ o → else_under o (Some f) (λ f. frame_rule caps f i) ≡ Some r → (breaks_shape code p i r || breaks_frame caps f i r) ≡ true
+  either_is_broken : (f : PlainFrame) (o : Option Rule) → shape_rule code p i ≡ o → else_under o (Some f) (λ f. frame_rule caps f i) ≡ Some r → (breaks_shape code p i r || breaks_frame caps f i r) ≡ true
   either_is_broken f (Some rule) e h = or_left _ _ (shape_is_broken (e ∙ h))
   either_is_broken f None e h = or_right _ _ (first_is_broken (breaks_frame caps f i) frame_rules r h)
 
@@ -57,12 +57,12 @@ module _ (caps : Caps) (code : List (Option Insn)) (p : ℕ) (i : Insn) (r : Rul
   alone_is_broken None e h = absurd (none-some r h)
 
   -- the rule that refuses an instruction is broken
-  pub rule_is_broken : (frame : Option Frame) → rule_at caps code p i frame ≡ Some r → breaks caps code p i frame r ≡ true
+  pub rule_is_broken : (frame : Option PlainFrame) → rule_at caps code p i frame ≡ Some r → breaks caps code p i frame r ≡ true
   rule_is_broken None h = alone_is_broken (shape_rule code p i) refl h
   rule_is_broken (Some f) h = either_is_broken f (shape_rule code p i) refl h
 
 -- no rule refuses it, under its frame
-pub record Passed (caps : Caps) (code : List (Option Insn)) (p : ℕ) (i : Insn) (f : Frame) : Type 0 where
+pub record Passed (caps : Caps) (code : List (Option Insn)) (p : ℕ) (i : Insn) (f : PlainFrame) : Type 0 where
   pub backward : is_backward i ≡ false
   pub target : misses code p i ≡ false
   pub falls : falls_off code p i ≡ false
@@ -79,11 +79,11 @@ pub record Passed (caps : Caps) (code : List (Option Insn)) (p : ℕ) (i : Insn)
   pub writes : writes_in_reader caps i ≡ false
   pub returns : returns_pointer f i ≡ false
 
-neither_rule : (o : Option Rule) (f : Frame) (rule_of : Frame → Option Rule) → else_under o (Some f) rule_of ≡ None → (o ≡ None) × (rule_of f ≡ None)
+neither_rule : (o : Option Rule) (f : PlainFrame) (rule_of : PlainFrame → Option Rule) → else_under o (Some f) rule_of ≡ None → (o ≡ None) × (rule_of f ≡ None)
 neither_rule None f rule_of h = (refl, h)
 neither_rule (Some rule) f rule_of h = absurd (none-some rule (sym h))
 
-pub passed : (caps : Caps) (code : List (Option Insn)) (p : ℕ) (i : Insn) (f : Frame) → rule_at caps code p i (Some f) ≡ None → Passed caps code p i f
+pub passed : (caps : Caps) (code : List (Option Insn)) (p : ℕ) (i : Insn) (f : PlainFrame) → rule_at caps code p i (Some f) ≡ None → Passed caps code p i f
 passed caps code p i f h =
     let both = neither_rule (shape_rule code p i) f (λ f. frame_rule caps f i) h in
     let a = all_false (breaks_shape code p i) shape_rules both.0 in

@@ -5,20 +5,22 @@ use Rattle.std.proofs.lemmas.Option.{none-some, same_Some, slice_get_within}
 use Rattle.bpf_decode.specs.declared.insn.Insn.{Insn}
 use Rattle.bpf_decode.specs.declared.insn.Insn.TheVariants.{Alu, Neg, Mov, MovSigned, End, LoadWide, Load, LoadSigned, Store, Jump, JumpLong, Branch, Call, CallLocal, Exit}
 use Rattle.bpf_decode.specs.Instruction.{Fits, AllFit, slots, slot_count}
-use Rattle.bpf_machine.specs.declared.region.Region.{Region}
-use Rattle.bpf_machine.specs.declared.region.Region.TheVariants.{Input, Output, Stack}
+use Rattle.bpf_decode.specs.declared.region.Region.{Region}
+use Rattle.bpf_decode.specs.declared.region.Region.TheVariants.{Input, Output, Stack}
 use Rattle.bpf_machine.specs.declared.caps.Caps.{Caps}
 use Rattle.bpf_machine.specs.Object.{Object, IsObject, AreBytes}
 use Rattle.bpf_machine.specs.State.{◌>>=◌, cells, opening, Outcome, Ended, Stuck, outcome_of, one_more, goes_on, ends}
 use Rattle.bpf_machine.specs.Typed.{Typed, fetch, typed_act, typed_exit_of, typed_run, typed_entry}
-use Rattle.verifier.specs.declared.frame.Frame.{Frame}
-use Rattle.verifier.specs.Frame.{entry_frame, ObjectIsBytes, Holds}
+use Rattle.abstract_regs.specs.Frame.{PlainFrame, HoldsEach}
+use Rattle.verifier.specs.Frame.{entry, ObjectIsBytes, Holds}
+use Rattle.abstract_regs.specs.Moves.{Keeps, EachFits}
+use Rattle.abstract_regs.specs.Laws.{JoinsHold, EntryHolds, AccessesFit}
+use Rattle.verifier.specs.Pass.{Sound, IsSound, AllSound}
 use Rattle.verifier.specs.Rules.{rule_at}
 use Rattle.verifier.specs.Verdict.{frame_at, whole_table, code_verdict}
-use Rattle.verifier.proofs.Numbers.{holds_constant, holds_any}
 use Rattle.verifier.proofs.Bytes.{bytes_append, bytes_zeros}
 use Rattle.verifier.proofs.Passed.{Passed, passed}
-use Rattle.verifier.proofs.Acts.{acts, exits}
+use Rattle.verifier.proofs.Acts.{steps, exits}
 use Rattle.verifier.proofs.Tables.{whole_at}
 use Rattle.verifier.proofs.Flows.{arrives, edge}
 use Rattle.verifier.proofs.Verdicts.{passes}
@@ -65,11 +67,11 @@ fit_at (j ∷ is) zero i fit e = subst Fits (same_Some j i e) fit.0
 fit_at (j ∷ is) (suc p) i fit e = fit_past (slot_count j - 1) (slots is) p i (λ q. fit_at is q i fit.1) e
 
 -- an inner value that is there
-inner : {A : Type 0} (o : Option (Option A)) (x : A) → (o >>= λ c. c) ≡ Some x → o ≡ Some (Some x)
+pub inner : {A : Type 0} (o : Option (Option A)) (x : A) → (o >>= λ c. c) ≡ Some x → o ≡ Some (Some x)
 inner None x h = absurd (none-some x h)
 inner (Some o) x h = ap Some h
 
-module _ (caps : Caps) (is : List Insn) (fit : AllFit is) (small : length (slots is) < 2 ^ 62) (clear : code_verdict caps (slots is) ≡ None) (before : Object) where
+module _ (joins : JoinsHold) (accesses : AccessesFit) (caps : Caps) (is : List Insn) (sound : AllSound caps (slots is)) (fit : AllFit is) (small : length (slots is) < 2 ^ 62) (clear : code_verdict caps (slots is) ≡ None) (before : Object) where
   abbrev Ends : ℕ → Typed → Type 0
   Ends n s = (o : Outcome) × (k : ℕ) × (typed_run caps (slots is) before n s ≡ Ended o k)
 
@@ -77,12 +79,18 @@ module _ (caps : Caps) (is : List Insn) (fit : AllFit is) (small : length (slots
   record At (s : Typed) : Type 0 where
     insn : Insn
     there : fetch (slots is) s.slot ≡ Some insn
-    frame : Frame
+    frame : PlainFrame
     is_frame : frame_at (whole_table caps (slots is)) s.slot ≡ Some frame
     holds : Holds frame s
 
   clear_at : (s : Typed) (a : At s) → rule_at caps (slots is) s.slot a.insn (Some a.frame) ≡ None
   clear_at s a = sym (ap (rule_at caps (slots is) s.slot a.insn) a.is_frame) ∙ passes caps (slots is) s.slot a.insn clear a.there
+
+  sound_at : (s : Typed) (a : At s) → Sound a.insn s.slot a.frame
+  sound_at s a = subst (IsSound a.insn s.slot) a.is_frame (sound s.slot a.insn a.there)
+
+  regs_of : (s : Typed) (a : At s) → HoldsEach (a.frame).registers s.regs
+  regs_of s a = let h = a.holds in h.regs
 
   abbrev Later : ℕ → Type 0
   Later n = (t : Typed) → left (drop t.slot (slots is)) ≤ n → At t → Ends n t
@@ -92,15 +100,16 @@ module _ (caps : Caps) (is : List Insn) (fit : AllFit is) (small : length (slots
       let rule = clear_at s a in
       let ok = passed caps (slots is) s.slot a.insn a.frame rule in
       let fits = fit_at is s.slot a.insn fit a.there in
-      let t = acts caps (slots is) s.slot a.insn a.frame s fits a.holds ok not_exit in
+      let kept = sound_at s a in
+      let t = steps accesses caps (slots is) s.slot a.frame s a.holds kept.fits a.insn fits ok not_exit in
+      let reached = kept.keeps fits s.regs t.to.regs t.to.slot (regs_of s a) t.moves in
       let inside = slice_get_within (slots is) s.slot (Some a.insn) (inner _ _ a.there) in
-      let e = edge caps (slots is) s.slot t.to.slot a.insn a.frame t.frame (omega arith) fits ok t.along in
+      let e = edge caps (slots is) s.slot t.to.slot a.insn a.frame reached.frame (omega arith) fits ok reached.there in
       let inside' = slice_get_within (slots is) t.to.slot (Some e.to) (inner _ _ e.begins) in
-      let held = t.holds in
-      let meets = arrives caps (slots is) s.slot t.to.slot a.insn a.frame t.frame t.to.regs a.there a.is_frame rule held.regs t.along e.forward inside' in
+      let meets = arrives joins caps (slots is) s.slot t.to.slot a.insn a.frame reached.frame t.to.regs a.there a.is_frame rule reached.holds reached.there e.forward inside' in
       let fewer = left_further (slots is) s.slot t.to.slot a.insn a.there e.forward in
       let le' : left (drop t.to.slot (slots is)) ≤ n = omega arith in
-      let rest = later t.to le' (record { insn = e.to; there = e.begins; frame = meets.frame; is_frame = meets.is; holds = record { regs = meets.holds; memory = held.memory; object = held.object } }) in (
+      let rest = later t.to le' (record { insn = e.to; there = e.begins; frame = meets.frame; is_frame = meets.is; holds = record { regs = meets.holds; memory = t.memory; object = t.object } }) in (
         rest.0,
         suc rest.1,
         ap (λ o. ends before s (o >>= λ i. typed_exit_of i s) (goes_on (o >>= λ i. typed_act caps i s) (typed_run caps (slots is) before n))) a.there
@@ -141,27 +150,21 @@ module _ (caps : Caps) (is : List Insn) (fit : AllFit is) (small : length (slots
       let none = left_further (slots is) s.slot (s.slot + 1) a.insn a.there (omega arith) in absurd (omega arith)
   ends_from (suc n) s le a = here n s a a.insn refl le (ends_from n)
 
-  pub ends_at_exit : (s : Typed) (i : Insn) → s.slot ≡ 0 → fetch (slots is) 0 ≡ Some i → Holds (entry_frame caps) s → Ends (length is) s
+  pub ends_at_exit : (s : Typed) (i : Insn) → s.slot ≡ 0 → fetch (slots is) 0 ≡ Some i → Holds (entry caps) s → Ends (length is) s
   ends_at_exit s i first at h =
       let all = left_slots is in
       let some = slice_get_within (slots is) 0 (Some i) (inner _ _ at) in
       let whole : drop s.slot (slots is) ≡ slots is = ap (λ n. drop n (slots is)) first in
       let le : left (drop s.slot (slots is)) ≤ length is = omega (arith, ap left whole) in
-      ends_from (length is) s le (record { insn = i; there = ap (fetch (slots is)) first ∙ at; frame = entry_frame caps; is_frame = ap (frame_at (whole_table caps (slots is))) first ∙ whole_at caps (slots is) 0 some; holds = h })
+      ends_from (length is) s le (record { insn = i; there = ap (fetch (slots is)) first ∙ at; frame = entry caps; is_frame = ap (frame_at (whole_table caps (slots is))) first ∙ whole_at caps (slots is) 0 some; holds = h })
 
 object_is_bytes : (object : Object) → IsObject object → ObjectIsBytes object
 object_is_bytes None h = tt
 object_is_bytes (Some bytes) h = h.1
 
-pub entry_holds : (caps : Caps) (object : Object) (caller : ℕ) (input : List ℕ) → IsObject object → length input ≤ caps.in_cap → caps.in_cap < 2 ^ 64 → AreBytes input → Holds (entry_frame caps) (typed_entry caps object caller input)
-entry_holds caps object caller input ob le small bytes =
-    let zero_holds = holds_constant 0 (omega arith) in
-    let end_holds = holds_constant 512 (omega arith) in
-    record {
-      regs = (tt, ((refl, zero_holds), (holds_any (length input) (omega arith), ((refl, zero_holds), (tt, (tt, (tt, (tt, (tt, (tt, ((refl, end_holds), tt)))))))))));
-      memory = cells_are;
-      object = object_is_bytes object ob;
-    }
+pub entry_is_held : EntryHolds → (caps : Caps) (object : Object) (caller : ℕ) (input : List ℕ) → IsObject object → length input ≤ caps.in_cap → caps.in_cap < 2 ^ 64 → AreBytes input → Holds (entry caps) (typed_entry caps object caller input)
+entry_is_held law caps object caller input ob le small bytes =
+    record { regs = law caps.in_cap 512 (length input) small (omega arith) le; memory = cells_are; object = object_is_bytes object ob }
   where
     cells_are : (r : Region) → AreBytes (cells (opening caps input) r)
     cells_are Input = bytes_append input _ bytes (bytes_zeros _)

@@ -3,18 +3,20 @@ use Rattle.std.proofs.Common.{◌≡◌, ◌≢◌, ℕ, zero, suc, ◌+◌, ◌
 use Rattle.std.specs.Prelude.{slice_get, slice_set, replicate, ◌==◌}
 use Rattle.std.proofs.lemmas.Bool.{cases_eq, cases_lt, eq-eqb, ne_eqb, cond-true, cond-false}
 use Rattle.std.proofs.lemmas.List.{length-set, length-replicate}
-use Rattle.std.proofs.lemmas.Option.{none-some}
+use Rattle.std.proofs.lemmas.Option.{none-some, same_Some}
 use Rattle.bpf_decode.specs.declared.insn.Insn.{Insn}
+use Rattle.bpf_decode.specs.Instruction.{slot_count}
 use Rattle.bpf_machine.specs.declared.caps.Caps.{Caps}
 use Rattle.bpf_machine.specs.State.{◌>>=◌}
 use Rattle.bpf_machine.specs.Typed.{fetch}
 use Rattle.verifier.specs.declared.rule.Rule.{Rule}
-use Rattle.verifier.specs.declared.frame.Frame.{Frame}
+use Rattle.abstract_regs.specs.Frame.{PlainFrame}
+use Rattle.abstract_regs.specs.Flow.{flow}
 use Rattle.verifier.specs.declared.pass.Pass.{Pass}
-use Rattle.verifier.specs.Frame.{entry_frame, flow}
+use Rattle.verifier.specs.Frame.{entry}
 use Rattle.verifier.specs.Rules.{rule_at}
 use Rattle.verifier.specs.Verdict.{Table, frame_at, joined, met, along, unless_refused, flow_from, start, incoming, frames, whole_table, IsTable, or_else, first_refused}
-use Rattle.verifier.specs.Pass.{merged, fallen, awaited, flown, HasLeft, IsSpaced}
+use Rattle.verifier.specs.Pass.{merged, fallen, awaited, flown, HasLeft, IsSpaced, IsSound}
 
 get_left : {A : Type 0} (xs ys : List A) (p : ℕ) → p < length xs → slice_get (xs ++ ys) p ≡ slice_get xs p
 get_left [] ys p h = absurd (omega arith)
@@ -46,6 +48,23 @@ drop_head (y ∷ xs) (suc p) x h =
     let r = drop_head xs p x h in
     let e : suc (p + 1) ≡ suc p + 1 = omega arith in
     r ∙ ap (λ n. x ∷ drop n (y ∷ xs)) e
+
+merged_is : (table : Table) (a q : ℕ) (g : PlainFrame) → q < length table → frame_at (merged table a g) q ≡ met a g q (frame_at table q)
+merged_is table a q g lt = ⊎_elim
+    (λ e. subst (λ n. frame_at (merged table n g) q ≡ met n g q (frame_at table q)) (sym e)
+    (ap (λ o. o >>= λ f. f) (get_same table q (Some (joined (frame_at table q) g)) lt) ∙ sym (cond-true _ _ _ (eq-eqb q q refl))))
+    (λ n. ap (λ o. o >>= λ f. f) (get_other table a q _ n) ∙ sym (cond-false _ _ _ (ne_eqb a q n))) (cases_eq a q)
+
+-- both edges of a jump: one is kept, the other falls through
+pub leaves_both : (frame : Option PlainFrame) (f g h : PlainFrame) (kept kept' : Table) (i : Insn) (p a w : ℕ) → frame ≡ Some f → flow i p f ≡ (a, h) ∷ (p + slot_count i, g) ∷ [] → w ≡ slot_count i → kept' ≡ merged kept a h → HasLeft frame kept i p (record { current = Some g; landing = p + w; kept = kept' })
+leaves_both frame f g h kept kept' i p a w is flows width merges = record {
+  landing = ap (λ n. p + n) width;
+  size = ap length merges ∙ length-set kept a _;
+  flows = λ q lt.
+      ap (λ n. met (p + n) g q (frame_at kept' q)) width
+      ∙ ap (met (p + slot_count i) g q) (ap (λ t. frame_at t q) merges ∙ merged_is kept a q h lt)
+      ∙ sym (ap (λ o. flown o i p q (frame_at kept q)) is ∙ ap (λ edges. along edges q (frame_at kept q)) flows);
+}
 
 module _ (caps : Caps) (code : List (Option Insn)) where
   -- frames below n alone count
@@ -107,19 +126,19 @@ module _ (caps : Caps) (code : List (Option Insn)) where
   blank (suc n) zero = refl
   blank (suc n) (suc q) = blank n q
 
-  begins : (q : ℕ) → met 0 (entry_frame caps) q None ≡ start caps q
+  begins : (q : ℕ) → met 0 (entry caps) q None ≡ start caps q
   begins zero = refl
-  begins (suc q) = cond-false (0 == suc q) (Some (entry_frame caps)) None (ne_eqb 0 (suc q) (λ e. absurd (omega (arith, e))))
+  begins (suc q) = cond-false (0 == suc q) (Some (entry caps)) None (ne_eqb 0 (suc q) (λ e. absurd (omega (arith, e))))
 
-  pub brought_first : (pass : Pass) → pass.kept ≡ replicate (length code) None → pass.current ≡ Some (entry_frame caps) → pass.landing ≡ 0 → Brought 0 pass
+  pub brought_first : (pass : Pass) → pass.kept ≡ replicate (length code) None → pass.current ≡ Some (entry caps) → pass.landing ≡ 0 → Brought 0 pass
   brought_first pass kept current landing =
       let none : Table = replicate (length code) None in
       record {
         size = ap length kept ∙ length-replicate (length code) None;
         at = λ q le lt.
             ap (λ o. fallen o pass.landing q (frame_at pass.kept q)) current
-            ∙ ap (λ n. met n (entry_frame caps) q (frame_at pass.kept q)) landing
-            ∙ ap (met 0 (entry_frame caps) q) (ap (λ t. frame_at t q) kept ∙ blank (length code) q)
+            ∙ ap (λ n. met n (entry caps) q (frame_at pass.kept q)) landing
+            ∙ ap (met 0 (entry caps) q) (ap (λ t. frame_at t q) kept ∙ blank (length code) q)
             ∙ begins q;
         gap = λ q le lt. absurd (omega (arith, landing));
       }
@@ -136,11 +155,11 @@ module _ (caps : Caps) (code : List (Option Insn)) where
         gap = λ q le lt. b.gap q (omega arith) lt;
       })
 
-  elsewhere : (o : Option Frame) (landing q : ℕ) (inflow : Option Frame) → landing ≢ q → fallen o landing q inflow ≡ inflow
+  elsewhere : (o : Option PlainFrame) (landing q : ℕ) (inflow : Option PlainFrame) → landing ≢ q → fallen o landing q inflow ≡ inflow
   elsewhere None landing q inflow n = refl
   elsewhere (Some g) landing q inflow n = cond-false (landing == q) (Some (joined inflow g)) inflow (ne_eqb landing q n)
 
-  flows_on : (p q : ℕ) (i : Insn) (frame inflow : Option Frame) → rule_at caps code p i frame ≡ None → flow_from caps code p q (Some i) frame inflow ≡ flown frame i p q inflow
+  flows_on : (p q : ℕ) (i : Insn) (frame inflow : Option PlainFrame) → rule_at caps code p i frame ≡ None → flow_from caps code p q (Some i) frame inflow ≡ flown frame i p q inflow
   flows_on p q i None inflow none = refl
   flows_on p q i (Some f) inflow none = ap (λ r. unless_refused r (along (flow i p f) q inflow) inflow) none
 
@@ -165,7 +184,7 @@ module _ (caps : Caps) (code : List (Option Insn)) where
         gap = λ q le lt. spaced p q i at (omega arith) (omega (arith, left.landing));
       })
 
-  pub merged_at : (table : Table) (a q : ℕ) (g : Frame) → q < length table → frame_at (merged table a g) q ≡ met a g q (frame_at table q)
+  pub merged_at : (table : Table) (a q : ℕ) (g : PlainFrame) → q < length table → frame_at (merged table a g) q ≡ met a g q (frame_at table q)
   merged_at table a q g lt = ⊎_elim
       (λ e. subst (λ n. frame_at (merged table n g) q ≡ met n g q (frame_at table q)) (sym e)
       (ap (λ o. o >>= λ f. f) (get_same table q (Some (joined (frame_at table q) g)) lt) ∙ sym (cond-true _ _ _ (eq-eqb q q refl))))
@@ -181,3 +200,17 @@ module _ (caps : Caps) (code : List (Option Insn)) where
   refused_at p i pass r lt at b is =
       ap (first_refused caps code (whole_table caps code) p) (drop_head code p (Some i) at)
       ∙ ap (λ r. or_else p r (first_refused caps code (whole_table caps code) (p + 1) (drop (p + 1) code))) (ap (rule_at caps code p i) (sym (its_frame p pass lt b)) ∙ is)
+
+  -- the flows of the slots below p keep what is held
+  abbrev pub SoundBelow : ℕ → Type 0
+  SoundBelow p = (k : ℕ) (i : Insn) → k < p → fetch code k ≡ Some i → IsSound i k (frame_at (whole_table caps code) k)
+
+  pub sound_more : (p : ℕ) (i : Insn) → SoundBelow p → fetch code p ≡ Some i → IsSound i p (frame_at (whole_table caps code) p) → SoundBelow (p + 1)
+  sound_more p i below at here k j lt is = ⊎_elim (λ less. below k j less is)
+      (λ le. let same : p ≡ k = omega arith in
+      let same' : i ≡ j = same_Some i j (sym at ∙ ap (fetch code) same ∙ is) in
+      subst (λ n. IsSound j n (frame_at (whole_table caps code) n)) same (subst (λ j. IsSound j p (frame_at (whole_table caps code) p)) same' here)) (cases_lt k p)
+
+  pub sound_over : (p : ℕ) → SoundBelow p → fetch code p ≡ None → SoundBelow (p + 1)
+  sound_over p below none k j lt is = ⊎_elim (λ less. below k j less is)
+      (λ le. let same : p ≡ k = omega arith in absurd (none-some j (sym none ∙ ap (fetch code) same ∙ is))) (cases_lt k p)

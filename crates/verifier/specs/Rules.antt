@@ -14,10 +14,11 @@ use Rattle.bpf_machine.specs.Typed.{extended, fetch}
 use Rattle.verifier.specs.declared.rule.Rule.{Rule}
 use Rattle.verifier.specs.declared.rule.Rule.TheVariants.{Backward, Target, FallsOff, LocalCall, UnsetRead, WritesR10, PointerArithmetic, PointerCompare, PointerStored, Bounds, ReadOnlyRegion, UnknownHelper, HelperArgument, WriteHelperInReader, ReturnsPointer}
 use Rattle.verifier.specs.declared.fault.Fault.{Fault}
-use Rattle.verifier.specs.declared.frame.Frame.{Frame}
 use Rattle.verifier.specs.declared.fault.Fault.TheVariants.{NotSet, OutOfRegion, ReadOnly, WrongKind}
-use Rattle.verifier.specs.Kind.{is_unset, is_num, is_ptr, alu_refused, mov_refused, access_fits, is_read_only, is_at_most, range_leaves, range_is_read_only}
-use Rattle.verifier.specs.Frame.{kind_at, operand_kind, target}
+use Rattle.abstract_regs.specs.Kind.{is_unset, is_num, is_ptr}
+use Rattle.verifier.specs.Kind.{alu_refused, mov_refused, stays, is_read_only, is_at_most, range_leaves, range_is_read_only}
+use Rattle.abstract_regs.specs.Frame.{PlainFrame, kind_at, operand_kind}
+use Rattle.abstract_regs.specs.Flow.{target}
 
 -- an instruction begins at the slot
 abbrev pub begins_at : List (Option Insn) → ℕ → Bool
@@ -48,7 +49,7 @@ is_local_call (CallLocal distance) = true
 is_local_call i = false
 
 -- A helper's argument that it takes from register k on, and what may be wrong with it.
-abbrev pub has_fault : Caps → Frame → Fault → Argument → ℕ → Bool
+abbrev pub has_fault : Caps → PlainFrame → Fault → Argument → ℕ → Bool
 has_fault caps f NotSet Number k = is_unset (kind_at f k)
 has_fault caps f NotSet OutputLength k = is_unset (kind_at f k)
 has_fault caps f NotSet Readable k = is_unset (kind_at f k) || is_unset (kind_at f (k + 1))
@@ -73,23 +74,23 @@ register_count OutputLength = 1
 register_count Readable = 2
 register_count Writable = 2
 
-abbrev pub some_fault : Caps → Frame → Fault → List Argument → ℕ → Bool
+abbrev pub some_fault : Caps → PlainFrame → Fault → List Argument → ℕ → Bool
 some_fault caps f fault [] k = false
 some_fault caps f fault (a ∷ more) k = has_fault caps f fault a k || some_fault caps f fault more (k + register_count a)
 
-abbrev pub taken_fault : Caps → Frame → Fault → Option Takes → Bool
+abbrev pub taken_fault : Caps → PlainFrame → Fault → Option Takes → Bool
 taken_fault caps f fault None = false
 taken_fault caps f fault (Some takes) = some_fault caps f fault takes.arguments 1
 
 -- an argument of the helper has the fault; an id that is no helper's takes none
-abbrev pub call_fault : Caps → Frame → Fault → ℕ → Bool
+abbrev pub call_fault : Caps → PlainFrame → Fault → ℕ → Bool
 call_fault caps f fault helper = taken_fault caps f fault (signature_of helper)
 
-abbrev pub operand_is_unset : Frame → Operand → Bool
+abbrev pub operand_is_unset : PlainFrame → Operand → Bool
 operand_is_unset f (Immediate imm) = false
 operand_is_unset f (Register r) = is_unset (kind_at f r)
 
-abbrev pub reads_unset : Caps → Frame → Insn → Bool
+abbrev pub reads_unset : Caps → PlainFrame → Insn → Bool
 reads_unset caps f (Alu bits operation dst source) = is_unset (kind_at f dst) || operand_is_unset f source
 reads_unset caps f (Neg bits dst) = is_unset (kind_at f dst)
 reads_unset caps f (Mov bits dst source) = operand_is_unset f source
@@ -118,7 +119,7 @@ writes_r10 (LoadSigned width dst from offset) = dst == 10
 writes_r10 i = false
 
 -- arithmetic on a pointer other than a copy, or a number added to it or subtracted from it, each in 64 bits
-abbrev pub computes_with_pointer : Frame → Insn → Bool
+abbrev pub computes_with_pointer : PlainFrame → Insn → Bool
 computes_with_pointer f (Alu bits operation dst source) = alu_refused bits operation (kind_at f dst) (operand_kind f source)
 computes_with_pointer f (Neg bits dst) = is_ptr (kind_at f dst)
 computes_with_pointer f (Mov bits dst source) = mov_refused bits (operand_kind f source)
@@ -126,23 +127,23 @@ computes_with_pointer f (MovSigned extension dst src) = is_ptr (kind_at f src)
 computes_with_pointer f (End order width dst) = is_ptr (kind_at f dst)
 computes_with_pointer f i = false
 
-abbrev pub compares_pointer : Frame → Insn → Bool
+abbrev pub compares_pointer : PlainFrame → Insn → Bool
 compares_pointer f (Branch bits comparison dst source offset) = is_ptr (kind_at f dst) || is_ptr (operand_kind f source)
 compares_pointer f i = false
 
-abbrev pub stores_pointer : Frame → Insn → Bool
+abbrev pub stores_pointer : PlainFrame → Insn → Bool
 stores_pointer f (Store width to offset (Register src)) = is_ptr (kind_at f src)
 stores_pointer f i = false
 
 -- a load, a store or a helper's range that may leave its region; a load or store through a number
-abbrev pub leaves_region : Caps → Frame → Insn → Bool
-leaves_region caps f (Load width dst from offset) = not (access_fits caps (kind_at f from) (extended offset) (byte_count width))
-leaves_region caps f (LoadSigned width dst from offset) = not (access_fits caps (kind_at f from) (extended offset) (signed_byte_count width))
-leaves_region caps f (Store width to offset source) = not (access_fits caps (kind_at f to) (extended offset) (byte_count width))
+abbrev pub leaves_region : Caps → PlainFrame → Insn → Bool
+leaves_region caps f (Load width dst from offset) = not (stays caps (kind_at f from) (extended offset) (byte_count width))
+leaves_region caps f (LoadSigned width dst from offset) = not (stays caps (kind_at f from) (extended offset) (signed_byte_count width))
+leaves_region caps f (Store width to offset source) = not (stays caps (kind_at f to) (extended offset) (byte_count width))
 leaves_region caps f (Call helper) = call_fault caps f OutOfRegion helper
 leaves_region caps f i = false
 
-abbrev pub writes_read_only : Caps → Frame → Insn → Bool
+abbrev pub writes_read_only : Caps → PlainFrame → Insn → Bool
 writes_read_only caps f (Store width to offset source) = is_read_only (kind_at f to)
 writes_read_only caps f (Call helper) = call_fault caps f ReadOnly helper
 writes_read_only caps f i = false
@@ -151,7 +152,7 @@ abbrev pub calls_unknown : Insn → Bool
 calls_unknown (Call helper) = not (is_some (signature_of helper))
 calls_unknown i = false
 
-abbrev pub passes_wrong_kind : Caps → Frame → Insn → Bool
+abbrev pub passes_wrong_kind : Caps → PlainFrame → Insn → Bool
 passes_wrong_kind caps f (Call helper) = call_fault caps f WrongKind helper
 passes_wrong_kind caps f i = false
 
@@ -164,12 +165,12 @@ abbrev pub writes_in_reader : Caps → Insn → Bool
 writes_in_reader caps (Call helper) = writes_object (signature_of helper) && not caps.writes
 writes_in_reader caps i = false
 
-abbrev pub returns_pointer : Frame → Insn → Bool
+abbrev pub returns_pointer : PlainFrame → Insn → Bool
 returns_pointer f Exit = is_ptr (kind_at f 0)
 returns_pointer f i = false
 
 -- a test of the frame, where there is one
-abbrev pub under : Option Frame → (Frame → Bool) → Bool
+abbrev pub under : Option PlainFrame → (PlainFrame → Bool) → Bool
 under None test = false
 under (Some f) test = test f
 
@@ -182,7 +183,7 @@ breaks_shape code p i LocalCall = is_local_call i
 breaks_shape code p i rule = false
 
 -- and 5 to 15, of what is known before it
-abbrev pub breaks_frame : Caps → Frame → Insn → Rule → Bool
+abbrev pub breaks_frame : Caps → PlainFrame → Insn → Rule → Bool
 breaks_frame caps f i UnsetRead = reads_unset caps f i
 breaks_frame caps f i WritesR10 = writes_r10 i
 breaks_frame caps f i PointerArithmetic = computes_with_pointer f i
@@ -197,7 +198,7 @@ breaks_frame caps f i ReturnsPointer = returns_pointer f i
 breaks_frame caps f i rule = false
 
 -- whether a rule refuses instruction i at slot p, where there is such a frame
-abbrev pub breaks : Caps → List (Option Insn) → ℕ → Insn → Option Frame → Rule → Bool
+abbrev pub breaks : Caps → List (Option Insn) → ℕ → Insn → Option PlainFrame → Rule → Bool
 breaks caps code p i None rule = breaks_shape code p i rule
 breaks caps code p i (Some f) rule = breaks_shape code p i rule || breaks_frame caps f i rule
 
@@ -217,14 +218,14 @@ abbrev pub shape_rule : List (Option Insn) → ℕ → Insn → Option Rule
 shape_rule code p i = first_broken (breaks_shape code p i) shape_rules
 
 -- the lowest rule that refuses it under a frame
-abbrev pub frame_rule : Caps → Frame → Insn → Option Rule
+abbrev pub frame_rule : Caps → PlainFrame → Insn → Option Rule
 frame_rule caps f i = first_broken (breaks_frame caps f i) frame_rules
 
-abbrev pub else_under : Option Rule → Option Frame → (Frame → Option Rule) → Option Rule
+abbrev pub else_under : Option Rule → Option PlainFrame → (PlainFrame → Option Rule) → Option Rule
 else_under (Some rule) frame rule_of = Some rule
 else_under None None rule_of = None
 else_under None (Some f) rule_of = rule_of f
 
 -- the lowest rule that refuses an instruction at a slot
-abbrev pub rule_at : Caps → List (Option Insn) → ℕ → Insn → Option Frame → Option Rule
+abbrev pub rule_at : Caps → List (Option Insn) → ℕ → Insn → Option PlainFrame → Option Rule
 rule_at caps code p i frame = else_under (shape_rule code p i) frame (λ f. frame_rule caps f i)

@@ -10,50 +10,51 @@ use Rattle.bpf_machine.specs.Safe.{caps_of}
 use Rattle.verifier.specs.declared.rule.Rule.{Rule}
 use Rattle.verifier.specs.declared.rule.Rule.TheVariants.{NoMemory}
 use Rattle.verifier.specs.declared.refusal.Refusal.{Refusal}
-use Rattle.verifier.specs.declared.frame.Frame.{Frame}
-use Rattle.verifier.specs.Frame.{join, entry_frame, flow}
+use Rattle.abstract_regs.specs.Frame.{PlainFrame, join}
+use Rattle.abstract_regs.specs.Flow.{flow}
+use Rattle.verifier.specs.Frame.{entry}
 use Rattle.verifier.specs.Rules.{breaks, rule_at}
 
 -- the frames of a method by slot, none where no flow comes
 abbrev pub Table : Type 0
-Table = List (Option Frame)
+Table = List (Option PlainFrame)
 
-abbrev pub frame_at : Table → ℕ → Option Frame
+abbrev pub frame_at : Table → ℕ → Option PlainFrame
 frame_at table p = slice_get table p >>= λ f. f
 
 -- one flow more
-abbrev pub joined : Option Frame → Frame → Frame
+abbrev pub joined : Option PlainFrame → PlainFrame → PlainFrame
 joined None g = g
 joined (Some f) g = join f g
 
 -- what has flowed into slot q, and a frame along an edge to slot a more
-abbrev pub met : ℕ → Frame → ℕ → Option Frame → Option Frame
+abbrev pub met : ℕ → PlainFrame → ℕ → Option PlainFrame → Option PlainFrame
 met a g q inflow = if a == q then Some (joined inflow g) else inflow
 
 -- and the frames along edges more
-abbrev pub along : List (ℕ × Frame) → ℕ → Option Frame → Option Frame
+abbrev pub along : List (ℕ × PlainFrame) → ℕ → Option PlainFrame → Option PlainFrame
 along [] q inflow = inflow
 along (edge ∷ edges) q inflow = along edges q (met edge.0 edge.1 q inflow)
 
 -- a refused slot carries no flow
-abbrev pub unless_refused : Option Rule → Option Frame → Option Frame → Option Frame
+abbrev pub unless_refused : Option Rule → Option PlainFrame → Option PlainFrame → Option PlainFrame
 unless_refused None flown inflow = flown
 unless_refused (Some rule) flown inflow = inflow
 
 -- and the flow from slot p more, of the instruction and the frame there
-abbrev pub flow_from : Caps → List (Option Insn) → ℕ → ℕ → Option Insn → Option Frame → Option Frame → Option Frame
+abbrev pub flow_from : Caps → List (Option Insn) → ℕ → ℕ → Option Insn → Option PlainFrame → Option PlainFrame → Option PlainFrame
 flow_from caps code p q None frame inflow = inflow
 flow_from caps code p q (Some i) None inflow = inflow
 flow_from caps code p q (Some i) (Some f) inflow =
     unless_refused (rule_at caps code p i (Some f)) (along (flow i p f) q inflow) inflow
 
 -- what a method begins with, at slot 0
-abbrev pub start : Caps → ℕ → Option Frame
-start caps zero = Some (entry_frame caps)
+abbrev pub start : Caps → ℕ → Option PlainFrame
+start caps zero = Some (entry caps)
 start caps (suc q) = None
 
 -- the join of all that flows into slot q from the slots below n
-abbrev pub incoming : Caps → List (Option Insn) → Table → ℕ → ℕ → Option Frame
+abbrev pub incoming : Caps → List (Option Insn) → Table → ℕ → ℕ → Option PlainFrame
 incoming caps code table q zero = start caps q
 incoming caps code table q (suc p) = flow_from caps code p q (fetch code p) (frame_at table p) (incoming caps code table q p)
 

@@ -7,7 +7,6 @@ use crate::method::verify_method;
 use crate::refusal::Refusal;
 use crate::verified::VerifiedClass;
 use bpf_decode::ClassImage;
-use bpf_machine::simulation;
 use std::alloc::Global;
 
 /// Accepts a class, each of whose methods then runs to its exit on every object and input, or gives the first refusal:
@@ -26,6 +25,5 @@ pub fn verify(alloc: Global, image: &ClassImage) -> Result<VerifiedClass, Refusa
     for (number, method) in image.methods().iter().enumerate() {
         methods.push(verify_method(alloc, number, method)?)?;
     }
-    simulation();
     Ok(VerifiedClass::new(methods))
 }

@@ -1,7 +1,8 @@
 ghost use Rattle.std.specs.Prelude.{◌≡◌, ◌<◌, ◌+◌, length};
 ghost use Rattle.verifier.specs.Rules.{has_fault, register_count, some_fault, call_fault};
 
-use crate::frame::Frame;
+use crate::kind_rules::{is_at_most, range_is_read_only, range_leaves};
+use abstract_regs::Frame;
 use bpf_machine::{Argument, Caps, signature};
 
 /// What may be wrong with an argument of a helper.
@@ -59,18 +60,18 @@ impl Fault {
             Argument::OutputLength => match self {
                 Fault::NotSet => first.is_unset(),
                 Fault::OutOfRegion | Fault::ReadOnly => false,
-                Fault::WrongKind => !first.is_at_most(caps.out_cap),
+                Fault::WrongKind => !is_at_most(caps.out_cap, first),
             },
             Argument::Readable => match self {
                 Fault::NotSet => first.is_unset() || second.is_unset(),
-                Fault::OutOfRegion => first.range_leaves(caps, second),
+                Fault::OutOfRegion => range_leaves(caps, first, second),
                 Fault::ReadOnly => false,
                 Fault::WrongKind => !first.is_ptr() || !second.is_num(),
             },
             Argument::Writable => match self {
                 Fault::NotSet => first.is_unset() || second.is_unset(),
-                Fault::OutOfRegion => first.range_leaves(caps, second),
-                Fault::ReadOnly => first.range_is_read_only(second),
+                Fault::OutOfRegion => range_leaves(caps, first, second),
+                Fault::ReadOnly => range_is_read_only(first, second),
                 Fault::WrongKind => !first.is_ptr() || !second.is_num(),
             },
         }

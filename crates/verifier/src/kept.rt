@@ -3,7 +3,7 @@ ghost use Rattle.verifier.specs.Verdict.{frame_at, joined};
 ghost use Rattle.verifier.specs.Pass.{merged};
 ghost use Rattle.verifier.specs.Kept.{unbox};
 
-use crate::frame::Frame;
+use abstract_regs::Frame;
 use std::alloc::{AllocError, Global};
 use std::marker::Model;
 
@@ -44,7 +44,7 @@ impl Kept {
             let frame = self.frames[slot].take();
             match frame {
                 None => None,
-                Some(frame) => Some(*frame),
+                Some(frame) => Some(Box::into_inner(frame)),
             }
         } else {
             None
@@ -68,7 +68,7 @@ fn met(alloc: Global, kept: Option<Box<Frame>>, flow: &Frame) -> Result<Box<Fram
     ensures { IfOk result (λ b. b.value ≡ joined (unbox kept) flow.now) }
 {
     match kept {
-        None => Ok(Box::new(alloc, *flow)?),
+        None => Ok(Box::new(alloc, flow.copy())?),
         Some(mut frame) => {
             frame.join(flow);
             Ok(frame)

@@ -6,12 +6,9 @@
 #![tactic(auto)]
 
 mod class;
-mod edges;
 mod fault;
-mod frame;
 mod kept;
-mod kind;
-mod known;
+mod kind_rules;
 mod laws;
 mod method;
 mod op;

@@ -1,15 +1,14 @@
 ghost use Rattle.std.specs.Prelude.{◌≡◌, ◌+◌, ◌<◌, ◌^◌, length, IfOk, Some, None, replicate, slice_set};
 ghost use Rattle.verifier.specs.Rules.{rule_at};
 ghost use Rattle.verifier.specs.Verdict.{code_verdict};
-ghost use Rattle.verifier.specs.Frame.{entry_frame};
-ghost use Rattle.verifier.specs.Pass.{IsSpaced, awaited, HasLeft};
+ghost use Rattle.verifier.specs.Frame.{entry};
+ghost use Rattle.verifier.specs.Pass.{IsSpaced, awaited, HasLeft, IsSound, AllSound};
 
-use crate::edges::Edges;
-use crate::frame::Frame;
 use crate::kept::Kept;
 use crate::rule::Rule;
 use crate::rules::refusing_rule;
-use bpf_decode::{Insn, width};
+use abstract_regs::{Edges, Frame};
+use bpf_decode::{Insn, Region, width};
 use bpf_machine::Caps;
 use std::alloc::{AllocError, Global};
 
@@ -32,7 +31,8 @@ pub fn first_refusal(
 ) -> Result<Option<(usize, Rule)>, AllocError>
     requires small { length code.now < 2 ^ 62 }
     requires spaced { IsSpaced code.now }
-    ensures { IfOk result (λ r. r ≡ code_verdict caps.now code.now) }
+    ensures verdict { IfOk result (λ r. r ≡ code_verdict caps.now code.now) }
+    ensures sound { IfOk result (λ r. r ≡ None → AllSound caps.now code.now) }
 {
     let mut pass = Pass::new(alloc, caps, code.len())?;
     for (slot, begun) in code.iter().enumerate() {
@@ -49,11 +49,11 @@ impl Pass {
     /// Before slot 0, with the frame that a method begins with.
     fn new(alloc: Global, caps: &Caps, slots: usize) -> Result<Pass, AllocError>
         ensures kept { IfOk result (λ p. p.kept ≡ replicate slots None) }
-        ensures current { IfOk result (λ p. p.current ≡ Some (entry_frame caps.now)) }
+        ensures current { IfOk result (λ p. p.current ≡ Some (entry caps.now)) }
         ensures landing { IfOk result (λ p. p.landing ≡ 0) }
     {
         Ok(Pass {
-            current: Some(Frame::entry(caps)),
+            current: Some(Frame::entry(u64::from(caps.in_cap), caps.size(Region::Stack) as u64)),
             landing: 0,
             kept: Kept::new(alloc, slots)?,
         })
@@ -71,6 +71,7 @@ impl Pass {
         requires { slot < 2 ^ 62 }
         ensures rule { IfOk result (λ r. r ≡ rule_at caps.now code.now slot insn.now (awaited self.old slot)) }
         ensures left { IfOk result (λ r. (r ≡ None) → HasLeft (awaited self.old slot) (slice_set self.old.kept slot None) insn.now slot self.new) }
+        ensures sound { IfOk result (λ r. (r ≡ None) → IsSound insn.now slot (awaited self.old slot)) }
     {
         self.arrive(slot);
         let refused = refusing_rule(caps, code, slot, insn, &self.current);
@@ -99,7 +100,8 @@ impl Pass {
     /// Goes on from a slot, whose instruction no rule refuses.
     fn leave(&mut self, alloc: Global, slot: usize, insn: &Insn) -> Result<(), AllocError>
         requires { slot < 2 ^ 62 }
-        ensures { IfOk result (λ _. HasLeft self.old.current self.old.kept insn.now slot self.new) }
+        ensures left { IfOk result (λ _. HasLeft self.old.current self.old.kept insn.now slot self.new) }
+        ensures sound { IfOk result (λ _. IsSound insn.now slot self.old.current) }
     {
         self.landing = slot + width(insn);
         if let Some(frame) = &mut self.current {
@@ -110,7 +112,7 @@ impl Pass {
                     self.kept.keep(alloc, target, frame)?;
                     self.current = None;
                 }
-                Edges::Branches(target) => self.kept.keep(alloc, target, frame)?,
+                Edges::Branches(target, taken) => self.kept.keep(alloc, target, &taken)?,
             }
         }
         Ok(())

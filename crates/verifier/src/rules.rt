@@ -1,15 +1,16 @@
-ghost use Rattle.std.specs.Prelude.{◌≡◌, ◌<◌, ◌≤◌, ◌^◌, length};
+ghost use Rattle.std.specs.Prelude.{◌≡◌, ◌<◌, ◌^◌, length};
 ghost use Rattle.verifier.specs.Rules.{begins_at, is_backward, misses, falls_off, is_local_call, reads_unset, writes_r10, computes_with_pointer, compares_pointer, stores_pointer, leaves_region, writes_read_only, calls_unknown, passes_wrong_kind, writes_in_reader, returns_pointer, operand_is_unset, rule_at, shape_rule, frame_rule};
-ghost use Rattle.verifier.specs.Kind.{is_unset, is_ptr, access_fits};
-ghost use Rattle.verifier.specs.Frame.{kind_at};
+ghost use Rattle.abstract_regs.specs.Kind.{is_unset, is_ptr};
+ghost use Rattle.abstract_regs.specs.Frame.{kind_at};
+ghost use Rattle.verifier.specs.Kind.{stays};
 ghost use Rattle.bpf_machine.specs.Typed.{extended};
 
 use crate::fault::Fault;
-use crate::frame::Frame;
-use crate::kind::Kind;
+use crate::kind_rules;
 use crate::rule::Rule;
-use bpf_decode::{Insn, Operand, Register, width};
-use bpf_machine::{Caps, jump_target, signature};
+use abstract_regs::Frame;
+use bpf_decode::{Insn, Operand, Register, jump_target, width};
+use bpf_machine::{Caps, signature};
 
 /// The lowest rule that refuses the instruction at a slot; rules 5 to 15 under a frame alone.
 pub fn refusing_rule(
@@ -201,10 +202,10 @@ fn computes_with_pointer(frame: &Frame, insn: &Insn) -> bool
             source,
         } => {
             let x = frame.kind(usize::from(dst.number()));
-            Kind::is_alu_refused(bits, operation, x, frame.operand(source))
+            kind_rules::is_alu_refused(bits, operation, x, frame.operand(source))
         }
         Insn::Neg { dst, .. } | Insn::End { dst, .. } => is_ptr(frame, dst),
-        Insn::Mov { bits, source, .. } => frame.operand(source).is_mov_refused(bits),
+        Insn::Mov { bits, source, .. } => kind_rules::is_mov_refused(bits, frame.operand(source)),
         Insn::MovSigned { src, .. } => is_ptr(frame, src),
         _ => false,
     }
@@ -249,32 +250,34 @@ fn leaves_region(caps: &Caps, frame: &Frame, insn: &Insn) -> bool
             base,
             offset,
             ..
-        } => !access_fits(caps, frame, base, offset, width.bytes()),
+        } => !stays(caps, frame, base, offset, width.bytes()),
         Insn::LoadSigned {
             width,
             base,
             offset,
             ..
-        } => !access_fits(caps, frame, base, offset, width.bytes()),
+        } => !stays(caps, frame, base, offset, width.bytes()),
         Insn::Store {
             width,
             base,
             offset,
             ..
-        } => !access_fits(caps, frame, base, offset, width.bytes()),
+        } => !stays(caps, frame, base, offset, width.bytes()),
         Insn::Call { helper } => Fault::OutOfRegion.is_in_call(caps, frame, helper),
         _ => false,
     }
 }
 
-fn access_fits(caps: &Caps, frame: &Frame, base: Register, offset: i16, bytes: usize) -> bool
-    requires { bytes ≤ 8 }
-    ensures { result ≡ access_fits caps.now (kind_at frame.now base) (extended offset) bytes }
+fn stays(caps: &Caps, frame: &Frame, base: Register, offset: i16, bytes: usize) -> bool
+    ensures { result ≡ stays caps.now (kind_at frame.now base) (extended offset) bytes }
 {
     let distance = i64::from(offset).cast_unsigned();
-    frame
-        .kind(usize::from(base.number()))
-        .access_fits(caps, distance, bytes)
+    kind_rules::stays(
+        caps,
+        frame.kind(usize::from(base.number())),
+        distance,
+        bytes,
+    )
 }
 
 /// It writes into the region that is read only.
@@ -282,7 +285,9 @@ fn writes_read_only(caps: &Caps, frame: &Frame, insn: &Insn) -> bool
     ensures { result ≡ writes_read_only caps.now frame.now insn.now }
 {
     match *insn {
-        Insn::Store { base, .. } => frame.kind(usize::from(base.number())).is_read_only(),
+        Insn::Store { base, .. } => kind_rules::is_read_only(frame.kind(usize::from(
+            base.number(),
+        ))),
         Insn::Call { helper } => Fault::ReadOnly.is_in_call(caps, frame, helper),
         _ => false,
     }

@@ -3,6 +3,7 @@ mod branches;
 mod classes;
 mod longest;
 mod methods;
+mod ranges;
 
 use crate::{Refusal, verify};
 use bpf_decode::{ClassImage, Method, decode};
@@ -86,5 +87,11 @@ fn judges_arithmetic(rt: HostRuntime) -> Result<(), Fail> {
 #[test]
 fn judges_branches(rt: HostRuntime) -> Result<(), Fail> {
     assert_eq!(rt; check(&rt, rt.alloc(), branches::BRANCHES)?, 23);
+    Ok(())
+}
+
+#[test]
+fn judges_ranges(rt: HostRuntime) -> Result<(), Fail> {
+    assert_eq!(rt; check(&rt, rt.alloc(), ranges::RANGES)?, 50);
     Ok(())
 }

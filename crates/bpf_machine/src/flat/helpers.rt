@@ -12,7 +12,7 @@ use crate::flat::memory::{Regions, put_room, range, region_bytes};
 use crate::flat::state::{FlatState, answer, get};
 use crate::layout::Layout;
 use crate::limits::OBJECT_LIMIT;
-use crate::region::Region;
+use bpf_decode::Region;
 use std::alloc::{AllocError, Global};
 
 /// The bytes from a place on that there are, at most n.

@@ -8,9 +8,8 @@ ghost use Rattle.bpf_machine.specs.inner.FlatState.{memory_of, flat_state, Gives
 use crate::caps::Caps;
 use crate::flat::state::{FlatState, set};
 use crate::layout::Layout;
-use crate::region::Region;
-use bpf_decode::SignedWidth;
 use bpf_decode::arithmetic::sign_extended_load;
+use bpf_decode::{Region, SignedWidth};
 
 /// The regions' bytes.
 #[derive(Drop)]

@@ -1,5 +1,5 @@
 use Rattle.std.proofs.Common.{arith}
-use Rattle.bpf_machine.specs.declared.region.Region.TheVariants.{Stack}
+use Rattle.bpf_decode.specs.declared.region.Region.TheVariants.{Stack}
 use Rattle.bpf_machine.proofs.flat.enter.Goals as goal
 
 pub overflow_add-result : goal.overflow_add-result

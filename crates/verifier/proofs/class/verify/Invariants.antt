@@ -1,9 +1,12 @@
 use Rattle.std.proofs.Common.{◌≡◌, take, drop}
+use Rattle.std.specs.List.{AllByRecursion}
+use Rattle.bpf_machine.specs.Safe.{IsSafe}
 use Rattle.verifier.specs.Verdict.{verdict_from, class_verdict}
 use Rattle.verifier.proofs.class.verify.Given as goal
 
 abbrev pub invariant-loop-number : goal.invariant-loop-number
 invariant-loop-number l = record {
+  safe : AllByRecursion IsSafe (take l.number l.fn.image);
   sofar : l.methods.items ≡ take l.number l.fn.image;
   rest : verdict_from l.number (drop l.number l.fn.image) ≡ class_verdict l.fn.image;
 }

@@ -1,8 +1,10 @@
 use Rattle.std.proofs.Common.{◌≡◌, ◌+◌, ◌<◌, Some, None, refl, ap, ◌∙◌, sym, subst, arith, length}
 use Rattle.std.specs.Prelude.{slice_get}
-use Rattle.std.proofs.lemmas.Option.{slice_get_read}
+use Rattle.std.proofs.lemmas.Option.{none-some, slice_get_read, slice_get_within}
+use Rattle.verifier.specs.Pass.{IsSound}
 use Rattle.bpf_machine.specs.State.{◌>>=◌}
-use Rattle.verifier.proofs.Tables.{Brought, refused_at, refused_over, brought_more, brought_over}
+use Rattle.verifier.proofs.Runs.{inner}
+use Rattle.verifier.proofs.Tables.{Brought, refused_at, refused_over, brought_more, brought_over, its_frame, sound_more, sound_over}
 use Rattle.verifier.proofs.pass.first_refusal.Goals.{in-Some+in_ok-rule+in_default-2, in_default}
 use Rattle.verifier.proofs.pass.first_refusal.Goals as goal
 
@@ -15,7 +17,10 @@ returns-in-Some-2 c =
     let lt : slot < length code = omega arith in
     let at : slice_get code slot ≡ Some (Some c.in-Some.insn) = slice_get_read code (length code) slot _ refl lt c.index-code-slot.is ∙ ap Some c.in-Some.is in
     let rule = sym c.in_ok-rule.ensures.rule ∙ c.in-Some-2.is in
-    sym (refused_at caps code slot c.in-Some.insn pass (Some c.in-Some-2.rule) lt at c.loop-slot.invariant.brought rule) ∙ c.loop-slot.invariant.rest
+    record {
+      verdict = sym (refused_at caps code slot c.in-Some.insn pass (Some c.in-Some-2.rule) lt at c.loop-slot.invariant.brought rule) ∙ c.loop-slot.invariant.rest;
+      sound = λ none. absurd (none-some _ (sym none));
+    }
 
 pub loop-slot-preserved : goal.loop-slot-preserved
 loop-slot-preserved c = elim c.match-begun.branch [
@@ -29,7 +34,10 @@ loop-slot-preserved c = elim c.match-begun.branch [
       let rule = sym w.in_ok-rule.ensures.rule ∙ w.in_default-2.is in
       let fetched = ap (λ o. o >>= λ i. i) at in
       let left = w.in_ok-rule.ensures.left w.in_default-2.is in
+      let its = its_frame caps code slot pass lt c.loop-slot.invariant.brought in
+      let sound = subst (IsSound w.in-Some.insn slot) its (w.in_ok-rule.ensures.sound w.in_default-2.is) in
       record {
+        sound = sound_more caps code slot w.in-Some.insn c.loop-slot.invariant.sound fetched sound;
         rest = sym (refused_at caps code slot w.in-Some.insn pass None lt at c.loop-slot.invariant.brought rule) ∙ c.loop-slot.invariant.rest;
         brought = subst (Brought caps code (slot + 1)) (sym w.pass-is) (brought_more caps code slot w.in-Some.insn pass _ c.requires.spaced lt fetched rule left c.loop-slot.invariant.brought);
       }
@@ -41,7 +49,12 @@ loop-slot-preserved c = elim c.match-begun.branch [
       let lt : slot < length code = omega arith in
       let at : slice_get code slot ≡ Some None = slice_get_read code (length code) slot _ refl lt c.index-code-slot.is ∙ ap Some w.in_default.is in
       record {
+        sound = sound_over caps code slot c.loop-slot.invariant.sound (ap (λ o. o >>= λ i. i) at);
         rest = sym (refused_over caps code slot at) ∙ c.loop-slot.invariant.rest;
         brought = subst (Brought caps code (slot + 1)) (sym w.pass-is) (brought_over caps code slot pass (ap (λ o. o >>= λ i. i) at) c.loop-slot.invariant.brought);
       }
 ]
+
+pub returns-clause-sound : goal.returns-clause-sound
+returns-clause-sound c = λ none p i at.
+    c.loop-slot.invariant.sound p i (omega (arith, slice_get_within c.args.code.now p (Some i) (inner _ _ at))) at

@@ -15,7 +15,7 @@ returns-after-frame-clause-taken c =
     ∙ ap unbox (sym (c.take-frame.ensures.value ∙ c.index_mut.ensures.value)) in
     elim c.match-frame.branch [
       | in-None w ↦ w.result-is ∙ sym (is ∙ ap unbox w.in-None.is)
-      | in-Some w ↦ w.result-is ∙ ap Some w.deref.ensures ∙ sym (is ∙ ap unbox w.in-Some.is)
+      | in-Some w ↦ w.result-is ∙ ap Some w.into_inner.ensures ∙ sym (is ∙ ap unbox w.in-Some.is)
     ]
 
 pub returns-after-frame-clause-left : goal.returns-after-frame-clause-left

@@ -1,0 +1,86 @@
+-- The laws of the tables: what the machine computes of held numbers is held by what they give.
+use Rattle.std.specs.Prelude.{◌≡◌, ℕ, ◌^◌, ◌<◌, ◌≤◌, Bool, Option, IsSomeAnd}
+use Rattle.bpf_decode.specs.Arithmetic.{alu_value, neg_value, mov_value, signed_move_value, end_value, is_taken, signed_load_value}
+use Rattle.bpf_decode.specs.Instruction.{byte_count, signed_byte_count}
+use Rattle.bpf_decode.specs.declared.operation.Bits.{Bits}
+use Rattle.bpf_decode.specs.declared.operation.Arithmetic.{Arithmetic}
+use Rattle.bpf_decode.specs.declared.operation.Arithmetic.TheVariants.{Sub}
+use Rattle.bpf_decode.specs.declared.operation.SignedMove.{SignedMove}
+use Rattle.bpf_decode.specs.declared.operation.ByteOrder.{ByteOrder}
+use Rattle.bpf_decode.specs.declared.operation.EndWidth.{EndWidth}
+use Rattle.bpf_decode.specs.declared.operation.Comparison.{Comparison}
+use Rattle.bpf_decode.specs.declared.access.Width.{Width}
+use Rattle.bpf_decode.specs.declared.access.SignedWidth.{SignedWidth}
+use Rattle.abstract_num.specs.Plain.{Plain, Number, Holds, any, constant, join, view}
+use Rattle.abstract_num.specs.Tighten.{tighten}
+use Rattle.abstract_num.specs.Transfer.{transferred, copied, sign_extended, ordered, ranged, signed_ranged, load_high, signed_low, signed_high}
+use Rattle.abstract_num.specs.Edges.{along}
+
+-- its numbers are below 2 ^ 64
+pub record Fits (x : Plain) : Type 0 where
+  pub high : x.high < 2 ^ 64
+  pub unknown : x.unknown < 2 ^ 64
+
+-- n is one of what is left
+abbrev pub HeldIn : Option Plain → ℕ → Type 0
+HeldIn o n = IsSomeAnd o (λ z. Holds z n)
+
+-- m and n are a pair of what is left
+abbrev pub HeldInBoth : Option (Plain × Plain) → ℕ → ℕ → Type 0
+HeldInBoth o m n = IsSomeAnd o (λ s. Holds s.0 m × Holds s.1 n)
+
+abbrev pub NumbersFit : Type 0
+NumbersFit = (x : Number) → Fits (view x)
+
+abbrev pub ConstantsFit : Type 0
+ConstantsFit = (n : ℕ) → n < 2 ^ 64 → Fits (constant n)
+
+abbrev pub AnyHolds : Type 0
+AnyHolds = (n : ℕ) → n < 2 ^ 64 → Holds any n
+
+abbrev pub ConstantHolds : Type 0
+ConstantHolds = (n : ℕ) → n < 2 ^ 64 → Holds (constant n) n
+
+abbrev pub ArithmeticKeeps : Type 0
+ArithmeticKeeps =
+    (bits : Bits) (operation : Arithmetic) (x y : Plain) → Fits x → Fits y → (m n : ℕ) → Holds x m → Holds y n →
+    HeldIn (transferred bits operation x y) (alu_value bits operation m n)
+
+abbrev pub NegativeKeeps : Type 0
+NegativeKeeps = (bits : Bits) (x : Plain) → Fits x → (n : ℕ) → Holds x n → HeldIn (transferred bits Sub (constant 0) x) (neg_value bits n)
+
+abbrev pub CopyKeeps : Type 0
+CopyKeeps = (bits : Bits) (x : Plain) (n : ℕ) → Holds x n → HeldIn (copied bits x) (mov_value bits n)
+
+abbrev pub ExtensionKeeps : Type 0
+ExtensionKeeps = (extension : SignedMove) (x : Plain) (n : ℕ) → Holds x n → HeldIn (sign_extended extension x) (signed_move_value extension n)
+
+abbrev pub OrderKeeps : Type 0
+OrderKeeps = (order : ByteOrder) (width : EndWidth) (x : Plain) (n : ℕ) → Holds x n → HeldIn (ordered order width x) (end_value order width n)
+
+abbrev pub RangeKeeps : Type 0
+RangeKeeps = (low high n : ℕ) → n < 2 ^ 64 → low ≤ n → n ≤ high → HeldIn (tighten (ranged low high)) n
+
+abbrev pub LoadKeeps : Type 0
+LoadKeeps = (width : Width) (n : ℕ) → n < 256 ^ byte_count width → HeldIn (tighten (ranged 0 (load_high width))) n
+
+abbrev pub SignedLoadKeeps : Type 0
+SignedLoadKeeps =
+    (width : SignedWidth) (n : ℕ) → n < 256 ^ signed_byte_count width →
+    HeldIn (tighten (signed_ranged (signed_low width) (signed_high width))) (signed_load_value width n)
+
+abbrev pub TightenKeeps : Type 0
+TightenKeeps = (x : Plain) (n : ℕ) → Holds x n → HeldIn (tighten x) n
+
+abbrev pub EdgeKeeps : Type 0
+EdgeKeeps =
+    (bits : Bits) (comparison : Comparison) (taken : Bool) (x y : Plain) (m n : ℕ) → Holds x m → Holds y n → is_taken bits comparison m n ≡ taken →
+    HeldInBoth (along bits comparison taken x y) m n
+
+-- what either of two numbers holds, their join holds
+pub record IsUpper (x y : Plain) : Type 0 where
+  pub left : (n : ℕ) → Holds x n → Holds (join x y) n
+  pub right : (n : ℕ) → Holds y n → Holds (join x y) n
+
+abbrev pub JoinKeeps : Type 0
+JoinKeeps = (x y : Plain) → IsUpper x y

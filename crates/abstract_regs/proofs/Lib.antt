@@ -1,0 +1,3 @@
+mod Joins
+mod Keeping
+mod Places

@@ -1,0 +1,32 @@
+-- The entry frame, and accesses that fit.
+use Rattle.std.proofs.Common.{◌≡◌, ℕ, ◌+◌, ◌%◌, ◌^◌, ◌<◌, ◌≤◌, Option, Some, None, true, refl, arith}
+use Rattle.std.proofs.lemmas.Bool.{leb-true}
+use Rattle.bpf_decode.specs.declared.operation.Bits.TheVariants.{Bits64}
+use Rattle.bpf_decode.specs.declared.operation.Arithmetic.TheVariants.{Add}
+use Rattle.bpf_decode.specs.declared.value.Value.TheVariants as values
+use Rattle.abstract_num.specs.Plain.{Plain, Holds, constant}
+use Rattle.abstract_num.specs.Tighten.{tighten}
+use Rattle.abstract_num.specs.Transfer.{ranged}
+use Rattle.abstract_num.specs.Keeping.{HeldIn, ConstantsFit, ConstantHolds, ArithmeticKeeps, RangeKeeps}
+use Rattle.abstract_regs.specs.Kind.{HoldsKind, places_fit, last_place}
+use Rattle.abstract_regs.specs.Frame.{number_kind}
+use Rattle.abstract_regs.specs.Laws.{EntryHolds, AccessesFit}
+
+number_held : (o : Option Plain) (n : ℕ) → HeldIn o n → HoldsKind (number_kind o) (Some (values.Num n))
+number_held None n h = tt
+number_held (Some k) n h = h
+
+pub entry_holds : ConstantHolds → RangeKeeps → EntryHolds
+entry_holds constants ranges in_cap stack n p q le =
+    let zero_held = constants 0 (omega arith) in
+    let few = number_held (tighten (ranged 0 in_cap)) n (ranges 0 in_cap n (omega arith) (omega arith) le) in
+    (tt, ((refl, zero_held), (few, ((refl, zero_held), (tt, (tt, (tt, (tt, (tt, (tt, ((refl, constants stack q), tt)))))))))))
+
+fits_at : (o : Option Plain) (at w size : ℕ) → HeldIn o at → places_fit o w size ≡ true → at + w ≤ size
+fits_at None at w size h e = absurd h
+fits_at (Some place) at w size h e = let le = leb-true (place.high + w) size e in omega (arith, le, h.below)
+
+pub accesses_fit : ConstantHolds → ConstantsFit → ArithmeticKeeps → AccessesFit
+accesses_fit constants fit sums k f distance w size small e at h =
+    fits_at (last_place k distance) ((at + distance) % 2 ^ 64) w size
+    (sums Bits64 Add k (constant distance) f (fit distance small) at distance h (constants distance small)) e

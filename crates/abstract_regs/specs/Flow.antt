@@ -1,0 +1,63 @@
+-- The flow: where an instruction that no rule refuses goes on, and the frame along each edge.
+use Rattle.std.specs.Prelude.{ℕ, ℤ, ◌+◌, List, [], ◌∷◌, ◌++◌, Option, Some, None, Bool, true, false, ◌==◌}
+use Rattle.std.specs.Option.{option_map}
+use Rattle.bpf_decode.specs.declared.insn.Operand.{Operand}
+use Rattle.bpf_decode.specs.declared.insn.Operand.TheVariants.{Immediate, Register}
+use Rattle.bpf_decode.specs.declared.insn.Insn.{Insn}
+use Rattle.bpf_decode.specs.declared.insn.Insn.TheVariants.{Alu, Neg, Mov, MovSigned, End, LoadWide, Load, LoadSigned, Store, Jump, JumpLong, Branch, Call, CallLocal, Exit}
+use Rattle.bpf_decode.specs.declared.operation.Bits.{Bits}
+use Rattle.bpf_decode.specs.declared.operation.Comparison.{Comparison}
+use Rattle.bpf_decode.specs.Jump.{jump_target}
+use Rattle.bpf_decode.specs.Values.{extended}
+use Rattle.abstract_num.specs.Plain.{constant}
+use Rattle.abstract_num.specs.Tighten.{tighten}
+use Rattle.abstract_num.specs.Transfer.{ranged, signed_ranged, load_high, signed_low, signed_high}
+use Rattle.abstract_regs.specs.Kind.{PlainKind, Unset, Num, Ptr, alu_kind, neg_kind, mov_kind, signed_move_kind, end_kind, along_kinds}
+use Rattle.abstract_regs.specs.Frame.{PlainFrame, kind_at, with_kind, after_call, operand_kind, compared_kind}
+
+-- where a jump at slot p goes: its distance counts from the slot after it (RFC 9669 section 4.3)
+abbrev pub target : ℕ → ℤ → ℕ
+target p distance = jump_target p (extended distance)
+
+-- an edge to a slot; a dead one, where no value is left, is none
+abbrev pub edge_to : ℕ → Option PlainFrame → List (ℕ × PlainFrame)
+edge_to q None = []
+edge_to q (Some f) = (q, f) ∷ []
+
+-- what an instruction computes, in its destination
+abbrev pub computed : ℕ → PlainFrame → ℕ → Option PlainKind → List (ℕ × PlainFrame)
+computed q f dst x = edge_to q (option_map (with_kind f dst) x)
+
+abbrev pub same_register : ℕ → Operand → Bool
+same_register dst (Immediate imm) = false
+same_register dst (Register r) = dst == r
+
+abbrev pub with_operand : PlainFrame → Operand → PlainKind → PlainFrame
+with_operand f (Immediate imm) y = f
+with_operand f (Register r) y = with_kind f r y
+
+abbrev pub with_both : PlainFrame → ℕ → Operand → PlainKind × PlainKind → PlainFrame
+with_both f dst source s = with_operand (with_kind f dst s.0) source s.1
+
+-- the frame along the edge of a comparison where it holds, or where it doesn't
+abbrev pub along_edge : Bits → Comparison → Bool → ℕ → Operand → PlainFrame → Option PlainFrame
+along_edge bits comparison taken dst source f =
+    option_map (with_both f dst source) (along_kinds bits comparison taken (same_register dst source) (kind_at f dst) (compared_kind bits f source))
+
+abbrev pub flow : Insn → ℕ → PlainFrame → List (ℕ × PlainFrame)
+flow (Alu bits operation dst source) p f = computed (p + 1) f dst (alu_kind bits operation (kind_at f dst) (operand_kind f source))
+flow (Neg bits dst) p f = computed (p + 1) f dst (neg_kind bits (kind_at f dst))
+flow (Mov bits dst source) p f = computed (p + 1) f dst (mov_kind bits (operand_kind f source))
+flow (MovSigned extension dst src) p f = computed (p + 1) f dst (signed_move_kind extension (kind_at f src))
+flow (End order width dst) p f = computed (p + 1) f dst (end_kind order width (kind_at f dst))
+flow (LoadWide dst value) p f = computed (p + 2) f dst (Some (Num (constant value)))
+flow (Load width dst base offset) p f = computed (p + 1) f dst (option_map Num (tighten (ranged 0 (load_high width))))
+flow (LoadSigned width dst base offset) p f = computed (p + 1) f dst (option_map Num (tighten (signed_ranged (signed_low width) (signed_high width))))
+flow (Store width base offset source) p f = (p + 1, f) ∷ []
+flow (Jump offset) p f = (target p offset, f) ∷ []
+flow (JumpLong distance) p f = (target p distance, f) ∷ []
+flow (Branch bits comparison dst source offset) p f =
+    edge_to (target p offset) (along_edge bits comparison true dst source f) ++ edge_to (p + 1) (along_edge bits comparison false dst source f)
+flow (Call helper) p f = (p + 1, after_call f) ∷ []
+flow (CallLocal distance) p f = []
+flow Exit p f = []

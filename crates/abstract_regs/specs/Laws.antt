@@ -1,0 +1,63 @@
+-- The laws of the join of frames, and that a join holds what either part holds.
+use Rattle.std.specs.Prelude.{◌≡◌, ℕ, ◌+◌, ◌%◌, ◌^◌, ◌<◌, ◌≤◌, List, [], ◌∷◌, Option, Some, None, true, length}
+use Rattle.abstract_num.specs.Plain.{Plain, Holds, Below}
+use Rattle.abstract_num.specs.Keeping.{Fits}
+use Rattle.bpf_decode.specs.declared.region.Region.TheVariants.{Input, Output, Stack}
+use Rattle.bpf_decode.specs.declared.value.Value.TheVariants as values
+use Rattle.bpf_decode.specs.declared.value.Value.{Value}
+use Rattle.abstract_regs.specs.declared.kind.Kind.{Kind}
+use Rattle.abstract_regs.specs.Kind.{PlainKind, Unset, Num, Ptr, access_fits}
+use Rattle.abstract_regs.specs.Frame.{PlainFrame, join_each, join, entry_frame, HoldsEach}
+use Rattle.abstract_regs.specs.Seen.{seen_each}
+
+-- the order: what a kind holds, each greater one holds
+abbrev pub BelowKind : PlainKind → PlainKind → Type 0
+BelowKind x Unset = Unit {0}
+BelowKind Unset (Num l) = ⊥
+BelowKind (Num k) (Num l) = Below k l
+BelowKind (Ptr r k) (Num l) = ⊥
+BelowKind Unset (Ptr q l) = ⊥
+BelowKind (Num k) (Ptr q l) = ⊥
+BelowKind (Ptr r k) (Ptr q l) = (r ≡ q) × Below k l
+
+-- a list that is shorter stands for one that goes on with Unset
+abbrev pub BelowEach : List PlainKind → List PlainKind → Type 0
+BelowEach xs [] = Unit {0}
+BelowEach [] (y ∷ ys) = ⊥
+BelowEach (x ∷ xs) (y ∷ ys) = BelowKind x y × BelowEach xs ys
+
+-- Of the frames of the code: the join is commutative, associative and idempotent, and an upper bound.
+abbrev pub JoinCommutes : Type 0
+JoinCommutes = (xs ys : List Kind) → length xs ≡ length ys → join_each (seen_each xs) (seen_each ys) ≡ join_each (seen_each ys) (seen_each xs)
+
+abbrev pub JoinAssociates : Type 0
+JoinAssociates =
+    (xs ys zs : List Kind) → length xs ≡ length ys → length ys ≡ length zs →
+    join_each (join_each (seen_each xs) (seen_each ys)) (seen_each zs) ≡ join_each (seen_each xs) (join_each (seen_each ys) (seen_each zs))
+
+abbrev pub JoinOfSame : Type 0
+JoinOfSame = (xs : List Kind) → join_each (seen_each xs) (seen_each xs) ≡ seen_each xs
+
+abbrev pub JoinIsAbove : Type 0
+JoinIsAbove = (xs ys : List Kind) → length xs ≡ length ys → BelowEach (seen_each xs) (join_each (seen_each xs) (seen_each ys))
+
+-- What either of two frames holds, their join holds.
+pub record JoinHolds (f g : PlainFrame) : Type 0 where
+  pub left : (cs : List (Option Value)) → HoldsEach f.registers cs → HoldsEach (join f g).registers cs
+  pub right : (cs : List (Option Value)) → HoldsEach g.registers cs → HoldsEach (join f g).registers cs
+
+abbrev pub JoinsHold : Type 0
+JoinsHold = (f g : PlainFrame) → JoinHolds f g
+
+-- What a method begins with, an input of n bytes: the entry frame holds it.
+abbrev pub EntryHolds : Type 0
+EntryHolds =
+    (in_cap stack n : ℕ) → in_cap < 2 ^ 64 → stack < 2 ^ 64 → n ≤ in_cap →
+    HoldsEach (entry_frame in_cap stack).registers
+    (None ∷ Some (values.Ptr Input 0) ∷ Some (values.Num n) ∷ Some (values.Ptr Output 0) ∷ None ∷ None ∷ None ∷ None ∷ None ∷ None ∷ Some (values.Ptr Stack stack) ∷ [])
+
+-- An access that fits by an offset stays within the first so many bytes, at every place that the offset holds.
+abbrev pub AccessesFit : Type 0
+AccessesFit =
+    (k : Plain) → Fits k → (distance w size : ℕ) → distance < 2 ^ 64 → access_fits k distance w size ≡ true →
+    (at : ℕ) → Holds k at → (at + distance) % 2 ^ 64 + w ≤ size

@@ -1,0 +1,220 @@
+ghost use Rattle.std.specs.Prelude.{◌≡◌, Some, None};
+ghost use Rattle.std.specs.Option.{option_map};
+ghost use Rattle.abstract_regs.specs.Seen.{seen, seen_both, view_both};
+ghost use Rattle.abstract_regs.specs.Kind as plain;
+ghost use Rattle.abstract_num.specs.Plain.{view};
+ghost use Rattle.abstract_regs.specs.Kind.{same_num, both_nums, is_unset, is_num, is_ptr, same_region, join_kind, alu_kind, neg_kind, mov_kind, signed_move_kind, end_kind, along_kinds};
+
+use abstract_num::{
+    Number, arithmetic, copied, join, negative, ordered, refine, sign_extended, tighten,
+};
+use bpf_decode::{Arithmetic, Bits, ByteOrder, Comparison, EndWidth, Region, SignedMove};
+
+/// What is known of a register: nothing, not even that it is set; that it is a number; or that it points into a region,
+/// so far from its first byte.
+#[derive(Clone, Copy, Debug, PartialEq, Eq)]
+pub enum Kind {
+    Unset,
+    Num(Number),
+    Ptr(Region, Number),
+}
+
+/// The kinds of what a comparison compares: its destination, and its source.
+#[derive(Clone, Copy)]
+pub(crate) struct Kinds {
+    pub dst: Kind,
+    pub source: Kind,
+}
+
+impl Kind {
+    /// Whether nothing is known of it.
+    pub fn is_unset(self) -> bool
+        ensures { result ≡ is_unset (seen self) }
+    {
+        match self {
+            Kind::Unset => true,
+            Kind::Num(_) | Kind::Ptr(_, _) => false,
+        }
+    }
+
+    /// Whether it is a number.
+    pub fn is_num(self) -> bool
+        ensures { result ≡ is_num (seen self) }
+    {
+        match self {
+            Kind::Num(_) => true,
+            Kind::Unset | Kind::Ptr(_, _) => false,
+        }
+    }
+
+    /// Whether it is a pointer.
+    pub fn is_ptr(self) -> bool
+        ensures { result ≡ is_ptr (seen self) }
+    {
+        match self {
+            Kind::Ptr(_, _) => true,
+            Kind::Unset | Kind::Num(_) => false,
+        }
+    }
+
+    /// What two flows that meet leave of a register: a number with a pointer, or two regions, leave nothing.
+    pub fn join(self, other: Kind) -> Kind
+        ensures { seen result ≡ join_kind (seen self) (seen other) }
+    {
+        match (self, other) {
+            (Kind::Num(a), Kind::Num(b)) => Kind::Num(join(a, b)),
+            (Kind::Ptr(r, a), Kind::Ptr(q, b)) => {
+                if is_same_region(r, q) {
+                    Kind::Ptr(r, join(a, b))
+                } else {
+                    Kind::Unset
+                }
+            }
+            (Kind::Unset, _) => Kind::Unset,
+            (Kind::Num(_), Kind::Unset | Kind::Ptr(_, _)) => Kind::Unset,
+            (Kind::Ptr(_, _), Kind::Unset | Kind::Num(_)) => Kind::Unset,
+        }
+    }
+
+    /// What arithmetic that no rule refuses computes. None where no number is left.
+    pub(crate) fn alu(bits: Bits, operation: Arithmetic, x: Kind, y: Kind) -> Option<Kind>
+        ensures { option_map seen result ≡ alu_kind bits operation (seen x) (seen y) }
+    {
+        match (x, y) {
+            (Kind::Num(a), Kind::Num(b)) => Kind::number(arithmetic(bits, operation, a, b)),
+            (Kind::Ptr(r, a), Kind::Num(b)) => Kind::pointer(r, arithmetic(bits, operation, a, b)),
+            (Kind::Num(a), Kind::Ptr(r, b)) => Kind::pointer(r, arithmetic(bits, operation, a, b)),
+            (Kind::Ptr(_, _), Kind::Ptr(_, _)) => Some(Kind::Unset),
+            (Kind::Unset, _) => Some(Kind::Unset),
+            (Kind::Num(_) | Kind::Ptr(_, _), Kind::Unset) => Some(Kind::Unset),
+        }
+    }
+
+    /// The negative of a number.
+    pub(crate) fn neg(self, bits: Bits) -> Option<Kind>
+        ensures { option_map seen result ≡ neg_kind bits (seen self) }
+    {
+        match self {
+            Kind::Num(a) => Kind::number(negative(bits, a)),
+            Kind::Unset | Kind::Ptr(_, _) => Some(Kind::Unset),
+        }
+    }
+
+    /// A copy: of a pointer in 64 bits alone.
+    pub(crate) fn mov(self, bits: Bits) -> Option<Kind>
+        ensures { option_map seen result ≡ mov_kind bits (seen self) }
+    {
+        match self {
+            Kind::Unset => Some(Kind::Unset),
+            Kind::Num(a) => Kind::number(copied(bits, a)),
+            Kind::Ptr(r, a) => match bits {
+                Bits::Bits64 => Some(Kind::Ptr(r, a)),
+                Bits::Bits32 => Some(Kind::Unset),
+            },
+        }
+    }
+
+    /// A copy of a number with sign extension.
+    pub(crate) fn mov_signed(self, extension: SignedMove) -> Option<Kind>
+        ensures { option_map seen result ≡ signed_move_kind extension (seen self) }
+    {
+        match self {
+            Kind::Num(a) => Kind::number(sign_extended(extension, a)),
+            Kind::Unset | Kind::Ptr(_, _) => Some(Kind::Unset),
+        }
+    }
+
+    /// A number's low bits in an order of bytes.
+    pub(crate) fn end(self, order: ByteOrder, width: EndWidth) -> Option<Kind>
+        ensures { option_map seen result ≡ end_kind order width (seen self) }
+    {
+        match self {
+            Kind::Num(a) => Kind::number(ordered(order, width, a)),
+            Kind::Unset | Kind::Ptr(_, _) => Some(Kind::Unset),
+        }
+    }
+
+    /// What an edge of a comparison leaves of both its kinds; `same` says that they are of one register.
+    pub(crate) fn along(
+        bits: Bits,
+        comparison: Comparison,
+        taken: bool,
+        same: bool,
+        x: Kind,
+        y: Kind,
+    ) -> Option<Kinds>
+        ensures { option_map seen_both result ≡ along_kinds bits comparison taken same (seen x) (seen y) }
+    {
+        match (x, y) {
+            (Kind::Num(a), Kind::Num(b)) => {
+                if same {
+                    Kind::twice(tighten(a))
+                } else {
+                    Kind::both(refine(bits, comparison, taken, a, b))
+                }
+            }
+            (Kind::Unset, _) => Some(Kinds { dst: x, source: y }),
+            (Kind::Num(_), Kind::Unset | Kind::Ptr(_, _)) => Some(Kinds { dst: x, source: y }),
+            (Kind::Ptr(_, _), _) => Some(Kinds { dst: x, source: y }),
+        }
+    }
+
+    /// The kind of a number, where one is left.
+    fn number(n: Option<Number>) -> Option<Kind>
+        ensures { option_map seen result ≡ option_map plain.Num (option_map view n) }
+    {
+        match n {
+            None => None,
+            Some(n) => Some(Kind::Num(n)),
+        }
+    }
+
+    /// The kind of a pointer, where an offset is left.
+    fn pointer(region: Region, at: Option<Number>) -> Option<Kind>
+        ensures { option_map seen result ≡ option_map (plain.Ptr region) (option_map view at) }
+    {
+        match at {
+            None => None,
+            Some(at) => Some(Kind::Ptr(region, at)),
+        }
+    }
+
+    /// A number's kind twice.
+    fn twice(n: Option<Number>) -> Option<Kinds>
+        ensures { option_map seen_both result ≡ option_map same_num (option_map view n) }
+    {
+        match n {
+            None => None,
+            Some(n) => Some(Kinds {
+                dst: Kind::Num(n),
+                source: Kind::Num(n),
+            }),
+        }
+    }
+
+    /// The kinds of two numbers.
+    fn both(numbers: Option<(Number, Number)>) -> Option<Kinds>
+        ensures { option_map seen_both result ≡ option_map both_nums (option_map view_both numbers) }
+    {
+        match numbers {
+            None => None,
+            Some((a, b)) => Some(Kinds {
+                dst: Kind::Num(a),
+                source: Kind::Num(b),
+            }),
+        }
+    }
+}
+
+fn is_same_region(r: Region, q: Region) -> bool
+    ensures { result ≡ same_region r q }
+{
+    match (r, q) {
+        (Region::Input, Region::Input) => true,
+        (Region::Output, Region::Output) => true,
+        (Region::Stack, Region::Stack) => true,
+        (Region::Input, Region::Output | Region::Stack) => false,
+        (Region::Output, Region::Input | Region::Stack) => false,
+        (Region::Stack, Region::Input | Region::Output) => false,
+    }
+}

@@ -1,0 +1,24 @@
+ghost use Rattle.abstract_regs.specs.Laws.{JoinCommutes, JoinAssociates, JoinOfSame, JoinIsAbove, JoinsHold, EntryHolds, AccessesFit};
+
+use abstract_num::keeping_laws;
+
+/// A law, proved when the crate is checked; a call does nothing. The join of frames is a commutative, associative and
+/// idempotent upper bound.
+pub fn join_laws()
+    ensures commutes { JoinCommutes }
+    ensures associates { JoinAssociates }
+    ensures of_same { JoinOfSame }
+    ensures is_above { JoinIsAbove }
+{
+    abstract_num::join_laws();
+}
+
+/// A law. What either of two frames holds, their join holds; what a method begins with, the entry frame holds; the bytes
+/// of an access that fits are in the region, at every place that its offset holds.
+pub fn holding_laws()
+    ensures joins { JoinsHold }
+    ensures entry { EntryHolds }
+    ensures accesses { AccessesFit }
+{
+    keeping_laws();
+}
