@@ -1,5 +1,5 @@
 -- A buffer that is a part of a memory.
-use Rattle.std.proofs.Common.{◌≡◌, ℕ, ◌+◌, ◌-◌, ◌≤◌, List, ◌++◌, arith, ap, sym, ◌∙◌, append_assoc, length, take, drop, length-drop}
+use Rattle.std.proofs.Common.{◌≡◌, ℕ, ◌+◌, ◌≤◌, List, ◌++◌, arith, ap, sym, ◌∙◌, append_assoc, length, take, drop, length-drop}
 use Rattle.std.proofs.Math.Seq.{drop-drop}
 use Rattle.std.proofs.lemmas.List.{drop-append-le, take-append-drop, length-take-le, length-take}
 use Rattle.object_store.specs.Object.{part}

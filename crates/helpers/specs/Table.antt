@@ -1,10 +1,10 @@
 -- The helpers, one row each: what it takes and what it does. Where a row names several conditions they are tried in
 -- the order in which they stand. Numbers are whole numbers: nothing wraps.
-use Rattle.std.specs.Prelude.{ℕ, ◌+◌, ◌==◌, List, [], ◌∷◌, Option, Some, None, Bool, true, false, if◌then◌else◌, not, nat_lt, length}
+use Rattle.std.specs.Prelude.{ℕ, ◌+◌, ◌==◌, List, [], ◌∷◌, Option, Some, None, true, false, if◌then◌else◌, not, nat_lt, length}
 use Rattle.std.specs.Option.{option_map}
 use Rattle.std.specs.FinMap as fin
 use Rattle.shared_map.specs.Entries.{key_above}
-use Rattle.object_store.specs.Object.{Content, PlainObject, nothing, content_of, part, spliced, resized}
+use Rattle.object_store.specs.Object.{PlainObject, nothing, content_of, part, spliced, resized}
 use Rattle.object_store.specs.declared.limits.TheConstants.{DATA_LIMIT, NAME_LIMIT, XATTR_LIMIT, KEY_LIMIT}
 use Rattle.object_store.specs.Calls.{is_named}
 use Rattle.helpers.specs.declared.errno.TheConstants.{EEXIST, EINVAL, EFBIG, ENOSPC, ERANGE, ENODATA}

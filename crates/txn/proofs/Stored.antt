@@ -7,7 +7,7 @@ use Rattle.std.proofs.lemmas.Cmp.{nat_list_cmp_total}
 use Rattle.std.specs.Cmp.Lexicographic.{slice_cmp}
 use Rattle.std.specs.FinMap as fin
 use Rattle.std.specs.FinMap.{nat_cmp-IsAntisymmetric, slice_cmp-IsAntisymmetric}
-use Rattle.object_store.specs.Object.{Content, PlainObject}
+use Rattle.object_store.specs.Object.{PlainObject}
 use Rattle.object_store.specs.Names.{PlainObjects, stored}
 
 cond-cond : (b : Bool) (x y z : PlainObject) → cond b x (cond b y z) ≡ cond b x z

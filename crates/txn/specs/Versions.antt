@@ -1,5 +1,5 @@
 -- An object as a call found it and as it is now, and what its calls answer.
-use Rattle.std.specs.Prelude.{◌≡◌, ℕ, refl, List, Some, Result, Ok, Err}
+use Rattle.std.specs.Prelude.{refl, Some, Result, Ok, Err}
 use Rattle.std.specs.Coded.{Coded, code_by, coded×, coded_option}
 use Rattle.object_store.specs.Object.{Content, PlainObject, content_code}
 use Rattle.object_store.specs.declared.store_error.StoreError.{StoreError}

@@ -1,4 +1,4 @@
-ghost use Rattle.std.specs.Prelude.{◌≡◌, IfOk, OnOk, OnErr, None, Some, Ok, Result, length};
+ghost use Rattle.std.specs.Prelude.{◌≡◌, IfOk, OnErr, None, Some};
 ghost use Rattle.std.specs.Option.{option_copied};
 ghost use Rattle.object_store.specs.Object.{content_of};
 ghost use Rattle.object_store.specs.Calls as spec;

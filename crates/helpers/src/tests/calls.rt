@@ -1,4 +1,5 @@
-//! Calls as rows of tables.
+//! Calls as lines of text: a helper's name, what it is given first and second, its answer with a sign, and the bytes that
+//! it copies. `-` is nothing, `@64` a name of 64 bytes, the most that there are, and `@65` one of a byte more.
 
 use crate::{
     Answer, Span, create, key_above, map_rm, map_set, map_value, read, remove, rmxattr, setxattr,
@@ -6,96 +7,143 @@ use crate::{
 };
 use object_store::VALUE_LIMIT;
 use std::alloc::Global;
+use std::str::SplitWhitespace;
 use txn::{NoMemory, Staged};
 
-/// A call, with what it is given.
-#[derive(Clone, Copy, Debug)]
-pub enum Call {
-    Stat,
-    Read(u64, u64),
-    Write(u64, &'static [u8]),
-    Truncate(u64),
-    Remove,
-    GetXattr(&'static [u8], u64),
-    SetXattr(&'static [u8], &'static [u8]),
-    RmXattr(&'static [u8]),
-    MapGet(&'static [u8], u64),
-    MapSet(&'static [u8], &'static [u8]),
-    MapRm(&'static [u8]),
-    MapNext(&'static [u8], u64),
-    Create(u64),
+const LONGEST: &str = "0123456789abcdef0123456789abcdef0123456789abcdef0123456789abcdef";
+
+const TOO_LONG: &str = "0123456789abcdef0123456789abcdef0123456789abcdef0123456789abcdefg";
+
+/// A line's words.
+#[derive(Clone, Copy)]
+struct Line<'a> {
+    helper: &'a str,
+    first: &'a str,
+    second: &'a str,
+    answer: &'a str,
+    copied: &'a str,
 }
 
-/// A call, its answer with a sign, and the bytes that it copies.
-pub type Row = (Call, i64, &'static [u8]);
+fn next<'a>(words: &mut SplitWhitespace<'a>) -> &'a str {
+    words.next().unwrap_or("-")
+}
 
-/// 64 bytes, the most that a name has, and one more.
-pub const LONGEST: &[u8] = b"0123456789abcdef0123456789abcdef0123456789abcdef0123456789abcdef";
+fn line_of(line: &str) -> Line<'_> {
+    let mut words = line.split_whitespace();
+    Line {
+        helper: next(&mut words),
+        first: next(&mut words),
+        second: next(&mut words),
+        answer: next(&mut words),
+        copied: next(&mut words),
+    }
+}
 
-pub const TOO_LONG: &[u8] = b"0123456789abcdef0123456789abcdef0123456789abcdef0123456789abcdefg";
+/// The bytes of a word.
+fn bytes(word: &str) -> &[u8] {
+    match word {
+        "-" => &[],
+        "@64" => LONGEST.as_bytes(),
+        "@65" => TOO_LONG.as_bytes(),
+        _ => word.as_bytes(),
+    }
+}
+
+/// The decimal number of a word. A negative one is as register 0 holds it.
+fn number(word: &str) -> u64 {
+    let mut n = 0u64;
+    for byte in word.bytes() {
+        if byte.is_ascii_digit() {
+            n = n.wrapping_mul(10).wrapping_add(u64::from(byte - b'0'));
+        }
+    }
+    if word.starts_with('-') {
+        n.wrapping_neg()
+    } else {
+        n
+    }
+}
 
 /// What a call that looks something up answers; none of another call.
-fn looks_up<'a>(staged: &'a Staged, call: Call) -> Option<Answer<'a>> {
-    match call {
-        Call::Stat => Some(Answer {
+fn looks_up<'a>(staged: &'a Staged, line: Line<'_>) -> Option<Answer<'a>> {
+    let (name, room) = (bytes(line.first), number(line.second));
+    match line.helper {
+        "stat" => Some(Answer {
             number: stat(staged),
             bytes: &[],
         }),
-        Call::GetXattr(name, room) => Some(xattr_value(staged, name, room)),
-        Call::MapGet(key, room) => Some(map_value(staged, key, room)),
-        Call::MapNext(key, room) => Some(key_above(staged, key, room)),
+        "getxattr" => Some(xattr_value(staged, name, room)),
+        "map_get" => Some(map_value(staged, name, room)),
+        "map_next" => Some(key_above(staged, name, room)),
         _ => None,
     }
 }
 
-/// What a call that may change the object answers; 1 of another call.
-fn changes(alloc: Global, staged: &mut Staged, call: Call) -> Result<u64, NoMemory> {
-    match call {
-        Call::Write(at, bytes) => write(alloc, staged, at, bytes),
-        Call::Truncate(size) => truncate(alloc, staged, size),
-        Call::Remove => Ok(remove(staged)),
-        Call::SetXattr(name, value) if value.len() <= VALUE_LIMIT => {
-            setxattr(alloc, staged, name, value)
-        }
-        Call::RmXattr(name) => rmxattr(alloc, staged, name),
-        Call::MapSet(key, value) if value.len() <= VALUE_LIMIT => map_set(
-            alloc, staged, key, value,
-        ),
-        Call::MapRm(key) => map_rm(alloc, staged, key),
-        Call::Create(exclusive) => Ok(create(staged, exclusive)),
+/// What a call that sets a value answers; none of another call.
+fn sets(alloc: Global, staged: &mut Staged, line: Line<'_>) -> Result<Option<u64>, NoMemory> {
+    let (name, value) = (bytes(line.first), bytes(line.second));
+    if value.len() > VALUE_LIMIT {
+        return Ok(None);
+    }
+    match line.helper {
+        "write" => Ok(Some(write(alloc, staged, number(line.first), value)?)),
+        "setxattr" => Ok(Some(setxattr(alloc, staged, name, value)?)),
+        "map_set" => Ok(Some(map_set(alloc, staged, name, value)?)),
+        _ => Ok(None),
+    }
+}
+
+/// What another call that may change the object answers; 1 of one that is none.
+fn changes(alloc: Global, staged: &mut Staged, line: Line<'_>) -> Result<u64, NoMemory> {
+    match line.helper {
+        "truncate" => truncate(alloc, staged, number(line.first)),
+        "remove" => Ok(remove(staged)),
+        "rmxattr" => rmxattr(alloc, staged, bytes(line.first)),
+        "map_rm" => map_rm(alloc, staged, bytes(line.first)),
+        "create" => Ok(create(staged, number(line.first))),
         _ => Ok(1),
     }
 }
 
-/// Whether `read` answers so, and copies these bytes and no other. The room has at most 14 bytes.
-fn reads(staged: &Staged, at: u64, len: u64, want: u64, bytes: &[u8]) -> bool {
+/// Whether `read` answers and copies so, and copies no other byte. The room has at most 14 bytes.
+fn reads(staged: &Staged, line: Line<'_>) -> bool {
+    let (at, len, copied) = (number(line.first), number(line.second), bytes(line.copied));
     let mut memory = [0xee; 16];
     if len > 14 {
         return false;
     }
-    let number = read(staged, at, &mut memory, Span { at: 2, len });
-    let rest = memory.iter().skip(2 + bytes.len()).all(|b| *b == 0xee);
-    number == want && memory[2..].starts_with(bytes) && rest
+    let answer = read(staged, at, &mut memory, Span { at: 2, len });
+    let rest = memory.iter().skip(2 + copied.len()).all(|b| *b == 0xee);
+    answer == number(line.answer) && memory[2..].starts_with(copied) && rest
 }
 
-/// Whether a call gives the row's answer and bytes.
-fn answers(alloc: Global, staged: &mut Staged, (call, want, bytes): Row) -> Result<bool, NoMemory> {
-    let want = want.cast_unsigned();
-    if let Call::Read(at, len) = call {
-        return Ok(reads(staged, at, len, want, bytes));
+/// Whether a call gives the line's answer and bytes.
+fn answers(alloc: Global, staged: &mut Staged, line: Line<'_>) -> Result<bool, NoMemory> {
+    if line.helper == "read" {
+        return Ok(reads(staged, line));
     }
-    if let Some(answer) = looks_up(staged, call) {
-        return Ok(answer.number == want && answer.bytes == bytes);
+    let want = number(line.answer);
+    if let Some(answer) = looks_up(staged, line) {
+        return Ok(answer.number == want && answer.bytes == bytes(line.copied));
     }
-    Ok(changes(alloc, staged, call)? == want)
+    if let Some(answer) = sets(alloc, staged, line)? {
+        return Ok(answer == want);
+    }
+    Ok(changes(alloc, staged, line)? == want)
 }
 
-/// Whether calls that are made one after the other give their rows' answers.
-pub fn all_answer(alloc: Global, staged: &mut Staged, rows: &[Row]) -> Result<bool, NoMemory> {
-    for row in rows {
-        if !answers(alloc, staged, *row)? {
-            return Ok(false);
+/// How many of the calls of these lines, made one after the other, come before the first that answers otherwise. An
+/// empty line isn't counted.
+pub fn right_answers(alloc: Global, staged: &mut Staged, text: &str) -> Result<usize, NoMemory> {
+    let mut count = 0usize;
+    for line in text.lines() {
+        if line.is_empty() {
+            continue;
         }
+        if !answers(alloc, staged, line_of(line))? {
+            return Ok(count);
+        }
+        count = count.saturating_add(1);
     }
-    Ok(true)
+    Ok(count)
 }

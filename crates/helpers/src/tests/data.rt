@@ -1,94 +1,89 @@
-use super::calls::Call::{
-    Create, GetXattr, MapGet, MapNext, MapRm, MapSet, Read, Remove, RmXattr, SetXattr, Stat,
-    Truncate, Write,
-};
-use super::calls::{Row, TOO_LONG, all_answer};
+use super::calls::right_answers;
 use std::test::Fail;
 use txn::Staged;
 
 /// Beside an absent object; each leaves it absent.
-const ABSENT: [Row; 21] = [
-    (Stat, -2, b""),
-    (Read(0, 4), -2, b""),
-    (Write(65_537, b""), -27, b""),
-    (Write(65_536, b"a"), -27, b""),
-    (Write(u64::MAX, b"a"), -27, b""),
-    (Truncate(0), -2, b""),
-    (Truncate(65_537), -27, b""),
-    (Remove, -2, b""),
-    (GetXattr(b"n", 9), -2, b""),
-    (GetXattr(b"", 9), -22, b""),
-    (GetXattr(TOO_LONG, 9), -22, b""),
-    (SetXattr(b"", b"v"), -22, b""),
-    (SetXattr(TOO_LONG, b"v"), -22, b""),
-    (RmXattr(b"n"), -2, b""),
-    (MapGet(b"k", 9), -2, b""),
-    (MapGet(TOO_LONG, 9), -22, b""),
-    (MapSet(b"", b"v"), -22, b""),
-    (MapRm(b"k"), -2, b""),
-    (MapNext(b"", 9), -2, b""),
-    (MapNext(TOO_LONG, 9), -22, b""),
-    (Stat, -2, b""),
-];
+const ABSENT: &str = "
+stat - - -2
+read 0 4 -2
+write 65537 - -27
+write 65536 a -27
+write 18446744073709551615 a -27
+truncate 0 - -2
+truncate 65537 - -27
+remove - - -2
+getxattr n 9 -2
+getxattr - 9 -22
+getxattr @65 9 -22
+setxattr - v -22
+setxattr @65 v -22
+rmxattr n - -2
+map_get k 9 -2
+map_get @65 9 -22
+map_set - v -22
+map_rm k - -2
+map_next - 9 -2
+map_next @65 9 -22
+stat - - -2
+";
 
 /// Each of these creates an absent object.
-const CREATES: [Row; 6] = [
-    (Write(0, b""), 0, b""),
-    (Write(65_536, b""), 0, b""),
-    (SetXattr(b"n", b""), 0, b""),
-    (MapSet(b"k", b""), 0, b""),
-    (Create(0), 0, b""),
-    (Create(1), 0, b""),
+const CREATES: [&str; 6] = [
+    "write 0 - 0",
+    "write 65536 - 0",
+    "setxattr n - 0",
+    "map_set k - 0",
+    "create 0 - 0",
+    "create 1 - 0",
 ];
 
-/// One after the other, beside an object that is absent at first.
-const DATA: [Row; 29] = [
-    (Create(1), 0, b""),
-    (Create(1), -17, b""),
-    (Create(u64::MAX), -17, b""),
-    (Create(0), 0, b""),
-    (Stat, 0, b""),
-    (Write(4_094, b"abcd"), 4, b""),
-    (Stat, 4_098, b""),
-    (Read(4_094, 4), 4, b"abcd"),
-    (Read(4_096, 9), 2, b"cd"),
-    (Read(0, 2), 2, b"\0\0"),
-    (Read(4_098, 4), 0, b""),
-    (Read(u64::MAX, 4), 0, b""),
-    (Read(0, 0), 0, b""),
-    // what was cut off is not seen again
-    (Truncate(4_095), 0, b""),
-    (Truncate(4_098), 0, b""),
-    (Read(4_094, 4), 4, b"a\0\0\0"),
-    (Write(4_096, b""), 0, b""),
-    (Stat, 4_098, b""),
-    (Truncate(65_536), 0, b""),
-    (Stat, 65_536, b""),
-    (Truncate(65_537), -27, b""),
-    (Write(65_535, b"yz"), -27, b""),
-    (Write(65_535, b"z"), 1, b""),
-    (Read(65_534, 9), 2, b"\0z"),
-    (Remove, 0, b""),
-    (Stat, -2, b""),
-    // a new object in the same call
-    (Create(1), 0, b""),
-    (Stat, 0, b""),
-    (Read(4_094, 4), 0, b""),
-];
+/// One after the other, beside an object that is absent at first: what was cut off is not seen again, nor what a removed
+/// object had, in a new one of the same call.
+const DATA: &str = "
+create 1 - 0
+create 1 - -17
+create 18446744073709551615 - -17
+create 0 - 0
+stat - - 0
+write 4094 abcd 4
+stat - - 4098
+read 4094 4 4 abcd
+read 4096 9 2 cd
+read 0 2 2 \0\0
+read 4098 4 0
+read 18446744073709551615 4 0
+read 0 0 0
+truncate 4095 - 0
+truncate 4098 - 0
+read 4094 4 4 a\0\0\0
+write 4096 - 0
+stat - - 4098
+truncate 65536 - 0
+stat - - 65536
+truncate 65537 - -27
+write 65535 yz -27
+write 65535 z 1
+read 65534 9 2 \0z
+remove - - 0
+stat - - -2
+create 1 - 0
+stat - - 0
+read 4094 4 0
+";
 
 #[test]
 fn an_absent_object_is_refused(rt: HostRuntime) -> Result<(), Fail> {
     let mut staged = Staged::over(None);
-    assert!(rt; all_answer(rt.alloc(), &mut staged, &ABSENT)?);
+    assert_eq!(rt; right_answers(rt.alloc(), &mut staged, ABSENT)?, 21);
     assert!(rt; staged.object().is_none());
     Ok(())
 }
 
 #[test]
 fn an_object_is_created(rt: HostRuntime) -> Result<(), Fail> {
-    for row in CREATES {
+    for line in CREATES {
         let mut staged = Staged::over(None);
-        assert!(rt; all_answer(rt.alloc(), &mut staged, &[row])?);
+        assert_eq!(rt; right_answers(rt.alloc(), &mut staged, line)?, 1);
         assert!(rt; staged.object().is_some());
     }
     Ok(())
@@ -97,6 +92,6 @@ fn an_object_is_created(rt: HostRuntime) -> Result<(), Fail> {
 #[test]
 fn data_is_written_and_read(rt: HostRuntime) -> Result<(), Fail> {
     let mut staged = Staged::over(None);
-    assert!(rt; all_answer(rt.alloc(), &mut staged, &DATA)?);
+    assert_eq!(rt; right_answers(rt.alloc(), &mut staged, DATA)?, 29);
     Ok(())
 }

@@ -1,71 +1,68 @@
-use super::calls::Call::{
-    Create, GetXattr, MapGet, MapNext, MapRm, MapSet, Remove, RmXattr, SetXattr,
-};
-use super::calls::{LONGEST, Row, TOO_LONG, all_answer};
+use super::calls::right_answers;
 use std::test::Fail;
 use txn::Staged;
 
-const XATTRS: [Row; 19] = [
-    (Create(0), 0, b""),
-    (GetXattr(b"n", 9), -61, b""),
-    (RmXattr(b"n"), -61, b""),
-    (SetXattr(b"n", b"value"), 0, b""),
-    (GetXattr(b"n", 5), 5, b"value"),
-    (GetXattr(b"n", 4), -34, b""),
-    (GetXattr(b"n", 9), 5, b"value"),
-    (GetXattr(b"N", 9), -61, b""),
-    (SetXattr(b"n", b""), 0, b""),
-    (GetXattr(b"n", 0), 0, b""),
-    (GetXattr(TOO_LONG, 9), -22, b""),
-    (SetXattr(LONGEST, b"w"), 0, b""),
-    (GetXattr(LONGEST, 9), 1, b"w"),
-    // an xattr is no key of the omap
-    (MapGet(b"n", 9), -61, b""),
-    (RmXattr(b""), -22, b""),
-    (RmXattr(TOO_LONG), -22, b""),
-    (RmXattr(b"n"), 0, b""),
-    (GetXattr(b"n", 9), -61, b""),
-    (GetXattr(LONGEST, 9), 1, b"w"),
-];
+/// An xattr is no key of the omap.
+const XATTRS: &str = "
+create 0 - 0
+getxattr n 9 -61
+rmxattr n - -61
+setxattr n value 0
+getxattr n 5 5 value
+getxattr n 4 -34
+getxattr n 9 5 value
+getxattr N 9 -61
+setxattr n - 0
+getxattr n 0 0
+getxattr @65 9 -22
+setxattr @64 w 0
+getxattr @64 9 1 w
+map_get n 9 -61
+rmxattr - - -22
+rmxattr @65 - -22
+rmxattr n - 0
+getxattr n 9 -61
+getxattr @64 9 1 w
+";
 
-const OMAP: [Row; 23] = [
-    (MapSet(b"d", b"four"), 0, b""),
-    (MapSet(b"b", b"two"), 0, b""),
-    (MapGet(b"d", 4), 4, b"four"),
-    (MapGet(b"d", 3), -34, b""),
-    (MapGet(b"c", 9), -61, b""),
-    (MapGet(b"", 9), -22, b""),
-    (GetXattr(b"d", 9), -61, b""),
-    // from the beginning, between keys, at one, past the last
-    (MapNext(b"", 9), 1, b"b"),
-    (MapNext(b"a", 9), 1, b"b"),
-    (MapNext(b"b", 9), 1, b"d"),
-    (MapNext(b"bb", 9), 1, b"d"),
-    (MapNext(b"d", 9), -61, b""),
-    (MapNext(LONGEST, 9), 1, b"b"),
-    (MapNext(TOO_LONG, 9), -22, b""),
-    // a key before a longer one; room for one byte too few
-    (MapSet(b"dd", b""), 0, b""),
-    (MapNext(b"d", 2), 2, b"dd"),
-    (MapNext(b"d", 1), -34, b""),
-    (MapRm(b"c"), -61, b""),
-    (MapRm(TOO_LONG), -22, b""),
-    (MapRm(b"b"), 0, b""),
-    (MapNext(b"", 9), 1, b"d"),
-    (Remove, 0, b""),
-    (MapNext(b"", 9), -2, b""),
-];
+/// A value; the next key from the beginning, between keys, at one, past the last; a key before a longer one, which a byte
+/// too little has no room for.
+const OMAP: &str = "
+map_set d four 0
+map_set b two 0
+map_get d 4 4 four
+map_get d 3 -34
+map_get c 9 -61
+map_get - 9 -22
+getxattr d 9 -61
+map_next - 9 1 b
+map_next a 9 1 b
+map_next b 9 1 d
+map_next bb 9 1 d
+map_next d 9 -61
+map_next @64 9 1 b
+map_next @65 9 -22
+map_set dd - 0
+map_next d 2 2 dd
+map_next d 1 -34
+map_rm c - -61
+map_rm @65 - -22
+map_rm b - 0
+map_next - 9 1 d
+remove - - 0
+map_next - 9 -2
+";
 
 #[test]
 fn xattrs_are_set_and_looked_up(rt: HostRuntime) -> Result<(), Fail> {
     let mut staged = Staged::over(None);
-    assert!(rt; all_answer(rt.alloc(), &mut staged, &XATTRS)?);
+    assert_eq!(rt; right_answers(rt.alloc(), &mut staged, XATTRS)?, 19);
     Ok(())
 }
 
 #[test]
 fn keys_are_set_and_gone_through(rt: HostRuntime) -> Result<(), Fail> {
     let mut staged = Staged::over(None);
-    assert!(rt; all_answer(rt.alloc(), &mut staged, &OMAP)?);
+    assert_eq!(rt; right_answers(rt.alloc(), &mut staged, OMAP)?, 23);
     Ok(())
 }
