@@ -1,9 +1,9 @@
 -- Lists that were packed and unpacked.
-use Rattle.std.proofs.Common.{◌≡◌, ℕ, zero, suc, ◌<◌, ◌≤◌, List, [], ◌∷◌, ◌++◌, length, take, drop, min, refl, ap, sym, ◌∙◌, arith, subst}
+use Rattle.std.proofs.Common.{◌≡◌, ℕ, zero, suc, ◌≤◌, List, [], ◌∷◌, ◌++◌, length, take, min, refl, ap, ◌∙◌, arith}
 use Rattle.std.proofs.lemmas.List.{take-append-drop}
 use mathlib.Core.List.{IsPrefix}
 use Rattle.pg_log.specs.Requests.{ClientRequest}
-use Rattle.replication.specs.Packed.{packed, spread, IsUnpacked}
+use Rattle.replication.specs.Packed.{packed, IsUnpacked}
 
 module _ {X : Type 0} where
   -- what the first requests of a list begin is begun by fewer of them

@@ -1,5 +1,5 @@
 -- A list of which the receiver has the beginning.
-use Rattle.std.specs.Prelude.{◌≡◌, ℕ, ◌<◌, ◌≤◌, List, ◌++◌, length, take, drop, min, codes}
+use Rattle.std.specs.Prelude.{◌≡◌, ℕ, ◌≤◌, List, ◌++◌, length, take, drop, min, codes}
 use Rattle.std.specs.Fmt.{decimal}
 use mathlib.Core.List.{IsPrefix}
 use Rattle.pg_log.specs.Requests.{ClientRequest}
