@@ -151,12 +151,12 @@ impl ExtentData {
         most
     }
 
-    /// How many of its extents lie where those of the other data at the same place do.
-    pub(crate) fn shared_with(&self, other: &ExtentData) -> usize {
-        let mut count = 0;
-        for (own, others) in self.parts().iter().zip(other.parts()) {
-            if Arc::as_ptr(own) == Arc::as_ptr(others) {
-                count = usize::saturating_add(count, 1);
+    /// How many of its extents stand in another list too.
+    pub(crate) fn shared_count(&self) -> usize {
+        let mut count = 0usize;
+        for part in self.parts() {
+            if Arc::strong_count(part) > 1 {
+                count = count.saturating_add(1);
             }
         }
         count

@@ -23,11 +23,10 @@ fn extents_are_at_most_4096_bytes(rt: HostRuntime) -> Result<(), Fail> {
 fn a_write_shares_what_it_does_not_touch(rt: HostRuntime) -> Result<(), Fail> {
     let old = sevens(rt.alloc(), 65_536)?;
     let mut new = old.copy(rt.alloc())?;
-    let at_first = new.shared_with(&old);
     new.write(rt.alloc(), 5000, b"a")?;
-    let once_written = new.shared_with(&old);
+    let once_written = new.shared_count();
     new.truncate(rt.alloc(), 10_000)?;
-    assert!(rt; (at_first, once_written, new.shared_with(&old)) == (16, 15, 1));
+    assert!(rt; once_written == 15 && new.shared_count() == 1);
     let mut byte = [0];
     assert!(rt; old.read(5000, &mut byte) == 1 && byte == [7]);
     Ok(())
