@@ -60,7 +60,8 @@ fn write_object(
     ensures rest { IfOk result (λ _. run.new ≡ record run.old { written = run.new.written }) }
 {
     let len = text.len() as u64;
-    if len > 65536 || at > 65536 - len {
+    let limit = Object::LIMIT as u64;
+    if len > limit || at > limit - len {
         return Ok(u64::MAX - 26);
     }
     let mut object = match run.written.take() {
