@@ -1,0 +1,140 @@
+-- An Install, once the move is known.
+use Rattle.std.proofs.Common.{◌≡◌, ℕ, ◌<◌, ◌≤◌, ◌&&◌, ◌||◌, eqb, nat_lt, length, arith, Bool, true, false, cond, List, [], ◌∷◌, ◌++◌, Option, Some, None, ap, sym, ◌∙◌, refl, subst}
+use Rattle.std.specs.Option.{unwrap_or}
+use Rattle.std.proofs.lemmas.Bool.{false≢true}
+use Rattle.std.proofs.lemmas.Bool.Decides.{nat_tests}
+use Rattle.placement.specs.Placement.{has}
+use Rattle.peering.proofs.Keeping.{either}
+use Rattle.pg_log.specs.Requests.{ClientRequest}
+use Rattle.pg_log.specs.Log.{Classes}
+use Rattle.pg_log.specs.declared.log_error.LogError.{LogError}
+use Rattle.pg_log.specs.declared.log_error.LogError.TheVariants.{NoMemory}
+use Rattle.pg_log.specs.Refusals.{first_refusal}
+use Rattle.pg_log.specs.Adopting.{IsCommonBeginning, rest_refusal, RestRefuses, Refused, Short, AdoptRefuses}
+use Rattle.pg_log.specs.Laws.{AdoptingIsReplaying}
+use Rattle.pg_log.specs.Log.{Legal}
+use Rattle.group_world.specs.Maps.{GroupMap, is_primary}
+use Rattle.group_world.specs.Node.{NodeState, Outcome, nothing, and_sends, packet, to_all, is_waiting, is_installed}
+use Rattle.group_world.specs.Rules.{is_usable, says_installed, install_after, arrive, move_to, lead, adopt, at_map, would_forget}
+use Rattle.group_world.specs.declared.status.Status.{Status}
+use Rattle.group_world.specs.declared.status.Status.TheVariants.{Out, Waiting, Installed, Asking, Installing, Active}
+use Rattle.group_world.specs.declared.party.Party.{Party}
+use Rattle.group_world.specs.declared.message.Kind.TheVariants.{Query, Installed as InstalledIn}
+use Rattle.group_world.specs.declared.message.Packet.{Packet}
+use Rattle.group_world.specs.declared.handle_error.HandleError.{HandleError}
+use Rattle.peering.specs.Arriving.{after_move, log_after, interval_after, install_first, install_again, is_memory}
+
+pub waits : (st : Status) → is_waiting st ≡ true → st ≡ Waiting
+waits Waiting h = refl
+waits Out h = absurd (false≢true h)
+waits Installed h = absurd (false≢true h)
+waits Asking h = absurd (false≢true h)
+waits Installing h = absurd (false≢true h)
+waits Active h = absurd (false≢true h)
+
+-- what an Install makes of a node that waits
+abbrev taken : Classes → ℕ → NodeState → Party → List ClientRequest → NodeState → List Packet → Outcome
+taken classes n s sender list node sent =
+    cond (is_usable classes node list) (and_sends (record { node = record node { status = Installed; log = list }; sent = sent; refusal = None }) (says_installed n sender node)) (nothing s)
+
+-- and of one that doesn't
+abbrev said : ℕ → Party → NodeState → List Packet → Option HandleError → Outcome
+said n sender node sent refusal =
+    cond (is_installed node.status) (record { node = node; sent = sent ++ says_installed n sender node ∷ []; refusal = None }) (record { node = node; sent = sent; refusal = refusal })
+
+after_waiting : (classes : Classes) (n : ℕ) (s : NodeState) (sender : Party) (list : List ClientRequest) (o : Outcome) → is_waiting o.node.status ≡ true →
+    install_after classes n s sender list o ≡ taken classes n s sender list o.node o.sent
+after_waiting classes n s sender list o h =
+    ap (λ b. cond b (taken classes n s sender list o.node o.sent) (said n sender o.node o.sent o.refusal)) h
+
+after_other : (classes : Classes) (n : ℕ) (s : NodeState) (sender : Party) (list : List ClientRequest) (o : Outcome) → is_waiting o.node.status ≡ false →
+    install_after classes n s sender list o ≡ said n sender o.node o.sent o.refusal
+after_other classes n s sender list o h =
+    ap (λ b. cond b (taken classes n s sender list o.node o.sent) (said n sender o.node o.sent o.refusal)) h
+
+first_is : (classes : Classes) (n : ℕ) (s : NodeState) (sender : Party) (m : GroupMap) (list : List ClientRequest) (status : Option Status) (joined : List ℕ) (sent : List Packet) →
+    unwrap_or status s.status ≡ Waiting →
+    install_first classes n s sender m list status joined sent ≡ taken classes n s sender list (after_move s m status joined) sent
+first_is classes n s sender m list None joined sent h = refl
+first_is classes n s sender m list (Some st) joined sent h =
+    let P : Status → Type 0 = λ w. install_first classes n s sender m list (Some w) joined sent ≡ taken classes n s sender list (after_move s m (Some w) joined) sent in
+    subst P (sym h) refl
+
+waiting_is : (s : NodeState) (m : GroupMap) (status : Option Status) (joined : List ℕ) → (after_move s m status joined).status ≡ unwrap_or status s.status
+waiting_is s m None joined = refl
+waiting_is s m (Some st) joined = refl
+
+-- the first Install, where the node waits
+pub first_install : (classes : Classes) (n : ℕ) (s : NodeState) (sender : Party) (m : GroupMap) (list : List ClientRequest) (status : Option Status) (joined : List ℕ) (sent : List Packet) (o : Outcome) →
+    after_move s m status joined ≡ o.node → sent ≡ o.sent → is_waiting (unwrap_or status s.status) ≡ true →
+    install_first classes n s sender m list status joined sent ≡ install_after classes n s sender list o
+first_install classes n s sender m list status joined sent o a b h =
+    let w : is_waiting o.node.status ≡ true = ap (λ x. is_waiting x.status) (sym a) ∙ ap is_waiting (waiting_is s m status joined) ∙ h in
+    let e : taken classes n s sender list (after_move s m status joined) sent ≡ taken classes n s sender list o.node o.sent = λ i. taken classes n s sender list (a i) (b i) in
+    first_is classes n s sender m list status joined sent (waits _ h) ∙ e ∙ sym (after_waiting classes n s sender list o w)
+
+again_is : (n : ℕ) (s : NodeState) (sender : Party) (m : GroupMap) (status : Option Status) (joined : List ℕ) (sent : List Packet) →
+    install_again n s sender m status joined sent ≡ said n sender (after_move s m status joined) sent None
+again_is n s sender m None joined sent = refl
+again_is n s sender m (Some st) joined sent = refl
+
+pub other_install : (classes : Classes) (n : ℕ) (s : NodeState) (sender : Party) (m : GroupMap) (list : List ClientRequest) (status : Option Status) (joined : List ℕ) (sent : List Packet) (o : Outcome) →
+    after_move s m status joined ≡ o.node → sent ≡ o.sent → o.refusal ≡ None → is_waiting (unwrap_or status s.status) ≡ false →
+    install_again n s sender m status joined sent ≡ install_after classes n s sender list o
+other_install classes n s sender m list status joined sent o a b r h =
+    let w : is_waiting o.node.status ≡ false = ap (λ x. is_waiting x.status) (sym a) ∙ ap is_waiting (waiting_is s m status joined) ∙ h in
+    let e : said n sender (after_move s m status joined) sent None ≡ said n sender o.node o.sent o.refusal = λ i. said n sender (a i) (b i) (sym r i) in
+    again_is n s sender m status joined sent ∙ e ∙ sym (after_other classes n s sender list o w)
+
+-- a log that becomes a list shows that the list is legal
+pub adopted : AdoptingIsReplaying → (classes : Classes) (own list : List ClientRequest) (k : ℕ) → Legal classes own → IsCommonBeginning own list k →
+    rest_refusal classes list k ≡ None → first_refusal classes list ≡ None
+adopted law classes own list k l b r = sym (law classes own list k l b).same ∙ r
+
+rest_refused : (classes : Classes) (list : List ClientRequest) (k : ℕ) (e : LogError) → is_memory e ≡ false → RestRefuses classes list k e → rest_refusal classes list k ≡ Some e
+rest_refused classes list k e h (Refused r) = r
+rest_refused classes list k e h (Short m some) = absurd (false≢true (sym h ∙ ap is_memory m))
+
+-- and one that is refused shows that it isn't
+pub not_adopted : AdoptingIsReplaying → (classes : Classes) (own list : List ClientRequest) (e : LogError) → Legal classes own → is_memory e ≡ false →
+    AdoptRefuses classes own list e → first_refusal classes list ≡ Some e
+not_adopted law classes own list e l h a = sym (law classes own list a.0 l a.1).same ∙ rest_refused classes list a.0 e h a.2
+
+log_is : (s : NodeState) (m : GroupMap) (status : Option Status) (joined : List ℕ) → (after_move s m status joined).log ≡ log_after s status
+log_is s m None joined = refl
+log_is s m (Some st) joined = refl
+
+forgets_not : (n : ℕ) (s : NodeState) (m : GroupMap) → would_forget n s m ≡ false → nat_lt s.interval m.interval ≡ true → is_primary n m ≡ true → eqb m.prev 0 ≡ true → nat_lt 0 s.committed ≡ false
+forgets_not n s m h a b e =
+    sym (ap (λ x. x && (is_primary n m && (eqb m.prev 0 && nat_lt 0 s.committed))) a ∙ ap (λ x. x && (eqb m.prev 0 && nat_lt 0 s.committed)) b ∙ ap (λ x. x && nat_lt 0 s.committed) e) ∙ h
+
+-- a move keeps the committed length within the log
+arrive_within : (n : ℕ) (s : NodeState) (m : GroupMap) → would_forget n s m ≡ false → s.committed ≤ length s.log → s.committed ≤ length (arrive n s m).node.log
+arrive_within n s m h l =
+    let P : Outcome → Type 0 = λ o. s.committed ≤ length o.node.log in
+    either P (nat_lt s.interval m.interval) (move_to n s m) (nothing s)
+    (λ a. either P (is_primary n m) (lead n s m) (cond (has n m.acting) (nothing (at_map s m Waiting)) (nothing (at_map s m Out)))
+    (λ b. either P (eqb m.prev 0) (adopt n (at_map s m Asking) []) (record { node = at_map s m Asking; sent = to_all n m.prev_acting (Query m); refusal = None })
+    (λ e. let z : nat_lt 0 s.committed ≡ false = forgets_not n s m h a b e in grind (arith, nat_tests)) (λ _. l))
+    (λ _. either P (has n m.acting) (nothing (at_map s m Waiting)) (nothing (at_map s m Out)) (λ _. l) (λ _. l)))
+    (λ _. l)
+
+pub within_after : (n : ℕ) (s : NodeState) (m : GroupMap) (status : Option Status) (joined : List ℕ) → after_move s m status joined ≡ (arrive n s m).node →
+    would_forget n s m ≡ false → s.committed ≤ length s.log → s.committed ≤ length (log_after s status)
+within_after n s m status joined a h l =
+    let P : List ClientRequest → Type 0 = λ w. s.committed ≤ length w in
+    subst P (sym (ap (λ x. x.log) a) ∙ log_is s m status joined) (arrive_within n s m h l)
+
+waiting_log : (s : NodeState) (status : Option Status) → unwrap_or status s.status ≡ Waiting → s.log ≡ log_after s status
+waiting_log s None h = refl
+waiting_log s (Some st) h =
+    let P : Status → Type 0 = λ w. s.log ≡ log_after s (Some w) in subst P (sym h) refl
+
+pub waiting_within : (s : NodeState) (status : Option Status) → unwrap_or status s.status ≡ Waiting → s.committed ≤ length s.log → s.committed ≤ length (log_after s status)
+waiting_within s status h l =
+    let P : List ClientRequest → Type 0 = λ w. s.committed ≤ length w in
+    subst P (waiting_log s status h) l
+
+pub or_false : (a b : Bool) → (a || b) ≡ false → b ≡ false
+or_false true b h = absurd (false≢true (sym h))
+or_false false b h = h

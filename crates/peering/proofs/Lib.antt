@@ -1,0 +1,6 @@
+pub mod Lists
+pub mod Messages
+pub mod Raising
+pub mod Following
+pub mod Keeping
+pub mod Installing

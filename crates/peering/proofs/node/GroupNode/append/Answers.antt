@@ -1,0 +1,20 @@
+use Rattle.std.proofs.Common.{◌≡◌, ◌∙◌, ap, sym, subst, IfOk, None}
+use Rattle.pg_log.specs.Refusals.{refusal}
+use Rattle.group_world.specs.Node.{Outcome}
+use Rattle.group_world.specs.Rules.{append_new, request_at}
+use Rattle.peering.specs.Numbered.{IsDone}
+use Rattle.peering.proofs.Following.{new_is, new_unrefused}
+use Rattle.peering.proofs.Keeping.{short}
+use Rattle.peering.proofs.node.GroupNode.append.Goals as goal
+
+pub returns-clause-done : goal.returns-clause-done
+returns-clause-done g c =
+    let n = c.args.self.now in
+    let t = c.args.table.now in
+    let P : Outcome → Type 0 = λ o. IfOk c.keep_next.result (λ sent. IsDone n c.keep_next.new.self sent.items o) in
+    subst P (ap (append_new t n.number n.state) c.in_ok-entry.ensures.request ∙ new_is t n.number n.state c.args.request c.in_ok-entry.ensures.unrefused) c.keep_next.ensures.done
+
+pub returns-clause-why : goal.returns-clause-why
+returns-clause-why g c =
+    let n = c.args.self.now in
+    short c.keep_next.result (request_at c.args.table.now n.number n.state c.args.request None) (new_unrefused c.args.table.now n.number n.state c.args.request c.in_ok-entry.ensures.unrefused) c.keep_next.ensures.why

@@ -1,0 +1,24 @@
+use Rattle.std.proofs.Common.{◌≡◌, ◌∙◌, ℕ, Option, None, Some, ap, sym, subst, IfOk, IfErr}
+use Rattle.pg_log.specs.Refusals.{place_of}
+use Rattle.group_world.specs.Rules.{request_at}
+use Rattle.group_world.specs.declared.handle_error.HandleError.{HandleError}
+use Rattle.peering.specs.Numbered.{IsDone, IsRefusal}
+use Rattle.peering.proofs.Following.{again_unrefused}
+use Rattle.peering.proofs.Keeping.{short}
+use Rattle.peering.proofs.node.GroupNode.serve.Goals as goal
+
+pub returns-in-None-clause-done : goal.returns-in-None-clause-done
+returns-in-None-clause-done g c =
+    let n = c.args.self.now in
+    let r = c.args.request in
+    let e : place_of r.client r.number n.state.log ≡ None = cc (c.client.ensures, c.number.ensures, c.group.ensures, c.in-None.ensures) in
+    let P : Option ℕ → Type 0 = λ o. IfOk c.append.result (λ sent. IsDone n c.append.new.self sent.items (request_at c.args.table.now n.number n.state r o)) in
+    subst P (sym e) c.append.ensures.done
+
+pub returns-in-None-clause-why : goal.returns-in-None-clause-why
+returns-in-None-clause-why g c =
+    let n = c.args.self.now in
+    let r = c.args.request in
+    let e : place_of r.client r.number n.state.log ≡ None = cc (c.client.ensures, c.number.ensures, c.group.ensures, c.in-None.ensures) in
+    let P : Option ℕ → Type 0 = λ o. IfErr c.append.result (IsRefusal (request_at c.args.table.now n.number n.state r o)) in
+    subst P (sym e) c.append.ensures.why

@@ -1,0 +1,39 @@
+use Rattle.std.proofs.Common.{◌≡◌, ℕ, ◌+◌, ◌<◌, ◌++◌, List, length, drop, get_or, min, ap, sym, ◌∙◌, arith, append_assoc, add-one}
+use Rattle.std.proofs.lemmas.List.{get_or_read, append-nil}
+use Rattle.pg_log.specs.Entries.{requests_of}
+use Rattle.group_world.specs.Node.{NodeState}
+use Rattle.group_world.specs.Unanswered.{reps_unacked}
+use Rattle.group_world.specs.declared.message.Packet.{Packet}
+use Rattle.peering.specs.Arriving.{at_interval, reps_for}
+use Rattle.peering.proofs.Lists.{drop_requests}
+use Rattle.peering.proofs.Raising.{reps_step, reps_end}
+use Rattle.peering.proofs.node.resend.reps_unacked.Goals as goal
+
+pub loop-place-preserved : goal.loop-place-preserved
+loop-place-preserved c =
+    let n : ℕ = c.args.number in
+    let k : ℕ = c.loop-place.place in
+    let ns : List ℕ = c.args.acting.now in
+    let ks : List ℕ = c.args.acked.now in
+    let es = c.args.entries.now in
+    let s : NodeState = at_interval c.args.interval (requests_of es) in
+    let t : List Packet = reps_unacked n s (drop (k + 1) ns) (drop (k + 1) ks) in
+    let front : List Packet = reps_for n c.index-acting-place.result s.interval (get_or ks k 0) (requests_of (drop (get_or ks k 0) es)) in
+    let within : k < length ns = omega arith in
+    let within_acked : k < length ks = omega arith in
+    let node : c.index-acting-place.result ≡ get_or ns k 0 = get_or_read ns k c.index-acting-place.result within c.index-acting-place.is 0 in
+    let step : reps_unacked n s (drop k ns) (drop k ks) ≡ front ++ t =
+    reps_step n k s ns ks within within_acked
+    ∙ ap (λ j. reps_for n (get_or ns k 0) s.interval (get_or ks k 0) (drop (get_or ks k 0) s.log) ++ reps_unacked n s (drop j ns) (drop j ks)) (sym (add-one k))
+    ∙ ap (λ m. reps_for n m s.interval (get_or ks k 0) (drop (get_or ks k 0) s.log) ++ t) (sym node)
+    ∙ ap (λ w. reps_for n c.index-acting-place.result s.interval (get_or ks k 0) w ++ t) (sym (drop_requests (get_or ks k 0) es)) in
+    ap (λ x. x ++ t) c.in_ok-reps_for.ensures.ok ∙ append_assoc c.loop-place.sent.items front t ∙ ap (λ x. c.loop-place.sent.items ++ x) (sym step) ∙ c.loop-place.invariant
+
+pub returns-clause-ok : goal.returns-clause-ok
+returns-clause-ok c =
+    let ns : List ℕ = c.args.acting.now in
+    let ks : List ℕ = c.args.acked.now in
+    let k : ℕ = c.loop-place.place in
+    let s : NodeState = at_interval c.args.interval (requests_of c.args.entries.now) in
+    let q : k ≡ min (length ns) (length ks) = omega arith in
+    sym (append-nil c.loop-place.sent.items) ∙ ap (λ w. c.loop-place.sent.items ++ w) (sym (reps_end c.args.number k s ns ks q)) ∙ c.loop-place.invariant

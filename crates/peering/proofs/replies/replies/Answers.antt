@@ -1,0 +1,19 @@
+use Rattle.std.proofs.Common.{◌≡◌, ℕ, ◌+◌, ◌++◌, ◌∷◌, [], List, take, drop, ap, sym, ◌∙◌, arith, append_assoc}
+use Rattle.pg_log.specs.Requests.{ClientRequest}
+use Rattle.group_world.specs.declared.message.Packet.{Packet}
+use Rattle.group_world.specs.Rules.{replies_from}
+use Rattle.peering.proofs.Raising.{replies_step}
+use Rattle.peering.proofs.replies.replies.Goals as goal
+
+pub loop-place-preserved : goal.loop-place-preserved
+loop-place-preserved g c =
+    let d : ClientRequest = record { client = 0; number = 0; object = []; class = 0; method = []; input = [] } in
+    let n : ℕ = c.args.number in
+    let k : ℕ = c.loop-place.place in
+    let log : List ClientRequest = c.args.group.now in
+    let p : Packet = c.in_ok-reply_in.field-0 in
+    let pe = c.in_ok-reply_in.ensures.ok d in
+    let s = replies_step c.args.table.now n k c.args.to log d (omega arith) (omega arith) in
+    let t : List Packet = replies_from c.args.table.now n log (k + 1) (drop (k + 1) (take c.args.to log)) in
+    ap (λ x. x ++ t) c.in_ok-push.ensures.items ∙ append_assoc c.loop-place.sent.items (p ∷ []) t ∙ ap (λ x. c.loop-place.sent.items ++ (x ∷ t)) pe
+    ∙ ap (λ x. c.loop-place.sent.items ++ x) (sym s) ∙ c.loop-place.invariant

@@ -1,0 +1,87 @@
+-- What is decided before a node moves: the move itself, and what it leaves.
+use Rattle.std.specs.Prelude.{◌≡◌, ℕ, List, [], ◌∷◌, ◌++◌, length, Option, Some, None, ◌==◌, unwrap_or, Bool, true, false, if◌then◌else◌}
+use Rattle.pg_log.specs.Requests.{ClientRequest}
+use Rattle.pg_log.specs.declared.log_error.LogError.{LogError}
+use Rattle.pg_log.specs.declared.log_error.LogError.TheVariants.{NoMemory}
+use Rattle.pg_log.specs.Log.{Classes, Legal, reply_at}
+use Rattle.std.specs.Int.{w64, cast_unsigned}
+use Rattle.pg_log.specs.declared.entry.Entry.{Entry}
+use Rattle.group_world.specs.Maps.{GroupMap, all_among}
+use Rattle.group_world.specs.Node.{NodeState, Outcome, nothing, fresh, is_installing, is_installed, packet, to_others}
+use Rattle.peering.specs.Numbered.{NumberedNode}
+use Rattle.group_world.specs.Unanswered.{reps_from}
+use Rattle.group_world.specs.Rules.{arrive, lead, is_usable}
+use Rattle.group_world.specs.declared.status.Status.{Status}
+use Rattle.group_world.specs.declared.status.Status.TheVariants.{Installed}
+use Rattle.group_world.specs.declared.party.Party.{Party}
+use Rattle.group_world.specs.declared.party.Party.TheVariants.{Monitor as TheMonitor}
+use Rattle.group_world.specs.declared.message.Kind.TheVariants.{Install, Installed as InstalledIn, AskActivate}
+use Rattle.group_world.specs.declared.message.Packet.{Packet}
+
+-- the log after a move: a primary that is installing at once has adopted the empty list
+abbrev pub log_after : NodeState → Option Status → List ClientRequest
+log_after s None = s.log
+log_after s (Some status) = if is_installing status then [] else s.log
+
+-- the node after a move to a map with a status and who has installed, or where it doesn't move
+abbrev pub after_move : NodeState → GroupMap → Option Status → List ℕ → NodeState
+after_move s m None joined = s
+after_move s m (Some status) joined =
+    record { interval = m.interval; members = m; status = status; log = log_after s (Some status); committed = s.committed; joined = joined; acked = [] }
+
+-- status, members and messages are those of the node's arrival at a map
+abbrev pub IsArrival : ℕ → NodeState → GroupMap → Option Status → List ℕ → List Packet → Type 0
+IsArrival n s m status joined sent = (after_move s m status joined ≡ (arrive n s m).node) × (sent ≡ (arrive n s m).sent)
+
+-- the same, where the node leads the map
+abbrev pub IsLeading : ℕ → NodeState → GroupMap → Option Status → List ℕ → List Packet → Type 0
+IsLeading n s m status joined sent = (after_move s m status joined ≡ (lead n s m).node) × (sent ≡ (lead n s m).sent)
+
+-- the interval after a move
+abbrev pub interval_after : NodeState → GroupMap → Option Status → ℕ
+interval_after s m None = s.interval
+interval_after s m (Some status) = m.interval
+
+-- what the primary sends on adopting a list
+abbrev pub asked_if : ℕ → ℕ → Bool → List Packet
+asked_if n interval all = if all then packet n TheMonitor (AskActivate interval) ∷ [] else []
+
+abbrev pub adopted_sent : ℕ → ℕ → GroupMap → List ClientRequest → List Packet
+adopted_sent n interval m list = to_others n m.acting (Install m list) ++ asked_if n interval (all_among m.acting (n ∷ []))
+
+-- the node with another log
+abbrev pub with_log : NumberedNode → List ClientRequest → NumberedNode
+with_log node list = record { number = node.number; state = record (node.state) { log = list } }
+
+-- An entry that may follow a list is legal there, and its reply is that of its place.
+pub record IsNextReply (classes : Classes) (log : List ClientRequest) (e : Entry) : Type 0 where
+  pub legal : Legal classes (log ++ e.request ∷ [])
+  pub reply : reply_at classes (log ++ e.request ∷ []) (length log) ≡ Some (record { code = cast_unsigned w64 e.code; output = e.output.items })
+
+-- a node of which only interval and log count
+abbrev pub at_interval : ℕ → List ClientRequest → NodeState
+at_interval interval log = record fresh { interval = interval; log = log }
+
+-- what goes to one member of the requests from its acknowledged length on
+abbrev pub reps_for : ℕ → ℕ → ℕ → ℕ → List ClientRequest → List Packet
+reps_for n m interval a rest = if m == n then [] else reps_from n m interval a rest
+
+-- what an Install makes of a node that waits once it has moved
+abbrev pub install_first : Classes → ℕ → NodeState → Party → GroupMap → List ClientRequest → Option Status → List ℕ → List Packet → Outcome
+install_first classes n s sender m list status joined sent = if is_usable classes s list then
+    record {
+      node = record (after_move (record s { log = list }) m status joined) { status = Installed };
+      sent = sent ++ packet n sender (InstalledIn (interval_after s m status)) ∷ [];
+      refusal = None;
+    } else nothing s
+
+-- and of one that doesn't
+abbrev pub install_again : ℕ → NodeState → Party → GroupMap → Option Status → List ℕ → List Packet → Outcome
+install_again n s sender m status joined sent = if is_installed (unwrap_or status s.status) then
+    record { node = after_move s m status joined; sent = sent ++ packet n sender (InstalledIn (interval_after s m status)) ∷ []; refusal = None }
+    else record { node = after_move s m status joined; sent = sent; refusal = None }
+
+-- memory was refused
+abbrev pub is_memory : LogError → Bool
+is_memory NoMemory = true
+is_memory _ = false

@@ -1,0 +1,57 @@
+//! Copies of requests, and the log's refusals as a node gives them.
+ghost use Rattle.std.specs.Prelude.{◌≡◌, IfOk, IfErr};
+ghost use Rattle.pg_log.specs.Entries.{requests_of};
+ghost use Rattle.group_world.specs.Refusal.{of_log};
+
+use group_world::HandleError;
+use pg_log::{Entry, LogError, Request};
+use std::alloc::Global;
+
+/// The log's refusal as a node gives it.
+pub(crate) fn refusal_of(error: LogError) -> HandleError
+    ensures { result ≡ of_log error }
+{
+    match error {
+        LogError::LogFull => HandleError::LogFull,
+        LogError::StaleNumber => HandleError::StaleNumber,
+        LogError::NoMemory => HandleError::NoMemory,
+        LogError::NoClass => HandleError::NoClass,
+        LogError::NoMethod => HandleError::NoMethod,
+        LogError::InputTooLong => HandleError::InputTooLong,
+    }
+}
+
+/// An equal request.
+pub(crate) fn copy_request(alloc: Global, request: &Request) -> Result<Request, HandleError>
+    ensures ok { IfOk result (λ r. r ≡ request.now) }
+    ensures err { IfErr result (λ e. e ≡ HandleError.NoMemory) }
+{
+    match request.copy(alloc) {
+        Ok(copy) => Ok(copy),
+        Err(_) => Err(HandleError::NoMemory),
+    }
+}
+
+/// Equal requests.
+pub(crate) fn copy_requests(alloc: Global, list: &[Request]) -> Result<Vec<Request>, HandleError>
+    ensures ok { IfOk result (λ v. v.items ≡ list.now) }
+    ensures err { IfErr result (λ e. e ≡ HandleError.NoMemory) }
+{
+    let mut copies = Vec::new(alloc);
+    for request in list {
+        copies.push(copy_request(alloc, request)?)?;
+    }
+    Ok(copies)
+}
+
+/// The requests of these entries.
+pub(crate) fn copy_log(alloc: Global, entries: &[Entry]) -> Result<Vec<Request>, HandleError>
+    ensures ok { IfOk result (λ v. v.items ≡ requests_of entries.now) }
+    ensures err { IfErr result (λ e. e ≡ HandleError.NoMemory) }
+{
+    let mut copies = Vec::new(alloc);
+    for entry in entries {
+        copies.push(copy_request(alloc, &entry.request)?)?;
+    }
+    Ok(copies)
+}

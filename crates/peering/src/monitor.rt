@@ -1,0 +1,144 @@
+ghost use Rattle.std.specs.Prelude.{◌≡◌, ◌⊎◌, ◌<◌, ◌-◌, ◌^◌, IfOk, IfErr, OnOk, OnErr, MatchResult, Some, None};
+ghost use Rattle.group_world.specs.Maps.{no_map};
+ghost use Rattle.group_world.specs.Monitor.{no_maps, map_refusal, next_map, with_map, activation_refusal, with_activated};
+
+use crate::compare::{are_same, is_acting};
+use group_world::{Epoch, GroupMap, MonitorError};
+use placement::NodeId;
+use std::alloc::{AllocError, Global};
+use std::marker::Model;
+use std::mem;
+
+/// The monitor of a group: it makes maps and activates intervals. It keeps two maps, however many it made. Contracts see
+/// the newest map, and the one that was newest at the last activation.
+#[derive(Drop)]
+pub struct Monitor {
+    alloc: Global,
+    newest: GroupMap,
+    /// The newest interval is the last activated one.
+    is_activated: bool,
+    /// Where it isn't, the last activated one.
+    activated: GroupMap,
+}
+
+impl Model for Monitor {
+    ghost use Rattle.std.specs.Prelude.{if◌then◌else◌};
+    ghost use Rattle.group_world.specs.Monitor.{MonitorState};
+
+    ghost Value = { MonitorState };
+
+    ghost view = { λ m. record {
+      newest = m.newest;
+      activated = if m.is_activated then m.newest else m.activated;
+    } };
+}
+
+/// No map.
+fn no_map(alloc: Global) -> GroupMap
+    ensures { result ≡ no_map }
+{
+    let none = Epoch::new(0);
+    GroupMap::new(none, none, Vec::new(alloc), none, Vec::new(alloc))
+}
+
+impl Monitor {
+    /// The monitor before its first map. It takes no memory.
+    pub fn new(alloc: Global) -> Monitor
+        ensures { result ≡ no_maps }
+    {
+        Monitor {
+            alloc,
+            newest: no_map(alloc),
+            is_activated: false,
+            activated: no_map(alloc),
+        }
+    }
+}
+
+impl Monitor {
+    /// Makes the next map, and gives it. Where the acting list is that of the newest map, in the same order, it keeps that
+    /// map's interval and what was before it; else an interval begins, and before it was the last activated one. It
+    /// refuses by, the first that applies: `BadActing` where the list hasn't one to three nodes, or has one twice or a
+    /// number above 15; `EpochsUsedUp` after epoch 2^32 - 1; `NoMemory`. A refusal leaves the monitor as it was.
+    pub fn new_map(&mut self, acting: &[NodeId]) -> Result<GroupMap, MonitorError>
+        ensures ok { IfOk result (λ m. (m ≡ next_map self.old acting.now) × (map_refusal self.old acting.now ≡ None)) }
+        ensures made { OnOk result (self.new ≡ with_map self.old acting.now) }
+        ensures refused { OnErr result (self.new ≡ self.old) }
+        ensures err { IfErr result (λ e. (map_refusal self.old acting.now ≡ Some e) ⊎ ((e ≡ MonitorError.NoMemory) × (map_refusal self.old acting.now ≡ None))) }
+    {
+        if !is_acting(acting) {
+            return Err(MonitorError::BadActing);
+        }
+        if self.newest.epoch().get() == u32::MAX {
+            return Err(MonitorError::EpochsUsedUp);
+        }
+        let next = self.next_map(acting)?;
+        let kept = next.copy(self.alloc)?;
+        let before = mem::replace(&mut self.newest, kept);
+        if self.is_activated {
+            self.activated = before;
+            self.is_activated = false;
+        }
+        Ok(next)
+    }
+
+    /// The next map of an acting list.
+    fn next_map(&self, acting: &[NodeId]) -> Result<GroupMap, AllocError>
+        requires { self.now.newest.epoch < 2 ^ 32 - 1 }
+        ensures { IfOk result (λ m. m ≡ next_map self.now acting.now) }
+    {
+        let epoch = Epoch::new(self.newest.epoch().get() + 1);
+        let nodes = Vec::from_slice(self.alloc, acting)?;
+        if are_same(self.newest.acting(), acting) {
+            let before = Vec::from_slice(self.alloc, self.newest.prev_acting())?;
+            return Ok(GroupMap::new(
+                epoch,
+                self.newest.interval(),
+                nodes,
+                self.newest.prev(),
+                before,
+            ));
+        }
+        let last = self.last_activated();
+        let before = Vec::from_slice(self.alloc, last.acting())?;
+        Ok(GroupMap::new(epoch, epoch, nodes, last.interval(), before))
+    }
+
+    /// The map that was the newest at the last activation.
+    fn last_activated(&self) -> &GroupMap
+        ensures { result.now ≡ self.now.activated }
+    {
+        if self.is_activated {
+            &self.newest
+        } else {
+            &self.activated
+        }
+    }
+
+    /// Activates an interval. It refuses by `NotNewest` where it isn't the newest map's, and is then as it was. A second
+    /// time changes nothing. It takes no memory.
+    pub fn activate(&mut self, interval: Epoch) -> Result<(), MonitorError>
+        ensures answer { MatchResult result (λ _. activation_refusal self.old interval ≡ None) (λ e. activation_refusal self.old interval ≡ Some e) }
+        ensures ok { OnOk result (self.new ≡ with_activated self.old) }
+        ensures refused { OnErr result (self.new ≡ self.old) }
+    {
+        if interval.get() == 0 || interval != self.newest.interval() {
+            return Err(MonitorError::NotNewest);
+        }
+        self.is_activated = true;
+        Ok(())
+    }
+
+    /// An equal monitor. It refuses by `NoMemory` alone.
+    pub fn copy(&self, alloc: Global) -> Result<Monitor, MonitorError>
+        ensures ok { IfOk result (λ m. m ≡ self.now) }
+        ensures err { IfErr result (λ e. e ≡ MonitorError.NoMemory) }
+    {
+        Ok(Monitor {
+            alloc,
+            newest: self.newest.copy(alloc)?,
+            is_activated: self.is_activated,
+            activated: self.activated.copy(alloc)?,
+        })
+    }
+}

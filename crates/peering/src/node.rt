@@ -1,0 +1,199 @@
+ghost use Rattle.std.specs.Prelude.{◌≡◌, ◌≤◌, length, IfOk, IfErr, OnErr};
+ghost use mathlib.Core.List.{IsPrefix};
+ghost use Rattle.pg_log.specs.Log.{Legal};
+ghost use Rattle.group_world.specs.Node.{fresh};
+ghost use Rattle.group_world.specs.Rules.{local_step, receive};
+ghost use Rattle.peering.specs.Numbered.{IsDone, IsRefusal};
+
+mod lead;
+mod moves;
+mod resend;
+mod serve;
+
+use group_world::{Epoch, Event, GroupMap, HandleError, Kind, Messages, Packet, Party, Status};
+use interp::ClassTable;
+use pg_log::{Classes, Group, legal_lists, refusals};
+use placement::NodeId;
+use std::alloc::Global;
+use std::marker::Model;
+
+/// A node of a group, for the classes that `C` names. Contracts see its number and its state.
+#[derive(Drop)]
+pub struct GroupNode<C: Classes> {
+    alloc: Global,
+    number: NodeId,
+    interval: Epoch,
+    members: GroupMap,
+    status: Status,
+    group: Group<C>,
+    committed: usize,
+    joined: Vec<NodeId>,
+    acked: Vec<usize>,
+}
+
+impl<C: Classes> Model for GroupNode<C> {
+    ghost use Rattle.std.specs.Prelude.{◌≤◌, length};
+    ghost use Rattle.peering.specs.Numbered.{NumberedNode};
+
+    ghost Value = { NumberedNode };
+
+    ghost view = { λ g. record {
+      number = g.number;
+      state = record {
+        interval = g.interval;
+        members = g.members;
+        status = g.status;
+        log = g.group;
+        committed = g.committed;
+        joined = g.joined.items;
+        acked = g.acked.items;
+      };
+    } };
+
+    ghost invariant = { λ g. g.committed ≤ length g.group };
+}
+
+impl<C: Classes> GroupNode<C> {
+    /// A node that has learned no map, with an empty log. It takes no memory.
+    pub fn new(alloc: Global, number: NodeId) -> GroupNode<C>
+        ensures { result ≡ record { number = number; state = fresh } }
+    {
+        let none = Epoch::new(0);
+        GroupNode {
+            alloc,
+            number,
+            interval: none,
+            members: GroupMap::new(none, none, Vec::new(alloc), none, Vec::new(alloc)),
+            status: Status::Out,
+            group: Group::new(alloc),
+            committed: 0,
+            joined: Vec::new(alloc),
+            acked: Vec::new(alloc),
+        }
+    }
+
+    /// The interval that it is in, 0 before the first.
+    pub fn epoch(&self) -> Epoch
+        ensures { result ≡ self.now.state.interval }
+    {
+        self.interval
+    }
+
+    /// What it does in that interval.
+    pub fn status(&self) -> Status
+        ensures { result ≡ self.now.state.status }
+    {
+        self.status
+    }
+
+    /// How many entries its log has.
+    pub fn len(&self) -> usize
+        ensures { result ≡ length self.now.state.log }
+    {
+        self.group.len()
+    }
+
+    /// How many of them are committed, from the first on.
+    pub fn committed(&self) -> usize
+        ensures value { result ≡ self.now.state.committed }
+        ensures within { self.now.state.committed ≤ length self.now.state.log }
+    {
+        self.committed
+    }
+
+    /// Its log, with the objects and replies that it makes.
+    pub fn group(&self) -> &Group<C>
+        ensures { result.now ≡ self.now.state.log }
+    {
+        &self.group
+    }
+
+    /// An equal node. It refuses by `NoMemory` alone.
+    pub fn copy(&self, alloc: Global) -> Result<GroupNode<C>, HandleError>
+        ensures ok { IfOk result (λ n. n ≡ self.now) }
+        ensures err { IfErr result (λ e. e ≡ HandleError.NoMemory) }
+    {
+        let Ok(group) = self.group.copy(alloc) else {
+            return Err(HandleError::NoMemory);
+        };
+        Ok(GroupNode {
+            alloc,
+            number: self.number,
+            interval: self.interval,
+            members: self.members.copy(alloc)?,
+            status: self.status,
+            group,
+            committed: self.committed,
+            joined: Vec::from_slice(alloc, &self.joined)?,
+            acked: Vec::from_slice(alloc, &self.acked)?,
+        })
+    }
+}
+
+impl<C: Classes> GroupNode<C> {
+    /// Takes an event: a request, a map or a message. It gives the messages that it sends, in their order, or refuses: a
+    /// request by the first that applies of 1 to 8, another event by `NoMemory` alone. A refusal leaves the node as if the
+    /// event never came.
+    ///
+    /// The table is that of the earlier calls, or that one with classes added. A request at the primary costs its call
+    /// and a logarithm, an Ack a constant and a Reply for each newly committed entry, and a list that is the node's own
+    /// save for its end the comparison, and what undoing and running the ends costs.
+    pub fn handle(&mut self, table: &ClassTable, event: Event) -> Result<Messages, HandleError>
+        requires table { IsPrefix table.now C.classes }
+        requires legal { Legal table.now self.old.state.log }
+        // The state and exactly the messages of the world's step.
+        ensures done { IfOk result (λ sent. IsDone self.old self.new sent (local_step table.now self.old.number self.old.state event)) }
+        ensures refused { OnErr result (self.new ≡ self.old) }
+        ensures why { IfErr result (λ e. IsRefusal (local_step table.now self.old.number self.old.state event) e) }
+        ensures legal { Legal table.now self.new.state.log }
+    {
+        legal_lists();
+        refusals();
+        let sent = self.take(table, event)?;
+        Ok(Messages::new(sent))
+    }
+
+    /// Takes an event.
+    fn take(&mut self, table: &ClassTable, event: Event) -> Result<Vec<Packet>, HandleError>
+        requires table { IsPrefix table.now C.classes }
+        requires legal { Legal table.now self.old.state.log }
+        ensures done { IfOk result (λ sent. IsDone self.old self.new sent.items (local_step table.now self.old.number self.old.state event)) }
+        ensures refused { OnErr result (self.new ≡ self.old) }
+        ensures why { IfErr result (λ e. IsRefusal (local_step table.now self.old.number self.old.state event) e) }
+    {
+        legal_lists();
+        refusals();
+        match event {
+            Event::Request(request) => self.request(table, request),
+            Event::Map(map) => self.learn_map(map),
+            Event::Message(message) => self.receive(table, message.sender, message.kind),
+        }
+    }
+
+    /// Takes a message.
+    fn receive(
+        &mut self,
+        table: &ClassTable,
+        sender: Party,
+        kind: Kind,
+    ) -> Result<Vec<Packet>, HandleError>
+        requires table { IsPrefix table.now C.classes }
+        requires legal { Legal table.now self.old.state.log }
+        ensures done { IfOk result (λ sent. IsDone self.old self.new sent.items (receive table.now self.old.number self.old.state sender kind)) }
+        ensures refused { OnErr result (self.new ≡ self.old) }
+        ensures why { IfErr result (λ e. e ≡ HandleError.NoMemory) }
+    {
+        match kind {
+            Kind::Query(map) => self.answer_query(sender, map),
+            Kind::Log(interval, list) => self.adopt_log(table, interval, list.items()),
+            Kind::Install(map, list) => self.install(table, sender, map, list.items()),
+            Kind::Installed(interval) => self.note_installed(sender, interval),
+            Kind::Activated(interval) => self.activate(interval),
+            Kind::Rep(interval, place, request) => {
+                self.replicate(table, sender, interval, place, request)
+            }
+            Kind::Ack(interval, length) => self.acknowledge(table, sender, interval, length),
+            Kind::AskActivate(_) | Kind::Reply(_, _, _, _) => Ok(Vec::new(self.alloc)),
+        }
+    }
+}

@@ -1,0 +1,199 @@
+//! A primary before it is active: it adopts a list, notes who has installed it, and becomes active.
+ghost use Rattle.std.specs.Prelude.{◌≡◌, ◌++◌, ◌∷◌, [], take, length, IfOk, IfErr, OnErr, if◌then◌else◌, is_none, true, ◌≤◌};
+ghost use mathlib.Core.List.{IsPrefix};
+ghost use Rattle.pg_log.specs.Log.{Legal};
+ghost use Rattle.pg_log.specs.Entries.{requests_of};
+ghost use Rattle.pg_log.specs.Refusals.{first_refusal};
+ghost use Rattle.group_world.specs.Node.{committed_list};
+ghost use Rattle.group_world.specs.Rules.{adopt_log, note_installed, activate, each_at, is_usable, is_same_request, begins};
+ghost use Rattle.peering.specs.Numbered.{IsDone};
+ghost use Rattle.peering.specs.Arriving.{with_log, is_memory};
+
+use crate::compare::{are_among, is_among};
+use crate::node::GroupNode;
+use crate::packets::{adoption, packet};
+use group_world::{Epoch, HandleError, Kind, Packet, Party, Status};
+use interp::ClassTable;
+use pg_log::{Classes, Entry, Group, LogError, Request, adopting};
+use placement::NodeId;
+use std::alloc::Global;
+
+impl<C: Classes> GroupNode<C> {
+    /// Takes a list that a member sent: a primary that asks adopts the first usable one.
+    pub(crate) fn adopt_log(
+        &mut self,
+        table: &ClassTable,
+        interval: Epoch,
+        list: &[Request],
+    ) -> Result<Vec<Packet>, HandleError>
+        requires table { IsPrefix table.now C.classes }
+        requires legal { Legal table.now self.old.state.log }
+        ensures done { IfOk result (λ sent. IsDone self.old self.new sent.items (adopt_log table.now self.old.number self.old.state interval list.now)) }
+        ensures err { OnErr result (self.new ≡ self.old) }
+        ensures why { IfErr result (λ e. e ≡ HandleError.NoMemory) }
+    {
+        if interval != self.interval || self.status != Status::Asking {
+            return Ok(Vec::new(self.alloc));
+        }
+        let sent = adoption(self.alloc, self.number, self.interval, &self.members, list)?;
+        let mut joined = Vec::with_capacity(self.alloc, 1)?;
+        joined.push_reserved(self.number);
+        if !self.take_list(table, list)? {
+            return Ok(Vec::new(self.alloc));
+        }
+        self.status = Status::Installing;
+        self.joined = joined;
+        self.acked.clear();
+        Ok(sent)
+    }
+
+    /// Makes the log a received list, where it is usable. Else, and at an error, nothing changes.
+    pub(crate) fn take_list(
+        &mut self,
+        table: &ClassTable,
+        list: &[Request],
+    ) -> Result<bool, HandleError>
+        requires table { IsPrefix table.now C.classes }
+        requires legal { Legal table.now self.old.state.log }
+        ensures usable { IfOk result (λ taken. taken ≡ is_usable table.now self.old.state list.now) }
+        ensures taken { IfOk result (λ taken. self.new ≡ (if taken then with_log self.old list.now else self.old)) }
+        ensures status { self.new.state.status ≡ self.old.state.status }
+        ensures err { OnErr result (self.new ≡ self.old) }
+        ensures why { IfErr result (λ e. e ≡ HandleError.NoMemory) }
+    {
+        if !self.keeps_committed(list) {
+            return Ok(false);
+        }
+        if become_list(table, &mut self.group, self.committed, list)? {
+            return Ok(true);
+        }
+        Ok(false)
+    }
+
+    /// Whether a list begins with the committed list.
+    fn keeps_committed(&self, list: &[Request]) -> bool
+        ensures value { result ≡ begins (committed_list self.now.state) list.now }
+        ensures within { result ≡ true → self.now.state.committed ≤ length list.now }
+    {
+        begins_with(&self.group.entries()[..self.committed], list)
+    }
+
+    /// Notes that a member has installed.
+    pub(crate) fn note_installed(
+        &mut self,
+        sender: Party,
+        interval: Epoch,
+    ) -> Result<Vec<Packet>, HandleError>
+        ensures done { IfOk result (λ sent. IsDone self.old self.new sent.items (note_installed self.old.number self.old.state sender interval)) }
+        ensures err { OnErr result (self.new ≡ self.old) }
+        ensures why { IfErr result (λ e. e ≡ HandleError.NoMemory) }
+    {
+        let Party::Node(member) = sender else {
+            return Ok(Vec::new(self.alloc));
+        };
+        if interval != self.interval || self.status != Status::Installing {
+            return Ok(Vec::new(self.alloc));
+        }
+        if !is_among(self.members.acting(), member) || is_among(&self.joined, member) {
+            return Ok(Vec::new(self.alloc));
+        }
+        let mut sent = Vec::with_capacity(self.alloc, 1)?;
+        self.joined.push(member)?;
+        if are_among(self.members.acting(), &self.joined) {
+            let kind = Kind::AskActivate(self.interval);
+            sent.push_reserved(packet(self.number, Party::Monitor, kind));
+        }
+        Ok(sent)
+    }
+
+    /// Becomes active, where the monitor has activated its interval.
+    pub(crate) fn activate(&mut self, interval: Epoch) -> Result<Vec<Packet>, HandleError>
+        ensures done { IfOk result (λ sent. IsDone self.old self.new sent.items (activate self.old.state interval)) }
+        ensures err { OnErr result (self.new ≡ self.old) }
+        ensures why { IfErr result (λ e. e ≡ HandleError.NoMemory) }
+    {
+        if interval != self.interval || self.status != Status::Installing {
+            return Ok(Vec::new(self.alloc));
+        }
+        let length = self.group.len();
+        let acked = each_at(self.alloc, self.members.acting(), length)?;
+        self.status = Status::Active;
+        self.committed = length;
+        self.acked = acked;
+        Ok(Vec::new(self.alloc))
+    }
+}
+
+/// The same length for each of these nodes.
+fn each_at(alloc: Global, nodes: &[NodeId], length: usize) -> Result<Vec<usize>, HandleError>
+    ensures ok { IfOk result (λ v. v.items ≡ each_at nodes.now length) }
+    ensures err { IfErr result (λ e. e ≡ HandleError.NoMemory) }
+{
+    let mut lengths = Vec::new(alloc);
+    for _node in nodes {
+        lengths.push(length)?;
+    }
+    Ok(lengths)
+}
+
+/// Makes a log a received list, where the list is legal, and says whether. Else, and at an error, nothing changes. Log and
+/// list are at least as long as the committed list.
+fn become_list<C: Classes>(
+    table: &ClassTable,
+    group: &mut Group<C>,
+    committed: usize,
+    list: &[Request],
+) -> Result<bool, HandleError>
+    requires table { IsPrefix table.now C.classes }
+    requires legal { Legal table.now group.old }
+    requires own { committed ≤ length group.old }
+    requires list { committed ≤ length list.now }
+    ensures legal { IfOk result (λ taken. taken ≡ is_none (first_refusal table.now list.now)) }
+    ensures taken { IfOk result (λ taken. group.new ≡ (if taken then list.now else group.old)) }
+    ensures within { committed ≤ length group.new }
+    ensures err { OnErr result (group.new ≡ group.old) }
+    ensures why { IfErr result (λ e. e ≡ HandleError.NoMemory) }
+{
+    adopting();
+    match group.adopt(table, list) {
+        Ok(_common) => Ok(true),
+        Err(error) => {
+            if is_memory(error) {
+                return Err(HandleError::NoMemory);
+            }
+            Ok(false)
+        }
+    }
+}
+
+/// Whether memory was refused.
+fn is_memory(error: LogError) -> bool
+    ensures { result ≡ is_memory error }
+{
+    match error {
+        LogError::NoMemory => true,
+        _ => false,
+    }
+}
+
+/// Whether a list begins with the requests of these entries.
+fn begins_with(entries: &[Entry], list: &[Request]) -> bool
+    ensures { result ≡ begins (requests_of entries.now) list.now }
+{
+    if list.len() < entries.len() {
+        return false;
+    }
+    for place in 0..entries.len() {
+        if !are_same(&entries[place].request, &list[place]) {
+            return false;
+        }
+    }
+    true
+}
+
+/// Whether the requests are equal.
+fn are_same(one: &Request, other: &Request) -> bool
+    ensures { result ≡ is_same_request one.now other.now }
+{
+    one.is(other)
+}

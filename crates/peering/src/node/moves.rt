@@ -1,0 +1,280 @@
+//! A node at a map: learning it, and what it does at a Query or an Install that carries one.
+ghost use Rattle.std.specs.Prelude.{◌≡◌, ◌≤◌, ◌++◌, ◌∷◌, [], length, unwrap_or, false, IfOk, IfErr, OnErr};
+ghost use mathlib.Core.List.{IsPrefix};
+ghost use Rattle.pg_log.specs.Log.{Legal};
+ghost use Rattle.group_world.specs.Node.{is_waiting};
+ghost use Rattle.group_world.specs.Rules.{arrive, would_forget, ignores, learn_map, answer_query, install};
+ghost use Rattle.peering.specs.Numbered.{IsDone};
+ghost use Rattle.peering.specs.Arriving.{after_move, IsArrival, IsLeading, log_after, interval_after, install_first, install_again};
+
+use crate::compare::{is_among, leads};
+use crate::copies::copy_log;
+use crate::node::GroupNode;
+use crate::packets::{adoption, packet, query_to_all};
+use group_world::{Epoch, GroupMap, HandleError, Kind, Packet, Party, Requests, Status};
+use interp::ClassTable;
+use pg_log::{Classes, Group, LogError, Request};
+use placement::NodeId;
+use std::alloc::Global;
+
+/// What a node is to do at a map: its new status, where it moves, who has installed then, and what it sends.
+#[derive(Drop)]
+pub(crate) struct Arrival {
+    pub status: Option<Status>,
+    pub joined: Vec<NodeId>,
+    pub sent: Vec<Packet>,
+}
+
+impl<C: Classes> GroupNode<C> {
+    /// Learns a map.
+    pub(crate) fn learn_map(&mut self, map: GroupMap) -> Result<Vec<Packet>, HandleError>
+        ensures done { IfOk result (λ sent. IsDone self.old self.new sent.items (learn_map self.old.number self.old.state map)) }
+        ensures err { OnErr result (self.new ≡ self.old) }
+        ensures why { IfErr result (λ e. e ≡ HandleError.NoMemory) }
+    {
+        if self.would_forget(&map) {
+            return Ok(Vec::new(self.alloc));
+        }
+        let arrival = self.arrival(&map)?;
+        self.move_to(map, arrival.status, arrival.joined);
+        Ok(arrival.sent)
+    }
+
+    /// Answers a Query: moves to its map first, then sends its list to the asker.
+    pub(crate) fn answer_query(
+        &mut self,
+        asker: Party,
+        map: GroupMap,
+    ) -> Result<Vec<Packet>, HandleError>
+        ensures done { IfOk result (λ sent. IsDone self.old self.new sent.items (answer_query self.old.number self.old.state asker map)) }
+        ensures err { OnErr result (self.new ≡ self.old) }
+        ensures why { IfErr result (λ e. e ≡ HandleError.NoMemory) }
+    {
+        if self.ignores(&map) {
+            return Ok(Vec::new(self.alloc));
+        }
+        let arrival = self.arrival(&map)?;
+        let list = Requests::new(self.log_after(arrival.status)?);
+        let kind = Kind::Log(self.interval_after(&map, arrival.status), list);
+        let mut sent = arrival.sent;
+        sent.push(packet(self.number, asker, kind))?;
+        self.move_to(map, arrival.status, arrival.joined);
+        Ok(sent)
+    }
+
+    /// Takes the list of an Install: moves to its map first.
+    pub(crate) fn install(
+        &mut self,
+        table: &ClassTable,
+        sender: Party,
+        map: GroupMap,
+        list: &[Request],
+    ) -> Result<Vec<Packet>, HandleError>
+        requires table { IsPrefix table.now C.classes }
+        requires legal { Legal table.now self.old.state.log }
+        ensures done { IfOk result (λ sent. IsDone self.old self.new sent.items (install table.now self.old.number self.old.state sender map list.now)) }
+        ensures err { OnErr result (self.new ≡ self.old) }
+        ensures why { IfErr result (λ e. e ≡ HandleError.NoMemory) }
+    {
+        if self.ignores(&map) {
+            return Ok(Vec::new(self.alloc));
+        }
+        let arrival = self.arrival(&map)?;
+        if is_waiting(self.status_after(arrival.status)) {
+            return self.install_first(table, sender, map, list, arrival);
+        }
+        self.install_again(sender, map, arrival)
+    }
+
+    /// Takes the list of an Install, where it waits once it has moved.
+    fn install_first(
+        &mut self,
+        table: &ClassTable,
+        sender: Party,
+        map: GroupMap,
+        list: &[Request],
+        arrival: Arrival,
+    ) -> Result<Vec<Packet>, HandleError>
+        requires table { IsPrefix table.now C.classes }
+        requires legal { Legal table.now self.old.state.log }
+        requires waits { unwrap_or arrival.status self.old.state.status ≡ Status.Waiting }
+        ensures done { IfOk result (λ sent. IsDone self.old self.new sent.items (install_first table.now self.old.number self.old.state sender map list.now arrival.status arrival.joined.items arrival.sent.items)) }
+        ensures err { OnErr result (self.new ≡ self.old) }
+        ensures why { IfErr result (λ e. e ≡ HandleError.NoMemory) }
+    {
+        let said = Kind::Installed(self.interval_after(&map, arrival.status));
+        let mut sent = arrival.sent;
+        sent.push(packet(self.number, sender, said))?;
+        if !self.take_list(table, list)? {
+            return Ok(Vec::new(self.alloc));
+        }
+        let _ = self.committed();
+        self.move_to(map, arrival.status, arrival.joined);
+        self.status = Status::Installed;
+        Ok(sent)
+    }
+
+    /// Says of an Install that it has installed, where it has once it has moved.
+    fn install_again(
+        &mut self,
+        sender: Party,
+        map: GroupMap,
+        arrival: Arrival,
+    ) -> Result<Vec<Packet>, HandleError>
+        requires { self.old.state.committed ≤ length (log_after self.old.state arrival.status) }
+        ensures done { IfOk result (λ sent. IsDone self.old self.new sent.items (install_again self.old.number self.old.state sender map arrival.status arrival.joined.items arrival.sent.items)) }
+        ensures err { OnErr result (self.new ≡ self.old) }
+        ensures why { IfErr result (λ e. e ≡ HandleError.NoMemory) }
+    {
+        let mut sent = arrival.sent;
+        if let Status::Installed = self.status_after(arrival.status) {
+            let said = Kind::Installed(self.interval_after(&map, arrival.status));
+            sent.push(packet(self.number, sender, said))?;
+        }
+        self.move_to(map, arrival.status, arrival.joined);
+        Ok(sent)
+    }
+}
+
+impl<C: Classes> GroupNode<C> {
+    /// Whether the map would have a node that has committed adopt the empty list.
+    fn would_forget(&self, map: &GroupMap) -> bool
+        ensures { result ≡ would_forget self.now.number self.now.state map.now }
+    {
+        self.interval.get() < map.interval().get()
+            && leads(map.acting(), self.number)
+            && map.prev().get() == 0
+            && 0 < self.committed
+    }
+
+    /// Whether a message with this map is ignored.
+    fn ignores(&self, map: &GroupMap) -> bool
+        ensures { result ≡ ignores self.now.number self.now.state map.now }
+    {
+        map.interval().get() < self.interval.get() || self.would_forget(map)
+    }
+
+    /// What it is to do at a map that it doesn't ignore.
+    fn arrival(&self, map: &GroupMap) -> Result<Arrival, HandleError>
+        requires { would_forget self.now.number self.now.state map.now ≡ false }
+        ensures ok { IfOk result (λ a. IsArrival self.now.number self.now.state map.now a.status a.joined.items a.sent.items) }
+        ensures within { IfOk result (λ a. self.now.state.committed ≤ length (log_after self.now.state a.status)) }
+        ensures err { IfErr result (λ e. e ≡ HandleError.NoMemory) }
+    {
+        let arrival = self.decided(map)?;
+        let _ = self.committed();
+        Ok(arrival)
+    }
+
+    /// What it is to do at a map.
+    fn decided(&self, map: &GroupMap) -> Result<Arrival, HandleError>
+        ensures ok { IfOk result (λ a. IsArrival self.now.number self.now.state map.now a.status a.joined.items a.sent.items) }
+        ensures err { IfErr result (λ e. e ≡ HandleError.NoMemory) }
+    {
+        if map.interval().get() <= self.interval.get() {
+            return Ok(quiet(self.alloc, None));
+        }
+        if leads(map.acting(), self.number) {
+            return self.leading(map);
+        }
+        if is_among(map.acting(), self.number) {
+            return Ok(quiet(self.alloc, Some(Status::Waiting)));
+        }
+        Ok(quiet(self.alloc, Some(Status::Out)))
+    }
+
+    /// What the primary of a map is to do.
+    fn leading(&self, map: &GroupMap) -> Result<Arrival, HandleError>
+        ensures ok { IfOk result (λ a. IsLeading self.now.number self.now.state map.now a.status a.joined.items a.sent.items) }
+        ensures err { IfErr result (λ e. e ≡ HandleError.NoMemory) }
+    {
+        if map.prev().get() == 0 {
+            let mut joined = Vec::with_capacity(self.alloc, 1)?;
+            joined.push_reserved(self.number);
+            let sent = adoption(self.alloc, self.number, map.interval(), map, &[])?;
+            return Ok(Arrival {
+                status: Some(Status::Installing),
+                joined,
+                sent,
+            });
+        }
+        Ok(Arrival {
+            status: Some(Status::Asking),
+            joined: Vec::new(self.alloc),
+            sent: query_to_all(self.alloc, self.number, map.prev_acting(), map)?,
+        })
+    }
+
+    /// Its status after a move.
+    fn status_after(&self, status: Option<Status>) -> Status
+        ensures { result ≡ unwrap_or status self.now.state.status }
+    {
+        match status {
+            None => self.status,
+            Some(status) => status,
+        }
+    }
+
+    /// Its interval after a move.
+    fn interval_after(&self, map: &GroupMap, status: Option<Status>) -> Epoch
+        ensures { result ≡ interval_after self.now.state map.now status }
+    {
+        match status {
+            None => self.interval,
+            Some(_) => map.interval(),
+        }
+    }
+
+    /// A copy of its list after a move.
+    fn log_after(&self, status: Option<Status>) -> Result<Vec<Request>, HandleError>
+        ensures ok { IfOk result (λ v. v.items ≡ log_after self.now.state status) }
+        ensures err { IfErr result (λ e. e ≡ HandleError.NoMemory) }
+    {
+        match status {
+            Some(Status::Installing) => Ok(Vec::new(self.alloc)),
+            _ => copy_log(self.alloc, self.group.entries()),
+        }
+    }
+
+    /// Moves to a map with a status, or stays. It takes no memory.
+    fn move_to(&mut self, map: GroupMap, status: Option<Status>, joined: Vec<NodeId>)
+        requires { self.old.state.committed ≤ length (log_after self.old.state status) }
+        ensures number { self.new.number ≡ self.old.number }
+        ensures state { self.new.state ≡ after_move self.old.state map status joined.items }
+    {
+        let Some(status) = status else {
+            return;
+        };
+        self.interval = map.interval();
+        self.members = map;
+        self.status = status;
+        self.joined = joined;
+        self.acked.clear();
+        if let Status::Installing = status {
+            self.group = Group::new(self.alloc);
+        }
+    }
+}
+
+/// Nothing to send, and nobody has installed.
+fn quiet(alloc: Global, status: Option<Status>) -> Arrival
+    ensures status { result.status ≡ status }
+    ensures joined { result.joined.items ≡ [] }
+    ensures sent { result.sent.items ≡ [] }
+{
+    Arrival {
+        status,
+        joined: Vec::new(alloc),
+        sent: Vec::new(alloc),
+    }
+}
+
+/// Whether it waits for the primary's list.
+fn is_waiting(status: Status) -> bool
+    ensures { result ≡ is_waiting status }
+{
+    match status {
+        Status::Waiting => true,
+        _ => false,
+    }
+}

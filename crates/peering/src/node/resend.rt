@@ -1,0 +1,112 @@
+//! What a node sends again.
+ghost use Rattle.std.specs.Prelude.{◌≡◌, ◌++◌, drop, IfOk, IfErr, OnOk};
+ghost use Rattle.pg_log.specs.Entries.{requests_of};
+ghost use Rattle.group_world.specs.Unanswered.{unanswered, unanswered_in, reps_unacked};
+ghost use Rattle.peering.specs.Arriving.{at_interval, reps_for};
+
+use crate::compare::are_among;
+use crate::copies::copy_log;
+use crate::node::GroupNode;
+use crate::packets::{install_to_missing, packet, query_to_all, reps_to};
+use group_world::{Epoch, HandleError, Kind, Messages, Packet, Party, Place, Status};
+use pg_log::{Classes, Entry};
+use placement::NodeId;
+use std::alloc::Global;
+
+impl<C: Classes> GroupNode<C> {
+    /// The messages that it sent in its interval and that no answer covers, members in acting order (of Query those of
+    /// the interval before), places rising. It refuses by `NoMemory` alone.
+    #[tactic(auto, using(crate::proofs::Raising::reps_same))]
+    pub fn resend(&self) -> Result<Messages, HandleError>
+        ensures ok { IfOk result (λ sent. sent ≡ unanswered self.now.number self.now.state) }
+        ensures err { IfErr result (λ e. e ≡ HandleError.NoMemory) }
+    {
+        let (alloc, number) = (self.alloc, self.number);
+        let sent = match self.status {
+            Status::Out | Status::Waiting | Status::Installed => Vec::new(alloc),
+            Status::Asking => {
+                query_to_all(alloc, number, self.members.prev_acting(), &self.members)?
+            }
+            Status::Installing => self.installs_again()?,
+            Status::Active => reps_unacked(
+                alloc,
+                number,
+                self.interval,
+                self.members.acting(),
+                &self.acked,
+                self.group.entries(),
+            )?,
+        };
+        Ok(Messages::new(sent))
+    }
+
+    /// Install to the members that haven't installed, and AskActivate where all have.
+    fn installs_again(&self) -> Result<Vec<Packet>, HandleError>
+        ensures ok { IfOk result (λ v. v.items ≡ unanswered_in self.now.number self.now.state Status.Installing) }
+        ensures err { IfErr result (λ e. e ≡ HandleError.NoMemory) }
+    {
+        let acting = self.members.acting();
+        let list = copy_log(self.alloc, self.group.entries())?;
+        let mut sent = install_to_missing(
+            self.alloc,
+            self.number,
+            &self.joined,
+            acting,
+            &self.members,
+            &list,
+        )?;
+        if are_among(acting, &self.joined) {
+            let kind = Kind::AskActivate(self.interval);
+            sent.push(packet(self.number, Party::Monitor, kind))?;
+        }
+        Ok(sent)
+    }
+}
+
+/// A Rep to each of these members but the sender, of each place past its acknowledged length.
+#[tactic(auto, using(crate::proofs::Raising::reps_end))]
+fn reps_unacked(
+    alloc: Global,
+    number: NodeId,
+    interval: Epoch,
+    acting: &[NodeId],
+    acked: &[usize],
+    entries: &[Entry],
+) -> Result<Vec<Packet>, HandleError>
+    ensures ok { IfOk result (λ v. v.items ≡ reps_unacked number (at_interval interval (requests_of entries.now)) acting.now acked.now) }
+    ensures err { IfErr result (λ e. e ≡ HandleError.NoMemory) }
+{
+    let mut sent = Vec::new(alloc);
+    for place in 0..acting.len().min(acked.len()) {
+        let from = acked[place];
+        reps_for(
+            alloc,
+            number,
+            acting[place],
+            interval,
+            from,
+            entries,
+            &mut sent,
+        )?;
+    }
+    Ok(sent)
+}
+
+/// A Rep to a member of each place from one on, unless the member is the sender.
+fn reps_for(
+    alloc: Global,
+    number: NodeId,
+    node: NodeId,
+    interval: Epoch,
+    from: Place,
+    entries: &[Entry],
+    sent: &mut Vec<Packet>,
+) -> Result<(), HandleError>
+    ensures ok { OnOk result (sent.new.items ≡ sent.old.items ++ reps_for number node interval from (requests_of (drop from entries.now))) }
+    ensures err { IfErr result (λ e. e ≡ HandleError.NoMemory) }
+{
+    if node == number {
+        return Ok(());
+    }
+    reps_to(alloc, number, node, interval, from, entries, sent)
+}
