@@ -1,4 +1,6 @@
 //! Drives nodes and their monitor by hand, a step at a time.
+ghost use Rattle.std.specs.Prelude.{◌≡◌};
+
 use super::lines::{copy, line, shown};
 use super::table::{request, table};
 use crate::{GroupNode, Monitor};
@@ -136,6 +138,14 @@ impl<C: Classes> World<C> {
         }
     }
 
+    /// The monitor takes a message.
+    fn tell_monitor<R: Abort>(&mut self, rt: &R, sender: Party, kind: Kind) {
+        if let Kind::AskActivate(interval) = kind {
+            let interval: Epoch = interval;
+            self.ask_monitor(rt, sender, interval);
+        }
+    }
+
     fn deliver<R: Abort>(&mut self, rt: &R, table: &ClassTable, number: usize)
         requires { table.now ≡ C.classes }
     {
@@ -150,11 +160,7 @@ impl<C: Classes> World<C> {
                 let at = usize::try_from(node.get()).expect(rt, "a node");
                 self.take(rt, table, at, Event::Message(message));
             }
-            Party::Monitor => {
-                if let Kind::AskActivate(interval) = message.kind {
-                    self.ask_monitor(rt, message.sender, interval);
-                }
-            }
+            Party::Monitor => self.tell_monitor(rt, message.sender, message.kind),
             Party::Client(_) => {}
         }
     }
