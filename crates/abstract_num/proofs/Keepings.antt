@@ -1,5 +1,5 @@
 -- That the tables keep every number, as laws.
-use Rattle.std.specs.Prelude.{◌≡◌, ℕ, ◌+◌, ◌-◌, ◌%◌, ◌^◌, ◌<◌, ◌≤◌, ◌≤ℤ◌, bit_or, bit_xor, Option, IsSomeAnd, pos}
+use Rattle.std.specs.Prelude.{◌≡◌, ℕ, ◌≤ℤ◌, bit_or, bit_xor}
 use Rattle.std.specs.Int.{bit_at, int_min, int_max}
 use Rattle.std.proofs.Common.{ℤ, ap, subst, zero-le, arith}
 use Rattle.std.proofs.lemmas.Int.{ints, clamps}
@@ -8,8 +8,7 @@ use Rattle.abstract_num.specs.Masks.{clear}
 use Rattle.abstract_num.specs.PartsFit.{bit_at_clear}
 use Rattle.abstract_num.specs.Signed.{signed}
 use Rattle.abstract_num.specs.Plain.{Plain, Holds, constant, join}
-use Rattle.abstract_num.specs.Keeping.{Fits, HeldIn, NumbersFit, ConstantsFit, NegativeKeeps, RangeKeeps, LoadKeeps, SignedLoadKeeps, IsUpper, JoinKeeps}
-use Rattle.abstract_num.specs.Tighten.{tighten}
+use Rattle.abstract_num.specs.Keeping.{HeldIn, ConstantsFit, NegativeKeeps, RangeKeeps, LoadKeeps, SignedLoadKeeps, JoinKeeps}
 use Rattle.abstract_num.specs.Transfer.{transferred, ranged, signed_ranged, load_high, signed_low, signed_high}
 use Rattle.bpf_decode.specs.declared.operation.Arithmetic.TheVariants.{Sub}
 use Rattle.abstract_num.proofs.Tight.{tighten_sound}

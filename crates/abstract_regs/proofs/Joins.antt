@@ -1,20 +1,20 @@
 -- The laws of the join of frames, from those of numbers.
-use Rattle.std.proofs.Common.{◌≡◌, ℕ, zero, suc, List, [], ◌∷◌, Option, Some, None, Bool, true, false, refl, ap, ◌∙◌, sym, length, arith}
+use Rattle.std.proofs.Common.{◌≡◌, List, [], ◌∷◌, Option, Some, None, true, refl, ap, ◌∙◌, length, arith}
 use Rattle.std.proofs.lemmas.Bool.{false≢true, cond_both}
 use mathlib.Core.Path.{ap₂}
 use Rattle.bpf_decode.specs.declared.region.Region.{Region}
 use Rattle.bpf_decode.specs.declared.region.Region.TheVariants.{Input, Output, Stack}
 use Rattle.bpf_decode.specs.declared.value.Value.{Value}
 use Rattle.bpf_decode.specs.declared.value.Value.TheVariants as values
-use Rattle.abstract_num.specs.Plain.{Plain, Number, Below, view, join as join_number}
+use Rattle.abstract_num.specs.Plain.{Number, view, join as join_number}
 use Rattle.abstract_num.specs.Laws as numbers
 use Rattle.abstract_num.specs.Keeping.{JoinKeeps}
 use Rattle.abstract_regs.specs.declared.kind.Kind.{Kind}
 use Rattle.abstract_regs.specs.declared.kind.Kind.TheVariants as code
 use Rattle.abstract_regs.specs.Kind.{PlainKind, Unset, Num, Ptr, HoldsKind, same_region, join_kind}
-use Rattle.abstract_regs.specs.Frame.{PlainFrame, join_each, join, HoldsEach}
-use Rattle.abstract_regs.specs.Seen.{seen, seen_each}
-use Rattle.abstract_regs.specs.Laws.{BelowKind, BelowEach, JoinCommutes, JoinAssociates, JoinOfSame, JoinIsAbove, JoinHolds, JoinsHold}
+use Rattle.abstract_regs.specs.Frame.{join_each, HoldsEach}
+use Rattle.abstract_regs.specs.Seen.{seen}
+use Rattle.abstract_regs.specs.Laws.{BelowKind, JoinCommutes, JoinAssociates, JoinOfSame, JoinIsAbove, JoinsHold}
 
 same_means : (r q : Region) → same_region r q ≡ true → r ≡ q
 same_means Input Input e = refl

@@ -1,7 +1,7 @@
 -- What a frame holds before an instruction, a frame along an edge holds after it.
-use Rattle.std.proofs.Common.{◌≡◌, ℕ, ℤ, pos, negsuc, zero, suc, ◌+◌, ◌%◌, ◌^◌, ◌<◌, List, [], ◌∷◌, ◌++◌, ◌⊎◌, Option, Some, None, Bool, true, false, refl, inl, inr, ap, ◌∙◌, sym, subst, arith, drop, IsSomeAnd}
+use Rattle.std.proofs.Common.{◌≡◌, ℕ, ℤ, pos, negsuc, zero, suc, ◌+◌, ◌%◌, ◌^◌, ◌<◌, List, [], ◌∷◌, ◌++◌, Option, Some, None, Bool, true, false, refl, inl, inr, ap, ◌∙◌, sym, subst, arith, drop, IsSomeAnd}
 use Rattle.std.specs.Prelude.{slice_get, slice_set, ◌==◌, FitsSigned, if◌then◌else◌}
-use Rattle.std.specs.Int.{w16, w32}
+use Rattle.std.specs.Int.{w32}
 use Rattle.std.specs.Option.{option_map}
 use Rattle.std.proofs.lemmas.Bool.{false≢true, eqb-true}
 use Rattle.std.proofs.lemmas.Option.{none-some, same_Some}
@@ -20,7 +20,7 @@ use Rattle.bpf_decode.specs.declared.operation.ByteOrder.{ByteOrder}
 use Rattle.bpf_decode.specs.declared.operation.EndWidth.{EndWidth}
 use Rattle.bpf_decode.specs.declared.operation.Comparison.{Comparison}
 use Rattle.bpf_decode.specs.Arithmetic.{alu_value, neg_value, mov_value, signed_move_value, end_value, is_taken, compared}
-use Rattle.bpf_decode.specs.Instruction.{Fits, OperandFits}
+use Rattle.bpf_decode.specs.Instruction.{OperandFits}
 use Rattle.bpf_decode.specs.Jump.{branch_to}
 use Rattle.bpf_decode.specs.Values.{extended, moves_pointer, is_addition, alu_values, mov_values}
 use Rattle.abstract_num.specs.Plain.{Plain, Holds, constant}
@@ -31,9 +31,9 @@ use Rattle.abstract_num.specs.Keeping.{HeldIn, HeldInBoth, NumbersFit, Constants
 use Rattle.abstract_regs.specs.declared.kind.Kind.{Kind}
 use Rattle.abstract_regs.specs.declared.kind.Kind.TheVariants as code
 use Rattle.abstract_regs.specs.Kind.{PlainKind, Unset, Num, Ptr, HoldsKind, alu_kind, neg_kind, mov_kind, signed_move_kind, end_kind, both_nums, same_num, along_kinds}
-use Rattle.abstract_regs.specs.Frame.{PlainFrame, or_unset, kind_at, with_kind, after_call, operand_kind, compared_kind, HoldsEach}
-use Rattle.abstract_regs.specs.Flow.{target, edge_to, computed, same_register, with_both, along_edge, flow}
-use Rattle.abstract_regs.specs.Moves.{flat_option, value_at, operand_in, with_value, Moves, Among, Reaches, KindFits, EachFits, Keeps}
+use Rattle.abstract_regs.specs.Frame.{PlainFrame, or_unset, kind_at, with_kind, after_call, operand_kind, HoldsEach}
+use Rattle.abstract_regs.specs.Flow.{target, edge_to, computed, with_both, along_edge, flow}
+use Rattle.abstract_regs.specs.Moves.{value_at, operand_in, with_value, Reaches, KindFits, EachFits, Keeps}
 use Rattle.abstract_regs.specs.Seen.{seen, seen_each}
 
 -- the laws of numbers

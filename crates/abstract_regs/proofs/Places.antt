@@ -1,10 +1,10 @@
 -- The entry frame, and accesses that fit.
-use Rattle.std.proofs.Common.{◌≡◌, ℕ, ◌+◌, ◌%◌, ◌^◌, ◌<◌, ◌≤◌, Option, Some, None, true, refl, arith}
+use Rattle.std.proofs.Common.{◌≡◌, ℕ, ◌+◌, ◌%◌, ◌^◌, ◌≤◌, Option, Some, None, true, refl, arith}
 use Rattle.std.proofs.lemmas.Bool.{leb-true}
 use Rattle.bpf_decode.specs.declared.operation.Bits.TheVariants.{Bits64}
 use Rattle.bpf_decode.specs.declared.operation.Arithmetic.TheVariants.{Add}
 use Rattle.bpf_decode.specs.declared.value.Value.TheVariants as values
-use Rattle.abstract_num.specs.Plain.{Plain, Holds, constant}
+use Rattle.abstract_num.specs.Plain.{Plain, constant}
 use Rattle.abstract_num.specs.Tighten.{tighten}
 use Rattle.abstract_num.specs.Transfer.{ranged}
 use Rattle.abstract_num.specs.Keeping.{HeldIn, ConstantsFit, ConstantHolds, ArithmeticKeeps, RangeKeeps}

@@ -12,7 +12,7 @@ use Rattle.bpf_decode.specs.Values.{extended}
 use Rattle.abstract_num.specs.Plain.{constant}
 use Rattle.abstract_num.specs.Tighten.{tighten}
 use Rattle.abstract_num.specs.Transfer.{ranged, signed_ranged, load_high, signed_low, signed_high}
-use Rattle.abstract_regs.specs.Kind.{PlainKind, Unset, Num, Ptr, alu_kind, neg_kind, mov_kind, signed_move_kind, end_kind, along_kinds}
+use Rattle.abstract_regs.specs.Kind.{PlainKind, Num, alu_kind, neg_kind, mov_kind, signed_move_kind, end_kind, along_kinds}
 use Rattle.abstract_regs.specs.Frame.{PlainFrame, kind_at, with_kind, after_call, operand_kind, compared_kind}
 
 -- where a jump at slot p goes: its distance counts from the slot after it (RFC 9669 section 4.3)

@@ -1,14 +1,14 @@
 -- What instructions do with the registers, by the machine's operations, whatever memory and helpers answer.
-use Rattle.std.specs.Prelude.{◌≡◌, ◌⊎◌, ℕ, ℤ, ◌+◌, ◌^◌, ◌<◌, List, [], ◌∷◌, Option, Some, None, slice_get, slice_set, drop}
+use Rattle.std.specs.Prelude.{◌≡◌, ◌⊎◌, ℕ, ◌+◌, ◌^◌, ◌<◌, List, [], ◌∷◌, Option, Some, None, slice_get, slice_set, drop}
 use Rattle.bpf_decode.specs.declared.insn.Operand.{Operand}
 use Rattle.bpf_decode.specs.declared.insn.Operand.TheVariants.{Immediate, Register}
 use Rattle.bpf_decode.specs.declared.insn.Insn.{Insn}
 use Rattle.bpf_decode.specs.declared.insn.Insn.TheVariants.{Alu, Neg, Mov, MovSigned, End, LoadWide, Load, LoadSigned, Store, Jump, JumpLong, Branch, Call, CallLocal, Exit}
 use Rattle.bpf_decode.specs.declared.value.Value.{Value}
-use Rattle.bpf_decode.specs.declared.value.Value.TheVariants.{Num, Ptr}
+use Rattle.bpf_decode.specs.declared.value.Value.TheVariants.{Num}
 use Rattle.bpf_decode.specs.Instruction.{byte_count, signed_byte_count, Fits}
 use Rattle.bpf_decode.specs.Arithmetic.{neg_value, signed_move_value, end_value, is_taken, signed_load_value}
-use Rattle.bpf_decode.specs.Jump.{jump_target, branch_to}
+use Rattle.bpf_decode.specs.Jump.{branch_to}
 use Rattle.bpf_decode.specs.Values.{extended, alu_values, mov_values}
 use Rattle.abstract_num.specs.Keeping as numbers
 use Rattle.abstract_regs.specs.Kind as kind

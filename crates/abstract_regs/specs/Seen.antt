@@ -1,5 +1,5 @@
 -- The code's kinds in plain numbers.
-use Rattle.std.specs.Prelude.{ℕ, List, map, Option, Some, None}
+use Rattle.std.specs.Prelude.{List, map}
 use Rattle.abstract_num.specs.Plain.{Plain, Number, view}
 use Rattle.abstract_regs.specs.declared.kind.Kind.{Kind}
 use Rattle.abstract_regs.specs.declared.kind.Kinds.{Kinds}

@@ -9,12 +9,10 @@ use Rattle.bpf_decode.specs.declared.insn.Insn.TheVariants.{Alu, Neg, Mov, MovSi
 use Rattle.bpf_decode.specs.Instruction.{slots, slot_count, slot_total}
 use Rattle.bpf_decode.specs.Class.{ClassMethod, IsMethod}
 use Rattle.bpf_machine.specs.Typed.{fetch, typed_entry}
-use Rattle.bpf_machine.specs.Safe.{caps_of, IsSafe, EndsAlways, EndsAlwaysIsSafe}
-use Rattle.verifier.specs.declared.rule.Rule.{Rule}
-use Rattle.verifier.specs.declared.refusal.Refusal.{Refusal}
+use Rattle.bpf_machine.specs.Safe.{caps_of, EndsAlways, EndsAlwaysIsSafe}
 use Rattle.verifier.specs.Pass.{IsSpaced, AllSound}
 use Rattle.verifier.specs.Verified.{IsVerified}
-use Rattle.verifier.specs.Verdict.{method_verdict, or_later, verdict_from, class_verdict}
+use Rattle.verifier.specs.Verdict.{method_verdict}
 use Rattle.verifier.proofs.Runs.{ends_at_exit, entry_is_held}
 use Rattle.abstract_regs.specs.Laws.{JoinsHold, EntryHolds, AccessesFit}
 

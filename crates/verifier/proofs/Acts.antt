@@ -1,5 +1,5 @@
 -- An instruction that no rule refuses makes its step, and moves the registers as it should.
-use Rattle.std.proofs.Common.{◌≡◌, ◌≢◌, ℕ, ℤ, ◌+◌, ◌%◌, ◌^◌, ◌<◌, ◌≤◌, List, [], ◌∷◌, Option, Some, Bool, true, false, refl, ap, ◌∙◌, sym, subst, arith}
+use Rattle.std.proofs.Common.{◌≡◌, ◌≢◌, ℕ, ℤ, ◌+◌, ◌%◌, ◌^◌, ◌<◌, ◌≤◌, List, Option, Some, true, false, refl, ap, ◌∙◌, sym, subst, arith}
 use Rattle.std.specs.Prelude.{slice_set, ◌==◌, nat_lt}
 use Rattle.std.proofs.lemmas.Bool.{le-leb, false≢true, cond-true}
 use Rattle.bpf_decode.specs.declared.access.Width.{Width}
@@ -23,16 +23,16 @@ use Rattle.bpf_decode.specs.Jump.{branch_to}
 use Rattle.bpf_decode.specs.Values.{may_store, number, extended}
 use Rattle.bpf_machine.specs.declared.caps.Caps.{Caps}
 use Rattle.bpf_machine.specs.Object.{AreBytes, part}
-use Rattle.bpf_machine.specs.State.{le_value, le_bytes, cells, put, size, reg, set_reg, go}
+use Rattle.bpf_machine.specs.State.{le_value, le_bytes, cells, put, size, set_reg, go}
 use Rattle.bpf_machine.specs.Typed.{Typed, operand_value, locate, typed_after, typed_act, typed_exit_of}
-use Rattle.abstract_regs.specs.Kind.{PlainKind, Unset, Num, Ptr, is_unset, is_ptr, access_fits}
+use Rattle.abstract_regs.specs.Kind.{PlainKind, Unset, Num, Ptr, is_unset, is_ptr}
 use Rattle.abstract_regs.specs.Frame.{PlainFrame, kind_at, operand_kind}
 use Rattle.abstract_regs.specs.Moves.{Moves, KindFits, EachFits}
 use Rattle.abstract_regs.specs.Laws.{AccessesFit}
 use Rattle.verifier.specs.Kind.{stays, is_read_only}
 use Rattle.verifier.specs.Frame.{ObjectIsBytes, Holds}
 use Rattle.verifier.specs.Rules.{operand_is_unset}
-use Rattle.verifier.proofs.Holding.{HoldsValue, read, value_is, operand_is, not_ptr_is_num, numbered, HasForm, form_of, number_of, operand_read, operand_is_set, computes, copies, extended_small16, not_false}
+use Rattle.verifier.proofs.Holding.{HoldsValue, read, value_is, operand_is, not_ptr_is_num, numbered, form_of, number_of, operand_read, operand_is_set, computes, copies, extended_small16, not_false}
 use Rattle.verifier.proofs.Bytes.{value_in, bytes_put, bytes_of_number, bytes_drop}
 use Rattle.verifier.proofs.Passed.{neither, Passed}
 use Rattle.verifier.proofs.Calls.{one_more, call_made, fits_in}

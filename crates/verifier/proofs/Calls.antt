@@ -15,7 +15,7 @@ use Rattle.bpf_machine.specs.Helper.{Takes, signature_of, Given, nothing_given, 
 use Rattle.bpf_machine.specs.Typed.{Typed, number, locate, typed_range, typed_arguments, typed_help}
 use Rattle.abstract_regs.specs.Kind.{PlainKind, Unset, Num, Ptr}
 use Rattle.verifier.specs.declared.fault.Fault.TheVariants.{OutOfRegion, ReadOnly, WrongKind}
-use Rattle.abstract_regs.specs.Kind.{is_num, is_ptr, range_fits}
+use Rattle.abstract_regs.specs.Kind.{is_num, is_ptr}
 use Rattle.verifier.specs.Kind.{is_at_most, range_leaves, range_is_read_only}
 use Rattle.abstract_regs.specs.Frame.{PlainFrame, or_unset, kind_at}
 use Rattle.abstract_regs.specs.Moves.{KindFits, EachFits}

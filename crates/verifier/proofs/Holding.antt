@@ -1,7 +1,7 @@
 -- What a frame says of the registers of a state that it is true of.
 use Rattle.std.proofs.Common.{◌≡◌, ℕ, ℤ, pos, negsuc, zero, suc, ◌^◌, ◌<◌, List, [], ◌∷◌, Option, Some, None, true, false, refl, ◌∙◌, sym, arith, Bool}
 use Rattle.std.specs.Prelude.{slice_get, FitsSigned, not}
-use Rattle.std.specs.Int.{w16, w32}
+use Rattle.std.specs.Int.{w16}
 use Rattle.std.proofs.lemmas.Bool.{false≢true, cond-true}
 use Rattle.bpf_decode.specs.declared.value.Value.{Value}
 use Rattle.bpf_decode.specs.declared.value.Value.TheVariants as values

@@ -13,7 +13,6 @@ use Rattle.bpf_machine.specs.State.{◌>>=◌, cells, opening, Outcome, Ended, S
 use Rattle.bpf_machine.specs.Typed.{Typed, fetch, typed_act, typed_exit_of, typed_run, typed_entry}
 use Rattle.abstract_regs.specs.Frame.{PlainFrame, HoldsEach}
 use Rattle.verifier.specs.Frame.{entry, ObjectIsBytes, Holds}
-use Rattle.abstract_regs.specs.Moves.{Keeps, EachFits}
 use Rattle.abstract_regs.specs.Laws.{JoinsHold, EntryHolds, AccessesFit}
 use Rattle.verifier.specs.Pass.{Sound, IsSound, AllSound}
 use Rattle.verifier.specs.Rules.{rule_at}

@@ -1,5 +1,5 @@
 -- The frame of a method's entry, and what a frame is true of.
-use Rattle.std.specs.Prelude.{Option, Some, None}
+use Rattle.std.specs.Prelude.{Some, None}
 use Rattle.bpf_decode.specs.declared.region.Region.{Region}
 use Rattle.bpf_decode.specs.declared.region.Region.TheVariants.{Stack}
 use Rattle.bpf_machine.specs.declared.caps.Caps.{Caps}

@@ -1,5 +1,5 @@
 -- What the rules ask of kinds.
-use Rattle.std.specs.Prelude.{ℕ, ◌+◌, Bool, true, false, nat_le, not}
+use Rattle.std.specs.Prelude.{ℕ, Bool, true, false, nat_le, not}
 use Rattle.bpf_decode.specs.declared.operation.Bits.{Bits}
 use Rattle.bpf_decode.specs.declared.operation.Bits.TheVariants.{Bits32, Bits64}
 use Rattle.bpf_decode.specs.declared.operation.Arithmetic.{Arithmetic}

@@ -1,4 +1,4 @@
-use Rattle.std.proofs.Common.{◌≡◌, ◌+◌, ap, ◌∙◌}
+use Rattle.std.proofs.Common.{◌+◌, ap, ◌∙◌}
 use Rattle.bpf_decode.specs.Instruction.{slot_count}
 use Rattle.abstract_regs.specs.Edged.{with_edges}
 use Rattle.verifier.proofs.Tables.{leaves_both}
