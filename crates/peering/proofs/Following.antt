@@ -7,7 +7,7 @@ use Rattle.pg_log.specs.Requests.{ClientRequest}
 use Rattle.pg_log.specs.Log.{Classes, Reply, Legal, reply_at}
 use Rattle.pg_log.specs.Refusals.{refusal}
 use Rattle.pg_log.specs.Laws.{AppendIsAStep, RefusalsAreExact, ClassesAdded}
-use Rattle.group_world.specs.Node.{NodeState, Outcome, nothing, and_sends}
+use Rattle.group_world.specs.Node.{NodeState, nothing, and_sends}
 use Rattle.group_world.specs.Rules.{append_new, append_unless, request_at, reply_packet}
 use Rattle.peering.specs.Arriving.{IsNextReply}
 

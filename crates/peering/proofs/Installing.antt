@@ -1,5 +1,5 @@
 -- An Install, once the move is known.
-use Rattle.std.proofs.Common.{◌≡◌, ℕ, ◌<◌, ◌≤◌, ◌&&◌, ◌||◌, eqb, nat_lt, length, arith, Bool, true, false, cond, List, [], ◌∷◌, ◌++◌, Option, Some, None, ap, sym, ◌∙◌, refl, subst}
+use Rattle.std.proofs.Common.{◌≡◌, ℕ, ◌≤◌, ◌&&◌, ◌||◌, eqb, nat_lt, length, arith, Bool, true, false, cond, List, [], ◌∷◌, ◌++◌, Option, Some, None, ap, sym, ◌∙◌, refl, subst}
 use Rattle.std.specs.Option.{unwrap_or}
 use Rattle.std.proofs.lemmas.Bool.{false≢true}
 use Rattle.std.proofs.lemmas.Bool.Decides.{nat_tests}
@@ -8,21 +8,20 @@ use Rattle.peering.proofs.Keeping.{either}
 use Rattle.pg_log.specs.Requests.{ClientRequest}
 use Rattle.pg_log.specs.Log.{Classes}
 use Rattle.pg_log.specs.declared.log_error.LogError.{LogError}
-use Rattle.pg_log.specs.declared.log_error.LogError.TheVariants.{NoMemory}
 use Rattle.pg_log.specs.Refusals.{first_refusal}
 use Rattle.pg_log.specs.Adopting.{IsCommonBeginning, rest_refusal, RestRefuses, Refused, Short, AdoptRefuses}
 use Rattle.pg_log.specs.Laws.{AdoptingIsReplaying}
 use Rattle.pg_log.specs.Log.{Legal}
 use Rattle.group_world.specs.Maps.{GroupMap, is_primary}
-use Rattle.group_world.specs.Node.{NodeState, Outcome, nothing, and_sends, packet, to_all, is_waiting, is_installed}
+use Rattle.group_world.specs.Node.{NodeState, Outcome, nothing, and_sends, to_all, is_waiting, is_installed}
 use Rattle.group_world.specs.Rules.{is_usable, says_installed, install_after, arrive, move_to, lead, adopt, at_map, would_forget}
 use Rattle.group_world.specs.declared.status.Status.{Status}
 use Rattle.group_world.specs.declared.status.Status.TheVariants.{Out, Waiting, Installed, Asking, Installing, Active}
 use Rattle.group_world.specs.declared.party.Party.{Party}
-use Rattle.group_world.specs.declared.message.Kind.TheVariants.{Query, Installed as InstalledIn}
+use Rattle.group_world.specs.declared.message.Kind.TheVariants.{Query}
 use Rattle.group_world.specs.declared.message.Packet.{Packet}
 use Rattle.group_world.specs.declared.handle_error.HandleError.{HandleError}
-use Rattle.peering.specs.Arriving.{after_move, log_after, interval_after, install_first, install_again, is_memory}
+use Rattle.peering.specs.Arriving.{after_move, log_after, install_first, install_again, is_memory}
 
 pub waits : (st : Status) → is_waiting st ≡ true → st ≡ Waiting
 waits Waiting h = refl

@@ -1,15 +1,15 @@
 -- Each rule leaves a legal log, and none but the one of requests refuses.
-use Rattle.std.proofs.Common.{◌≡◌, ℕ, Bool, true, false, cond, ◌&&◌, ◌||◌, not, eqb, nat_lt, List, [], ◌∷◌, ◌++◌, length, Option, Some, None, is_none, Result, Ok, Err, IfErr, inr, ap, sym, ◌∙◌, refl}
+use Rattle.std.proofs.Common.{◌≡◌, ℕ, Bool, true, false, cond, ◌&&◌, ◌||◌, not, eqb, nat_lt, List, [], ◌∷◌, ◌++◌, length, Option, Some, None, is_none, Result, Ok, Err, IfErr, inr, refl}
 use Rattle.std.proofs.lemmas.Bool.{and_parts, false≢true}
 use Rattle.placement.specs.Placement.{has}
 use Rattle.pg_log.specs.declared.log_error.LogError.{LogError}
 use Rattle.pg_log.specs.Requests.{ClientRequest}
 use Rattle.pg_log.specs.Log.{Classes, Legal}
-use Rattle.pg_log.specs.Refusals.{refusal, first_refusal, place_of}
+use Rattle.pg_log.specs.Refusals.{refusal, place_of}
 use Rattle.pg_log.specs.Laws.{AppendIsAStep, EmptyIsLegal, RefusalsAreExact, ListsAreExact}
 use Rattle.group_world.specs.Maps.{GroupMap, is_primary, all_among}
 use Rattle.group_world.specs.Node.{NodeState, Outcome, nothing, refused, and_sends, packet, to_all, is_waiting, is_installed, is_asking, is_installing, is_active}
-use Rattle.group_world.specs.Rules.{is_usable, adopt, lead, at_map, move_to, arrive, would_forget, learn_map, ignores, answer_query, adopt_log, says_installed, install_after, install, note_installed, activate, commit, append_new, append_unless, reply_packet, request_at, request, says_ack, and_acks, replicate, acknowledge, receive, local_step, ask_if, each_at, raised}
+use Rattle.group_world.specs.Rules.{is_usable, adopt, lead, at_map, move_to, arrive, would_forget, learn_map, ignores, answer_query, adopt_log, says_installed, install_after, install, note_installed, activate, commit, append_unless, reply_packet, request_at, request, and_acks, replicate, acknowledge, receive, local_step, ask_if, each_at, raised}
 use Rattle.group_world.specs.declared.handle_error.HandleError.{HandleError}
 use Rattle.group_world.specs.declared.handle_error.HandleError.TheVariants.{NotPrimary, Peering, NoMemory}
 use Rattle.peering.specs.Numbered.{IsRefusal}

@@ -1,10 +1,9 @@
 -- Lists of messages.
-use Rattle.std.proofs.Common.{◌≡◌, ℕ, Bool, true, false, List, [], ◌∷◌, ◌++◌, cond, eqb, ap, sym, ◌∙◌, refl}
+use Rattle.std.proofs.Common.{◌≡◌, ℕ, List, [], ◌∷◌, cond, eqb, ap, ◌∙◌, refl}
 use Rattle.group_world.specs.Node.{packet, to_others}
 use Rattle.group_world.specs.Unanswered.{to_missing}
 use Rattle.group_world.specs.declared.party.Party.TheVariants.{Node as ANode}
 use Rattle.group_world.specs.declared.message.Kind.{Kind}
-use Rattle.group_world.specs.declared.message.Packet.{Packet}
 
 -- nobody has joined: the message goes to all others
 pub to_missing_none : (n : ℕ) (ms : List ℕ) (kind : Kind) → to_missing n [] ms kind ≡ to_others n ms kind

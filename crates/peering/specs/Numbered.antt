@@ -1,5 +1,5 @@
 -- A node's number and state, and what an event makes of them.
-use Rattle.std.specs.Prelude.{◌≡◌, ◌⊎◌, ℕ, List, Option, Some, None}
+use Rattle.std.specs.Prelude.{◌≡◌, ◌⊎◌, ℕ, List, Some, None}
 use Rattle.group_world.specs.Node.{NodeState, Outcome}
 use Rattle.group_world.specs.declared.message.Packet.{Packet}
 use Rattle.group_world.specs.declared.handle_error.HandleError.{HandleError}

@@ -1,5 +1,4 @@
-use Rattle.std.proofs.Common.{◌≡◌, ◌∙◌, ap, sym, subst, IfOk, None}
-use Rattle.pg_log.specs.Refusals.{refusal}
+use Rattle.std.proofs.Common.{◌∙◌, ap, subst, IfOk, None}
 use Rattle.group_world.specs.Node.{Outcome}
 use Rattle.group_world.specs.Rules.{append_new, request_at}
 use Rattle.peering.specs.Numbered.{IsDone}

@@ -1,4 +1,4 @@
-use Rattle.std.proofs.Common.{◌≡◌, ap, sym, ◌∙◌, subst, cond, nat_lt, IfOk}
+use Rattle.std.proofs.Common.{ap, sym, ◌∙◌, subst, cond, nat_lt, IfOk}
 use Rattle.group_world.specs.Node.{Outcome, nothing, is_waiting}
 use Rattle.group_world.specs.Rules.{arrive, install_after, would_forget}
 use Rattle.peering.specs.Numbered.{IsDone}

@@ -1,10 +1,7 @@
-use Rattle.std.proofs.Common.{◌≡◌, ◌∙◌, ℕ, Option, None, Some, ap, sym, subst, IfOk, IfErr}
+use Rattle.std.proofs.Common.{◌≡◌, ℕ, Option, None, sym, subst, IfOk, IfErr}
 use Rattle.pg_log.specs.Refusals.{place_of}
 use Rattle.group_world.specs.Rules.{request_at}
-use Rattle.group_world.specs.declared.handle_error.HandleError.{HandleError}
 use Rattle.peering.specs.Numbered.{IsDone, IsRefusal}
-use Rattle.peering.proofs.Following.{again_unrefused}
-use Rattle.peering.proofs.Keeping.{short}
 use Rattle.peering.proofs.node.GroupNode.serve.Goals as goal
 
 pub returns-in-None-clause-done : goal.returns-in-None-clause-done

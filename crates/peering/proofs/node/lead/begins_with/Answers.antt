@@ -1,4 +1,4 @@
-use Rattle.std.proofs.Common.{◌≡◌, ◌<◌, length, sym, ap, arith}
+use Rattle.std.proofs.Common.{arith}
 use Rattle.pg_log.specs.Entries.{requests_of}
 use Rattle.peering.proofs.Lists.{not_begins, length_requests}
 use Rattle.peering.proofs.node.lead.begins_with.Goals as goal
