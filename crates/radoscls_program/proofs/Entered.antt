@@ -1,5 +1,5 @@
 -- What the subcommand that a parse entered asks for.
-use Rattle.std.proofs.Common.{◌≡◌, ◌∙◌, sym, ap₂, List, Option, Some, None, option_map, codes}
+use Rattle.std.proofs.Common.{◌≡◌, ◌∙◌, ap₂, sym, List, Option, Some, None, option_map, codes}
 use Rattle.std.specs.Prelude.{IfSome}
 use Rattle.std.proofs.lemmas.Option.{none-some, same_Some}
 use Rattle.clap.specs.Words.{Row, Text, first_value, found_of, rows_of, subcommand_name_of, subcommand_rows_of}
@@ -20,18 +20,18 @@ both_parts {A} {B} f g (Some c) a b first second =
     ap₂ pair (same_Some (f c) a first) (same_Some (g c) b second)
 
 -- its name and its rows
-entered : (m : ArgMatches) (name : Text) (rows : List Row) → subcommand_name_of m ≡ Some name
+pub entered : (m : ArgMatches) (name : Text) (rows : List Row) → subcommand_name_of m ≡ Some name
     → option_map (λ (p : Text × List Row). p.1) (subcommand_rows_of m) ≡ Some rows → subcommand_rows_of m ≡ Some (name, rows)
 entered m name rows named found = both_parts _ _ (out-ArgMatches m).subcommand name rows named found
 
 -- values that are read in two ways ask for the same
-same_values : (u v : Text → Option Text) → ((id : Text) → u id ≡ v id) → (a : Action) → Takes u a → Takes v a
+pub same_values : (u v : Text → Option Text) → ((id : Text) → u id ≡ v id) → (a : Action) → Takes u a → Takes v a
 same_values u v same (Verify image) takes = sym (same (codes "IN")) ∙ takes
 same_values u v same (Run call) takes = (
   sym (same (codes "IN")) ∙ takes.0,
   sym (same (codes "METHOD")) ∙ takes.1,
   sym (same (codes "input")) ∙ takes.2,
-  (takes.3.0, sym (same (codes "caller")) ∙ takes.3.1, takes.3.2),
+  (takes.3.0, sym (same (codes "caller")) ∙ takes.3.1, takes.3.2, takes.3.3),
 )
 same_values u v same (Assemble text image) takes = (sym (same (codes "IN")) ∙ takes.0, sym (same (codes "OUT")) ∙ takes.1)
 same_values u v same (Disassemble image) takes = sym (same (codes "IN")) ∙ takes

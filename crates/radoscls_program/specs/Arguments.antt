@@ -27,7 +27,7 @@ Takes value (Verify image) = value (codes "IN") ≡ Some image.now
 Takes value (Run call) =
     (value (codes "IN") ≡ Some call.image.now) × (value (codes "METHOD") ≡ Some call.method.now)
     × (value (codes "input") ≡ Some call.input.now)
-    × ((text : List ℕ) × (value (codes "caller") ≡ Some text) × (call.caller ≡ number_in text))
+    × ((text : List ℕ) × (value (codes "caller") ≡ Some text) × IsClientNumber text × (call.caller ≡ number_in text))
 Takes value (Assemble text image) = (value (codes "IN") ≡ Some text.now) × (value (codes "OUT") ≡ Some image.now)
 Takes value (Disassemble image) = value (codes "IN") ≡ Some image.now
 

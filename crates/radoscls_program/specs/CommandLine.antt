@@ -50,3 +50,7 @@ pub record Asks (subcommand : Option (Text × List Row)) (action : Action) : Typ
   pub rows : List Row
   pub entered : subcommand ≡ Some (name, rows)
   pub asked : AsksBy name (λ id. first_of id rows) action
+
+-- the subcommand and its values ask for no action
+abbrev pub AsksNothing : Option (Text × List Row) → Type 0
+AsksNothing subcommand = (action : Action) → Asks subcommand action → ⊥

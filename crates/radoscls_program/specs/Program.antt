@@ -1,5 +1,5 @@
 -- How the program ends, and what it printed and wrote.
-use Rattle.std.specs.Prelude.{◌≡◌, ◌≢◌, ◌⊎◌, ◌∷◌, ◌++◌, ℕ, List, [], Option, Result, Ok, Err, Bool, true, codes}
+use Rattle.std.specs.Prelude.{◌≡◌, ◌⊎◌, ◌++◌, ℕ, List, [], Option, Result, Ok, Err, Bool, true, codes}
 use Rattle.std.specs.Io.KnownBytes.{Appends}
 use Rattle.clap.specs.Words.{Text, fault_of, subcommand_of}
 use Rattle.class_tool.specs.Answer.{Settles, Fails, answer_text}
@@ -39,6 +39,10 @@ pub record AreFor (words : List Text) (action : Action) : Type 0 where
   pub faultless : fault_of command_line words ≡ []
   pub asked : Asks (subcommand_of command_line words) action
 
+-- The words name no action without a fault.
+abbrev pub AreForNone : List Text → Type 0
+AreForNone words = (action : Action) → AreFor words action → ⊥
+
 -- There was a true answer to the action that the words name, and its lines were printed.
 pub record IsDone (before after : Option Disk) (old new : Stream) (words : List Text) : Type 0 where
   pub action : Action
@@ -74,6 +78,7 @@ IsRefused before after old new words =
 
 -- The words are at fault or ask for help; nothing was done or printed on standard output.
 pub record IsUsage (before after : Option Disk) (old new : Stream) (words : List Text) : Type 0 where
+  pub unasked : AreForNone words
   pub left : after ≡ before
   pub silent : new ≡ old
 

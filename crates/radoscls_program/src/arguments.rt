@@ -1,8 +1,9 @@
-ghost use Rattle.std.specs.Prelude.{◌≡◌, ◌↔◌, [], false, IfOk, IfSome, IsNone, IsSome, None, codes, map};
+ghost use Rattle.std.specs.Prelude.{◌≡◌, ◌≢◌, ◌↔◌, [], false, IfErr, IfOk, IfSome, IsNone, IsSome, None, codes, map};
 ghost use Rattle.clap.specs.declared.builder.command.Command.TheViews.{out-Command};
-ghost use Rattle.clap.specs.Words.{app_of, fault_of, first_value, found_of, rule_of, subcommand_of, subcommand_rows_of};
-ghost use Rattle.radoscls_program.specs.CommandLine.{Asks, asm_line, caller_rule, command_line, dis_line, image_line, option_rule, plain_line, required_rule, run_line, verify_line};
+ghost use Rattle.clap.specs.Words.{app_of, fault_of, first_value, found_of, kind_of, rule_of, subcommand_of, subcommand_rows_of};
+ghost use Rattle.radoscls_program.specs.CommandLine.{Asks, AsksNothing, asm_line, caller_rule, command_line, dis_line, image_line, option_rule, plain_line, required_rule, run_line, verify_line};
 ghost use Rattle.radoscls_program.specs.Arguments.{AsksBy, IsClientNumber, NamesCall, NamesFiles, number_in};
+ghost use Rattle.radoscls_program.specs.Program.{AreForNone};
 
 use clap::error::{Error, ErrorKind};
 use clap::{Arg, ArgMatches, Command, value_parser};
@@ -172,7 +173,8 @@ fn dis_action<'a>(matches: &ArgMatches<'a>) -> Option<Action<'a>>
 
 /// What the subcommand that was entered asks for.
 fn action_of<'a>(matches: &ArgMatches<'a>) -> Option<Action<'a>>
-    ensures { IfSome result (Asks (subcommand_rows_of matches.now)) }
+    ensures asked { IfSome result (Asks (subcommand_rows_of matches.now)) }
+    ensures unasked { IsNone result → AsksNothing (subcommand_rows_of matches.now) }
 {
     if let Some(found) = matches.subcommand_matches("verify") {
         return verify_action(found);
@@ -191,6 +193,7 @@ fn action_of<'a>(matches: &ArgMatches<'a>) -> Option<Action<'a>>
 pub fn parse<'a, S: AsStr>(alloc: Global, words: &'a [S]) -> Result<Action<'a>, Error>
     ensures asked { IfOk result (Asks (subcommand_of command_line (map S.text words.entry.now))) }
     ensures faultless { IfOk result (λ _. fault_of command_line (map S.text words.entry.now) ≡ []) }
+    ensures unasked { IfErr result (λ e. kind_of e ≢ ErrorKind.OutOfMemory → AreForNone (map S.text words.entry.now)) }
 {
     let mut command = root_command(alloc)?;
     let matches = command.try_get_matches_from_mut(words)?;

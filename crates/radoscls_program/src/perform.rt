@@ -56,7 +56,7 @@ fn perform<S: AsStr, F: Files, O: Output, E: io::Write>(
 /// each; usage and help on `err`.
 ///
 /// The answer is what the process ends with: 0 where it was done and printed, 1 where it was refused, or a write or a flush
-/// of `out` failed, 2 after usage or help. No file is written but the one that `asm` names for the image, and that one only where
+/// of `out` failed, 2 after usage or help, where the words name no action without a fault. No file is written but the one that `asm` names for the image, and that one only where
 /// the text is right.
 pub fn program<S: AsStr, F: Files, O: Output, E: io::Write>(
     alloc: Global,
