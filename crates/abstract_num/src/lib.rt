@@ -34,6 +34,3 @@ pub use srange::SRange;
 pub use tightening::tighten;
 pub use transfer::{arithmetic, copied, negative, ordered, sign_extended};
 pub use urange::URange;
-
-#[cfg(test)]
-mod tests;

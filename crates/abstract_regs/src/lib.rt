@@ -18,6 +18,3 @@ pub use edges::Edges;
 pub use frame::Frame;
 pub use kind::Kind;
 pub use laws::{holding_laws, join_laws};
-
-#[cfg(test)]
-mod tests;

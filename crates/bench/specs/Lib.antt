@@ -1,4 +1,5 @@
 pub mod Measure
 pub mod Mode
+pub mod Subject
 pub mod Table
 pub mod Workload

@@ -1,13 +1,17 @@
 -- What the table says, and what it prints.
-use Rattle.std.specs.Prelude.{◌≡◌, ⊤, ℕ, ◌-◌, ◌*◌, ◌/◌, ◌%◌, ◌^◌, List, [], ◌∷◌, ◌++◌, Option, Some, None, codes}
+use Rattle.std.specs.Prelude.{◌≡◌, ⊤, ℕ, ◌-◌, ◌*◌, ◌/◌, ◌%◌, ◌^◌, List, [], ◌∷◌, ◌++◌, Option, Some, None, codes, map}
 use Rattle.std.specs.Fmt.{format_spec, styled_decimal, styled_text}
 use Rattle.std.specs.List.{flat_map}
+use Rattle.bench.specs.Subject.{subject_text}
 use Rattle.bench.specs.Workload.{IsReady}
+use Rattle.bench.specs.declared.subject.Subject.{Subject}
+use Rattle.bench.specs.declared.subject.Subject.TheVariants.{WriteShort, WriteLong, SetFew, SetMany, ReadNone, ReadFull}
 use Rattle.bench.specs.declared.mode.Mode.{Mode}
 use Rattle.bench.specs.declared.mode.Mode.TheVariants.{Dry, Timed}
 use Rattle.bench.specs.declared.table.Nanos.{Nanos}
 use Rattle.bench.specs.declared.table.Times.{Times}
 use Rattle.bench.specs.declared.table.Line.{Line}
+use Rattle.bench.specs.declared.table.CallLine.{CallLine}
 use Rattle.bench.specs.declared.table.AppendLine.{AppendLine}
 use Rattle.bench.specs.declared.table.AppendLines.{AppendLines}
 use Rattle.bench.specs.declared.table.Table.{Table}
@@ -44,6 +48,12 @@ abbrev pub line_text : Line → List ℕ
 line_text line =
     left 9 line.name.now ++ codes " " ++ right 6 line.slots ++ codes " " ++ right 6 line.steps ++ some_times_text line.times ++ codes "\n"
 
+abbrev pub call_text : CallLine → List ℕ
+call_text line = codes "ns/call " ++ left 24 (subject_text line.subject) ++ nanos_text line.time ++ codes "\n"
+
+abbrev pub body_text : List Line → List CallLine → List ℕ
+body_text lines calls = flat_map line_text lines ++ flat_map call_text calls
+
 abbrev pub append_text : AppendLine → List ℕ
 append_text line = codes "ns/append behind " ++ right 5 line.behind ++ nanos_text line.time ++ codes "\n"
 
@@ -59,7 +69,7 @@ heading Dry = codes "method     slots  steps\n"
 heading Timed = codes "method     slots  steps    ns/call    ns/step    ns/slot\n"
 
 abbrev pub table_text : Table → List ℕ
-table_text table = heading table.mode ++ flat_map line_text table.lines.items ++ some_appends_text table.appends
+table_text table = heading table.mode ++ body_text table.lines.items table.calls.items ++ some_appends_text table.appends
 
 -- ---- what it says
 
@@ -89,8 +99,17 @@ abbrev pub AreAppends : Mode → Option AppendLines → Type 0
 AreAppends Dry lines = lines ≡ None
 AreAppends Timed lines = (l : AppendLines) × (lines ≡ Some l) × (l.short.behind ≡ 100) × (l.long.behind ≡ 60000)
 
+-- the calls beside objects, where times are taken
+abbrev pub subjects_of : Mode → List Subject
+subjects_of Dry = []
+subjects_of Timed = WriteShort ∷ WriteLong ∷ SetFew ∷ SetMany ∷ ReadNone ∷ ReadFull ∷ []
+
+abbrev pub subject_of : CallLine → Subject
+subject_of line = line.subject
+
 -- a table of those methods
 pub record IsTable (mode : Mode) (ws : List Workload) (table : Table) : Type 0 where
   pub kind : table.mode ≡ mode
   pub lines : AreLines mode ws table.lines.items
+  pub calls : map subject_of table.calls.items ≡ subjects_of mode
   pub appends : AreAppends mode table.appends

@@ -16,13 +16,13 @@ exit = 0x95 ∷ 0 ∷ 0 ∷ 0 ∷ 0 ∷ 0 ∷ 0 ∷ 0 ∷ []
 abbrev pub code_bytes : Workload → List ℕ
 code_bytes w = flat_map (λ x. x) w.head ++ repeat w.rounds (flat_map (λ x. x) w.cycle) ++ exit
 
--- a class of one method `f`, that reads, takes and gives nothing, with that code
-pub record IsClassOf (code : List ℕ) (class : List ClassMethod) : Type 0 where
+-- a class of one method `f`, that gives no output, with that code, flags and in_cap
+pub record IsClassOf (code : List ℕ) (flags in_cap : ℕ) (class : List ClassMethod) : Type 0 where
   pub method : ClassMethod
   pub only : class ≡ method ∷ []
   pub name : method.name ≡ codes "f"
-  pub flags : method.flags ≡ 1
-  pub in_cap : method.in_cap ≡ 0
+  pub declared : method.flags ≡ flags
+  pub takes : method.in_cap ≡ in_cap
   pub out_cap : method.out_cap ≡ 0
   pub spelled : IsCode code method.instructions
 
@@ -40,7 +40,7 @@ pub record RunsIn (class : List ClassMethod) (steps : ℕ) : Type 0 where
 
 -- the method in a class of its own, with its instructions and steps
 pub record IsReady (w : Workload) (r : Ready) : Type 0 where
-  pub written : IsClassOf (code_bytes w) r.image
+  pub written : IsClassOf (code_bytes w) 1 0 r.image
   pub verified : r.class ≡ r.image
   pub counted : r.instructions ≡ first_length r.image
   pub ran : RunsIn r.image r.steps

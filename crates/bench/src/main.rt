@@ -1,9 +1,11 @@
-//! `bench` measures an instruction of `call`, a slot of `verify` and an `append` of a group, over methods of its own.
+//! `bench` measures an instruction of `call`, a call beside an object, a slot of `verify` and an `append` of a group, over
+//! methods of its own.
 #![tactic(auto)]
 
 mod measure;
 mod mode;
 mod report;
+mod subject;
 mod table;
 #[cfg(test)]
 mod tests;

@@ -1,9 +1,11 @@
 ghost use Rattle.std.specs.Prelude.{◌≡◌, ◌-◌, ◌^◌, ◌≤◌, min};
 ghost use Rattle.bench.specs.Measure.{picos_each};
 
+use crate::subject::Subject;
 use crate::workload::{Ready, steps};
 use anyhow::{Context, Result};
-use interp::{ClassTable, ObjectName};
+use interp::ClassTable;
+use object_store::ObjectName;
 use pg_log::{Classes, ClientId, Group, GroupWork, Request, RequestNumber, with_group};
 use std::alloc::Global;
 use std::time::{Clock, Instant};
@@ -14,6 +16,9 @@ pub const RUNS: usize = 50;
 
 /// How many instructions or slots a measurement has, about.
 const UNITS: usize = 100_000;
+
+/// The calls of a measurement beside an object.
+const CALLS: usize = 1_000;
 
 /// The requests of a measurement of `append`.
 const REQUESTS: u32 = 4_096;
@@ -60,6 +65,25 @@ pub fn time_call<C: Clock>(alloc: Global, clock: &C, ready: &Ready, runs: usize)
             let _ = steps(alloc, &ready.class)?;
         }
         least.note(start.elapsed(clock)?.as_nanos(), calls);
+    }
+    Ok(least.picos)
+}
+
+/// The least picoseconds that a call beside an object took, of so many runs.
+pub fn time_beside<C: Clock>(
+    alloc: Global,
+    clock: &C,
+    subject: Subject,
+    runs: usize,
+) -> Result<u64> {
+    let beside = subject.ready(alloc)?;
+    let mut least = Least::new();
+    for _ in 0..runs {
+        let start = Instant::now(clock)?;
+        for _ in 0..CALLS {
+            let _ = beside.call(alloc)?;
+        }
+        least.note(start.elapsed(clock)?.as_nanos(), CALLS);
     }
     Ok(least.picos)
 }

@@ -1,19 +1,20 @@
-ghost use Rattle.std.specs.Prelude.{◌≡◌, OnOk, IfOk};
+ghost use Rattle.std.specs.Prelude.{◌≡◌, OnOk, IfOk, map};
 ghost use Rattle.std.specs.Io.KnownBytes.{Appends};
-ghost use Rattle.bench.specs.Table.{AreAppends, AreLines, AreTimes, IsLine, IsTable, table_text};
+ghost use Rattle.bench.specs.Table.{AreAppends, AreLines, AreTimes, IsLine, IsTable, subject_of, subjects_of, table_text};
 ghost use Rattle.bench.specs.declared.table.Table.{Table as Printed};
 
-use crate::measure::{time_append, time_call, time_verify};
+use crate::measure::{time_append, time_beside, time_call, time_verify};
 use crate::mode::Mode;
-use crate::table::{AppendLine, AppendLines, Line, Nanos, Table, Times};
+use crate::subject::{SUBJECTS, Subject};
+use crate::table::{AppendLine, AppendLines, CallLine, Line, Nanos, Table, Times};
 use crate::workload::{Ready, WORKLOADS, Workload};
 use anyhow::Result;
 use std::alloc::Global;
 use std::io;
 use std::time::Clock;
 
-/// Prints the table: a line for each method and, where it is timed, one for `append` at each length, of the method of four
-/// steps. Each time is the least of so many.
+/// Prints the table: a line for each method and, where it is timed, one for each call beside an object, and one for `append`
+/// at each length, of the method of four steps. Each time is the least of so many.
 pub fn report<C: Clock, O: io::Write>(
     alloc: Global,
     clock: &C,
@@ -50,6 +51,7 @@ fn table<C: Clock>(
     Ok(Table {
         mode,
         lines: lines(alloc, clock, mode, runs, workloads)?,
+        calls: calls(alloc, clock, mode, runs)?,
         appends: appends(alloc, clock, mode, runs)?,
     })
 }
@@ -116,6 +118,37 @@ fn times<C: Clock>(
             }))
         }
     }
+}
+
+/// A line for each call beside an object, where times are taken.
+fn calls<C: Clock>(alloc: Global, clock: &C, mode: Mode, runs: usize) -> Result<Vec<CallLine>>
+    ensures { IfOk result (λ lines. map subject_of lines.items ≡ subjects_of mode) }
+{
+    match mode {
+        Mode::Dry => Ok(Vec::new(alloc)),
+        Mode::Timed => timed_calls(alloc, clock, runs, &SUBJECTS),
+    }
+}
+
+/// A line for each of those calls.
+fn timed_calls<C: Clock>(
+    alloc: Global,
+    clock: &C,
+    runs: usize,
+    subjects: &[Subject],
+) -> Result<Vec<CallLine>>
+    ensures { IfOk result (λ lines. map subject_of lines.items ≡ subjects.now) }
+{
+    let mut lines = Vec::new(alloc);
+    for subject in subjects {
+        let subject = *subject;
+        let picos = time_beside(alloc, clock, subject, runs)?;
+        lines.push(CallLine {
+            subject,
+            time: Nanos { picos },
+        })?;
+    }
+    Ok(lines)
 }
 
 /// The times of `append`, where they are taken.

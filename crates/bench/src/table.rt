@@ -1,9 +1,10 @@
 ghost use Rattle.std.specs.Prelude.{Some};
 ghost use Rattle.std.specs.Fmt.{DisplaysOnOk};
 ghost use Rattle.std.specs.List.{flat_map};
-ghost use Rattle.bench.specs.Table.{line_text, append_text};
+ghost use Rattle.bench.specs.Table.{line_text, call_text, body_text, append_text};
 
 use crate::mode::Mode;
+use crate::subject::Subject;
 use std::fmt;
 
 /// A time of so many picoseconds, which prints as nanoseconds with two digits.
@@ -43,11 +44,20 @@ pub struct AppendLines {
     pub long: AppendLine,
 }
 
-/// The table: a heading, a line for each method and, where times are taken, two for `append`.
+/// What a call beside an object takes.
+#[derive(Clone, Copy, Debug)]
+pub struct CallLine {
+    pub subject: Subject,
+    pub time: Nanos,
+}
+
+/// The table: a heading, a line for each method and, where times are taken, one for each call beside an object and two for
+/// `append`.
 #[derive(Drop)]
 pub struct Table {
     pub mode: Mode,
     pub lines: Vec<Line>,
+    pub calls: Vec<CallLine>,
     pub appends: Option<AppendLines>,
 }
 
@@ -95,6 +105,25 @@ impl fmt::Display for AppendLine {
     }
 }
 
+impl fmt::Display for CallLine {
+    ghost output = { λ line. Some (call_text line) };
+
+    fn fmt<W: fmt::Write>(&self, f: &mut fmt::Formatter<W>) -> fmt::Result {
+        let (text, time) = (self.subject.text(), self.time);
+        writeln!(f, "ns/call {text:<24}{time}")
+    }
+}
+
+/// A line for each call.
+fn write_calls<W: fmt::Write>(lines: &[CallLine], f: &mut fmt::Formatter<W>) -> fmt::Result
+    ensures { DisplaysOnOk W.write_str_gives f.old result (Some (flat_map call_text lines.now)) f.new }
+{
+    for line in lines {
+        write!(f, "{line}")?;
+    }
+    Ok(())
+}
+
 /// A line for each method.
 fn write_lines<W: fmt::Write>(lines: &[Line], f: &mut fmt::Formatter<W>) -> fmt::Result
     ensures { DisplaysOnOk W.write_str_gives f.old result (Some (flat_map line_text lines.now)) f.new }
@@ -103,6 +132,18 @@ fn write_lines<W: fmt::Write>(lines: &[Line], f: &mut fmt::Formatter<W>) -> fmt:
         write!(f, "{line}")?;
     }
     Ok(())
+}
+
+/// A line for each method, and one for each call.
+fn write_body<W: fmt::Write>(
+    lines: &[Line],
+    calls: &[CallLine],
+    f: &mut fmt::Formatter<W>,
+) -> fmt::Result
+    ensures { DisplaysOnOk W.write_str_gives f.old result (Some (body_text lines.now calls.now)) f.new }
+{
+    write_lines(lines, f)?;
+    write_calls(calls, f)
 }
 
 impl fmt::Display for AppendLines {
@@ -128,7 +169,7 @@ impl fmt::Display for Table {
                 f.write_str("method     slots  steps    ns/call    ns/step    ns/slot\n")?
             }
         }
-        write_lines(&self.lines, f)?;
+        write_body(&self.lines, &self.calls, f)?;
         match self.appends {
             None => Ok(()),
             Some(appends) => write!(f, "{appends}"),

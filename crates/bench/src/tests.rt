@@ -121,6 +121,12 @@ branches    1000   1000    9900.99       9.90      90.90
 diamonds    4004   2504   25000.00       9.98      83.25
 ranges      1000   1000    9900.99       9.90      90.90
 checked     1000   1000    9900.99       9.90      90.90
+ns/call write a byte to 1 KiB       1000.00
+ns/call write a byte to 64 KiB      1000.00
+ns/call map_set beside 1 key        1000.00
+ns/call map_set beside 1023 keys    1000.00
+ns/call read beside no object       1000.00
+ns/call read beside a full one      1000.00
 ns/append behind   100     244.14
 ns/append behind 60000     244.14
 ";

@@ -192,12 +192,9 @@ impl Workload {
 
     /// A class of one method, `f`, which has that code.
     fn image(&self, alloc: Global) -> Result<ClassImage>
-        ensures { IfOk result (λ c. IsClassOf (code_bytes self.now) c) }
+        ensures { IfOk result (λ c. IsClassOf (code_bytes self.now) 1 0 c) }
     {
-        let code = decode(alloc, &self.code(alloc)?)?;
-        let mut methods = Vec::new(alloc);
-        methods.push(Method::new(String::from_str(alloc, "f")?, 1, 0, 0, code))?;
-        Ok(ClassImage::new(methods)?)
+        class_of(alloc, &self.code(alloc)?, 1, 0)
     }
 
     /// The method in a class of its own, verified and run once.
@@ -215,6 +212,16 @@ impl Workload {
             steps,
         })
     }
+}
+
+/// A class of one method, `f`, which has that code, flags and in_cap, and no output.
+pub fn class_of(alloc: Global, code: &[u8], flags: u8, in_cap: u16) -> Result<ClassImage>
+    ensures { IfOk result (λ c. IsClassOf code.now flags in_cap c) }
+{
+    let code = decode(alloc, code)?;
+    let mut methods = Vec::new(alloc);
+    methods.push(Method::new(String::from_str(alloc, "f")?, flags, in_cap, 0, code))?;
+    Ok(ClassImage::new(methods)?)
 }
 
 /// How many instructions the class's first method has.

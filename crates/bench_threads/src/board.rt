@@ -3,7 +3,7 @@ ghost use Rattle.std.specs.Prelude.{◌≡◌, ◌<◌, ◌≤◌, [], length};
 use crate::figure::{Figure, Mode};
 use anyhow::{Context, Result};
 use commit_board::{Board, Seen, Writer};
-use interp::ObjectName;
+use object_store::ObjectName;
 use pg_log::{ClientId, Request, RequestNumber};
 use std::alloc::Global;
 use std::time::{Clock, Instant};

@@ -23,6 +23,3 @@ pub use class_reader::assemble_class;
 pub use disassembler::{disassemble, disassemble_class};
 pub use fault::{AsmError, AsmFault};
 pub use laws::{one_class_text, one_reading, one_text};
-
-#[cfg(test)]
-mod tests;

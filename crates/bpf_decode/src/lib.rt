@@ -45,6 +45,3 @@ pub use region::Region;
 pub use register::Register;
 pub use slot::Slot;
 pub use value::Value;
-
-#[cfg(test)]
-mod tests;

@@ -13,7 +13,7 @@ use Rattle.bpf_decode.specs.Instruction.{byte_count, signed_byte_count, size_cod
 use Rattle.bpf_decode.specs.declared.value.Value.{Value}
 use Rattle.bpf_decode.specs.declared.value.Value.TheVariants.{Num}
 use Rattle.bpf_machine.specs.declared.caps.Caps.{Caps}
-use Rattle.bpf_machine.specs.Object.{part}
+use Rattle.object_store.specs.Object.{part}
 use Rattle.bpf_machine.specs.State.{◌>>=◌, le_value, le_bytes, cells, put, may_store, State, reg}
 use Rattle.bpf_machine.specs.Flat.{Layout, IsLayout, load, load_signed, store, signed16, signed32, act_on, flat_after}
 use Rattle.bpf_machine.specs.Typed.{Typed, extended, number, typed_load, typed_load_signed, typed_store, typed_act, address, image}

@@ -1,9 +1,8 @@
 -- Lists of bytes stay lists of bytes.
-use Rattle.std.proofs.Common.{ℕ, zero, suc, ◌+◌, ◌-◌, ◌/◌, ◌≤◌, List, [], ◌∷◌, ◌++◌, Bool, true, false, arith, length, take, drop, length-append, length-drop}
-use Rattle.std.specs.Prelude.{if◌then◌else◌, ◌==◌, replicate}
-use Rattle.std.proofs.lemmas.List.{length-take, length-replicate}
-use Rattle.bpf_machine.specs.declared.limits.TheConstants.{OBJECT_LIMIT}
-use Rattle.bpf_machine.specs.Object.{AreBytes, part, spliced}
+use Rattle.std.proofs.Common.{ℕ, zero, suc, ◌+◌, ◌/◌, ◌≤◌, List, [], ◌∷◌, ◌++◌, arith, length, take, drop, length-drop}
+use Rattle.std.specs.Prelude.{replicate}
+use Rattle.std.proofs.lemmas.List.{length-take}
+use Rattle.object_store.specs.Object.{AreBytes, part}
 use Rattle.bpf_machine.specs.State.{le_bytes, written}
 
 pub are_append : (xs ys : List ℕ) → AreBytes xs → AreBytes ys → AreBytes (xs ++ ys)
@@ -36,25 +35,5 @@ are_written xs place bytes h k =
     are_append (take place xs) (bytes ++ drop (place + length bytes) xs) (are_take place xs h)
     (are_append bytes (drop (place + length bytes) xs) k (are_drop (place + length bytes) xs h))
 
-pub part_short : (xs : List ℕ) (place n : ℕ) → length (part xs place n) ≤ n
-part_short xs place n = omega (arith, length-take n (drop place xs))
-
-module _ (xs : List ℕ) (place : ℕ) (text : List ℕ) where
-  pub are_spliced : AreBytes xs → AreBytes text → AreBytes (spliced xs place text)
-  are_spliced h k = by (length text == 0)
-    where
-      by : (b : Bool) → AreBytes (if b then xs else take place xs ++ replicate (place - length xs) 0 ++ text ++ drop (place + length text) xs)
-      by true = h
-      by false =
-          are_append (take place xs ++ replicate (place - length xs) 0 ++ text) (drop (place + length text) xs)
-          (are_append (take place xs ++ replicate (place - length xs) 0) text
-          (are_append (take place xs) (replicate (place - length xs) 0) (are_take place xs h) (are_zeros (place - length xs))) k)
-          (are_drop (place + length text) xs h)
-
-  pub spliced_short : length xs ≤ OBJECT_LIMIT → place + length text ≤ OBJECT_LIMIT → length (spliced xs place text) ≤ OBJECT_LIMIT
-  spliced_short p q = by (length text == 0)
-    where
-      by : (b : Bool) → length (if b then xs else take place xs ++ replicate (place - length xs) 0 ++ text ++ drop (place + length text) xs) ≤ OBJECT_LIMIT
-      by true = p
-      by false =
-          omega (arith, length-append (take place xs ++ replicate (place - length xs) 0 ++ text) (drop (place + length text) xs), length-append (take place xs ++ replicate (place - length xs) 0) text, length-append (take place xs) (replicate (place - length xs) 0), length-take place xs, length-replicate {A = ℕ} (place - length xs) 0, length-drop (place + length text) xs)
+pub part_within : (xs : List ℕ) (place n : ℕ) → length (part xs place n) ≤ length xs
+part_within xs place n = omega (arith, length-take n (drop place xs), length-drop place xs)

@@ -5,7 +5,7 @@ use Rattle.std.proofs.lemmas.Option.{none-some, same_Some}
 use Rattle.std.proofs.lemmas.Bool.{and_parts, eqb-true}
 use Rattle.bpf_decode.specs.Fields.{Fields, fields_of}
 use Rattle.bpf_machine.specs.declared.caps.Caps.{Caps}
-use Rattle.bpf_machine.specs.Object.{Object}
+use Rattle.object_store.specs.Object.{PlainObject}
 use Rattle.bpf_machine.specs.State.{◌>>=◌, only, State, reg, Outcome, outcome_of, Ending, Ended, Stuck, Unfinished, one_more, goes_on, ends}
 use Rattle.bpf_machine.specs.Flat.{Layout, at_slot, act, step, exit_code, IsStuck, Chain, EndsAtExit, run}
 use Rattle.bpf_machine.specs.Safe.{RunsAreChains, StuckRunsAreChains, UnfinishedRunsAreChains}
@@ -66,7 +66,7 @@ module _ (caps : Caps) (lay : Layout) where
         let same = same_Some more.0 way.0 (sym more.1 ∙ way.1) in
         never k n way.0 last t v (subst (λ x. Chain caps lay code k x last) same more.2) is way.2 stuck
 
-    module _ (before : Object) where
+    module _ (before : PlainObject) where
       abbrev Claim : ℕ → State ℕ → Outcome → ℕ → Type 0
       Claim n s o k = (k ≤ n) × EndsAtExit caps lay code before s o k
 
@@ -139,7 +139,7 @@ one_less_unfinished (Ended p j) h = cc
 one_less_unfinished Stuck h = cc
 one_less_unfinished Unfinished h = refl
 
-module _ (caps : Caps) (lay : Layout) (code : List ℕ) (before : Object) where
+module _ (caps : Caps) (lay : Layout) (code : List ℕ) (before : PlainObject) where
   abbrev GetsStuck : ℕ → State ℕ → Type 0
   GetsStuck n s = (k : ℕ) × (t : State ℕ) × (k < n) × Chain caps lay code k s t × IsStuck caps lay code t
 

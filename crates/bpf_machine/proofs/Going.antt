@@ -1,7 +1,7 @@
 -- A run after some of its steps.
 use Rattle.std.proofs.Common.{◌≡◌, ℕ, suc, ◌+◌, ◌-◌, ◌<◌, List, Some, None, refl, ap, ◌∙◌, sym, arith}
 use Rattle.bpf_machine.specs.declared.caps.Caps.{Caps}
-use Rattle.bpf_machine.specs.Object.{Object}
+use Rattle.object_store.specs.Object.{PlainObject}
 use Rattle.bpf_machine.specs.State.{State, outcome_of, Ending, Ended, Stuck, Unfinished, one_more, goes_on, ends}
 use Rattle.bpf_machine.specs.Flat.{Layout, step, exit_code, run}
 
@@ -21,7 +21,7 @@ one_further n (Ended o k) = ap (Ended o) (omega arith)
 one_further n Stuck = refl
 one_further n Unfinished = refl
 
-module _ (caps : Caps) (lay : Layout) (code : List ℕ) (before : Object) where
+module _ (caps : Caps) (lay : Layout) (code : List ℕ) (before : PlainObject) where
   -- a run of at least one step, opened
   opened : (limit n : ℕ) (s : State ℕ) → n < limit → run caps lay code before (limit - n) s ≡ ends before s (exit_code code s) (goes_on (step caps lay code s) (run caps lay code before (limit - (n + 1))))
   opened limit n s h =

@@ -1,6 +1,6 @@
 -- Helpers: what the typed machine takes and does, the flat machine takes and does.
 use Rattle.std.proofs.Common.{◌≡◌, ℕ, ◌+◌, ◌%◌, ◌^◌, ◌<◌, ◌≤◌, List, [], ◌∷◌, Some, None, Bool, true, false, cond, refl, ap, arith}
-use Rattle.std.specs.Prelude.{◌==◌, ◌||◌, not}
+use Rattle.std.specs.Prelude.{◌==◌, ◌||◌, not, unwrap_or}
 use Rattle.std.specs.Option.{option_map}
 use Rattle.std.proofs.lemmas.List.{drop-map}
 use Rattle.std.proofs.lemmas.Bool.{eqb-false}
@@ -8,10 +8,11 @@ use Rattle.bpf_decode.specs.declared.region.Region.{Region}
 use Rattle.bpf_decode.specs.declared.value.Value.{Value}
 use Rattle.bpf_decode.specs.declared.value.Value.TheVariants.{Num, Ptr}
 use Rattle.bpf_machine.specs.declared.caps.Caps.{Caps}
-use Rattle.bpf_machine.specs.declared.argument.Argument.{Argument}
-use Rattle.bpf_machine.specs.declared.argument.Argument.TheVariants.{Number, OutputLength, Readable, Writable}
+use Rattle.helpers.specs.declared.argument.Argument.{Argument}
+use Rattle.helpers.specs.declared.argument.Argument.TheVariants.{Number, OutputLength, Readable, Writable}
+use Rattle.helpers.specs.Table.{signature_of, effect}
 use Rattle.bpf_machine.specs.State.{◌>>=◌, only, may_store, size}
-use Rattle.bpf_machine.specs.Helper.{signature_of, nothing_given, with_number, with_text, with_room, effect, bytes_in, write_room}
+use Rattle.bpf_machine.specs.Helper.{nothing_given, with_number, with_text, with_room, asked, bytes_in, write_room}
 use Rattle.bpf_machine.specs.Flat.{Layout, IsLayout, base, find, range, arguments, help}
 use Rattle.bpf_machine.specs.Typed.{Typed, locate, typed_range, typed_arguments, typed_help, address, image}
 use Rattle.bpf_machine.proofs.Sim.{Sim, Any, same, sim_none, sim_some, sim_if, sim_eq, sim_bind, sim_drop, sim_same}
@@ -61,6 +62,6 @@ module _ (caps : Caps) (lay : Layout) (ok : IsLayout caps lay) where
       sim_bind Any same Any (image lay) _ _ _ _ (sim_same (signature_of id)) (λ takes _ _.
       sim_if Any (image lay) (not takes.writes || caps.writes) _ _ (λ _.
       sim_bind Any same Any (image lay) _ _ _ _ (arguments_sim s takes.arguments 1) (λ given _ _.
-      let e = effect id s.object s.out_len given in
+      let e = effect id s.object (asked given) in
       sim_some Any (image lay) _ _ tt
-      (ap (λ regs. record { slot = s.slot; regs = Some e.answer ∷ None ∷ None ∷ None ∷ None ∷ None ∷ regs; memory = write_room s.memory given.target e.bytes; object = e.object; out_len = e.out_len; caller = s.caller }) (drop-map (option_map (address lay)) 6 s.regs)))))
+      (ap (λ regs. record { slot = s.slot; regs = Some e.answer ∷ None ∷ None ∷ None ∷ None ∷ None ∷ regs; memory = write_room s.memory given.target e.bytes; object = e.object; out_len = unwrap_or e.out_len s.out_len; caller = s.caller }) (drop-map (option_map (address lay)) 6 s.regs)))))

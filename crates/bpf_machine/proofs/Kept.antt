@@ -1,8 +1,8 @@
 -- A step keeps what is within the limits, and so does a run.
 use Rattle.std.proofs.Common.{◌≡◌, ℕ, zero, suc, ◌+◌, ◌-◌, ◌*◌, ◌/◌, ◌%◌, ◌^◌, ◌≤◌, List, [], ◌∷◌, Option, Some, None, Bool, true, false, refl, sym, subst, arith, length, take, drop, length-append, ◌⊎◌, inl, inr}
-use Rattle.std.specs.Prelude.{if◌then◌else◌, nat_lt, ◌==◌, replicate, slice_index}
+use Rattle.std.specs.Prelude.{if◌then◌else◌, nat_lt, ◌==◌, replicate}
+use Rattle.std.specs.List.{AllByRecursion}
 use Rattle.std.proofs.lemmas.List.{length-take, length-replicate}
-use Rattle.std.proofs.lemmas.Bool.{ltb-false}
 use Rattle.std.proofs.lemmas.Option.{none-some, same_Some}
 use Rattle.bpf_decode.specs.Fields.{Fields, fields_of}
 use Rattle.bpf_decode.specs.declared.access.SignedWidth.{SignedWidth}
@@ -11,21 +11,24 @@ use Rattle.bpf_decode.specs.Opcodes.{operation_of, selected, order_of, end_width
 use Rattle.bpf_decode.specs.Arithmetic.{alu_value, neg_value, mov_value, signed_move_value, end_value, is_taken, signed_load_value}
 use Rattle.bpf_decode.specs.declared.operation.Bits.{Bits}
 use Rattle.bpf_decode.specs.declared.operation.Bits.TheVariants.{Bits32, Bits64}
-use Rattle.bpf_machine.specs.declared.limits.TheConstants.{OBJECT_LIMIT, STACK_SIZE}
+use Rattle.bpf_machine.specs.declared.limits.TheConstants.{STACK_SIZE}
 use Rattle.bpf_decode.specs.declared.region.Region.{Region}
 use Rattle.bpf_decode.specs.declared.region.Region.TheVariants.{Input, Output, Stack}
-use Rattle.bpf_machine.specs.declared.argument.Argument.{Argument}
-use Rattle.bpf_machine.specs.declared.argument.Argument.TheVariants.{Number, OutputLength, Readable, Writable}
+use Rattle.object_store.specs.declared.limits.TheConstants.{VALUE_LIMIT}
+use Rattle.object_store.specs.Object.{PlainObject, IsObject, IsValue, AreBytes, part}
+use Rattle.helpers.specs.declared.argument.Argument.{Argument}
+use Rattle.helpers.specs.declared.argument.Argument.TheVariants.{Number, OutputLength, Readable, Writable}
+use Rattle.helpers.specs.Table.{signature_of, effect}
+use Rattle.helpers.specs.Laws.{EffectsAreWithinLimits}
 use Rattle.bpf_machine.specs.declared.caps.Caps.{Caps}
-use Rattle.bpf_machine.specs.Object.{Object, IsObject, AreBytes, data_of, part, spliced}
-use Rattle.bpf_machine.specs.State.{◌>>=◌, only, le_value, le_bytes, cells, put, size, State, reg, set_reg, go, opening, Outcome, outcome_of, Ending, Ended, Stuck, Unfinished, goes_on, ends}
-use Rattle.bpf_machine.specs.Helper.{signature_of, Given, effect, read_effect, write_effect, refused, first_text, bytes_in, write_room, Effect}
+use Rattle.bpf_machine.specs.State.{◌>>=◌, only, le_value, le_bytes, cells, put, size, AreCapacities, State, reg, set_reg, go, opening, Outcome, outcome_of, Ending, Ended, Stuck, Unfinished, goes_on, ends}
+use Rattle.bpf_machine.specs.Helper.{Given, asked, bytes_in, write_room}
 use Rattle.bpf_machine.specs.Flat.{Layout, base, operand, at_slot, at_base, signed16, signed32, width_of, signed_width_of, find, range, load, load_signed, store, arguments, help, flat_after, operation_row, neg_row, mov_row, end_row, alu_row, ldx_row, st_row, stx_row, wide_row, call_row, branch_row, act, step, exit_code, run, entry}
 use Rattle.bpf_decode.specs.Jump.{jump_target, branch_to}
 use Rattle.bpf_machine.specs.Safe.{caps_of, first_layout, outcome_or_none}
 use Rattle.bpf_machine.specs.Address.{IsMemory}
 use Rattle.bpf_machine.specs.Within.{IsWithinLimits, OutcomesAreWithinLimits, CallsAreWithinLimits}
-use Rattle.bpf_machine.proofs.Bytes.{are_append, are_take, are_zeros, are_part, are_le_bytes, are_written, part_short, are_spliced, spliced_short}
+use Rattle.bpf_machine.proofs.Bytes.{are_append, are_take, are_zeros, are_part, are_le_bytes, are_written, part_within}
 use Rattle.bpf_machine.proofs.Cells.{length-le_bytes}
 use Rattle.bpf_machine.proofs.OneMemory.{IsPlace, find_place, put_same, put_other, put_sized}
 use Rattle.bpf_machine.proofs.Counting.{one_less}
@@ -59,48 +62,17 @@ pub record IsGood (caps : Caps) (s : State ℕ) : Type 0 where
   pub bytes : (r : Region) → AreBytes (cells s.memory r)
   pub object : IsObject s.object
 
--- every text is bytes, and the writable range is a region's
+-- every text is one that a value may be, and the writable range is a region's
 pub record IsGiven (caps : Caps) (g : Given) : Type 0 where
-  pub text : AreBytes (first_text g.texts)
+  pub texts : AllByRecursion IsValue g.texts
   pub room : (p : Region × ℕ) → g.target ≡ Some p → p.1 + g.room ≤ size caps p.0
 
-pub record IsEffect (room : ℕ) (e : Effect) : Type 0 where
-  pub object : IsObject e.object
-  pub bytes : AreBytes e.bytes
-  pub short : length e.bytes ≤ room
+size_short : (caps : Caps) → AreCapacities caps → (r : Region) → size caps r ≤ VALUE_LIMIT
+size_short caps a Input = a.input
+size_short caps a Output = a.output
+size_short caps a Stack = omega arith
 
-read_is : (object : Object) (out_len at room : ℕ) → IsObject object → IsEffect room (read_effect object out_len at room)
-read_is None out_len at room h = record { object = tt; bytes = tt; short = omega arith }
-read_is (Some bytes) out_len at room h = record { object = h; bytes = are_part bytes at room h.1; short = part_short bytes at room }
-
-data_bytes : (object : Object) → IsObject object → (length (data_of object) ≤ OBJECT_LIMIT) × AreBytes (data_of object)
-data_bytes None h = (omega arith, tt)
-data_bytes (Some bytes) h = (h.0, h.1)
-
-write_is : (object : Object) (out_len at : ℕ) (text : List ℕ) (room : ℕ) → IsObject object → AreBytes text → IsEffect room (write_effect object out_len at text)
-write_is object out_len at text room h k = by (nat_lt OBJECT_LIMIT (at + length text)) refl
-  where
-    by : (b : Bool) → nat_lt OBJECT_LIMIT (at + length text) ≡ b → IsEffect room (if b then refused 27 object out_len else record { answer = length text; object = Some (spliced (data_of object) at text); out_len = out_len; bytes = [] })
-    by true e = record { object = h; bytes = tt; short = omega arith }
-    by false e =
-        let d = data_bytes object h in
-        record {
-          object = (spliced_short (data_of object) at text d.0 (ltb-false _ _ e), are_spliced (data_of object) at text d.1 k);
-          bytes = tt;
-          short = omega arith;
-        }
-
-if_is : (room : ℕ) (b : Bool) (x y : Effect) → IsEffect room x → IsEffect room y → IsEffect room (if b then x else y)
-if_is room true x y h k = h
-if_is room false x y h k = k
-
-effect_is : (caps : Caps) (id : ℕ) (object : Object) (out_len : ℕ) (g : Given) → IsObject object → IsGiven caps g → IsEffect g.room (effect id object out_len g)
-effect_is caps id object out_len g h k =
-    if_is g.room (id == 2) _ _ (read_is object out_len (slice_index g.numbers 0) g.room h)
-    (if_is g.room (id == 3) _ _ (write_is object out_len (slice_index g.numbers 0) (first_text g.texts) g.room h k.text)
-    (record { object = h; bytes = tt; short = omega arith }))
-
-module _ (caps : Caps) (lay : Layout) where
+module _ (caps : Caps) (law : EffectsAreWithinLimits) (within : AreCapacities caps) (lay : Layout) where
   -- bytes written at a place leave the state good
   put_good : (s : State ℕ) (r : Region) (place : ℕ) (bytes : List ℕ) → IsGood caps s → place + length bytes ≤ size caps r → AreBytes bytes → IsGood caps (record s { memory = put s.memory r place bytes })
   put_good s r place bytes g h k =
@@ -142,32 +114,33 @@ module _ (caps : Caps) (lay : Layout) where
       let one : Where (IsRange n) (Some (Some p)) = where_some (IsRange n) (Some p) (λ q f. subst (λ x. x.1 + n ≤ size caps x.0) (same_Some p q f) (find_place caps lay at n p e).inside) in
       where_if (IsRange n) writes _ _ (where_only (IsRange n) _ _ one) one))
 
-  text_bytes : (s : State ℕ) (p : Option (Region × ℕ)) (n : ℕ) → IsGood caps s → AreBytes (bytes_in s.memory p n)
-  text_bytes s None n g = tt
-  text_bytes s (Some p) n g = are_part (cells s.memory p.0) p.1 n (g.bytes p.0)
+  text_is : (s : State ℕ) (p : Option (Region × ℕ)) (n : ℕ) → IsGood caps s → IsValue (bytes_in s.memory p n)
+  text_is s None n g = (omega arith, tt)
+  text_is s (Some p) n g =
+      (omega (arith, part_within (cells s.memory p.0) p.1 n, g.sized.lengths p.0, size_short caps within p.0), are_part (cells s.memory p.0) p.1 n (g.bytes p.0))
 
   given : (s : State ℕ) → IsGood caps s → (takes : List Argument) (k : ℕ) → Where (IsGiven caps) (arguments caps lay s takes k)
-  given s g [] k = where_some (IsGiven caps) _ (record { text = tt; room = λ p e. absurd (none-some p e) })
+  given s g [] k = where_some (IsGiven caps) _ (record { texts = tt; room = λ p e. absurd (none-some p e) })
   given s g (Number ∷ more) k =
       where_bind (IsGiven caps) (reg s k) _ (λ n e.
       where_bind (IsGiven caps) (arguments caps lay s more (k + 1)) _ (λ x f.
-      let i = (given s g more (k + 1)).by x f in where_some (IsGiven caps) _ (record { text = i.text; room = i.room })))
+      let i = (given s g more (k + 1)).by x f in where_some (IsGiven caps) _ (record { texts = i.texts; room = i.room })))
   given s g (OutputLength ∷ more) k =
       where_bind (IsGiven caps) (reg s k) _ (λ n e.
       where_only (IsGiven caps) _ _ (where_bind (IsGiven caps) (arguments caps lay s more (k + 1)) _ (λ x f.
-      let i = (given s g more (k + 1)).by x f in where_some (IsGiven caps) _ (record { text = i.text; room = i.room }))))
+      let i = (given s g more (k + 1)).by x f in where_some (IsGiven caps) _ (record { texts = i.texts; room = i.room }))))
   given s g (Readable ∷ more) k =
       where_bind (IsGiven caps) (reg s k) _ (λ at e.
       where_bind (IsGiven caps) (reg s (k + 1)) _ (λ n e2.
       where_bind (IsGiven caps) (range caps lay false at n) _ (λ p e3.
       where_bind (IsGiven caps) (arguments caps lay s more (k + 2)) _ (λ x f.
-      let i = (given s g more (k + 2)).by x f in where_some (IsGiven caps) _ (record { text = text_bytes s p n g; room = i.room })))))
+      let i = (given s g more (k + 2)).by x f in where_some (IsGiven caps) _ (record { texts = (text_is s p n g, i.texts); room = i.room })))))
   given s g (Writable ∷ more) k =
       where_bind (IsGiven caps) (reg s k) _ (λ at e.
       where_bind (IsGiven caps) (reg s (k + 1)) _ (λ n e2.
       where_bind (IsGiven caps) (range caps lay true at n) _ (λ p e3.
       where_bind (IsGiven caps) (arguments caps lay s more (k + 2)) _ (λ x f.
-      let i = (given s g more (k + 2)).by x f in where_some (IsGiven caps) _ (record { text = i.text; room = (ranges true at n).by p e3 })))))
+      let i = (given s g more (k + 2)).by x f in where_some (IsGiven caps) _ (record { texts = i.texts; room = (ranges true at n).by p e3 })))))
 
   wrote : (s : State ℕ) (target : Option (Region × ℕ)) (room : ℕ) (bytes : List ℕ) → IsGood caps s → IsRange room target → length bytes ≤ room → AreBytes bytes → IsGood caps (record s { memory = write_room s.memory target bytes })
   wrote s None room bytes g i h k = record { sized = g.sized; bytes = g.bytes; object = g.object }
@@ -178,8 +151,8 @@ module _ (caps : Caps) (lay : Layout) where
       where_bind (IsGood caps) (signature_of id) _ (λ takes e.
       where_only (IsGood caps) _ _ (where_bind (IsGood caps) (arguments caps lay s takes.arguments 1) _ (λ x f.
       let i = (given s g takes.arguments 1).by x f in
-      let e = effect_is caps id s.object s.out_len x g.object i in
-      let m = wrote s x.target x.room (effect id s.object s.out_len x).bytes g i.room e.short e.bytes in
+      let e = law id s.object (asked x) g.object i.texts in
+      let m = wrote s x.target x.room (effect id s.object (asked x)).bytes g i.room e.short e.bytes in
       where_some (IsGood caps) _ (record { sized = m.sized; bytes = m.bytes; object = e.object }))))
 
   module _ (s : State ℕ) (g : IsGood caps s) where
@@ -263,7 +236,7 @@ module _ (caps : Caps) (lay : Layout) where
     steps : (code : List ℕ) → Where (IsGood caps) (step caps lay code s)
     steps code = where_bind (IsGood caps) (fields_of (at_slot code s.slot)) _ (λ f _. acts f (fields_of (drop 8 (at_slot code s.slot))))
 
-  outcome_good : (before : Object) (code : ℕ) (s : State ℕ) → IsObject before → IsGood caps s → IsWithinLimits caps (outcome_of before code s)
+  outcome_good : (before : PlainObject) (code : ℕ) (s : State ℕ) → IsObject before → IsGood caps s → IsWithinLimits caps (outcome_of before code s)
   outcome_good before code s h g = by (nat_lt code (2 ^ 63))
     where
       by : (b : Bool) → IsWithinLimits caps (if b then record { code = code; output = take s.out_len s.memory.output; object = s.object } else record { code = code; output = []; object = before })
@@ -274,7 +247,7 @@ module _ (caps : Caps) (lay : Layout) where
       }
       by false = record { object = h; bytes = tt; short = omega arith }
 
-  module _ (code : List ℕ) (before : Object) (h : IsObject before) where
+  module _ (code : List ℕ) (before : PlainObject) (h : IsObject before) where
     at : (n : ℕ) (s : State ℕ) (o : Outcome) (k : ℕ) → IsGood caps s → ((t : State ℕ) (j : ℕ) → IsGood caps t → run caps lay code before n t ≡ Ended o j → IsWithinLimits caps o) → (x : Option ℕ) → (y : Option (State ℕ)) → step caps lay code s ≡ y → ends before s x (goes_on y (run caps lay code before n)) ≡ Ended o k → IsWithinLimits caps o
     at n s o k g more (Some c) y st e =
         let same : outcome_of before c s ≡ o = cc in
@@ -288,7 +261,7 @@ module _ (caps : Caps) (lay : Layout) where
     runs zero s o k g e = cc
     runs (suc n) s o k g e = at n s o k g (λ t j m f. runs n t o j m f) (exit_code code s) (step caps lay code s) refl e
 
-  entry_good : (before : Object) (caller : ℕ) (input : List ℕ) → IsObject before → AreBytes input → length input ≤ caps.in_cap → IsGood caps (entry caps lay before caller input)
+  entry_good : (before : PlainObject) (caller : ℕ) (input : List ℕ) → IsObject before → AreBytes input → length input ≤ caps.in_cap → IsGood caps (entry caps lay before caller input)
   entry_good before caller input h k short = record {
     sized = record { lengths = sizes };
     bytes = each;
@@ -305,15 +278,15 @@ module _ (caps : Caps) (lay : Layout) where
       each Output = are_zeros caps.out_cap
       each Stack = are_zeros STACK_SIZE
 
-pub outcomes_are_within_limits : OutcomesAreWithinLimits
-outcomes_are_within_limits caps lay code before caller input count o k h bytes short e =
-    runs caps lay code before h count (entry caps lay before caller input) o k (entry_good caps lay before caller input h bytes short) e
+pub outcomes_are_within_limits : EffectsAreWithinLimits → OutcomesAreWithinLimits
+outcomes_are_within_limits law caps lay code before caller input count o k within h bytes short e =
+    runs caps law within lay code before h count (entry caps lay before caller input) o k (entry_good caps law within lay before caller input h bytes short) e
 
-pub calls_are_within_limits : CallsAreWithinLimits
-calls_are_within_limits m object caller input call =
+pub calls_are_within_limits : EffectsAreWithinLimits → CallsAreWithinLimits
+calls_are_within_limits law m within object caller input call =
     by (run (caps_of m) (first_layout (caps_of m)) (spelling m.instructions) object (length m.instructions) (entry (caps_of m) (first_layout (caps_of m)) object caller input)) refl
   where
     by : (e : Ending) → run (caps_of m) (first_layout (caps_of m)) (spelling m.instructions) object (length m.instructions) (entry (caps_of m) (first_layout (caps_of m)) object caller input) ≡ e → IsWithinLimits (caps_of m) (outcome_or_none object e)
-    by (Ended o k) e = outcomes_are_within_limits (caps_of m) (first_layout (caps_of m)) (spelling m.instructions) object caller input (length m.instructions) o k call.within_limits call.bytes call.short e
+    by (Ended o k) e = outcomes_are_within_limits law (caps_of m) (first_layout (caps_of m)) (spelling m.instructions) object caller input (length m.instructions) o k within call.within_limits call.bytes call.short e
     by Stuck e = record { object = call.within_limits; bytes = tt; short = omega arith }
     by Unfinished e = record { object = call.within_limits; bytes = tt; short = omega arith }

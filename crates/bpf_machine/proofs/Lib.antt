@@ -15,3 +15,4 @@ pub mod Runs
 pub mod Going
 pub mod Bytes
 pub mod Kept
+pub mod Table

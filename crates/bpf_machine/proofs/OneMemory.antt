@@ -9,7 +9,7 @@ use Rattle.bpf_decode.specs.Arithmetic.{signed_load_value}
 use Rattle.bpf_decode.specs.declared.region.Region.{Region}
 use Rattle.bpf_decode.specs.declared.region.Region.TheVariants.{Input, Output, Stack}
 use Rattle.bpf_machine.specs.declared.caps.Caps.{Caps}
-use Rattle.bpf_machine.specs.Object.{part}
+use Rattle.object_store.specs.Object.{part}
 use Rattle.bpf_machine.specs.State.{◌>>=◌, only, le_value, le_bytes, Memory, cells, written, put, may_store, size, State, set_reg}
 use Rattle.bpf_machine.specs.Flat.{Layout, base, IsLayout, holds, find, load, load_signed}
 use Rattle.bpf_machine.specs.Address.{byte_at, IsMemory, Reads, Writes, StandsAt, PlacesAreAddresses, NoByteElsewhere, LoadsAreOfAddresses, SignedLoadsAreOfAddresses, StoresAreAtAddresses}

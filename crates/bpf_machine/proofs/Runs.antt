@@ -7,7 +7,7 @@ use Rattle.bpf_decode.specs.Instruction.{spelling, slots, AllFit}
 use Rattle.bpf_decode.specs.declared.region.Region.TheVariants.{Input, Output, Stack}
 use Rattle.bpf_decode.specs.declared.region.Region.{Region}
 use Rattle.bpf_machine.specs.declared.caps.Caps.{Caps}
-use Rattle.bpf_machine.specs.Object.{Object}
+use Rattle.object_store.specs.Object.{PlainObject}
 use Rattle.bpf_machine.specs.State.{◌>>=◌, size, State, entry_regs, opening, Outcome, Ending, Ended, one_more, goes_on, ends}
 use Rattle.bpf_machine.specs.Flat.{Layout, IsLayout, base, step, exit_code, run, entry}
 use Rattle.bpf_machine.specs.Typed.{Typed, fetch, typed_act, typed_step, typed_exit_of, typed_exit, typed_run, typed_entry, image}
@@ -18,7 +18,7 @@ use Rattle.bpf_machine.proofs.Fetch.{bytes_are_instructions}
 use Rattle.bpf_machine.proofs.Counting.{one_less, exit_stops, runs_are_chains}
 
 -- a run takes no more steps than are counted
-module _ (caps : Caps) (code : List (Option Insn)) (before : Object) where
+module _ (caps : Caps) (code : List (Option Insn)) (before : PlainObject) where
   steps_at : (n : ℕ) (s : Typed) (o : Outcome) (k : ℕ) → ((t : Typed) (j : ℕ) → typed_run caps code before n t ≡ Ended o j → j ≤ n) → (x : Option ℕ) (y : Option Typed) → ends before s x (goes_on y (typed_run caps code before n)) ≡ Ended o k → k ≤ suc n
   steps_at n s o k more (Some c) y h = let one : 1 ≡ k = cc in omega arith
   steps_at n s o k more None None h = cc
@@ -30,7 +30,7 @@ module _ (caps : Caps) (code : List (Option Insn)) (before : Object) where
   steps_within zero s o k h = cc
   steps_within (suc n) s o k h = steps_at n s o k (λ t j e. steps_within n t o j e) (typed_exit code s) (typed_step caps code s) h
 
-module _ (caps : Caps) (lay : Layout) (ok : IsLayout caps lay) (before : Object) where
+module _ (caps : Caps) (lay : Layout) (ok : IsLayout caps lay) (before : PlainObject) where
   -- the rest of a typed run, and of its image
   abbrev Rest : (Typed → Ending) → (State ℕ → Ending) → Type 0
   Rest more more' = (t : Typed) (o : Outcome) (k : ℕ) → more t ≡ Ended o k → more' (image lay t) ≡ Ended o k
@@ -66,10 +66,10 @@ module _ (caps : Caps) (lay : Layout) (ok : IsLayout caps lay) (before : Object)
 whole_plus : (b o : ℕ) → b + o < 2 ^ 64 → (b + o) % 2 ^ 64 ≡ b + o
 whole_plus b o h = mod-eq_of_lt h
 
-abbrev entry_at : Caps → Object → ℕ → List ℕ → ℕ → ℕ → ℕ → State ℕ
+abbrev entry_at : Caps → PlainObject → ℕ → List ℕ → ℕ → ℕ → ℕ → State ℕ
 entry_at caps object caller input x y z = record { slot = 0; regs = entry_regs x (length input) y z; memory = opening caps input; object = object; out_len = 0; caller = caller }
 
-entry_image : (caps : Caps) (lay : Layout) → IsLayout caps lay → (object : Object) (caller : ℕ) (input : List ℕ) → image lay (typed_entry caps object caller input) ≡ entry caps lay object caller input
+entry_image : (caps : Caps) (lay : Layout) → IsLayout caps lay → (object : PlainObject) (caller : ℕ) (input : List ℕ) → image lay (typed_entry caps object caller input) ≡ entry caps lay object caller input
 entry_image caps lay ok object caller input =
     let a : (lay.input + 0) % 2 ^ 64 ≡ lay.input = whole_plus lay.input 0 (omega (arith, ok.fits Input)) ∙ omega arith in
     let b : (lay.output + 0) % 2 ^ 64 ≡ lay.output = whole_plus lay.output 0 (omega (arith, ok.fits Output)) ∙ omega arith in

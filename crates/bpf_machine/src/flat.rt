@@ -1,11 +1,12 @@
 ghost use Rattle.std.specs.Prelude.{◌≡◌, ◌<◌, ◌≤◌, ◌+◌, ◌^◌, ◌-◌, ◌++◌, length, replicate, IfOk};
-ghost use Rattle.bpf_machine.specs.State.{outcome_of};
+ghost use Rattle.std.specs.Option.{option_copied};
+ghost use Rattle.bpf_machine.specs.State.{AreCapacities, opening, outcome_of};
 ghost use Rattle.bpf_machine.specs.Flat.{IsLayout, run, entry};
-ghost use Rattle.bpf_machine.specs.View.{layout_of, object_items, slice_object, ending_of};
-ghost use Rattle.bpf_machine.specs.inner.FlatState.{flat_state, stopped, IsSized};
+ghost use Rattle.bpf_machine.specs.View.{layout_of, ending_of};
+ghost use Rattle.bpf_machine.specs.inner.FlatState.{memory_of, flat_state, stopped, IsSized};
 
+mod calls;
 mod fields;
-mod helpers;
 mod memory;
 mod rows;
 mod state;
@@ -14,19 +15,21 @@ use crate::caps::Caps;
 use crate::layout::Layout;
 use crate::limits::STACK_SIZE;
 use memory::Regions;
+use object_store::Object;
 use rows::{exit_code, step};
 use state::FlatState;
 use std::alloc::{AllocError, Global};
+use txn::{NoMemory, Staged};
 
 /// How a run ends.
-#[derive(Debug, PartialEq, Drop)]
+#[derive(Drop)]
 pub enum Ending {
     /// At an exit: the code, to be read as a signed number, the output, the object after, and the number of
     /// instructions executed.
     Ended {
         code: u64,
         output: Vec<u8>,
-        object: Option<Vec<u8>>,
+        object: Option<Object>,
         steps: usize,
     },
     /// At a state that is no exit and has no step.
@@ -55,35 +58,49 @@ fn padded_with_zeros(alloc: Global, bytes: &[u8], len: usize) -> Result<Vec<u8>,
     Ok(padded)
 }
 
-fn copy_object(alloc: Global, object: Option<&[u8]>) -> Result<Option<Vec<u8>>, AllocError>
-    ensures { IfOk result (λ o. object_items o ≡ slice_object object.entry) }
+/// An equal object, none for none.
+fn copied(object: Option<&Object>) -> Result<Option<Object>, NoMemory>
+    ensures { IfOk result (λ o. o ≡ option_copied object.entry) }
 {
     match object {
         None => Ok(None),
-        Some(bytes) => Ok(Some(Vec::from_slice(alloc, bytes)?)),
+        Some(object) => match object.copy() {
+            Ok(copy) => Ok(Some(copy)),
+            Err(_) => Err(NoMemory),
+        },
     }
 }
 
-/// The state as a method begins.
-fn enter(
-    alloc: Global,
-    caps: &Caps,
-    layout: &Layout,
-    object: Option<&[u8]>,
-    caller: u32,
-    input: &[u8],
-) -> Result<FlatState, AllocError>
-    requires layout { IsLayout caps.now (layout_of layout.now) }
+/// The regions as a method begins.
+fn opening(alloc: Global, caps: &Caps, input: &[u8]) -> Result<Regions, AllocError>
+    requires capacities { AreCapacities caps.now }
     requires short { length input.now ≤ caps.now.in_cap }
-    ensures entry { IfOk result (λ s. flat_state s ≡ entry caps.now (layout_of layout.now) (slice_object object.entry) caller input.now) }
-    ensures sized { IfOk result (λ s. IsSized caps.now s.memory) }
+    ensures memory { IfOk result (λ m. memory_of m ≡ opening caps.now input.now) }
+    ensures sized { IfOk result (λ m. IsSized caps.now m) }
 {
-    let memory = Regions {
+    Ok(Regions {
         input: padded_with_zeros(alloc, input, usize::from(caps.in_cap))?,
         output: padded_with_zeros(alloc, &[], usize::from(caps.out_cap))?,
         stack: padded_with_zeros(alloc, &[], STACK_SIZE)?,
-    };
-    let object = copy_object(alloc, object)?;
+    })
+}
+
+/// The state as a method begins.
+fn enter<'a>(
+    alloc: Global,
+    caps: &Caps,
+    layout: &Layout,
+    object: Option<&'a Object>,
+    caller: u32,
+    input: &[u8],
+) -> Result<FlatState<'a>, AllocError>
+    requires capacities { AreCapacities caps.now }
+    requires layout { IsLayout caps.now (layout_of layout.now) }
+    requires short { length input.now ≤ caps.now.in_cap }
+    ensures entry { IfOk result (λ s. flat_state s ≡ entry caps.now (layout_of layout.now) (option_copied object.entry) caller input.now) }
+    ensures sized { IfOk result (λ s. IsSized caps.now s.memory) }
+{
+    let memory = opening(alloc, caps, input)?;
     Ok(FlatState {
         slot: 0,
         regs: [
@@ -100,7 +117,7 @@ fn enter(
             Some(layout.stack + STACK_SIZE as u64),
         ],
         memory,
-        object,
+        object: Staged::over(object),
         out_len: 0,
         caller,
     })
@@ -114,7 +131,7 @@ fn run_on(
     code: &[u8],
     s: &mut FlatState,
     limit: usize,
-) -> Result<Stop, AllocError>
+) -> Result<Stop, NoMemory>
     requires { IsSized caps.now s.old.memory }
     ensures { IfOk result (λ stop. stopped (flat_state s.old).object stop (flat_state s.new) ≡ run caps.now (layout_of layout.now) code.now (flat_state s.old).object limit (flat_state s.old)) }
 {
@@ -133,11 +150,11 @@ fn run_on(
 /// The output and the object after an exit: a negative code changes nothing and has no output.
 fn finish(
     alloc: Global,
-    before: Option<&[u8]>,
+    before: Option<&Object>,
     code: u64,
     s: FlatState,
-) -> Result<(Vec<u8>, Option<Vec<u8>>), AllocError>
-    ensures { IfOk result (λ r. record { code = code; output = r.0.items; object = object_items r.1 } ≡ outcome_of (slice_object before.entry) code (flat_state s)) }
+) -> Result<(Vec<u8>, Option<Object>), NoMemory>
+    ensures { IfOk result (λ r. record { code = code; output = r.0.items; object = r.1 } ≡ outcome_of (option_copied before.entry) code (flat_state s.entry)) }
 {
     if code < 0x8000_0000_0000_0000 {
         let FlatState {
@@ -154,32 +171,24 @@ fn finish(
             stack: _,
         } = memory;
         output.truncate(out_len);
-        Ok((output, object))
+        Ok((output, copied(object.object())?))
     } else {
-        Ok((Vec::new(alloc), copy_object(alloc, before)?))
+        Ok((Vec::new(alloc), copied(before)?))
     }
 }
 
-/// Runs a method's bytes on plain addresses, beside an object, for a client, on an input, in at most so many steps.
-/// It is the definition of the machine as a program, and slow. An error is a failure of memory.
-pub fn flat_run(
+/// How a run ended that stopped there, in that state.
+fn ended(
     alloc: Global,
-    caps: &Caps,
-    code: &[u8],
-    layout: &Layout,
-    object: Option<&[u8]>,
-    caller: u32,
-    input: &[u8],
-    limit: usize,
-) -> Result<Ending, AllocError>
-    requires layout { IsLayout caps.now (layout_of layout.now) }
-    requires short { length input.now ≤ caps.now.in_cap }
-    ensures { IfOk result (λ e. ending_of e ≡ run caps.now (layout_of layout.now) code.now (slice_object object.entry) limit (entry caps.now (layout_of layout.now) (slice_object object.entry) caller input.now)) }
+    before: Option<&Object>,
+    stop: Stop,
+    s: FlatState,
+) -> Result<Ending, NoMemory>
+    ensures { IfOk result (λ e. ending_of e ≡ stopped (option_copied before.entry) stop (flat_state s.entry)) }
 {
-    let mut s = enter(alloc, caps, layout, object, caller, input)?;
-    match run_on(alloc, caps, layout, code, &mut s, limit)? {
+    match stop {
         Stop::Exit(code, steps) => {
-            let (output, object) = finish(alloc, object, code, s)?;
+            let (output, object) = finish(alloc, before, code, s)?;
             Ok(Ending::Ended {
                 code,
                 output,
@@ -190,4 +199,26 @@ pub fn flat_run(
         Stop::Stuck => Ok(Ending::Stuck),
         Stop::Unfinished => Ok(Ending::Unfinished),
     }
+}
+
+/// Runs a method's bytes on plain addresses, beside an object, for a client, on an input, in at most so many steps.
+/// It is the definition of the machine as a program, and slow. Refused: NoMemory.
+pub fn flat_run(
+    alloc: Global,
+    caps: &Caps,
+    code: &[u8],
+    layout: &Layout,
+    object: Option<&Object>,
+    caller: u32,
+    input: &[u8],
+    limit: usize,
+) -> Result<Ending, NoMemory>
+    requires capacities { AreCapacities caps.now }
+    requires layout { IsLayout caps.now (layout_of layout.now) }
+    requires short { length input.now ≤ caps.now.in_cap }
+    ensures { IfOk result (λ e. ending_of e ≡ run caps.now (layout_of layout.now) code.now (option_copied object.entry) limit (entry caps.now (layout_of layout.now) (option_copied object.entry) caller input.now)) }
+{
+    let mut s = enter(alloc, caps, layout, object, caller, input)?;
+    let stop = run_on(alloc, caps, layout, code, &mut s, limit)?;
+    ended(alloc, object, stop, s)
 }

@@ -2,6 +2,8 @@ ghost use Rattle.bpf_machine.specs.Safe.{Simulates, EndsAlwaysIsSafe, RunsAreCha
 ghost use Rattle.bpf_machine.specs.Address.{PlacesAreAddresses, NoByteElsewhere, LoadsAreOfAddresses, SignedLoadsAreOfAddresses, StoresAreAtAddresses};
 ghost use Rattle.bpf_machine.specs.Within.{OutcomesAreWithinLimits, CallsAreWithinLimits};
 
+use helpers::effects_are_within_limits;
+
 /// A law, proved when the crate is checked; a call does nothing. What the typed machine does with instructions,
 /// the flat machine does with their bytes, wherever the regions lie: the outcome, and the number of steps.
 /// So a method whose typed runs all end is safe.
@@ -49,9 +51,11 @@ pub fn addresses()
     ensures stores { StoresAreAtAddresses }
 {}
 
-/// A law. Beside an object within the limits, on an input of bytes, a run that ends leaves an object within the limits,
-/// and at most out_cap bytes of output; so does a call.
+/// A law. Beside an object within all limits, on an input of bytes, a run that ends leaves an object within all limits,
+/// and at most out_cap bytes of output; so does a call. The capacities are such as a method may declare.
 pub fn limits_are_kept()
     ensures runs { OutcomesAreWithinLimits }
     ensures calls { CallsAreWithinLimits }
-{}
+{
+    effects_are_within_limits();
+}

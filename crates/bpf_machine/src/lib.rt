@@ -3,24 +3,18 @@
 //! lie, so a method whose typed runs end is safe. `flat_run` is the flat machine as a program, slow and plain.
 #![tactic(auto)]
 
-mod argument;
 mod caps;
 mod flat;
-mod helper;
 mod laws;
 mod layout;
 mod limits;
 
-pub use argument::{Argument, Signature};
 pub use bpf_decode::{Region, Value, arithmetic, jump_target};
 pub use caps::Caps;
 pub use flat::{Ending, flat_run};
-pub use helper::signature;
+pub use helpers::{Argument, Signature, signature};
 pub use laws::{
     addresses, chains, decoded, layouts, limits_are_kept, other_runs, outcomes, simulation,
 };
 pub use layout::{Layout, is_layout};
-pub use limits::{OBJECT_LIMIT, STACK_SIZE};
-
-#[cfg(test)]
-mod tests;
+pub use limits::STACK_SIZE;

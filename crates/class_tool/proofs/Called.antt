@@ -8,6 +8,7 @@ use Rattle.std.proofs.lemmas.Int.{to_z-of_z}
 use Rattle.std.proofs.lemmas.Option.{none-some, same_Some}
 use Rattle.std.proofs.lemmas.Bool.Decides.{nat_tests}
 use Rattle.bpf_decode.specs.Class.{ClassMethod, IsMethod, IsClass}
+use Rattle.object_store.specs.Object.{PlainObject}
 use Rattle.bpf_machine.specs.State as machine
 use Rattle.bpf_machine.specs.Safe.{OutcomesAreOne, call_outcome}
 use Rattle.verifier.specs.Verified.{method_named}
@@ -54,7 +55,7 @@ method_named-is (x ∷ class) name m h e =
       | false ↦ λ q. method_named-is class name m h.1 q
     ] e
 
-method_outcome : (m : ClassMethod) (o : Option ClassMethod) (object : Option (List ℕ)) (r : ClientRequest) → o ≡ Some m → outcome_of_method o object r ≡ call_outcome m object r.client r.input
+method_outcome : (m : ClassMethod) (o : Option ClassMethod) (object : PlainObject) (r : ClientRequest) → o ≡ Some m → outcome_of_method o object r ≡ call_outcome m object r.client r.input
 unfolding outcome_of_method
 method_outcome m o object r e = ap (λ w. outcome_of_method w object r) e
 
@@ -72,9 +73,9 @@ one_outcome outcomes class name caller input o l is a logged hl ho =
     let out_cap = within.out_cap in
     let in16 : m.in_cap < 2 ^ 16 = omega (arith, in_cap) in
     let out16 : m.out_cap < 2 ^ 16 = omega (arith, out_cap) in
-    let one : call_outcome m None caller input ≡ outcome_of_answer None o = outcomes m in16 out16 None caller input (outcome_of_answer None o) o.steps a.answers.bounded a.answers.runs in
+    let one : call_outcome m None caller input ≡ outcome_of_answer o = outcomes m in16 out16 None caller input (outcome_of_answer o) o.steps a.answers.bounded a.answers.runs in
     let none : fin.get fin.empty r.object ≡ None = fin.get-empty _ r.object in
-    let made : outcome (class ∷ []) fin.empty r ≡ outcome_of_answer None o =
+    let made : outcome (class ∷ []) fin.empty r ≡ outcome_of_answer o =
     method_outcome m (method_named class name) (fin.get fin.empty r.object) r a.named ∙ ap (λ object. call_outcome m object caller input) none ∙ one in
     let reply = same_Some {A = Reply} _ _ logged in
     let code : cast_unsigned w64 o.code ≡ cast_unsigned w64 l.code = sym (ap (λ (w : machine.Outcome). w.code) made) ∙ ap (λ (w : Reply). w.code) reply in

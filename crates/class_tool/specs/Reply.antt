@@ -1,30 +1,33 @@
 -- What is printed of a call beside an absent object.
 use Rattle.std.specs.Prelude.{◌≡◌, ℕ, List, [], ◌∷◌, ◌++◌, Option, Some, None, Ok, option_map, length, codes, string_bytes}
+use Rattle.std.specs.FinMap as fin
 use Rattle.std.specs.Fmt.{decimal, signed_decimal}
 use Rattle.hex.specs.Hex.{decode_of, encode_lower}
 use Rattle.bpf_decode.specs.Class.{ClassMethod}
-use Rattle.interp.specs.Plain.{Answers, after_change}
-use Rattle.interp.specs.declared.change.Change.{Change}
+use Rattle.object_store.specs.Object.{Content}
+use Rattle.interp.specs.Plain.{Answers}
 use Rattle.interp.specs.declared.outcome.Outcome.{Outcome}
 use Rattle.class_tool.specs.Files.{Disk}
 use Rattle.class_tool.specs.Image.{IsSafeIn}
 use Rattle.class_tool.specs.Log.{IsLogged, first_request}
 use Rattle.class_tool.specs.declared.action.Call.{Call}
 use Rattle.class_tool.specs.declared.log.Logged.{Logged}
+use Rattle.class_tool.specs.declared.reply.Holdings.{Holdings}
 use Rattle.class_tool.specs.declared.reply.Reply.{Reply}
 
--- how many bytes of data the object has after a change
-abbrev pub object_size : Change → Option ℕ
-object_size change = option_map length (after_change None change)
+-- how much an object holds
+abbrev pub holdings_of : Content → Holdings
+holdings_of object = record { bytes = length object.bytes; xattrs = fin.len object.xattrs; keys = fin.len object.omap }
 
 -- digits as they are printed, with a sign for none
 abbrev pub shown : List ℕ → List ℕ
 shown [] = codes "-"
 shown (digit ∷ digits) = digit ∷ digits
 
-abbrev pub object_line : Option ℕ → List ℕ
+-- its bytes of data, its xattrs and the keys of its omap
+abbrev pub object_line : Option Holdings → List ℕ
 object_line None = codes "object absent\n"
-object_line (Some bytes) = codes "object " ++ decimal bytes ++ codes " 0 0\n"
+object_line (Some h) = codes "object " ++ decimal h.bytes ++ codes " " ++ decimal h.xattrs ++ codes " " ++ decimal h.keys ++ codes "\n"
 
 -- the four lines
 abbrev pub reply_text : Reply → List ℕ
@@ -37,7 +40,7 @@ pub record IsReplyOf (logged : Logged) (outcome : Outcome) (reply : Reply) : Typ
   pub code : reply.code ≡ logged.code
   pub output : string_bytes reply.output ≡ encode_lower logged.output.items
   pub steps : reply.steps ≡ outcome.steps
-  pub object : reply.object ≡ object_size outcome.change
+  pub object : reply.object ≡ option_map holdings_of outcome.change.after
 
 -- an entry has the code and the output of a call's outcome
 abbrev pub IsOneOutcome : Outcome → Logged → Type 0

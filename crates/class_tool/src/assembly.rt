@@ -9,7 +9,7 @@ use crate::image::read_class;
 use std::alloc::Global;
 
 /// What a file holds, where that is UTF-8.
-fn read_text<F: Reads>(alloc: Global, files: &F, name: &str) -> Result<String, Failure>
+pub fn read_text<F: Reads>(alloc: Global, files: &F, name: &str) -> Result<String, Failure>
     ensures held { IfOk result (λ text. Holds (F.disk files.now) name.now (string_bytes text)) }
     ensures fails { IfErr result (TextFails (F.disk files.now) name.now) }
 {

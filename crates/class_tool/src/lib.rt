@@ -19,8 +19,10 @@ mod tool;
 
 pub use action::{Action, Call};
 pub use answer::Answer;
+pub use assembly::read_text;
 pub use failure::Failure;
 pub use files::{Files, Reads, SystemFiles};
+pub use image::load;
 pub use output::{Output, Printer};
-pub use reply::Reply;
+pub use reply::{Holdings, Reply};
 pub use tool::find;

@@ -5,7 +5,8 @@ ghost use Rattle.pg_log.specs.Refusals.{append_answer};
 ghost use Rattle.class_tool.specs.Log.{IsCallRefusal, IsLogged, LogFails, first_request, refusal_of};
 
 use crate::failure::Failure;
-use interp::{CallError, ClassTable, ObjectName, StoreError, TableError};
+use interp::{CallError, ClassTable, TableError};
+use object_store::ObjectName;
 use pg_log::{Classes, ClientId, Group, LogError, Request, RequestNumber};
 use std::alloc::{AllocError, Global};
 use std::marker::Brand;
@@ -31,8 +32,8 @@ fn first_request(
 {
     let object = match ObjectName::new(alloc, "o") {
         Ok(object) => object,
-        Err(StoreError::NoMemory) => return Err(AllocError),
-        Err(StoreError::Range) => unreachable!(),
+        // a name of one byte is refused for want of memory alone
+        Err(_) => return Err(AllocError),
     };
     let number = RequestNumber::new(1).unwrap();
     let method = String::from_str(alloc, method)?;

@@ -1,9 +1,10 @@
-ghost use Rattle.std.specs.Prelude.{◌≡◌, IfOk, Some, string_bytes};
+ghost use Rattle.std.specs.Prelude.{◌≡◌, IfOk, Some, option_map, string_bytes};
 ghost use Rattle.std.specs.Fmt.{DisplaysOnOk};
-ghost use Rattle.class_tool.specs.Reply.{IsReplyOf, object_line, object_size, shown};
+ghost use Rattle.class_tool.specs.Reply.{IsReplyOf, holdings_of, object_line, shown};
 
 use crate::log::Logged;
-use interp::{Change, Outcome};
+use interp::Outcome;
+use object_store::Object;
 use std::alloc::{AllocError, Global};
 use std::fmt;
 
@@ -16,20 +17,34 @@ pub struct Reply {
     pub output: String,
     /// The instructions that the call executed.
     pub steps: usize,
-    /// How many bytes of data the object has after the call; `None` where it is absent.
-    pub object: Option<usize>,
+    /// How much the object holds after the call; `None` where it is absent.
+    pub object: Option<Holdings>,
 }
 
-/// How many bytes of data an object has after that change, where it was absent before.
-fn size_after(change: &Change) -> Option<usize>
-    ensures { result ≡ object_size change.now }
-{
-    match change {
-        Change::Unchanged => None,
-        Change::Changed { before: _, after } => match after {
-            Some(object) => Some(object.bytes().len()),
+/// How much an object holds.
+#[derive(Clone, Copy, Debug, PartialEq, Eq)]
+pub struct Holdings {
+    /// Bytes of data.
+    pub bytes: usize,
+    /// Xattrs.
+    pub xattrs: usize,
+    /// Keys of the omap.
+    pub keys: usize,
+}
+
+impl Holdings {
+    /// How much an object holds, if there is one.
+    fn of(object: &Option<Object>) -> Option<Holdings>
+        ensures { result ≡ option_map holdings_of object.now }
+    {
+        match object {
+            Some(object) => Some(Holdings {
+                bytes: object.len(),
+                xattrs: object.xattr_count(),
+                keys: object.key_count(),
+            }),
             None => None,
-        },
+        }
     }
 }
 
@@ -46,7 +61,7 @@ impl Reply {
             code: logged.code,
             output: hex::encode(alloc, &logged.output)?,
             steps: outcome.steps,
-            object: size_after(&outcome.change),
+            object: Holdings::of(&outcome.change.after),
         })
     }
 
@@ -74,12 +89,15 @@ impl fmt::Display for Reply {
     }
 }
 
-/// The line of an object with so many bytes of data, or of none. Objects have neither xattrs nor keys.
-fn write_object<W: fmt::Write>(object: Option<usize>, f: &mut fmt::Formatter<W>) -> fmt::Result
+/// The line of an object that holds so much, or of none.
+fn write_object<W: fmt::Write>(object: Option<Holdings>, f: &mut fmt::Formatter<W>) -> fmt::Result
     ensures { DisplaysOnOk W.write_str_gives f.old result (Some (object_line object)) f.new }
 {
     match object {
-        Some(bytes) => writeln!(f, "object {bytes} 0 0"),
+        Some(held) => {
+            let (bytes, xattrs, keys) = (held.bytes, held.xattrs, held.keys);
+            writeln!(f, "object {bytes} {xattrs} {keys}")
+        }
         None => f.write_str("object absent\n"),
     }
 }

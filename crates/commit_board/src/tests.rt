@@ -1,7 +1,7 @@
 ghost use Rattle.std.specs.Prelude.{◌≡◌, ◌≤◌, [], length};
 
 use super::*;
-use interp::ObjectName;
+use object_store::ObjectName;
 use pg_log::{ClientId, Request, RequestNumber};
 use std::alloc::Global;
 use std::test::*;

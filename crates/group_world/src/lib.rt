@@ -31,6 +31,3 @@ pub use party::Party;
 pub use requests::Requests;
 pub use runs::worked_runs;
 pub use status::Status;
-
-#[cfg(test)]
-mod tests;

@@ -9,6 +9,7 @@ mod argument;
 mod changes;
 mod errno;
 mod helper;
+mod laws;
 mod lookups;
 mod memory;
 mod plain;
@@ -19,10 +20,8 @@ pub use argument::{Argument, Signature};
 pub use changes::{create, map_rm, map_set, remove, rmxattr, setxattr, truncate, write};
 pub use errno::{EBUSY, EEXIST, EFBIG, EINVAL, EIO, ENODATA, ENOENT, ENOMEM, ENOSPC, ERANGE};
 pub use helper::{Helper, signature};
+pub use laws::effects_are_within_limits;
 pub use lookups::{key_above, map_value, stat, xattr_value};
 pub use memory::{getxattr, map_get, map_next, read};
 pub use plain::{caller, out_len};
 pub use span::Span;
-
-#[cfg(test)]
-mod tests;

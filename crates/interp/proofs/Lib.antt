@@ -2,8 +2,8 @@ pub mod Options
 pub mod Regions
 pub mod Agreement
 pub mod Access
-pub mod Splice
 pub mod Steps
+pub mod Calm
 pub mod Effects
 pub mod Bytes
 pub mod Runs

@@ -5,8 +5,6 @@ use Rattle.interp.specs.declared.calls.CallError.{CallError}
 use Rattle.interp.specs.declared.calls.CallError.TheVariants as calls
 use Rattle.interp.specs.declared.class_table.TableError.{TableError}
 use Rattle.interp.specs.declared.class_table.TableError.TheVariants as table
-use Rattle.interp.specs.declared.object_name.StoreError.{StoreError}
-use Rattle.interp.specs.declared.object_name.StoreError.TheVariants as store
 
 abbrev pub call_error_number : CallError → ℕ
 call_error_number calls.NoMethod = 1
@@ -26,20 +24,9 @@ abbrev pub table_error_name : TableError → List ℕ
 table_error_name table.TooMany = codes "TooMany"
 table_error_name table.NoMemory = codes "NoMemory"
 
-abbrev pub store_error_number : StoreError → ℕ
-store_error_number store.Range = 6
-store_error_number store.NoMemory = 7
-
-abbrev pub store_error_name : StoreError → List ℕ
-store_error_name store.Range = codes "Range"
-store_error_name store.NoMemory = codes "NoMemory"
-
 -- number, space and name
 abbrev pub call_error_text : CallError → List ℕ
 call_error_text e = decimal (call_error_number e) ++ codes " " ++ call_error_name e
 
 abbrev pub table_error_text : TableError → List ℕ
 table_error_text e = decimal (table_error_number e) ++ codes " " ++ table_error_name e
-
-abbrev pub store_error_text : StoreError → List ℕ
-store_error_text e = decimal (store_error_number e) ++ codes " " ++ store_error_name e

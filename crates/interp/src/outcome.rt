@@ -1,4 +1,4 @@
-use crate::change::Change;
+use txn::Change;
 
 /// What a call answers.
 #[derive(Drop)]

@@ -13,6 +13,3 @@ mod replies;
 pub use group_world::{agreement, nothing_is_cut};
 pub use monitor::Monitor;
 pub use node::GroupNode;
-
-#[cfg(test)]
-mod tests;

@@ -5,20 +5,23 @@ use Rattle.std.specs.FinMap as fin
 use Rattle.std.proofs.lemmas.Option.{same_Some, slice_get_within}
 use Rattle.std.proofs.lemmas.List.{take-append-drop, take_all, length-drop}
 use mathlib.Core.List.{IsPrefix}
+use Rattle.object_store.specs.Names.{PlainObjects}
 use Rattle.pg_log.specs.declared.entry.Entry.{Entry}
 use Rattle.pg_log.specs.declared.places.Places.{Places}
 use Rattle.pg_log.specs.Requests.{ClientRequest}
-use Rattle.pg_log.specs.Log.{Classes, Objects, Legal, fold, after}
+use Rattle.pg_log.specs.Log.{Classes, Legal, fold, after}
 use Rattle.pg_log.specs.Places.{ArePlaces}
 use Rattle.pg_log.specs.Entries.{AreEntries, AreSafe, Keeps, requests_of, undone}
 use Rattle.pg_log.specs.declared.log_error.LogError.{LogError}
 use Rattle.pg_log.specs.Refusals.{refusal, or_else, first_refusal_from, Refuses}
+use Rattle.pg_log.specs.declared.log_error.LogError.TheVariants.{NoMemory}
+use Rattle.pg_log.specs.Refusals.{SomeCanRun}
 use Rattle.pg_log.specs.Adopting.{IsCommonBeginning, rest_refusal, RestRefuses, Refused, Short}
 use Rattle.pg_log.proofs.Lists.{take_get, drop_get, get_take}
 use Rattle.pg_log.proofs.Legal.{legal_beginning}
 use Rattle.pg_log.specs.Refusals.{first_refusal}
 use Rattle.pg_log.specs.Laws.{IsAsReplayed}
-use Rattle.pg_log.proofs.Exact.{or_else_none, lists_exact}
+use Rattle.pg_log.proofs.Exact.{or_else_none, lists_exact, some_can_run}
 use Rattle.pg_log.proofs.Kept.{undone_last}
 
 pub requests_of-take : (es : List Entry) (k : ℕ) → requests_of (take k es) ≡ take k (requests_of es)
@@ -37,7 +40,7 @@ pub requests_of-append : (es fs : List Entry) → requests_of (es ++ fs) ≡ req
 requests_of-append [] fs = refl
 requests_of-append (e ∷ es) fs = ap (λ l. e.request ∷ l) (requests_of-append es fs)
 
-pub entries_beginning : (classes : Classes) (objects : Objects) (es : List Entry) (k : ℕ) → AreEntries classes objects es → AreEntries classes objects (take k es)
+pub entries_beginning : (classes : Classes) (objects : PlainObjects) (es : List Entry) (k : ℕ) → AreEntries classes objects es → AreEntries classes objects (take k es)
 entries_beginning classes objects [] zero h = tt
 entries_beginning classes objects [] (suc k) h = tt
 entries_beginning classes objects (e ∷ es) zero h = tt
@@ -47,7 +50,7 @@ safe_beginning : (classes : Classes) (xs : List ClientRequest) (k : ℕ) → Are
 safe_beginning classes xs k h i r e = h i r (get_take xs k i r e)
 
 -- what is kept of a beginning
-pub keeps_beginning : (classes : Classes) (es fs : List Entry) (objects before : Objects) (places cut : Places) (k : ℕ) → Keeps classes es objects places →
+pub keeps_beginning : (classes : Classes) (es fs : List Entry) (objects before : PlainObjects) (places cut : Places) (k : ℕ) → Keeps classes es objects places →
     fs ≡ take k es → before ≡ fold classes (take k (requests_of es)) → ArePlaces cut (take k (requests_of es)) → Keeps classes fs before cut
 keeps_beginning classes es fs objects before places cut k h f o at =
     let xs = requests_of es in
@@ -145,6 +148,15 @@ rest_refuses table list at k r e h there left why =
     (λ w. Refused (left ∙ ap (first_refusal_from table (take k list)) (drop_get list k r there) ∙ ap (λ o. or_else o (first_refusal_from table (take k list ++ r ∷ []) (drop (k + 1) list))) w))
     (λ w. Short w.0 (inl h)) why
 
+-- the same of a whole list
+pub list_refuses : (table : Classes) (list : List ClientRequest) (k : ℕ) (r : ClientRequest) (e : LogError) → slice_get list k ≡ Some r →
+    first_refusal table (take k list) ≡ None → first_refusal table list ≡ first_refusal_from table (take k list) (drop k list) →
+    Refuses (refusal table (take k list) r) e → (first_refusal table list ≡ Some e) ⊎ ((e ≡ NoMemory) × SomeCanRun table list)
+list_refuses table list k r e there before left why =
+    ⊎_elim
+    (λ w. inl (left ∙ ap (first_refusal_from table (take k list)) (drop_get list k r there) ∙ ap (λ o. or_else o (first_refusal_from table (take k list ++ r ∷ []) (drop (k + 1) list))) w))
+    (λ w. inr (w.0, some_can_run table list k r there before w.1)) why
+
 pub rest_more : (table : Classes) (list : List ClientRequest) (k : ℕ) (r : ClientRequest) → slice_get list k ≡ Some r → refusal table (take k list) r ≡ None →
     rest_refusal table list k ≡ rest_refusal table list (k + 1)
 rest_more table list k r there why =
@@ -167,7 +179,7 @@ cut_again es begun fs tail k h b t p =
     ∙ sym (requests_of-append (take k fs) tail) ∙ ap requests_of (cut_entries es begun fs tail k h b t p)
 
 -- the objects before the last entry of a beginning
-pub undone_more : (classes : Classes) (es : List Entry) (objects : Objects) (k : ℕ) (e : Entry) → AreEntries classes fin.empty es → slice_get es k ≡ Some e →
+pub undone_more : (classes : Classes) (es : List Entry) (objects : PlainObjects) (k : ℕ) (e : Entry) → AreEntries classes fin.empty es → slice_get es k ≡ Some e →
     objects ≡ fold classes (requests_of (take (k + 1) es)) → undone objects e.request.object e.change ≡ fold classes (requests_of (take k es))
 undone_more classes es objects k e h at is =
     let A : List Entry → Type 0 = AreEntries classes fin.empty in

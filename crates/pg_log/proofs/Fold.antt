@@ -3,11 +3,12 @@ use Rattle.std.proofs.Common.{◌≡◌, ℕ, ◌<◌, ◌≤◌, List, [], ◌�
 use Rattle.std.specs.List.{slice_get}
 use Rattle.std.proofs.lemmas.Option.{none-some, slice_get_past, slice_get_cases}
 use Rattle.std.proofs.lemmas.List.{take-append-le, take_at}
+use Rattle.object_store.specs.Names.{PlainObjects}
 use Rattle.pg_log.specs.Requests.{ClientRequest}
-use Rattle.pg_log.specs.Log.{Classes, Objects, after, fold, fold_from, reply_to, reply_at}
+use Rattle.pg_log.specs.Log.{Classes, after, fold, fold_from, reply_to, reply_at}
 use Rattle.pg_log.proofs.Lists.{get_before, get_last}
 
-pub fold_from-append : (classes : Classes) (objects : Objects) (xs ys : List ClientRequest) → fold_from classes objects (xs ++ ys) ≡ fold_from classes (fold_from classes objects xs) ys
+pub fold_from-append : (classes : Classes) (objects : PlainObjects) (xs ys : List ClientRequest) → fold_from classes objects (xs ++ ys) ≡ fold_from classes (fold_from classes objects xs) ys
 fold_from-append classes objects [] ys = refl
 fold_from-append classes objects (x ∷ xs) ys = fold_from-append classes (after classes objects x) xs ys
 

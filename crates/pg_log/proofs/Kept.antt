@@ -4,14 +4,14 @@ use Rattle.std.specs.List.{slice_get}
 use Rattle.std.specs.Int.{w64, cast_unsigned}
 use Rattle.std.specs.FinMap as fin
 use Rattle.std.proofs.lemmas.Option.{none-some, same_Some, slice_get-map, slice_get_within}
+use Rattle.object_store.specs.Names.{PlainObjects, stored}
 use Rattle.pg_log.specs.declared.entry.Entry.{Entry}
 use Rattle.pg_log.specs.declared.places.Places.{Places}
 use Rattle.pg_log.specs.Requests.{ClientRequest}
-use Rattle.pg_log.specs.Log.{Classes, Objects, Legal, after, store, fold, fold_from, reply_to, reply_at}
+use Rattle.pg_log.specs.Log.{Classes, Legal, after, fold, fold_from, reply_to, reply_at}
 use Rattle.pg_log.specs.declared.log_error.LogError.{LogError}
 use Rattle.pg_log.specs.declared.log_error.LogError.TheVariants.{NoMemory}
 use Rattle.pg_log.specs.Refusals.{place_of, answer_of, list_after}
-use Rattle.pg_log.specs.Objects.{changed}
 use Rattle.pg_log.specs.Places.{ArePlaces}
 use Rattle.pg_log.specs.Entries.{IsOutcomeOn, AreEntries, IsSafeRequest, AreSafe, requests_of, undone, Keeps}
 use Rattle.std.proofs.lemmas.List.{length-map, take-append-drop}
@@ -19,7 +19,7 @@ use Rattle.pg_log.proofs.Lists.{get_before, get_last, get_push, take_get}
 use Rattle.pg_log.proofs.Legal.{legal_beginning}
 use Rattle.pg_log.proofs.Fold.{fold_from-append}
 use Rattle.pg_log.proofs.Standing.{same_place, place_of-has}
-use Rattle.pg_log.proofs.Named.{changed-store, undone-changed}
+use Rattle.pg_log.proofs.Stored.{undone-stored}
 
 pub on_err : {T E P : Type 0} (r : Result T E) → is_err r ≡ true → OnErr r P → P
 on_err (Ok x) e h = absurd (cc)
@@ -33,7 +33,7 @@ pub requests_of-push : (es : List Entry) (e : Entry) → requests_of (es ++ e �
 requests_of-push [] e = refl
 requests_of-push (x ∷ es) e = ap (λ l. x.request ∷ l) (requests_of-push es e)
 
-pub entry_at : (classes : Classes) (objects : Objects) (es : List Entry) (k : ℕ) (e : Entry) → AreEntries classes objects es → slice_get es k ≡ Some e →
+pub entry_at : (classes : Classes) (objects : PlainObjects) (es : List Entry) (k : ℕ) (e : Entry) → AreEntries classes objects es → slice_get es k ≡ Some e →
     IsOutcomeOn classes (fold_from classes objects (take k (requests_of es))) e.request e.code e.output.items e.change
 entry_at classes objects [] k e h p = absurd (none-some e p)
 entry_at classes objects (x ∷ es) zero e h p =
@@ -51,16 +51,15 @@ pub no_entry : (classes : Classes) (es : List Entry) (k : ℕ) → slice_get es 
 no_entry classes es k p =
     ap (reply_to classes (fold classes (take k (requests_of es)))) (sym (slice_get-map (λ (w : Entry). w.request) es k ∙ ap (λ o. option_map (λ (w : Entry). w.request) o) p))
 
-kept_push : (classes : Classes) (objects : Objects) (es : List Entry) (e : Entry) → AreEntries classes objects es →
+kept_push : (classes : Classes) (objects : PlainObjects) (es : List Entry) (e : Entry) → AreEntries classes objects es →
     IsOutcomeOn classes (fold_from classes objects (requests_of es)) e.request e.code e.output.items e.change → AreEntries classes objects (es ++ e ∷ [])
 kept_push classes objects [] e h o = (o, tt)
 kept_push classes objects (x ∷ es) e h o = (h.0, kept_push classes (after classes objects x.request) es e h.1 o)
 
 folded_push : (classes : Classes) (xs : List ClientRequest) (e : Entry) → IsOutcomeOn classes (fold classes xs) e.request e.code e.output.items e.change →
-    changed (fold classes xs) e.request.object e.change ≡ fold classes (xs ++ e.request ∷ [])
+    stored (fold classes xs) e.request.object e.change.after ≡ fold classes (xs ++ e.request ∷ [])
 folded_push classes xs e o =
-    changed-store (fold classes xs) e.request.object e.change
-    ∙ ap (λ w. store (fold classes xs) e.request.object w.object) o.made
+    ap (λ w. stored (fold classes xs) e.request.object w.object) o.made
     ∙ sym (fold_from-append classes fin.empty xs (e.request ∷ []))
 
 safe_push : (classes : Classes) (xs : List ClientRequest) (r : ClientRequest) → AreSafe classes xs → IsSafeRequest classes r → AreSafe classes (xs ++ r ∷ [])
@@ -68,7 +67,7 @@ safe_push classes xs r all s i a e =
     let P : ClientRequest → Type 0 = IsSafeRequest classes in
     ⊎_elim (λ h. all i a h.1) (λ h. subst P (sym h.1) s) (get_push xs r a i e)
 
-kept_last : (classes : Classes) (objects : Objects) (es : List Entry) (e : Entry) → AreEntries classes objects (es ++ e ∷ []) →
+kept_last : (classes : Classes) (objects : PlainObjects) (es : List Entry) (e : Entry) → AreEntries classes objects (es ++ e ∷ []) →
     IsOutcomeOn classes (fold_from classes objects (requests_of es)) e.request e.code e.output.items e.change
 kept_last classes objects [] e h = h.0
 kept_last classes objects (x ∷ es) e h = kept_last classes (after classes objects x.request) es e h.1
@@ -80,13 +79,13 @@ undone_last classes es e h =
     let o = kept_last classes fin.empty es e h in
     let xs = requests_of es in
     ap (λ w. undone w e.request.object e.change) (ap (fold classes) (requests_of-push es e) ∙ sym (folded_push classes xs e o))
-    ∙ undone-changed (fold classes xs) e.request.object e.change o.from_before
+    ∙ undone-stored (fold classes xs) e.request.object e.change o.from_before
 
 -- what is kept, with one entry more
-pub keeps_push : (classes : Classes) (es : List Entry) (objects next : Objects) (places more : Places) (e : Entry) →
+pub keeps_push : (classes : Classes) (es : List Entry) (objects next : PlainObjects) (places more : Places) (e : Entry) →
     Keeps classes es objects places → Legal classes (requests_of es ++ e.request ∷ []) →
     IsSafeRequest classes e.request → IsOutcomeOn classes (fold classes (requests_of es)) e.request e.code e.output.items e.change →
-    next ≡ changed objects e.request.object e.change → ArePlaces more (requests_of es ++ e.request ∷ []) →
+    next ≡ stored objects e.request.object e.change.after → ArePlaces more (requests_of es ++ e.request ∷ []) →
     Keeps classes (es ++ e ∷ []) next more
 keeps_push classes es objects next places more e k l s o is at =
     let P : List ClientRequest → Type 0 = Legal classes in
@@ -97,12 +96,12 @@ keeps_push classes es objects next places more e k l s o is at =
       legal = subst P q l;
       safe = subst R q (safe_push classes (requests_of es) e.request k.safe s);
       kept = kept_push classes fin.empty es e k.kept o;
-      folded = is ∙ ap (λ w. changed w e.request.object e.change) k.folded ∙ folded_push classes (requests_of es) e o ∙ ap (fold classes) q;
+      folded = is ∙ ap (λ w. stored w e.request.object e.change.after) k.folded ∙ folded_push classes (requests_of es) e o ∙ ap (fold classes) q;
       indexed = subst Q q at;
     }
 
 -- what is kept, where nothing was added
-pub keeps_same : (classes : Classes) (es fs : List Entry) (objects next : Objects) (places more : Places) →
+pub keeps_same : (classes : Classes) (es fs : List Entry) (objects next : PlainObjects) (places more : Places) →
     Keeps classes es objects places → fs ≡ es → next ≡ objects → ArePlaces more (requests_of es) → Keeps classes fs next more
 keeps_same classes es fs objects next places more k p q at =
     let P : List Entry → Type 0 = λ w. Keeps classes w next more in

@@ -5,7 +5,7 @@ pub mod Standing
 pub mod Tables
 pub mod Exact
 pub mod Indexed
-pub mod Named
+pub mod Stored
 pub mod Kept
 pub mod Ran
 pub mod Carried

@@ -6,18 +6,19 @@ use Rattle.std.specs.Str.{bytes_eq}
 use Rattle.std.proofs.lemmas.Option.{none-some, same_Some}
 use Rattle.std.proofs.lemmas.Bool.Decides.{nat_tests}
 use mathlib.Core.List.{IsPrefix}
+use Rattle.object_store.specs.Object.{PlainObject}
+use Rattle.object_store.specs.Names.{PlainObjects}
+use Rattle.txn.specs.declared.change.Change.{Change}
 use Rattle.bpf_decode.specs.Class.{ClassMethod, IsMethod, IsClass}
-use Rattle.bpf_machine.specs.Object.{Object}
 use Rattle.bpf_machine.specs.Safe.{OutcomesAreOne}
 use Rattle.verifier.specs.Verified.{method_named}
-use Rattle.interp.specs.declared.change.Change.{Change}
 use Rattle.interp.specs.declared.outcome.Outcome.{Outcome}
 use Rattle.interp.specs.Plain.{Answers}
 use Rattle.pg_log.specs.declared.group.TheConstants.{LOG_LIMIT}
 use Rattle.pg_log.specs.declared.log_error.LogError.TheVariants.{LogFull, StaleNumber, InputTooLong}
 use Rattle.pg_log.specs.declared.entry.Entry.{Entry}
 use Rattle.pg_log.specs.Requests.{ClientRequest}
-use Rattle.pg_log.specs.Log.{Classes, Objects, Legal, CanRun, method_in, outcome_of_method, fold}
+use Rattle.pg_log.specs.Log.{Classes, Legal, CanRun, method_in, outcome_of_method, fold}
 use Rattle.pg_log.specs.Refusals.{refusal_of_method, refusal_of_class, refusal, is_reached}
 use Rattle.pg_log.specs.Entries.{IsOutcome, IsOutcomeOn, IsSafeRequest, IsNextEntry}
 use Rattle.pg_log.proofs.Legal.{legal_push}
@@ -44,7 +45,7 @@ pub refusal-class : (classes : Classes) (xs : List ClientRequest) (r : ClientReq
 refusal-class classes xs r h e =
     refusal-room classes xs r h ∙ ap (λ b. cond b (Some StaleNumber) (refusal_of_class (slice_get classes r.class) r)) e
 
-method_named-is : (class : List ClassMethod) (name : List ℕ) (m : ClassMethod) → AllByRecursion IsMethod class → method_named class name ≡ Some m → IsMethod m
+pub method_named-is : (class : List ClassMethod) (name : List ℕ) (m : ClassMethod) → AllByRecursion IsMethod class → method_named class name ≡ Some m → IsMethod m
 method_named-is [] name m h e = absurd (none-some m e)
 method_named-is (x ∷ class) name m h e =
     let P : ClassMethod → Type 0 = IsMethod in
@@ -59,7 +60,7 @@ unrefused-method o m r e h =
     ap (λ w. refusal_of_method w r) e ∙ ap (λ b. cond b (Some InputTooLong) None) t
 
 -- an answered call is the outcome of the method
-pub ran : OutcomesAreOne → (class : List ClassMethod) → IsClass class → (object : Object) (r : ClientRequest) (o : Outcome) →
+pub ran : OutcomesAreOne → (class : List ClassMethod) → IsClass class → (object : PlainObject) (r : ClientRequest) (o : Outcome) →
     Answers class r.method object r.client r.input o →
     (refusal_of_method (method_named class r.method) r ≡ None) × IsOutcome (method_named class r.method) object r o.code o.output.items o.change
 unfolding outcome_of_method
@@ -67,10 +68,10 @@ ran one class is object r o a =
     let m = method_named-is class r.method a.method is.methods a.named in
     let same = one a.method (omega (arith, m.in_cap)) (omega (arith, m.out_cap)) object r.client r.input _ o.steps a.answers.bounded a.answers.runs in (
       unrefused-method (method_named class r.method) a.method r a.named a.short,
-      record { made = sym same ∙ ap (λ w. outcome_of_method w object r) (sym a.named); from_before = a.answers.change },
+      record { made = sym same ∙ ap (λ w. outcome_of_method w object r) (sym a.named); from_before = a.answers.before },
     )
 
-pub more-outcome : (classes more : Classes) (objects : Objects) (r : ClientRequest) (code : ℤ) (output : List ℕ) (change : Change) → CanRun classes r →
+pub more-outcome : (classes more : Classes) (objects : PlainObjects) (r : ClientRequest) (code : ℤ) (output : List ℕ) (change : Change) → CanRun classes r →
     IsOutcomeOn classes objects r code output change → IsOutcomeOn (classes ++ more) objects r code output change
 more-outcome classes more objects r code output change c o =
     let P : Option (List ClassMethod) → Type 0 = λ w. IsOutcome (method_in w r.method) (fin.get objects r.object) r code output change in
@@ -86,7 +87,7 @@ next_legal table classes xs r pre l e =
     let P : Classes → Type 0 = λ w. CanRun w r in
     legal_push classes xs r l (record { room = f.room; run = subst P pre.1 (CanRun-more table pre.0 r f.run); above = f.above })
 
-pub next_outcome : (table classes : Classes) (xs : List ClientRequest) (objects : Objects) (r : ClientRequest) (code : ℤ) (output : List ℕ) (change : Change) →
+pub next_outcome : (table classes : Classes) (xs : List ClientRequest) (objects : PlainObjects) (r : ClientRequest) (code : ℤ) (output : List ℕ) (change : Change) →
     IsPrefix table classes → refusal table xs r ≡ None → IsOutcomeOn table objects r code output change → IsOutcomeOn classes objects r code output change
 next_outcome table classes xs objects r code output change pre e o =
     let f = follows_unrefused table xs r e in

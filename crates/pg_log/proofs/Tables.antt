@@ -3,8 +3,9 @@ use Rattle.std.proofs.Common.{◌≡◌, ℕ, suc, List, [], ◌∷◌, ◌++◌
 use Rattle.std.specs.List.{slice_get}
 use Rattle.std.specs.FinMap as map
 use Rattle.std.proofs.lemmas.Option.{slice_get_within}
+use Rattle.object_store.specs.Names.{PlainObjects, stored}
 use Rattle.pg_log.specs.Requests.{ClientRequest}
-use Rattle.pg_log.specs.Log.{Classes, Objects, Legal, CanRun, method_in, outcome, outcome_of_method, after, store, fold, fold_from, reply_to}
+use Rattle.pg_log.specs.Log.{Classes, Legal, CanRun, method_in, outcome, outcome_of_method, after, fold, fold_from, reply_to}
 use Rattle.pg_log.specs.Laws.{SameWithMore}
 use Rattle.pg_log.proofs.Lists.{get_before, get_take}
 
@@ -15,20 +16,20 @@ module _ (classes more : Classes) where
   pub CanRun-more : (r : ClientRequest) → CanRun classes r → CanRun (classes ++ more) r
   CanRun-more r c = record { class = c.class; loaded = loaded-more r c ∙ c.loaded; method = c.method; named = c.named; short = c.short }
 
-  pub outcome-more : (objects : Objects) (r : ClientRequest) → CanRun classes r → outcome (classes ++ more) objects r ≡ outcome classes objects r
+  pub outcome-more : (objects : PlainObjects) (r : ClientRequest) → CanRun classes r → outcome (classes ++ more) objects r ≡ outcome classes objects r
   outcome-more objects r c =
       ap (λ o. outcome_of_method (method_in o r.method) (map.get objects r.object) r) (loaded-more r c)
 
-  pub after-more : (objects : Objects) (r : ClientRequest) → CanRun classes r → after (classes ++ more) objects r ≡ after classes objects r
-  after-more objects r c = ap (λ o. store objects r.object o.object) (outcome-more objects r c)
+  pub after-more : (objects : PlainObjects) (r : ClientRequest) → CanRun classes r → after (classes ++ more) objects r ≡ after classes objects r
+  after-more objects r c = ap (λ o. stored objects r.object o.object) (outcome-more objects r c)
 
-  pub fold_from-more : (objects : Objects) (xs : List ClientRequest) → ((i : ℕ) (r : ClientRequest) → slice_get xs i ≡ Some r → CanRun classes r) → fold_from (classes ++ more) objects xs ≡ fold_from classes objects xs
+  pub fold_from-more : (objects : PlainObjects) (xs : List ClientRequest) → ((i : ℕ) (r : ClientRequest) → slice_get xs i ≡ Some r → CanRun classes r) → fold_from (classes ++ more) objects xs ≡ fold_from classes objects xs
   fold_from-more objects [] all = refl
   fold_from-more objects (x ∷ xs) all =
       ap (λ o. fold_from (classes ++ more) o xs) (after-more objects x (all 0 x refl))
       ∙ fold_from-more (after classes objects x) xs (λ i r e. all (suc i) r e)
 
-  reply_to-more : (objects : Objects) (o : Option ClientRequest) → ((r : ClientRequest) → o ≡ Some r → CanRun classes r) → reply_to (classes ++ more) objects o ≡ reply_to classes objects o
+  reply_to-more : (objects : PlainObjects) (o : Option ClientRequest) → ((r : ClientRequest) → o ≡ Some r → CanRun classes r) → reply_to (classes ++ more) objects o ≡ reply_to classes objects o
   reply_to-more objects None all = refl
   reply_to-more objects (Some r) all = ap (λ w. Some (record { code = w.code; output = w.output })) (outcome-more objects r (all r refl))
 

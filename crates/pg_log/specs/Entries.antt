@@ -3,34 +3,33 @@ use Rattle.std.specs.Prelude.{◌≡◌, ℕ, ℤ, List, [], ◌∷◌, ◌++◌
 use Rattle.std.specs.Borrow.{Bor}
 use Rattle.std.specs.FinMap as fin
 use Rattle.std.specs.Int.{w64, cast_unsigned}
+use Rattle.object_store.specs.Object.{PlainObject}
+use Rattle.object_store.specs.Names.{PlainObjects, stored}
+use Rattle.txn.specs.declared.change.Change.{Change}
 use Rattle.bpf_decode.specs.Class.{ClassMethod}
-use Rattle.bpf_machine.specs.Object.{Object}
 use Rattle.bpf_machine.specs.State.{Outcome}
 use Rattle.bpf_machine.specs.Safe.{IsSafe}
-use Rattle.interp.specs.declared.change.Change.{Change}
-use Rattle.interp.specs.declared.change.Change.TheVariants.{Unchanged, Changed}
-use Rattle.interp.specs.Plain.{after_change, IsChangeOf}
 use Rattle.pg_log.specs.declared.entry.Entry.{Entry}
 use Rattle.pg_log.specs.declared.places.Places.{Places}
 use Rattle.pg_log.specs.Requests.{ClientRequest}
-use Rattle.pg_log.specs.Log.{Classes, Objects, Reply, Legal, method_of, outcome_of_method, store, after, fold}
+use Rattle.pg_log.specs.Log.{Classes, Reply, Legal, method_of, outcome_of_method, after, fold}
 use Rattle.pg_log.specs.Places.{ArePlaces}
 
--- a reply and a change as the machine's outcome beside an object
-abbrev pub outcome_made : Object → ℤ → List ℕ → Change → Outcome
-outcome_made object code output change = record { code = cast_unsigned w64 code; output = output; object = after_change object change }
+-- a reply and the object after a change as a machine's outcome
+abbrev pub outcome_made : ℤ → List ℕ → Change → Outcome
+outcome_made code output change = record { code = cast_unsigned w64 code; output = output; object = change.after }
 
--- code, output and change are the machine's outcome of a method beside an object
-pub record IsOutcome (method : Option ClassMethod) (object : Object) (r : ClientRequest) (code : ℤ) (output : List ℕ) (change : Change) : Type 0 where
-  pub made : outcome_made object code output change ≡ outcome_of_method method object r
-  pub from_before : IsChangeOf object change
+-- Code, output and the object after are the machine's outcome of a method beside an object, which is the one before.
+pub record IsOutcome (method : Option ClassMethod) (object : PlainObject) (r : ClientRequest) (code : ℤ) (output : List ℕ) (change : Change) : Type 0 where
+  pub made : outcome_made code output change ≡ outcome_of_method method object r
+  pub from_before : change.before ≡ object
 
 -- those of the request on these objects
-abbrev pub IsOutcomeOn : Classes → Objects → ClientRequest → ℤ → List ℕ → Change → Type 0
+abbrev pub IsOutcomeOn : Classes → PlainObjects → ClientRequest → ℤ → List ℕ → Change → Type 0
 IsOutcomeOn classes objects r code output change = IsOutcome (method_of classes r) (fin.get objects r.object) r code output change
 
 -- each entry's reply and change are those of its request on the objects that the requests before it made
-abbrev pub AreEntries : Classes → Objects → List Entry → Type 0
+abbrev pub AreEntries : Classes → PlainObjects → List Entry → Type 0
 AreEntries classes objects [] = Unit {0}
 AreEntries classes objects (e ∷ es) =
     IsOutcomeOn classes objects e.request e.code e.output.items e.change × AreEntries classes (after classes objects e.request) es
@@ -39,9 +38,8 @@ abbrev pub requests_of : List Entry → List ClientRequest
 requests_of es = map (λ e. e.request) es
 
 -- the objects before a change of the one of a name
-abbrev pub undone : Objects → List ℕ → Change → Objects
-undone objects name Unchanged = objects
-undone objects name (Changed before after) = store objects name before
+abbrev pub undone : PlainObjects → List ℕ → Change → PlainObjects
+undone objects name change = stored objects name change.before
 
 -- the method that a request names is safe
 abbrev pub IsSafeRequest : Classes → ClientRequest → Type 0
@@ -63,7 +61,7 @@ pub record IsNextEntry (classes : Classes) (xs : List ClientRequest) (e : Entry)
   pub outcome : IsOutcomeOn classes (fold classes xs) e.request e.code e.output.items e.change
 
 -- What a group keeps: a legal log of safe methods, replies and changes of its requests, their fold, and their places.
-pub record Keeps (classes : Classes) (entries : List Entry) (objects : Objects) (places : Places) : Type 0 where
+pub record Keeps (classes : Classes) (entries : List Entry) (objects : PlainObjects) (places : Places) : Type 0 where
   pub legal : Legal classes (requests_of entries)
   pub safe : AreSafe classes (requests_of entries)
   pub kept : AreEntries classes fin.empty entries

@@ -1,4 +1,4 @@
--- A reader of the contracts must believe Requests, Log, Refusals, Entries, Same, Laws and Within. Places and Objects are what the code keeps.
+-- A reader of the contracts must believe Requests, Log, Refusals, Entries, Same, Laws and Within. Places is what the code keeps.
 pub mod Requests
 pub mod Log
 pub mod Refusals
@@ -8,4 +8,3 @@ pub mod Same
 pub mod Laws
 pub mod Within
 pub mod Places
-pub mod Objects

@@ -1,10 +1,9 @@
 -- Which lists of requests are legal, and what a list makes: the objects, and the reply of each request.
 use Rattle.std.specs.Prelude.{◌≡◌, ℕ, ◌<◌, ◌≤◌, List, [], ◌∷◌, Option, Some, None, slice_get, take, length}
-use Rattle.std.specs.Ordering.{nat_cmp}
-use Rattle.std.specs.Cmp.Lexicographic.{slice_cmp}
 use Rattle.std.specs.FinMap as map
 use Rattle.bpf_decode.specs.Class.{ClassMethod}
-use Rattle.bpf_machine.specs.Object.{Object}
+use Rattle.object_store.specs.Object.{PlainObject}
+use Rattle.object_store.specs.Names.{PlainObjects, stored}
 use Rattle.bpf_machine.specs.State.{Outcome}
 use Rattle.bpf_machine.specs.Safe.{call_outcome}
 use Rattle.verifier.specs.Verified.{method_named}
@@ -14,10 +13,6 @@ use Rattle.pg_log.specs.Requests.{ClientRequest}
 -- the loaded classes, by id
 abbrev pub Classes : Type 0
 Classes = List (List ClassMethod)
-
--- the objects that exist: the data of each, by the bytes of its name
-abbrev pub Objects : Type 0
-Objects = map.FinMap (slice_cmp nat_cmp) (List ℕ)
 
 -- what a request is answered: the code, as a number below 2 ^ 64 that is read as a signed one, and the output
 pub record Reply : Type 0 where
@@ -52,33 +47,28 @@ abbrev pub method_of : Classes → ClientRequest → Option ClassMethod
 method_of classes r = method_in (slice_get classes r.class) r.method
 
 -- the machine's outcome of a request's method beside an object; where there is no such method nothing happens
-unfoldable pub outcome_of_method : Option ClassMethod → Object → ClientRequest → Outcome
+unfoldable pub outcome_of_method : Option ClassMethod → PlainObject → ClientRequest → Outcome
 outcome_of_method None object r = record { code = 0; output = []; object = object }
 outcome_of_method (Some m) object r = call_outcome m object r.client r.input
 
 -- the outcome of a request beside the object that it names
-abbrev pub outcome : Classes → Objects → ClientRequest → Outcome
+abbrev pub outcome : Classes → PlainObjects → ClientRequest → Outcome
 outcome classes objects r = outcome_of_method (method_of classes r) (map.get objects r.object) r
 
--- the objects where one is as given: absent, or its data
-abbrev pub store : Objects → List ℕ → Object → Objects
-store objects name None = map.remove objects name
-store objects name (Some bytes) = map.insert objects name bytes
-
 -- the objects after a request
-abbrev pub after : Classes → Objects → ClientRequest → Objects
-after classes objects r = store objects r.object (outcome classes objects r).object
+abbrev pub after : Classes → PlainObjects → ClientRequest → PlainObjects
+after classes objects r = stored objects r.object (outcome classes objects r).object
 
-abbrev pub fold_from : Classes → Objects → List ClientRequest → Objects
+abbrev pub fold_from : Classes → PlainObjects → List ClientRequest → PlainObjects
 fold_from classes objects [] = objects
 fold_from classes objects (r ∷ rs) = fold_from classes (after classes objects r) rs
 
 -- The objects of a list: from none, after each request in turn.
-abbrev pub fold : Classes → List ClientRequest → Objects
+abbrev pub fold : Classes → List ClientRequest → PlainObjects
 fold classes list = fold_from classes map.empty list
 
 -- the reply of a request that stands on these objects
-abbrev pub reply_to : Classes → Objects → Option ClientRequest → Option Reply
+abbrev pub reply_to : Classes → PlainObjects → Option ClientRequest → Option Reply
 reply_to classes objects None = None
 reply_to classes objects (Some r) = Some (record { code = (outcome classes objects r).code; output = (outcome classes objects r).output })
 

@@ -3,8 +3,8 @@ ghost use Rattle.pg_log.specs.Same.{IsSameEntry};
 
 use crate::log_error::LogError;
 use crate::request::Request;
-use interp::{Change, Object};
-use std::alloc::{AllocError, Global};
+use std::alloc::Global;
+use txn::Change;
 
 /// A logged request with its reply and what it did to its object.
 #[derive(Drop)]
@@ -15,7 +15,7 @@ pub struct Entry {
     pub code: i64,
     /// The output that it was answered.
     pub output: Vec<u8>,
-    /// What its object was and is.
+    /// Its object before and after.
     pub change: Change,
 }
 
@@ -27,35 +27,12 @@ impl Entry {
     {
         let request = self.request.copy(alloc)?;
         let output = Vec::from_slice(alloc, &self.output)?;
-        let change = copy_change(alloc, &self.change)?;
+        let change = self.change.copy()?;
         Ok(Entry {
             request,
             code: self.code,
             output,
             change,
         })
-    }
-}
-
-/// An equal change.
-fn copy_change(alloc: Global, change: &Change) -> Result<Change, AllocError>
-    ensures { IfOk result (λ c. c ≡ change.now) }
-{
-    match change {
-        Change::Unchanged => Ok(Change::Unchanged),
-        Change::Changed { before, after } => Ok(Change::Changed {
-            before: copy_object(alloc, before)?,
-            after: copy_object(alloc, after)?,
-        }),
-    }
-}
-
-/// An equal object, or none.
-fn copy_object(alloc: Global, object: &Option<Object>) -> Result<Option<Object>, AllocError>
-    ensures { IfOk result (λ o. o ≡ object.now) }
-{
-    match object {
-        None => Ok(None),
-        Some(object) => Ok(Some(object.copy(alloc)?)),
     }
 }

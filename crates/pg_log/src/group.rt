@@ -2,7 +2,8 @@ ghost use Rattle.std.specs.Prelude.{◌≡◌, ◌≤◌, ◌==◌, [], length, 
 ghost use Rattle.std.specs.Int.{w64, cast_unsigned};
 ghost use Rattle.std.specs.FinMap as fin;
 ghost use mathlib.Core.List.{IsPrefix};
-ghost use Rattle.interp.specs.Plain.{given_object};
+ghost use Rattle.std.specs.Option.{option_copied};
+ghost use Rattle.object_store.specs.Object.{IsObject};
 ghost use Rattle.pg_log.specs.Log.{Legal, fold, reply_at};
 ghost use Rattle.pg_log.specs.Refusals.{place_of};
 ghost use Rattle.pg_log.specs.Entries.{AreEntries, AreSafe, requests_of, given_reply};
@@ -14,10 +15,9 @@ mod replay;
 use crate::classes::Classes;
 use crate::client_id::ClientId;
 use crate::entry::Entry;
-use crate::objects::Objects;
 use crate::places::Places;
 use crate::request_number::RequestNumber;
-use interp::{Object, ObjectName};
+use object_store::{Object, ObjectName, Objects};
 use std::alloc::Global;
 use std::marker::{Model, PhantomData};
 
@@ -56,7 +56,7 @@ impl<C: Classes> Group<C> {
             of: PhantomData,
             alloc,
             entries: Vec::new(alloc),
-            objects: Objects::new(alloc),
+            objects: Objects::new(),
             places: Places::new(alloc),
         }
     }
@@ -134,11 +134,11 @@ impl<C: Classes> Group<C> {
 
     /// The object of a name, if it exists. It costs a logarithm of the number of objects.
     pub fn object(&self, name: &ObjectName) -> Option<&Object>
-        ensures value { given_object result ≡ fin.get (fold C.classes self.now) name.now }
-        ensures within { IfSome result (λ o. length o.now ≤ Object.LIMIT) }
+        ensures value { option_copied result ≡ fin.get (fold C.classes self.now) name.now }
+        ensures within { IsObject (option_copied result) }
     {
         let object = self.objects.get(name)?;
-        let _ = object.bytes();
+        object.within();
         Some(object)
     }
 }

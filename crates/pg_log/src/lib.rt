@@ -14,7 +14,6 @@ mod group_work;
 mod laws;
 mod log_error;
 mod object_limits;
-mod objects;
 mod places;
 mod request;
 mod request_number;

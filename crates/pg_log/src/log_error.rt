@@ -5,6 +5,7 @@ ghost use Rattle.pg_log.specs.declared.log_error.LogError.TheVariants.{NoMemory}
 use std::alloc::{AllocError, AllocFailed};
 use std::error::Error;
 use std::fmt;
+use txn::NoMemory as NoRoom;
 
 /// Why a request isn't logged. It prints as number and name, as `2 StaleNumber`. Of several the first in the order 1, 2, 4, 5, 6, 3.
 #[derive(Clone, Copy, Debug, PartialEq, Eq)]
@@ -80,6 +81,14 @@ impl<T: Drop> From<AllocFailed<T>> for LogError {
     ghost from_gives = { λ _ e. e ≡ NoMemory };
 
     fn from(_error: AllocFailed<T>) -> LogError {
+        LogError::NoMemory
+    }
+}
+
+impl From<NoRoom> for LogError {
+    ghost from_gives = { λ _ e. e ≡ NoMemory };
+
+    fn from(_error: NoRoom) -> LogError {
         LogError::NoMemory
     }
 }

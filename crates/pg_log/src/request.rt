@@ -3,7 +3,7 @@ ghost use Rattle.std.specs.Prelude.{◌≡◌, ◌≤◌, ◌↔◌, IfOk, IfErr
 use crate::client_id::ClientId;
 use crate::log_error::LogError;
 use crate::request_number::RequestNumber;
-use interp::{ObjectName, StoreError};
+use object_store::ObjectName;
 use std::alloc::Global;
 use std::marker::Model;
 
@@ -110,10 +110,8 @@ impl Request {
         ensures ok { IfOk result (λ r. r ≡ self.now) }
         ensures err { IfErr result (λ e. e ≡ LogError.NoMemory) }
     {
-        let object = match ObjectName::new(alloc, self.object.text()) {
-            Ok(object) => object,
-            Err(StoreError::NoMemory) => return Err(LogError::NoMemory),
-            Err(StoreError::Range) => unreachable!(),
+        let Ok(object) = self.object.copy(alloc) else {
+            return Err(LogError::NoMemory);
         };
         Ok(Request {
             client: self.client,

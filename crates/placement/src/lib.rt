@@ -21,6 +21,3 @@ pub use limits::{GROUP_LIMIT, NODE_LIMIT, REPLICA_LIMIT};
 pub use node_id::NodeId;
 pub use placement_error::PlacementError;
 pub use weight::score;
-
-#[cfg(test)]
-mod tests;

@@ -21,6 +21,3 @@ pub use packed_log::{PackedLog, pack_log, unpack_log};
 pub use placed::append_at;
 pub use rep::Rep;
 pub use unpack_error::UnpackError;
-
-#[cfg(test)]
-mod tests;

@@ -11,6 +11,3 @@ mod staged;
 pub use change::{Change, apply, undo};
 pub use no_memory::NoMemory;
 pub use staged::Staged;
-
-#[cfg(test)]
-mod tests;

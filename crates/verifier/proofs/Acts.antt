@@ -22,28 +22,28 @@ use Rattle.bpf_decode.specs.Arithmetic.{neg_value, signed_move_value, end_value,
 use Rattle.bpf_decode.specs.Jump.{branch_to}
 use Rattle.bpf_decode.specs.Values.{may_store, number, extended}
 use Rattle.bpf_machine.specs.declared.caps.Caps.{Caps}
-use Rattle.bpf_machine.specs.Object.{AreBytes, part}
-use Rattle.bpf_machine.specs.State.{le_value, le_bytes, cells, put, size, set_reg, go}
+use Rattle.object_store.specs.Object.{part}
+use Rattle.helpers.specs.Laws.{EffectsAreWithinLimits}
+use Rattle.bpf_machine.specs.State.{le_value, le_bytes, cells, put, size, AreCapacities, set_reg, go}
 use Rattle.bpf_machine.specs.Typed.{Typed, operand_value, locate, typed_after, typed_act, typed_exit_of}
 use Rattle.abstract_regs.specs.Kind.{PlainKind, Unset, Num, Ptr, is_unset, is_ptr}
 use Rattle.abstract_regs.specs.Frame.{PlainFrame, kind_at, operand_kind}
 use Rattle.abstract_regs.specs.Moves.{Moves, KindFits, EachFits}
 use Rattle.abstract_regs.specs.Laws.{AccessesFit}
 use Rattle.verifier.specs.Kind.{stays, is_read_only}
-use Rattle.verifier.specs.Frame.{ObjectIsBytes, Holds}
+use Rattle.verifier.specs.Frame.{IsWithin, Holds}
 use Rattle.verifier.specs.Rules.{operand_is_unset}
 use Rattle.verifier.proofs.Holding.{HoldsValue, read, value_is, operand_is, not_ptr_is_num, numbered, form_of, number_of, operand_read, operand_is_set, computes, copies, extended_small16, not_false}
-use Rattle.verifier.proofs.Bytes.{value_in, bytes_put, bytes_of_number, bytes_drop}
+use Rattle.verifier.proofs.Bytes.{value_in, put_is, number_bytes, bytes_of_number, bytes_drop}
 use Rattle.verifier.proofs.Passed.{neither, Passed}
-use Rattle.verifier.proofs.Calls.{one_more, call_made, fits_in}
+use Rattle.verifier.proofs.Calls.{one_more, size_short, call_made, fits_in}
 
 -- the step is made, and takes the registers on
 pub record Steps (caps : Caps) (i : Insn) (s : Typed) : Type 0 where
   pub to : Typed
   pub act : typed_act caps i s ≡ Some to
   pub moves : Moves i s.slot s.regs to.slot to.regs
-  pub memory : (r : Region) → AreBytes (cells to.memory r)
-  pub object : ObjectIsBytes to.object
+  pub within : IsWithin to
 
 below_ten : (d : ℕ) → d ≤ 10 → (d == 10) ≡ false → nat_lt d 10 ≡ true
 below_ten d le e = grind arith
@@ -52,6 +52,7 @@ below_ten d le e = grind arith
 record Found (caps : Caps) (x : PlainKind) (v : Value) (distance w : ℕ) : Type 0 where
   at : Region × ℕ
   is : locate caps v distance w ≡ Some at
+  inside : at.1 + w ≤ size caps at.0
   writable : is_read_only x ≡ false → may_store at.0 ≡ true
 
 found : AccessesFit → (caps : Caps) (x : PlainKind) (v : Value) (distance w : ℕ) → distance < 2 ^ 64 → KindFits x → HoldsValue x v → stays caps x distance w ≡ true → Found caps x v distance w
@@ -62,15 +63,22 @@ found law caps (Ptr r k) (values.Ptr q at) distance w small fit h b =
     let le = law k fit distance w (size caps r) small b at h.1 in
     let same_size : size caps r ≡ size caps q = ap (size caps) h.0 in
     let fits : (at + distance) % 2 ^ 64 + w ≤ size caps q = omega (arith, le, same_size) in
-    record { at = (q, (at + distance) % 2 ^ 64); is = cond-true _ _ _ (le-leb _ _ fits); writable = λ e. ap may_store (sym h.0) ∙ not_false _ e }
+    record { at = (q, (at + distance) % 2 ^ 64); is = cond-true _ _ _ (le-leb _ _ fits); inside = fits; writable = λ e. ap may_store (sym h.0) ∙ not_false _ e }
 
 -- a register set
 set_to : (s : Typed) (d : ℕ) (v : Value) → d ≤ 10 → (d == 10) ≡ false → set_reg s d v ≡ Some (record s { regs = slice_set s.regs d (Some v) })
 set_to s d v le ok = cond-true _ _ _ (below_ten d le ok)
 
-module _ (law : AccessesFit) (caps : Caps) (code : List (Option Insn)) (p : ℕ) (f : PlainFrame) (s : Typed) (h : Holds f s) (fits : EachFits f.registers) where
+-- registers and the slot are no limits of a state
+within_regs : (s : Typed) (q : ℕ) (regs : List (Option Value)) → IsWithin s → IsWithin (go q (record s { regs = regs }))
+within_regs s q regs w = record { memory = w.memory; object = w.object; client = w.client }
+
+within_slot : (s : Typed) (q : ℕ) → IsWithin s → IsWithin (go q s)
+within_slot s q w = record { memory = w.memory; object = w.object; client = w.client }
+
+module _ (law : AccessesFit) (effects : EffectsAreWithinLimits) (caps : Caps) (sizes : AreCapacities caps) (code : List (Option Insn)) (p : ℕ) (f : PlainFrame) (s : Typed) (h : Holds f s) (fits : EachFits f.registers) where
   computed_step : (i : Insn) (d : ℕ) (v : Value) (q : ℕ) → typed_act caps i s ≡ Some (go q (record s { regs = slice_set s.regs d (Some v) })) → Moves i s.slot s.regs q (slice_set s.regs d (Some v)) → Steps caps i s
-  computed_step i d v q e m = record { to = go q (record s { regs = slice_set s.regs d (Some v) }); act = e; moves = m; memory = h.memory; object = h.object }
+  computed_step i d v q e m = record { to = go q (record s { regs = slice_set s.regs d (Some v) }); act = e; moves = m; within = within_regs s q (slice_set s.regs d (Some v)) h.within }
 
   alu_steps : (bits : Bits) (operation : Arithmetic) (d : ℕ) (x : Operand) → Fits (Alu bits operation d x) → Passed caps code p (Alu bits operation d x) f → Steps caps (Alu bits operation d x) s
   alu_steps bits operation d x fit ok =
@@ -124,7 +132,7 @@ module _ (law : AccessesFit) (caps : Caps) (code : List (Option Insn)) (p : ℕ)
       let w = byte_count width in
       let at = found law caps (kind_at f base) v.value (extended offset) w (extended_small16 offset fit.2) (fits_in f.registers base fits) v.holds (not_false _ ok.bounds) in
       let n = le_value (part (cells s.memory at.at.0) at.at.1 w) in
-      let small = value_in w _ (bytes_drop at.at.1 (cells s.memory at.at.0) (h.memory at.at.0)) in
+      let small = value_in w _ (bytes_drop at.at.1 (cells s.memory at.at.0) ((h.within).memory at.at.0).1) in
       computed_step (Load width d base offset) d (values.Num n) (s.slot + 1)
       (one_more _ _ _ _ v.there (ap (typed_after s) (one_more _ _ _ _ at.is (set_to s d (values.Num n) fit.0 ok.r10))))
       (n, small, refl, refl)
@@ -135,7 +143,7 @@ module _ (law : AccessesFit) (caps : Caps) (code : List (Option Insn)) (p : ℕ)
       let w = signed_byte_count width in
       let at = found law caps (kind_at f base) v.value (extended offset) w (extended_small16 offset fit.2) (fits_in f.registers base fits) v.holds (not_false _ ok.bounds) in
       let n = le_value (part (cells s.memory at.at.0) at.at.1 w) in
-      let small = value_in w _ (bytes_drop at.at.1 (cells s.memory at.at.0) (h.memory at.at.0)) in
+      let small = value_in w _ (bytes_drop at.at.1 (cells s.memory at.at.0) ((h.within).memory at.at.0).1) in
       computed_step (LoadSigned width d base offset) d (values.Num (signed_load_value width n)) (s.slot + 1)
       (one_more _ _ _ _ v.there (ap (typed_after s) (one_more _ _ _ _ at.is (set_to s d (values.Num (signed_load_value width n)) fit.0 ok.r10))))
       (n, small, refl, refl)
@@ -165,8 +173,11 @@ module _ (law : AccessesFit) (caps : Caps) (code : List (Option Insn)) (p : ℕ)
         to = go (s.slot + 1) t;
         act = one_more _ _ _ _ v.there (one_more _ _ _ _ y.2 (one_more _ _ _ _ y.3 (ap (typed_after s) (one_more _ _ _ t at.is (cond-true _ _ _ (at.writable ok.read_only))))));
         moves = (refl, refl);
-        memory = bytes_put s.memory at.at.0 at.at.1 bytes h.memory (bytes_of_number w y.1);
-        object = h.object;
+        within = record {
+          memory = put_is s.memory at.at.0 at.at.1 bytes (h.within).memory (bytes_of_number w y.1) (omega (arith, at.inside, number_bytes w y.1, size_short caps sizes at.at.0));
+          object = (h.within).object;
+          client = (h.within).client;
+        };
       }
 
   branch_steps : (bits : Bits) (comparison : Comparison) (d : ℕ) (x : Operand) (offset : ℤ) → Passed caps code p (Branch bits comparison d x offset) f → Steps caps (Branch bits comparison d x offset) s
@@ -181,14 +192,13 @@ module _ (law : AccessesFit) (caps : Caps) (code : List (Option Insn)) (p : ℕ)
         to = go (branch_to (is_taken bits comparison m.0 n.0) s.slot (extended offset)) s;
         act = one_more _ _ _ _ v.there (one_more _ _ _ _ m.1 (one_more _ _ _ _ y.1 (one_more _ _ _ _ n.1 refl)));
         moves = (m.0, n.0, value_is s d v.value v.there ∙ ap Some m.2, operand_is s x y.0 y.1 ∙ ap Some n.2, refl, refl);
-        memory = h.memory;
-        object = h.object;
+        within = within_slot s (branch_to (is_taken bits comparison m.0 n.0) s.slot (extended offset)) h.within;
       }
 
   call_steps : (helper : ℕ) → Passed caps code p (Call helper) f → Steps caps (Call helper) s
   call_steps helper ok =
-      let t = call_made caps helper f s h ok.unknown ok.bounds ok.read_only ok.kinds ok.writes in
-      record { to = go (s.slot + 1) t.to; act = ap (typed_after s) t.made; moves = (t.answer, t.small, refl, t.regs); memory = t.memory; object = t.object }
+      let t = call_made effects caps sizes helper f s h ok.unknown ok.bounds ok.read_only ok.kinds ok.writes in
+      record { to = go (s.slot + 1) t.to; act = ap (typed_after s) t.made; moves = (t.answer, t.small, refl, t.regs); within = within_slot t.to (s.slot + 1) t.within }
 
   pub steps : (i : Insn) → Fits i → Passed caps code p i f → i ≢ Exit → Steps caps i s
   steps (Alu bits operation d x) fit ok go_on = alu_steps bits operation d x fit ok
@@ -200,8 +210,8 @@ module _ (law : AccessesFit) (caps : Caps) (code : List (Option Insn)) (p : ℕ)
   steps (Load width d base offset) fit ok go_on = load_steps width d base offset fit ok
   steps (LoadSigned width d base offset) fit ok go_on = signed_load_steps width d base offset fit ok
   steps (Store width base offset x) fit ok go_on = store_steps width base offset x fit ok
-  steps (Jump offset) fit ok go_on = record { to = go _ s; act = refl; moves = (refl, refl); memory = h.memory; object = h.object }
-  steps (JumpLong distance) fit ok go_on = record { to = go _ s; act = refl; moves = (refl, refl); memory = h.memory; object = h.object }
+  steps (Jump offset) fit ok go_on = record { to = go _ s; act = refl; moves = (refl, refl); within = within_slot s _ h.within }
+  steps (JumpLong distance) fit ok go_on = record { to = go _ s; act = refl; moves = (refl, refl); within = within_slot s _ h.within }
   steps (Branch bits comparison d x offset) fit ok go_on = branch_steps bits comparison d x offset ok
   steps (Call helper) fit ok go_on = call_steps helper ok
   steps (CallLocal distance) fit ok go_on = absurd (false≢true (sym ok.local))

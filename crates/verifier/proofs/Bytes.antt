@@ -1,11 +1,12 @@
 -- Lists of bytes stay lists of bytes.
-use Rattle.std.proofs.Common.{ℕ, zero, suc, ◌+◌, ◌-◌, ◌/◌, ◌^◌, ◌<◌, ◌≤◌, List, [], ◌∷◌, ◌++◌, arith, length, take, drop, length-take}
-use Rattle.std.specs.Prelude.{replicate, ◌==◌}
+use Rattle.std.proofs.Common.{ℕ, zero, suc, ◌+◌, ◌/◌, ◌^◌, ◌<◌, ◌≤◌, List, [], ◌∷◌, ◌++◌, arith, length, take, drop, length-append, length-take}
+use Rattle.std.specs.Prelude.{replicate}
 use Rattle.std.proofs.Math.Nat.{pow-succ', pow-le-pow_right}
-use Rattle.std.proofs.lemmas.Bool.{cond_both}
+use Rattle.std.proofs.lemmas.List.{length-drop}
 use Rattle.bpf_decode.specs.declared.region.Region.{Region}
 use Rattle.bpf_decode.specs.declared.region.Region.TheVariants.{Input, Output, Stack}
-use Rattle.bpf_machine.specs.Object.{AreBytes, spliced}
+use Rattle.object_store.specs.declared.limits.TheConstants.{VALUE_LIMIT}
+use Rattle.object_store.specs.Object.{AreBytes, IsValue}
 use Rattle.bpf_machine.specs.State.{le_value, le_bytes, Memory, cells, put, written}
 
 pub bytes_append : (xs ys : List ℕ) → AreBytes xs → AreBytes ys → AreBytes (xs ++ ys)
@@ -30,14 +31,6 @@ pub bytes_of_number : (w n : ℕ) → AreBytes (le_bytes w n)
 bytes_of_number zero n = tt
 bytes_of_number (suc w) n = (omega arith, bytes_of_number w (n / 256))
 
-pub bytes_spliced : (bytes : List ℕ) (at : ℕ) (text : List ℕ) → AreBytes bytes → AreBytes text → AreBytes (spliced bytes at text)
-bytes_spliced bytes at text a b =
-    cond_both (length text == 0) bytes _ AreBytes (λ _. a)
-    (λ _. bytes_append ((take at bytes ++ replicate (at - length bytes) 0) ++ text) _
-    (bytes_append (take at bytes ++ replicate (at - length bytes) 0) text
-    (bytes_append (take at bytes) _ (bytes_take at bytes a) (bytes_zeros (at - length bytes))) b)
-    (bytes_drop (at + length text) bytes a))
-
 pub le_value_below : (xs : List ℕ) → AreBytes xs → le_value xs < 256 ^ length xs
 le_value_below [] a = omega arith
 le_value_below (x ∷ xs) a =
@@ -60,10 +53,20 @@ value_in w xs a =
     let le : 256 ^ length (take w xs) ≤ 256 ^ w = pow-le-pow_right {n = 256} (omega arith) short in
     omega (arith, small, le)
 
-pub bytes_put : (m : Memory) (r : Region) (at : ℕ) (bytes : List ℕ) → ((q : Region) → AreBytes (cells m q)) → AreBytes bytes → (q : Region) → AreBytes (cells (put m r at bytes) q)
-bytes_put m r at bytes a b q = each m r q at bytes a (bytes_append (take at (cells m r)) _ (bytes_take at (cells m r) (a r)) (bytes_append bytes _ b (bytes_drop (at + length bytes) (cells m r) (a r))))
+-- what is written within so many bytes leaves no more
+written_short : (xs : List ℕ) (at : ℕ) (bytes : List ℕ) (most : ℕ) → length xs ≤ most → at + length bytes ≤ most → length (written xs at bytes) ≤ most
+written_short xs at bytes most h i =
+    omega (arith, h, i, length-append (take at xs) (bytes ++ drop (at + length bytes) xs), length-append bytes (drop (at + length bytes) xs), length-take at xs, length-drop (at + length bytes) xs)
+
+written_is : (xs : List ℕ) (at : ℕ) (bytes : List ℕ) → IsValue xs → AreBytes bytes → at + length bytes ≤ VALUE_LIMIT → IsValue (written xs at bytes)
+written_is xs at bytes h b le =
+    (written_short xs at bytes VALUE_LIMIT h.0 le, bytes_append (take at xs) _ (bytes_take at xs h.1) (bytes_append bytes _ b (bytes_drop (at + length bytes) xs h.1)))
+
+-- a write into a region leaves each as it has to be
+pub put_is : (m : Memory) (r : Region) (at : ℕ) (bytes : List ℕ) → ((q : Region) → IsValue (cells m q)) → AreBytes bytes → at + length bytes ≤ VALUE_LIMIT → (q : Region) → IsValue (cells (put m r at bytes) q)
+put_is m r at bytes a b le q = each m r q at bytes a (written_is (cells m r) at bytes (a r) b le)
   where
-    each : (m : Memory) (r q : Region) (at : ℕ) (bytes : List ℕ) → ((q : Region) → AreBytes (cells m q)) → AreBytes (written (cells m r) at bytes) → AreBytes (cells (put m r at bytes) q)
+    each : (m : Memory) (r q : Region) (at : ℕ) (bytes : List ℕ) → ((q : Region) → IsValue (cells m q)) → IsValue (written (cells m r) at bytes) → IsValue (cells (put m r at bytes) q)
     each m Input Input at bytes a w = w
     each m Input Output at bytes a w = a Output
     each m Input Stack at bytes a w = a Stack
@@ -73,3 +76,8 @@ bytes_put m r at bytes a b q = each m r q at bytes a (bytes_append (take at (cel
     each m Stack Input at bytes a w = a Input
     each m Stack Output at bytes a w = a Output
     each m Stack Stack at bytes a w = w
+
+-- a number's bytes are so many
+pub number_bytes : (w n : ℕ) → length (le_bytes w n) ≤ w
+number_bytes zero n = omega arith
+number_bytes (suc w) n = let h = number_bytes w (n / 256) in omega (arith, h)

@@ -3,6 +3,7 @@ pub mod Holding
 pub mod Passed
 pub mod Boxes
 pub mod Tables
+pub mod Numbers
 pub mod Calls
 pub mod Flows
 pub mod Acts

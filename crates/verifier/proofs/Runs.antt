@@ -1,6 +1,7 @@
 -- A run from a slot whose frame is true of the state ends at an exit.
-use Rattle.std.proofs.Common.{◌≡◌, ◌≢◌, ℕ, zero, suc, ◌+◌, ◌-◌, ◌^◌, ◌<◌, ◌≤◌, List, [], ◌∷◌, ◌++◌, Option, Some, None, refl, ap, ◌∙◌, sym, subst, arith, length, drop}
+use Rattle.std.proofs.Common.{◌≡◌, ◌≢◌, ℕ, zero, suc, ◌+◌, ◌-◌, ◌^◌, ◌<◌, ◌≤◌, List, [], ◌∷◌, ◌++◌, Option, Some, None, refl, ap, ◌∙◌, sym, subst, arith, length, length-append, drop}
 use Rattle.std.specs.Prelude.{replicate}
+use Rattle.std.proofs.lemmas.List.{length-replicate}
 use Rattle.std.proofs.lemmas.Option.{none-some, same_Some, slice_get_within}
 use Rattle.bpf_decode.specs.declared.insn.Insn.{Insn}
 use Rattle.bpf_decode.specs.declared.insn.Insn.TheVariants.{Alu, Neg, Mov, MovSigned, End, LoadWide, Load, LoadSigned, Store, Jump, JumpLong, Branch, Call, CallLocal, Exit}
@@ -8,11 +9,13 @@ use Rattle.bpf_decode.specs.Instruction.{Fits, AllFit, slots, slot_count}
 use Rattle.bpf_decode.specs.declared.region.Region.{Region}
 use Rattle.bpf_decode.specs.declared.region.Region.TheVariants.{Input, Output, Stack}
 use Rattle.bpf_machine.specs.declared.caps.Caps.{Caps}
-use Rattle.bpf_machine.specs.Object.{Object, IsObject, AreBytes}
-use Rattle.bpf_machine.specs.State.{◌>>=◌, cells, opening, Outcome, Ended, Stuck, outcome_of, one_more, goes_on, ends}
+use Rattle.object_store.specs.Object.{PlainObject, IsObject, AreBytes, IsValue}
+use Rattle.helpers.specs.Laws.{EffectsAreWithinLimits}
+use Rattle.bpf_machine.specs.declared.limits.TheConstants.{STACK_SIZE}
+use Rattle.bpf_machine.specs.State.{◌>>=◌, cells, AreCapacities, opening, Outcome, Ended, Stuck, outcome_of, one_more, goes_on, ends}
 use Rattle.bpf_machine.specs.Typed.{Typed, fetch, typed_act, typed_exit_of, typed_run, typed_entry}
 use Rattle.abstract_regs.specs.Frame.{PlainFrame, HoldsEach}
-use Rattle.verifier.specs.Frame.{entry, ObjectIsBytes, Holds}
+use Rattle.verifier.specs.Frame.{entry, Holds}
 use Rattle.abstract_regs.specs.Laws.{JoinsHold, EntryHolds, AccessesFit}
 use Rattle.verifier.specs.Pass.{Sound, IsSound, AllSound}
 use Rattle.verifier.specs.Rules.{rule_at}
@@ -70,7 +73,7 @@ pub inner : {A : Type 0} (o : Option (Option A)) (x : A) → (o >>= λ c. c) ≡
 inner None x h = absurd (none-some x h)
 inner (Some o) x h = ap Some h
 
-module _ (joins : JoinsHold) (accesses : AccessesFit) (caps : Caps) (is : List Insn) (sound : AllSound caps (slots is)) (fit : AllFit is) (small : length (slots is) < 2 ^ 62) (clear : code_verdict caps (slots is) ≡ None) (before : Object) where
+module _ (joins : JoinsHold) (accesses : AccessesFit) (effects : EffectsAreWithinLimits) (caps : Caps) (sizes : AreCapacities caps) (is : List Insn) (sound : AllSound caps (slots is)) (fit : AllFit is) (small : length (slots is) < 2 ^ 62) (clear : code_verdict caps (slots is) ≡ None) (before : PlainObject) where
   abbrev Ends : ℕ → Typed → Type 0
   Ends n s = (o : Outcome) × (k : ℕ) × (typed_run caps (slots is) before n s ≡ Ended o k)
 
@@ -100,7 +103,7 @@ module _ (joins : JoinsHold) (accesses : AccessesFit) (caps : Caps) (is : List I
       let ok = passed caps (slots is) s.slot a.insn a.frame rule in
       let fits = fit_at is s.slot a.insn fit a.there in
       let kept = sound_at s a in
-      let t = steps accesses caps (slots is) s.slot a.frame s a.holds kept.fits a.insn fits ok not_exit in
+      let t = steps accesses effects caps sizes (slots is) s.slot a.frame s a.holds kept.fits a.insn fits ok not_exit in
       let reached = kept.keeps fits s.regs t.to.regs t.to.slot (regs_of s a) t.moves in
       let inside = slice_get_within (slots is) s.slot (Some a.insn) (inner _ _ a.there) in
       let e = edge caps (slots is) s.slot t.to.slot a.insn a.frame reached.frame (omega arith) fits ok reached.there in
@@ -108,7 +111,7 @@ module _ (joins : JoinsHold) (accesses : AccessesFit) (caps : Caps) (is : List I
       let meets = arrives joins caps (slots is) s.slot t.to.slot a.insn a.frame reached.frame t.to.regs a.there a.is_frame rule reached.holds reached.there e.forward inside' in
       let fewer = left_further (slots is) s.slot t.to.slot a.insn a.there e.forward in
       let le' : left (drop t.to.slot (slots is)) ≤ n = omega arith in
-      let rest = later t.to le' (record { insn = e.to; there = e.begins; frame = meets.frame; is_frame = meets.is; holds = record { regs = meets.holds; memory = t.memory; object = t.object } }) in (
+      let rest = later t.to le' (record { insn = e.to; there = e.begins; frame = meets.frame; is_frame = meets.is; holds = record { regs = meets.holds; within = t.within } }) in (
         rest.0,
         suc rest.1,
         ap (λ o. ends before s (o >>= λ i. typed_exit_of i s) (goes_on (o >>= λ i. typed_act caps i s) (typed_run caps (slots is) before n))) a.there
@@ -157,15 +160,13 @@ module _ (joins : JoinsHold) (accesses : AccessesFit) (caps : Caps) (is : List I
       let le : left (drop s.slot (slots is)) ≤ length is = omega (arith, ap left whole) in
       ends_from (length is) s le (record { insn = i; there = ap (fetch (slots is)) first ∙ at; frame = entry caps; is_frame = ap (frame_at (whole_table caps (slots is))) first ∙ whole_at caps (slots is) 0 some; holds = h })
 
-object_is_bytes : (object : Object) → IsObject object → ObjectIsBytes object
-object_is_bytes None h = tt
-object_is_bytes (Some bytes) h = h.1
-
-pub entry_is_held : EntryHolds → (caps : Caps) (object : Object) (caller : ℕ) (input : List ℕ) → IsObject object → length input ≤ caps.in_cap → caps.in_cap < 2 ^ 64 → AreBytes input → Holds (entry caps) (typed_entry caps object caller input)
-entry_is_held law caps object caller input ob le small bytes =
-    record { regs = law caps.in_cap 512 (length input) small (omega arith) le; memory = cells_are; object = object_is_bytes object ob }
+pub entry_is_held : EntryHolds → (caps : Caps) → AreCapacities caps → (object : PlainObject) (caller : ℕ) (input : List ℕ) → IsObject object → caller < 2 ^ 32 → length input ≤ caps.in_cap → AreBytes input → Holds (entry caps) (typed_entry caps object caller input)
+entry_is_held law caps sizes object caller input ob client le bytes =
+    let most = sizes.input in
+    record { regs = law caps.in_cap STACK_SIZE (length input) (omega (arith, most)) (omega arith) le; within = record { memory = cells_are; object = ob; client = client } }
   where
-    cells_are : (r : Region) → AreBytes (cells (opening caps input) r)
-    cells_are Input = bytes_append input _ bytes (bytes_zeros _)
-    cells_are Output = bytes_zeros caps.out_cap
-    cells_are Stack = bytes_zeros 512
+    cells_are : (r : Region) → IsValue (cells (opening caps input) r)
+    cells_are Input =
+        (omega (arith, le, sizes.input, length-append input (replicate (caps.in_cap - length input) 0), length-replicate {A = ℕ} (caps.in_cap - length input) 0), bytes_append input _ bytes (bytes_zeros _))
+    cells_are Output = (omega (arith, sizes.output, length-replicate {A = ℕ} caps.out_cap 0), bytes_zeros caps.out_cap)
+    cells_are Stack = (omega (arith, length-replicate {A = ℕ} STACK_SIZE 0), bytes_zeros STACK_SIZE)

@@ -1,9 +1,9 @@
 -- The frame of a method's entry, and what a frame is true of.
-use Rattle.std.specs.Prelude.{Some, None}
+use Rattle.std.specs.Prelude.{◌^◌, ◌<◌}
 use Rattle.bpf_decode.specs.declared.region.Region.{Region}
 use Rattle.bpf_decode.specs.declared.region.Region.TheVariants.{Stack}
 use Rattle.bpf_machine.specs.declared.caps.Caps.{Caps}
-use Rattle.bpf_machine.specs.Object.{Object, AreBytes}
+use Rattle.object_store.specs.Object.{IsValue, IsObject}
 use Rattle.bpf_machine.specs.State.{cells, size}
 use Rattle.bpf_machine.specs.Typed.{Typed}
 use Rattle.abstract_regs.specs.Frame.{PlainFrame, HoldsEach, entry_frame}
@@ -12,12 +12,14 @@ use Rattle.abstract_regs.specs.Frame.{PlainFrame, HoldsEach, entry_frame}
 abbrev pub entry : Caps → PlainFrame
 entry caps = entry_frame caps.in_cap (size caps Stack)
 
-abbrev pub ObjectIsBytes : Object → Type 0
-ObjectIsBytes None = Unit {0}
-ObjectIsBytes (Some bytes) = AreBytes bytes
+-- what holds of every state within the limits: regions no longer than a value may be, an object within its limits, a
+-- client's number
+pub record IsWithin (s : Typed) : Type 0 where
+  pub memory : (r : Region) → IsValue (cells s.memory r)
+  pub object : IsObject s.object
+  pub client : s.caller < 2 ^ 32
 
 -- a state that a frame is true of
 pub record Holds (f : PlainFrame) (s : Typed) : Type 0 where
   pub regs : HoldsEach f.registers s.regs
-  pub memory : (r : Region) → AreBytes (cells s.memory r)
-  pub object : ObjectIsBytes s.object
+  pub within : IsWithin s

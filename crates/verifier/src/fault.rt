@@ -3,7 +3,8 @@ ghost use Rattle.verifier.specs.Rules.{has_fault, register_count, some_fault, ca
 
 use crate::kind_rules::{is_at_most, range_is_read_only, range_leaves};
 use abstract_regs::Frame;
-use bpf_machine::{Argument, Caps, signature};
+use bpf_machine::Caps;
+use helpers::{Argument, signature};
 
 /// What may be wrong with an argument of a helper.
 #[derive(Clone, Copy, Debug, PartialEq, Eq)]

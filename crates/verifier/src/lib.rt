@@ -28,6 +28,3 @@ pub use rule::Rule;
 pub use slot_op::SlotOp;
 pub use source::Source;
 pub use verified::{VerifiedClass, VerifiedMethod};
-
-#[cfg(test)]
-mod tests;

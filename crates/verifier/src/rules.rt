@@ -10,7 +10,8 @@ use crate::kind_rules;
 use crate::rule::Rule;
 use abstract_regs::Frame;
 use bpf_decode::{Insn, Operand, Register, jump_target, width};
-use bpf_machine::{Caps, signature};
+use bpf_machine::Caps;
+use helpers::signature;
 
 /// The lowest rule that refuses the instruction at a slot; rules 5 to 15 under a frame alone.
 pub fn refusing_rule(

@@ -4,14 +4,15 @@ ghost use Rattle.bpf_machine.specs.View.{layout_of};
 ghost use Rattle.bpf_machine.specs.inner.FlatState.{flat_state, GivesState, IsSized};
 
 use crate::caps::Caps;
+use crate::flat::calls::help;
 use crate::flat::fields::{at_slot, signed_width_of, signed16, signed32, width_of};
-use crate::flat::helpers::help;
 use crate::flat::memory::{load, load_signed, store};
 use crate::flat::state::{FlatState, get, set};
 use crate::layout::Layout;
 use bpf_decode::arithmetic::{alu, copied, negative, ordered, sign_extended, taken};
 use bpf_decode::{Arithmetic, Bits, ByteOrder, Comparison, EndWidth, SignedMove, Slot};
-use std::alloc::{AllocError, Global};
+use std::alloc::Global;
+use txn::NoMemory;
 
 /// What an instruction reads beside its destination: the immediate, or a register.
 fn operand(f: Slot, s: &FlatState) -> Option<u64>
@@ -282,7 +283,7 @@ fn call_row(
     layout: &Layout,
     f: Slot,
     s: &mut FlatState,
-) -> Result<Option<()>, AllocError>
+) -> Result<Option<()>, NoMemory>
     requires sized { IsSized caps.now s.old.memory }
     requires slot { s.old.slot < 2 ^ 62 }
     ensures row { IfOk result (λ o. GivesState o (flat_state s.new) (call_row caps.now (layout_of layout.now) f (flat_state s.old))) }
@@ -308,7 +309,7 @@ fn act(
     f: Slot,
     next: Option<Slot>,
     s: &mut FlatState,
-) -> Result<Option<()>, AllocError>
+) -> Result<Option<()>, NoMemory>
     requires sized { IsSized caps.now s.old.memory }
     requires slot { s.old.slot < 2 ^ 62 }
     ensures acts { IfOk result (λ o. GivesState o (flat_state s.new) (act caps.now (layout_of layout.now) f next (flat_state s.old))) }
@@ -341,7 +342,7 @@ pub fn step(
     layout: &Layout,
     code: &[u8],
     s: &mut FlatState,
-) -> Result<Option<()>, AllocError>
+) -> Result<Option<()>, NoMemory>
     requires sized { IsSized caps.now s.old.memory }
     ensures stepped { IfOk result (λ o. GivesState o (flat_state s.new) (step caps.now (layout_of layout.now) code.now (flat_state s.old))) }
     ensures sized { IsSized caps.now s.new.memory }

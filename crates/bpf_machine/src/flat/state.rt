@@ -5,15 +5,17 @@ ghost use Rattle.bpf_machine.specs.inner.FlatState.{flat_state, GivesState, IsSi
 
 use crate::caps::Caps;
 use crate::flat::memory::Regions;
+use txn::Staged;
 
 /// A state of the flat machine. No register says whether it is an address.
 #[derive(Drop)]
-pub struct FlatState {
+pub struct FlatState<'a> {
     /// The slot of the next instruction.
     pub slot: u64,
     pub regs: [Option<u64>; 11],
     pub memory: Regions,
-    pub object: Option<Vec<u8>>,
+    /// The object as the run has it so far.
+    pub object: Staged<'a>,
     /// How much of the output region is output.
     pub out_len: usize,
     /// The client for whom the method runs.

@@ -13,21 +13,22 @@ use crate::entry::Entry;
 use crate::group::Group;
 use crate::group::append::run_after;
 use crate::log_error::LogError;
-use crate::objects::Objects;
 use crate::places::Places;
 use crate::request::Request;
 use interp::ClassTable;
-use std::alloc::{AllocError, Global};
+use object_store::Objects;
+use std::alloc::Global;
 use std::mem;
+use txn::undo;
 
 impl<C: Classes> Group<C> {
     /// Makes the log this list: gives the length of the beginning that the old log and the list have in common.
     /// What the log has past it is undone, the last entry first, and only the list's rest is run. It refuses as
     /// `replay` refuses the list, by a request of the rest. A refusal leaves the group as it was.
     ///
-    /// The table is that of the earlier calls, or that one with classes added. It costs a comparison of the lists, a
-    /// copy of the objects, and what the entries past the common beginning and the requests of the rest cost. Entries
-    /// and index of the common beginning stay where they are.
+    /// The table is that of the earlier calls, or that one with classes added. It costs a comparison of the lists,
+    /// and what the entries past the common beginning and the requests of the rest cost: a copy of the objects is a
+    /// pointer, and entries and index of the common beginning stay where they are.
     pub fn adopt(&mut self, table: &ClassTable, list: &[Request]) -> Result<usize, LogError>
         requires { IsPrefix table.now C.classes }
         ensures common { IfOk result (λ k. IsCommonBeginning self.old list.now k) }
@@ -42,9 +43,7 @@ impl<C: Classes> Group<C> {
             *self = Self::replay(alloc, table, list)?;
             return Ok(0);
         }
-        let Ok(objects) = Self::objects_before(alloc, &self.entries, &self.objects, common) else {
-            return Err(LogError::NoMemory);
-        };
+        let objects = Self::objects_before(alloc, &self.entries, &self.objects, common)?;
         Self::change_end(
             alloc,
             table,
@@ -64,16 +63,19 @@ impl<C: Classes> Group<C> {
         entries: &[Entry],
         objects: &Objects,
         at: usize,
-    ) -> Result<Objects, AllocError>
+    ) -> Result<Objects, LogError>
         requires within { at ≤ length entries.now }
         requires kept { AreEntries C.classes fin.empty entries.now }
         requires folded { objects.now ≡ fold C.classes (requests_of entries.now) }
-        ensures { IfOk result (λ o. o ≡ fold C.classes (take at (requests_of entries.now))) }
+        ensures ok { IfOk result (λ o. o ≡ fold C.classes (take at (requests_of entries.now))) }
+        ensures err { IfErr result (λ e. e ≡ LogError.NoMemory) }
     {
-        let mut before = objects.copy(alloc)?;
+        let Ok(mut before) = objects.copy() else {
+            return Err(LogError::NoMemory);
+        };
         for back in 0..entries.len() - at {
             let entry = &entries[entries.len() - 1 - back];
-            before.undo(alloc, entry.request.object(), &entry.change)?;
+            undo(alloc, &mut before, entry.request.object(), &entry.change)?;
         }
         Ok(before)
     }

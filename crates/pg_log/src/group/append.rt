@@ -4,7 +4,7 @@ ghost use mathlib.Core.List.{IsPrefix};
 ghost use Rattle.bpf_decode.specs.Class.{ClassMethod};
 ghost use Rattle.bpf_machine.specs.Safe.{IsSafe};
 ghost use Rattle.verifier.specs.Verified.{method_named};
-ghost use Rattle.interp.specs.Plain.{given_object};
+ghost use Rattle.std.specs.Option.{option_copied};
 ghost use Rattle.pg_log.specs.Requests.{ClientRequest};
 ghost use Rattle.pg_log.specs.Log.{Legal, NumbersRise, fold, reply_at};
 ghost use Rattle.pg_log.specs.Places.{ArePlaces, RoomStays};
@@ -15,12 +15,13 @@ use crate::classes::Classes;
 use crate::entry::Entry;
 use crate::group::{Group, LOG_LIMIT};
 use crate::log_error::LogError;
-use crate::objects::Objects;
 use crate::places::Places;
 use crate::request::Request;
 use bpf_machine::outcomes;
-use interp::{CallError, ClassTable, Object, Outcome, call};
+use interp::{CallError, ClassTable, Outcome, call};
+use object_store::{Object, Objects};
 use std::alloc::Global;
+use txn::apply;
 use verifier::VerifiedClass;
 
 impl<C: Classes> Group<C> {
@@ -31,9 +32,9 @@ impl<C: Classes> Group<C> {
     ///
     /// The table is that of the earlier calls, or that one with classes added.
     ///
-    /// It costs the call that it runs, a logarithm of the number of clients and one of the number of objects, and a copy
-    /// of the object where the call changed it. A logged pair runs nothing, and costs a logarithm of the number of
-    /// clients and one of the client's requests.
+    /// It costs the call that it runs, a logarithm of the number of clients and one of the number of objects; no object
+    /// is copied. A logged pair runs nothing, and costs a logarithm of the number of clients and one of the client's
+    /// requests.
     pub fn append(&mut self, table: &ClassTable, request: Request) -> Result<usize, LogError>
         requires { IsPrefix table.now C.classes }
         // The answer by the list; want of memory only where the request would be added.
@@ -96,8 +97,8 @@ impl<C: Classes> Group<C> {
     }
 
     /// Adds an entry that may follow the log, as `next_entry` gives it, and gives its place. It refuses by `NoMemory`
-    /// alone, and then leaves the group as it was. All its growths come first: the log's, the index's and, where the
-    /// call changed it, that of the object.
+    /// alone, and then leaves the group as it was. All its growths come first: the log's, the index's and that of
+    /// the objects.
     pub fn keep(&mut self, entry: Entry) -> Result<usize, LogError>
         requires { IsNextEntry C.classes self.old entry }
         ensures ok { IfOk result (λ place. (place ≡ length self.old) × (self.new ≡ self.old ++ entry.request ∷ [])) }
@@ -135,10 +136,7 @@ impl<C: Classes> Group<C> {
         let number = entry.request.number();
         entries.reserve(1)?;
         places.add(alloc, client, number, place)?;
-        if objects
-            .apply(alloc, entry.request.object(), &entry.change)
-            .is_err()
-        {
+        if apply(alloc, objects, entry.request.object(), &entry.change).is_err() {
             places.remove(client);
             return Err(LogError::NoMemory);
         }
@@ -198,7 +196,7 @@ fn run_method(
     request: &Request,
 ) -> Result<Outcome, LogError>
     ensures ok { IfOk result (λ o. (refusal_of_method (method_named class.now request.now.method) request.now ≡ None)
-        × IsOutcome (method_named class.now request.now.method) (given_object object.entry) request.now o.code o.output.items o.change) }
+        × IsOutcome (method_named class.now request.now.method) (option_copied object.entry) request.now o.code o.output.items o.change) }
     ensures safe { IfOk result (λ _. (m : ClassMethod) → method_named class.now request.now.method ≡ Some m → IsSafe m) }
     ensures err { IfErr result (λ e. Refuses (refusal_of_method (method_named class.now request.now.method) request.now) e) }
 {

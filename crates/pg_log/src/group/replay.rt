@@ -3,7 +3,6 @@ ghost use mathlib.Core.List.{IsPrefix};
 ghost use Rattle.pg_log.specs.Refusals.{first_refusal, SomeCanRun};
 
 use crate::classes::Classes;
-use crate::entry::Entry;
 use crate::group::Group;
 use crate::log_error::LogError;
 use crate::request::Request;
@@ -23,19 +22,14 @@ impl<C: Classes> Group<C> {
     {
         let mut group = Group::new(alloc);
         for request in list {
-            let outcome = group.run(table, request)?;
-            group.keep(Entry {
-                request: request.copy(alloc)?,
-                code: outcome.code,
-                output: outcome.output,
-                change: outcome.change,
-            })?;
+            let entry = group.next_entry_of(table, request)?;
+            group.keep(entry)?;
         }
         Ok(group)
     }
 
-    /// An equal group. It refuses by `NoMemory` alone. It runs nothing, and costs a copy of each entry and of each
-    /// object that one changed.
+    /// An equal group. It refuses by `NoMemory` alone. It runs nothing, and costs a copy of each entry and a put
+    /// of its object, which the copies share.
     pub fn copy(&self, alloc: Global) -> Result<Group<C>, LogError>
         ensures ok { IfOk result (λ g. g ≡ self.now) }
         ensures err { IfErr result (λ e. e ≡ LogError.NoMemory) }

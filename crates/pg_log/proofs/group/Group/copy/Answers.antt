@@ -3,7 +3,7 @@ use Rattle.std.specs.FinMap as fin
 use Rattle.std.specs.List.{slice_get}
 use Rattle.std.proofs.lemmas.List.{take_all}
 use Rattle.std.proofs.lemmas.Option.{slice_get_read}
-use Rattle.interp.specs.declared.change.Change.{Change}
+use Rattle.txn.specs.declared.change.Change.{Change}
 use Rattle.pg_log.specs.Requests.{ClientRequest}
 use Rattle.pg_log.specs.Log.{Legal, fold}
 use Rattle.pg_log.specs.Entries.{requests_of, IsOutcomeOn, IsSafeRequest}

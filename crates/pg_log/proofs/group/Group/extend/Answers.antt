@@ -2,8 +2,9 @@ use Rattle.std.proofs.Common.{◌≡◌, ◌∙◌, ap, sym, subst, refl, arith,
 use Rattle.std.specs.List.{slice_get}
 use Rattle.std.proofs.lemmas.Int.{to_z-of_z}
 use Rattle.std.proofs.lemmas.Option.{slice_get_read}
+use Rattle.object_store.specs.Names.{PlainObjects}
 use Rattle.pg_log.specs.Requests.{ClientRequest}
-use Rattle.pg_log.specs.Log.{Objects, Legal, fold}
+use Rattle.pg_log.specs.Log.{Legal, fold}
 use Rattle.pg_log.specs.Refusals.{refusal}
 use Rattle.pg_log.specs.Entries.{IsOutcomeOn, IsSafeRequest, requests_of}
 use Rattle.pg_log.proofs.Lists.{take_get}
@@ -44,7 +45,7 @@ add-requires-clause-next g c =
     let fits : FitsSigned w64 o.code = search rules in
     let L : ClientRequest → Type 0 = λ w. Legal classes (xs ++ w ∷ []) in
     let S : ClientRequest → Type 0 = IsSafeRequest classes in
-    let O : Objects → Type 0 = λ w. IsOutcomeOn c.args.table.now w r o.code o.output.items o.change in
+    let O : PlainObjects → Type 0 = λ w. IsOutcomeOn c.args.table.now w r o.code o.output.items o.change in
     let P : ℤ → Type 0 = λ z. IsOutcomeOn classes (fold classes xs) c.in_ok-copy.field-0 z o.output.items o.change in
     let Q : ClientRequest → Type 0 = λ w. IsOutcomeOn classes (fold classes xs) w o.code o.output.items o.change in
     record {

@@ -19,8 +19,8 @@ loop-back-preserved g c =
     c.in_ok-undo.ensures.ok ∙ ap (λ n. undone c.loop-back.before n e.change) c.object.ensures
     ∙ undone_more classes es c.loop-back.before k e c.requires.kept at (c.loop-back.invariant ∙ ap (λ n. fold classes (requests_of (take n es))) more)
 
-pub returns : goal.returns
-returns g c =
+pub returns-clause-ok : goal.returns-clause-ok
+returns-clause-ok g c =
     let classes = g.C.Classes.classes in
     let es = c.args.entries.now in
     let all : length es - c.loop-back.back ≡ c.args.at = omega (arith, c.loop-back-test.false) in

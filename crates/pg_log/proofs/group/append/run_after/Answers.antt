@@ -1,11 +1,11 @@
 use Rattle.std.proofs.Common.{◌≡◌, ◌∙◌, ap, sym, subst, Option, Some, None, true, false, arith, inl, IfOk, IfErr}
 use Rattle.std.specs.List.{slice_get}
 use Rattle.std.specs.FinMap as fin
+use Rattle.std.specs.Option.{option_copied}
+use Rattle.object_store.specs.Object.{PlainObject}
 use Rattle.bpf_decode.specs.Class.{ClassMethod}
-use Rattle.bpf_machine.specs.Object.{Object}
 use Rattle.bpf_machine.specs.Safe.{IsSafe}
 use Rattle.verifier.specs.Verified.{method_named}
-use Rattle.interp.specs.Plain.{given_object}
 use Rattle.pg_log.specs.declared.log_error.LogError.{LogError}
 use Rattle.pg_log.specs.Log.{method_in, method_of}
 use Rattle.pg_log.specs.Refusals.{is_reached, refusal, refusal_of_class, refusal_of_method, Refuses}
@@ -45,10 +45,10 @@ returns-clause-ok c = λ xs n at rise.
     let why : refusal table xs r ≡ refusal_of_method (method_named class r.method) r =
     refusal-class table xs r (omega arith) reached ∙ ap (λ o. refusal_of_class o r) loaded in
     let method : method_of table r ≡ method_named class r.method = ap (λ o. method_in o r.method) loaded in
-    let object : given_object c.get-2.result ≡ fin.get c.args.objects.now r.object = c.get-2.ensures ∙ ap (fin.get c.args.objects.now) c.object.ensures in
-    let A : Option LogError → Type 0 = λ w. IfOk c.run_method.result (λ o. (w ≡ None) × IsOutcome (method_named class r.method) (given_object c.get-2.result) r o.code o.output.items o.change) in
-    let B : Option ClassMethod → Type 0 = λ w. IfOk c.run_method.result (λ o. (refusal table xs r ≡ None) × IsOutcome w (given_object c.get-2.result) r o.code o.output.items o.change) in
-    let D : Object → Type 0 = λ w. IfOk c.run_method.result (λ o. (refusal table xs r ≡ None) × IsOutcome (method_of table r) w r o.code o.output.items o.change) in
+    let object : option_copied c.get-2.result ≡ fin.get c.args.objects.now r.object = c.get-2.ensures ∙ ap (fin.get c.args.objects.now) c.object.ensures in
+    let A : Option LogError → Type 0 = λ w. IfOk c.run_method.result (λ o. (w ≡ None) × IsOutcome (method_named class r.method) (option_copied c.get-2.result) r o.code o.output.items o.change) in
+    let B : Option ClassMethod → Type 0 = λ w. IfOk c.run_method.result (λ o. (refusal table xs r ≡ None) × IsOutcome w (option_copied c.get-2.result) r o.code o.output.items o.change) in
+    let D : PlainObject → Type 0 = λ w. IfOk c.run_method.result (λ o. (refusal table xs r ≡ None) × IsOutcome (method_of table r) w r o.code o.output.items o.change) in
     subst D object (subst B (sym method) (subst A (sym why) c.run_method.ensures.ok))
 
 pub returns-clause-err : goal.returns-clause-err

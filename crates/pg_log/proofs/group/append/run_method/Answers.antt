@@ -1,9 +1,10 @@
 use Rattle.std.proofs.Common.{◌∙◌, ap, ℕ, List, subst}
+use Rattle.std.specs.Option.{option_copied}
 use Rattle.std.proofs.lemmas.Option.{same_Some}
 use Rattle.bpf_decode.specs.Class.{ClassMethod}
 use Rattle.bpf_machine.specs.Safe.{IsSafe}
 use Rattle.verifier.specs.Verified.{method_named}
-use Rattle.interp.specs.Plain.{given_object, Answers}
+use Rattle.interp.specs.Plain.{Answers}
 use Rattle.pg_log.proofs.Ran.{ran}
 use Rattle.pg_log.proofs.group.append.run_method.Goals as goal
 
@@ -11,7 +12,7 @@ pub returns-in-Ok-clause-ok : goal.returns-in-Ok-clause-ok
 returns-in-Ok-clause-ok c =
     let class = c.args.class.now in
     let r = c.args.request.now in
-    let object = given_object c.args.object in
+    let object = option_copied c.args.object in
     let o = c.in-Ok.outcome in
     let P : List ℕ → Type 0 = λ w. Answers class w object c.get.result c.input.result.now o in
     let Q : ℕ → Type 0 = λ w. Answers class r.method object w c.input.result.now o in

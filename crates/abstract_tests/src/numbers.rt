@@ -1,0 +1,60 @@
+mod edges;
+mod parts;
+mod rows;
+mod small;
+
+use abstract_num::{Bits, Number, Product, SRange, URange};
+
+/// Unsigned ends, signed ends, value and unknown bits.
+type Six = (u64, u64, i64, i64, u64, u64);
+
+/// All bits; all of the low half.
+const ALL: u64 = u64::MAX;
+
+const LOW: u64 = 0xffff_ffff;
+
+const TOP: u64 = 0x8000_0000_0000_0000;
+
+const MIN: i64 = i64::MIN;
+
+const MAX: i64 = i64::MAX;
+
+const ANY: Six = (0, ALL, MIN, MAX, 0, ALL);
+
+/// The number of these, where each part is one.
+fn number(six: Six) -> Option<Number> {
+    let (low, high, least, greatest, value, unknown) = six;
+    if low <= high && least <= greatest && value & unknown == 0 {
+        Some(Product {
+            first: URange { low, high },
+            second: Product {
+                first: SRange {
+                    low: least,
+                    high: greatest,
+                },
+                second: Bits { value, unknown },
+            },
+        })
+    } else {
+        None
+    }
+}
+
+/// Whether a number is these.
+fn is(x: Number, six: Six) -> bool {
+    match number(six) {
+        Some(y) => x == y,
+        None => false,
+    }
+}
+
+/// Whether an answer is these, or none.
+fn gives(x: Option<Number>, want: Option<Six>) -> bool {
+    match x {
+        Some(x) => match want {
+            Some(six) => is(x, six),
+            None => false,
+        },
+        None => want.is_none(),
+    }
+}

@@ -1,0 +1,87 @@
+//! Joins, the order, tightening and ranges, by hand.
+
+use super::{ALL, MAX, MIN, Six, TOP, gives, is, number};
+use abstract_num::{
+    Number, any, arithmetic, between, constant, constant_of, highest, holds, is_below, join,
+    loaded, loaded_signed, signed_between, tighten,
+};
+use bpf_decode::{Arithmetic, Bits, SignedWidth, Width};
+
+const ONCE: [(Six, Option<Six>); 8] = [
+    ((10, ALL, 5, 20, 0, ALL), Some((10, 20, 5, 20, 0, ALL))),
+    ((10, 20, 5, 20, 0, ALL), Some((10, 20, 10, 20, 0, ALL))),
+    ((0, ALL, MIN, MAX, 8, 3), Some((8, 11, 8, 11, 8, 3))),
+    (
+        (0, ALL, -8, -5, 0, ALL),
+        Some((ALL - 7, ALL - 4, -8, -5, 0, ALL)),
+    ),
+    (
+        (TOP, TOP + 1, MIN, MAX, 0, ALL),
+        Some((TOP, TOP + 1, MIN, MIN + 1, 0, ALL)),
+    ),
+    ((4, 4, MIN, MAX, 0, 7), Some((4, 4, 4, 4, 4, 0))),
+    ((4, 4, 0, MAX, 1, 6), None),
+    ((0, 5, 6, 9, 0, ALL), None),
+];
+
+/// What tightening gives of the first, once.
+#[test]
+fn tightened(rt: HostRuntime) {
+    for (i, row) in ONCE.iter().enumerate() {
+        let (six, want) = *row;
+        let Some(x) = number(six) else {
+            continue;
+        };
+        assert!(rt; gives(tighten(x), want), "row {i}");
+    }
+}
+
+#[test]
+fn joined(rt: HostRuntime) {
+    let both = join(constant(1), constant(4));
+    assert!(rt; is(both, (1, 4, 1, 4, 0, 5)));
+    assert!(rt; is(join(constant(ALL), constant(0)), (0, ALL, -1, 0, 0, ALL)));
+    assert!(rt;
+        is_below(constant(4), both) && !is_below(both, constant(4)) && is_below(both, any())
+    );
+}
+
+#[test]
+fn ranges(rt: HostRuntime) {
+    assert!(rt; is(between(0, 8), (0, 8, 0, 8, 0, ALL)));
+    assert!(rt; is(between(3, 3), (3, 3, 3, 3, 3, 0)));
+    assert!(rt; is(signed_between(-8, -5), (ALL - 7, ALL - 4, -8, -5, 0, ALL)));
+    assert!(rt; is(loaded(Width::Double), (0, ALL, MIN, MAX, 0, ALL)));
+    assert!(rt;
+        is(
+            loaded_signed(SignedWidth::Byte),
+            (0, ALL, -128, 127, 0, ALL)
+        )
+    );
+}
+
+fn constant_is(x: Number, want: Option<u64>) -> bool {
+    constant_of(&x) == want
+}
+
+#[test]
+fn readings(rt: HostRuntime) {
+    assert!(rt; highest(&between(2, 9)) == 9);
+    assert!(rt; holds(&between(2, 9), 2) && !holds(&between(2, 9), 10) && !holds(&constant(4), 5));
+    assert!(rt; constant_is(constant(6), Some(6)) && constant_is(between(2, 9), None));
+}
+
+/// A number is constant where its unsigned range is, whatever its other parts say.
+#[test]
+fn constant_by_the_range(rt: HostRuntime) {
+    let Some(x) = number((5, 5, MIN, MAX, 0, ALL)) else {
+        return;
+    };
+    assert!(rt; constant_is(x, Some(5)));
+    assert!(rt;
+        gives(
+            arithmetic(Bits::Bits64, Arithmetic::Add, x, constant(1)),
+            Some((6, 6, 6, 6, 6, 0))
+        )
+    );
+}

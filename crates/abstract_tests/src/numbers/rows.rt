@@ -1,0 +1,367 @@
+//! Rows of the transfer table, by hand.
+
+use super::{ALL, ANY, LOW, MAX, MIN, Six, TOP, gives, number};
+use abstract_num::{arithmetic, between, constant, copied, negative, ordered, sign_extended};
+use bpf_decode::{Arithmetic, Bits, ByteOrder, EndWidth, SignedMove};
+
+/// An operation on two ranges and what it gives.
+type Row = (Arithmetic, (u64, u64), (u64, u64), Six);
+
+const FITS: [Row; 13] = [
+    (Arithmetic::Add, (1, 2), (10, 20), (11, 22, 11, 22, 0, ALL)),
+    (
+        Arithmetic::Add,
+        (TOP - 1, TOP),
+        (1, 1),
+        (TOP, TOP + 1, MIN, MIN + 1, 0, ALL),
+    ),
+    (Arithmetic::Add, (0, ALL), (1, 1), ANY),
+    (Arithmetic::Sub, (10, 20), (1, 2), (8, 19, 8, 19, 0, ALL)),
+    (Arithmetic::Sub, (0, 5), (1, 1), (0, ALL, -1, 4, 0, ALL)),
+    (
+        Arithmetic::Sub,
+        (5, 5),
+        (7, 7),
+        (ALL - 1, ALL - 1, -2, -2, ALL - 1, 0),
+    ),
+    (Arithmetic::Mul, (2, 3), (4, 5), (8, 15, 8, 15, 0, ALL)),
+    (Arithmetic::Mul, (0, LOW + 1), (0, LOW + 1), ANY),
+    (Arithmetic::Div, (10, 20), (2, 5), (2, 10, 2, 10, 0, ALL)),
+    (Arithmetic::Div, (10, 20), (0, 5), (0, 20, 0, 20, 0, ALL)),
+    (Arithmetic::Mod, (10, 20), (3, 7), (0, 6, 0, 6, 0, ALL)),
+    (Arithmetic::Mod, (10, 20), (0, 7), (0, 20, 0, 20, 0, ALL)),
+    (Arithmetic::Mod, (1, 2), (8, 9), (0, 2, 0, 2, 0, ALL)),
+];
+
+const BITWISE: [Row; 15] = [
+    (Arithmetic::And, (0, 12), (10, 10), (0, 10, 0, 10, 0, 10)),
+    (Arithmetic::Or, (1, 4), (8, 8), (8, 15, 8, 15, 8, ALL - 8)),
+    (Arithmetic::Xor, (1, 4), (2, 9), (0, 15, 0, 15, 0, ALL)),
+    (Arithmetic::Xor, (0, TOP), (1, 1), ANY),
+    (
+        Arithmetic::Lsh,
+        (1, 3),
+        (4, 4),
+        (16, 48, 16, 48, 0, ALL - 15),
+    ),
+    (
+        Arithmetic::Lsh,
+        (1, 3),
+        (68, 68),
+        (16, 48, 16, 48, 0, ALL - 15),
+    ),
+    (
+        Arithmetic::Lsh,
+        (1, 2),
+        (63, 63),
+        (0, TOP, MIN, MAX, 0, TOP),
+    ),
+    (Arithmetic::Lsh, (1, 3), (1, 2), ANY),
+    (Arithmetic::Rsh, (16, 48), (4, 4), (1, 3, 1, 3, 0, ALL >> 4)),
+    (Arithmetic::Rsh, (16, 48), (1, 2), (0, 48, 0, 48, 0, ALL)),
+    (Arithmetic::Arsh, (16, 48), (4, 4), (1, 3, 1, 3, 0, ALL)),
+    (Arithmetic::Arsh, (16, 48), (1, 2), (0, 48, 0, 48, 0, ALL)),
+    (Arithmetic::Arsh, (TOP, TOP + 16), (4, 4), ANY),
+    (Arithmetic::SignedDiv, (1, 2), (1, 2), ANY),
+    (Arithmetic::SignedMod, (1, 2), (1, 2), ANY),
+];
+
+/// At 0, at 2^63 and at 2^64 - 1.
+const ENDS: [Row; 17] = [
+    (
+        Arithmetic::Add,
+        (0, 1),
+        (TOP, ALL - 1),
+        (TOP, ALL, MIN, -1, 0, ALL),
+    ),
+    (Arithmetic::Sub, (TOP, ALL), (0, TOP), ANY),
+    (
+        Arithmetic::Sub,
+        (TOP, ALL),
+        (0, 1),
+        (TOP - 1, ALL, MIN, MAX, 0, ALL),
+    ),
+    (Arithmetic::Mul, (0, 1), (TOP, ALL), ANY),
+    (Arithmetic::Mul, (0, 1), (0, 0), (0, 0, 0, 0, 0, 0)),
+    (Arithmetic::Div, (0, ALL), (TOP, ALL), (0, 1, 0, 1, 0, ALL)),
+    (
+        Arithmetic::Mod,
+        (0, ALL),
+        (TOP, ALL),
+        (0, ALL - 1, MIN, MAX, 0, ALL),
+    ),
+    (Arithmetic::And, (TOP, ALL), (0, ALL), ANY),
+    (Arithmetic::And, (0, ALL), (0, 0), (0, 0, 0, 0, 0, 0)),
+    (
+        Arithmetic::Or,
+        (0, 1),
+        (TOP, TOP + 1),
+        (TOP, ALL, MIN, -1, 0, ALL),
+    ),
+    (Arithmetic::Xor, (0, 1), (0, 1), (0, 1, 0, 1, 0, ALL)),
+    (
+        Arithmetic::Lsh,
+        (0, 1),
+        (63, 63),
+        (0, TOP, MIN, MAX, 0, TOP),
+    ),
+    (Arithmetic::Lsh, (5, 9), (0, 0), (5, 9, 5, 9, 0, ALL)),
+    (Arithmetic::Rsh, (TOP, ALL), (63, 63), (1, 1, 1, 1, 1, 0)),
+    (Arithmetic::Arsh, (0, TOP - 1), (63, 63), (0, 0, 0, 0, 0, 0)),
+    (
+        Arithmetic::Arsh,
+        (TOP, TOP),
+        (63, 63),
+        (ALL, ALL, -1, -1, ALL, 0),
+    ),
+    (
+        Arithmetic::SignedDiv,
+        (TOP, TOP),
+        (ALL, ALL),
+        (TOP, TOP, MIN, MIN, TOP, 0),
+    ),
+];
+
+const HALVES: [Row; 11] = [
+    (Arithmetic::Add, (1, 2), (10, 20), (11, 22, 11, 22, 0, LOW)),
+    (
+        Arithmetic::Add,
+        (0, LOW),
+        (1, 1),
+        (0, LOW, 0, 0xffff_ffff, 0, LOW),
+    ),
+    (Arithmetic::Add, (LOW, LOW), (1, 1), (0, 0, 0, 0, 0, 0)),
+    (
+        Arithmetic::Sub,
+        (0, 5),
+        (1, 1),
+        (0, LOW, 0, 0xffff_ffff, 0, LOW),
+    ),
+    (Arithmetic::Div, (7, 7), (0, 0), (0, 0, 0, 0, 0, 0)),
+    (
+        Arithmetic::Mod,
+        (ALL, ALL),
+        (0, 0),
+        (LOW, LOW, 0xffff_ffff, 0xffff_ffff, LOW, 0),
+    ),
+    (Arithmetic::Lsh, (1, 3), (33, 33), (2, 6, 2, 6, 0, LOW - 1)),
+    (
+        Arithmetic::Rsh,
+        (0, LOW),
+        (1, 2),
+        (0, LOW, 0, 0xffff_ffff, 0, LOW),
+    ),
+    (
+        Arithmetic::Arsh,
+        (16, 48),
+        (4, 4),
+        (1, 3, 1, 3, 0, LOW >> 4),
+    ),
+    (
+        Arithmetic::Arsh,
+        (0x8000_0000, 0x8000_0001),
+        (1, 1),
+        (0, LOW, 0, 0xffff_ffff, 0, LOW),
+    ),
+    (
+        Arithmetic::SignedDiv,
+        (1, 2),
+        (1, 2),
+        (0, LOW, 0, 0xffff_ffff, 0, LOW),
+    ),
+];
+
+/// Whether the row is what the operation gives.
+fn holds(bits: Bits, row: Row) -> bool {
+    let (operation, (a, b), (c, d), want) = row;
+    if b < a || d < c {
+        return false;
+    }
+    gives(
+        arithmetic(bits, operation, between(a, b), between(c, d)),
+        Some(want),
+    )
+}
+
+#[test]
+fn sums_and_products(rt: HostRuntime) {
+    for (i, row) in FITS.iter().enumerate() {
+        assert!(rt; holds(Bits::Bits64, *row), "row {i}");
+    }
+}
+
+#[test]
+fn bits_and_shifts(rt: HostRuntime) {
+    for (i, row) in BITWISE.iter().enumerate() {
+        assert!(rt; holds(Bits::Bits64, *row), "row {i}");
+    }
+}
+
+#[test]
+fn ends_of_the_word(rt: HostRuntime) {
+    for (i, row) in ENDS.iter().enumerate() {
+        assert!(rt; holds(Bits::Bits64, *row), "row {i}");
+    }
+}
+
+#[test]
+fn low_halves(rt: HostRuntime) {
+    for (i, row) in HALVES.iter().enumerate() {
+        assert!(rt; holds(Bits::Bits32, *row), "row {i}");
+    }
+}
+
+/// An operation on a number and a constant, and what it gives.
+type Whole = (Bits, Arithmetic, Six, u64, Option<Six>);
+
+const KNOWN: [Whole; 7] = [
+    // a sign that is known stays known
+    (
+        Bits::Bits64,
+        Arithmetic::Arsh,
+        (TOP, TOP + 15, MIN, MIN + 15, TOP, 15),
+        4,
+        Some((
+            0xf800_0000_0000_0000,
+            0xf800_0000_0000_0000,
+            -0x0800_0000_0000_0000,
+            -0x0800_0000_0000_0000,
+            0xf800_0000_0000_0000,
+            0,
+        )),
+    ),
+    // signed parts
+    (
+        Bits::Bits64,
+        Arithmetic::Add,
+        (0, ALL, -5, 5, 0, ALL),
+        3,
+        Some((0, ALL, -2, 8, 0, ALL)),
+    ),
+    (
+        Bits::Bits64,
+        Arithmetic::Sub,
+        (0, ALL, -5, 5, 0, ALL),
+        3,
+        Some((0, ALL, -8, 2, 0, ALL)),
+    ),
+    (
+        Bits::Bits64,
+        Arithmetic::Sub,
+        (0, ALL, MIN, 5, 0, ALL),
+        3,
+        Some(ANY),
+    ),
+    // known bits of both
+    (
+        Bits::Bits64,
+        Arithmetic::And,
+        (1, ALL, MIN, MAX, 1, ALL - 1),
+        3,
+        Some((1, 3, 1, 3, 1, 2)),
+    ),
+    // a low half that is constant
+    (
+        Bits::Bits32,
+        Arithmetic::Add,
+        (5, 0x1_0000_0005, 5, 0x1_0000_0005, 5, 0x1_0000_0000),
+        1,
+        Some((6, 6, 6, 6, 6, 0)),
+    ),
+    // a low half that can't be
+    (Bits::Bits32, Arithmetic::Add, (0, 5, 0, 5, 8, 0), 1, None),
+];
+
+#[test]
+fn known_parts(rt: HostRuntime) {
+    for (i, row) in KNOWN.iter().enumerate() {
+        let (bits, operation, six, by, want) = *row;
+        let Some(x) = number(six) else {
+            continue;
+        };
+        assert!(rt;
+            gives(arithmetic(bits, operation, x, constant(by)), want),
+            "row {i}"
+        );
+    }
+}
+
+#[test]
+fn copies(rt: HostRuntime) {
+    let x = between(1, LOW + 1);
+    assert!(rt;
+        gives(
+            copied(Bits::Bits64, x),
+            Some((1, LOW + 1, 1, 0x1_0000_0000, 0, ALL))
+        )
+    );
+    assert!(rt;
+        gives(
+            copied(Bits::Bits32, x),
+            Some((0, LOW, 0, 0xffff_ffff, 0, LOW))
+        )
+    );
+    assert!(rt;
+        gives(
+            negative(Bits::Bits64, constant(1)),
+            Some((ALL, ALL, -1, -1, ALL, 0))
+        )
+    );
+    assert!(rt;
+        gives(
+            negative(Bits::Bits32, constant(1)),
+            Some((LOW, LOW, 0xffff_ffff, 0xffff_ffff, LOW, 0))
+        )
+    );
+}
+
+#[test]
+fn negatives(rt: HostRuntime) {
+    let halves = Some((0, LOW, 0, 0xffff_ffff, 0, LOW));
+    assert!(rt;
+        gives(
+            negative(Bits::Bits64, between(0, 1)),
+            Some((0, ALL, -1, 0, 0, ALL))
+        )
+    );
+    assert!(rt; gives(negative(Bits::Bits32, between(0, 1)), halves));
+}
+
+#[test]
+fn extensions(rt: HostRuntime) {
+    assert!(rt;
+        gives(
+            sign_extended(SignedMove::Byte64, constant(0x1ff)),
+            Some((ALL, ALL, -1, -1, ALL, 0))
+        )
+    );
+    assert!(rt;
+        gives(
+            sign_extended(SignedMove::Byte32, constant(0x1ff)),
+            Some((LOW, LOW, 0xffff_ffff, 0xffff_ffff, LOW, 0))
+        )
+    );
+    assert!(rt; gives(sign_extended(SignedMove::Half64, between(1, 2)), Some(ANY)));
+    assert!(rt;
+        gives(
+            sign_extended(SignedMove::Half32, between(1, 2)),
+            Some((0, LOW, 0, 0xffff_ffff, 0, LOW))
+        )
+    );
+}
+
+#[test]
+fn orders(rt: HostRuntime) {
+    assert!(rt;
+        gives(
+            ordered(ByteOrder::ToBig, EndWidth::End16, constant(0x1_0203)),
+            Some((0x302, 0x302, 0x302, 0x302, 0x302, 0))
+        )
+    );
+    assert!(rt;
+        gives(
+            ordered(ByteOrder::ToLittle, EndWidth::End16, between(1, 2)),
+            Some(ANY)
+        )
+    );
+}

@@ -1,0 +1,45 @@
+-- What a built-in class is to its text, and why one can't be had.
+use Rattle.std.specs.Prelude.{◌≡◌, ⊤, ℕ, List, [], ◌∷◌, ◌⊎◌, None, Some, Err, codes}
+use Rattle.std.specs.List.{AllByRecursion}
+use Rattle.bpf_decode.specs.Class.{ClassMethod}
+use Rattle.bpf_asm.specs.Classes.{read_class_text}
+use Rattle.bpf_asm.specs.Fault.{error_text}
+use Rattle.bpf_asm.specs.Grammar.{IsClassText}
+use Rattle.bpf_machine.specs.Safe.{IsSafe}
+use Rattle.verifier.specs.RuleNumber.{refusal_text}
+use Rattle.verifier.specs.Verdict.{class_verdict}
+use Rattle.verifier.specs.declared.refusal.Refusal.{Refusal}
+use Rattle.builtin_classes.specs.declared.failure.BuiltInFailure.{BuiltInFailure}
+use Rattle.builtin_classes.specs.declared.failure.BuiltInFailure.TheVariants.{NoMemory, Text, Verdict}
+
+-- the class is the one that the text is, the verifier accepts it, and each of its methods is safe
+pub record IsLoaded (text : List ℕ) (class : List ClassMethod) : Type 0 where
+  pub read : IsClassText text class
+  pub accepted : class_verdict class ≡ None
+  pub safe : AllByRecursion IsSafe class
+
+-- the classes of two texts, in their order
+pub record AreLoaded (first second : List ℕ) (classes : List (List ClassMethod)) : Type 0 where
+  pub one : List ClassMethod
+  pub other : List ClassMethod
+  pub are : classes ≡ one ∷ other ∷ []
+  pub is_first : IsLoaded first one
+  pub is_second : IsLoaded second other
+
+-- the text is a class's, which the verifier refuses
+pub record IsRefused (text : List ℕ) (refusal : Refusal) : Type 0 where
+  pub class : List ClassMethod
+  pub read : IsClassText text class
+  pub verdict : class_verdict class ≡ Some refusal
+
+-- Why the class of a text can't be had: memory was refused, or the text is no class's, or the class is refused.
+abbrev pub LoadFails : List ℕ → BuiltInFailure → Type 0
+LoadFails text NoMemory = ⊤
+LoadFails text (Text error) = read_class_text text ≡ Err error
+LoadFails text (Verdict refusal) = IsRefused text refusal
+
+-- how it prints
+abbrev pub failure_text : BuiltInFailure → List ℕ
+failure_text NoMemory = codes "no memory"
+failure_text (Text error) = error_text error
+failure_text (Verdict refusal) = refusal_text refusal

@@ -1,0 +1,57 @@
+ghost use Rattle.std.specs.Prelude.{◌⊎◌, IfOk, IfErr};
+ghost use Rattle.builtin_classes.specs.BuiltIn.{IsLoaded, AreLoaded, LoadFails};
+
+use crate::failure::BuiltInFailure;
+use crate::lock::LOCK;
+use crate::obj::OBJ;
+use bpf_asm::{AsmFault, assemble_class};
+use std::alloc::Global;
+use verifier::{Rule, VerifiedClass, verify};
+
+/// The class that a text is, where each of its methods is safe.
+fn load(alloc: Global, text: &str) -> Result<VerifiedClass, BuiltInFailure>
+    ensures class { IfOk result (IsLoaded text.now) }
+    ensures fails { IfErr result (LoadFails text.now) }
+{
+    let image = match assemble_class(alloc, text) {
+        Ok(image) => image,
+        Err(error) => match error.fault {
+            AsmFault::NoMemory => return Err(BuiltInFailure::NoMemory),
+            _ => return Err(BuiltInFailure::Text(error)),
+        },
+    };
+    match verify(alloc, &image) {
+        Ok(class) => Ok(class),
+        Err(refusal) => match refusal.rule {
+            Rule::NoMemory => Err(BuiltInFailure::NoMemory),
+            _ => Err(BuiltInFailure::Verdict(refusal)),
+        },
+    }
+}
+
+/// The class `lock`: its text is read and verified.
+pub fn load_lock(alloc: Global) -> Result<VerifiedClass, BuiltInFailure>
+    ensures class { IfOk result (IsLoaded LOCK.now) }
+    ensures fails { IfErr result (LoadFails LOCK.now) }
+{
+    load(alloc, LOCK)
+}
+
+/// The class `obj`: its text is read and verified.
+pub fn load_obj(alloc: Global) -> Result<VerifiedClass, BuiltInFailure>
+    ensures class { IfOk result (IsLoaded OBJ.now) }
+    ensures fails { IfErr result (LoadFails OBJ.now) }
+{
+    load(alloc, OBJ)
+}
+
+/// Both, by their ids in a table of classes that begins with them: `lock` is 0, `obj` is 1.
+pub fn load_all(alloc: Global) -> Result<Vec<VerifiedClass>, BuiltInFailure>
+    ensures classes { IfOk result (λ classes. AreLoaded LOCK.now OBJ.now classes.items) }
+    ensures fails { IfErr result (λ failure. LoadFails LOCK.now failure ⊎ LoadFails OBJ.now failure) }
+{
+    let mut classes = Vec::new(alloc);
+    classes.push(load_lock(alloc)?)?;
+    classes.push(load_obj(alloc)?)?;
+    Ok(classes)
+}

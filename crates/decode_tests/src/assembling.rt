@@ -1,0 +1,410 @@
+mod class_texts;
+mod limits;
+
+use bpf_asm::{
+    AsmError, AsmFault, assemble, assemble_class, disassemble, disassemble_class, one_class_text,
+    one_reading, one_text,
+};
+use bpf_decode::{
+    Arithmetic, Bits, ByteOrder, Comparison, EndWidth, Insn, Operand, Register, SignedMove,
+    SignedWidth, Width, decode, encode,
+};
+use class_texts::{
+    LOCK, LOCK_PLAIN, ONE_METHOD, ONE_METHOD_PLAIN, OTHERS, TWO_METHODS, TWO_METHODS_PLAIN,
+};
+use std::alloc::{AllocError, Global};
+use std::process::Abort;
+
+fn register(rt: &impl Abort, number: u8) -> Register {
+    Register::new(number).expect(rt, "a register")
+}
+
+/// The text of a row, where `/` stands for the end of a line.
+fn lines_of<R: Abort>(rt: &R, alloc: Global, row: &str) -> String {
+    let mut text = String::new(alloc);
+    let mut parts = row.split('/');
+    text.push_str(parts.next().unwrap_or(""))
+        .expect(rt, "memory");
+    for part in parts {
+        text.push_str("\n").expect(rt, "memory");
+        text.push_str(part).expect(rt, "memory");
+    }
+    text
+}
+
+/// The text is assembled, and the bytes that it gives are read and printed as `canonical`.
+fn reads(rt: &impl Abort, alloc: Global, text: &str, canonical: &str) {
+    let insns = assemble(alloc, text).expect(rt, "instructions");
+    let bytes = encode(alloc, &insns).expect(rt, "memory");
+    let again = decode(alloc, &bytes).expect(rt, "instructions");
+    let printed = disassemble(alloc, &insns).expect(rt, "memory");
+    assert!(rt; again.as_slice() == insns.as_slice() && printed.as_str() == canonical);
+}
+
+/// The text is refused so.
+fn refuses(rt: &impl Abort, alloc: Global, text: &str, line: usize, fault: AsmFault) {
+    let error = assemble(alloc, text).err();
+    assert!(rt; error == Some(AsmError { line, fault }), "{text}");
+}
+
+#[test]
+fn bytes_of_lines(rt: HostRuntime) {
+    let insns = assemble(rt.alloc(), "ldxw r0, [r1+4]\njgt r2, 15, +3\n").expect(
+        &rt,
+        "instructions",
+    );
+    let bytes = encode(rt.alloc(), &insns).expect(&rt, "memory");
+    let wanted: [u8; 16] = [
+        0x61, 0x10, 0x04, 0, 0, 0, 0, 0, 0x25, 0x02, 0x03, 0, 0x0f, 0, 0, 0,
+    ];
+    assert!(rt; bytes.as_slice() == wanted.as_slice());
+}
+
+/// Each word with each of the endings and each of the operands, a line each.
+fn lines(
+    alloc: Global,
+    words: &[&str],
+    endings: &[&str],
+    operands: &[&str],
+) -> Result<String, AllocError> {
+    let mut text = String::new(alloc);
+    for word in words {
+        for ending in endings {
+            for operand in operands {
+                for part in [*word, *ending, *operand] {
+                    text.push_str(part)?;
+                }
+            }
+        }
+    }
+    Ok(text)
+}
+
+/// Words of arithmetic and of conditional jumps, each also with `32`.
+const ARITHMETIC: [&str; 14] = [
+    "add", "sub", "mul", "div", "sdiv", "or", "and", "lsh", "rsh", "mod", "smod", "xor", "mov",
+    "arsh",
+];
+
+const COMPARISONS: [&str; 11] = [
+    "jeq", "jgt", "jge", "jset", "jne", "jsgt", "jsge", "jlt", "jle", "jslt", "jsle",
+];
+
+#[test]
+fn every_form(rt: HostRuntime) {
+    let arithmetic = [" r1, r2\n", " r10, -5\n"];
+    let text = lines(rt.alloc(), &ARITHMETIC, &["", "32"], &arithmetic).expect(&rt, "memory");
+    reads(&rt, rt.alloc(), text.as_str(), text.as_str());
+    reads(&rt, rt.alloc(), OTHERS, OTHERS);
+}
+
+#[test]
+fn every_branch(rt: HostRuntime) {
+    let operands = [" r2, 15, +3\n", " r2, r3, -32768\n"];
+    let text = lines(rt.alloc(), &COMPARISONS, &["", "32"], &operands).expect(&rt, "memory");
+    reads(&rt, rt.alloc(), text.as_str(), text.as_str());
+}
+
+#[test]
+fn instructions_of_lines(rt: HostRuntime) {
+    let r0 = register(&rt, 0);
+    let r1 = register(&rt, 1);
+    let r2 = register(&rt, 2);
+    let insns = assemble(
+        rt.alloc(),
+        "ldxw r0, [r1+4]\njgt r2, 15, +3\nadd32 r0, r2\nlddw r1, 5\nmovsx8_32 r0, r1\nbswap16 r2\nldxsh r0, [r1]\nstxdw [r1-8], r2\nneg r1\ncall local -1\nexit",
+    )
+    .expect(&rt, "instructions");
+    let wanted = [
+        Insn::Load {
+            width: Width::Word,
+            dst: r0,
+            base: r1,
+            offset: 4,
+        },
+        Insn::Branch {
+            bits: Bits::Bits64,
+            comparison: Comparison::Greater,
+            dst: r2,
+            source: Operand::Immediate(15),
+            offset: 3,
+        },
+        Insn::Alu {
+            bits: Bits::Bits32,
+            operation: Arithmetic::Add,
+            dst: r0,
+            source: Operand::Register(r2),
+        },
+        Insn::LoadWide { dst: r1, value: 5 },
+        Insn::MovSigned {
+            extension: SignedMove::Byte32,
+            dst: r0,
+            src: r1,
+        },
+        Insn::End {
+            order: ByteOrder::Swap,
+            width: EndWidth::End16,
+            dst: r2,
+        },
+        Insn::LoadSigned {
+            width: SignedWidth::Half,
+            dst: r0,
+            base: r1,
+            offset: 0,
+        },
+        Insn::Store {
+            width: Width::Double,
+            base: r1,
+            offset: -8,
+            source: Operand::Register(r2),
+        },
+        Insn::Neg {
+            bits: Bits::Bits64,
+            dst: r1,
+        },
+        Insn::CallLocal { distance: -1 },
+        Insn::Exit,
+    ];
+    assert!(rt; insns.as_slice() == wanted.as_slice());
+}
+
+/// Texts and their canonical texts, with `/` for the end of a line.
+const ALSO_READ: &str = "exit => exit/
+/ ; nothing/\t exit \t; the end/ => exit/
+\tadd \t r1\t ,  r2 => add r1, r2/
+add r1,r2 => add r1, r2/
+mov r1, 0xFf => mov r1, 255/
+mov r1, -0x80000000 => mov r1, -2147483648/
+lddw r1, 18446744073709551615 => lddw r1, 0xffffffffffffffff/
+lddw r1, 0xAb => lddw r1, 0x00000000000000ab/
+ldxb r0, [r1] => ldxb r0, [r1+0]/
+ldxb r0, [r1-0x10] => ldxb r0, [r1-16]/
+ja end/end:/exit => ja +0/exit/
+again:/lddw r1, 5/ja again => lddw r1, 0x0000000000000005/ja -3/
+jeq r1, r2, far/lddw r1, 5/far: ; here/exit => jeq r1, r2, +2/lddw r1, 0x0000000000000005/exit/
+r1:/call  local\tr1 => call local -1/
+ja32 +0x10 => ja32 +16/
+";
+
+#[test]
+fn also_read(rt: HostRuntime) {
+    let mut count = 0usize;
+    for row in ALSO_READ.lines() {
+        let (text, canonical) = row.split_once(" => ").expect(&rt, "a row");
+        let (text, canonical) = (
+            lines_of(&rt, rt.alloc(), text),
+            lines_of(&rt, rt.alloc(), canonical),
+        );
+        reads(&rt, rt.alloc(), text.as_str(), canonical.as_str());
+        count = count.saturating_add(1);
+    }
+    assert!(rt; count == 15);
+}
+
+/// The line, the fault and the text, with `/` for the end of a line.
+const REFUSED: &str = "1 Range 
+1 Range /; nothing
+1 Range a:/
+1 Word .method f r 0 0/exit
+1 Word .method
+3 Word /exit/foo r1
+1 Word foo r11/mov r11
+1 Operand mov r0
+1 Operand mov r0, 1, 2
+1 Operand exit r0
+1 Word exit\rexit
+1 Operand mov r0, +1
+1 Operand mov r0, 01
+1 Operand mov r0, -0
+1 Operand mov r0, 0x
+1 Operand mov r0, 0x00000000000000000
+1 Operand mov r01, 1
+1 Operand mov r11, x
+1 Operand ja 3
+1 Operand ldxb r0, [r1 +4]
+1 Operand ldxb r0, [r1+4
+1 Operand stb [r1+0], r2
+1 Operand stxb [r1+0], 2
+1 Operand call local
+1 Operand call r1
+1 Range mov r11, 0
+1 Range mov r0, 2147483648
+1 Range mov r0, 0xffffffff
+1 Range mov r0, -2147483649
+1 Range mov r0, 99999999999999999999999
+1 Range ldxb r0, [r1+32768]
+1 Range ldxb r0, [r1-32769]
+1 Range lddw r1, 18446744073709551616
+1 Range lddw r1, -1
+1 Range call 4294967296
+1 Range call -1
+1 Range ja32 +2147483648
+1 Range ja +32768
+2 Label exit/jeq r0, 0, nowhere
+3 Label a:/exit/a:
+1 Range jeq r11, 0, nowhere
+2 Word exit/exit: exit
+2 Operand mov r0, 1/mov r0/foo
+";
+
+/// A fault, its line, and the text that has it.
+fn row_of<R: Abort>(rt: &R, alloc: Global, row: &str) -> (AsmError, String) {
+    let (line, rest) = row.split_once(" ").expect(rt, "a line");
+    let (fault, text) = rest.split_once(" ").expect(rt, "a fault");
+    let fault = match fault {
+        "Word" => AsmFault::Word,
+        "Operand" => AsmFault::Operand,
+        "Range" => AsmFault::Range,
+        "Label" => AsmFault::Label,
+        _ => AsmFault::NoMemory,
+    };
+    let line = line.parse::<usize>().expect(rt, "a number");
+    (AsmError { line, fault }, lines_of(rt, alloc, text))
+}
+
+#[test]
+fn refused(rt: HostRuntime) {
+    let mut count = 0usize;
+    for row in REFUSED.lines() {
+        let (error, text) = row_of(&rt, rt.alloc(), row);
+        assert!(rt;
+            assemble(rt.alloc(), text.as_str()).err() == Some(error),
+            "{row}"
+        );
+        count = count.saturating_add(1);
+    }
+    assert!(rt; count == 43);
+}
+
+#[test]
+fn slots(rt: HostRuntime) {
+    let wide = "lddw r1, 5\n"
+        .repeat(rt.alloc(), 2048)
+        .expect(&rt, "memory");
+    let insns = assemble(rt.alloc(), wide.as_str()).expect(&rt, "instructions");
+    assert!(rt; insns.len() == 2048);
+}
+
+#[test]
+fn a_slot_too_many(rt: HostRuntime) {
+    let mut text = "lddw r1, 5\n"
+        .repeat(rt.alloc(), 2048)
+        .expect(&rt, "memory");
+    text.push_str("exit\n").expect(&rt, "memory");
+    refuses(&rt, rt.alloc(), text.as_str(), 2049, AsmFault::Range);
+}
+
+/// The laws are called: they do nothing.
+#[test]
+fn laws(_rt: HostRuntime) {
+    one_text();
+    one_class_text();
+    one_reading();
+}
+
+#[test]
+fn prints(rt: HostRuntime) {
+    let line = 4;
+    let fault = AsmFault::Operand;
+    let text = AsmError { line, fault }
+        .to_string(rt.alloc())
+        .expect(&rt, "memory");
+    assert!(rt; text.as_str() == "line 4: 2 Operand");
+    assert!(rt; AsmFault::NoMemory.number() == 5);
+}
+
+#[test]
+fn prints_instructions(rt: HostRuntime) {
+    let mov = Insn::Mov {
+        bits: Bits::Bits64,
+        dst: register(&rt, 0),
+        source: Operand::Immediate(0),
+    };
+    let text = disassemble(rt.alloc(), &[mov, Insn::Exit]).expect(&rt, "memory");
+    assert!(rt; text.as_str() == "mov r0, 0\nexit\n");
+}
+
+/// The class's text is read, and printed as `canonical`.
+fn reads_class<R: Abort>(rt: &R, alloc: Global, text: &str, canonical: &str) {
+    let class = assemble_class(alloc, text).expect(rt, "a class");
+    let printed = disassemble_class(alloc, &class).expect(rt, "memory");
+    assert!(rt; printed.as_str() == canonical, "{text}");
+}
+
+#[test]
+fn classes(rt: HostRuntime) {
+    reads_class(&rt, rt.alloc(), LOCK, LOCK_PLAIN);
+    reads_class(&rt, rt.alloc(), LOCK_PLAIN, LOCK_PLAIN);
+    reads_class(&rt, rt.alloc(), ONE_METHOD, ONE_METHOD_PLAIN);
+    reads_class(&rt, rt.alloc(), TWO_METHODS, TWO_METHODS_PLAIN);
+}
+
+/// The same of classes.
+const REFUSED_CLASSES: &str = "1 Range 
+1 Range /.method f r 0 0
+1 Word a:
+1 Operand .method f r 0
+1 Range .method f r 0 4097
+2 Word /exit
+2 Word /a:/.method f r 0 0/exit
+2 Word .method f r 0 0/foo r1/exit
+2 Operand .method f r 0 0/mov r0/exit
+2 Range .method f r 0 0/mov r11, 0/exit
+2 Label .method f r 0 0/jeq r0, 0, nowhere/exit
+1 Operand .method F r 0 0/exit
+1 Operand .method f x 0 0/exit
+1 Operand .method f r 0 0 0/exit
+1 Range .method f r 0 4097/exit
+1 Range .method f r -1 0/exit
+1 Operand .method f r 4097 x/exit
+3 Range .method f r 0 0/exit/.method g r 0 0/; none
+1 Range .method f r 0 0/.method g r 0 0/exit
+3 Label .method g r 0 0/exit/.method f r 0 0/exit
+3 Label .method f r 0 0/exit/.method f r 0 0/exit
+5 Label .method f r 0 0/a:/exit/.method g r 0 0/ja a
+";
+
+#[test]
+fn refused_classes(rt: HostRuntime) {
+    let mut count = 0usize;
+    for row in REFUSED_CLASSES.lines() {
+        let (error, text) = row_of(&rt, rt.alloc(), row);
+        assert!(rt;
+            assemble_class(rt.alloc(), text.as_str()).err() == Some(error),
+            "{row}"
+        );
+        count = count.saturating_add(1);
+    }
+    assert!(rt; count == 22);
+}
+
+/// Right, or out of memory at line 0: what a run sees in which one allocation fails.
+#[test]
+fn memory(rt: HostRuntime) {
+    let text = ".method f r 0 0\na:\nmov r0, 1\njeq r0, r1, a\nexit\n";
+    let found = match assemble_class(rt.alloc(), text) {
+        Ok(class) => disassemble_class(rt.alloc(), &class),
+        Err(error) => Err(error),
+    };
+    let printed = ".method f r 0 0\nmov r0, 1\njeq r0, r1, -2\nexit\n";
+    assert!(rt; is_or_lacks(found, printed));
+}
+
+/// Whether that text was found, or memory ran out at line 0.
+fn is_or_lacks(found: Result<String, AsmError>, text: &str) -> bool {
+    let fault = AsmFault::NoMemory;
+    match found {
+        Ok(found) => found.as_str() == text,
+        Err(error) => error == AsmError { line: 0, fault },
+    }
+}
+
+#[test]
+fn memory_of_one_method(rt: HostRuntime) {
+    let fault = AsmFault::NoMemory;
+    let right = match assemble(rt.alloc(), "ja a\nexit\na:\nexit") {
+        Ok(insns) => insns.len() == 3,
+        Err(error) => error == AsmError { line: 0, fault },
+    };
+    assert!(rt; right);
+}

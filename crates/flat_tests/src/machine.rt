@@ -1,0 +1,12 @@
+mod branches;
+mod helpers;
+mod lines;
+mod memory;
+mod objects;
+mod operations;
+mod parts;
+mod programs;
+mod rows_32;
+mod rows_64;
+mod runs;
+mod told;

@@ -1,0 +1,85 @@
+use super::lines::{capacities, layout};
+use bpf_decode::Method;
+use bpf_machine::{
+    Argument, Caps, Region, addresses, chains, decoded, is_layout, jump_target, layouts,
+    limits_are_kept, other_runs, outcomes, signature, simulation,
+};
+use helpers::effects_are_within_limits;
+use std::test::Fail;
+
+#[test]
+fn knows_regions(rt: HostRuntime) {
+    let caps = capacities(3, 8, false);
+    assert_eq!(rt; caps.size(Region::Input), 3);
+    assert_eq!(rt; caps.size(Region::Output), 8);
+    assert_eq!(rt; caps.size(Region::Stack), 512);
+    assert!(rt; !Region::Input.is_writable());
+    assert!(rt; Region::Output.is_writable());
+    assert!(rt; Region::Stack.is_writable());
+}
+
+#[test]
+fn knows_layouts(rt: HostRuntime) {
+    let caps = capacities(3, 8, false);
+    assert_eq!(rt; layout(0, 3, 11).base(Region::Output), 3);
+    assert!(rt; is_layout(&caps, &layout(0, 3, 11)));
+    assert!(rt; !is_layout(&caps, &layout(0, 2, 11)));
+    assert!(rt; !is_layout(&caps, &layout(0, 3, 10)));
+    assert!(rt; !is_layout(&caps, &layout(600, 3, 100)));
+    assert!(rt; is_layout(&caps, &layout(0, 3, u64::MAX - 512)));
+    assert!(rt; !is_layout(&caps, &layout(0, 3, u64::MAX - 511)));
+    // regions of no bytes lie anywhere
+    assert!(rt; is_layout(&capacities(0, 0, false), &layout(50, 50, 0)));
+}
+
+#[test]
+fn knows_helpers(rt: HostRuntime) -> Result<(), Fail> {
+    let read = signature(2).ok_or("no helper")?;
+    assert!(rt; !read.writes);
+    assert_eq!(rt;
+        read.arguments,
+        [Argument::Number, Argument::Writable].as_slice()
+    );
+    let write = signature(3).ok_or("no helper")?;
+    assert!(rt; write.writes);
+    assert_eq!(rt;
+        write.arguments,
+        [Argument::Number, Argument::Readable].as_slice()
+    );
+    let out_len = signature(13).ok_or("no helper")?;
+    assert!(rt; !out_len.writes);
+    assert_eq!(rt; out_len.arguments, [Argument::OutputLength].as_slice());
+    assert!(rt; signature(0).is_none() && signature(16).is_none());
+    Ok(())
+}
+
+#[test]
+fn knows_jump_targets(rt: HostRuntime) {
+    assert_eq!(rt; jump_target(3, 0), 4);
+    assert_eq!(rt; jump_target(3, -4), 0);
+    assert_eq!(rt; jump_target(0, 2147483647), 2_147_483_648);
+}
+
+#[test]
+fn knows_what_a_method_declares(rt: HostRuntime) -> Result<(), Fail> {
+    for (flags, writes) in [(1, false), (2, true), (3, true)] {
+        let name = String::from_str(rt.alloc(), "m")?;
+        let method = Method::new(name, flags, 5, 6, Vec::new(rt.alloc()));
+        assert_eq!(rt; Caps::of(&method), capacities(5, 6, writes));
+    }
+    Ok(())
+}
+
+// The laws do nothing: they were proved when the crate was checked.
+#[test]
+fn has_laws() {
+    simulation();
+    chains();
+    other_runs();
+    decoded();
+    layouts();
+    outcomes();
+    addresses();
+    limits_are_kept();
+    effects_are_within_limits();
+}

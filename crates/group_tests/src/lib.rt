@@ -1,0 +1,16 @@
+//! Tests alone, of groups: which nodes act, the log and its requests, the built-in classes through a group, the world's
+//! types, requests at their places, nodes and their monitor.
+#![tactic(auto)]
+
+#[cfg(test)]
+mod builtin;
+#[cfg(test)]
+mod log;
+#[cfg(test)]
+mod peers;
+#[cfg(test)]
+mod placing;
+#[cfg(test)]
+mod replicating;
+#[cfg(test)]
+mod world;

@@ -1,0 +1,165 @@
+mod added;
+mod adopt;
+mod append;
+mod full;
+mod replay;
+mod undone;
+
+use bpf_decode::{ClassImage, Method, decode};
+use interp::ClassTable;
+use object_store::{Object, ObjectName};
+use pg_log::{
+    Classes, ClientId, Group, LogError, Request, RequestNumber, adopting, classes_added, folds,
+    legal_lists, objects_within_limits, pairs, refusals, replies, undoing,
+};
+use std::alloc::Global;
+use std::process::Abort;
+use std::test::Fail;
+use verifier::{VerifiedClass, verify};
+
+/// `mov r0, 0`, `exit`.
+const SUCCEED: [[u8; 8]; 2] = [[0xb7, 0, 0, 0, 0, 0, 0, 0], [0x95, 0, 0, 0, 0, 0, 0, 0]];
+
+/// `mov r2, r1`, `mov r1, 0`, `mov r3, 3`, `call 3`, `mov r0, -5`, `exit`: writes three bytes of the input, and fails.
+const WRITE_THEN_FAIL: [[u8; 8]; 6] = [
+    [0xbf, 0x12, 0, 0, 0, 0, 0, 0],
+    [0xb7, 0x01, 0, 0, 0, 0, 0, 0],
+    [0xb7, 0x03, 0, 0, 3, 0, 0, 0],
+    [0x85, 0, 0, 0, 3, 0, 0, 0],
+    [0xb7, 0, 0, 0, 0xfb, 0xff, 0xff, 0xff],
+    [0x95, 0, 0, 0, 0, 0, 0, 0],
+];
+
+/// `mov r2, r1`, `mov r1, 0`, `mov r3, 3`, `call 3`, `exit`: writes three bytes of the input, and gives their count.
+const WRITE: [[u8; 8]; 5] = [
+    [0xbf, 0x12, 0, 0, 0, 0, 0, 0],
+    [0xb7, 0x01, 0, 0, 0, 0, 0, 0],
+    [0xb7, 0x03, 0, 0, 3, 0, 0, 0],
+    [0x85, 0, 0, 0, 3, 0, 0, 0],
+    [0x95, 0, 0, 0, 0, 0, 0, 0],
+];
+
+/// Client and number of a logged request, its place and its code.
+type Logged = (u32, u32, usize, i64);
+
+/// A class of one method `f`.
+fn class(alloc: Global, code: &[[u8; 8]], flags: u8, in_cap: u16) -> Result<VerifiedClass, Fail> {
+    let mut bytes = Vec::new(alloc);
+    for slot in code {
+        bytes.extend_from_slice(slot)?;
+    }
+    let name = String::from_str(alloc, "f")?;
+    let mut methods = Vec::new(alloc);
+    methods.push(Method::new(name, flags, in_cap, 0, decode(alloc, &bytes)?))?;
+    Ok(verify(alloc, &ClassImage::new(methods)?)?)
+}
+
+/// Class 0 succeeds, class 1 writes and fails, class 2 writes.
+fn table(alloc: Global) -> Result<ClassTable, Fail> {
+    let mut table = ClassTable::new(alloc);
+    table.add(class(alloc, &SUCCEED, 1, 3)?)?;
+    table.add(class(alloc, &WRITE_THEN_FAIL, 2, 3)?)?;
+    table.add(class(alloc, &WRITE, 2, 3)?)?;
+    Ok(table)
+}
+
+fn client<R: Abort>(rt: &R, number: u32) -> ClientId {
+    ClientId::new(number).expect(rt, "a client")
+}
+
+fn number<R: Abort>(rt: &R, value: u32) -> RequestNumber {
+    RequestNumber::new(value).expect(rt, "a number")
+}
+
+fn name<R: Abort>(rt: &R, alloc: Global) -> ObjectName {
+    ObjectName::new(alloc, "object").expect(rt, "memory")
+}
+
+/// A request of a client for the object `object`.
+fn request<R: Abort>(
+    rt: &R,
+    alloc: Global,
+    (who, value): (u32, u32),
+    class: usize,
+    method: &str,
+    input: &[u8],
+) -> Request {
+    let object = name(rt, alloc);
+    let method = String::from_str(alloc, method).expect(rt, "memory");
+    let input = Vec::from_slice(alloc, input).expect(rt, "memory");
+    Request::new(
+        client(rt, who),
+        number(rt, value),
+        object,
+        class,
+        method,
+        input,
+    )
+}
+
+/// Whether the object has those bytes, at most eight, or is absent.
+fn is_object(object: Option<&Object>, want: Option<&str>) -> bool {
+    match object {
+        None => want.is_none(),
+        Some(object) => want.is_some_and(|text| has_data(object, text.as_bytes())),
+    }
+}
+
+/// Whether the object's data is those bytes, at most eight.
+fn has_data(object: &Object, want: &[u8]) -> bool {
+    let mut buffer = [0; 9];
+    let count = object.read(0, &mut buffer);
+    buffer.get(..count) == Some(want)
+}
+
+/// The request of that client and number has that place and code, and no output.
+fn see<C: Classes, R: Abort>(rt: &R, group: &Group<C>, (who, value, place, code): Logged) {
+    let (found, answered, output) = group
+        .reply_of(client(rt, who), number(rt, value))
+        .expect(rt, "a reply");
+    assert!(rt; found == place && answered == code && output.is_empty());
+    let (answered, _) = group.reply_at(place).expect(rt, "a reply");
+    assert!(rt; answered == code);
+}
+
+#[test]
+fn numbers_begin_at_one(rt: HostRuntime) {
+    assert!(rt; ClientId::new(0).is_none() && RequestNumber::new(0).is_none());
+    assert!(rt; client(&rt, u32::MAX).get() == 4_294_967_295 && number(&rt, 1).get() == 1);
+}
+
+#[test]
+fn parts_of_a_request(rt: HostRuntime) {
+    let one = request(&rt, rt.alloc(), (3, 4), 5, "f", b"ab");
+    assert!(rt; one.client().get() == 3 && one.number().get() == 4 && one.class() == 5);
+    assert!(rt; one.object().text() == "object" && one.method() == "f");
+    assert!(rt; one.input() == b"ab".as_slice());
+}
+
+#[test]
+fn equal_requests(rt: HostRuntime) {
+    let one = request(&rt, rt.alloc(), (3, 4), 5, "f", b"ab");
+    let copy = one.copy(rt.alloc()).expect(&rt, "memory");
+    let other = request(&rt, rt.alloc(), (3, 4), 5, "f", b"ac");
+    assert!(rt; one.is(&copy) && !one.is(&other));
+}
+
+#[test]
+fn printed_refusal(rt: HostRuntime) {
+    let text = format!(in rt.alloc(); "{}", LogError::StaleNumber).expect(&rt, "memory");
+    assert!(rt; text.as_str() == "2 StaleNumber");
+}
+
+#[test]
+fn laws_do_nothing(rt: HostRuntime) {
+    legal_lists();
+    folds();
+    replies();
+    pairs();
+    undoing();
+    classes_added();
+    adopting();
+    refusals();
+    objects_within_limits();
+    assert!(rt; LogError::InputTooLong.number() == 6 && LogError::NoClass.name() == "NoClass");
+}

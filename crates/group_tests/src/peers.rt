@@ -1,0 +1,12 @@
+mod driver;
+mod lines;
+mod monitor;
+mod runs;
+mod table;
+
+use peering::agreement;
+
+#[test]
+fn the_theorem_is_handed_out(_rt: HostRuntime) {
+    agreement();
+}

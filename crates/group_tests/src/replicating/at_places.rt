@@ -1,0 +1,58 @@
+use super::{Pair, request, table};
+use interp::ClassTable;
+use pg_log::{Classes, Group, GroupWork, LogError, with_group};
+use replication::{Rep, append_at};
+use std::alloc::Global;
+use std::process::Abort;
+use std::test::Fail;
+
+/// A place, the request that comes for it, and what is answered.
+type Row = (usize, Pair, Result<Option<usize>, LogError>);
+
+/// What comes to one log, in this order: a place past the end, the end, an earlier one, and at the end a logged pair, a
+/// lower number, and a next one.
+const ROWS: [Row; 7] = [
+    (1, (1, 2), Ok(None)),
+    (0, (1, 1), Ok(Some(1))),
+    (0, (1, 1), Ok(Some(1))),
+    (1, (1, 2), Ok(Some(2))),
+    (2, (1, 2), Err(LogError::StaleNumber)),
+    (2, (1, 1), Err(LogError::StaleNumber)),
+    (0, (2, 1), Ok(Some(2))),
+];
+
+#[derive(Drop)]
+struct Places<'a, R> {
+    rt: &'a R,
+    alloc: Global,
+}
+
+impl<R: Abort> GroupWork for Places<'_, R> {
+    type Output = ();
+
+    ghost gives = { λ _ _ _ _. Unit {0} };
+
+    fn work<C: Classes>(self, table: &ClassTable, mut group: Group<C>) {
+        for (place, pair, answer) in ROWS {
+            let rep = Rep {
+                epoch: 1,
+                place,
+                request: request(self.rt, self.alloc, pair),
+            };
+            let found = append_at(&mut group, table, &rep);
+            assert!(self.rt; found == answer);
+        }
+        assert!(self.rt; group.len() == 2);
+    }
+}
+
+#[test]
+fn requests_at_their_places(rt: HostRuntime) -> Result<(), Fail> {
+    let table = table(rt.alloc())?;
+    let work = Places {
+        rt: &rt,
+        alloc: rt.alloc(),
+    };
+    with_group(rt.alloc(), &table, work);
+    Ok(())
+}

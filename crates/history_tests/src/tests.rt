@@ -1,0 +1,51 @@
+//! Histories on three, four and five nodes.
+mod account;
+mod dice;
+mod network;
+mod reached;
+mod story;
+mod witness;
+
+use reached::Reached;
+use std::test::Fail;
+use story::go_through;
+
+/// How many events a history has.
+const EVENTS: usize = 2_000;
+
+/// What each history reaches, at least.
+const WANTED: Reached = Reached {
+    intervals: 6,
+    committed: 50,
+    answered_again: 15,
+    cut: 2,
+    stopped_primaries: 5,
+    sent_again: 40,
+    unpacked: 20,
+    lost: 20,
+    repeated: 50,
+    overtaken: 20,
+    stale: 10,
+    kept_maps: 5,
+};
+
+#[test]
+fn three_nodes(rt: HostRuntime) -> Result<(), Fail> {
+    let reached = go_through(&rt, rt.alloc(), 3, EVENTS, &[4])?;
+    assert!(rt; reached.covers(&WANTED), "{reached:?}");
+    Ok(())
+}
+
+#[test]
+fn four_nodes(rt: HostRuntime) -> Result<(), Fail> {
+    let reached = go_through(&rt, rt.alloc(), 4, EVENTS, &[2])?;
+    assert!(rt; reached.covers(&WANTED), "{reached:?}");
+    Ok(())
+}
+
+#[test]
+fn five_nodes(rt: HostRuntime) -> Result<(), Fail> {
+    let reached = go_through(&rt, rt.alloc(), 5, EVENTS, &[3])?;
+    assert!(rt; reached.covers(&WANTED), "{reached:?}");
+    Ok(())
+}

@@ -1,0 +1,400 @@
+//! Nodes, their monitor, and all messages that were ever sent.
+ghost use Rattle.std.specs.Prelude.{◌≡◌};
+
+use crate::tests::account::{Asked, request};
+use crate::tests::reached::{Reached, count};
+use group_world::{
+    Answer, Epoch, Event, GroupMap, HandleError, Kind, Message, Packet, Party, Requests, Status,
+};
+use interp::ClassTable;
+use peering::{GroupNode, Monitor};
+use pg_log::{Classes, Request};
+use placement::NodeId;
+use replication::{PackedLog, pack_log, unpack_log};
+use std::alloc::Global;
+use std::process::Abort;
+
+/// A message that was sent.
+#[derive(Drop)]
+pub(super) struct Sent {
+    pub packet: Packet,
+    /// The list of a Log or an Install as it travels: without what the receiver had committed when it was sent.
+    packed: Option<PackedLog>,
+    delivered: bool,
+}
+
+/// The nodes 0, 1, .., the monitor, its maps, and the messages, of which some are on their way.
+#[derive(Drop)]
+pub(super) struct Network<C: Classes> {
+    alloc: Global,
+    pub nodes: Vec<GroupNode<C>>,
+    pub stopped: Vec<bool>,
+    monitor: Monitor,
+    pub maps: Vec<GroupMap>,
+    pub sent: Vec<Sent>,
+    pub on_way: Vec<usize>,
+    pub reached: Reached,
+}
+
+impl<C: Classes> Network<C> {
+    /// So many nodes, before the first map.
+    pub(super) fn new<R: Abort>(rt: &R, alloc: Global, count: usize) -> Network<C> {
+        let mut nodes = Vec::new(alloc);
+        let mut stopped = Vec::new(alloc);
+        for number in 0..count {
+            let node = GroupNode::new(alloc, NodeId::new(number as u64));
+            nodes.push(node).expect(rt, "memory");
+            stopped.push(false).expect(rt, "memory");
+        }
+        Network {
+            alloc,
+            nodes,
+            stopped,
+            monitor: Monitor::new(alloc),
+            maps: Vec::new(alloc),
+            sent: Vec::new(alloc),
+            on_way: Vec::new(alloc),
+            reached: Reached::nothing(),
+        }
+    }
+
+    pub(super) fn is_stopped(&self, at: usize) -> bool {
+        self.stopped.get(at).copied().unwrap_or(true)
+    }
+
+    /// How many nodes run.
+    pub(super) fn running(&self) -> usize {
+        let mut running = 0;
+        for stopped in &self.stopped {
+            if !*stopped {
+                count(&mut running);
+            }
+        }
+        running
+    }
+
+    /// All that is on its way is lost.
+    pub(super) fn lose_all(&mut self) {
+        let lost = self.on_way.len();
+        self.reached.lost = self.reached.lost.saturating_add(lost);
+        self.on_way.clear();
+    }
+
+    /// The primary of the newest map, or node 0 before the first.
+    pub(super) fn primary(&self) -> usize {
+        match self.maps.last() {
+            Some(map) => first(map.acting()),
+            None => 0,
+        }
+    }
+
+    /// How much the receiver has committed.
+    fn committed_at(&self, receiver: Party) -> usize {
+        match receiver {
+            Party::Node(node) => match self.nodes.get(node.get() as usize) {
+                Some(node) => node.committed(),
+                None => 0,
+            },
+            _ => 0,
+        }
+    }
+
+    /// A message is sent, and is on its way.
+    fn send<R: Abort>(&mut self, rt: &R, packet: Packet) {
+        let told = self.committed_at(packet.receiver);
+        let packed = packed(rt, self.alloc, &packet.message.kind, told);
+        self.on_way.push(self.sent.len()).expect(rt, "memory");
+        let sent = Sent {
+            packet,
+            packed,
+            delivered: false,
+        };
+        self.sent.push(sent).expect(rt, "memory");
+    }
+
+    /// A node takes an event, if it isn't stopped. It says whether the node refused it.
+    fn take<R: Abort>(
+        &mut self,
+        rt: &R,
+        table: &ClassTable,
+        at: usize,
+        event: Event,
+    ) -> Option<HandleError>
+        requires { table.now ≡ C.classes }
+    {
+        if self.is_stopped(at) {
+            return None;
+        }
+        let node = self.nodes.get_mut(at).expect(rt, "a node");
+        let _ = node.group().entries();
+        match node.handle(table, event) {
+            Ok(sent) => {
+                for packet in sent.into_items() {
+                    self.send(rt, packet);
+                }
+                None
+            }
+            Err(error) => Some(error),
+        }
+    }
+
+    /// A client asks a node.
+    pub(super) fn ask<R: Abort>(&mut self, rt: &R, table: &ClassTable, at: usize, asked: Asked)
+        requires { table.now ≡ C.classes }
+    {
+        let before = (self.length(at), self.sent.len());
+        let event = Event::Request(request(rt, self.alloc, asked));
+        match self.take(rt, table, at, event) {
+            None => {
+                if self.length(at) == before.0 && self.sent.len() > before.1 {
+                    count(&mut self.reached.answered_again);
+                }
+            }
+            Some(HandleError::StaleNumber) => count(&mut self.reached.stale),
+            Some(_) => {}
+        }
+    }
+
+    fn length(&self, at: usize) -> usize {
+        match self.nodes.get(at) {
+            Some(node) => node.len(),
+            None => 0,
+        }
+    }
+
+    /// The monitor makes a map, or refuses.
+    pub(super) fn make_map<R: Abort>(&mut self, rt: &R, acting: &[NodeId]) {
+        if let Ok(map) = self.monitor.new_map(acting) {
+            if map.epoch() != map.interval() {
+                count(&mut self.reached.kept_maps);
+            }
+            self.maps.push(map).expect(rt, "memory");
+        }
+    }
+
+    /// A node sees a map, by its place among all.
+    pub(super) fn see<R: Abort>(&mut self, rt: &R, table: &ClassTable, at: usize, place: usize)
+        requires { table.now ≡ C.classes }
+    {
+        let Some(map) = self.maps.get(place) else {
+            return;
+        };
+        let map = map.copy(self.alloc).expect(rt, "memory");
+        let _ = self.take(rt, table, at, Event::Map(map));
+    }
+
+    /// A message is delivered to its receiver.
+    pub(super) fn deliver<R: Abort>(&mut self, rt: &R, table: &ClassTable, number: usize)
+        requires { table.now ≡ C.classes }
+    {
+        let sent = self.sent.get_mut(number).expect(rt, "a message");
+        if sent.delivered {
+            count(&mut self.reached.repeated);
+        }
+        sent.delivered = true;
+        let (sender, receiver) = (sent.packet.message.sender, sent.packet.receiver);
+        match receiver {
+            Party::Node(node) => {
+                let node: NodeId = node;
+                self.arrive(rt, table, node.get() as usize, number);
+            }
+            Party::Monitor => self.tell_monitor(rt, number, sender),
+            Party::Client(_) => {}
+        }
+    }
+
+    /// A message comes to a node. A list is unpacked first; one that can't be is lost.
+    fn arrive<R: Abort>(&mut self, rt: &R, table: &ClassTable, at: usize, number: usize)
+        requires { table.now ≡ C.classes }
+    {
+        if self.is_stopped(at) {
+            return;
+        }
+        let node = self.nodes.get(at).expect(rt, "a node");
+        let sent = self.sent.get(number).expect(rt, "a message");
+        let Some(kind) = arrived(rt, self.alloc, node, sent) else {
+            count(&mut self.reached.lost);
+            return;
+        };
+        if sent.was_packed() {
+            count(&mut self.reached.unpacked);
+        }
+        let message = Message {
+            sender: sent.packet.message.sender,
+            kind,
+        };
+        let _ = self.take(rt, table, at, Event::Message(message));
+    }
+
+    /// The monitor is asked to activate an interval.
+    fn tell_monitor<R: Abort>(&mut self, rt: &R, number: usize, asker: Party) {
+        let sent = self.sent.get(number).expect(rt, "a message");
+        let Kind::AskActivate(interval) = sent.packet.message.kind else {
+            return;
+        };
+        let interval: Epoch = interval;
+        if self.monitor.activate(interval).is_ok() {
+            let message = Message {
+                sender: Party::Monitor,
+                kind: Kind::Activated(interval),
+            };
+            self.send(
+                rt,
+                Packet {
+                    receiver: asker,
+                    message,
+                },
+            );
+        }
+    }
+
+    /// A node sends again what is unanswered: each message is one that was sent before.
+    pub(super) fn send_again<R: Abort>(&mut self, rt: &R, at: usize) {
+        if self.is_stopped(at) {
+            return;
+        }
+        let node = self.nodes.get(at).expect(rt, "a node");
+        let again = node.resend().expect(rt, "memory");
+        for packet in again.items() {
+            let number = self.number_of(packet).expect(rt, "one that was sent");
+            self.on_way.push(number).expect(rt, "memory");
+            count(&mut self.reached.sent_again);
+        }
+    }
+
+    /// The least number of a message that is equal.
+    fn number_of(&self, packet: &Packet) -> Option<usize> {
+        for number in 0..self.sent.len() {
+            if is_same(&self.sent[number].packet, packet) {
+                return Some(number);
+            }
+        }
+        None
+    }
+}
+
+impl Sent {
+    /// Whether its list travels without a beginning.
+    fn was_packed(&self) -> bool {
+        match &self.packed {
+            Some(packed) => packed.common() > 0,
+            None => false,
+        }
+    }
+}
+
+fn first(nodes: &[NodeId]) -> usize {
+    match nodes {
+        [node, ..] => node.get() as usize,
+        [] => 0,
+    }
+}
+
+/// The list of a Log or an Install, packed.
+fn packed<R: Abort>(rt: &R, alloc: Global, kind: &Kind, told: usize) -> Option<PackedLog> {
+    match kind {
+        Kind::Log(_, list) => Some(pack_log(alloc, list.items(), told).expect(rt, "memory")),
+        Kind::Install(_, list) => Some(pack_log(alloc, list.items(), told).expect(rt, "memory")),
+        _ => None,
+    }
+}
+
+/// What comes of a message to a node: where it has a list, that is unpacked from the node's own.
+fn arrived<C: Classes, R: Abort>(
+    rt: &R,
+    alloc: Global,
+    node: &GroupNode<C>,
+    sent: &Sent,
+) -> Option<Kind> {
+    let Some(packed) = &sent.packed else {
+        return Some(copy(rt, alloc, &sent.packet.message.kind));
+    };
+    let mut own = Vec::new(alloc);
+    for entry in node.group().entries() {
+        let request = entry.request.copy(alloc).expect(rt, "memory");
+        own.push(request).expect(rt, "memory");
+    }
+    let Ok(list) = unpack_log(alloc, &own, packed) else {
+        return None;
+    };
+    match &sent.packet.message.kind {
+        Kind::Log(interval, whole) => {
+            let wanted = node.epoch() == *interval && node.status() == Status::Asking;
+            assert!(rt; !wanted || are_same(&list, whole.items()));
+            Some(Kind::Log(*interval, Requests::new(list)))
+        }
+        Kind::Install(map, whole) => {
+            let wanted = node.epoch().get() < map.interval().get()
+                || node.epoch() == map.interval() && node.status() == Status::Waiting;
+            assert!(rt; !wanted || are_same(&list, whole.items()));
+            let map = map.copy(alloc).expect(rt, "memory");
+            Some(Kind::Install(map, Requests::new(list)))
+        }
+        _ => None,
+    }
+}
+
+/// An equal kind of message; of one without a list.
+fn copy<R: Abort>(rt: &R, alloc: Global, kind: &Kind) -> Kind {
+    match kind {
+        Kind::Query(map) => Kind::Query(map.copy(alloc).expect(rt, "memory")),
+        Kind::Rep(interval, place, request) => {
+            Kind::Rep(*interval, *place, request.copy(alloc).expect(rt, "memory"))
+        }
+        Kind::Installed(interval) => Kind::Installed(*interval),
+        Kind::AskActivate(interval) => Kind::AskActivate(*interval),
+        Kind::Activated(interval) => Kind::Activated(*interval),
+        Kind::Ack(interval, length) => Kind::Ack(*interval, *length),
+        Kind::Log(interval, _) => Kind::Log(*interval, Requests::new(Vec::new(alloc))),
+        Kind::Install(map, _) => {
+            let map = map.copy(alloc).expect(rt, "memory");
+            Kind::Install(map, Requests::new(Vec::new(alloc)))
+        }
+        Kind::Reply(client, number, place, answer) => {
+            let answer = Answer::new(answer.code(), Vec::new(alloc));
+            Kind::Reply(*client, *number, *place, answer)
+        }
+    }
+}
+
+/// Whether the lists have equal requests.
+fn are_same(list: &[Request], other: &[Request]) -> bool {
+    if list.len() != other.len() {
+        return false;
+    }
+    for place in 0..list.len() {
+        if !list[place].is(&other[place]) {
+            return false;
+        }
+    }
+    true
+}
+
+/// Whether the messages are equal; of those that a node sends again.
+fn is_same(packet: &Packet, other: &Packet) -> bool {
+    let parties = packet.receiver == other.receiver
+        && packet.message.sender == other.message.sender;
+    parties && is_same_kind(&packet.message.kind, &other.message.kind)
+}
+
+fn is_same_kind(kind: &Kind, other: &Kind) -> bool {
+    match (kind, other) {
+        (Kind::Query(map), Kind::Query(of)) => is_same_map(map, of),
+        (Kind::Install(map, list), Kind::Install(of, others)) => {
+            is_same_map(map, of) && are_same(list.items(), others.items())
+        }
+        (Kind::AskActivate(interval), Kind::AskActivate(of)) => *interval == *of,
+        (Kind::Rep(interval, place, request), Kind::Rep(of, at, wanted)) => {
+            *interval == *of && *place == *at && request.is(wanted)
+        }
+        _ => false,
+    }
+}
+
+fn is_same_map(map: &GroupMap, other: &GroupMap) -> bool {
+    map.epoch() == other.epoch()
+        && map.interval() == other.interval()
+        && map.acting() == other.acting()
+        && map.prev() == other.prev()
+        && map.prev_acting() == other.prev_acting()
+}

@@ -1,0 +1,164 @@
+//! A plain program that sees nodes and messages after each event, and keeps the one list that all agree on.
+use crate::tests::account::{Asked, Balances, Said, plain};
+use crate::tests::network::{Network, Sent};
+use crate::tests::reached::{Reached, count};
+use group_world::Kind;
+use peering::GroupNode;
+use pg_log::{Classes, Entry};
+use std::alloc::Global;
+use std::process::Abort;
+
+/// What was seen so far.
+#[derive(Drop)]
+pub(super) struct Witness {
+    alloc: Global,
+    /// The requests that anything committed, by place, and their answers by the plain balances.
+    agreed: Vec<Asked>,
+    answers: Vec<Said>,
+    balances: Balances,
+    /// The intervals of the nodes that first had one of them committed.
+    intervals: Vec<u32>,
+    /// By node, the requests of its log and how many it had committed.
+    logs: Vec<Vec<Asked>>,
+    committed: Vec<usize>,
+    /// How many messages were looked at.
+    read: usize,
+    cut: usize,
+}
+
+impl Witness {
+    /// Of so many nodes, before any event.
+    pub(super) fn new<R: Abort>(rt: &R, alloc: Global, nodes: usize) -> Witness {
+        let mut logs = Vec::new(alloc);
+        let mut committed = Vec::new(alloc);
+        for _node in 0..nodes {
+            logs.push(Vec::new(alloc)).expect(rt, "memory");
+            committed.push(0).expect(rt, "memory");
+        }
+        Witness {
+            alloc,
+            agreed: Vec::new(alloc),
+            answers: Vec::new(alloc),
+            balances: Balances::new(),
+            intervals: Vec::new(alloc),
+            logs,
+            committed,
+            read: 0,
+            cut: 0,
+        }
+    }
+
+    /// Looks at all nodes and at the messages that it hasn't seen yet. `brought` are the requests of all events.
+    pub(super) fn look<C: Classes, R: Abort>(
+        &mut self,
+        rt: &R,
+        network: &Network<C>,
+        brought: &[Asked],
+    ) {
+        for at in 0..network.nodes.len() {
+            let node = &network.nodes[at];
+            self.look_at_list(rt, at, node, brought);
+            self.look_at_log(rt, at, node);
+        }
+        for number in self.read..network.sent.len() {
+            self.look_at_message(rt, &network.sent[number]);
+        }
+        self.read = network.sent.len();
+    }
+
+    /// A node's committed list is a beginning of the agreed one, or goes on from it; its answers are the plain ones; and
+    /// it never falls.
+    fn look_at_list<C: Classes, R: Abort>(
+        &mut self,
+        rt: &R,
+        at: usize,
+        node: &GroupNode<C>,
+        brought: &[Asked],
+    ) {
+        let committed = node.committed();
+        let entries = node.group().entries();
+        assert!(rt; committed <= entries.len());
+        let before = self.committed.get_mut(at).expect(rt, "a node");
+        assert!(rt; *before <= committed);
+        *before = committed;
+        let interval = node.epoch().get();
+        for place in 0..committed {
+            let entry = &entries[place];
+            if place == self.agreed.len() {
+                self.agree(rt, plain(&entry.request), interval, brought);
+            }
+            self.look_at_entry(rt, place, entry);
+        }
+    }
+
+    /// One more request is agreed on: an event brought it, and each of its client's before it has a lower number, so that
+    /// no pair of client and number comes twice.
+    fn agree<R: Abort>(&mut self, rt: &R, request: Asked, interval: u32, brought: &[Asked]) {
+        assert!(rt; brought.contains(&request));
+        for earlier in &self.agreed {
+            assert!(rt; earlier.client != request.client || earlier.number < request.number);
+        }
+        self.agreed.push(request).expect(rt, "memory");
+        self.answers
+            .push(self.balances.answer(request))
+            .expect(rt, "memory");
+        if !self.intervals.contains(&interval) {
+            self.intervals.push(interval).expect(rt, "memory");
+        }
+    }
+
+    /// The entry is the agreed request of its place, answered as by the plain balances.
+    fn look_at_entry<R: Abort>(&self, rt: &R, place: usize, entry: &Entry) {
+        let agreed = self.agreed.get(place).copied().expect(rt, "a place");
+        assert!(rt; agreed == plain(&entry.request));
+        self.look_at_answer(rt, place, entry.code, &entry.output);
+    }
+
+    fn look_at_answer<R: Abort>(&self, rt: &R, place: usize, code: i64, output: &[u8]) {
+        let wanted = self.answers.get(place).copied().expect(rt, "a place");
+        assert!(rt; wanted.code == code);
+        match wanted.output {
+            Some(bytes) => assert!(rt; output == bytes.as_slice()),
+            None => assert!(rt; output.is_empty()),
+        }
+    }
+
+    /// A Reply names a place of the agreed list at which its client's request of that number stands, and says its answer.
+    fn look_at_message<R: Abort>(&self, rt: &R, sent: &Sent) {
+        if let Kind::Reply(client, number, place, answer) = &sent.packet.message.kind {
+            let agreed = self.agreed.get(*place).copied().expect(rt, "a place");
+            let asker = agreed.client.saturating_add(1);
+            assert!(rt; asker == client.get() as usize && agreed.number == number.get());
+            self.look_at_answer(rt, *place, answer.code(), answer.output());
+        }
+    }
+
+    /// Notes the log, and whether an end of it was cut.
+    fn look_at_log<C: Classes, R: Abort>(&mut self, rt: &R, at: usize, node: &GroupNode<C>) {
+        let entries = node.group().entries();
+        let log = self.logs.get_mut(at).expect(rt, "a node");
+        let mut same = 0;
+        for place in 0..entries.len().min(log.len()) {
+            if log[place] == plain(&entries[place].request) {
+                same = place.saturating_add(1);
+            } else {
+                break;
+            }
+        }
+        if same < log.len() {
+            count(&mut self.cut);
+            log.truncate(same);
+        }
+        for place in same..entries.len() {
+            log.push(plain(&entries[place].request))
+                .expect(rt, "memory");
+        }
+    }
+
+    /// What it saw beside what the network counted.
+    pub(super) fn add_to(&self, reached: &mut Reached) {
+        reached.intervals = reached.intervals.saturating_add(self.intervals.len());
+        reached.committed = reached.committed.saturating_add(self.agreed.len());
+        reached.cut = reached.cut.saturating_add(self.cut);
+    }
+}

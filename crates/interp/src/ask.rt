@@ -1,0 +1,85 @@
+ghost use Rattle.std.specs.Prelude.{◌≡◌, IfOk, unwrap_or};
+ghost use Rattle.helpers.specs.Table.{row};
+ghost use Rattle.helpers.specs.View.{IsWithin, bytes_in, filled};
+ghost use Rattle.bpf_machine.specs.Flat.{help};
+ghost use Rattle.bpf_machine.specs.Safe.{first_layout};
+ghost use Rattle.interp.specs.Asked.{CanAsk, effect_on, room_at};
+ghost use Rattle.interp.specs.Run.{CanDo, Does};
+
+use crate::run::Run;
+use helpers::{Helper, Span};
+use std::alloc::Global;
+use txn::NoMemory;
+
+/// The bytes of a range. One of no bytes has no place: its address may be any number then.
+fn bytes_at(memory: &[u8], span: Span) -> &[u8]
+    requires { IsWithin memory.now span }
+    ensures { result.now ≡ bytes_in memory.now span }
+{
+    if span.len == 0 {
+        return &memory[..0];
+    }
+    &memory[span.at as usize..(span.at + span.len) as usize]
+}
+
+/// Does what a helper does, on the newest object and the memory, and gives its answer. Names and values are read out of
+/// the memory, and so is what is copied into it.
+fn answer(alloc: Global, helper: Helper, run: &mut Run, memory: &mut [u8]) -> Result<u64, NoMemory>
+    requires { CanAsk run.old.registers memory.old (row helper).takes.arguments 1 }
+    ensures answer { IfOk result (λ n. n ≡ (effect_on helper run.old memory.old).answer) }
+    ensures memory { IfOk result (λ _. memory.new ≡ filled memory.old (room_at run.old.registers (row helper).takes.arguments 1) (effect_on helper run.old memory.old).bytes) }
+    ensures object { IfOk result (λ _. run.new.staged.after ≡ (effect_on helper run.old memory.old).object) }
+    ensures before { IfOk result (λ _. run.new.staged.before ≡ run.old.staged.before) }
+    ensures out_len { IfOk result (λ _. run.new.out_len ≡ unwrap_or (effect_on helper run.old memory.old).out_len run.old.out_len) }
+    ensures rest { IfOk result (λ _. run.new ≡ record run.old { staged = run.new.staged; out_len = run.new.out_len }) }
+{
+    let number = run.registers.number();
+    let first = run.registers.span(1);
+    let behind = run.registers.span(2);
+    let second = run.registers.span(3);
+    let staged = &mut run.staged;
+    match helper {
+        Helper::Stat => Ok(helpers::stat(staged)),
+        Helper::Read => Ok(helpers::read(staged, number, memory, behind)),
+        Helper::Write => helpers::write(alloc, staged, number, bytes_at(memory, behind)),
+        Helper::Truncate => helpers::truncate(alloc, staged, number),
+        Helper::Remove => Ok(helpers::remove(staged)),
+        Helper::GetXattr => Ok(helpers::getxattr(staged, memory, first, second)),
+        Helper::SetXattr => helpers::setxattr(
+            alloc,
+            staged,
+            bytes_at(memory, first),
+            bytes_at(memory, second),
+        ),
+        Helper::RmXattr => helpers::rmxattr(alloc, staged, bytes_at(memory, first)),
+        Helper::MapGet => Ok(helpers::map_get(staged, memory, first, second)),
+        Helper::MapSet => helpers::map_set(
+            alloc,
+            staged,
+            bytes_at(memory, first),
+            bytes_at(memory, second),
+        ),
+        Helper::MapRm => helpers::map_rm(alloc, staged, bytes_at(memory, first)),
+        Helper::MapNext => Ok(helpers::map_next(staged, memory, first, second)),
+        Helper::OutLen => Ok(helpers::out_len(&mut run.out_len, number)),
+        Helper::Create => Ok(helpers::create(staged, number)),
+        Helper::Caller => Ok(helpers::caller(run.caller)),
+    }
+}
+
+/// A call of the helper of an id (RFC 9669 section 4.3.1). No register is unset after it: the machine leaves registers
+/// 1 to 5 unset.
+#[inline(never)]
+pub fn ask(alloc: Global, run: &mut Run, memory: &mut [u8], id: u32) -> Result<(), NoMemory>
+    requires { CanDo run.old.caps run.old.staged.before run.old memory.old (help run.old.caps (first_layout run.old.caps) id) }
+    ensures { IfOk result (λ _. Does run.old.caps run.old.staged.before run.old memory.old run.new memory.new (help run.old.caps (first_layout run.old.caps) id)) }
+{
+    match Helper::of(id) {
+        Some(helper) => {
+            let answer = answer(alloc, helper, run, memory)?;
+            run.registers.set_answer(answer);
+            Ok(())
+        }
+        None => unreachable!(),
+    }
+}

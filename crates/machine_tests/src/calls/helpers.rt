@@ -1,0 +1,332 @@
+//! Each helper's answers, and what it leaves.
+
+use super::{call_f, class_of};
+use crate::contents::{Contents, NOTHING, Pair, holds, made};
+use std::alloc::Global;
+use std::process::Abort;
+use std::test::Fail;
+
+/// An argument of a helper: a number, so many bytes from a place of the input on, or of the output.
+#[derive(Clone, Copy)]
+enum Argument {
+    Number(i32),
+    Input(i32, i32),
+    Output(i32),
+}
+
+use Argument::{Input, Number, Output};
+
+/// A call of a helper beside an object, its answer, the output and the object afterwards.
+#[derive(Clone, Copy)]
+struct Row {
+    object: Option<Contents>,
+    id: i32,
+    arguments: &'static [Argument],
+    answer: i64,
+    output: &'static [u8],
+    after: Option<Contents>,
+}
+
+/// What the methods are called on: names are a byte of it, or some.
+const INPUT: [u8; 8] = *b"nmacb123";
+
+const THERE: Contents = Contents {
+    data: b"hello",
+    xattrs: &[(b"n", b"value")],
+    keys: &[(b"a", b"1"), (b"c", b"22")],
+};
+
+const RENEWED: &[Pair] = &[(b"n", b"123")];
+
+const TWO: &[Pair] = &[(b"m", b""), (b"n", b"value")];
+
+const THREE: &[Pair] = &[(b"a", b"1"), (b"b", b"23"), (b"c", b"22")];
+
+/// A call beside `THERE` that changes nothing and puts nothing out.
+const BESIDE: Row = Row {
+    object: Some(THERE),
+    id: 0,
+    arguments: &[],
+    answer: 0,
+    output: b"",
+    after: Some(THERE),
+};
+
+/// A call beside no object that changes nothing.
+const ABSENT: Row = Row {
+    object: None,
+    after: None,
+    ..BESIDE
+};
+
+/// A call beside `THERE`, its answer, and what it puts out.
+macro_rules! there {
+    ($id:literal, $arguments:expr, $answer:literal, $output:literal) => {
+        Row {
+            id: $id,
+            arguments: $arguments,
+            answer: $answer,
+            output: $output,
+            ..BESIDE
+        }
+    };
+}
+
+/// A call beside `THERE`, its answer, and the object that it leaves.
+macro_rules! leaves {
+    ($id:literal, $arguments:expr, $answer:literal, $after:expr) => {
+        Row {
+            id: $id,
+            arguments: $arguments,
+            answer: $answer,
+            after: $after,
+            ..BESIDE
+        }
+    };
+}
+
+/// A call beside no object, and its answer.
+macro_rules! absent {
+    ($id:literal, $arguments:expr, $answer:literal) => {
+        Row {
+            id: $id,
+            arguments: $arguments,
+            answer: $answer,
+            ..ABSENT
+        }
+    };
+}
+
+/// A call beside no object, its answer, and the object that it creates.
+macro_rules! creates {
+    ($id:literal, $arguments:expr, $answer:literal, $after:expr) => {
+        Row {
+            id: $id,
+            arguments: $arguments,
+            answer: $answer,
+            after: Some($after),
+            ..ABSENT
+        }
+    };
+}
+
+static ROWS: [Row; 52] = [
+    // stat
+    there!(1, &[], 5, b""),
+    absent!(1, &[], -2),
+    // read
+    there!(2, &[Number(1), Output(3)], 3, b"ell"),
+    there!(2, &[Number(3), Output(8)], 2, b"lo"),
+    there!(2, &[Number(9), Output(8)], 0, b""),
+    absent!(2, &[Number(0), Output(8)], -2),
+    // write
+    leaves!(
+        3,
+        &[Number(4), Input(5, 3)],
+        3,
+        Some(Contents {
+            data: b"hell123",
+            ..THERE
+        })
+    ),
+    creates!(
+        3,
+        &[Number(2), Input(0, 1)],
+        1,
+        Contents {
+            data: b"\0\0n",
+            ..NOTHING
+        }
+    ),
+    creates!(3, &[Number(65_536), Input(0, 0)], 0, NOTHING),
+    absent!(3, &[Number(65_537), Input(0, 0)], -27),
+    absent!(3, &[Number(-1), Input(0, 1)], -27),
+    // truncate
+    leaves!(
+        4,
+        &[Number(2)],
+        0,
+        Some(Contents {
+            data: b"he",
+            ..THERE
+        })
+    ),
+    leaves!(
+        4,
+        &[Number(7)],
+        0,
+        Some(Contents {
+            data: b"hello\0\0",
+            ..THERE
+        })
+    ),
+    there!(4, &[Number(65_537)], -27, b""),
+    absent!(4, &[Number(65_537)], -27),
+    absent!(4, &[Number(0)], -2),
+    // remove
+    leaves!(5, &[], 0, None),
+    absent!(5, &[], -2),
+    // getxattr
+    there!(6, &[Input(0, 1), Output(8)], 5, b"value"),
+    there!(6, &[Input(0, 1), Output(4)], -34, b""),
+    there!(6, &[Input(1, 1), Output(8)], -61, b""),
+    there!(6, &[Input(0, 0), Output(8)], -22, b""),
+    absent!(6, &[Input(0, 1), Output(8)], -2),
+    // setxattr
+    leaves!(
+        7,
+        &[Input(0, 1), Input(5, 3)],
+        0,
+        Some(Contents {
+            xattrs: RENEWED,
+            ..THERE
+        })
+    ),
+    leaves!(
+        7,
+        &[Input(1, 1), Input(7, 0)],
+        0,
+        Some(Contents {
+            xattrs: TWO,
+            ..THERE
+        })
+    ),
+    creates!(
+        7,
+        &[Input(0, 2), Input(7, 1)],
+        0,
+        Contents {
+            xattrs: &[(b"nm", b"3")],
+            ..NOTHING
+        }
+    ),
+    absent!(7, &[Input(0, 0), Input(7, 1)], -22),
+    // rmxattr
+    leaves!(
+        8,
+        &[Input(0, 1)],
+        0,
+        Some(Contents {
+            xattrs: &[],
+            ..THERE
+        })
+    ),
+    there!(8, &[Input(2, 1)], -61, b""),
+    there!(8, &[Input(0, 0)], -22, b""),
+    absent!(8, &[Input(0, 1)], -2),
+    // map_get
+    there!(9, &[Input(3, 1), Output(2)], 2, b"22"),
+    there!(9, &[Input(3, 1), Output(1)], -34, b""),
+    there!(9, &[Input(4, 1), Output(2)], -61, b""),
+    absent!(9, &[Input(3, 1), Output(2)], -2),
+    // map_set
+    leaves!(
+        10,
+        &[Input(4, 1), Input(6, 2)],
+        0,
+        Some(Contents {
+            keys: THREE,
+            ..THERE
+        })
+    ),
+    creates!(
+        10,
+        &[Input(4, 1), Input(6, 2)],
+        0,
+        Contents {
+            keys: &[(b"b", b"23")],
+            ..NOTHING
+        }
+    ),
+    there!(10, &[Input(4, 0), Input(6, 2)], -22, b""),
+    // map_rm
+    leaves!(
+        11,
+        &[Input(2, 1)],
+        0,
+        Some(Contents {
+            keys: &[(b"c", b"22")],
+            ..THERE
+        })
+    ),
+    there!(11, &[Input(4, 1)], -61, b""),
+    absent!(11, &[Input(2, 1)], -2),
+    // map_next
+    there!(12, &[Input(0, 0), Output(1)], 1, b"a"),
+    there!(12, &[Input(2, 1), Output(1)], 1, b"c"),
+    there!(12, &[Input(4, 1), Output(1)], 1, b"c"),
+    there!(12, &[Input(3, 1), Output(8)], -61, b""),
+    there!(12, &[Input(2, 1), Output(0)], -34, b""),
+    absent!(12, &[Input(0, 0), Output(8)], -2),
+    // create
+    there!(14, &[Number(0)], 0, b""),
+    there!(14, &[Number(1)], -17, b""),
+    creates!(14, &[Number(1)], 0, NOTHING),
+    // caller
+    there!(15, &[], 7, b""),
+    absent!(15, &[], 7),
+];
+
+/// One slot: opcode, registers and immediate.
+fn slot(opcode: u8, registers: u8, imm: i32) -> [u8; 8] {
+    let [i0, i1, i2, i3] = imm.to_le_bytes();
+    [opcode, registers, 0, 0, i0, i1, i2, i3]
+}
+
+/// Puts an argument into registers from one on, and gives the next one.
+fn put(code: &mut Vec<u8>, register: u8, argument: Argument) -> Result<u8, Fail> {
+    let next = register.wrapping_add(1);
+    let (base, at, len) = match argument {
+        Number(number) => {
+            code.extend_from_slice(&slot(0xb7, register, number))?;
+            return Ok(next);
+        }
+        Input(at, len) => (0x60u8, at, len),
+        Output(len) => (0x70, 0, len),
+    };
+    code.extend_from_slice(&slot(0xbf, base | register, 0))?;
+    code.extend_from_slice(&slot(0x07, register, at))?;
+    code.extend_from_slice(&slot(0xb7, next, len))?;
+    Ok(next.wrapping_add(1))
+}
+
+/// A method that calls the helper, answers what it answered, and puts out as much as the row says.
+fn code_of(alloc: Global, row: &Row) -> Result<Vec<u8>, Fail> {
+    let mut code = Vec::new(alloc);
+    code.extend_from_slice(&slot(0xbf, 0x16, 0))?;
+    code.extend_from_slice(&slot(0xbf, 0x37, 0))?;
+    let mut register = 1;
+    for argument in row.arguments {
+        register = put(&mut code, register, *argument)?;
+    }
+    code.extend_from_slice(&slot(0x85, 0, row.id))?;
+    code.extend_from_slice(&slot(0xbf, 0x08, 0))?;
+    code.extend_from_slice(&slot(0xb7, 1, (row.output.len() % 256) as i32))?;
+    code.extend_from_slice(&slot(0x85, 0, 13))?;
+    code.extend_from_slice(&slot(0xbf, 0x80, 0))?;
+    code.extend_from_slice(&slot(0x95, 0, 0))?;
+    Ok(code)
+}
+
+/// Whether a call answers so.
+fn answers(rt: &impl Abort, alloc: Global, row: &Row) -> Result<bool, Fail> {
+    let class = class_of(rt, alloc, &code_of(alloc, row)?, 3, 8, 8);
+    let object = made(alloc, row.object)?;
+    let outcome = call_f(rt, alloc, &class, object.as_ref(), &INPUT);
+    let before = holds(alloc, outcome.change.before.as_ref(), row.object)?;
+    let after = holds(alloc, outcome.change.after.as_ref(), row.after)?;
+    let output = outcome.output.as_slice() == row.output;
+    Ok(before && after && output && outcome.code == row.answer)
+}
+
+#[test]
+fn each_helper(rt: HostRuntime) -> Result<(), Fail> {
+    for (n, row) in ROWS.iter().enumerate() {
+        assert!(rt;
+            answers(&rt, rt.alloc(), row)?,
+            "row {n}, helper {}",
+            row.id
+        );
+    }
+    Ok(())
+}

@@ -1,0 +1,77 @@
+//! A call at all limits at once: input and output of 4,096 bytes, and an object that is written to 65,536 bytes.
+
+use super::{call_f, class_of};
+use interp::Outcome;
+use object_store::{DATA_LIMIT, Object, calls};
+use std::alloc::Global;
+use std::process::Abort;
+use std::test::Fail;
+use txn::Change;
+
+/// Copies the input's last byte to the output's last, writes the input to the object's last 4,096 bytes, and answers
+/// with all of the output.
+const LONGEST: [u8; 88] = [
+    0x71, 0x14, 0xff, 0x0f, 0, 0, 0, 0, // ldxb r4, [r1+4095]
+    0x73, 0x43, 0xff, 0x0f, 0, 0, 0, 0, // stxb [r3+4095], r4
+    0xbf, 0x12, 0, 0, 0, 0, 0, 0, // mov r2, r1
+    0xb7, 0x01, 0, 0, 0, 0xf0, 0, 0, // mov r1, 61440
+    0xb7, 0x03, 0, 0, 0, 0x10, 0, 0, // mov r3, 4096
+    0x85, 0x00, 0, 0, 3, 0, 0, 0, // call 3
+    0xbf, 0x06, 0, 0, 0, 0, 0, 0, // mov r6, r0
+    0xb7, 0x01, 0, 0, 0, 0x10, 0, 0, // mov r1, 4096
+    0x85, 0x00, 0, 0, 13, 0, 0, 0, // call 13
+    0xbf, 0x60, 0, 0, 0, 0, 0, 0, // mov r0, r6
+    0x95, 0x00, 0, 0, 0, 0, 0, 0, // exit
+];
+
+/// What `LONGEST` answers on 4,096 bytes of 0x5a.
+fn longest(rt: &impl Abort, alloc: Global, object: Option<&Object>) -> Outcome {
+    let class = class_of(rt, alloc, &LONGEST, 2, 4096, 4096);
+    let input = [0x5a; 4096];
+    call_f(rt, alloc, &class, object, &input)
+}
+
+/// Whether those bytes begin by so many of the one byte, and the rest are of the other.
+fn begins(bytes: &[u8], first: u8, count: usize, then: u8) -> bool {
+    let mut all = true;
+    for (k, byte) in bytes.iter().enumerate() {
+        all = all && *byte == (if k < count { first } else { then });
+    }
+    all
+}
+
+#[test]
+fn a_call_has_all_output(rt: HostRuntime) {
+    let outcome = longest(&rt, rt.alloc(), None);
+    assert!(rt; outcome.code == 4096 && outcome.steps == 11 && outcome.output.len() == 4096);
+    assert!(rt; begins(&outcome.output, 0, 4095, 0x5a));
+}
+
+/// Whether an object has 65,536 bytes, which begin by so many of the one byte, and the rest are of the other.
+fn is_full(alloc: Global, object: Option<&Object>, first: u8, count: usize) -> Result<bool, Fail> {
+    let mut data = vec![in alloc; 0u8; DATA_LIMIT]?;
+    match object {
+        None => Ok(false),
+        Some(object) => {
+            let read = object.read(0, &mut data);
+            Ok(read == DATA_LIMIT && begins(&data, first, count, 0x5a))
+        }
+    }
+}
+
+#[test]
+fn an_object_grows_to_its_limit(rt: HostRuntime) -> Result<(), Fail> {
+    let Change { before, after } = longest(&rt, rt.alloc(), None).change;
+    assert!(rt; before.is_none() && is_full(rt.alloc(), after.as_ref(), 0, 61_440)?);
+    Ok(())
+}
+
+#[test]
+fn a_full_object_is_shared(rt: HostRuntime) -> Result<(), Fail> {
+    let bytes = vec![in rt.alloc(); 0x33u8; DATA_LIMIT]?;
+    let full = calls::write(rt.alloc(), None, 0, &bytes)?;
+    let Change { before, after } = longest(&rt, rt.alloc(), Some(&full)).change;
+    assert!(rt; is_full(rt.alloc(), before.as_ref(), 0x33, DATA_LIMIT)?);
+    assert!(rt; is_full(rt.alloc(), after.as_ref(), 0x33, 61_440)?);
+    Ok(())
+}

@@ -1,0 +1,236 @@
+//! Programs that call every helper beside every kind of object, with ranges that overlap and ranges of no bytes.
+
+use super::random::Random;
+use super::{agrees, image_of, put, slot};
+use crate::contents::{Contents, NOTHING, object_of};
+use bpf_machine::Layout;
+use helpers::{Argument, signature};
+use object_store::{DATA_LIMIT, KEY_LIMIT, Object, StoreError, XATTR_LIMIT, calls};
+use std::alloc::Global;
+use std::test::Fail;
+use verifier::{VerifiedClass, verify};
+
+const LAYOUT: Layout = Layout {
+    input: 0x1000,
+    output: 0x2_0000,
+    stack: 0xffff_ffff_ffff_fdff,
+};
+
+/// Names of one byte and more stand at each of the places that ranges begin at.
+const INPUT: [u8; 24] = *b"nmanabck\0\0nmxyzab0123456";
+
+const DATA: Contents = Contents {
+    data: b"0123456789abcdefghij",
+    ..NOTHING
+};
+
+const XATTRS: Contents = Contents {
+    xattrs: &[(b"n", b"value"), (b"nm", b""), (b"m", b"0123456789abcdefg")],
+    ..NOTHING
+};
+
+const KEYS: Contents = Contents {
+    keys: &[(b"a", b"1"), (b"ab", b"22"), (b"c", b"nmabck"), (b"k", b"")],
+    ..DATA
+};
+
+/// Sets numbered keys and xattrs until there are as many as there may be.
+fn filled(alloc: Global, object: Object) -> Result<Object, StoreError> {
+    let value = [0x5a; 24];
+    let mut full = object;
+    for n in 0..KEY_LIMIT as u16 {
+        let name = n.to_be_bytes();
+        if full.key_count() < KEY_LIMIT {
+            full = calls::set_key(alloc, Some(&full), &name, &value)?;
+        }
+        if full.xattr_count() < XATTR_LIMIT {
+            full = calls::set_xattr(alloc, Some(&full), &name, &value)?;
+        }
+    }
+    Ok(full)
+}
+
+/// An object at all limits.
+fn full(alloc: Global) -> Result<Object, StoreError> {
+    let named = Contents {
+        xattrs: XATTRS.xattrs,
+        ..KEYS
+    };
+    let object = filled(alloc, object_of(alloc, &named)?)?;
+    calls::truncate(alloc, Some(&object), DATA_LIMIT as u64)
+}
+
+/// An object of each kind: empty, with data, with xattrs, with keys, and at all limits.
+fn objects(alloc: Global) -> Result<Vec<Object>, Fail> {
+    let mut objects = Vec::new(alloc);
+    for contents in [NOTHING, DATA, XATTRS, KEYS] {
+        objects.push(object_of(alloc, &contents)?)?;
+    }
+    objects.push(full(alloc)?)?;
+    Ok(objects)
+}
+
+/// Numbers at the limits, and small ones.
+const NUMBERS: [i32; 8] = [0, 1, 3, 7, 65_535, 65_536, 65_537, -1];
+
+/// How long the output is; one is too long.
+const OUTPUT_LENGTHS: [i32; 8] = [0, 1, 2, 8, 16, 39, 40, 41];
+
+/// Registers that point to regions which are read, and to those which are written; from the input nothing is accepted.
+const READ: [u8; 8] = [6, 6, 6, 7, 7, 10, 10, 6];
+
+const WRITTEN: [u8; 8] = [7, 10, 7, 10, 7, 10, 7, 6];
+
+/// Where a range begins in its region, and how long it is. So ranges overlap as often as not.
+const PLACES: [i32; 8] = [0, 0, 1, 2, 3, 4, 6, 7];
+
+const LENGTHS: [i32; 8] = [0, 1, 1, 2, 2, 4, 8, 16];
+
+/// Puts a range into two registers.
+fn range(random: &mut Random, code: &mut Vec<u8>, register: u8, base: u8) -> Result<(), Fail> {
+    let before = if base == 10 { -64 } else { 0 };
+    let place = PLACES[random.pick()].wrapping_add(before);
+    put(
+        code,
+        &[
+            slot(0xbf, register | base.wrapping_mul(16), 0, 0),
+            slot(0x07, register, 0, place),
+            slot(0xb7, register.wrapping_add(1), 0, LENGTHS[random.pick()]),
+        ],
+    )
+}
+
+/// Puts an argument into one register or two, and gives how many.
+fn argument(
+    random: &mut Random,
+    code: &mut Vec<u8>,
+    register: u8,
+    argument: Argument,
+) -> Result<u8, Fail> {
+    match argument {
+        Argument::Number => {
+            put(code, &[slot(0xb7, register, 0, NUMBERS[random.pick()])])?;
+            Ok(1)
+        }
+        Argument::OutputLength => {
+            put(
+                code,
+                &[slot(0xb7, register, 0, OUTPUT_LENGTHS[random.pick()])],
+            )?;
+            Ok(1)
+        }
+        Argument::Readable => {
+            let base = READ[random.pick()];
+            range(random, code, register, base)?;
+            Ok(2)
+        }
+        Argument::Writable => {
+            let base = WRITTEN[random.pick()];
+            range(random, code, register, base)?;
+            Ok(2)
+        }
+    }
+}
+
+/// Puts a call of a helper, of whose answer register 9 keeps a trace.
+fn call_of(random: &mut Random, code: &mut Vec<u8>, id: u32) -> Result<(), Fail> {
+    let arguments = match signature(id) {
+        Some(signature) => signature.arguments,
+        None => &[],
+    };
+    let mut register = 1u8;
+    for kind in arguments {
+        let taken = argument(random, code, register, *kind)?;
+        register = register.wrapping_add(taken);
+    }
+    put(
+        code,
+        &[
+            slot(0x85, 0, 0, id.cast_signed()), // call id
+            slot(0x27, 0x09, 0, 31), // mul r9, 31
+            slot(0x0f, 0x09, 0, 0), // add r9, r0
+        ],
+    )
+}
+
+/// A program whose first call is of that helper, behind names in the output and on the stack.
+fn program(alloc: Global, seed: u64, id: u32) -> Result<Vec<u8>, Fail> {
+    let mut random = Random::new(seed);
+    let mut code = Vec::new(alloc);
+    put(
+        &mut code,
+        &[
+            slot(0xbf, 0x16, 0, 0), // mov r6, r1
+            slot(0xbf, 0x37, 0, 0), // mov r7, r3
+            slot(0xb7, 0x09, 0, 1), // mov r9, 1
+            slot(0x62, 0x07, 0, 0x6162_6e6d), // stw [r7+0], "mnba"
+            slot(0x62, 0x0a, -63, 0x6e61_6b63), // stw [r10-63], "ckan"
+        ],
+    )?;
+    call_of(&mut random, &mut code, id)?;
+    for _ in 0..5 {
+        let id = (random.next() % 15) as u32 + 1;
+        call_of(&mut random, &mut code, id)?;
+    }
+    end(&mut random, &mut code)?;
+    Ok(code)
+}
+
+/// Puts the trace and some of the stack into the output, most often puts all of it out, and answers the trace, most
+/// often with no sign.
+fn end(random: &mut Random, code: &mut Vec<u8>) -> Result<(), Fail> {
+    put(
+        code,
+        &[
+            slot(0x79, 0xa2, -64, 0), // ldxdw r2, [r10-64]
+            slot(0x7b, 0x27, 24, 0), // stxdw [r7+24], r2
+            slot(0x7b, 0x97, 32, 0), // stxdw [r7+32], r9
+        ],
+    )?;
+    if random.next() % 4 != 0 {
+        put(code, &[slot(0xb7, 0x01, 0, 40), slot(0x85, 0, 0, 13)])?;
+    }
+    put(code, &[slot(0xbf, 0x90, 0, 0)])?;
+    if random.next() % 4 != 0 {
+        put(code, &[slot(0x77, 0, 0, 1)])?;
+    }
+    put(code, &[slot(0x95, 0, 0, 0)])
+}
+
+/// Whether a call of the method answers as the plain run does, beside no object and beside each of those.
+fn agrees_beside_all(
+    alloc: Global,
+    class: &VerifiedClass,
+    code: &[u8],
+    objects: &[Object],
+) -> Result<bool, Fail> {
+    let mut all = agrees(alloc, class, code, LAYOUT, None, &INPUT)?;
+    for object in objects {
+        all = all && agrees(alloc, class, code, LAYOUT, Some(object), &INPUT)?;
+    }
+    Ok(all)
+}
+
+/// Whether the program of a seed is refused, or agrees.
+fn compared(alloc: Global, seed: u64, objects: &[Object]) -> Result<Option<bool>, Fail> {
+    let code = program(alloc, seed, (seed % 15) as u32 + 1)?;
+    match verify(alloc, &image_of(alloc, &code)?) {
+        Ok(class) => Ok(Some(agrees_beside_all(alloc, &class, &code, objects)?)),
+        Err(_) => Ok(None),
+    }
+}
+
+#[test]
+fn every_helper(rt: HostRuntime) -> Result<(), Fail> {
+    let objects = objects(rt.alloc())?;
+    // How many accepted programs call each helper first, and so beside each object and beside none.
+    let mut accepted = [0u32; 15];
+    for seed in 0..150u64 {
+        let compared = compared(rt.alloc(), seed, &objects)?;
+        assert!(rt; compared != Some(false), "{seed}");
+        let n = (seed % 15) as usize;
+        accepted[n] = accepted[n].wrapping_add(u32::from(compared.is_some()));
+    }
+    assert!(rt; accepted.iter().all(|count| *count > 4), "{accepted:?}");
+    Ok(())
+}

@@ -1,0 +1,278 @@
+//! Programs with branches that together hold every row of the opcode table.
+
+use super::random::Random;
+use super::{agrees, image_of, put, slot};
+use bpf_machine::Layout;
+use std::alloc::Global;
+use std::test::Fail;
+use verifier::verify;
+
+/// The arithmetic rows without class and source bit: the operation and the offset that selects it.
+const ARITHMETIC: [(u8, i16); 13] = [
+    (0x00, 0),
+    (0x10, 0),
+    (0x20, 0),
+    (0x30, 0),
+    (0x30, 1),
+    (0x40, 0),
+    (0x50, 0),
+    (0x60, 0),
+    (0x70, 0),
+    (0x90, 0),
+    (0x90, 1),
+    (0xa0, 0),
+    (0xc0, 0),
+];
+
+/// NEG, the moves and END: opcode, offset, immediate, and whether they read a source.
+const UNARY: [(u8, i16, i32, bool); 20] = [
+    (0x84, 0, 0, false),
+    (0x87, 0, 0, false),
+    (0xb4, 0, -77, false),
+    (0xb7, 0, -0x7fff_fff0, false),
+    (0xbc, 0, 0, true),
+    (0xbf, 0, 0, true),
+    (0xbc, 8, 0, true),
+    (0xbc, 16, 0, true),
+    (0xbf, 8, 0, true),
+    (0xbf, 16, 0, true),
+    (0xbf, 32, 0, true),
+    (0xd4, 0, 16, false),
+    (0xd4, 0, 32, false),
+    (0xd4, 0, 64, false),
+    (0xdc, 0, 16, false),
+    (0xdc, 0, 32, false),
+    (0xdc, 0, 64, false),
+    (0xd7, 0, 16, false),
+    (0xd7, 0, 32, false),
+    (0xd7, 0, 64, false),
+];
+
+/// The loads, plain and with sign extension, and the bytes that each reads.
+const LOADS: [(u8, i16); 7] = [
+    (0x61, 4),
+    (0x69, 2),
+    (0x71, 1),
+    (0x79, 8),
+    (0x81, 4),
+    (0x89, 2),
+    (0x91, 1),
+];
+
+/// The stores of a number and of a register, and the bytes that each writes.
+const STORES: [(u8, i16); 8] = [
+    (0x62, 4),
+    (0x6a, 2),
+    (0x72, 1),
+    (0x7a, 8),
+    (0x63, 4),
+    (0x6b, 2),
+    (0x73, 1),
+    (0x7b, 8),
+];
+
+const COMPARISONS: [u8; 11] = [
+    0x10, 0x20, 0x30, 0x40, 0x50, 0x60, 0x70, 0xa0, 0xb0, 0xc0, 0xd0,
+];
+
+/// Numbers at the edges of widths and signs.
+const EDGES: [u64; 12] = [
+    0,
+    1,
+    2,
+    0x7f,
+    0x80,
+    0x8000,
+    0x7fff_ffff,
+    0x8000_0000,
+    0xffff_ffff,
+    0x7fff_ffff_ffff_ffff,
+    0x8000_0000_0000_0000,
+    0xffff_ffff_ffff_ffff,
+];
+
+/// What the rows are made of.
+impl Random {
+    /// One of the registers that hold numbers: 0, 2, 3, 4, 5, 8 and 9.
+    fn register(&mut self) -> u8 {
+        match self.next() % 7 {
+            0 => 0,
+            1 => 2,
+            2 => 3,
+            3 => 4,
+            4 => 5,
+            5 => 8,
+            _ => 9,
+        }
+    }
+
+    fn number(&mut self) -> u64 {
+        let n = (self.next() % 16) as usize;
+        match EDGES.get(n) {
+            Some(edge) => *edge,
+            None => self.next().wrapping_mul(0x1_0003),
+        }
+    }
+
+    fn small(&mut self) -> i32 {
+        ((self.number() % 0x1_0000_0000) as u32).cast_signed()
+    }
+}
+
+/// `lddw` of any number.
+fn wide(code: &mut Vec<u8>, register: u8, number: u64) -> Result<(), Fail> {
+    let low = ((number % 0x1_0000_0000) as u32).cast_signed();
+    let high = ((number / 0x1_0000_0000) as u32).cast_signed();
+    put(code, &[slot(0x18, register, 0, low), slot(0, 0, 0, high)])
+}
+
+/// An instruction of one slot, the row of that number.
+fn row(random: &mut Random, n: usize) -> [u8; 8] {
+    let dst = random.register();
+    let src = random.register();
+    let both = dst | src.wrapping_mul(16);
+    let imm = random.small();
+    if let Some((operation, offset)) = ARITHMETIC.get(n / 4) {
+        let class = if n % 2 == 0 { 0x07 } else { 0x04 };
+        if n / 2 % 2 == 0 {
+            slot(operation | class, dst, *offset, imm)
+        } else {
+            slot(operation | class | 0x08, both, *offset, 0)
+        }
+    } else if let Some((opcode, offset, imm, reads)) = UNARY.get(n.wrapping_sub(52)) {
+        slot(*opcode, if *reads { both } else { dst }, *offset, *imm)
+    } else if let Some((opcode, bytes)) = LOADS.get(n.wrapping_sub(72)) {
+        let (base, start, len) = place(random, true);
+        slot(
+            *opcode,
+            dst | base.wrapping_mul(16),
+            within(random, start, len, *bytes),
+            0,
+        )
+    } else if let Some((opcode, bytes)) = STORES.get(n.wrapping_sub(79)) {
+        let (base, start, len) = place(random, false);
+        let at = within(random, start, len, *bytes);
+        if opcode % 2 == 0 {
+            slot(*opcode, base, at, imm)
+        } else {
+            slot(*opcode, base | src.wrapping_mul(16), at, 0)
+        }
+    } else {
+        slot(0xbf, both, 0, 0)
+    }
+}
+
+/// A register that points to a region, where the region starts beside it, and how long it is.
+fn place(random: &mut Random, read: bool) -> (u8, u16, u16) {
+    match random.next() % 3 {
+        0 if read => (6, 0, 24),
+        1 => (7, 0, 40),
+        _ => (10, 512, 512),
+    }
+}
+
+/// An offset at which so many bytes lie in a region, often at one of its ends.
+fn within(random: &mut Random, before: u16, len: u16, bytes: i16) -> i16 {
+    let last = len.wrapping_sub(bytes.cast_unsigned());
+    let at = match random.next() % 4 {
+        0 => 0,
+        1 => last,
+        _ if last == 0 => 0,
+        _ => (random.next() % 65_536) as u16 % last,
+    };
+    at.wrapping_sub(before).cast_signed()
+}
+
+/// A comparison of that number, over so many slots.
+fn branch(random: &mut Random, n: usize, over: i16) -> [u8; 8] {
+    let dst = random.register();
+    let src = random.register();
+    let comparison = match COMPARISONS.get(n / 4) {
+        Some(comparison) => *comparison,
+        None => 0x10,
+    };
+    let class = if n % 2 == 0 { 0x05 } else { 0x06 };
+    if n / 2 % 2 == 0 {
+        slot(comparison | class, dst, over, random.small())
+    } else {
+        slot(
+            comparison | class | 0x08,
+            dst | src.wrapping_mul(16),
+            over,
+            0,
+        )
+    }
+}
+
+/// A program of accepted shape with rows from a number on.
+fn program(alloc: Global, seed: u64) -> Result<Vec<u8>, Fail> {
+    let mut random = Random::new(seed);
+    let mut code = Vec::new(alloc);
+    put(&mut code, &[slot(0xbf, 0x16, 0, 0), slot(0xbf, 0x37, 0, 0)])?;
+    for register in [0u8, 2, 3, 4, 5, 8, 9] {
+        wide(&mut code, register, random.number())?;
+    }
+    let start = (seed % 4096) as usize;
+    for k in 0..12usize {
+        let n = (start * 7 + k) % 87;
+        put(&mut code, &[row(&mut random, n)])?;
+        let over = (random.next() % 4) as u16;
+        match random.next() % 8 {
+            0 => put(&mut code, &[slot(0x05, 0, over.cast_signed(), 0)])?,
+            1 => put(&mut code, &[slot(0x06, 0, 0, i32::from(over))])?,
+            _ => {
+                let n = (start * 5 + k) % 44;
+                put(&mut code, &[branch(&mut random, n, over.cast_signed())])?;
+            }
+        }
+        for _ in 0..over {
+            let n = (random.next() % 87) as usize;
+            put(&mut code, &[row(&mut random, n)])?;
+        }
+    }
+    end(&mut code)?;
+    Ok(code)
+}
+
+/// Puts every number into the output, and answers with the whole of it and a code that is zero or positive.
+fn end(code: &mut Vec<u8>) -> Result<(), Fail> {
+    put(
+        code,
+        &[
+            slot(0x7b, 0x07, 0, 0), // stxdw [r7+0], r0
+            slot(0xaf, 0x32, 0, 0), // xor r2, r3
+            slot(0x0f, 0x42, 0, 0), // add r2, r4
+            slot(0xaf, 0x52, 0, 0), // xor r2, r5
+            slot(0x7b, 0x27, 8, 0), // stxdw [r7+8], r2
+            slot(0x7b, 0x87, 16, 0), // stxdw [r7+16], r8
+            slot(0x7b, 0x97, 24, 0), // stxdw [r7+24], r9
+            slot(0x79, 0xa2, -64, 0), // ldxdw r2, [r10-64]
+            slot(0x7b, 0x27, 32, 0), // stxdw [r7+32], r2
+            slot(0xb7, 0x01, 0, 40), // mov r1, 40
+            slot(0x85, 0x00, 0, 13), // call 13
+            slot(0x79, 0x70, 0, 0), // ldxdw r0, [r7+0]
+            slot(0x77, 0x00, 0, 1), // rsh r0, 1
+            slot(0x95, 0x00, 0, 0), // exit
+        ],
+    )
+}
+
+const LOW: Layout = Layout {
+    input: 0,
+    output: 24,
+    stack: 64,
+};
+
+#[test]
+fn every_row(rt: HostRuntime) -> Result<(), Fail> {
+    let alloc = rt.alloc();
+    let input = [
+        0x80, 0xff, 0x7f, 0, 1, 0xfe, 0x80, 0x81, 9, 0xf0, 11, 12, 0xff,
+    ];
+    for seed in 0..4096u64 {
+        let code = program(alloc, seed)?;
+        let class = verify(alloc, &image_of(alloc, &code)?)?;
+        assert!(rt; agrees(alloc, &class, &code, LOW, None, &input)?);
+    }
+    Ok(())
+}

@@ -1,0 +1,14 @@
+use Rattle.std.proofs.Common.{◌≡◌, take, map, Bor, List, ℕ}
+use Rattle.sim.proofs.Reaching.{Going}
+use Rattle.sim.proofs.file.run_lines.Given as goal
+
+-- the lines above were done, and what they come to was printed
+abbrev pub invariant-loop-line : goal.invariant-loop-line
+invariant-loop-line g l =
+    let text : Bor (List ℕ) → List ℕ = λ t. t.now in
+    let printed = g.O.Output.printed in
+    let failed = g.O.Output.failed in
+    record {
+      going : Going l.table (map text l.names) (take l.line-index (map text l.lines)) l.number l.world (printed l.initial.out) (printed l.out) (failed l.initial.out) (failed l.out);
+      number : l.number ≡ l.line-index;
+    }

@@ -1,0 +1,83 @@
+//! Copies of messages: one that is delivered stays to be delivered again.
+ghost use Rattle.std.specs.Prelude.{◌≡◌, IfOk};
+ghost use Rattle.pg_log.specs.Entries.{requests_of};
+
+use group_world::{Answer, Kind, Message, Requests};
+use pg_log::{Entry, Request};
+use std::alloc::{AllocError, Global};
+
+/// An equal request.
+fn copy_request(alloc: Global, request: &Request) -> Result<Request, AllocError>
+    ensures { IfOk result (λ r. r ≡ request.now) }
+{
+    match request.copy(alloc) {
+        Ok(request) => Ok(request),
+        Err(_) => Err(AllocError),
+    }
+}
+
+/// Equal requests.
+fn copy_requests(alloc: Global, list: &[Request]) -> Result<Requests, AllocError>
+    ensures { IfOk result (λ l. l ≡ list.now) }
+{
+    let mut items = Vec::new(alloc);
+    for request in list {
+        items.push(copy_request(alloc, request)?)?;
+    }
+    Ok(Requests::new(items))
+}
+
+/// The requests of a log.
+pub(crate) fn requests_of(alloc: Global, entries: &[Entry]) -> Result<Vec<Request>, AllocError>
+    ensures { IfOk result (λ v. v.items ≡ requests_of entries.now) }
+{
+    let mut items = Vec::new(alloc);
+    for entry in entries {
+        items.push(copy_request(alloc, &entry.request)?)?;
+    }
+    Ok(items)
+}
+
+/// An equal answer.
+fn copy_answer(alloc: Global, answer: &Answer) -> Result<Answer, AllocError>
+    ensures { IfOk result (λ a. a ≡ answer.now) }
+{
+    let output = Vec::from_slice(alloc, answer.output())?;
+    Ok(Answer::new(answer.code(), output))
+}
+
+/// What an equal message says.
+fn copy_kind(alloc: Global, kind: &Kind) -> Result<Kind, AllocError>
+    ensures { IfOk result (λ k. k ≡ kind.now) }
+{
+    match kind {
+        Kind::Query(map) => Ok(Kind::Query(map.copy(alloc)?)),
+        Kind::Log(interval, list) => Ok(Kind::Log(*interval, copy_requests(alloc, list.items())?)),
+        Kind::Install(map, list) => {
+            let list = copy_requests(alloc, list.items())?;
+            Ok(Kind::Install(map.copy(alloc)?, list))
+        }
+        Kind::Installed(interval) => Ok(Kind::Installed(*interval)),
+        Kind::AskActivate(interval) => Ok(Kind::AskActivate(*interval)),
+        Kind::Activated(interval) => Ok(Kind::Activated(*interval)),
+        Kind::Rep(interval, place, request) => {
+            let request = copy_request(alloc, request)?;
+            Ok(Kind::Rep(*interval, *place, request))
+        }
+        Kind::Ack(interval, length) => Ok(Kind::Ack(*interval, *length)),
+        Kind::Reply(client, number, place, answer) => {
+            let answer = copy_answer(alloc, answer)?;
+            Ok(Kind::Reply(*client, *number, *place, answer))
+        }
+    }
+}
+
+/// An equal message.
+pub(crate) fn copy_message(alloc: Global, message: &Message) -> Result<Message, AllocError>
+    ensures { IfOk result (λ m. m ≡ message.now) }
+{
+    Ok(Message {
+        sender: message.sender,
+        kind: copy_kind(alloc, &message.kind)?,
+    })
+}

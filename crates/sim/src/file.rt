@@ -1,0 +1,128 @@
+ghost use Rattle.std.specs.Prelude.{◌≡◌, IfOk, map, string_bytes};
+ghost use Rattle.sim.specs.Lines.{line_of, lines_of};
+ghost use Rattle.sim.specs.Run.{EndsBy, IsLine};
+ghost use Rattle.sim.specs.Step.{step};
+
+use crate::line::read_line;
+use crate::print::bad_line;
+use crate::words::lines;
+use crate::world::World;
+use class_tool::Output;
+use interp::ClassTable;
+use pg_log::Classes;
+use std::alloc::{AllocError, Global};
+use std::marker::Brand;
+
+/// How a run of a file ended.
+#[derive(Clone, Copy, Debug, PartialEq, Eq)]
+pub enum Ending {
+    /// Each line was done, and what it came to was printed.
+    Done,
+    /// A line is bad; those above it were done, and the last line that was printed says which.
+    Bad,
+    /// Memory was refused at a line; those above it were done.
+    NoMemory,
+    /// A write or a flush failed.
+    Unprinted,
+}
+
+/// What came of a line.
+#[derive(Drop)]
+struct Taken {
+    /// What is printed.
+    text: String,
+    /// The line is bad.
+    is_bad: bool,
+}
+
+/// Does a line, and gives what is printed of it, and whether it is bad.
+fn take_line<C: Classes>(
+    alloc: Global,
+    table: &ClassTable,
+    names: &[&str],
+    world: &mut World<C>,
+    number: usize,
+    line: &str,
+) -> Result<Taken, AllocError>
+    requires { table.now ≡ C.classes }
+    ensures { IfOk result (λ p. IsLine (step table.now world.old (line_of (map (λ n. n.now) names.now) line.now)) number world.new (string_bytes p.text) p.is_bad) }
+{
+    let line = read_line(alloc, names, line)?;
+    match world.take(table, line)? {
+        Some(text) => Ok(Taken {
+            text,
+            is_bad: false,
+        }),
+        None => Ok(Taken {
+            text: bad_line(alloc, number)?,
+            is_bad: true,
+        }),
+    }
+}
+
+/// Does lines, one after the other.
+fn run_lines<C: Classes, O: Output>(
+    alloc: Global,
+    table: &ClassTable,
+    names: &[&str],
+    lines: &[&str],
+    out: &mut O,
+) -> Ending
+    requires { table.now ≡ C.classes }
+    ensures { EndsBy table.now (map (λ n. n.now) names.now) (map (λ l. l.now) lines.now) (O.printed out.old) (O.printed out.new) (O.failed out.old) (O.failed out.new) result }
+{
+    let mut world = match World::<C>::new(alloc) {
+        Ok(world) => world,
+        Err(_) => return Ending::NoMemory,
+    };
+    let mut number = 0;
+    for line in lines {
+        number += 1;
+        match take_line(alloc, table, names, &mut world, number, line) {
+            Ok(taken) => {
+                if out.print(taken.text.as_str()).is_err() {
+                    return Ending::Unprinted;
+                }
+                let is_bad = taken.is_bad;
+                if is_bad {
+                    return Ending::Bad;
+                }
+            }
+            Err(_) => return Ending::NoMemory,
+        }
+    }
+    Ending::Done
+}
+
+/// The same, where the classes are the table's.
+fn run_named<O: Output>(
+    alloc: Global,
+    table: &ClassTable,
+    names: &[&str],
+    lines: &[&str],
+    out: &mut O,
+) -> Ending
+    ensures { EndsBy table.now (map (λ n. n.now) names.now) (map (λ l. l.now) lines.now) (O.printed out.old) (O.printed out.new) (O.failed out.old) (O.failed out.new) result }
+{
+    run_lines::<Brand, O>(alloc, table, names, lines, out)
+}
+
+/// Does the lines of a text, and prints of each what it comes to before the next is done. Requests go to the table's
+/// classes by these names, the one of id 0 first; another word is a class that isn't loaded.
+///
+/// It ends with `Bad` at the first bad line, whose number is printed; with `NoMemory` where memory is refused, and then
+/// prints nothing of that line; and where a write or a flush fails.
+pub fn run<O: Output>(
+    alloc: Global,
+    table: &ClassTable,
+    names: &[&str],
+    text: &str,
+    out: &mut O,
+) -> Ending
+    ensures { EndsBy table.now (map (λ n. n.now) names.now) (lines_of text.now) (O.printed out.old) (O.printed out.new) (O.failed out.old) (O.failed out.new) result }
+{
+    match lines(alloc, text) {
+        Ok(lines) => run_named(alloc, table, names, &lines, out),
+        Err(_) => Ending::NoMemory,
+    }
+}

@@ -1,0 +1,106 @@
+ghost use Rattle.std.specs.Prelude.{◌≡◌, ◌++◌, IfOk, OnOk, map, slice_get};
+ghost use Rattle.sim.specs.Step.{committed_of, kept, kept_for};
+
+use group_world::{Epoch, Kind, Message, Packet, Party, Requests};
+use peering::GroupNode;
+use pg_log::Classes;
+use placement::NodeId;
+use replication::{PackedLog, pack_log};
+use std::alloc::{AllocError, Global};
+
+/// A message that carries a list of which its receiver has the beginning.
+#[derive(Drop)]
+pub struct ShortLog {
+    /// Whom it is for.
+    pub receiver: NodeId,
+    /// Who sends it.
+    pub sender: Party,
+    /// The interval that it is of.
+    pub interval: Epoch,
+    /// The list, without what the receiver had committed when it was sent.
+    pub log: PackedLog,
+}
+
+/// A message that was sent, as it is kept.
+#[derive(Drop)]
+pub enum Kept {
+    /// As it was sent.
+    Whole(Packet),
+    /// With the rest of its list.
+    Short(ShortLog),
+}
+
+/// How many requests a node has committed; of none 0.
+fn committed_of<C: Classes>(nodes: &[GroupNode<C>], node: NodeId) -> usize
+    ensures { result ≡ committed_of (slice_get nodes.now node) }
+{
+    match nodes.get(node.get() as usize) {
+        Some(node) => node.committed(),
+        None => 0,
+    }
+}
+
+/// A message of a list, with what its receiver hasn't committed.
+fn keep_log<C: Classes>(
+    alloc: Global,
+    nodes: &[GroupNode<C>],
+    receiver: Party,
+    sender: Party,
+    interval: Epoch,
+    list: Requests,
+) -> Result<Kept, AllocError>
+    ensures { IfOk result (λ k. k ≡ kept_for nodes.now receiver sender (Kind.Log interval list)) }
+{
+    if let Party::Node(receiver) = receiver {
+        let told = committed_of(nodes, receiver);
+        let Ok(log) = pack_log(alloc, list.items(), told) else {
+            return Err(AllocError);
+        };
+        return Ok(Kept::Short(ShortLog {
+            receiver,
+            sender,
+            interval,
+            log,
+        }));
+    }
+    let kind = Kind::Log(interval, list);
+    Ok(Kept::Whole(Packet {
+        receiver,
+        message: Message { sender, kind },
+    }))
+}
+
+/// A message as it is kept.
+fn keep<C: Classes>(
+    alloc: Global,
+    nodes: &[GroupNode<C>],
+    packet: Packet,
+) -> Result<Kept, AllocError>
+    ensures { IfOk result (λ k. k ≡ kept nodes.now packet) }
+{
+    let Packet { receiver, message } = packet;
+    let Message { sender, kind } = message;
+    match kind {
+        Kind::Log(interval, list) => keep_log(alloc, nodes, receiver, sender, interval, list),
+        kind => Ok(Kept::Whole(Packet {
+            receiver,
+            message: Message { sender, kind },
+        })),
+    }
+}
+
+/// Keeps messages behind those that were sent before.
+pub(crate) fn keep_all<C: Classes>(
+    alloc: Global,
+    nodes: &[GroupNode<C>],
+    packets: Vec<Packet>,
+    sent: &mut Vec<Kept>,
+) -> Result<(), AllocError>
+    ensures { OnOk result (sent.new.items ≡ sent.old.items ++ map (kept nodes.now) packets.items) }
+{
+    let mut rest = packets.into_iter();
+    while let Some(packet) = rest.next() {
+        sent.push(keep(alloc, nodes, packet)?)?;
+    }
+    Ok(())
+}

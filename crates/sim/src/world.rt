@@ -1,0 +1,272 @@
+ghost use Rattle.std.specs.Prelude.{◌≡◌, IfOk, IsTrue, string_bytes, option_copied};
+ghost use Rattle.group_world.specs.Monitor.{map_refusal};
+ghost use Rattle.group_world.specs.Rules.{local_step};
+ghost use Rattle.sim.specs.Step.{opening, fresh_nodes, step, numbered, is_node, is_stopped, see, show, at_node, made_map, set_stopped, sends_again, unless_stopped, handled, happened_of, prints, IsTaken};
+
+use crate::kept::{Kept, keep_all};
+use crate::line::Line;
+use crate::print::{again_text, map_line, node_line, refused_line, sent_text};
+use crate::same::numbers_of;
+use group_world::{Event, GroupMap, HandleError, Messages, MonitorError};
+use interp::ClassTable;
+use peering::{GroupNode, Monitor};
+use pg_log::Classes;
+use placement::NodeId;
+use std::alloc::{AllocError, Global};
+use std::marker::Model;
+
+/// How many nodes there are, by numbers from 0.
+const NODE_COUNT: usize = 16;
+
+/// The nodes, the monitor and the messages of a file, for the classes that `C` names. Contracts see them.
+#[derive(Drop)]
+pub struct World<C: Classes> {
+    pub(crate) alloc: Global,
+    pub(crate) maps: Vec<GroupMap>,
+    pub(crate) monitor: Monitor,
+    pub(crate) nodes: Vec<GroupNode<C>>,
+    pub(crate) stopped: Vec<bool>,
+    pub(crate) sent: Vec<Kept>,
+}
+
+impl<C: Classes> Model for World<C> {
+    ghost use Rattle.sim.specs.Step.{SimWorld};
+
+    ghost Value = { SimWorld };
+
+    ghost view = { λ w. record {
+      maps = w.maps.items;
+      monitor = w.monitor;
+      nodes = w.nodes.items;
+      stopped = w.stopped.items;
+      sent = w.sent.items;
+    } };
+}
+
+/// Nodes that have learned nothing.
+fn fresh_nodes<C: Classes>(alloc: Global) -> Result<Vec<GroupNode<C>>, AllocError>
+    ensures { IfOk result (λ v. v.items ≡ fresh_nodes NODE_COUNT) }
+{
+    let mut nodes = Vec::new(alloc);
+    for number in 0..NODE_COUNT {
+        nodes.push(GroupNode::new(alloc, NodeId::new(number as u64)))?;
+    }
+    Ok(nodes)
+}
+
+/// The one of that number, counted from 1.
+pub(crate) fn numbered<T>(items: &[T], number: u64) -> Option<&T>
+    ensures { option_copied result ≡ numbered items.now number }
+{
+    if number == 0 {
+        return None;
+    }
+    items.get((number - 1) as usize)
+}
+
+impl<C: Classes> World<C> {
+    /// Nodes that have learned nothing, no map and no message. It fails for want of memory alone.
+    pub fn new(alloc: Global) -> Result<World<C>, AllocError>
+        ensures { IfOk result (λ w. w ≡ opening) }
+    {
+        let nodes = fresh_nodes(alloc)?;
+        Ok(World {
+            alloc,
+            maps: Vec::new(alloc),
+            monitor: Monitor::new(alloc),
+            nodes,
+            stopped: vec![in alloc; false; NODE_COUNT]?,
+            sent: Vec::new(alloc),
+        })
+    }
+
+    /// Whether there is such a node.
+    pub(crate) fn is_node(&self, node: NodeId) -> bool
+        ensures { result ≡ is_node self.now node }
+    {
+        (node.get() as usize) < self.nodes.len()
+    }
+
+    /// Whether it is stopped.
+    pub(crate) fn is_stopped(&self, node: NodeId) -> bool
+        ensures { result ≡ is_stopped self.now node }
+    {
+        match self.stopped.get(node.get() as usize) {
+            Some(stopped) => *stopped,
+            None => false,
+        }
+    }
+
+    /// A text that is no message.
+    pub(crate) fn says(&self, text: &str) -> Result<Option<String>, AllocError>
+        ensures { IfOk result (λ t. happened_of string_bytes self.now t ≡ prints self.now text.now) }
+    {
+        Ok(Some(String::from_str(self.alloc, text)?))
+    }
+}
+
+/// A node takes an event, or refuses it for another reason than memory.
+fn take_event<C: Classes>(
+    table: &ClassTable,
+    node: &mut GroupNode<C>,
+    event: Event,
+) -> Result<Result<Messages, HandleError>, AllocError>
+    requires { table.now ≡ C.classes }
+    ensures { IfOk result (λ taken. IsTaken node.old node.new taken (local_step table.now node.old.number node.old.state event)) }
+{
+    // Its log is legal; the call does nothing.
+    let _ = node.group().entries();
+    match node.handle(table, event) {
+        Ok(sent) => Ok(Ok(sent)),
+        Err(HandleError::NoMemory) => Err(AllocError),
+        Err(error) => Ok(Err(error)),
+    }
+}
+
+impl<C: Classes> World<C> {
+    /// An event at a node that is there and runs.
+    pub(crate) fn handle(
+        &mut self,
+        table: &ClassTable,
+        node: NodeId,
+        event: Event,
+    ) -> Result<String, AllocError>
+        requires table { table.now ≡ C.classes }
+        requires known { IsTrue (is_node self.old node) }
+        ensures { IfOk result (λ t. record { world = self.new; printed = string_bytes t } ≡ handled table.now self.old node event) }
+    {
+        // There is no memory for more messages than there are numbers.
+        let number = self.sent.len().checked_add(1).ok_or(AllocError)?;
+        match take_event(table, &mut self.nodes[node.get() as usize], event)? {
+            Ok(sent) => {
+                let text = sent_text(self.alloc, number, sent.items())?;
+                let sent = sent.into_items();
+                keep_all(self.alloc, &self.nodes, sent, &mut self.sent)?;
+                Ok(text)
+            }
+            Err(error) => refused_line(self.alloc, error),
+        }
+    }
+
+    /// An event at a node.
+    pub(crate) fn at_node(
+        &mut self,
+        table: &ClassTable,
+        node: NodeId,
+        event: Event,
+    ) -> Result<Option<String>, AllocError>
+        requires { table.now ≡ C.classes }
+        ensures { IfOk result (λ t. happened_of string_bytes self.new t ≡ at_node table.now self.old node event) }
+    {
+        if !self.is_node(node) {
+            return Ok(None);
+        }
+        if self.is_stopped(node) {
+            return self.says("stopped\n");
+        }
+        Ok(Some(self.handle(table, node, event)?))
+    }
+
+    /// The monitor makes a map.
+    fn make_map(&mut self, acting: &[NodeId]) -> Result<String, AllocError>
+        ensures { IfOk result (λ t. record { world = self.new; printed = string_bytes t } ≡ made_map self.old acting.now (map_refusal self.old.monitor acting.now)) }
+    {
+        match self.monitor.new_map(acting) {
+            Ok(map) => {
+                let text = map_line(self.alloc, &map)?;
+                self.maps.push(map)?;
+                Ok(text)
+            }
+            Err(MonitorError::NoMemory) => Err(AllocError),
+            Err(error) => refused_line(self.alloc, error),
+        }
+    }
+
+    /// A node learns a map.
+    fn see(
+        &mut self,
+        table: &ClassTable,
+        node: NodeId,
+        epoch: u64,
+    ) -> Result<Option<String>, AllocError>
+        requires { table.now ≡ C.classes }
+        ensures { IfOk result (λ t. happened_of string_bytes self.new t ≡ see table.now self.old node (numbered self.old.maps epoch)) }
+    {
+        match numbered(&self.maps, epoch) {
+            Some(map) => {
+                let map = map.copy(self.alloc)?;
+                self.at_node(table, node, Event::Map(map))
+            }
+            None => Ok(None),
+        }
+    }
+
+    /// How a node stands.
+    fn show(&self, node: NodeId) -> Result<Option<String>, AllocError>
+        ensures { IfOk result (λ t. happened_of string_bytes self.now t ≡ show self.now node) }
+    {
+        match self.nodes.get(node.get() as usize) {
+            Some(standing) => Ok(Some(node_line(self.alloc, node, standing)?)),
+            None => Ok(None),
+        }
+    }
+
+    /// A node stops, or goes on.
+    fn set_stopped(&mut self, node: NodeId, stopped: bool) -> Result<Option<String>, AllocError>
+        ensures { IfOk result (λ t. happened_of string_bytes self.new t ≡ set_stopped self.old node stopped) }
+    {
+        if !self.is_node(node) {
+            return Ok(None);
+        }
+        if let Some(place) = self.stopped.get_mut(node.get() as usize) {
+            *place = stopped;
+        }
+        self.says("nothing\n")
+    }
+
+    /// What a node that is there would send again.
+    fn again(&self, node: NodeId) -> Result<String, AllocError>
+        requires { IsTrue (is_node self.now node) }
+        ensures { IfOk result (λ t. record { world = self.now; printed = string_bytes t } ≡ sends_again self.now node) }
+    {
+        let Ok(again) = self.nodes[node.get() as usize].resend() else {
+            return Err(AllocError);
+        };
+        let numbers = numbers_of(self.alloc, &self.sent, again.items())?;
+        again_text(self.alloc, &numbers)
+    }
+
+    /// A node sends again what is unanswered.
+    fn resend(&self, node: NodeId) -> Result<Option<String>, AllocError>
+        ensures { IfOk result (λ t. happened_of string_bytes self.now t ≡ unless_stopped self.now node (sends_again self.now node)) }
+    {
+        if !self.is_node(node) {
+            return Ok(None);
+        }
+        if self.is_stopped(node) {
+            return self.says("stopped\n");
+        }
+        Ok(Some(self.again(node)?))
+    }
+
+    /// What a line comes to, and what is printed of it; nothing where it is bad. It fails for want of memory alone, and
+    /// is then of no further use. Each line costs what its event costs at the node, and a copy of the message that it
+    /// delivers; `resend` goes through the messages that were sent.
+    pub fn take(&mut self, table: &ClassTable, line: Line) -> Result<Option<String>, AllocError>
+        requires { table.now ≡ C.classes }
+        ensures { IfOk result (λ t. happened_of string_bytes self.new t ≡ step table.now self.old line) }
+    {
+        match line {
+            Line::Empty => self.says(""),
+            Line::Map(acting) => Ok(Some(self.make_map(acting.items())?)),
+            Line::See(node, epoch) => self.see(table, node, epoch),
+            Line::Ask(node, request) => self.at_node(table, node, Event::Request(request)),
+            Line::Deliver(number) => self.deliver(table, number),
+            Line::Show(node) => self.show(node),
+            Line::Stop(node) => self.set_stopped(node, true),
+            Line::Go(node) => self.set_stopped(node, false),
+            Line::Resend(node) => self.resend(node),
+            Line::Bad => Ok(None),
+        }
+    }
+}

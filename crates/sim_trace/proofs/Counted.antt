@@ -1,0 +1,17 @@
+-- One more of what is put behind a text so many times.
+use Rattle.std.proofs.Common.{◌≡◌, ℕ, suc, ◌+◌, List, ◌++◌, Bool, false, refl, ap, add-one, codes, slice_get, slice_index_or}
+use Rattle.sim_trace.specs.declared.lane.Lane.{Lane}
+use Rattle.sim_trace.specs.declared.letter.Letter.{Letter}
+use Rattle.sim_trace.specs.Rows.{repeated}
+use Rattle.sim_trace.specs.Drawing.{label, numbers_from, lost_rows, lost_unless, lost_row}
+
+pub repeated_more : (n : ℕ) (text : List ℕ) → repeated (n + 1) text ≡ repeated n text ++ text
+repeated_more n text = ap (λ m. repeated m text) (add-one n)
+
+pub numbers_from_more : (first k : ℕ) → numbers_from first (k + 1) ≡ numbers_from first k ++ codes " " ++ label (first + k + 1)
+numbers_from_more first k = ap (λ m. numbers_from first m) (add-one k)
+
+pub lost_rows_more : (columns : List Lane) (letters : List Letter) (come : List Bool) (first k : ℕ) →
+    lost_rows columns letters come first (k + 1)
+    ≡ lost_rows columns letters come first k ++ lost_unless (slice_index_or come (first + k) false) (lost_row columns (first + k + 1) (slice_get letters (first + k)))
+lost_rows_more columns letters come first k = ap (λ m. lost_rows columns letters come first m) (add-one k)

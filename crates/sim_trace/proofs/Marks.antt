@@ -1,0 +1,26 @@
+-- A list of marks is the definition's.
+use Rattle.std.proofs.Common.{◌≡◌, ◌<◌, ◌≤◌, ℕ, suc, ◌+◌, List, Bool, false, length, take, map, slice_index_or, sym, ◌∙◌, ap, subst, zero-add, arith}
+use Rattle.std.proofs.Math.Seq.{take-length}
+use Rattle.std.proofs.lemmas.List.{ext_get_or}
+use Rattle.std.proofs.lemmas.List.FromFn.{length-map-range_with_len, get_or-map-range_with_len}
+use Rattle.std.specs.List.{list_any, range_with_len}
+use Rattle.sim_trace.specs.declared.letter.Letter.{Letter}
+use Rattle.sim_trace.specs.declared.step.Step.{Step}
+use Rattle.sim_trace.specs.Drawing.{delivered, names_it}
+
+pub delivered_by : (letters : List Letter) (steps : List Step) (come : List Bool) → length come ≡ length letters →
+    ((k : ℕ) → k < length letters → slice_index_or come k false ≡ list_any (λ s. names_it (suc k) s.what) steps) → come ≡ delivered letters steps
+delivered_by letters steps come e h =
+    let f : ℕ → Bool = λ k. list_any (λ s. names_it (suc k) s.what) steps in
+    let n : ℕ = length letters in
+    let P : ℕ → Type 0 = λ m. (i : ℕ) → i < m → slice_index_or come i false ≡ slice_index_or (map f (range_with_len 0 n)) i false in
+    ext_get_or false come (map f (range_with_len 0 n)) (e ∙ sym (length-map-range_with_len f 0 n))
+    (subst P (sym e) (λ i lt. h i lt ∙ sym (get_or-map-range_with_len f 0 n i i false lt (zero-add i))))
+
+-- the same, of marks that were made step by step
+pub delivered_after : (letters : List Letter) (steps : List Step) (come : List Bool) (i : ℕ) → i ≡ length steps → length come ≡ length letters →
+    ((k : ℕ) → k < length letters → slice_index_or come k false ≡ list_any (λ s. names_it (suc k) s.what) (take i steps)) → come ≡ delivered letters steps
+delivered_after letters steps come i end e h =
+    delivered_by letters steps come e (λ k lt.
+    let F : List Step → Bool = λ ss. list_any (λ s. names_it (suc k) s.what) ss in
+    h k lt ∙ ap (λ m. F (take m steps)) end ∙ ap F (take-length steps))

@@ -1,0 +1,46 @@
+//! Which messages are delivered.
+ghost use Rattle.std.specs.Prelude.{◌≡◌, ◌<◌, ◌==◌, ◌||◌, ℕ, suc, false, IfOk, length, slice_index_or};
+ghost use Rattle.sim_trace.specs.Drawing.{delivered, names_it};
+
+use crate::letter::Letter;
+use crate::step::{Step, What};
+use std::alloc::{AllocError, Global};
+
+/// For each message, whether some step delivers it, or tries to.
+pub(crate) fn delivered(
+    alloc: Global,
+    letters: &[Letter],
+    steps: &[Step],
+) -> Result<Vec<bool>, AllocError>
+    ensures value { IfOk result (λ v. v.items ≡ delivered letters.now steps.now) }
+    ensures count { IfOk result (λ v. length v.items ≡ length letters.now) }
+{
+    let mut come = Vec::new(alloc);
+    for _letter in letters {
+        come.push(false)?;
+    }
+    for step in steps {
+        note(&mut come, step.what);
+    }
+    Ok(come)
+}
+
+/// Notes what a step delivers.
+fn note(come: &mut [bool], what: What)
+    ensures { (k : ℕ) → k < length come.old → slice_index_or come.new k false ≡ (slice_index_or come.old k false || names_it (suc k) what) }
+{
+    match what {
+        What::At(_) => {}
+        What::Asked(_, _) => {}
+        What::Arrived(number) => note_number(come, number),
+        What::Bounced(number) => note_number(come, number),
+    }
+}
+
+fn note_number(come: &mut [bool], number: usize)
+    ensures { (k : ℕ) → k < length come.old → slice_index_or come.new k false ≡ (slice_index_or come.old k false || number == suc k) }
+{
+    if 0 < number && number <= come.len() {
+        come[number - 1] = true;
+    }
+}

@@ -1,0 +1,257 @@
+//! The drawing, line by line.
+ghost use Rattle.std.specs.Prelude.{◌≡◌, ◌≤◌, ◌<◌, ◌+◌, ◌++◌, Some, false, length, slice_get, slice_index_or, OnOk, IfOk, string_bytes};
+ghost use Rattle.sim_trace.specs.Columns.{name};
+ghost use Rattle.sim_trace.specs.Drawing.{letter_at, letter_row, delivery, picture, sends, step_row, lost_row, lost_unless, lost_rows, sent_by, rows, heading, names, drawn};
+
+use crate::columns::{columns_of, place_of};
+use crate::delivered::delivered;
+use crate::lane::Lane;
+use crate::letter::Letter;
+use crate::rows::{push_arrow, push_mark};
+use crate::step::{Step, What};
+use crate::text::push_repeated;
+use std::alloc::{AllocError, Global};
+
+/// The run as a message sequence: the names of the columns, then a line for each step. A message is drawn where it
+/// arrives, each time; one that no step delivers below the step that sent it, a reply as it reaches its client, any other
+/// as lost. The line of a step ends with the numbers of the messages that it sent.
+pub fn draw(alloc: Global, letters: &[Letter], steps: &[Step]) -> Result<String, AllocError>
+    ensures { IfOk result (λ s. string_bytes s ≡ drawn letters.now steps.now) }
+{
+    let columns = columns_of(alloc, letters, steps)?;
+    let come = delivered(alloc, letters, steps)?;
+    let mut out = String::new(alloc);
+    push_names(alloc, &mut out, &columns)?;
+    push_rows(alloc, &mut out, &columns, letters, &come, steps)?;
+    Ok(out)
+}
+
+/// The names of the columns.
+fn push_names(alloc: Global, out: &mut String, columns: &[Lane]) -> Result<(), AllocError>
+    ensures { OnOk result (string_bytes out.new ≡ string_bytes out.old ++ names columns.now) }
+{
+    for lane in columns {
+        push_heading(alloc, out, *lane)?;
+    }
+    out.push_str("event\n")
+}
+
+/// The name of a column.
+fn push_heading(alloc: Global, out: &mut String, lane: Lane) -> Result<(), AllocError>
+    ensures { OnOk result (string_bytes out.new ≡ string_bytes out.old ++ heading (name lane)) }
+{
+    let text = name(alloc, lane)?;
+    out.push_str(text.as_str())?;
+    push_repeated(out, 12usize.saturating_sub(text.len()), " ")
+}
+
+fn name(alloc: Global, lane: Lane) -> Result<String, AllocError>
+    ensures { IfOk result (λ s. string_bytes s ≡ name lane) }
+{
+    let mut text = String::new(alloc);
+    lane.push_name(&mut text)?;
+    Ok(text)
+}
+
+/// A message from its sender to its receiver.
+fn push_letter(
+    alloc: Global,
+    out: &mut String,
+    columns: &[Lane],
+    number: usize,
+    arrives: bool,
+    letter: &Letter,
+) -> Result<(), AllocError>
+    ensures { OnOk result (string_bytes out.new ≡ string_bytes out.old ++ letter_row columns.now number arrives letter.now) }
+{
+    let label = format!(in alloc; "m{number}")?;
+    let (start, end) = (place_of(columns, letter.from), place_of(columns, letter.to));
+    push_arrow(out, columns.len(), start, end, arrives, label.as_str())
+}
+
+/// A message that is delivered, and what it says.
+fn push_delivery(
+    alloc: Global,
+    out: &mut String,
+    columns: &[Lane],
+    letters: &[Letter],
+    number: usize,
+    arrives: bool,
+) -> Result<(), AllocError>
+    ensures { OnOk result (string_bytes out.new ≡ string_bytes out.old ++ delivery columns.now number arrives (letter_at letters.now number)) }
+{
+    if number == 0 {
+        return Ok(());
+    }
+    match letters.get(number - 1) {
+        Some(letter) => push_said(alloc, out, columns, number, arrives, letter),
+        None => Ok(()),
+    }
+}
+
+fn push_said(
+    alloc: Global,
+    out: &mut String,
+    columns: &[Lane],
+    number: usize,
+    arrives: bool,
+    letter: &Letter,
+) -> Result<(), AllocError>
+    ensures { OnOk result (string_bytes out.new ≡ string_bytes out.old ++ delivery columns.now number arrives (Some letter.now)) }
+{
+    push_letter(alloc, out, columns, number, arrives, letter)?;
+    out.push_str(letter.text.as_str())
+}
+
+/// What happened.
+fn push_picture(
+    alloc: Global,
+    out: &mut String,
+    columns: &[Lane],
+    letters: &[Letter],
+    what: What,
+) -> Result<(), AllocError>
+    ensures { OnOk result (string_bytes out.new ≡ string_bytes out.old ++ picture columns.now letters.now what) }
+{
+    match what {
+        What::At(lane) => push_mark(out, columns.len(), place_of(columns, lane)),
+        What::Asked(client, node) => {
+            let (start, end) = (place_of(columns, client), place_of(columns, node));
+            push_arrow(out, columns.len(), start, end, true, "req")
+        }
+        What::Arrived(number) => push_delivery(alloc, out, columns, letters, number, true),
+        What::Bounced(number) => push_delivery(alloc, out, columns, letters, number, false),
+    }
+}
+
+#[tactic(auto, using(crate::proofs::Counted::numbers_from_more))]
+/// The numbers of the messages that a step sent: so many, from one on.
+fn push_sends(out: &mut String, first: usize, count: usize) -> Result<(), AllocError>
+    requires { first + count ≤ usize.MAX }
+    ensures { OnOk result (string_bytes out.new ≡ string_bytes out.old ++ sends first count) }
+{
+    if count == 0 {
+        return Ok(());
+    }
+    out.push_str(" =>")?;
+    for k in 0..count {
+        write!(out, " m{}", first + k + 1)?;
+    }
+    Ok(())
+}
+
+/// A message that no step delivers.
+fn push_lost(
+    alloc: Global,
+    out: &mut String,
+    columns: &[Lane],
+    number: usize,
+    letter: &Letter,
+) -> Result<(), AllocError>
+    ensures { OnOk result (string_bytes out.new ≡ string_bytes out.old ++ lost_row columns.now number (Some letter.now)) }
+{
+    let arrives = letter.to.is_client();
+    push_letter(alloc, out, columns, number, arrives, letter)?;
+    out.push_str(letter.text.as_str())?;
+    out.push_str(letter.to.fate())
+}
+
+fn comes(come: &[bool], place: usize) -> bool
+    requires { place < length come.now }
+    ensures { result ≡ slice_index_or come.now place false }
+{
+    come[place]
+}
+
+/// The message of a place, if no step delivers it.
+fn push_if_lost(
+    alloc: Global,
+    out: &mut String,
+    columns: &[Lane],
+    letters: &[Letter],
+    come: &[bool],
+    place: usize,
+) -> Result<(), AllocError>
+    requires within { place < length letters.now }
+    requires same { length come.now ≡ length letters.now }
+    ensures { OnOk result (string_bytes out.new ≡ string_bytes out.old ++ lost_unless (slice_index_or come.now place false) (lost_row columns.now (place + 1) (slice_get letters.now place))) }
+{
+    if comes(come, place) {
+        return Ok(());
+    }
+    match letters.get(place) {
+        Some(letter) => push_lost(alloc, out, columns, place + 1, letter),
+        None => Ok(()),
+    }
+}
+
+#[tactic(auto, using(crate::proofs::Counted::lost_rows_more))]
+/// Of so many messages from one on, those that no step delivers.
+fn push_all_lost(
+    alloc: Global,
+    out: &mut String,
+    columns: &[Lane],
+    letters: &[Letter],
+    come: &[bool],
+    first: usize,
+    count: usize,
+) -> Result<(), AllocError>
+    requires within { first + count ≤ length letters.now }
+    requires same { length come.now ≡ length letters.now }
+    ensures { OnOk result (string_bytes out.new ≡ string_bytes out.old ++ lost_rows columns.now letters.now come.now first count) }
+{
+    for k in 0..count {
+        push_if_lost(alloc, out, columns, letters, come, first + k)?;
+    }
+    Ok(())
+}
+
+/// How many messages a step sent, of those from one on.
+fn sent_by(letters: &[Letter], first: usize, step: &Step) -> usize
+    requires { first ≤ length letters.now }
+    ensures value { result ≡ sent_by letters.now first step.now }
+    ensures within { first + result ≤ length letters.now }
+{
+    step.sent.min(letters.len() - first)
+}
+
+/// The line of a step.
+fn push_step(
+    alloc: Global,
+    out: &mut String,
+    columns: &[Lane],
+    letters: &[Letter],
+    first: usize,
+    count: usize,
+    step: &Step,
+) -> Result<(), AllocError>
+    requires { first + count ≤ length letters.now }
+    ensures { OnOk result (string_bytes out.new ≡ string_bytes out.old ++ step_row columns.now letters.now first count step.now) }
+{
+    push_picture(alloc, out, columns, letters, step.what)?;
+    out.push_str(step.text.as_str())?;
+    push_sends(out, first, count)?;
+    out.push_str("\n")
+}
+
+/// The lines of all steps.
+fn push_rows(
+    alloc: Global,
+    out: &mut String,
+    columns: &[Lane],
+    letters: &[Letter],
+    come: &[bool],
+    steps: &[Step],
+) -> Result<(), AllocError>
+    requires { length come.now ≡ length letters.now }
+    ensures { OnOk result (string_bytes out.new ≡ string_bytes out.old ++ rows columns.now letters.now come.now 0 steps.now) }
+{
+    let mut first = 0;
+    for step in steps {
+        let count = sent_by(letters, first, step);
+        push_step(alloc, out, columns, letters, first, count, step)?;
+        push_all_lost(alloc, out, columns, letters, come, first, count)?;
+        first += count;
+    }
+    Ok(())
+}

@@ -1,0 +1,61 @@
+ghost use Rattle.std.specs.Prelude.{◌≡◌, ◌++◌, OnOk, string_bytes};
+ghost use Rattle.sim_trace.specs.Columns.{rank, name};
+ghost use Rattle.sim_trace.specs.Drawing.{is_client, fate};
+
+use std::alloc::AllocError;
+
+/// Who has a column.
+#[derive(Clone, Copy, Debug, PartialEq, Eq, Drop)]
+pub enum Lane {
+    /// A client, by its number.
+    Client(u32),
+    /// A node, by its number.
+    Node(u8),
+    /// The monitor.
+    Monitor,
+}
+
+impl Lane {
+    /// Columns stand by rising rank.
+    pub(crate) fn rank(self) -> u64
+        ensures { result ≡ rank self }
+    {
+        match self {
+            Lane::Client(number) => u64::from(number),
+            Lane::Node(number) => 0x1_0000_0000 + u64::from(number),
+            Lane::Monitor => 0x2_0000_0000,
+        }
+    }
+
+    pub(crate) fn is_client(self) -> bool
+        ensures { result ≡ is_client self }
+    {
+        match self {
+            Lane::Client(_) => true,
+            Lane::Node(_) => false,
+            Lane::Monitor => false,
+        }
+    }
+
+    /// What comes of a message to it that is never delivered.
+    pub(crate) fn fate(self) -> &'static str
+        ensures { result.now ≡ fate self }
+    {
+        match self {
+            Lane::Client(_) => "\n",
+            Lane::Node(_) => ", lost\n",
+            Lane::Monitor => ", lost\n",
+        }
+    }
+
+    /// Puts its name behind a text.
+    pub(crate) fn push_name(self, out: &mut String) -> Result<(), AllocError>
+        ensures { OnOk result (string_bytes out.new ≡ string_bytes out.old ++ name self) }
+    {
+        match self {
+            Lane::Client(number) => write!(out, "c{number}"),
+            Lane::Node(number) => write!(out, "{number}"),
+            Lane::Monitor => out.push_str("mon"),
+        }
+    }
+}

@@ -1,0 +1,21 @@
+//! Draws what happened in a group as a message sequence in text: a column for each client, each node and the monitor, and
+//! an arrow for each message where it arrives. `draw` takes the messages and, step by step, what happened; what it draws is
+//! the definition `drawn`.
+#![tactic(auto)]
+
+mod columns;
+mod delivered;
+mod drawing;
+mod lane;
+mod letter;
+mod rows;
+mod step;
+mod text;
+
+pub use drawing::draw;
+pub use lane::Lane;
+pub use letter::Letter;
+pub use step::{Step, What};
+
+#[cfg(test)]
+mod tests;

@@ -1,0 +1,25 @@
+use crate::lane::Lane;
+
+/// What happened.
+#[derive(Clone, Copy, Drop)]
+pub enum What {
+    /// Something at one party, as a map that a node sees.
+    At(Lane),
+    /// The first, a client, asks the second, a node.
+    Asked(Lane, Lane),
+    /// The message of that number arrives at its receiver.
+    Arrived(usize),
+    /// The message of that number comes to its receiver, which is stopped.
+    Bounced(usize),
+}
+
+/// A step of a run.
+#[derive(Drop)]
+pub struct Step {
+    /// What happened.
+    pub what: What,
+    /// What is said of it; of a message that arrives, behind what that says.
+    pub text: String,
+    /// How many messages it sent: so many of those that no step before it sent.
+    pub sent: usize,
+}

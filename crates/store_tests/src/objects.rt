@@ -1,0 +1,5 @@
+mod calls;
+mod edits;
+mod limits;
+mod names;
+mod whole;

@@ -1,0 +1,215 @@
+//! Calls one after another on the object of one name, with answers computed by hand.
+
+use crate::words::{bytes, next, number};
+use object_store::{ObjectName, Objects, StoreError};
+use std::alloc::Global;
+use std::test::Fail;
+
+/// A value of one byte more than there may be.
+const LONG_VALUE: &[u8] = &[7; 4097];
+
+/// A line is a call, what it is given first and second, and its answer: a refusal's name, the length for `stat`, four bytes
+/// for `read`, which had ones before, or else a value, a key or nothing. `@4097` is a value of so many bytes.
+const ROWS: &str = "
+stat - - Absent
+read 0 - Absent
+truncate 0 - Absent
+truncate 65537 - TooBig
+remove - - Absent
+getxattr x - Absent
+getxattr - - Range
+getxattr @65 - Range
+rmxattr x - Absent
+rmxattr - - Range
+getkey k - Absent
+getkey @65 - Range
+rmkey k - Absent
+rmkey @65 - Range
+nextkey - - Absent
+nextkey @65 - Range
+write 65537 - TooBig
+write 65536 z TooBig
+write 18446744073709551615 z TooBig
+setxattr - @4097 Range
+setxattr @65 - Range
+setxattr x @4097 TooBig
+setkey - @4097 Range
+setkey k @4097 TooBig
+stat - - Absent
+write 65536 - -
+stat - - 0
+create new - Exists
+create any - -
+write 4094 abcd -
+stat - - 4098
+read 4094 - abcd
+read 0 - \0\0\0\0
+read 4096 - cd\x01\x01
+read 4098 - \x01\x01\x01\x01
+read 18446744073709551615 - \x01\x01\x01\x01
+truncate 4095 - -
+truncate 4098 - -
+read 4094 - a\0\0\0
+write 0 - -
+write 65535 z -
+stat - - 65536
+truncate 65537 - TooBig
+write 65536 z TooBig
+truncate 65536 - -
+read 65534 - \0z\x01\x01
+getxattr x - NoAttr
+setxattr x one -
+setxattr @64 - -
+setxattr x two -
+getxattr x - two
+getxattr @64 - -
+rmxattr x - -
+rmxattr x - NoAttr
+getxattr x - NoAttr
+nextkey - - NoAttr
+setkey c C -
+setkey a A -
+getkey a - A
+nextkey - - a
+nextkey a - c
+nextkey b - c
+nextkey c - NoAttr
+rmkey b - NoAttr
+rmkey a - -
+nextkey - - c
+remove - - -
+create new - -
+stat - - 0
+getxattr @64 - NoAttr
+nextkey - - NoAttr
+";
+
+/// A line's words.
+#[derive(Clone, Copy)]
+struct Line<'a> {
+    call: &'a str,
+    first: &'a str,
+    second: &'a str,
+    answer: &'a str,
+}
+
+fn line_of(line: &str) -> Line<'_> {
+    let mut words = line.split_whitespace();
+    Line {
+        call: next(&mut words),
+        first: next(&mut words),
+        second: next(&mut words),
+        answer: next(&mut words),
+    }
+}
+
+/// The bytes of a value.
+fn value_of(word: &str) -> &[u8] {
+    match word {
+        "@4097" => LONG_VALUE,
+        _ => bytes(word),
+    }
+}
+
+/// What a line wants: a refusal, or bytes.
+fn wanted(word: &str) -> Result<&[u8], StoreError> {
+    match word {
+        "Absent" => Err(StoreError::Absent),
+        "Exists" => Err(StoreError::Exists),
+        "NoAttr" => Err(StoreError::NoAttr),
+        "TooBig" => Err(StoreError::TooBig),
+        "Range" => Err(StoreError::Range),
+        _ => Ok(bytes(word)),
+    }
+}
+
+/// Makes a change.
+fn change(
+    alloc: Global,
+    objects: &mut Objects,
+    name: &ObjectName,
+    line: Line<'_>,
+) -> Result<(), StoreError> {
+    let (at, key, value) = (number(line.first), bytes(line.first), value_of(line.second));
+    match line.call {
+        "write" => objects.write(alloc, name, at, value),
+        "truncate" => objects.truncate(alloc, name, at),
+        "create" => objects.create(alloc, name, line.first == "new"),
+        "remove" => objects.remove(alloc, name),
+        "setxattr" => objects.set_xattr(alloc, name, key, value),
+        "rmxattr" => objects.remove_xattr(alloc, name, key),
+        "setkey" => objects.set_key(alloc, name, key, value),
+        "rmkey" => objects.remove_key(alloc, name, key),
+        _ => Err(StoreError::NoMemory),
+    }
+}
+
+/// Reads a value or a key; none of another call.
+fn looked_up<'a>(
+    objects: &'a Objects,
+    name: &ObjectName,
+    line: Line<'_>,
+) -> Option<Result<&'a [u8], StoreError>> {
+    let key = bytes(line.first);
+    match line.call {
+        "getxattr" => Some(objects.get_xattr(name, key)),
+        "getkey" => Some(objects.get_key(name, key)),
+        "nextkey" => Some(objects.next_key(name, key)),
+        _ => None,
+    }
+}
+
+/// Whether a read of four bytes answers so, and leaves the buffer where it is refused.
+fn reads(objects: &Objects, name: &ObjectName, line: Line<'_>) -> bool {
+    let mut buffer = [1; 4];
+    let found = objects.read(name, number(line.first), &mut buffer).err();
+    match wanted(line.answer) {
+        Ok(bytes) => found.is_none() && bytes == buffer.as_slice(),
+        Err(refusal) => found == Some(refusal) && buffer == [1; 4],
+    }
+}
+
+/// Whether the length of the data is so.
+fn has_length(objects: &Objects, name: &ObjectName, line: Line<'_>) -> bool {
+    match objects.stat(name) {
+        Ok(len) => len as u64 == number(line.answer) && wanted(line.answer).is_ok(),
+        Err(error) => wanted(line.answer) == Err(error),
+    }
+}
+
+/// Whether the call answers so.
+fn answers(alloc: Global, objects: &mut Objects, name: &ObjectName, line: Line<'_>) -> bool {
+    if line.call == "stat" {
+        return has_length(objects, name, line);
+    }
+    if line.call == "read" {
+        return reads(objects, name, line);
+    }
+    if let Some(found) = looked_up(objects, name, line) {
+        return found == wanted(line.answer);
+    }
+    change(alloc, objects, name, line).err() == wanted(line.answer).err()
+}
+
+/// How many lines come before the first that is answered otherwise. An empty one isn't counted.
+fn right_answers(alloc: Global, objects: &mut Objects, name: &ObjectName, text: &str) -> usize {
+    let mut count = 0usize;
+    for line in text.lines() {
+        if line.is_empty() {
+            continue;
+        }
+        if !answers(alloc, objects, name, line_of(line)) {
+            return count;
+        }
+        count = count.saturating_add(1);
+    }
+    count
+}
+
+#[test]
+fn rows(rt: HostRuntime) -> Result<(), Fail> {
+    let name = ObjectName::new(rt.alloc(), "o")?;
+    let count = right_answers(rt.alloc(), &mut Objects::new(), &name, ROWS);
+    assert!(rt; count == 71, "{count} right answers");
+    Ok(())
+}

@@ -1,0 +1,72 @@
+//! Each call at its limits, with memory enough.
+
+use object_store::{Object, StoreError, calls};
+use std::alloc::Global;
+use std::process::Abort;
+
+const LONGEST_VALUE: [u8; 4096] = [7; 4096];
+
+/// A name of 64 bytes for each number.
+fn name_of(n: u16) -> [u8; 64] {
+    let mut name = [b'n'; 64];
+    let [high, low] = n.to_be_bytes();
+    name[0] = high;
+    name[1] = low;
+    name
+}
+
+/// The object with so many xattrs and keys, each with the longest name and value.
+fn with_names<R: Abort>(rt: &R, alloc: Global, object: Object, xattrs: u16, keys: u16) -> Object {
+    let mut object = object;
+    for n in 0..xattrs {
+        object = with_xattr(rt, alloc, &object, n, &LONGEST_VALUE);
+    }
+    for n in 0..keys {
+        object = with_key(rt, alloc, &object, n, &LONGEST_VALUE);
+    }
+    object
+}
+
+fn with_xattr<R: Abort>(rt: &R, alloc: Global, object: &Object, n: u16, value: &[u8]) -> Object {
+    calls::set_xattr(alloc, Some(object), &name_of(n), value).expect(rt, "an xattr")
+}
+
+fn with_key<R: Abort>(rt: &R, alloc: Global, object: &Object, n: u16, value: &[u8]) -> Object {
+    calls::set_key(alloc, Some(object), &name_of(n), value).expect(rt, "a key")
+}
+
+/// An object of 65,536 bytes, 32 xattrs and 1,024 keys.
+fn full<R: Abort>(rt: &R, alloc: Global) -> Object {
+    let text = [7].repeat(alloc, 65_536).expect(rt, "memory");
+    let object = calls::write(alloc, None, 0, &text).expect(rt, "data");
+    with_names(rt, alloc, object, 32, 1024)
+}
+
+/// Whether the object has all that, with this value of a name.
+fn is_full(object: &Object, name: &[u8], value: &[u8]) -> bool {
+    let counts = object.len() == 65_536 && object.xattr_count() == 32 && object.key_count() == 1024;
+    counts && object.xattr(name) == Some(value) && object.key(name) == Some(value)
+}
+
+/// Whether one xattr and one key more are too many.
+fn refuses_more(alloc: Global, object: &Object) -> bool {
+    let xattr = calls::set_xattr(alloc, Some(object), &name_of(32), b"").err();
+    let key = calls::set_key(alloc, Some(object), &name_of(1024), b"").err();
+    xattr == Some(StoreError::TooMany) && key == Some(StoreError::TooMany)
+}
+
+#[test]
+fn the_largest_object(rt: HostRuntime) {
+    let object = full(&rt, rt.alloc()).copy().expect(&rt, "memory");
+    assert!(rt; is_full(&object, &name_of(31), &LONGEST_VALUE));
+    assert!(rt; refuses_more(rt.alloc(), &object));
+}
+
+#[test]
+fn an_old_name_at_the_limit(rt: HostRuntime) {
+    let object = full(&rt, rt.alloc());
+    let changed = with_xattr(&rt, rt.alloc(), &object, 5, b"new");
+    let changed = with_key(&rt, rt.alloc(), &changed, 5, b"new");
+    assert!(rt; is_full(&changed, &name_of(5), b"new"));
+    assert!(rt; is_full(&object, &name_of(5), &LONGEST_VALUE));
+}
