@@ -1,5 +1,5 @@
 mod branches;
-mod helpers;
+mod helper_calls;
 mod lines;
 mod memory;
 mod objects;

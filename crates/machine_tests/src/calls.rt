@@ -1,6 +1,6 @@
 //! Calls of `interp`: rows with answers computed by hand, one call at all limits, and the table of classes.
 
-mod helpers;
+mod helper_calls;
 mod limits;
 mod operations;
 mod rows;

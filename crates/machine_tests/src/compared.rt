@@ -1,6 +1,6 @@
 //! Calls of verified methods beside the plain run of their raw bytes, on programs that loops make.
 
-mod helpers;
+mod helper_calls;
 mod operands;
 mod random;
 mod rows;

@@ -28,6 +28,3 @@ pub use log_error::LogError;
 pub use object_limits::objects_within_limits;
 pub use request::Request;
 pub use request_number::RequestNumber;
-
-#[cfg(test)]
-mod tests;
