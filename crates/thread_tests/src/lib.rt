@@ -1,0 +1,5 @@
+//! Tests alone, of what threads share: a group under a lock.
+#![tactic(auto)]
+
+#[cfg(test)]
+mod locks;
