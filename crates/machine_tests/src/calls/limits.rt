@@ -26,7 +26,7 @@ const LONGEST: [u8; 88] = [
 /// What `LONGEST` answers on 4,096 bytes of 0x5a.
 fn longest(rt: &impl Abort, alloc: Global, object: Option<&Object>) -> Outcome {
     let class = class_of(rt, alloc, &LONGEST, 2, 4096, 4096);
-    let input = [0x5a; 4096];
+    let input = [0x5a].repeat(alloc, 4096).expect(rt, "memory");
     call_f(rt, alloc, &class, object, &input)
 }
 
@@ -73,7 +73,7 @@ fn an_object_grows_to_its_limit(rt: HostRuntime) {
 
 /// The object of 65,536 bytes of 0x33.
 fn full(rt: &impl Abort, alloc: Global) -> Object {
-    let bytes = Vec::from_elem(alloc, 0x33u8, DATA_LIMIT).expect(rt, "memory");
+    let bytes = [0x33].repeat(alloc, DATA_LIMIT).expect(rt, "memory");
     calls::write(alloc, None, 0, &bytes).expect(rt, "an object")
 }
 

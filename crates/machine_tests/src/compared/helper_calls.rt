@@ -5,7 +5,7 @@ use super::{agrees, put, slot, verified};
 use crate::contents::{Contents, NOTHING, object_of};
 use bpf_machine::Layout;
 use helpers::{Argument, signature};
-use object_store::{DATA_LIMIT, KEY_LIMIT, Object, StoreError, XATTR_LIMIT, calls};
+use object_store::{DATA_LIMIT, KEY_LIMIT, Object, XATTR_LIMIT, calls};
 use std::alloc::{AllocError, Global};
 use std::process::Abort;
 use verifier::VerifiedClass;
@@ -34,30 +34,43 @@ const KEYS: Contents = Contents {
     ..DATA
 };
 
+const VALUE: &[u8] = &[0x5a; 24];
+
+/// The object with that key, if there is room for it.
+fn with_key(rt: &impl Abort, alloc: Global, object: Object, key: &[u8]) -> Object {
+    if object.key_count() == KEY_LIMIT {
+        return object;
+    }
+    calls::set_key(alloc, Some(&object), key, VALUE).expect(rt, "a key")
+}
+
+/// The object with that xattr, if there is room for it.
+fn with_xattr(rt: &impl Abort, alloc: Global, object: Object, name: &[u8]) -> Object {
+    if object.xattr_count() == XATTR_LIMIT {
+        return object;
+    }
+    calls::set_xattr(alloc, Some(&object), name, VALUE).expect(rt, "an xattr")
+}
+
 /// Sets numbered keys and xattrs until there are as many as there may be.
-fn filled(alloc: Global, object: Object) -> Result<Object, StoreError> {
-    let value = [0x5a; 24];
+fn filled(rt: &impl Abort, alloc: Global, object: Object) -> Object {
     let mut full = object;
     for n in 0..KEY_LIMIT as u16 {
-        let name = n.to_be_bytes();
-        if full.key_count() < KEY_LIMIT {
-            full = calls::set_key(alloc, Some(&full), &name, &value)?;
-        }
-        if full.xattr_count() < XATTR_LIMIT {
-            full = calls::set_xattr(alloc, Some(&full), &name, &value)?;
-        }
+        full = with_key(rt, alloc, full, &n.to_be_bytes());
+        full = with_xattr(rt, alloc, full, &n.to_be_bytes());
     }
-    Ok(full)
+    full
 }
 
 /// An object at all limits.
-fn full(alloc: Global) -> Result<Object, StoreError> {
+fn full(rt: &impl Abort, alloc: Global) -> Object {
     let named = Contents {
         xattrs: XATTRS.xattrs,
         ..KEYS
     };
-    let object = filled(alloc, object_of(alloc, &named)?)?;
-    calls::truncate(alloc, Some(&object), DATA_LIMIT as u64)
+    let named = object_of(alloc, &named).expect(rt, "an object");
+    let object = filled(rt, alloc, named);
+    calls::truncate(alloc, Some(&object), DATA_LIMIT as u64).expect(rt, "memory")
 }
 
 /// An object of each kind: empty, with data, with xattrs, with keys, and at all limits.
@@ -67,8 +80,7 @@ fn objects(rt: &impl Abort, alloc: Global) -> Vec<Object> {
         let object = object_of(alloc, &contents).expect(rt, "memory");
         objects.push(object).expect(rt, "memory");
     }
-    let full = full(alloc).expect(rt, "memory");
-    objects.push(full).expect(rt, "memory");
+    objects.push(full(rt, alloc)).expect(rt, "memory");
     objects
 }
 

@@ -5,16 +5,15 @@ use object_store::{Object, StoreError, calls};
 use std::alloc::Global;
 use std::process::Abort;
 
-const LONGEST_VALUE: [u8; 4096] = [7; 4096];
-
 /// The object with so many xattrs and keys, each with the longest name and value.
 fn with_names<R: Abort>(rt: &R, alloc: Global, object: Object, xattrs: u16, keys: u16) -> Object {
+    let value = [7; 4096];
     let mut object = object;
     for n in 0..xattrs {
-        object = with_xattr(rt, alloc, &object, n, &LONGEST_VALUE);
+        object = with_xattr(rt, alloc, &object, n, &value);
     }
     for n in 0..keys {
-        object = with_key(rt, alloc, &object, n, &LONGEST_VALUE);
+        object = with_key(rt, alloc, &object, n, &value);
     }
     object
 }
@@ -50,7 +49,7 @@ fn refuses_more(alloc: Global, object: &Object) -> bool {
 #[test]
 fn the_largest_object(rt: HostRuntime) {
     let object = full(&rt, rt.alloc()).copy().expect(&rt, "memory");
-    assert!(rt; is_full(&object, &numbered(31), &LONGEST_VALUE));
+    assert!(rt; is_full(&object, &numbered(31), &[7; 4096]));
     assert!(rt; refuses_more(rt.alloc(), &object));
 }
 
@@ -60,5 +59,5 @@ fn an_old_name_at_the_limit(rt: HostRuntime) {
     let changed = with_xattr(&rt, rt.alloc(), &object, 5, b"new");
     let changed = with_key(&rt, rt.alloc(), &changed, 5, b"new");
     assert!(rt; is_full(&changed, &numbered(5), b"new"));
-    assert!(rt; is_full(&object, &numbered(5), &LONGEST_VALUE));
+    assert!(rt; is_full(&object, &numbered(5), &[7; 4096]));
 }
