@@ -18,15 +18,22 @@ enum Argument {
 
 use Argument::{Input, Number, Output};
 
-/// A call of a helper beside an object, its answer, the output and the object afterwards.
+/// What a call leaves.
+#[derive(Clone, Copy)]
+enum After {
+    Same,
+    Is(Option<Contents>),
+}
+
+/// A call of a helper beside the object `THERE` or none, its answer, the output and the object afterwards.
 #[derive(Clone, Copy)]
 struct Row {
-    object: Option<Contents>,
+    is_there: bool,
     id: i32,
     arguments: &'static [Argument],
     answer: i64,
     output: &'static [u8],
-    after: Option<Contents>,
+    after: After,
 }
 
 /// What the methods are called on: names are a byte of it, or some.
@@ -46,18 +53,17 @@ const THREE: &[Pair] = &[(b"a", b"1"), (b"b", b"23"), (b"c", b"22")];
 
 /// A call beside `THERE` that changes nothing and puts nothing out.
 const BESIDE: Row = Row {
-    object: Some(THERE),
+    is_there: true,
     id: 0,
     arguments: &[],
     answer: 0,
     output: b"",
-    after: Some(THERE),
+    after: After::Same,
 };
 
 /// A call beside no object that changes nothing.
 const ABSENT: Row = Row {
-    object: None,
-    after: None,
+    is_there: false,
     ..BESIDE
 };
 
@@ -81,7 +87,7 @@ macro_rules! leaves {
             id: $id,
             arguments: $arguments,
             answer: $answer,
-            after: $after,
+            after: After::Is($after),
             ..BESIDE
         }
     };
@@ -106,7 +112,7 @@ macro_rules! creates {
             id: $id,
             arguments: $arguments,
             answer: $answer,
-            after: Some($after),
+            after: After::Is(Some($after)),
             ..ABSENT
         }
     };
@@ -310,11 +316,24 @@ fn code_of(alloc: Global, row: &Row) -> Result<Vec<u8>, AllocError> {
     Ok(code)
 }
 
+/// What a row's call is beside.
+fn before(row: &Row) -> Option<Contents> {
+    if row.is_there { Some(THERE) } else { None }
+}
+
+/// What a row's call leaves.
+fn after(row: &Row) -> Option<Contents> {
+    match row.after {
+        After::Same => before(row),
+        After::Is(contents) => contents,
+    }
+}
+
 /// Whether an outcome is the row's.
 fn is_answer(rt: &impl Abort, alloc: Global, outcome: &Outcome, row: &Row) -> bool {
     outcome.code == row.answer
         && outcome.output.as_slice() == row.output
-        && is_change(rt, alloc, &outcome.change, row.object, row.after)
+        && is_change(rt, alloc, &outcome.change, before(row), after(row))
 }
 
 /// Whether a call beside that object answers so.
@@ -326,7 +345,7 @@ fn answers_beside(rt: &impl Abort, alloc: Global, object: Option<&Object>, row: 
 
 /// Whether a call answers so.
 fn answers(rt: &impl Abort, alloc: Global, row: &Row) -> bool {
-    let object = made(rt, alloc, row.object);
+    let object = made(rt, alloc, before(row));
     answers_beside(rt, alloc, object.as_ref(), row)
 }
 
