@@ -111,7 +111,10 @@ fn picos(rt: HostRuntime) {
 fn call_and_pass<R: Abort>(rt: &R, alloc: Global, clock: &Ticks) -> (u64, u64) {
     let ready = WORKLOADS[2].ready(alloc).expect(rt, "a class");
     let call = time_call(alloc, clock, &ready, 3).expect(rt, "a time");
-    (call, time_verify(alloc, clock, &ready, 2).expect(rt, "a time"))
+    (
+        call,
+        time_verify(alloc, clock, &ready, 2).expect(rt, "a time"),
+    )
 }
 
 /// The time of 4,096 appends.

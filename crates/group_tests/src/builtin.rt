@@ -213,7 +213,9 @@ fn appended<C: Classes, R: Abort>(
 ) -> Option<usize>
     requires { IsPrefix table.now C.classes }
 {
-    group.append(table, request_of(rt, alloc, line, number)).ok()
+    group
+        .append(table, request_of(rt, alloc, line, number))
+        .ok()
 }
 
 /// The code of the reply at a place.
@@ -255,7 +257,10 @@ impl<R: Abort> GroupWork for Replies<'_, R> {
             let found = appended(rt, self.alloc, table, &mut group, line, number);
             assert!(rt; found == Some(place), "line {number}");
             let code = line.code.parse::<i64>().ok();
-            assert!(rt; code.is_some() && code_at(&group, place) == code, "line {number}");
+            assert!(rt;
+                code.is_some() && code_at(&group, place) == code,
+                "line {number}"
+            );
             let output = bytes_of(rt, self.alloc, line.output);
             assert!(rt; has_output(&group, place, &output), "line {number}");
         }

@@ -106,13 +106,7 @@ fn neighbouring_rows_have_counts_of_their_own(rt: HostRuntime) {
 }
 
 /// What is found in the first row by a token that heard of it over another one's note.
-fn heard(
-    board: &Board,
-    writer: &mut Writer,
-    note: Note,
-    late: &mut Seen,
-    seen: &mut Seen,
-) -> u64
+fn heard(board: &Board, writer: &mut Writer, note: Note, late: &mut Seen, seen: &mut Seen) -> u64
     requires writer { writer.old.board ≡ board.now }
     requires note { note.board ≡ board.now }
     requires late { late.old.board ≡ board.now }

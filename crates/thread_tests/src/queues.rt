@@ -253,16 +253,18 @@ fn is_complete(
     third: &[Job],
 ) -> bool {
     let mut counts = Vec::from_elem(alloc, 0u8, 4 * EACH).expect(rt, "memory");
-    let counted =
-        count(&mut counts, first) && count(&mut counts, second) && count(&mut counts, third);
+    let counted = count(&mut counts, first)
+        && count(&mut counts, second)
+        && count(&mut counts, third);
     counted && in_order(first) && in_order(second) && in_order(third) && are_ones(&counts)
 }
 
 #[test]
 fn each_once_and_in_order(rt: HostRuntime) {
     let alloc = rt.alloc();
-    let (shards, mut sends, mut takes) =
-        OpShards::new(alloc, rt, SHARDS, 64, 4, 3).expect(&rt, "memory");
+    let (shards, mut sends, mut takes) = OpShards::new(alloc, rt, SHARDS, 64, 4, 3).expect(
+        &rt, "memory",
+    );
     let d = sends.pop().expect(&rt, "a sender");
     let c = sends.pop().expect(&rt, "a sender");
     let b = sends.pop().expect(&rt, "a sender");
@@ -322,8 +324,9 @@ fn taken_of<R: Wait>(
 
 #[test]
 fn a_full_queue_gives_back(rt: HostRuntime) {
-    let (shards, mut sends, _takes) =
-        OpShards::new(rt.alloc(), rt, 2, 1, 1, 1).expect(&rt, "memory");
+    let (shards, mut sends, _takes) = OpShards::new(rt.alloc(), rt, 2, 1, 1, 1).expect(
+        &rt, "memory",
+    );
     let mut send = sends.pop().expect(&rt, "a sender");
     let first = is_accepted(&shards, &mut send, 7);
     let back = given_back(&shards, &mut send, 9);
@@ -349,8 +352,9 @@ fn takes_of_seven<R: Wait>(
 
 #[test]
 fn an_empty_queue_gives_none(rt: HostRuntime) {
-    let (shards, mut sends, mut takes) =
-        OpShards::new(rt.alloc(), rt, 2, 1, 1, 1).expect(&rt, "memory");
+    let (shards, mut sends, mut takes) = OpShards::new(rt.alloc(), rt, 2, 1, 1, 1).expect(
+        &rt, "memory",
+    );
     let mut send = sends.pop().expect(&rt, "a sender");
     let mut take = takes.pop().expect(&rt, "a taker");
     assert!(rt; takes_of_seven(&shards, &mut send, &mut take) == [None, Some(7), None]);
@@ -380,8 +384,9 @@ fn takes_together<R: Wait>(
 
 #[test]
 fn takers_put_together(rt: HostRuntime) {
-    let (shards, mut sends, mut takes) =
-        OpShards::new(rt.alloc(), rt, 1, 4, 1, 2).expect(&rt, "memory");
+    let (shards, mut sends, mut takes) = OpShards::new(rt.alloc(), rt, 1, 4, 1, 2).expect(
+        &rt, "memory",
+    );
     let mut send = sends.pop().expect(&rt, "a sender");
     let other = takes.pop().expect(&rt, "a taker");
     let mut take = takes.pop().expect(&rt, "a taker");

@@ -80,6 +80,14 @@ fn full(rt: &impl Abort, alloc: Global) -> Object {
 #[test]
 fn a_full_object_is_shared(rt: HostRuntime) {
     let outcome = longest(&rt, rt.alloc(), Some(&full(&rt, rt.alloc())));
-    assert!(rt; is_full(&rt, rt.alloc(), outcome.change.before.as_ref(), 0x33, DATA_LIMIT));
+    assert!(rt;
+        is_full(
+            &rt,
+            rt.alloc(),
+            outcome.change.before.as_ref(),
+            0x33,
+            DATA_LIMIT
+        )
+    );
     assert!(rt; is_full(&rt, rt.alloc(), outcome.change.after.as_ref(), 0x33, 61_440));
 }

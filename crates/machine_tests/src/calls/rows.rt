@@ -260,13 +260,24 @@ fn is_answer(rt: &impl Abort, alloc: Global, outcome: &Outcome, row: &Row) -> bo
     outcome.code == row.answer
         && outcome.steps == row.steps
         && outcome.output.as_slice() == row.output
-        && is_change(rt, alloc, &outcome.change, of_data(row.object), of_data(row.after))
+        && is_change(
+            rt,
+            alloc,
+            &outcome.change,
+            of_data(row.object),
+            of_data(row.after),
+        )
 }
 
 /// Whether a call beside that object answers so.
 fn answers_beside(rt: &impl Abort, alloc: Global, object: Option<&Object>, row: &Row) -> bool {
     let class = class_of(rt, alloc, row.code, row.flags, row.in_cap, row.out_cap);
-    is_answer(rt, alloc, &call_f(rt, alloc, &class, object, row.input), row)
+    is_answer(
+        rt,
+        alloc,
+        &call_f(rt, alloc, &class, object, row.input),
+        row,
+    )
 }
 
 /// Whether a call answers so.
