@@ -12,6 +12,7 @@ mod edit;
 mod extent_data;
 mod extents;
 mod flat_data;
+mod held;
 mod laws;
 mod limits;
 mod object;
