@@ -4,7 +4,7 @@ use Rattle.object_store.specs.Object.{AreBytes}
 use Rattle.object_store.proofs.Bytes.{are_resized}
 use Rattle.object_store.proofs.Flats.{length_resized}
 use Rattle.std.proofs.Common.{List, ℕ, ap, ◌∙◌}
-use Rattle.object_store.proofs.object.Object.truncate.Goals as goal
+use Rattle.object_store.proofs.held.Held.truncate.Goals as goal
 
 pub invariant_of-self : goal.invariant_of-self
 invariant_of-self c = record {

@@ -4,7 +4,7 @@ use Rattle.object_store.specs.Object.{AreBytes}
 use Rattle.object_store.proofs.Within.{none_within}
 use Rattle.std.proofs.Common.{List, ℕ, arith, ap, ◌∙◌, []}
 use Rattle.object_store.specs.Object.{AreWithin}
-use Rattle.object_store.proofs.object.Object.new.Goals as goal
+use Rattle.object_store.proofs.held.Held.new.Goals as goal
 
 pub invariant_of-result : goal.invariant_of-result
 invariant_of-result c = record {

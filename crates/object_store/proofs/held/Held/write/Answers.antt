@@ -3,7 +3,7 @@ use Rattle.object_store.specs.declared.limits.TheConstants.{DATA_LIMIT, XATTR_LI
 use Rattle.object_store.specs.Object.{AreBytes}
 use Rattle.object_store.proofs.Bytes.{are_spliced, spliced_short, each_below}
 use Rattle.std.proofs.Common.{List, ℕ, arith}
-use Rattle.object_store.proofs.object.Object.write.Goals as goal
+use Rattle.object_store.proofs.held.Held.write.Goals as goal
 
 pub invariant_of-self : goal.invariant_of-self
 invariant_of-self c = record {
