@@ -317,14 +317,14 @@ fn code_of(alloc: Global, row: &Row) -> Result<Vec<u8>, AllocError> {
 }
 
 /// What a row's call is beside.
-fn before(row: &Row) -> Option<Contents> {
+fn object_before(row: &Row) -> Option<Contents> {
     if row.is_there { Some(THERE) } else { None }
 }
 
 /// What a row's call leaves.
-fn after(row: &Row) -> Option<Contents> {
+fn object_after(row: &Row) -> Option<Contents> {
     match row.after {
-        After::Same => before(row),
+        After::Same => object_before(row),
         After::Is(contents) => contents,
     }
 }
@@ -333,7 +333,7 @@ fn after(row: &Row) -> Option<Contents> {
 fn is_answer(rt: &impl Abort, alloc: Global, outcome: &Outcome, row: &Row) -> bool {
     outcome.code == row.answer
         && outcome.output.as_slice() == row.output
-        && is_change(rt, alloc, &outcome.change, before(row), after(row))
+        && is_change(rt, alloc, &outcome.change, object_before(row), object_after(row))
 }
 
 /// Whether a call beside that object answers so.
@@ -345,7 +345,7 @@ fn answers_beside(rt: &impl Abort, alloc: Global, object: Option<&Object>, row: 
 
 /// Whether a call answers so.
 fn answers(rt: &impl Abort, alloc: Global, row: &Row) -> bool {
-    let object = made(rt, alloc, before(row));
+    let object = made(rt, alloc, object_before(row));
     answers_beside(rt, alloc, object.as_ref(), row)
 }
 
