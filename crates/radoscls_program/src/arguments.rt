@@ -6,9 +6,12 @@ ghost use Rattle.radoscls_program.specs.Arguments.{AsksBy, IsClientNumber, Names
 ghost use Rattle.radoscls_program.specs.Program.{AreForNone};
 
 use clap::error::{Error, ErrorKind};
-use clap::{Arg, ArgMatches, Command, value_parser};
+use crate::own_class::own_classes;
+use crate::task::Task;
+use clap::{Arg, ArgAction, ArgMatches, Command, value_parser};
 use class_tool::{Action, Call};
 use pg_log::ClientId;
+use sim_tool::{OwnClass, Simulation};
 use std::alloc::{AllocError, Global};
 use std::convert::AsStr;
 
@@ -88,6 +91,40 @@ fn dis_command<'a>(alloc: Global) -> Result<Command<'a>, AllocError>
         .arg(required(alloc, "IN", "The file of the image"))
 }
 
+/// The option of a tenant's class, which may stand more than once.
+fn class_option<'a>(alloc: Global) -> Arg<'a>
+    ensures rule { rule_of result ≡ class_rule }
+    ensures local { result.global ≡ false }
+{
+    Arg::new(alloc, "class")
+        .long("class")
+        .value_name("NAME=IMAGE")
+        .action(ArgAction::Append)
+        .help("A class beside lock and obj: the word that asks it, and the file of its image")
+}
+
+/// The flag that has the run drawn.
+fn trace_flag<'a>(alloc: Global) -> Arg<'a>
+    ensures rule { rule_of result ≡ trace_rule }
+    ensures local { result.global ≡ false }
+{
+    Arg::new(alloc, "trace")
+        .long("trace")
+        .action(ArgAction::SetTrue)
+        .help("Draws the run as a message sequence")
+}
+
+fn sim_command<'a>(alloc: Global) -> Result<Command<'a>, AllocError>
+    ensures line { IfOk result (λ c. app_of c ≡ sim_line) }
+    ensures local { IfOk result (λ c. (out-Command c).has_globals ≡ false) }
+{
+    Command::new(alloc, "sim")
+        .about("Plays a group of nodes from a file of events")
+        .arg(required(alloc, "FILE", "The file of events"))?
+        .arg(class_option(alloc))?
+        .arg(trace_flag(alloc))
+}
+
 /// The command without its subcommands, of which one has to be there.
 fn plain_command<'a>(alloc: Global) -> Command<'a>
     ensures line { app_of result ≡ plain_line }
@@ -113,7 +150,8 @@ fn root_command<'a>(alloc: Global) -> Result<Command<'a>, AllocError>
 {
     image_command(alloc)?
         .subcommand(asm_command(alloc)?)?
-        .subcommand(dis_command(alloc)?)
+        .subcommand(dis_command(alloc)?)?
+        .subcommand(sim_command(alloc)?)
 }
 
 /// The client of the number that a text writes in decimal digits, behind a plus or none: 1 to 4294967295.
@@ -171,7 +209,7 @@ fn dis_action<'a>(matches: &ArgMatches<'a>) -> Option<Action<'a>>
     })
 }
 
-/// What the subcommand that was entered asks for.
+/// What the subcommand that was entered asks of a class.
 fn action_of<'a>(matches: &ArgMatches<'a>) -> Option<Action<'a>>
     ensures asked { IfSome result (Asks (subcommand_rows_of matches.now)) }
     ensures unasked { IsNone result → AsksNothing (subcommand_rows_of matches.now) }
@@ -188,17 +226,71 @@ fn action_of<'a>(matches: &ArgMatches<'a>) -> Option<Action<'a>>
     dis_action(matches.subcommand_matches("dis")?)
 }
 
+/// The tenants' classes that `sim` is given, where their names may be theirs.
+fn own_of<'a>(
+    alloc: Global,
+    matches: &ArgMatches<'a>,
+) -> Result<Option<Vec<OwnClass<'a>>>, AllocError> {
+    match matches.get_strs("class") {
+        Some(texts) => own_classes(alloc, texts),
+        None => own_classes(alloc, &[]),
+    }
+}
+
+/// Whether a flag is there.
+fn is_set(matches: &ArgMatches<'_>, id: &str) -> bool {
+    match matches.get_str(id) {
+        Some(value) => value == "true",
+        None => false,
+    }
+}
+
+/// What `sim` asks for.
+fn sim_of<'a>(
+    alloc: Global,
+    matches: &ArgMatches<'a>,
+) -> Result<Option<Simulation<'a>>, AllocError> {
+    let Some(file) = matches.get_str("FILE") else {
+        return Ok(None);
+    };
+    match own_of(alloc, matches)? {
+        Some(own) => Ok(Some(Simulation {
+            file,
+            own,
+            is_drawn: is_set(matches, "trace"),
+        })),
+        None => Ok(None),
+    }
+}
+
+/// What the subcommand that was entered asks for.
+fn task_of<'a>(
+    alloc: Global,
+    matches: &ArgMatches<'a>,
+) -> Result<Option<Task<'a>>, AllocError> {
+    if let Some(found) = matches.subcommand_matches("sim") {
+        return match sim_of(alloc, found)? {
+            Some(simulation) => Ok(Some(Task::Sim(simulation))),
+            None => Ok(None),
+        };
+    }
+    match action_of(matches) {
+        Some(action) => Ok(Some(Task::Class(action))),
+        None => Ok(None),
+    }
+}
+
 /// What those words ask for; the first is the program's own name. An error's text is for the user,
 /// help too; its kind is `OutOfMemory` where memory ran out.
-pub fn parse<'a, S: AsStr>(alloc: Global, words: &'a [S]) -> Result<Action<'a>, Error>
+pub fn parse<'a, S: AsStr>(alloc: Global, words: &'a [S]) -> Result<Task<'a>, Error>
     ensures asked { IfOk result (Asks (subcommand_of command_line (map S.text words.entry.now))) }
     ensures faultless { IfOk result (λ _. fault_of command_line (map S.text words.entry.now) ≡ []) }
     ensures unasked { IfErr result (λ e. kind_of e ≢ ErrorKind.OutOfMemory → AreForNone (map S.text words.entry.now)) }
 {
     let mut command = root_command(alloc)?;
     let matches = command.try_get_matches_from_mut(words)?;
-    match action_of(&matches) {
-        Some(action) => Ok(action),
-        None => Err(command.error(ErrorKind::ValueValidation, "no such call")?),
+    match task_of(alloc, &matches)? {
+        Some(task) => Ok(task),
+        None => Err(command.error(ErrorKind::ValueValidation, "no such call or class")?),
     }
 }

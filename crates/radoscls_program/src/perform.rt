@@ -5,8 +5,11 @@ ghost use Rattle.radoscls_program.specs.declared.status.Status.{Status as Ending
 
 use crate::arguments::parse;
 use crate::status::Status;
+use crate::task::Task;
 use clap::error::ErrorKind;
-use class_tool::{Answer, Failure, Files, Output, find};
+use class_tool::{Answer, Failure, Files, Output, Reads, find};
+use sim::Ending;
+use sim_tool::{Simulation, simulate};
 use std::alloc::Global;
 use std::convert::AsStr;
 use std::io;
@@ -33,6 +36,35 @@ fn respond<O: Output>(found: Result<Answer, Failure>, out: &mut O) -> Status
     }
 }
 
+/// Plays a file of events, and prints why where that comes to nothing or ends for want of memory.
+fn play<F: Reads, O: Output>(
+    alloc: Global,
+    files: &F,
+    simulation: &Simulation<'_>,
+    out: &mut O,
+) -> Status {
+    match simulate(alloc, files, simulation, out) {
+        Ok(Ending::Done) => Status::Done,
+        Ok(Ending::Bad) => Status::Refused,
+        Ok(Ending::Unprinted) => Status::Refused,
+        Ok(Ending::NoMemory) => refuse(Failure::NoMemory, out),
+        Err(failure) => refuse(failure, out),
+    }
+}
+
+/// Does what the words ask for, and prints it.
+fn do_task<F: Files, O: Output>(
+    alloc: Global,
+    files: &mut F,
+    task: &Task<'_>,
+    out: &mut O,
+) -> Status {
+    match task {
+        Task::Class(action) => respond(find(alloc, files, action), out),
+        Task::Sim(simulation) => play(alloc, files, simulation, out),
+    }
+}
+
 fn perform<S: AsStr, F: Files, O: Output, E: io::Write>(
     alloc: Global,
     words: &[S],
@@ -43,7 +75,7 @@ fn perform<S: AsStr, F: Files, O: Output, E: io::Write>(
     ensures { Ends (F.disk files.old) (F.disk files.new) (stream O.printed O.failed out.old) (stream O.printed O.failed out.new) (map S.text words.now) result }
 {
     match parse(alloc, words) {
-        Ok(action) => respond(find(alloc, files, &action), out),
+        Ok(task) => do_task(alloc, files, &task, out),
         Err(error) if error.kind() == ErrorKind::OutOfMemory => refuse(Failure::NoMemory, out),
         Err(error) => {
             let _ = write!(err, "{error}");
