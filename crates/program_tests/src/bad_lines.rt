@@ -47,7 +47,7 @@ static BAD: [&str; 34] = [
     // a malformed line comes before a stopped node
     ">stop 1\nnothing\n>req 1 1 4294967296 a lock lock -\nline 2: bad\n",
     // a line feed of another system is a part of its word
-    ">show 1\r\nline 1: bad\n",
+    ">show 1\r \nline 1: bad\n",
     // comments and empty lines are counted, and nothing is done behind a bad line
     ">#\n>\n>map 1\nmap 1 prev 0\n>bad\nline 4: bad\n>map 1\n",
 ];

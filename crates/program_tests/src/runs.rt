@@ -277,7 +277,7 @@ m4 1->c2 Reply 4294967295 1 2 6f6f
 >   show 1\t
 node 1 epoch 1 active length 2 committed 2
 >
-> #show 1
+>#show 1
 ># no line: bad
 ";
 

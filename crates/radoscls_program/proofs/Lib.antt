@@ -1,2 +1,4 @@
 mod Entered
+mod Simulated
+mod Tenants
 mod Unasked

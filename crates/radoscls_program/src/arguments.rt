@@ -1,8 +1,10 @@
-ghost use Rattle.std.specs.Prelude.{◌≡◌, ◌≢◌, ◌↔◌, [], false, IfErr, IfOk, IfSome, IsNone, IsSome, None, codes, map};
+ghost use Rattle.std.specs.Prelude.{◌≡◌, ◌≢◌, ◌↔◌, ◌≤◌, [], false, length, IfErr, IfNone, IfOk, IfSome, IsNone, IsSome, None, codes, map};
 ghost use Rattle.clap.specs.declared.builder.command.Command.TheViews.{out-Command};
-ghost use Rattle.clap.specs.Words.{app_of, fault_of, first_value, found_of, kind_of, rule_of, subcommand_of, subcommand_rows_of};
-ghost use Rattle.radoscls_program.specs.CommandLine.{Asks, AsksNothing, asm_line, caller_rule, command_line, dis_line, image_line, option_rule, plain_line, required_rule, run_line, verify_line};
-ghost use Rattle.radoscls_program.specs.Arguments.{AsksBy, IsClientNumber, NamesCall, NamesFiles, number_in};
+ghost use Rattle.clap.specs.Words.{all_of, app_of, fault_of, first_value, found_of, kind_of, rows_of, rule_of, subcommand_of, subcommand_rows_of};
+ghost use Rattle.sim_tool.specs.declared.asked.TheConstants.{OWN_LIMIT};
+ghost use Rattle.radoscls_program.specs.CommandLine.{Asks, AsksNoTask, AsksNothing, AsksTask, asm_line, caller_rule, class_line, class_rule, command_line, dis_line, image_line, option_rule, plain_line, required_rule, run_line, sim_line, trace_rule, verify_line};
+ghost use Rattle.radoscls_program.specs.Arguments.{AsksBy, IsClientNumber, NamesCall, NamesFiles, NamesSim, TakesSim, is_set, number_in, texts_of};
+ghost use Rattle.radoscls_program.specs.Own.{Owns, are_own};
 ghost use Rattle.radoscls_program.specs.Program.{AreForNone};
 
 use clap::error::{Error, ErrorKind};
@@ -145,13 +147,19 @@ fn image_command<'a>(alloc: Global) -> Result<Command<'a>, AllocError>
         .subcommand(run_command(alloc)?)
 }
 
-fn root_command<'a>(alloc: Global) -> Result<Command<'a>, AllocError>
-    ensures { IfOk result (λ c. app_of c ≡ command_line) }
+/// The command with the subcommands of images and texts.
+fn class_command<'a>(alloc: Global) -> Result<Command<'a>, AllocError>
+    ensures { IfOk result (λ c. app_of c ≡ class_line) }
 {
     image_command(alloc)?
         .subcommand(asm_command(alloc)?)?
-        .subcommand(dis_command(alloc)?)?
-        .subcommand(sim_command(alloc)?)
+        .subcommand(dis_command(alloc)?)
+}
+
+fn root_command<'a>(alloc: Global) -> Result<Command<'a>, AllocError>
+    ensures { IfOk result (λ c. app_of c ≡ command_line) }
+{
+    class_command(alloc)?.subcommand(sim_command(alloc)?)
 }
 
 /// The client of the number that a text writes in decimal digits, behind a plus or none: 1 to 4294967295.
@@ -230,7 +238,11 @@ fn action_of<'a>(matches: &ArgMatches<'a>) -> Option<Action<'a>>
 fn own_of<'a>(
     alloc: Global,
     matches: &ArgMatches<'a>,
-) -> Result<Option<Vec<OwnClass<'a>>>, AllocError> {
+) -> Result<Option<Vec<OwnClass<'a>>>, AllocError>
+    ensures none { IfOk result (λ found. IfNone found (are_own (texts_of (all_of (codes "class") (rows_of (found_of matches.now)))) ≡ false)) }
+    ensures some { IfOk result (λ found. IfSome found (λ own. Owns (texts_of (all_of (codes "class") (rows_of (found_of matches.now)))) own.items)) }
+    ensures room { IfOk result (λ found. IfSome found (λ own. length own.items ≤ OWN_LIMIT)) }
+{
     match matches.get_strs("class") {
         Some(texts) => own_classes(alloc, texts),
         None => own_classes(alloc, &[]),
@@ -238,7 +250,9 @@ fn own_of<'a>(
 }
 
 /// Whether a flag is there.
-fn is_set(matches: &ArgMatches<'_>, id: &str) -> bool {
+fn is_set(matches: &ArgMatches<'_>, id: &str) -> bool
+    ensures { result ≡ is_set (first_value (found_of matches.now) id.now) }
+{
     match matches.get_str(id) {
         Some(value) => value == "true",
         None => false,
@@ -249,7 +263,10 @@ fn is_set(matches: &ArgMatches<'_>, id: &str) -> bool {
 fn sim_of<'a>(
     alloc: Global,
     matches: &ArgMatches<'a>,
-) -> Result<Option<Simulation<'a>>, AllocError> {
+) -> Result<Option<Simulation<'a>>, AllocError>
+    ensures some { IfOk result (λ found. IfSome found (TakesSim (first_value (found_of matches.now)) (λ id. all_of id (rows_of (found_of matches.now))))) }
+    ensures none { IfOk result (λ found. IfNone found (NamesSim (first_value (found_of matches.now)) (λ id. all_of id (rows_of (found_of matches.now))) → ⊥)) }
+{
     let Some(file) = matches.get_str("FILE") else {
         return Ok(None);
     };
@@ -264,10 +281,10 @@ fn sim_of<'a>(
 }
 
 /// What the subcommand that was entered asks for.
-fn task_of<'a>(
-    alloc: Global,
-    matches: &ArgMatches<'a>,
-) -> Result<Option<Task<'a>>, AllocError> {
+fn task_of<'a>(alloc: Global, matches: &ArgMatches<'a>) -> Result<Option<Task<'a>>, AllocError>
+    ensures asked { IfOk result (λ found. IfSome found (AsksTask (subcommand_rows_of matches.now))) }
+    ensures unasked { IfOk result (λ found. IfNone found (AsksNoTask (subcommand_rows_of matches.now))) }
+{
     if let Some(found) = matches.subcommand_matches("sim") {
         return match sim_of(alloc, found)? {
             Some(simulation) => Ok(Some(Task::Sim(simulation))),
@@ -283,7 +300,7 @@ fn task_of<'a>(
 /// What those words ask for; the first is the program's own name. An error's text is for the user,
 /// help too; its kind is `OutOfMemory` where memory ran out.
 pub fn parse<'a, S: AsStr>(alloc: Global, words: &'a [S]) -> Result<Task<'a>, Error>
-    ensures asked { IfOk result (Asks (subcommand_of command_line (map S.text words.entry.now))) }
+    ensures asked { IfOk result (AsksTask (subcommand_of command_line (map S.text words.entry.now))) }
     ensures faultless { IfOk result (λ _. fault_of command_line (map S.text words.entry.now) ≡ []) }
     ensures unasked { IfErr result (λ e. kind_of e ≢ ErrorKind.OutOfMemory → AreForNone (map S.text words.entry.now)) }
 {
