@@ -1,3 +1,6 @@
+ghost use Rattle.std.specs.Prelude.{map};
+ghost use Rattle.sim_tool.specs.Simulating.{IsDrawn, Plays};
+
 use class_tool::Output;
 use interp::ClassTable;
 use sim::{Ending, run, trace};
@@ -10,17 +13,17 @@ fn draw<O: Output>(
     names: &[&str],
     text: &str,
     out: &mut O,
-) -> Ending {
+) -> Ending
+    ensures { IsDrawn (O.printed out.old) (O.printed out.new) (O.failed out.old) (O.failed out.new) result }
+{
     let Ok(traced) = trace(alloc, table, names, text) else {
         return Ending::NoMemory;
     };
-    if out.print(traced.text.as_str()).is_err() {
-        return Ending::Unprinted;
-    }
-    if traced.bad {
-        Ending::Bad
-    } else {
-        Ending::Done
+    let bad = traced.bad;
+    match out.print(traced.text.as_str()) {
+        Ok(()) if bad => Ending::Bad,
+        Ok(()) => Ending::Done,
+        Err(_) => Ending::Unprinted,
     }
 }
 
@@ -32,7 +35,9 @@ pub(crate) fn play<O: Output>(
     text: &str,
     is_drawn: bool,
     out: &mut O,
-) -> Ending {
+) -> Ending
+    ensures { Plays is_drawn table.now (map (λ n. n.now) names.now) text.now (O.printed out.old) (O.printed out.new) (O.failed out.old) (O.failed out.new) result }
+{
     if is_drawn {
         draw(alloc, table, names, text, out)
     } else {

@@ -1,3 +1,6 @@
+ghost use Rattle.std.specs.Prelude.{◌≡◌, IfOk, IfErr, OnErr};
+ghost use Rattle.sim_tool.specs.Simulating.{Simulates, SimulationFails};
+
 use crate::asked::Simulation;
 use crate::classes::{classes, names};
 use crate::play::play;
@@ -16,7 +19,11 @@ pub fn simulate<F: Reads, O: Output>(
     files: &F,
     simulation: &Simulation<'_>,
     out: &mut O,
-) -> Result<Ending, Failure> {
+) -> Result<Ending, Failure>
+    ensures ends { IfOk result (Simulates (F.disk files.now) simulation.now (O.printed out.old) (O.printed out.new) (O.failed out.old) (O.failed out.new)) }
+    ensures fails { IfErr result (SimulationFails (F.disk files.now) simulation.now) }
+    ensures silent { OnErr result (out.new ≡ out.old) }
+{
     let table = classes(alloc, files, &simulation.own)?;
     let names = names(alloc, &simulation.own)?;
     let text = read_text(alloc, files, simulation.file)?;
