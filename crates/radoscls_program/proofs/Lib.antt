@@ -1,3 +1,4 @@
+mod Ended
 mod Entered
 mod Simulated
 mod Tenants
