@@ -1,2 +1,5 @@
+mod Ended
 mod Entered
+mod Simulated
+mod Tenants
 mod Unasked

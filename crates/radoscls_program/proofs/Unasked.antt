@@ -9,7 +9,7 @@ use Rattle.clap.specs.declared.error.kind.ErrorKind.TheVariants.{OutOfMemory}
 use Rattle.clap.specs.declared.parser.matches.ArgMatches.{ArgMatches}
 use Rattle.clap.proofs.WalkLemmas.{first_value-rows}
 use Rattle.radoscls_program.specs.Arguments.{AsksBy, IsClientNumber, NamesCall, NamesFiles}
-use Rattle.radoscls_program.specs.CommandLine.{AsksNothing, command_line}
+use Rattle.radoscls_program.specs.CommandLine.{AsksNoTask, AsksNothing, command_line}
 use Rattle.radoscls_program.specs.Program.{AreForNone}
 use Rattle.radoscls_program.proofs.Entered.{entered, same_values}
 use Rattle.class_tool.specs.declared.action.Action.{Action}
@@ -20,7 +20,7 @@ abbrev pub AsksNoneBy : Text → (Text → Option Text) → Type 0
 AsksNoneBy name value = (a : Action) → AsksBy name value a → ⊥
 
 -- texts with two first characters are two
-other : (s t : Text) → nat_eq (slice_index s 0) (slice_index t 0) ≡ false → s ≡ t → ⊥
+pub other : (s t : Text) → nat_eq (slice_index s 0) (slice_index t 0) ≡ false → s ≡ t → ⊥
 other s t differ same =
     let alike = eq-eqb (slice_index s 0) (slice_index t 0) (ap (λ (u : Text). slice_index u 0) same) in
     let bad : false ≡ true = sym differ ∙ alike in absurd cc
@@ -68,11 +68,11 @@ AsksNothing-entered name m found named rows none a asks =
     λ id. ap (first_of id) same.1 ∙ sym (first_value-rows (found_of found) id) in
     none a (sym same.0 ∙ asks.asked.0, same_values _ _ value a asks.asked.1)
 
--- words with a fault name no action without one
+-- words with a fault name no task without one
 pub fault_asks_nothing : (words : List Text) (e : Error) → HasKind (fault_of command_line words) e → kind_of e ≢ OutOfMemory → AreForNone words
-fault_asks_nothing words e (inl memory) known a are = known memory
-fault_asks_nothing words e (inr among) known a are = subst (λ (ks : Kinds). IsAmong (kind_of e) ks) are.faultless among
+fault_asks_nothing words e (inl memory) known task are = known memory
+fault_asks_nothing words e (inr among) known task are = subst (λ (ks : Kinds). IsAmong (kind_of e) ks) are.faultless among
 
--- words name no action where the matches ask for none
-pub rows_ask_nothing : (words : List Text) (m : ArgMatches) → subcommand_rows_of m ≡ subcommand_of command_line words → AsksNothing (subcommand_rows_of m) → AreForNone words
-rows_ask_nothing words m rows none a are = subst AsksNothing rows none a are.asked
+-- words name no task where the matches ask for none
+pub rows_ask_nothing : (words : List Text) (m : ArgMatches) → subcommand_rows_of m ≡ subcommand_of command_line words → AsksNoTask (subcommand_rows_of m) → AreForNone words
+rows_ask_nothing words m rows none task are = subst AsksNoTask rows none task are.asked

@@ -1,8 +1,12 @@
 -- What the values of a command line ask for; `value` gives the text of an argument by its id.
-use Rattle.std.specs.Prelude.{◌≡◌, ℕ, ◌<◌, ◌≤◌, ◌^◌, List, Option, Some, IsSome, IsSomeAnd, codes}
+use Rattle.std.specs.Prelude.{◌≡◌, ℕ, ◌<◌, ◌≤◌, ◌^◌, Bool, false, true, List, [], Option, Some, None, IsSome, IsSomeAnd, codes}
+use Rattle.std.specs.Option.{unwrap_or}
+use Rattle.std.specs.Str.{bytes_eq}
 use Rattle.std.specs.Str.Parse.{IsNumeral, digits_value, without_leading_plus}
 use Rattle.class_tool.specs.declared.action.Action.{Action}
 use Rattle.class_tool.specs.declared.action.Action.TheVariants.{Verify, Run, Assemble, Disassemble}
+use Rattle.sim_tool.specs.declared.asked.Simulation.{Simulation}
+use Rattle.radoscls_program.specs.Own.{Owns, are_own}
 
 -- the number that a text writes in decimal digits, behind a plus or none
 abbrev pub number_in : List ℕ → ℕ
@@ -44,3 +48,24 @@ NamesCall value =
 -- both files are named
 abbrev pub NamesFiles : (List ℕ → Option (List ℕ)) → Type 0
 NamesFiles value = IsSome (value (codes "IN")) × IsSome (value (codes "OUT"))
+
+-- a flag is there, by its value
+abbrev pub is_set : Option (List ℕ) → Bool
+is_set None = false
+is_set (Some text) = bytes_eq text (codes "true")
+
+-- the texts of an option that may stand more than once
+abbrev pub texts_of : Option (List (List ℕ)) → List (List ℕ)
+texts_of texts = unwrap_or texts []
+
+-- What `sim` takes from the values: the file of events FILE, a tenant's class of each --class, and whether --trace is there.
+-- `values` gives all texts of an option.
+pub record TakesSim (value : List ℕ → Option (List ℕ)) (values : List ℕ → Option (List (List ℕ))) (s : Simulation) : Type 0 where
+  pub file : value (codes "FILE") ≡ Some s.file.now
+  pub own : Owns (texts_of (values (codes "class"))) s.own.items
+  pub drawn : s.is_drawn ≡ is_set (value (codes "trace"))
+
+-- a file of events is named, and each --class spells a tenant's class
+pub record NamesSim (value : List ℕ → Option (List ℕ)) (values : List ℕ → Option (List (List ℕ))) : Type 0 where
+  pub file : IsSome (value (codes "FILE"))
+  pub own : are_own (texts_of (values (codes "class"))) ≡ true

@@ -1,9 +1,14 @@
--- The command line: `verify IN`, `run IN METHOD [--input HEX] [--caller N]`, `asm IN OUT`, and `dis IN`.
+-- The command line: `verify IN`, `run IN METHOD [--input HEX] [--caller N]`, `asm IN OUT`, `dis IN`, and
+-- `sim FILE [--class NAME=IMAGE ..] [--trace]`.
 use Rattle.std.specs.Prelude.{◌≡◌, List, [], ◌∷◌, Option, Some, true, pos, codes}
-use Rattle.clap.specs.Words.{App, Row, Rule, Text, first_of, new_app, new_rule, with_rule, with_subcommand}
+use Rattle.clap.specs.Words.{App, Row, Rule, Text, all_of, first_of, new_app, new_rule, with_rule, with_subcommand}
+use Rattle.clap.specs.declared.builder.action.ArgAction.TheVariants as argument
 use Rattle.clap.specs.declared.builder.value_parser.ValueParser.TheVariants as parser
 use Rattle.class_tool.specs.declared.action.Action.{Action}
-use Rattle.radoscls_program.specs.Arguments.{AsksBy}
+use Rattle.sim_tool.specs.declared.asked.Simulation.{Simulation}
+use Rattle.radoscls_program.specs.Arguments.{AsksBy, TakesSim}
+use Rattle.radoscls_program.specs.declared.task.Task.{Task}
+use Rattle.radoscls_program.specs.declared.task.Task.TheVariants.{Class, Sim}
 
 -- an argument that has to be there, by its place
 abbrev pub required_rule : Text → Rule
@@ -31,6 +36,17 @@ asm_line = with_rule (with_rule (new_app (codes "asm")) (required_rule (codes "I
 abbrev pub dis_line : App
 dis_line = with_rule (new_app (codes "dis")) (required_rule (codes "IN"))
 
+-- the option of a tenant's class, which may stand more than once
+abbrev pub class_rule : Rule
+class_rule = record (new_rule (codes "class")) { long = Some (codes "class"); value_names = 1; action = Some argument.Append }
+
+-- the flag that has the run drawn
+abbrev pub trace_rule : Rule
+trace_rule = record (new_rule (codes "trace")) { long = Some (codes "trace"); action = Some argument.SetTrue }
+
+abbrev pub sim_line : App
+sim_line = with_rule (with_rule (with_rule (new_app (codes "sim")) (required_rule (codes "FILE"))) class_rule) trace_rule
+
 -- the program's name, which wants a subcommand
 abbrev pub plain_line : App
 plain_line = let named = new_app (codes "radoscls") in
@@ -40,9 +56,13 @@ plain_line = let named = new_app (codes "radoscls") in
 abbrev pub image_line : App
 image_line = with_subcommand (with_subcommand plain_line verify_line.top) run_line.top
 
+-- with those of texts too
+abbrev pub class_line : App
+class_line = with_subcommand (with_subcommand image_line asm_line.top) dis_line.top
+
 -- the whole of it
 abbrev pub command_line : App
-command_line = with_subcommand (with_subcommand image_line asm_line.top) dis_line.top
+command_line = with_subcommand class_line sim_line.top
 
 -- the action that the words ask for is that of the subcommand that they name
 pub record Asks (subcommand : Option (Text × List Row)) (action : Action) : Type 0 where
@@ -54,3 +74,18 @@ pub record Asks (subcommand : Option (Text × List Row)) (action : Action) : Typ
 -- the subcommand and its values ask for no action
 abbrev pub AsksNothing : Option (Text × List Row) → Type 0
 AsksNothing subcommand = (action : Action) → Asks subcommand action → ⊥
+
+-- the simulation that the words ask for is that of the subcommand `sim`
+pub record AsksSim (subcommand : Option (Text × List Row)) (s : Simulation) : Type 0 where
+  pub rows : List Row
+  pub entered : subcommand ≡ Some (codes "sim", rows)
+  pub asked : TakesSim (λ id. first_of id rows) (λ id. all_of id rows) s
+
+-- what the words ask for
+abbrev pub AsksTask : Option (Text × List Row) → Task → Type 0
+AsksTask subcommand (Class action) = Asks subcommand action
+AsksTask subcommand (Sim s) = AsksSim subcommand s
+
+-- the subcommand and its values ask for nothing
+abbrev pub AsksNoTask : Option (Text × List Row) → Type 0
+AsksNoTask subcommand = (task : Task) → AsksTask subcommand task → ⊥

@@ -1,4 +1,7 @@
 pub mod Arguments
 pub mod CommandLine
+pub mod Own
+pub mod Playing
 pub mod Program
 pub mod Status
+pub mod Streams

@@ -1,52 +1,34 @@
 -- How the program ends, and what it printed and wrote.
-use Rattle.std.specs.Prelude.{◌≡◌, ◌⊎◌, ◌++◌, ℕ, List, [], Option, Result, Ok, Err, Bool, true, codes}
-use Rattle.std.specs.Io.KnownBytes.{Appends}
+use Rattle.std.specs.Prelude.{◌≡◌, ◌⊎◌, List, [], Option, Result, Ok, Err, true}
 use Rattle.clap.specs.Words.{Text, fault_of, subcommand_of}
 use Rattle.class_tool.specs.Answer.{Settles, Fails, answer_text}
-use Rattle.class_tool.specs.Failure.{failure_text}
 use Rattle.class_tool.specs.Files.{Disk}
 use Rattle.class_tool.specs.declared.action.Action.{Action}
 use Rattle.class_tool.specs.declared.answer.Answer.{Answer}
 use Rattle.class_tool.specs.declared.failure.Failure.{Failure}
 use Rattle.class_tool.specs.declared.failure.Failure.TheVariants.{NoMemory}
-use Rattle.radoscls_program.specs.CommandLine.{Asks, command_line}
+use Rattle.sim_tool.specs.declared.asked.Simulation.{Simulation}
+use Rattle.radoscls_program.specs.CommandLine.{AsksTask, command_line}
+use Rattle.radoscls_program.specs.Playing.{SimEnds}
+use Rattle.radoscls_program.specs.Streams.{Stream, Took, IsPrinted, failure_line}
 use Rattle.radoscls_program.specs.declared.status.Status.{Status}
 use Rattle.radoscls_program.specs.declared.status.Status.TheVariants.{Done, Refused, Usage}
+use Rattle.radoscls_program.specs.declared.task.Task.{Task}
+use Rattle.radoscls_program.specs.declared.task.Task.TheVariants.{Class, Sim}
 
--- What is known of standard output: what was printed on it, and whether a write or a flush of it failed.
-pub record Stream : Type 0 where
-  pub printed : Option (List ℕ)
-  pub failed : Bool
-
-abbrev pub stream : {O : Type 0} → (O → Option (List ℕ)) → (O → Bool) → O → Stream
-stream printed failed out = record { printed = printed out; failed = failed out }
-
--- what was printed grew by that text, and no write or flush failed
-pub record Took (old new : Stream) (text : List ℕ) : Type 0 where
-  pub grew : Appends old.printed new.printed text
-  pub well : new.failed ≡ old.failed
-
--- a text was printed; or a write or a flush failed
-abbrev pub IsPrinted : Stream → Stream → List ℕ → Type 0
-IsPrinted old new text = Took old new text ⊎ (new.failed ≡ true)
-
--- a failure's line
-abbrev pub failure_line : Failure → List ℕ
-failure_line failure = failure_text failure ++ codes "\n"
-
--- The words name an action without a fault.
-pub record AreFor (words : List Text) (action : Action) : Type 0 where
+-- The words name a task without a fault.
+pub record AreFor (words : List Text) (task : Task) : Type 0 where
   pub faultless : fault_of command_line words ≡ []
-  pub asked : Asks (subcommand_of command_line words) action
+  pub asked : AsksTask (subcommand_of command_line words) task
 
--- The words name no action without a fault.
+-- The words name no task without a fault.
 abbrev pub AreForNone : List Text → Type 0
-AreForNone words = (action : Action) → AreFor words action → ⊥
+AreForNone words = (task : Task) → AreFor words task → ⊥
 
 -- There was a true answer to the action that the words name, and its lines were printed.
-pub record IsDone (before after : Option Disk) (old new : Stream) (words : List Text) : Type 0 where
+pub record IsAnswered (before after : Option Disk) (old new : Stream) (words : List Text) : Type 0 where
   pub action : Action
-  pub named : AreFor words action
+  pub named : AreFor words (Class action)
   pub answer : Answer
   pub settles : Settles before after action answer
   pub printed : Took old new (answer_text answer)
@@ -54,7 +36,7 @@ pub record IsDone (before after : Option Disk) (old new : Stream) (words : List 
 -- There was a reason against the action that the words name, and its line was printed.
 pub record IsFailed (before after : Option Disk) (old new : Stream) (words : List Text) : Type 0 where
   pub action : Action
-  pub named : AreFor words action
+  pub named : AreFor words (Class action)
   pub failure : Failure
   pub fails : Fails before after action failure
   pub printed : IsPrinted old new (failure_line failure)
@@ -62,7 +44,7 @@ pub record IsFailed (before after : Option Disk) (old new : Stream) (words : Lis
 -- There was a true answer, and a write or a flush of standard output failed.
 pub record IsUnprinted (before after : Option Disk) (new : Stream) (words : List Text) : Type 0 where
   pub action : Action
-  pub named : AreFor words action
+  pub named : AreFor words (Class action)
   pub answer : Answer
   pub settles : Settles before after action answer
   pub unprinted : new.failed ≡ true
@@ -71,10 +53,22 @@ pub record IsUnprinted (before after : Option Disk) (new : Stream) (words : List
 abbrev pub IsUnread : Option Disk → Option Disk → Stream → Stream → Type 0
 IsUnread before after old new = (after ≡ before) × IsPrinted old new (failure_line NoMemory)
 
+-- The words name a file of events, which was played so; no file changed.
+pub record IsPlayed (before after : Option Disk) (old new : Stream) (words : List Text) (status : Status) : Type 0 where
+  pub simulation : Simulation
+  pub named : AreFor words (Sim simulation)
+  pub left : after ≡ before
+  pub ended : SimEnds before old new simulation status
+
+-- why the program ended with 0
+abbrev pub IsDone : Option Disk → Option Disk → Stream → Stream → List Text → Type 0
+IsDone before after old new words = IsAnswered before after old new words ⊎ IsPlayed before after old new words Done
+
 -- why the program ended with 1
 abbrev pub IsRefused : Option Disk → Option Disk → Stream → Stream → List Text → Type 0
 IsRefused before after old new words =
     IsFailed before after old new words ⊎ IsUnprinted before after new words ⊎ IsUnread before after old new
+    ⊎ IsPlayed before after old new words Refused
 
 -- The words are at fault or ask for help; nothing was done or printed on standard output.
 pub record IsUsage (before after : Option Disk) (old new : Stream) (words : List Text) : Type 0 where
@@ -96,3 +90,18 @@ Responds old new (Ok answer) Usage = ⊥
 Responds old new (Err failure) Done = ⊥
 Responds old new (Err failure) Refused = IsPrinted old new (failure_line failure)
 Responds old new (Err failure) Usage = ⊥
+
+-- what is done of a task: an action is answered or fails, and that is printed; a file of events is played, and no file
+-- changes
+abbrev pub Found : Option Disk → Option Disk → Action → Result Answer Failure → Type 0
+Found before after action (Ok answer) = Settles before after action answer
+Found before after action (Err failure) = Fails before after action failure
+
+pub record Acts (before after : Option Disk) (old new : Stream) (action : Action) (status : Status) : Type 0 where
+  pub found : Result Answer Failure
+  pub true_of : Found before after action found
+  pub responds : Responds old new found status
+
+abbrev pub TaskEnds : Option Disk → Option Disk → Stream → Stream → Task → Status → Type 0
+TaskEnds before after old new (Class action) status = Acts before after old new action status
+TaskEnds before after old new (Sim simulation) status = (after ≡ before) × SimEnds before old new simulation status

@@ -1,14 +1,19 @@
-ghost use Rattle.std.specs.Prelude.{◌≡◌, ◌≢◌, ◌↔◌, [], false, IfErr, IfOk, IfSome, IsNone, IsSome, None, codes, map};
+ghost use Rattle.std.specs.Prelude.{◌≡◌, ◌≢◌, ◌↔◌, ◌≤◌, [], false, length, IfErr, IfNone, IfOk, IfSome, IsNone, IsSome, None, codes, map};
 ghost use Rattle.clap.specs.declared.builder.command.Command.TheViews.{out-Command};
-ghost use Rattle.clap.specs.Words.{app_of, fault_of, first_value, found_of, kind_of, rule_of, subcommand_of, subcommand_rows_of};
-ghost use Rattle.radoscls_program.specs.CommandLine.{Asks, AsksNothing, asm_line, caller_rule, command_line, dis_line, image_line, option_rule, plain_line, required_rule, run_line, verify_line};
-ghost use Rattle.radoscls_program.specs.Arguments.{AsksBy, IsClientNumber, NamesCall, NamesFiles, number_in};
+ghost use Rattle.clap.specs.Words.{all_of, app_of, fault_of, first_value, found_of, kind_of, rows_of, rule_of, subcommand_of, subcommand_rows_of};
+ghost use Rattle.sim_tool.specs.declared.asked.TheConstants.{OWN_LIMIT};
+ghost use Rattle.radoscls_program.specs.CommandLine.{Asks, AsksNoTask, AsksNothing, AsksTask, asm_line, caller_rule, class_line, class_rule, command_line, dis_line, image_line, option_rule, plain_line, required_rule, run_line, sim_line, trace_rule, verify_line};
+ghost use Rattle.radoscls_program.specs.Arguments.{AsksBy, IsClientNumber, NamesCall, NamesFiles, NamesSim, TakesSim, is_set, number_in, texts_of};
+ghost use Rattle.radoscls_program.specs.Own.{Owns, are_own};
 ghost use Rattle.radoscls_program.specs.Program.{AreForNone};
 
 use clap::error::{Error, ErrorKind};
-use clap::{Arg, ArgMatches, Command, value_parser};
+use crate::own_class::own_classes;
+use crate::task::Task;
+use clap::{Arg, ArgAction, ArgMatches, Command, value_parser};
 use class_tool::{Action, Call};
 use pg_log::ClientId;
+use sim_tool::{OwnClass, Simulation};
 use std::alloc::{AllocError, Global};
 use std::convert::AsStr;
 
@@ -88,6 +93,40 @@ fn dis_command<'a>(alloc: Global) -> Result<Command<'a>, AllocError>
         .arg(required(alloc, "IN", "The file of the image"))
 }
 
+/// The option of a tenant's class, which may stand more than once.
+fn class_option<'a>(alloc: Global) -> Arg<'a>
+    ensures rule { rule_of result ≡ class_rule }
+    ensures local { result.global ≡ false }
+{
+    Arg::new(alloc, "class")
+        .long("class")
+        .value_name("NAME=IMAGE")
+        .action(ArgAction::Append)
+        .help("A class beside lock and obj: the word that asks it, and the file of its image")
+}
+
+/// The flag that has the run drawn.
+fn trace_flag<'a>(alloc: Global) -> Arg<'a>
+    ensures rule { rule_of result ≡ trace_rule }
+    ensures local { result.global ≡ false }
+{
+    Arg::new(alloc, "trace")
+        .long("trace")
+        .action(ArgAction::SetTrue)
+        .help("Draws the run as a message sequence")
+}
+
+fn sim_command<'a>(alloc: Global) -> Result<Command<'a>, AllocError>
+    ensures line { IfOk result (λ c. app_of c ≡ sim_line) }
+    ensures local { IfOk result (λ c. (out-Command c).has_globals ≡ false) }
+{
+    Command::new(alloc, "sim")
+        .about("Plays a group of nodes from a file of events")
+        .arg(required(alloc, "FILE", "The file of events"))?
+        .arg(class_option(alloc))?
+        .arg(trace_flag(alloc))
+}
+
 /// The command without its subcommands, of which one has to be there.
 fn plain_command<'a>(alloc: Global) -> Command<'a>
     ensures line { app_of result ≡ plain_line }
@@ -108,12 +147,19 @@ fn image_command<'a>(alloc: Global) -> Result<Command<'a>, AllocError>
         .subcommand(run_command(alloc)?)
 }
 
-fn root_command<'a>(alloc: Global) -> Result<Command<'a>, AllocError>
-    ensures { IfOk result (λ c. app_of c ≡ command_line) }
+/// The command with the subcommands of images and texts.
+fn class_command<'a>(alloc: Global) -> Result<Command<'a>, AllocError>
+    ensures { IfOk result (λ c. app_of c ≡ class_line) }
 {
     image_command(alloc)?
         .subcommand(asm_command(alloc)?)?
         .subcommand(dis_command(alloc)?)
+}
+
+fn root_command<'a>(alloc: Global) -> Result<Command<'a>, AllocError>
+    ensures { IfOk result (λ c. app_of c ≡ command_line) }
+{
+    class_command(alloc)?.subcommand(sim_command(alloc)?)
 }
 
 /// The client of the number that a text writes in decimal digits, behind a plus or none: 1 to 4294967295.
@@ -171,7 +217,7 @@ fn dis_action<'a>(matches: &ArgMatches<'a>) -> Option<Action<'a>>
     })
 }
 
-/// What the subcommand that was entered asks for.
+/// What the subcommand that was entered asks of a class.
 fn action_of<'a>(matches: &ArgMatches<'a>) -> Option<Action<'a>>
     ensures asked { IfSome result (Asks (subcommand_rows_of matches.now)) }
     ensures unasked { IsNone result → AsksNothing (subcommand_rows_of matches.now) }
@@ -188,17 +234,80 @@ fn action_of<'a>(matches: &ArgMatches<'a>) -> Option<Action<'a>>
     dis_action(matches.subcommand_matches("dis")?)
 }
 
+/// The tenants' classes that `sim` is given, where their names may be theirs.
+fn own_of<'a>(
+    alloc: Global,
+    matches: &ArgMatches<'a>,
+) -> Result<Option<Vec<OwnClass<'a>>>, AllocError>
+    ensures none { IfOk result (λ found. IfNone found (are_own (texts_of (all_of (codes "class") (rows_of (found_of matches.now)))) ≡ false)) }
+    ensures some { IfOk result (λ found. IfSome found (λ own. Owns (texts_of (all_of (codes "class") (rows_of (found_of matches.now)))) own.items)) }
+    ensures room { IfOk result (λ found. IfSome found (λ own. length own.items ≤ OWN_LIMIT)) }
+{
+    match matches.get_strs("class") {
+        Some(texts) => own_classes(alloc, texts),
+        None => own_classes(alloc, &[]),
+    }
+}
+
+/// Whether a flag is there.
+fn is_set(matches: &ArgMatches<'_>, id: &str) -> bool
+    ensures { result ≡ is_set (first_value (found_of matches.now) id.now) }
+{
+    match matches.get_str(id) {
+        Some(value) => value == "true",
+        None => false,
+    }
+}
+
+/// What `sim` asks for.
+fn sim_of<'a>(
+    alloc: Global,
+    matches: &ArgMatches<'a>,
+) -> Result<Option<Simulation<'a>>, AllocError>
+    ensures some { IfOk result (λ found. IfSome found (TakesSim (first_value (found_of matches.now)) (λ id. all_of id (rows_of (found_of matches.now))))) }
+    ensures none { IfOk result (λ found. IfNone found (NamesSim (first_value (found_of matches.now)) (λ id. all_of id (rows_of (found_of matches.now))) → ⊥)) }
+{
+    let Some(file) = matches.get_str("FILE") else {
+        return Ok(None);
+    };
+    match own_of(alloc, matches)? {
+        Some(own) => Ok(Some(Simulation {
+            file,
+            own,
+            is_drawn: is_set(matches, "trace"),
+        })),
+        None => Ok(None),
+    }
+}
+
+/// What the subcommand that was entered asks for.
+fn task_of<'a>(alloc: Global, matches: &ArgMatches<'a>) -> Result<Option<Task<'a>>, AllocError>
+    ensures asked { IfOk result (λ found. IfSome found (AsksTask (subcommand_rows_of matches.now))) }
+    ensures unasked { IfOk result (λ found. IfNone found (AsksNoTask (subcommand_rows_of matches.now))) }
+{
+    if let Some(found) = matches.subcommand_matches("sim") {
+        return match sim_of(alloc, found)? {
+            Some(simulation) => Ok(Some(Task::Sim(simulation))),
+            None => Ok(None),
+        };
+    }
+    match action_of(matches) {
+        Some(action) => Ok(Some(Task::Class(action))),
+        None => Ok(None),
+    }
+}
+
 /// What those words ask for; the first is the program's own name. An error's text is for the user,
 /// help too; its kind is `OutOfMemory` where memory ran out.
-pub fn parse<'a, S: AsStr>(alloc: Global, words: &'a [S]) -> Result<Action<'a>, Error>
-    ensures asked { IfOk result (Asks (subcommand_of command_line (map S.text words.entry.now))) }
+pub fn parse<'a, S: AsStr>(alloc: Global, words: &'a [S]) -> Result<Task<'a>, Error>
+    ensures asked { IfOk result (AsksTask (subcommand_of command_line (map S.text words.entry.now))) }
     ensures faultless { IfOk result (λ _. fault_of command_line (map S.text words.entry.now) ≡ []) }
     ensures unasked { IfErr result (λ e. kind_of e ≢ ErrorKind.OutOfMemory → AreForNone (map S.text words.entry.now)) }
 {
     let mut command = root_command(alloc)?;
     let matches = command.try_get_matches_from_mut(words)?;
-    match action_of(&matches) {
-        Some(action) => Ok(action),
-        None => Err(command.error(ErrorKind::ValueValidation, "no such call")?),
+    match task_of(alloc, &matches)? {
+        Some(task) => Ok(task),
+        None => Err(command.error(ErrorKind::ValueValidation, "no such call or class")?),
     }
 }

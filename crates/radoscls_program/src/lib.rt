@@ -4,12 +4,11 @@
 #![tactic(auto)]
 
 mod arguments;
+mod own_class;
 mod perform;
 mod process;
 mod status;
+mod task;
 
 pub use perform::program;
 pub use process::start;
-
-#[cfg(test)]
-mod tests;

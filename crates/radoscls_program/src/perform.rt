@@ -1,12 +1,17 @@
 ghost use Rattle.std.specs.Prelude.{◌≡◌, true, false, map};
-ghost use Rattle.radoscls_program.specs.Program.{stream, Ends, IsDone, IsRefused, IsUsage, IsPrinted, Responds, failure_line};
+ghost use Rattle.radoscls_program.specs.Playing.{SimEnds};
+ghost use Rattle.radoscls_program.specs.Program.{Ends, IsDone, IsRefused, IsUsage, Responds, TaskEnds};
 ghost use Rattle.radoscls_program.specs.Status.{code_of};
-ghost use Rattle.radoscls_program.specs.declared.status.Status.{Status as Ending};
+ghost use Rattle.radoscls_program.specs.Streams.{stream, IsPrinted, failure_line};
+ghost use Rattle.radoscls_program.specs.declared.status.Status.{Status as AStatus};
 
 use crate::arguments::parse;
 use crate::status::Status;
+use crate::task::Task;
 use clap::error::ErrorKind;
-use class_tool::{Answer, Failure, Files, Output, find};
+use class_tool::{Answer, Failure, Files, Output, Reads, find};
+use sim::Ending;
+use sim_tool::{Simulation, simulate};
 use std::alloc::Global;
 use std::convert::AsStr;
 use std::io;
@@ -33,6 +38,39 @@ fn respond<O: Output>(found: Result<Answer, Failure>, out: &mut O) -> Status
     }
 }
 
+/// Plays a file of events, and prints why where that comes to nothing or ends for want of memory.
+fn play<F: Reads, O: Output>(
+    alloc: Global,
+    files: &F,
+    simulation: &Simulation<'_>,
+    out: &mut O,
+) -> Status
+    ensures { SimEnds (F.disk files.now) (stream O.printed O.failed out.old) (stream O.printed O.failed out.new) simulation.now result }
+{
+    match simulate(alloc, files, simulation, out) {
+        Ok(Ending::Done) => Status::Done,
+        Ok(Ending::Bad) => Status::Refused,
+        Ok(Ending::Unprinted) => Status::Refused,
+        Ok(Ending::NoMemory) => refuse(Failure::NoMemory, out),
+        Err(failure) => refuse(failure, out),
+    }
+}
+
+/// Does what the words ask for, and prints it.
+fn do_task<F: Files, O: Output>(
+    alloc: Global,
+    files: &mut F,
+    task: &Task<'_>,
+    out: &mut O,
+) -> Status
+    ensures { TaskEnds (F.disk files.old) (F.disk files.new) (stream O.printed O.failed out.old) (stream O.printed O.failed out.new) task.now result }
+{
+    match task {
+        Task::Class(action) => respond(find(alloc, files, action), out),
+        Task::Sim(simulation) => play(alloc, files, simulation, out),
+    }
+}
+
 fn perform<S: AsStr, F: Files, O: Output, E: io::Write>(
     alloc: Global,
     words: &[S],
@@ -43,7 +81,7 @@ fn perform<S: AsStr, F: Files, O: Output, E: io::Write>(
     ensures { Ends (F.disk files.old) (F.disk files.new) (stream O.printed O.failed out.old) (stream O.printed O.failed out.new) (map S.text words.now) result }
 {
     match parse(alloc, words) {
-        Ok(action) => respond(find(alloc, files, &action), out),
+        Ok(task) => do_task(alloc, files, &task, out),
         Err(error) if error.kind() == ErrorKind::OutOfMemory => refuse(Failure::NoMemory, out),
         Err(error) => {
             let _ = write!(err, "{error}");
@@ -56,8 +94,9 @@ fn perform<S: AsStr, F: Files, O: Output, E: io::Write>(
 /// each; usage and help on `err`.
 ///
 /// The answer is what the process ends with: 0 where it was done and printed, 1 where it was refused, or a write or a flush
-/// of `out` failed, 2 after usage or help, where the words name no action without a fault. No file is written but the one that `asm` names for the image, and that one only where
-/// the text is right.
+/// of `out` failed, 2 after usage or help, where the words name no task without a fault. No file is written but the one
+/// that `asm` names for the image, and that one only where the text is right. `sim` prints of each line of its file what it
+/// comes to before the next is done.
 pub fn program<S: AsStr, F: Files, O: Output, E: io::Write>(
     alloc: Global,
     words: &[S],
@@ -65,7 +104,7 @@ pub fn program<S: AsStr, F: Files, O: Output, E: io::Write>(
     out: &mut O,
     err: &mut E,
 ) -> u8
-    ensures status { (status : Ending) × (result ≡ code_of status) }
+    ensures status { (status : AStatus) × (result ≡ code_of status) }
     ensures done { result ≡ 0 → IsDone (F.disk files.old) (F.disk files.new) (stream O.printed O.failed out.old) (stream O.printed O.failed out.new) (map S.text words.now) }
     ensures refused { result ≡ 1 → IsRefused (F.disk files.old) (F.disk files.new) (stream O.printed O.failed out.old) (stream O.printed O.failed out.new) (map S.text words.now) }
     ensures usage { result ≡ 2 → IsUsage (F.disk files.old) (F.disk files.new) (stream O.printed O.failed out.old) (stream O.printed O.failed out.new) (map S.text words.now) }

@@ -20,12 +20,18 @@ returns-in_err-error-in-None-clause-unasked g c =
     let p = err_from_is_err_and c.from_residual-in_err-error-in-None.result c.from_residual-in_err-error-in-None.ensures.1 in
     rw p.1 (λ known. absurd (known p.2))
 
+pub returns-in_err-task-clause-unasked : goal.returns-in_err-task-clause-unasked
+returns-in_err-task-clause-unasked g c =
+    let p = err_from_is_err_and c.from_residual-in_err-task.result c.from_residual-in_err-task.ensures.1 in
+    rw p.1 (λ known. absurd (known p.2))
+
 pub returns-clause-unasked : goal.returns-clause-unasked
 returns-clause-unasked g c known =
     let line = c.in_ok-command.ensures in
     let words = map g.S.AsStr.text c.args.words.now in
     let rows = (c.in_ok-matches.ensures.ok.2 (ap is_simple line)).1 ∙ ap (λ (a : App). subcommand_of a words) line in
-    rows_ask_nothing words c.in_ok-matches.matches rows (c.in-None.ensures.unasked refl)
+    let unasked = c.in_ok-task.ensures.unasked in
+    rows_ask_nothing words c.in_ok-matches.matches rows (rw c.in-None.is at unasked)
 
 pub returns-in-Some-clause-faultless : goal.returns-in-Some-clause-faultless
 returns-in-Some-clause-faultless g c =

@@ -1,4 +1,4 @@
-use super::{Ended, Folder, TWO, bytes_of, run_on};
+use crate::folder::{Ended, Folder, TWO, bytes_of, run_on};
 use std::alloc::Global;
 use std::test::Fail;
 

@@ -1,11 +1,11 @@
-use super::{Folder, TWO, run_on};
-use crate::perform::program;
+use crate::folder::{Folder, TWO, run_on};
 use class_tool::Printer;
+use radoscls_program::program;
 use std::io::{self, ErrorKind, Write};
 use std::test::Fail;
 
 /// Words that ask for nothing that the program does, or for help.
-static USAGES: [&[&str]; 12] = [
+static USAGES: [&[&str]; 26] = [
     &[],
     &["--help"],
     &["help"],
@@ -18,6 +18,24 @@ static USAGES: [&[&str]; 12] = [
     &["run", "image", "f", "--caller", "0"],
     &["run", "image", "f", "--caller", "4294967296"],
     &["run", "image", "f", "--caller", "one"],
+    // no file of events, and two
+    &["sim"],
+    &["sim", "--trace"],
+    &["sim", "text", "text"],
+    // a flag with a value, and one that stands twice
+    &["sim", "--trace=yes", "text"],
+    &["sim", "--trace", "--trace", "text"],
+    // a class without its image's file, or without a word that asks it
+    &["sim", "text", "--class"],
+    &["sim", "--class", "two", "text"],
+    &["sim", "--class", "=image", "text"],
+    &["sim", "--class", "a b=image", "text"],
+    &["sim", "--class", "two\t=image", "text"],
+    // a word that asks another class
+    &["sim", "--class", "lock=image", "text"],
+    &["sim", "--class", "obj=image", "text"],
+    &["sim", "--class", "two=image", "--class", "two=image", "text"],
+    &["sim", "--class", "two=image", "--class", "hi=out", "--class", "two=text", "text"],
 ];
 
 #[test]
@@ -67,6 +85,28 @@ static LIMITS: [(&[&str], usize, bool, u8); 6] = [
     (&["radoscls", "asm", "text", "out"], 0, false, 1),
     (&["radoscls"], 0, true, 2),
 ];
+
+/// The room of standard output, whether it flushes, and the status, for two events of which each prints 13 bytes.
+static EVENTS: [(usize, bool, u8); 5] = [
+    (12, true, 1),
+    (13, true, 1),
+    (25, true, 1),
+    (26, true, 0),
+    (26, false, 1),
+];
+
+#[test]
+fn an_event_fails_where_standard_output_does(rt: HostRuntime) -> Result<(), Fail> {
+    for (room, flushes, want) in EVENTS {
+        let mut folder = Folder::of(rt.alloc(), TWO, b"map 1\nmap 2\n")?;
+        let mut out = Printer::new(Limited { room, flushes });
+        let mut err = Limited { room: 0, flushes };
+        let words = ["radoscls", "sim", "text"];
+        let status = program(rt.alloc(), &words, &mut folder, &mut out, &mut err);
+        assert_eq!(rt; (status, out.has_failed()), (want, want == 1), "{room}");
+    }
+    Ok(())
+}
 
 #[test]
 fn fails_where_standard_output_does(rt: HostRuntime) -> Result<(), Fail> {

@@ -1,31 +1,30 @@
-mod images;
-mod streams;
-mod texts;
+//! Runs of the program on a folder in memory.
 
-use crate::perform::program;
 use class_tool::{Files, Printer, Reads};
+use radoscls_program::program;
 use std::alloc::Global;
 use std::cell::Cell;
 use std::io::{self, ErrorKind};
 use std::test::Fail;
 
 /// `mov r0, 0`, `exit`.
-const TWO: &str = "52434c31 0100 0000 01 66 01 0000 0000 0200 b700000000000000 9500000000000000";
+pub const TWO: &str = "52434c31 0100 0000 01 66 01 0000 0000 0200 b700000000000000 9500000000000000";
 
-/// The files `image`, `text` and `out`, which are there from the start, and the file `full`, which takes no bytes.
+/// The files `image` (`its=image` too), `text` and `out`, which are there from the start, and the file `full`, which takes
+/// no bytes.
 #[derive(Drop)]
-struct Folder {
+pub struct Folder {
     image: Vec<u8>,
-    text: Vec<u8>,
-    out: Vec<u8>,
+    pub text: Vec<u8>,
+    pub out: Vec<u8>,
     /// How often a file was written.
-    writes: usize,
+    pub writes: usize,
     /// How many bytes of an image were asked for last.
-    most_read: Cell<usize>,
+    pub most_read: Cell<usize>,
 }
 
 /// The bytes of hexadecimal digits, with spaces between them.
-fn bytes_of(alloc: Global, text: &str) -> io::Result<Vec<u8>> {
+pub fn bytes_of(alloc: Global, text: &str) -> io::Result<Vec<u8>> {
     let digits: String = text.chars().filter(|c| *c != ' ').collect(alloc)?;
     match hex::decode(alloc, digits.as_str()) {
         Ok(bytes) => Ok(bytes),
@@ -35,7 +34,7 @@ fn bytes_of(alloc: Global, text: &str) -> io::Result<Vec<u8>> {
 
 impl Folder {
     /// An image in hexadecimal, a text, and a file `out` that holds something else.
-    fn of(alloc: Global, image: &str, text: &[u8]) -> io::Result<Folder> {
+    pub fn of(alloc: Global, image: &str, text: &[u8]) -> io::Result<Folder> {
         Ok(Folder {
             image: bytes_of(alloc, image)?,
             text: Vec::from_slice(alloc, text)?,
@@ -47,7 +46,7 @@ impl Folder {
 
     fn file(&self, name: &str) -> io::Result<&[u8]> {
         match name {
-            "image" => Ok(&self.image),
+            "image" | "its=image" => Ok(&self.image),
             "text" => Ok(&self.text),
             "out" => Ok(&self.out),
             _ => Err(io::Error::from(ErrorKind::NotFound)),
@@ -88,14 +87,14 @@ fn replace(file: &mut Vec<u8>, bytes: &[u8]) -> io::Result<()> {
 
 /// How a run ended: its status, and what it wrote to standard output and to standard error.
 #[derive(Drop)]
-struct Ended {
-    status: u8,
-    printed: Vec<u8>,
-    explained: Vec<u8>,
+pub struct Ended {
+    pub status: u8,
+    pub printed: Vec<u8>,
+    pub explained: Vec<u8>,
 }
 
 /// Runs the program on those words behind its name, and on that folder.
-fn run_on(alloc: Global, words: &[&str], folder: &mut Folder) -> Result<Ended, Fail> {
+pub fn run_on(alloc: Global, words: &[&str], folder: &mut Folder) -> Result<Ended, Fail> {
     let mut all = vec![in alloc; "radoscls"]?;
     all.extend_from_slice(words)?;
     let mut printed = Vec::new(alloc);

@@ -1,4 +1,4 @@
-use super::{Folder, TWO, run_on};
+use crate::folder::{Folder, TWO, run_on};
 use std::process::Abort;
 use std::test::Fail;
 

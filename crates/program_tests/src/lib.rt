@@ -1,0 +1,22 @@
+//! Tests alone, of the program on words, files and writers: what it prints of images and texts of classes, of groups played
+//! from files of events, and of words that ask for nothing; and how it ends where standard output fails.
+#![tactic(auto)]
+
+#[cfg(test)]
+mod bad_lines;
+#[cfg(test)]
+mod drawings;
+#[cfg(test)]
+mod folder;
+#[cfg(test)]
+mod images;
+#[cfg(test)]
+mod runs;
+#[cfg(test)]
+mod script;
+#[cfg(test)]
+mod streams;
+#[cfg(test)]
+mod tenants;
+#[cfg(test)]
+mod texts;

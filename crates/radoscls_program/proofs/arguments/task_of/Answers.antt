@@ -1,0 +1,15 @@
+use Rattle.std.proofs.Common.{refl}
+use Rattle.radoscls_program.proofs.Simulated.{asks_sim, sim_asks_nothing}
+use Rattle.radoscls_program.proofs.arguments.task_of.Goals as goal
+
+pub returns-in-Some-2-clause-asked : goal.returns-in-Some-2-clause-asked
+returns-in-Some-2-clause-asked c =
+    let entered = c.in-Some.ensures in
+    let takes = c.in_ok-simulation.ensures.some in
+    asks_sim c.args.matches.now c.in-Some.found.now (entered.found.0 refl) entered.rows c.in-Some-2.simulation (rw c.in-Some-2.is at takes)
+
+pub returns-in-None-clause-unasked : goal.returns-in-None-clause-unasked
+returns-in-None-clause-unasked c =
+    let entered = c.in-Some.ensures in
+    let unnamed = c.in_ok-simulation.ensures.none in
+    sim_asks_nothing c.args.matches.now c.in-Some.found.now (entered.found.0 refl) entered.rows (rw c.in-None.is at unnamed)

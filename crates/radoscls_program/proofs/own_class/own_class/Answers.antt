@@ -1,0 +1,9 @@
+use Rattle.std.proofs.Common.{arith}
+use Rattle.std.proofs.lemmas.Str.Pattern.{split_once_first}
+use Rattle.std.specs.Prelude.{None}
+use Rattle.radoscls_program.specs.Own.{is_equals}
+use Rattle.radoscls_program.proofs.Tenants.{none_passes}
+use Rattle.radoscls_program.proofs.own_class.own_class.Goals as goal
+
+pub returns-in-None-clause-none : goal.returns-in-None-clause-none
+returns-in-None-clause-none c = none_passes is_equals c.args.text.now (split_once_first 61 c.args.text.now None c.in-None.ensures.cases (omega arith))

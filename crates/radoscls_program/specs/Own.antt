@@ -1,0 +1,52 @@
+-- The classes of tenants that `sim` is given, each spelled `NAME=IMAGE`.
+use Rattle.std.specs.Prelude.{◌≡◌, ◌==◌, ◌&&◌, ℕ, nat_le, not, Bool, true, List, [], ◌∷◌, ◌++◌, length, map}
+use Rattle.std.specs.List.{after_first, before_first, list_any}
+use Rattle.std.specs.Str.{bytes_eq}
+use Rattle.clap.specs.Words.{Text}
+use Rattle.sim_tool.specs.Classes.{names_of}
+use Rattle.sim_tool.specs.declared.asked.OwnClass.{OwnClass}
+use Rattle.sim_tool.specs.declared.asked.TheConstants.{OWN_LIMIT}
+
+-- a `=`
+abbrev pub is_equals : ℕ → Bool
+is_equals b = b == 61
+
+-- the name stands before the first `=`, and the file of the image behind it
+abbrev pub name_in : Text → Text
+name_in text = before_first is_equals text
+
+abbrev pub image_in : Text → Text
+image_in text = after_first is_equals text
+
+-- a word of a file of events may be that: it isn't empty, and neither a space nor a tab stands in it
+abbrev pub is_word : Text → Bool
+is_word name = not (length name == 0) && (not (list_any (λ b. b == 32) name) && not (list_any (λ b. b == 9) name))
+
+-- a class behind those with used names may have that name
+abbrev pub is_free : List Text → Text → Bool
+is_free used name = is_word name && not (list_any (λ u. bytes_eq name u) used)
+
+-- a text spells such a class
+abbrev pub is_own : List Text → Text → Bool
+is_own used text = list_any is_equals text && is_free used (name_in text)
+
+-- each text does, behind the classes of those before it
+abbrev pub are_behind : List Text → List Text → Bool
+are_behind used [] = true
+are_behind used (text ∷ texts) = is_own used text && are_behind (used ++ name_in text ∷ []) texts
+
+-- texts spell the classes of tenants: behind the built-in ones, and not too many
+abbrev pub are_own : List Text → Bool
+are_own texts = nat_le (length texts) OWN_LIMIT && are_behind (names_of []) texts
+
+-- a class's name and the file of its image
+abbrev pub parts_of : OwnClass → Text × Text
+parts_of o = (o.name.now, o.image.now)
+
+abbrev pub parts_in : Text → Text × Text
+parts_in text = (name_in text, image_in text)
+
+-- Those are the classes that the texts spell, in their order.
+pub record Owns (texts : List Text) (own : List OwnClass) : Type 0 where
+  pub may : are_own texts ≡ true
+  pub same : map parts_of own ≡ map parts_in texts

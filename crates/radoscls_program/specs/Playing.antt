@@ -1,0 +1,32 @@
+-- How a file of events was played, and what it printed.
+use Rattle.std.specs.Prelude.{◌≡◌, ◌⊎◌, Option}
+use Rattle.class_tool.specs.Files.{Disk}
+use Rattle.class_tool.specs.declared.failure.Failure.{Failure}
+use Rattle.class_tool.specs.declared.failure.Failure.TheVariants.{NoMemory}
+use Rattle.sim.specs.declared.file.Ending.{Ending}
+use Rattle.sim.specs.declared.file.Ending.TheVariants as ending
+use Rattle.sim_tool.specs.Simulating.{Simulates, SimulationFails}
+use Rattle.sim_tool.specs.declared.asked.Simulation.{Simulation}
+use Rattle.radoscls_program.specs.Streams.{Stream, IsPrinted, failure_line}
+use Rattle.radoscls_program.specs.declared.status.Status.{Status}
+use Rattle.radoscls_program.specs.declared.status.Status.TheVariants.{Done, Refused, Usage}
+
+-- it was played to that ending
+abbrev pub Plays : Option Disk → Stream → Stream → Simulation → Ending → Type 0
+Plays disk old new s ending = Simulates disk s old.printed new.printed old.failed new.failed ending
+
+-- memory was refused at a line, and one more line says so
+abbrev pub IsCut : Option Disk → Stream → Stream → Simulation → Type 0
+IsCut disk old new s = (middle : Stream) × Plays disk old middle s ending.NoMemory × IsPrinted middle new (failure_line NoMemory)
+
+-- no line was done, and one line says why
+abbrev pub IsBarred : Option Disk → Stream → Stream → Simulation → Type 0
+IsBarred disk old new s = (failure : Failure) × SimulationFails disk s failure × IsPrinted old new (failure_line failure)
+
+-- How playing a file ends: each line was done and printed; or one is bad, a write or a flush failed, memory was refused at
+-- a line, or no line was done.
+abbrev pub SimEnds : Option Disk → Stream → Stream → Simulation → Status → Type 0
+SimEnds disk old new s Done = Plays disk old new s ending.Done
+SimEnds disk old new s Refused =
+    Plays disk old new s ending.Bad ⊎ Plays disk old new s ending.Unprinted ⊎ IsCut disk old new s ⊎ IsBarred disk old new s
+SimEnds disk old new s Usage = ⊥

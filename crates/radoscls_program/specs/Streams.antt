@@ -1,0 +1,26 @@
+-- What is known of standard output.
+use Rattle.std.specs.Prelude.{◌≡◌, ◌⊎◌, ◌++◌, ℕ, List, Option, Bool, true, codes}
+use Rattle.std.specs.Io.KnownBytes.{Appends}
+use Rattle.class_tool.specs.Failure.{failure_text}
+use Rattle.class_tool.specs.declared.failure.Failure.{Failure}
+
+-- What was printed on it, and whether a write or a flush of it failed.
+pub record Stream : Type 0 where
+  pub printed : Option (List ℕ)
+  pub failed : Bool
+
+abbrev pub stream : {O : Type 0} → (O → Option (List ℕ)) → (O → Bool) → O → Stream
+stream printed failed out = record { printed = printed out; failed = failed out }
+
+-- what was printed grew by that text, and no write or flush failed
+pub record Took (old new : Stream) (text : List ℕ) : Type 0 where
+  pub grew : Appends old.printed new.printed text
+  pub well : new.failed ≡ old.failed
+
+-- a text was printed; or a write or a flush failed
+abbrev pub IsPrinted : Stream → Stream → List ℕ → Type 0
+IsPrinted old new text = Took old new text ⊎ (new.failed ≡ true)
+
+-- a failure's line
+abbrev pub failure_line : Failure → List ℕ
+failure_line failure = failure_text failure ++ codes "\n"

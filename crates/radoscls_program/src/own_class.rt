@@ -1,0 +1,91 @@
+//! The classes of tenants that `sim` is given, each spelled `NAME=IMAGE`.
+ghost use Rattle.std.specs.Prelude.{◌≡◌, ◌≤◌, false, true, length, map, IfOk, IfNone, IfSome};
+ghost use Rattle.std.specs.List.{list_any};
+ghost use Rattle.std.specs.Str.{bytes_eq};
+ghost use Rattle.sim_tool.specs.Classes.{names_of};
+ghost use Rattle.sim_tool.specs.declared.asked.TheConstants.{OWN_LIMIT};
+ghost use Rattle.radoscls_program.specs.Own.{Owns, are_own, image_in, is_equals, is_free, is_own, is_word, name_in};
+
+use sim_tool::{OWN_LIMIT, OwnClass};
+use std::alloc::{AllocError, Global};
+
+/// Whether a word of a file of events may be that: it is not empty, and no blank stands in it.
+fn is_word(name: &str) -> bool
+    ensures { result ≡ is_word name.now }
+{
+    let bytes = name.as_bytes();
+    !bytes.is_empty() && !bytes.contains(&b' ') && !bytes.contains(&b'\t')
+}
+
+/// Whether a class of those has that name.
+fn is_used(name: &str, own: &[OwnClass<'_>]) -> bool
+    ensures { result ≡ list_any (λ u. bytes_eq name.now u) (map (λ o. o.name.now) own.now) }
+{
+    for class in own {
+        if name == class.name {
+            return true;
+        }
+    }
+    false
+}
+
+/// Whether the built-in classes or those have that name.
+fn is_taken(name: &str, own: &[OwnClass<'_>]) -> bool
+    ensures { result ≡ list_any (λ u. bytes_eq name.now u) (names_of own.now) }
+{
+    name == "lock" || name == "obj" || is_used(name, own)
+}
+
+/// Whether the class behind those may have that name.
+fn is_free(name: &str, own: &[OwnClass<'_>]) -> bool
+    ensures { result ≡ is_free (names_of own.now) name.now }
+{
+    is_word(name) && !is_taken(name, own)
+}
+
+/// The class that a text spells: its name stands before the first `=`, the file of its image behind it.
+fn own_class<'a>(text: &'a str) -> Option<OwnClass<'a>>
+    ensures none { IfNone result (list_any is_equals text.now ≡ false) }
+    ensures some { IfSome result (λ o. (list_any is_equals text.now ≡ true) × (o.name.now ≡ name_in text.now) × (o.image.now ≡ image_in text.now)) }
+{
+    match text.split_once('=') {
+        Some((name, image)) => Some(OwnClass { name, image }),
+        None => None,
+    }
+}
+
+/// The class that a text spells, where it may stand behind those.
+fn next_class<'a>(text: &'a str, own: &[OwnClass<'_>]) -> Option<OwnClass<'a>>
+    ensures none { IfNone result (is_own (names_of own.now) text.now ≡ false) }
+    ensures some { IfSome result (λ o. (is_own (names_of own.now) text.now ≡ true) × (o.name.now ≡ name_in text.now) × (o.image.now ≡ image_in text.now)) }
+{
+    let class = own_class(text)?;
+    if is_free(class.name, own) {
+        Some(class)
+    } else {
+        None
+    }
+}
+
+/// The classes that texts spell, in their order; none where a text has no `=`, a name is no word or is used before, or
+/// there are too many.
+pub(crate) fn own_classes<'a>(
+    alloc: Global,
+    texts: &[&'a str],
+) -> Result<Option<Vec<OwnClass<'a>>>, AllocError>
+    ensures none { IfOk result (λ found. IfNone found (are_own (map (λ t. t.now) texts.now) ≡ false)) }
+    ensures some { IfOk result (λ found. IfSome found (λ own. Owns (map (λ t. t.now) texts.now) own.items)) }
+    ensures room { IfOk result (λ found. IfSome found (λ own. length own.items ≤ OWN_LIMIT)) }
+{
+    if texts.len() > OWN_LIMIT {
+        return Ok(None);
+    }
+    let mut own = Vec::new(alloc);
+    for text in texts {
+        match next_class(text, &own) {
+            Some(class) => own.push(class)?,
+            None => return Ok(None),
+        }
+    }
+    Ok(Some(own))
+}
