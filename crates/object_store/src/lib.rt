@@ -33,6 +33,3 @@ pub use object::Object;
 pub use object_name::ObjectName;
 pub use objects::Objects;
 pub use store_error::StoreError;
-
-#[cfg(test)]
-mod tests;

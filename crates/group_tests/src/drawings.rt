@@ -1,5 +1,6 @@
-//! Drawings, by hand.
-use crate::{Lane, Letter, Step, What, draw};
+//! Drawings of runs, by hand.
+
+use sim_trace::{Lane, Letter, Step, What, draw};
 use std::alloc::Global;
 use std::process::Abort;
 

@@ -1,5 +1,5 @@
 use Rattle.std.proofs.Common.{◌≡◌, length}
-use Rattle.commit_board.proofs.tests.commit_many.Given as goal
+use Rattle.thread_tests.proofs.boards.commit_many.Given as goal
 
 abbrev pub invariant-loop : goal.invariant-loop
 invariant-loop l = record {

@@ -1,0 +1,135 @@
+//! Eight threads that append to one group under one lock.
+
+ghost use mathlib.Core.List.{IsPrefix};
+
+use builtin_classes::load_lock;
+use interp::ClassTable;
+use object_store::ObjectName;
+use pg_log::{Classes, ClientId, Entry, Group, Request, RequestNumber};
+use std::alloc::Global;
+use std::marker::Brand;
+use std::process::Abort;
+use std::sync::{Barrier, Mutex, Wait};
+use std::test::Fail;
+use std::thread::{Threads, map_indices};
+
+/// How many threads append. Each is a client: 1, 2 and so on.
+const THREADS: u32 = 8;
+
+/// How many requests each appends, numbered from 1 on.
+const EACH: u32 = 100;
+
+/// What `lock` answers a client while another has the lock.
+const EBUSY: i64 = -16;
+
+/// What the threads share: the group under its lock, and where they wait for each other.
+#[derive(Drop)]
+struct Shared<C: Classes> {
+    group: Mutex<Group<C>>,
+    start: Barrier,
+}
+
+/// A client's request for the lock of the one object.
+fn request<R: Abort>(rt: &R, alloc: Global, client: u32, number: u32) -> Request {
+    Request::new(
+        ClientId::new(client).expect(rt, "a client"),
+        RequestNumber::new(number).expect(rt, "a number"),
+        ObjectName::new(alloc, "object").expect(rt, "memory"),
+        0,
+        String::from_str(alloc, "lock").expect(rt, "memory"),
+        Vec::new(alloc),
+    )
+}
+
+/// A thread: once all are there, it appends its requests, each under the lock.
+fn append_each<C: Classes, R: Wait + Abort>(
+    rt: &R,
+    alloc: Global,
+    table: &ClassTable,
+    shared: &Shared<C>,
+    client: u32,
+)
+    requires { IsPrefix table.now C.classes }
+{
+    shared.start.wait(rt);
+    for number in 1..=EACH {
+        let request = request(rt, alloc, client, number);
+        let place = shared.group.lock(rt).append(table, request);
+        place.expect(rt, "a place");
+    }
+}
+
+/// The group that all threads together make.
+fn appended<C: Classes + Send + Sync, R: Threads + Wait + Abort + Sync>(
+    rt: &R,
+    alloc: Global,
+    table: &ClassTable,
+) -> Group<C>
+    requires { IsPrefix table.now C.classes }
+{
+    let shared = Shared {
+        group: Mutex::new(Group::<C>::new(alloc)),
+        start: Barrier::new(THREADS as usize),
+    };
+    let thread = |index: usize|
+        requires { IsPrefix table.now C.classes }
+    {
+        let client = u32::try_from(index).unwrap_or(0).wrapping_add(1);
+        append_each(rt, alloc, table, &shared, client)
+    };
+    map_indices(rt, alloc, THREADS as usize, &thread).expect(rt, "memory");
+    shared.group.into_inner()
+}
+
+/// How many entries a client has, if they are numbered 1, 2 and so on in their order.
+fn rising(entries: &[Entry], client: u32) -> Option<u32> {
+    let mut last = 0u32;
+    for entry in entries {
+        if entry.request.client().get() == client {
+            last = last.wrapping_add(1);
+            if entry.request.number().get() != last {
+                return None;
+            }
+        }
+    }
+    Some(last)
+}
+
+/// Whether the client of the first entry got the lock each time, and every other client never.
+fn is_held_by_first(entries: &[Entry]) -> bool {
+    let mut owner = None;
+    for entry in entries {
+        let client = entry.request.client().get();
+        let owner = *owner.get_or_insert(client);
+        if entry.code != if client == owner { 0 } else { EBUSY } {
+            return false;
+        }
+    }
+    true
+}
+
+/// Checks what all threads together make.
+fn check<C: Classes + Send + Sync, R: Threads + Wait + Abort + Sync>(
+    rt: &R,
+    alloc: Global,
+    table: &ClassTable,
+)
+    requires { IsPrefix table.now C.classes }
+{
+    let group = appended::<C, R>(rt, alloc, table);
+    let entries = group.entries();
+    assert_eq!(rt; entries.len(), 800);
+    for client in 1..=THREADS {
+        assert_eq!(rt; rising(entries, client), Some(EACH), "client {client}");
+    }
+    assert!(rt; is_held_by_first(entries));
+}
+
+#[test]
+fn eight_threads_append_under_a_lock(rt: HostRuntime) -> Result<(), Fail> {
+    let alloc = rt.alloc();
+    let mut table = ClassTable::new(alloc);
+    table.add(load_lock(alloc)?)?;
+    check::<Brand, HostRuntime>(&rt, alloc, &table);
+    Ok(())
+}
