@@ -1,10 +1,15 @@
 //! Eight threads that append to one group under one lock.
 
 ghost use mathlib.Core.List.{IsPrefix};
+ghost use denote.Param.Send.{IsSend, IsSync};
+ghost use Rattle.interp.specs.contracts.class_table.ClassTable as table;
+ghost use Rattle.object_store.specs.contracts.objects.Objects as objects;
+ghost use Rattle.pg_log.specs.contracts.entry.Entry as entry;
+ghost use Rattle.std.specs.contracts.sync.Barrier as barrier;
 
 use builtin_classes::load_lock;
 use interp::ClassTable;
-use object_store::ObjectName;
+use object_store::{ObjectName, Objects};
 use pg_log::{Classes, ClientId, Entry, Group, Request, RequestNumber};
 use std::alloc::Global;
 use std::marker::Brand;
@@ -22,11 +27,43 @@ const EACH: u32 = 100;
 /// What `lock` answers a client while another has the lock.
 const EBUSY: i64 = -16;
 
-/// What the threads share: the group under its lock, and where they wait for each other.
-#[derive(Drop)]
-struct Shared<C: Classes> {
-    group: Mutex<Group<C>>,
-    start: Barrier,
+// What may go from thread to thread, and what threads may share, is known of each part of a group by itself: a search for
+// the whole of it at once is too long. These functions do nothing, and say it.
+
+/// Values of the type may go to another thread.
+fn sends<T: Send>()
+    ensures { IsSend T.row }
+{
+}
+
+/// Threads may share values of the type.
+fn shares<T: Sync>()
+    ensures { IsSync T.row }
+{
+}
+
+fn entry_sends()
+    ensures { IsSend entry.the_row }
+{
+    sends::<Entry>()
+}
+
+fn objects_sends()
+    ensures { IsSend objects.the_row }
+{
+    sends::<Objects>()
+}
+
+fn barrier_shares()
+    ensures { IsSync barrier.the_row }
+{
+    shares::<Barrier>()
+}
+
+fn table_shares()
+    ensures { IsSync table.the_row }
+{
+    shares::<ClassTable>()
 }
 
 /// A client's request for the lock of the one object.
@@ -46,15 +83,16 @@ fn append_each<C: Classes, R: Wait + Abort>(
     rt: &R,
     alloc: Global,
     table: &ClassTable,
-    shared: &Shared<C>,
+    group: &Mutex<Group<C>>,
+    start: &Barrier,
     client: u32,
 )
     requires { IsPrefix table.now C.classes }
 {
-    shared.start.wait(rt);
+    start.wait(rt);
     for number in 1..=EACH {
         let request = request(rt, alloc, client, number);
-        let place = shared.group.lock(rt).append(table, request);
+        let place = group.lock(rt).append(table, request);
         place.expect(rt, "a place");
     }
 }
@@ -67,18 +105,20 @@ fn appended<C: Classes + Send + Sync, R: Threads + Wait + Abort + Sync>(
 ) -> Group<C>
     requires { IsPrefix table.now C.classes }
 {
-    let shared = Shared {
-        group: Mutex::new(Group::<C>::new(alloc)),
-        start: Barrier::new(THREADS as usize),
-    };
+    entry_sends();
+    objects_sends();
+    table_shares();
+    barrier_shares();
+    let group = Mutex::new(Group::<C>::new(alloc));
+    let start = Barrier::new(THREADS as usize);
     let thread = |index: usize|
         requires { IsPrefix table.now C.classes }
     {
         let client = u32::try_from(index).unwrap_or(0).wrapping_add(1);
-        append_each(rt, alloc, table, &shared, client)
+        append_each(rt, alloc, table, &group, &start, client)
     };
     map_indices(rt, alloc, THREADS as usize, &thread).expect(rt, "memory");
-    shared.group.into_inner()
+    group.into_inner()
 }
 
 /// How many entries a client has, if they are numbered 1, 2 and so on in their order.
