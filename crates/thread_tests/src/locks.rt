@@ -33,14 +33,12 @@ const EBUSY: i64 = -16;
 /// Values of the type may go to another thread.
 fn sends<T: Send>()
     ensures { IsSend T.row }
-{
-}
+{}
 
 /// Threads may share values of the type.
 fn shares<T: Sync>()
     ensures { IsSync T.row }
-{
-}
+{}
 
 fn entry_sends()
     ensures { IsSend entry.the_row }
