@@ -88,7 +88,10 @@ fn a_run_is_drawn(rt: HostRuntime) -> Result<(), Fail> {
         let ended = run_on(rt.alloc(), &["sim", "--trace", "text"], &mut folder)?;
         let printed = row.printed;
         assert!(rt; ended.printed.as_slice() == printed.as_bytes(), "{printed}");
-        assert!(rt; ended.status == row.status && folder.writes == 0, "{printed}");
+        assert!(rt;
+            ended.status == row.status && folder.writes == 0,
+            "{printed}"
+        );
     }
     Ok(())
 }

@@ -8,7 +8,8 @@ use std::io::{self, ErrorKind};
 use std::test::Fail;
 
 /// `mov r0, 0`, `exit`.
-pub const TWO: &str = "52434c31 0100 0000 01 66 01 0000 0000 0200 b700000000000000 9500000000000000";
+pub const TWO: &str =
+    "52434c31 0100 0000 01 66 01 0000 0000 0200 b700000000000000 9500000000000000";
 
 /// The files `image` (`its=image` too), `text` and `out`, which are there from the start, and the file `full`, which takes
 /// no bytes.

@@ -34,8 +34,24 @@ static USAGES: [&[&str]; 26] = [
     // a word that asks another class
     &["sim", "--class", "lock=image", "text"],
     &["sim", "--class", "obj=image", "text"],
-    &["sim", "--class", "two=image", "--class", "two=image", "text"],
-    &["sim", "--class", "two=image", "--class", "hi=out", "--class", "two=text", "text"],
+    &[
+        "sim",
+        "--class",
+        "two=image",
+        "--class",
+        "two=image",
+        "text",
+    ],
+    &[
+        "sim",
+        "--class",
+        "two=image",
+        "--class",
+        "hi=out",
+        "--class",
+        "two=text",
+        "text",
+    ],
 ];
 
 #[test]

@@ -3,7 +3,8 @@ use std::alloc::Global;
 use std::test::Fail;
 
 /// A class whose method `hello` answers five bytes.
-const HELLO: &str = "52434c31 0100 0000 05 68656c6c6f 01 0000 0500 0500 6203000068656c6c 720304006f000000 \
+const HELLO: &str =
+    "52434c31 0100 0000 05 68656c6c6f 01 0000 0500 0500 6203000068656c6c 720304006f000000 \
     b701000005000000 850000000d000000 9500000000000000";
 
 /// Words of `sim`, an image, the events, what is printed, and the status.
@@ -18,7 +19,13 @@ struct Row {
 static ROWS: [Row; 12] = [
     // two classes are asked by their words, and the built-in ones as without them
     Row {
-        words: &["sim", "--class", "hi=image", "--class=obj2=its=image", "text"],
+        words: &[
+            "sim",
+            "--class",
+            "hi=image",
+            "--class=obj2=its=image",
+            "text",
+        ],
         image: HELLO,
         events: "map 1\nsee 1 1\ndeliver 1\ndeliver 2\nreq 1 1 1 a hi hello -\nreq 1 1 2 a obj2 hello -\n\
         req 1 1 3 a lock lock -\nreq 1 1 4 a obj stat -\nreq 1 1 5 a lo hello -\nreq 1 1 5 a hi f -\n",
@@ -75,7 +82,16 @@ static ROWS: [Row; 12] = [
     },
     // the first of them, in their order
     Row {
-        words: &["sim", "--class", "a=image", "--class", "b=out", "--class", "c=missing", "text"],
+        words: &[
+            "sim",
+            "--class",
+            "a=image",
+            "--class",
+            "b=out",
+            "--class",
+            "c=missing",
+            "text",
+        ],
         image: HELLO,
         events: "map 1\n",
         printed: "image refused after 0 methods: 2 Magic\n",
@@ -121,7 +137,10 @@ fn tenants_classes_are_asked(rt: HostRuntime) -> Result<(), Fail> {
         let ended = run_on(rt.alloc(), row.words, &mut folder)?;
         let printed = row.printed;
         assert!(rt; ended.printed.as_slice() == printed.as_bytes(), "{printed}");
-        assert!(rt; ended.status == row.status && folder.writes == 0, "{printed}");
+        assert!(rt;
+            ended.status == row.status && folder.writes == 0,
+            "{printed}"
+        );
     }
     Ok(())
 }

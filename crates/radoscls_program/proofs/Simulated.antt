@@ -1,6 +1,5 @@
 -- What the words ask for, where they name `sim` and where they don't.
-use Rattle.std.proofs.Common.{◌≡◌, ◌∙◌, ap, sym, refl, subst, List, Option, Some, None, Bool, false, true, is_some, map, option_map, codes}
-use Rattle.std.specs.Prelude.{IfSome, IsNone, IsSome}
+use Rattle.std.proofs.Common.{◌≡◌, ◌∙◌, ap, sym, refl, subst, List, Option, Some, None, is_some, option_map, codes}
 use Rattle.std.proofs.lemmas.Option.{none-some, some_pair_parts}
 use Rattle.clap.specs.Words.{Row, Text, all_of, first_of, first_value, found_of, rows_of, subcommand_name_of, subcommand_rows_of}
 use Rattle.clap.specs.declared.parser.matches.ArgMatches.{ArgMatches}
@@ -9,13 +8,11 @@ use Rattle.clap.proofs.WalkLemmas.{first_value-rows}
 use Rattle.sim_tool.specs.declared.asked.Simulation.{Simulation}
 use Rattle.class_tool.specs.declared.action.Action.{Action}
 use Rattle.class_tool.specs.declared.action.Action.TheVariants.{Verify, Run, Assemble, Disassemble}
-use Rattle.radoscls_program.specs.Arguments.{AsksBy, NamesSim, TakesSim, is_set, texts_of}
-use Rattle.radoscls_program.specs.CommandLine.{Asks, AsksNoTask, AsksNothing, AsksSim, AsksTask}
-use Rattle.radoscls_program.specs.Own.{Owns, are_own}
-use Rattle.radoscls_program.specs.declared.task.Task.{Task}
+use Rattle.radoscls_program.specs.Arguments.{AsksBy, NamesSim, TakesSim, is_set}
+use Rattle.radoscls_program.specs.CommandLine.{AsksNoTask, AsksNothing, AsksTask}
 use Rattle.radoscls_program.specs.declared.task.Task.TheVariants.{Class, Sim}
 use Rattle.radoscls_program.proofs.Entered.{entered}
-use Rattle.radoscls_program.proofs.Unasked.{not_both, other}
+use Rattle.radoscls_program.proofs.Unasked.{other}
 
 -- the values by the rows
 same_taken : (f : ArgMatches) (s : Simulation) → TakesSim (first_value (found_of f)) (λ id. all_of id (rows_of (found_of f))) s

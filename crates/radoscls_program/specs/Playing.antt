@@ -1,5 +1,5 @@
 -- How a file of events was played, and what it printed.
-use Rattle.std.specs.Prelude.{◌≡◌, ◌⊎◌, Option}
+use Rattle.std.specs.Prelude.{◌⊎◌, Option}
 use Rattle.class_tool.specs.Files.{Disk}
 use Rattle.class_tool.specs.declared.failure.Failure.{Failure}
 use Rattle.class_tool.specs.declared.failure.Failure.TheVariants.{NoMemory}

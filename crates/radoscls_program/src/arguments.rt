@@ -7,9 +7,9 @@ ghost use Rattle.radoscls_program.specs.Arguments.{AsksBy, IsClientNumber, Names
 ghost use Rattle.radoscls_program.specs.Own.{Owns, are_own};
 ghost use Rattle.radoscls_program.specs.Program.{AreForNone};
 
-use clap::error::{Error, ErrorKind};
 use crate::own_class::own_classes;
 use crate::task::Task;
+use clap::error::{Error, ErrorKind};
 use clap::{Arg, ArgAction, ArgMatches, Command, value_parser};
 use class_tool::{Action, Call};
 use pg_log::ClientId;
@@ -260,10 +260,7 @@ fn is_set(matches: &ArgMatches<'_>, id: &str) -> bool
 }
 
 /// What `sim` asks for.
-fn sim_of<'a>(
-    alloc: Global,
-    matches: &ArgMatches<'a>,
-) -> Result<Option<Simulation<'a>>, AllocError>
+fn sim_of<'a>(alloc: Global, matches: &ArgMatches<'a>) -> Result<Option<Simulation<'a>>, AllocError>
     ensures some { IfOk result (λ found. IfSome found (TakesSim (first_value (found_of matches.now)) (λ id. all_of id (rows_of (found_of matches.now))))) }
     ensures none { IfOk result (λ found. IfNone found (NamesSim (first_value (found_of matches.now)) (λ id. all_of id (rows_of (found_of matches.now))) → ⊥)) }
 {
