@@ -333,7 +333,13 @@ fn object_after(row: &Row) -> Option<Contents> {
 fn is_answer(rt: &impl Abort, alloc: Global, outcome: &Outcome, row: &Row) -> bool {
     outcome.code == row.answer
         && outcome.output.as_slice() == row.output
-        && is_change(rt, alloc, &outcome.change, object_before(row), object_after(row))
+        && is_change(
+            rt,
+            alloc,
+            &outcome.change,
+            object_before(row),
+            object_after(row),
+        )
 }
 
 /// Whether a call beside that object answers so.
