@@ -1,10 +1,11 @@
 use crate::measure::{picos_each, time_append, time_call, time_verify};
 use crate::mode::Mode;
 use crate::report::report;
-use crate::workload::{WORKLOADS, steps};
+use crate::workload::{WORKLOADS, Workload, steps};
+use std::alloc::Global;
 use std::cell::Cell;
 use std::io;
-use std::test::Fail;
+use std::process::Abort;
 use std::time::{Clock, Duration};
 
 /// Instructions and steps of each method, counted by hand.
@@ -21,36 +22,50 @@ const COUNTS: [(&str, usize, usize); 10] = [
     ("checked", 1000, 1000),
 ];
 
-#[test]
-fn counts(rt: HostRuntime) -> Result<(), Fail> {
-    let alloc = rt.alloc();
-    for (workload, (name, count, executed)) in WORKLOADS.iter().zip(COUNTS) {
-        let ready = workload.ready(alloc)?;
-        assert_eq!(rt; workload.name, name);
-        assert_eq!(rt; ready.instructions, count, "{name}");
-        assert_eq!(rt;
-            (ready.steps, steps(alloc, &ready.class)?),
-            (executed, executed),
-            "{name}"
-        );
-    }
-    Ok(())
+/// Whether a method has that name, so many instructions, and so many steps, also when it runs again.
+fn has_counts<R: Abort>(
+    rt: &R,
+    alloc: Global,
+    workload: &Workload,
+    (name, count, executed): (&str, usize, usize),
+) -> bool {
+    let ready = workload.ready(alloc).expect(rt, "a class");
+    let again = steps(alloc, &ready.class).expect(rt, "an answer");
+    workload.name == name
+        && ready.instructions == count
+        && ready.steps == executed
+        && again == executed
 }
 
 #[test]
-fn modes(rt: HostRuntime) -> Result<(), Fail> {
-    let alloc = rt.alloc();
-    let name = String::from_str(alloc, "bench")?;
-    let dry = String::from_str(alloc, "--dry")?;
-    let other = String::from_str(alloc, "-dry")?;
-    assert_eq!(rt; Mode::of(&[]), None);
-    let mut words = vec![in alloc; name]?;
-    assert_eq!(rt; Mode::of(&words), Some(Mode::Timed));
-    words.push(dry)?;
-    assert_eq!(rt; Mode::of(&words), Some(Mode::Dry));
-    words.push(other)?;
-    assert_eq!(rt; Mode::of(&words), None);
-    Ok(())
+fn counts(rt: HostRuntime) {
+    for (workload, row) in WORKLOADS.iter().zip(COUNTS) {
+        assert!(rt; has_counts(&rt, rt.alloc(), workload, row), "{}", row.0);
+    }
+}
+
+/// The program's words, and what they ask for.
+const MODES: [(&[&str], Option<Mode>); 4] = [
+    (&[], None),
+    (&["bench"], Some(Mode::Timed)),
+    (&["bench", "--dry"], Some(Mode::Dry)),
+    (&["bench", "--dry", "-dry"], None),
+];
+
+fn mode_of<R: Abort>(rt: &R, alloc: Global, texts: &[&str]) -> Option<Mode> {
+    let mut words = Vec::new(alloc);
+    for text in texts {
+        let word = String::from_str(alloc, text).expect(rt, "memory");
+        words.push(word).expect(rt, "memory");
+    }
+    Mode::of(&words)
+}
+
+#[test]
+fn modes(rt: HostRuntime) {
+    for (texts, mode) in MODES {
+        assert!(rt; mode_of(&rt, rt.alloc(), texts) == mode);
+    }
 }
 
 /// A clock of which every other reading is 3 and 1 milliseconds behind the one before, in turn, and each other 7. So
@@ -88,23 +103,31 @@ impl Clock for Ticks {
 }
 
 #[test]
-fn picos(rt: HostRuntime) -> Result<(), Fail> {
-    assert_eq!(rt; picos_each(7, 2), 3500);
-    assert_eq!(rt; picos_each(u128::MAX, 1), u64::MAX);
-    Ok(())
+fn picos(rt: HostRuntime) {
+    assert!(rt; picos_each(7, 2) == 3500 && picos_each(u128::MAX, 1) == u64::MAX);
+}
+
+/// The times of 26 calls of 4,000 steps, each in a millisecond at least, and of 3 passes over 4,000 slots.
+fn call_and_pass<R: Abort>(rt: &R, alloc: Global, clock: &Ticks) -> (u64, u64) {
+    let ready = WORKLOADS[2].ready(alloc).expect(rt, "a class");
+    let call = time_call(alloc, clock, &ready, 3).expect(rt, "a time");
+    (
+        call,
+        time_verify(alloc, clock, &ready, 2).expect(rt, "a time"),
+    )
+}
+
+/// The time of 4,096 appends.
+fn append<R: Abort>(rt: &R, alloc: Global, clock: &Ticks) -> u64 {
+    let ready = WORKLOADS[2].ready(alloc).expect(rt, "a class");
+    time_append(alloc, clock, ready.class, 100, 2).expect(rt, "a time")
 }
 
 #[test]
-fn least_times(rt: HostRuntime) -> Result<(), Fail> {
-    let alloc = rt.alloc();
+fn least_times(rt: HostRuntime) {
     let clock = Ticks::new();
-    let ready = WORKLOADS[2].ready(alloc)?;
-    // 26 calls of 4,000 steps, 3 passes over 4,000 slots, and 4,096 appends, each in a millisecond at least.
-    let call = time_call(alloc, &clock, &ready, 3)?;
-    let pass = time_verify(alloc, &clock, &ready, 2)?;
-    let append = time_append(alloc, &clock, ready.class, 100, 2)?;
-    assert_eq!(rt; [call, pass, append], [38_461_538, 333_333_333, 244_140]);
-    Ok(())
+    assert!(rt; call_and_pass(&rt, rt.alloc(), &clock) == (38_461_538, 333_333_333));
+    assert!(rt; append(&rt, rt.alloc(), &clock) == 244_140);
 }
 
 /// The timed table by that clock, computed from the counts: 100,000 by the steps and 10,000 by the slots, and one more,
@@ -131,29 +154,24 @@ ns/append behind   100     244.14
 ns/append behind 60000     244.14
 ";
 
-#[test]
-fn the_timed_table(rt: HostRuntime) -> Result<(), Fail> {
-    let mut out = Vec::new(rt.alloc());
-    report(
-        rt.alloc(),
-        &Ticks::new(),
-        Mode::Timed,
-        3,
-        &WORKLOADS,
-        &mut out,
-    )?;
-    assert!(rt; out.as_slice() == TIMED.as_bytes());
-    Ok(())
+/// What is printed by that clock.
+fn printed<R: Abort>(rt: &R, alloc: Global, mode: Mode, runs: usize) -> Vec<u8> {
+    let mut out = Vec::new(alloc);
+    report(alloc, &Ticks::new(), mode, runs, &WORKLOADS, &mut out).expect(rt, "a table");
+    out
 }
 
 #[test]
-fn the_dry_table(rt: HostRuntime) -> Result<(), Fail> {
-    let mut out = Vec::new(rt.alloc());
-    report(rt.alloc(), &rt, Mode::Dry, 0, &WORKLOADS, &mut out)?;
-    assert!(rt;
-        out.starts_with(
-            b"method     slots  steps\ncall           4      4\nalu_100      100    100\n"
-        )
-    );
-    Ok(())
+fn the_timed_table(rt: HostRuntime) {
+    let out = printed(&rt, rt.alloc(), Mode::Timed, 3);
+    assert!(rt; out.as_slice() == TIMED.as_bytes());
+}
+
+/// How the table without times begins.
+const DRY: &[u8] = b"method     slots  steps\ncall           4      4\nalu_100      100    100\n";
+
+#[test]
+fn the_dry_table(rt: HostRuntime) {
+    let out = printed(&rt, rt.alloc(), Mode::Dry, 0);
+    assert!(rt; out.starts_with(DRY));
 }

@@ -1,7 +1,8 @@
 use crate::figure::{Figure, Mode};
+use std::alloc::Global;
 use std::cell::Cell;
 use std::io;
-use std::test::Fail;
+use std::process::Abort;
 use std::time::{Clock, Duration, Instant};
 
 /// A clock of which every other reading is 3 and 1 milliseconds behind the one before, in turn, and each other 7.
@@ -34,19 +35,23 @@ static TEXTS: [(Mode, &str); 2] = [
     (Mode::Timed, "   1000    1000.00 ns each"),
 ];
 
-#[test]
-fn figures(rt: HostRuntime) -> Result<(), Fail> {
-    for (mode, text) in TEXTS {
-        let clock = Ticks {
-            readings: Cell::new(0),
-            millis: Cell::new(0),
-        };
-        let mut figure = Figure::new(mode);
-        for _ in 0..3 {
-            let start = Instant::now(&clock)?;
-            figure.note(&clock, start, 1000)?;
-        }
-        assert_eq!(rt; figure.to_string(rt.alloc())?.as_str(), text);
+/// The figure of those runs, as text.
+fn printed<R: Abort>(rt: &R, alloc: Global, mode: Mode) -> String {
+    let clock = Ticks {
+        readings: Cell::new(0),
+        millis: Cell::new(0),
+    };
+    let mut figure = Figure::new(mode);
+    for _ in 0..3 {
+        let start = Instant::now(&clock).expect(rt, "a time");
+        figure.note(&clock, start, 1000).expect(rt, "a time");
     }
-    Ok(())
+    figure.to_string(alloc).expect(rt, "memory")
+}
+
+#[test]
+fn figures(rt: HostRuntime) {
+    for (mode, text) in TEXTS {
+        assert!(rt; printed(&rt, rt.alloc(), mode).as_str() == text);
+    }
 }

@@ -12,6 +12,3 @@ mod view;
 pub use board::Board;
 pub use no_memory::NoMemory;
 pub use tokens::{Note, Seen, Writer};
-
-#[cfg(test)]
-mod tests;

@@ -1,13 +1,15 @@
 //! The built-in classes: every method on its answers, through a group and by `call`.
 
+ghost use mathlib.Core.List.{IsPrefix};
+
 use builtin_classes::{BuiltInFailure, LOCK, OBJ, load_all, load_lock, load_obj};
-use interp::{ClassTable, call};
-use object_store::ObjectName;
+use interp::{ClassTable, Outcome, call};
+use object_store::{Object, ObjectName};
 use pg_log::{Classes, ClientId, Group, GroupWork, Request, RequestNumber, with_group};
 use std::alloc::Global;
 use std::process::Abort;
-use std::test::Fail;
-use verifier::VerifiedClass;
+use std::str::SplitWhitespace;
+use verifier::{VerifiedClass, VerifiedMethod};
 
 /// An owner, another, and nobody. A row is a request (client, object, class, method and input), a bar, and its reply
 /// (code and output). Bytes are hexadecimal, `-` for none, and `*N` behind them stands for N zero bytes.
@@ -90,88 +92,154 @@ const XATTRS: &str = "1 a obj getxattr 61 | -2 -
 1 a obj remove - | 0 -
 1 a obj getxattr 61 | -2 -";
 
-/// Behind 32 xattrs of an object `a`, of which `10` is one: no further one, and no lock.
-const FULL: &str = "1 a obj setxattr 0142 | -28 -
+/// 32 xattrs of an object `a`, and behind them no further one, and no lock.
+const FULL: &str = "1 a obj setxattr 0110 | 0 -
+1 a obj setxattr 0111 | 0 -
+1 a obj setxattr 0112 | 0 -
+1 a obj setxattr 0113 | 0 -
+1 a obj setxattr 0114 | 0 -
+1 a obj setxattr 0115 | 0 -
+1 a obj setxattr 0116 | 0 -
+1 a obj setxattr 0117 | 0 -
+1 a obj setxattr 0118 | 0 -
+1 a obj setxattr 0119 | 0 -
+1 a obj setxattr 0120 | 0 -
+1 a obj setxattr 0121 | 0 -
+1 a obj setxattr 0122 | 0 -
+1 a obj setxattr 0123 | 0 -
+1 a obj setxattr 0124 | 0 -
+1 a obj setxattr 0125 | 0 -
+1 a obj setxattr 0126 | 0 -
+1 a obj setxattr 0127 | 0 -
+1 a obj setxattr 0128 | 0 -
+1 a obj setxattr 0129 | 0 -
+1 a obj setxattr 0130 | 0 -
+1 a obj setxattr 0131 | 0 -
+1 a obj setxattr 0132 | 0 -
+1 a obj setxattr 0133 | 0 -
+1 a obj setxattr 0134 | 0 -
+1 a obj setxattr 0135 | 0 -
+1 a obj setxattr 0136 | 0 -
+1 a obj setxattr 0137 | 0 -
+1 a obj setxattr 0138 | 0 -
+1 a obj setxattr 0139 | 0 -
+1 a obj setxattr 0140 | 0 -
+1 a obj setxattr 0141 | 0 -
+1 a obj setxattr 0142 | -28 -
 1 a obj setxattr 011061 | 0 -
 1 a lock lock - | -28 -
 1 a lock unlock - | -61 -";
 
-/// A request and its reply.
-#[derive(Drop)]
-struct Row {
-    request: Request,
-    code: i64,
-    output: Vec<u8>,
+/// So many zero bytes behind those that there are.
+fn put_zeros<R: Abort>(rt: &R, bytes: &mut Vec<u8>, count: &str) {
+    for _ in 0..count.parse::<u16>().expect(rt, "a count") {
+        bytes.push(0).expect(rt, "memory");
+    }
 }
 
-/// So many zero bytes behind those that there are.
-fn put_zeros(bytes: &mut Vec<u8>, count: &str) -> Result<(), Fail> {
-    for _ in 0..count.parse::<u16>()? {
-        bytes.push(0)?;
-    }
-    Ok(())
+/// Puts what a part of a word says behind the bytes that there are.
+fn put_part<R: Abort>(rt: &R, alloc: Global, bytes: &mut Vec<u8>, part: &str) {
+    let (digits, zeros) = part.split_once('*').unwrap_or((part, "0"));
+    let decoded = hex::decode(alloc, digits).expect(rt, "digits");
+    bytes.extend_from_slice(&decoded).expect(rt, "memory");
+    put_zeros(rt, bytes, zeros);
 }
 
 /// The bytes of a word: hexadecimal digits, `*N` for N zero bytes, and digits behind a comma; or `-`.
-fn bytes_of(alloc: Global, word: &str) -> Result<Vec<u8>, Fail> {
+fn bytes_of<R: Abort>(rt: &R, alloc: Global, word: &str) -> Vec<u8> {
     let mut bytes = Vec::new(alloc);
     for part in word.trim_matches('-').split(',') {
-        let (digits, zeros) = part.split_once('*').unwrap_or((part, "0"));
-        bytes.extend_from_slice(&hex::decode(alloc, digits)?)?;
-        put_zeros(&mut bytes, zeros)?;
+        put_part(rt, alloc, &mut bytes, part);
     }
-    Ok(bytes)
+    bytes
+}
+
+/// What a line asks for and what it wants, by its words.
+#[derive(Clone, Copy)]
+struct Line<'a> {
+    client: &'a str,
+    object: &'a str,
+    class: &'a str,
+    method: &'a str,
+    input: &'a str,
+    code: &'a str,
+    output: &'a str,
+}
+
+fn next<'a>(words: &mut SplitWhitespace<'a>) -> &'a str {
+    words.next().unwrap_or("")
+}
+
+fn line_of(line: &str) -> Line<'_> {
+    let mut words = line.split_whitespace();
+    let client = next(&mut words);
+    let object = next(&mut words);
+    let class = next(&mut words);
+    let method = next(&mut words);
+    let input = next(&mut words);
+    let _bar = next(&mut words);
+    Line {
+        client,
+        object,
+        class,
+        method,
+        input,
+        code: next(&mut words),
+        output: next(&mut words),
+    }
 }
 
 /// A request for a method of a built-in class.
-fn request_of(
+fn request_of<R: Abort>(rt: &R, alloc: Global, line: Line<'_>, number: u32) -> Request {
+    let client = line.client.parse::<u32>().expect(rt, "a client");
+    Request::new(
+        ClientId::new(client).expect(rt, "a client"),
+        RequestNumber::new(number).expect(rt, "a number"),
+        ObjectName::new(alloc, line.object).expect(rt, "memory"),
+        usize::from(line.class == "obj"),
+        String::from_str(alloc, line.method).expect(rt, "memory"),
+        bytes_of(rt, alloc, line.input),
+    )
+}
+
+/// The place at which a line's request is appended.
+fn appended<C: Classes, R: Abort>(
+    rt: &R,
     alloc: Global,
-    client: u32,
+    table: &ClassTable,
+    group: &mut Group<C>,
+    line: Line<'_>,
     number: u32,
-    (object, class, method): (&str, &str, &str),
-    input: Vec<u8>,
-) -> Result<Request, Fail> {
-    Ok(Request::new(
-        ClientId::new(client).ok_or("no client")?,
-        RequestNumber::new(number).ok_or("no number")?,
-        ObjectName::new(alloc, object)?,
-        usize::from(class == "obj"),
-        String::from_str(alloc, method)?,
-        input,
-    ))
+) -> Option<usize>
+    requires { IsPrefix table.now C.classes }
+{
+    group
+        .append(table, request_of(rt, alloc, line, number))
+        .ok()
 }
 
-/// The row of a line, whose request has that number.
-fn row_of(alloc: Global, line: &str, number: u32) -> Result<Row, Fail> {
-    let (asked, answer) = line.split_once(" | ").ok_or("no bar")?;
-    let mut words = asked.split(' ');
-    let client = words.next().ok_or("no client")?.parse::<u32>()?;
-    let object = words.next().ok_or("no object")?;
-    let class = words.next().ok_or("no class")?;
-    let method = words.next().ok_or("no method")?;
-    let input = bytes_of(alloc, words.next().ok_or("no input")?)?;
-    let (code, output) = answer.split_once(' ').ok_or("no output")?;
-    Ok(Row {
-        request: request_of(alloc, client, number, (object, class, method), input)?,
-        code: code.parse::<i64>()?,
-        output: bytes_of(alloc, output)?,
-    })
-}
-
-/// The rows of a text, whose requests are numbered from 1 on.
-fn rows_of(alloc: Global, text: &str) -> Result<Vec<Row>, Fail> {
-    let mut rows = Vec::new(alloc);
-    for (line, number) in text.lines().zip(1u32..) {
-        rows.push(row_of(alloc, line, number)?)?;
+/// The code of the reply at a place.
+fn code_at<C: Classes>(group: &Group<C>, place: usize) -> Option<i64> {
+    match group.reply_at(place) {
+        None => None,
+        Some((code, _)) => Some(code),
     }
-    Ok(rows)
 }
 
-/// Appends each row's request, and compares its reply.
+/// Whether the output of the reply at a place is that one.
+fn has_output<C: Classes>(group: &Group<C>, place: usize, want: &[u8]) -> bool {
+    match group.reply_at(place) {
+        None => false,
+        Some((_, output)) => output == want,
+    }
+}
+
+/// Appends the request of each line of a text, numbered from 1 on, and compares its reply.
 #[derive(Drop)]
 struct Replies<'a, R> {
     rt: &'a R,
-    rows: Vec<Row>,
+    alloc: Global,
+    text: &'a str,
 }
 
 impl<R: Abort> GroupWork for Replies<'_, R> {
@@ -180,66 +248,113 @@ impl<R: Abort> GroupWork for Replies<'_, R> {
     ghost gives = { λ _ _ _ _. Unit {0} };
 
     fn work<C: Classes>(self, table: &ClassTable, mut group: Group<C>) {
-        for (row, place) in self.rows.into_iter().zip(0usize..) {
-            let line = place.wrapping_add(1);
-            assert_eq!(self.rt; group.append(table, row.request), Ok(place), "row {line}");
-            let (code, output) = group.reply_at(place).expect(self.rt, "a reply");
-            assert_eq!(self.rt; code, row.code, "row {line}");
-            assert!(self.rt; output == row.output.as_slice(), "row {line}");
+        let rt = self.rt;
+        let mut number = 0u32;
+        for line in self.text.lines() {
+            let line = line_of(line);
+            let place = number as usize;
+            number = number.wrapping_add(1);
+            let found = appended(rt, self.alloc, table, &mut group, line, number);
+            assert!(rt; found == Some(place), "line {number}");
+            let code = line.code.parse::<i64>().ok();
+            assert!(rt;
+                code.is_some() && code_at(&group, place) == code,
+                "line {number}"
+            );
+            let output = bytes_of(rt, self.alloc, line.output);
+            assert!(rt; has_output(&group, place, &output), "line {number}");
         }
     }
 }
 
 /// The table of both classes.
-fn table(alloc: Global) -> Result<ClassTable, Fail> {
+fn table<R: Abort>(rt: &R, alloc: Global) -> ClassTable {
     let mut table = ClassTable::new(alloc);
-    for class in load_all(alloc)? {
-        table.add(class)?;
+    for class in load_all(alloc).expect(rt, "classes") {
+        table.add(class).expect(rt, "room");
     }
-    Ok(table)
+    table
 }
 
-/// Checks the rows of a text through a group, at places from 0 on.
-fn check<R: Abort>(rt: &R, alloc: Global, text: &str) -> Result<(), Fail> {
-    let rows = rows_of(alloc, text)?;
-    with_group(alloc, &table(alloc)?, Replies { rt, rows });
-    Ok(())
-}
-
-#[test]
-fn locks_and_unlocks(rt: HostRuntime) -> Result<(), Fail> {
-    check(&rt, rt.alloc(), LOCKS)?;
-    check(&rt, rt.alloc(), TURNS)
+/// Checks the lines of a text through a group, at places from 0 on.
+fn check<R: Abort>(rt: &R, alloc: Global, text: &str) {
+    let table = table(rt, alloc);
+    with_group(alloc, &table, Replies { rt, alloc, text });
 }
 
 #[test]
-fn reads_and_writes_data(rt: HostRuntime) -> Result<(), Fail> {
-    check(&rt, rt.alloc(), DATA)
+fn locks_and_unlocks(rt: HostRuntime) {
+    check(&rt, rt.alloc(), LOCKS);
+    check(&rt, rt.alloc(), TURNS);
 }
 
 #[test]
-fn gets_and_sets_xattrs(rt: HostRuntime) -> Result<(), Fail> {
-    check(&rt, rt.alloc(), XATTRS)
+fn reads_and_writes_data(rt: HostRuntime) {
+    check(&rt, rt.alloc(), DATA);
 }
 
 #[test]
-fn fills_an_object(rt: HostRuntime) -> Result<(), Fail> {
-    let alloc = rt.alloc();
-    let mut rows = String::new(alloc);
-    for name in 10..42 {
-        rows.push_str(&format!(in alloc; "1 a obj setxattr 01{name} | 0 -\n")?)?;
+fn gets_and_sets_xattrs(rt: HostRuntime) {
+    check(&rt, rt.alloc(), XATTRS);
+}
+
+#[test]
+fn fills_an_object(rt: HostRuntime) {
+    check(&rt, rt.alloc(), FULL);
+}
+
+/// A client, a number, and a method of `lock`, on the object `a`.
+type Asked = (u32, u32, &'static str);
+
+/// The owner's second lock and its unlock in between, and a list without them.
+const OLD: [Asked; 3] = [(1, 1, "lock"), (1, 2, "unlock"), (1, 3, "lock")];
+
+const NEW: [Asked; 2] = [(1, 1, "lock"), (2, 1, "lock")];
+
+fn asked<R: Abort>(rt: &R, alloc: Global, (client, number, method): Asked) -> Request {
+    Request::new(
+        ClientId::new(client).expect(rt, "a client"),
+        RequestNumber::new(number).expect(rt, "a number"),
+        ObjectName::new(alloc, "a").expect(rt, "memory"),
+        0,
+        String::from_str(alloc, method).expect(rt, "memory"),
+        Vec::new(alloc),
+    )
+}
+
+fn list<R: Abort>(rt: &R, alloc: Global, rows: &[Asked]) -> Vec<Request> {
+    let mut list = Vec::new(alloc);
+    for row in rows {
+        list.push(asked(rt, alloc, *row)).expect(rt, "memory");
     }
-    rows.push_str(FULL)?;
-    check(&rt, alloc, &rows)
+    list
 }
 
-/// Makes a list a group's log, and that group adopts another list.
+/// The group whose log is the old list.
+fn replayed<C: Classes, R: Abort>(rt: &R, alloc: Global, table: &ClassTable) -> Group<C>
+    requires { IsPrefix table.now C.classes }
+{
+    let old = list(rt, alloc, &OLD);
+    Group::<C>::replay(alloc, table, &old).expect(rt, "memory")
+}
+
+/// What the adoption of the new list answers.
+fn adopted<C: Classes, R: Abort>(
+    rt: &R,
+    alloc: Global,
+    table: &ClassTable,
+    group: &mut Group<C>,
+) -> Option<usize>
+    requires { IsPrefix table.now C.classes }
+{
+    group.adopt(table, &list(rt, alloc, &NEW)).ok()
+}
+
+/// Makes the old list a group's log, and that group adopts the new one.
 #[derive(Drop)]
 struct Adopts<'a, R> {
     rt: &'a R,
     alloc: Global,
-    old: Vec<Request>,
-    new: Vec<Request>,
 }
 
 impl<R: Abort> GroupWork for Adopts<'_, R> {
@@ -247,99 +362,124 @@ impl<R: Abort> GroupWork for Adopts<'_, R> {
 
     ghost gives = { λ _ _ _ _. Unit {0} };
 
-    fn work<C: Classes>(self, table: &ClassTable, group: Group<C>) {
-        let _ = group;
-        let mut group = Group::<C>::replay(self.alloc, table, &self.old).expect(self.rt, "memory");
-        assert_eq!(self.rt; group.adopt(table, &self.new), Ok(1));
-        let (code, _) = group.reply_at(1).expect(self.rt, "a reply");
-        assert_eq!(self.rt; (group.len(), code), (2, -16));
+    fn work<C: Classes>(self, table: &ClassTable, _group: Group<C>) {
+        let mut group: Group<C> = replayed(self.rt, self.alloc, table);
+        let common = adopted(self.rt, self.alloc, table, &mut group);
+        assert!(self.rt; common == Some(1) && group.len() == 2);
+        assert!(self.rt; code_at(&group, 1) == Some(-16));
     }
 }
 
-/// A list of requests for methods of `lock` on the object `a`.
-fn list(alloc: Global, rows: &[(u32, u32, &str)]) -> Result<Vec<Request>, Fail> {
-    let mut list = Vec::new(alloc);
-    for &(client, number, method) in rows {
-        let input = Vec::new(alloc);
-        list.push(request_of(alloc, client, number, ("a", "lock", method), input)?)?;
+/// What was done in between is undone: the lock is the owner's still.
+#[test]
+fn a_lock_stands_after_an_adoption(rt: HostRuntime) {
+    let alloc = rt.alloc();
+    let table = table(&rt, alloc);
+    with_group(alloc, &table, Adopts { rt: &rt, alloc });
+}
+
+/// Whether an object has one xattr and nothing else.
+fn has_one_xattr(object: Option<&Object>) -> bool {
+    match object {
+        None => false,
+        Some(object) => {
+            object.len() == 0 && object.xattr_count() == 1 && object.key_count() == 0
+        }
     }
-    Ok(list)
 }
 
-/// The owner's second lock and its unlock in between are undone: the lock is the owner's still.
+/// What a client's call of `lock` answers.
+fn locked<R: Abort>(
+    rt: &R,
+    alloc: Global,
+    class: &VerifiedClass,
+    object: Option<&Object>,
+    client: u32,
+) -> Outcome {
+    call(alloc, class, "lock", object, client, &[]).expect(rt, "an answer")
+}
+
+/// Its code and its steps.
+fn code_and_steps<R: Abort>(
+    rt: &R,
+    alloc: Global,
+    class: &VerifiedClass,
+    object: Option<&Object>,
+    client: u32,
+) -> (i64, usize) {
+    let outcome = locked(rt, alloc, class, object, client);
+    (outcome.code, outcome.steps)
+}
+
 #[test]
-fn a_lock_stands_after_an_adoption(rt: HostRuntime) -> Result<(), Fail> {
+fn counts_steps_of_locks(rt: HostRuntime) {
     let alloc = rt.alloc();
-    let work = Adopts {
-        rt: &rt,
-        alloc,
-        old: list(alloc, &[(1, 1, "lock"), (1, 2, "unlock"), (1, 3, "lock")])?,
-        new: list(alloc, &[(1, 1, "lock"), (2, 1, "lock")])?,
-    };
-    with_group(alloc, &table(alloc)?, work);
-    Ok(())
+    let class = load_lock(alloc).expect(&rt, "a class");
+    let first = locked(&rt, alloc, &class, None, 1);
+    assert!(rt; first.code == 0 && first.steps == 20 && first.output.is_empty());
+    let object = first.change.after.as_ref();
+    assert!(rt; has_one_xattr(object));
+    assert!(rt; code_and_steps(&rt, alloc, &class, object, 2) == (-16, 16));
+    assert!(rt; code_and_steps(&rt, alloc, &class, object, 1) == (0, 15));
 }
 
-#[test]
-fn counts_steps_of_locks(rt: HostRuntime) -> Result<(), Fail> {
-    let alloc = rt.alloc();
-    let class = load_lock(alloc)?;
-    let first = call(alloc, &class, "lock", None, 1, &[])?;
-    assert_eq!(rt; (first.code, first.steps, first.output.len()), (0, 20, 0));
-    let object = first.change.after.as_ref().ok_or("no object")?;
-    assert_eq!(rt;
-        (object.len(), object.xattr_count(), object.key_count()),
-        (0, 1, 0)
-    );
-    let other = call(alloc, &class, "lock", Some(object), 2, &[])?;
-    assert_eq!(rt; (other.code, other.steps), (-16, 16));
-    let again = call(alloc, &class, "lock", Some(object), 1, &[])?;
-    assert_eq!(rt; (again.code, again.steps), (0, 15));
-    Ok(())
-}
+/// A method's name, whether it may write, its caps, and its instructions, as its class's text declares them.
+type Declared = (&'static str, bool, u16, u16, usize);
 
-/// Each method's name, flags and caps as its class's text declares them, and its instructions.
-const DECLARED: [&str; 2] = [
-    "lock true 0 0 25
-unlock true 0 0 19
-",
-    "getxattr false 64 4096 8
-read false 16 4096 15
-remove true 0 0 2
-setxattr true 4096 0 18
-stat false 0 0 2
-write true 4096 0 10
-",
+const LOCK_METHODS: [Declared; 2] = [("lock", true, 0, 0, 25), ("unlock", true, 0, 0, 19)];
+
+const OBJ_METHODS: [Declared; 6] = [
+    ("getxattr", false, 64, 4096, 8),
+    ("read", false, 16, 4096, 15),
+    ("remove", true, 0, 0, 2),
+    ("setxattr", true, 4096, 0, 18),
+    ("stat", false, 0, 0, 2),
+    ("write", true, 4096, 0, 10),
 ];
 
-/// A line for each method of a class: its name, whether it may write, its caps, and its instructions.
-fn declared(alloc: Global, class: &VerifiedClass) -> Result<String, Fail> {
-    let mut text = String::new(alloc);
-    for method in class.methods() {
-        let (name, caps, count) = (method.name(), method.caps(), method.count());
-        let line = format!(in alloc;
-            "{name} {} {} {} {count}\n",
-            caps.writes, caps.in_cap, caps.out_cap
-        )?;
-        text.push_str(&line)?;
+fn is_declared(method: &VerifiedMethod, (name, writes, in_cap, out_cap, count): Declared) -> bool {
+    let caps = method.caps();
+    method.name() == name
+        && caps.writes == writes
+        && caps.in_cap == in_cap
+        && caps.out_cap == out_cap
+        && method.count() == count
+}
+
+/// Whether a class has those methods and no more.
+fn declares(class: &VerifiedClass, rows: &[Declared]) -> bool {
+    let mut all = class.methods().len() == rows.len();
+    for (method, row) in class.methods().iter().zip(rows) {
+        all = all && is_declared(method, *row);
     }
-    Ok(text)
+    all
+}
+
+/// Whether these are both classes, in their order.
+fn are_both(classes: &[VerifiedClass]) -> bool {
+    match classes {
+        [lock, obj] => declares(lock, &LOCK_METHODS) && declares(obj, &OBJ_METHODS),
+        _ => false,
+    }
 }
 
 #[test]
-fn loads_each_class(rt: HostRuntime) -> Result<(), Fail> {
-    let alloc = rt.alloc();
-    let classes = load_all(alloc)?;
-    assert_eq!(rt; classes.len(), 2);
-    for (class, want) in classes.iter().zip(DECLARED) {
-        assert_eq!(rt; declared(alloc, class)?.as_str(), want);
-    }
-    let obj = load_obj(alloc)?;
-    assert_eq!(rt; declared(alloc, &obj)?.as_str(), DECLARED[1]);
+fn loads_each_class(rt: HostRuntime) {
+    let classes = load_all(rt.alloc()).expect(&rt, "classes");
+    assert!(rt; are_both(&classes));
+}
+
+#[test]
+fn loads_one_class(rt: HostRuntime) {
+    let obj = load_obj(rt.alloc()).expect(&rt, "a class");
+    assert!(rt; declares(&obj, &OBJ_METHODS));
     assert!(rt;
         LOCK.starts_with(".method lock rw 0 0\n") && OBJ.starts_with(".method getxattr r 64 4096\n")
     );
-    let text = format!(in alloc; "{}", BuiltInFailure::NoMemory)?;
-    assert_eq!(rt; text.as_str(), "no memory");
-    Ok(())
+}
+
+#[test]
+fn printed_failure(rt: HostRuntime) {
+    let text = BuiltInFailure::NoMemory.to_string(rt.alloc());
+    assert!(rt; text.expect(&rt, "memory").as_str() == "no memory");
 }

@@ -1,9 +1,11 @@
 //! Tests alone, of groups: which nodes act, the log and its requests, the built-in classes through a group, the world's
-//! types, requests at their places, nodes and their monitor.
+//! types, requests at their places, nodes and their monitor, drawings of runs.
 #![tactic(auto)]
 
 #[cfg(test)]
 mod builtin;
+#[cfg(test)]
+mod drawings;
 #[cfg(test)]
 mod log;
 #[cfg(test)]

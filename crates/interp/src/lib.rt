@@ -2,6 +2,7 @@
 #![tactic(auto)]
 
 mod act;
+mod answer;
 mod ask;
 mod calls;
 mod class_table;

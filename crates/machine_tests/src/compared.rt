@@ -5,13 +5,13 @@ mod operands;
 mod random;
 mod rows;
 
+use crate::classes::image_of;
 use crate::contents::same;
-use bpf_decode::{ClassImage, Method, decode};
 use bpf_machine::{Caps, Ending, Layout, flat_run, is_layout};
 use interp::{Outcome, call};
 use object_store::Object;
-use std::alloc::Global;
-use std::test::Fail;
+use std::alloc::{AllocError, Global};
+use std::process::Abort;
 use verifier::{VerifiedClass, verify};
 
 /// What the programs declare.
@@ -29,16 +29,14 @@ fn slot(opcode: u8, registers: u8, offset: i16, imm: i32) -> [u8; 8] {
 }
 
 /// Puts slots behind a code.
-fn put(code: &mut Vec<u8>, slots: &[[u8; 8]]) -> Result<(), Fail> {
-    Ok(code.extend_from_slice(slots.as_flattened())?)
+fn put(code: &mut Vec<u8>, slots: &[[u8; 8]]) -> Result<(), AllocError> {
+    code.extend_from_slice(slots.as_flattened())
 }
 
-/// An image of a class with one method `f` of that code.
-fn image_of(alloc: Global, code: &[u8]) -> Result<ClassImage, Fail> {
-    let name = String::from_str(alloc, "f")?;
-    let mut methods = Vec::new(alloc);
-    methods.push(Method::new(name, 3, CAPS.in_cap, CAPS.out_cap, decode(alloc, code)?))?;
-    Ok(ClassImage::new(methods)?)
+/// The class of that code, where it is safe.
+fn verified(rt: &impl Abort, alloc: Global, code: &[u8]) -> Option<VerifiedClass> {
+    let image = image_of(rt, alloc, code, 3, CAPS.in_cap, CAPS.out_cap);
+    verify(alloc, &image).ok()
 }
 
 /// Names of xattrs that the programs use.
@@ -46,11 +44,12 @@ const NAMES: [&[u8]; 8] = [b"n", b"nm", b"m", b"k", b"a", b"ab", b"\0", b"\0\0"]
 
 /// Whether a call answered as a run of the bytes ended, beside that object.
 fn is_ending(
+    rt: &impl Abort,
     alloc: Global,
     object: Option<&Object>,
     outcome: &Outcome,
     ending: &Ending,
-) -> Result<bool, Fail> {
+) -> bool {
     match ending {
         Ending::Ended {
             code,
@@ -59,28 +58,42 @@ fn is_ending(
             steps,
         } => {
             let change = &outcome.change;
-            let objects = same(alloc, change.before.as_ref(), object, &NAMES)?
-                && same(alloc, change.after.as_ref(), after.as_ref(), &NAMES)?;
-            let output = outcome.output.as_slice() == output.as_slice();
-            Ok(objects && output && (outcome.code, outcome.steps) == (code.cast_signed(), *steps))
+            outcome.code == code.cast_signed()
+                && outcome.steps == *steps
+                && outcome.output.as_slice() == output.as_slice()
+                && same(rt, alloc, change.before.as_ref(), object, &NAMES)
+                && same(rt, alloc, change.after.as_ref(), after.as_ref(), &NAMES)
         }
-        Ending::Stuck | Ending::Unfinished => Ok(false),
+        Ending::Stuck | Ending::Unfinished => false,
     }
+}
+
+/// How the plain run of a code ends in a layout. One that is none is as a run that is stuck.
+fn ending_of(
+    rt: &impl Abort,
+    alloc: Global,
+    code: &[u8],
+    layout: Layout,
+    object: Option<&Object>,
+    input: &[u8],
+) -> Ending {
+    if !is_layout(&CAPS, &layout) || input.len() > usize::from(CAPS.in_cap) {
+        return Ending::Stuck;
+    }
+    flat_run(alloc, &CAPS, code, &layout, object, 7, input, 100).expect(rt, "memory")
 }
 
 /// Whether a call of a method, which has that code, answers as the plain run of the code does in that layout.
 fn agrees(
+    rt: &impl Abort,
     alloc: Global,
     class: &VerifiedClass,
     code: &[u8],
     layout: Layout,
     object: Option<&Object>,
     input: &[u8],
-) -> Result<bool, Fail> {
-    let outcome = call(alloc, class, "f", object, 7, input)?;
-    if !is_layout(&CAPS, &layout) || input.len() > usize::from(CAPS.in_cap) {
-        return Ok(false);
-    }
-    let ending = flat_run(alloc, &CAPS, code, &layout, object, 7, input, 100)?;
-    is_ending(alloc, object, &outcome, &ending)
+) -> bool {
+    let outcome = call(alloc, class, "f", object, 7, input).expect(rt, "an answer");
+    let ending = ending_of(rt, alloc, code, layout, object, input);
+    is_ending(rt, alloc, object, &outcome, &ending)
 }

@@ -2,7 +2,8 @@
 
 use object_store::{Object, StoreError, calls};
 use std::alloc::Global;
-use std::test::Fail;
+use std::process::Abort;
+use txn::Change;
 
 /// A name, or a key, and its value.
 pub type Pair = (&'static [u8], &'static [u8]);
@@ -35,18 +36,23 @@ pub fn object_of(alloc: Global, contents: &Contents) -> Result<Object, StoreErro
 }
 
 /// The object that holds those, or none.
-pub fn made(alloc: Global, contents: Option<Contents>) -> Result<Option<Object>, StoreError> {
+pub fn made(rt: &impl Abort, alloc: Global, contents: Option<Contents>) -> Option<Object> {
     match contents {
-        None => Ok(None),
-        Some(contents) => Ok(Some(object_of(alloc, &contents)?)),
+        None => None,
+        Some(contents) => Some(object_of(alloc, &contents).expect(rt, "an object")),
     }
 }
 
+/// An object's data.
+fn data_of(rt: &impl Abort, alloc: Global, object: &Object) -> Vec<u8> {
+    let mut data = Vec::from_elem(alloc, 0u8, object.len()).expect(rt, "memory");
+    object.read(0, &mut data);
+    data
+}
+
 /// Whether an object has those data.
-fn has_data(alloc: Global, object: &Object, data: &[u8]) -> Result<bool, Fail> {
-    let mut read = vec![in alloc; 0u8; object.len()]?;
-    object.read(0, &mut read);
-    Ok(read.as_slice() == data)
+fn has_data(rt: &impl Abort, alloc: Global, object: &Object, data: &[u8]) -> bool {
+    data_of(rt, alloc, object).as_slice() == data
 }
 
 /// Whether an object has those xattrs and no more.
@@ -68,26 +74,38 @@ fn has_keys(object: &Object, keys: &[Pair]) -> bool {
 }
 
 /// Whether an object holds exactly those; none is an absent one.
-pub fn holds(
+fn holds(
+    rt: &impl Abort,
     alloc: Global,
     object: Option<&Object>,
     contents: Option<Contents>,
-) -> Result<bool, Fail> {
+) -> bool {
     match (object, contents) {
-        (None, None) => Ok(true),
+        (None, None) => true,
         (Some(object), Some(contents)) => {
-            let has_names = has_xattrs(object, contents.xattrs) && has_keys(object, contents.keys);
-            Ok(has_names && has_data(alloc, object, contents.data)?)
+            has_xattrs(object, contents.xattrs)
+                && has_keys(object, contents.keys)
+                && has_data(rt, alloc, object, contents.data)
         }
-        _ => Ok(false),
+        _ => false,
     }
 }
 
+/// Whether a change is from an object of the first contents to one of the second.
+pub fn is_change(
+    rt: &impl Abort,
+    alloc: Global,
+    change: &Change,
+    before: Option<Contents>,
+    after: Option<Contents>,
+) -> bool {
+    holds(rt, alloc, change.before.as_ref(), before)
+        && holds(rt, alloc, change.after.as_ref(), after)
+}
+
 /// Whether two objects have the same data.
-fn same_data(alloc: Global, one: &Object, other: &Object) -> Result<bool, Fail> {
-    let mut data = vec![in alloc; 0u8; one.len()]?;
-    one.read(0, &mut data);
-    has_data(alloc, other, &data)
+fn same_data(rt: &impl Abort, alloc: Global, one: &Object, other: &Object) -> bool {
+    has_data(rt, alloc, other, &data_of(rt, alloc, one))
 }
 
 /// Whether two objects have the same values of these xattrs, and as many in all.
@@ -116,17 +134,19 @@ fn same_keys(one: &Object, other: &Object) -> bool {
 
 /// Whether two objects are equal, of whose xattrs these names are compared; none is an absent one.
 pub fn same(
+    rt: &impl Abort,
     alloc: Global,
     one: Option<&Object>,
     other: Option<&Object>,
     names: &[&[u8]],
-) -> Result<bool, Fail> {
+) -> bool {
     match (one, other) {
-        (None, None) => Ok(true),
+        (None, None) => true,
         (Some(one), Some(other)) => {
-            let same_names = same_xattrs(one, other, names) && same_keys(one, other);
-            Ok(same_names && same_data(alloc, one, other)?)
+            same_xattrs(one, other, names)
+                && same_keys(one, other)
+                && same_data(rt, alloc, one, other)
         }
-        _ => Ok(false),
+        _ => false,
     }
 }

@@ -6,3 +6,4 @@ pub mod Refusal
 pub mod Returned
 pub mod Extents
 pub mod Laws
+pub mod Shared

@@ -7,6 +7,7 @@ ghost use Rattle.object_store.specs.Edits.{overlaid};
 ghost use Rattle.object_store.specs.Calls as spec;
 ghost use Rattle.object_store.specs.Returned.{Gives, behind};
 
+use crate::held::Held;
 use crate::limits::{NAME_LIMIT, VALUE_LIMIT};
 use crate::object::Object;
 use crate::slices::place_of;
@@ -66,7 +67,7 @@ pub fn write(
     let at = place_of(at, text.len()).ok_or(StoreError::TooBig)?;
     let mut new = there_or_new(object)?;
     new.write(alloc, at, text)?;
-    Ok(new)
+    Ok(Object::of(alloc, new)?)
 }
 
 /// The data cut, or extended with zeros. Refused: 4 TooBig, 1 Absent, 7 NoMemory.
@@ -74,9 +75,9 @@ pub fn truncate(alloc: Global, object: Option<&Object>, len: u64) -> Result<Obje
     ensures { Gives (λ o. o) result (spec.truncate (option_copied object.entry) len) }
 {
     let len = place_of(len, 0).ok_or(StoreError::TooBig)?;
-    let mut new = there(object)?.copy()?;
+    let mut new = there(object)?.opened()?;
     new.truncate(alloc, len)?;
-    Ok(new)
+    Ok(Object::of(alloc, new)?)
 }
 
 /// An xattr set; it creates an object that is absent. Refused: 6 Range, 4 TooBig, 5 TooMany, 7 NoMemory.
@@ -92,7 +93,7 @@ pub fn set_xattr(
     check_value(value)?;
     let mut new = there_or_new(object)?;
     new.set_xattr(alloc, name, value)?;
-    Ok(new)
+    Ok(Object::of(alloc, new)?)
 }
 
 /// A key of the omap set; it creates an object that is absent. Refused: 6 Range, 4 TooBig, 5 TooMany, 7 NoMemory.
@@ -108,7 +109,7 @@ pub fn set_key(
     check_value(value)?;
     let mut new = there_or_new(object)?;
     new.set_key(alloc, key, value)?;
-    Ok(new)
+    Ok(Object::of(alloc, new)?)
 }
 
 /// An xattr removed. Refused: 6 Range, 1 Absent, 3 NoAttr, 7 NoMemory.
@@ -120,9 +121,9 @@ pub fn remove_xattr(
     ensures { Gives (λ o. o) result (spec.remove_xattr (option_copied object.entry) name.now) }
 {
     check_name(name)?;
-    let mut new = there(object)?.copy()?;
+    let mut new = there(object)?.opened()?;
     new.remove_xattr(alloc, name)?;
-    Ok(new)
+    Ok(Object::of(alloc, new)?)
 }
 
 /// A key of the omap removed. Refused: 6 Range, 1 Absent, 3 NoAttr, 7 NoMemory.
@@ -130,9 +131,9 @@ pub fn remove_key(alloc: Global, object: Option<&Object>, key: &[u8]) -> Result<
     ensures { Gives (λ o. o) result (spec.remove_key (option_copied object.entry) key.now) }
 {
     check_name(key)?;
-    let mut new = there(object)?.copy()?;
+    let mut new = there(object)?.opened()?;
     new.remove_key(alloc, key)?;
-    Ok(new)
+    Ok(Object::of(alloc, new)?)
 }
 
 /// An object without data, xattrs and keys where none is; one that is there stays as it is. Refused: 2 Exists, where it is there and the creation is
@@ -166,14 +167,14 @@ fn there(object: Option<&Object>) -> Result<&Object, StoreError>
     object.ok_or(StoreError::Absent)
 }
 
-/// A copy of the object, or a new one where it is absent.
-fn there_or_new(object: Option<&Object>) -> Result<Object, StoreError>
-    ensures value { IfOk result (λ o. o ≡ content_of (option_copied object.entry)) }
+/// What the object holds, to be changed; nothing where it is absent.
+fn there_or_new(object: Option<&Object>) -> Result<Held, StoreError>
+    ensures value { IfOk result (λ h. h ≡ content_of (option_copied object.entry)) }
     ensures refused { IfErr result (λ e. e ≡ StoreError.NoMemory) }
 {
     match object {
-        Some(object) => object.copy(),
-        None => Ok(Object::new()),
+        Some(object) => object.opened(),
+        None => Ok(Held::new()),
     }
 }
 

@@ -135,15 +135,15 @@ impl Data for ExtentData {
     }
 }
 
-#[cfg(test)]
+/// What the bytes lie in, of which no clause speaks: for tests and measurements.
 impl ExtentData {
     /// How many extents it has.
-    pub(crate) fn extent_count(&self) -> usize {
+    pub fn extent_count(&self) -> usize {
         self.parts().len()
     }
 
     /// The length of its longest extent.
-    pub(crate) fn longest_extent(&self) -> usize {
+    pub fn longest_extent(&self) -> usize {
         let mut most = 0;
         for part in self.parts() {
             most = most.max(part.len());
@@ -152,7 +152,7 @@ impl ExtentData {
     }
 
     /// How many of its extents stand in another list too.
-    pub(crate) fn shared_count(&self) -> usize {
+    pub fn shared_count(&self) -> usize {
         let mut count = 0usize;
         for part in self.parts() {
             if Arc::strong_count(part) > 1 {

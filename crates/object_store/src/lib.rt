@@ -12,6 +12,7 @@ mod edit;
 mod extent_data;
 mod extents;
 mod flat_data;
+mod held;
 mod laws;
 mod limits;
 mod object;
@@ -32,6 +33,3 @@ pub use object::Object;
 pub use object_name::ObjectName;
 pub use objects::Objects;
 pub use store_error::StoreError;
-
-#[cfg(test)]
-mod tests;

@@ -16,6 +16,3 @@ pub use op::Op;
 pub use pass::{SendPass, TakePass};
 pub use rule::{Place, Ranked};
 pub use shards::OpShards;
-
-#[cfg(test)]
-mod tests;

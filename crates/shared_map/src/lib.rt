@@ -7,6 +7,3 @@ mod shared_map;
 mod tree;
 
 pub use shared_map::SharedMap;
-
-#[cfg(test)]
-mod tests;

@@ -1,3 +1,4 @@
 pub mod Numbers
 pub mod Equal
 pub mod Reaching
+mod Shelving

@@ -4,7 +4,7 @@ use Rattle.std.specs.Prelude.{◌≡◌, Result, Ok, Err, ℕ, zero, suc, ◌-�
 use Rattle.std.specs.Option.{option_map}
 use Rattle.pg_log.specs.Requests.{ClientRequest}
 use Rattle.pg_log.specs.Log.{Classes}
-use Rattle.replication.specs.Packed.{Packed, packed, spread}
+use Rattle.replication.specs.Packed.{packed, spread}
 use Rattle.group_world.specs.Maps.{GroupMap, is_same_list}
 use Rattle.group_world.specs.Node.{Outcome, fresh}
 use Rattle.group_world.specs.Rules.{local_step, is_same_request}
@@ -17,7 +17,7 @@ use Rattle.group_world.specs.declared.handle_error.HandleError.{HandleError}
 use Rattle.group_world.specs.declared.party.Party.{Party}
 use Rattle.group_world.specs.declared.party.Party.TheVariants.{Node as ANode, Monitor as TheMonitor, Client as AClient}
 use Rattle.group_world.specs.declared.message.Kind.{Kind}
-use Rattle.group_world.specs.declared.message.Kind.TheVariants.{Query, Log as LogOf, Install, Installed as InstalledIn, AskActivate, Activated, Rep, Ack, Reply as ReplyTo}
+use Rattle.group_world.specs.declared.message.Kind.TheVariants.{Query, Log as LogOf, Install, AskActivate, Rep}
 use Rattle.group_world.specs.declared.message.Message.{Message}
 use Rattle.group_world.specs.declared.message.Packet.{Packet}
 use Rattle.group_world.specs.declared.event.Event.{Event}

@@ -161,7 +161,7 @@ impl<C: Classes> World<C> {
     fn coming(&self, number: u64) -> Result<Option<Coming>, AllocError>
         ensures { IfOk result (λ c. c ≡ coming self.now (numbered self.now.sent number)) }
     {
-        match numbered(&self.sent, number) {
+        match numbered(self.sent.items(), number) {
             Some(kept) => Ok(Some(comes_as(self.alloc, &self.nodes, kept)?)),
             None => Ok(None),
         }

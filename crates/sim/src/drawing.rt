@@ -170,7 +170,7 @@ fn trace_lines<C: Classes>(
             break;
         }
     }
-    let letters = letters(alloc, &world.sent)?;
+    let letters = letters(alloc, world.sent.items())?;
     let mut text = draw(alloc, &letters, &steps)?;
     if bad {
         text.push_str(bad_line(alloc, number)?.as_str())?;

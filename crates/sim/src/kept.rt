@@ -1,6 +1,7 @@
 ghost use Rattle.std.specs.Prelude.{◌≡◌, ◌++◌, IfOk, OnOk, map, slice_get};
 ghost use Rattle.sim.specs.Step.{committed_of, kept, kept_for};
 
+use crate::sent::Sent;
 use group_world::{Epoch, Kind, Message, Packet, Party, Requests};
 use peering::GroupNode;
 use pg_log::Classes;
@@ -94,9 +95,9 @@ pub(crate) fn keep_all<C: Classes>(
     alloc: Global,
     nodes: &[GroupNode<C>],
     packets: Vec<Packet>,
-    sent: &mut Vec<Kept>,
+    sent: &mut Sent,
 ) -> Result<(), AllocError>
-    ensures { OnOk result (sent.new.items ≡ sent.old.items ++ map (kept nodes.now) packets.items) }
+    ensures { OnOk result (sent.new ≡ sent.old ++ map (kept nodes.now) packets.items) }
 {
     let mut rest = packets.into_iter();
     while let Some(packet) = rest.next() {

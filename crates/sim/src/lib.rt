@@ -15,6 +15,7 @@ mod number;
 mod print;
 mod request;
 mod same;
+mod sent;
 mod words;
 mod world;
 

@@ -1,10 +1,11 @@
 //! Whether two messages are equal: of the kinds that are sent again.
-ghost use Rattle.std.specs.Prelude.{◌≡◌, suc, map, IfOk};
+ghost use Rattle.std.specs.Prelude.{◌≡◌, map, IfOk};
 ghost use Rattle.group_world.specs.Maps.{is_same_list};
 ghost use Rattle.group_world.specs.Rules.{is_same_request};
 ghost use Rattle.sim.specs.Step.{is_same_map, are_same_requests, is_same_kind, is_same_party, is_same_packet, is_kept_as, number_of};
 
 use crate::kept::Kept;
+use crate::sent::Sent;
 use group_world::{Epoch, GroupMap, Kind, Packet, Party, Place, Requests};
 use pg_log::{ClientId, Request};
 use placement::NodeId;
@@ -159,7 +160,7 @@ fn is_same_packet(packet: &Packet, other: &Packet) -> bool
         && is_same_kind(&packet.message.kind, &other.message.kind)
 }
 
-fn is_kept_as(packet: &Packet, kept: &Kept) -> bool
+pub(crate) fn is_kept_as(packet: &Packet, kept: &Kept) -> bool
     ensures { result ≡ is_kept_as packet.now kept.now }
 {
     match kept {
@@ -168,32 +169,17 @@ fn is_kept_as(packet: &Packet, kept: &Kept) -> bool
     }
 }
 
-/// The lowest number of an equal message.
-fn number_of(sent: &[Kept], packet: &Packet) -> Result<usize, AllocError>
-    ensures { IfOk result (λ n. n ≡ number_of sent.now packet.now) }
-{
-    let mut number: usize = 1;
-    for kept in sent {
-        if is_kept_as(packet, kept) {
-            return Ok(number);
-        }
-        // There is no memory for more messages than there are numbers.
-        number = number.checked_add(1).ok_or(AllocError)?;
-    }
-    Ok(number)
-}
-
 /// The lowest numbers of messages equal to these.
 pub(crate) fn numbers_of(
     alloc: Global,
-    sent: &[Kept],
+    sent: &Sent,
     packets: &[Packet],
 ) -> Result<Vec<usize>, AllocError>
     ensures { IfOk result (λ v. v.items ≡ map (number_of sent.now) packets.now) }
 {
     let mut numbers = Vec::new(alloc);
     for packet in packets {
-        numbers.push(number_of(sent, packet)?)?;
+        numbers.push(sent.number_of(packet)?)?;
     }
     Ok(numbers)
 }

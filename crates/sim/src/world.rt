@@ -3,10 +3,11 @@ ghost use Rattle.group_world.specs.Monitor.{map_refusal};
 ghost use Rattle.group_world.specs.Rules.{local_step};
 ghost use Rattle.sim.specs.Step.{opening, fresh_nodes, step, numbered, is_node, is_stopped, see, show, at_node, made_map, set_stopped, sends_again, unless_stopped, handled, happened_of, prints, IsTaken};
 
-use crate::kept::{Kept, keep_all};
+use crate::kept::keep_all;
 use crate::line::Line;
 use crate::print::{again_text, map_line, node_line, refused_line, sent_text};
 use crate::same::numbers_of;
+use crate::sent::Sent;
 use group_world::{Event, GroupMap, HandleError, Messages, MonitorError};
 use interp::ClassTable;
 use peering::{GroupNode, Monitor};
@@ -26,7 +27,7 @@ pub struct World<C: Classes> {
     pub(crate) monitor: Monitor,
     pub(crate) nodes: Vec<GroupNode<C>>,
     pub(crate) stopped: Vec<bool>,
-    pub(crate) sent: Vec<Kept>,
+    pub(crate) sent: Sent,
 }
 
 impl<C: Classes> Model for World<C> {
@@ -39,7 +40,7 @@ impl<C: Classes> Model for World<C> {
       monitor = w.monitor;
       nodes = w.nodes.items;
       stopped = w.stopped.items;
-      sent = w.sent.items;
+      sent = w.sent;
     } };
 }
 
@@ -76,7 +77,7 @@ impl<C: Classes> World<C> {
             monitor: Monitor::new(alloc),
             nodes,
             stopped: vec![in alloc; false; NODE_COUNT]?,
-            sent: Vec::new(alloc),
+            sent: Sent::new(alloc)?,
         })
     }
 
@@ -251,7 +252,7 @@ impl<C: Classes> World<C> {
 
     /// What a line comes to, and what is printed of it; nothing where it is bad. It fails for want of memory alone, and
     /// is then of no further use. Each line costs what its event costs at the node, and a copy of the message that it
-    /// delivers; `resend` goes through the messages that were sent.
+    /// delivers.
     pub fn take(&mut self, table: &ClassTable, line: Line) -> Result<Option<String>, AllocError>
         requires { table.now ≡ C.classes }
         ensures { IfOk result (λ t. happened_of string_bytes self.new t ≡ step table.now self.old line) }

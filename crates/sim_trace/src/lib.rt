@@ -16,6 +16,3 @@ pub use drawing::draw;
 pub use lane::Lane;
 pub use letter::Letter;
 pub use step::{Step, What};
-
-#[cfg(test)]
-mod tests;

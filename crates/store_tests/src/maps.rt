@@ -54,3 +54,44 @@ fn a_copy_stays_as_it_is(rt: HostRuntime) {
     map.remove(rt.alloc(), b"none").expect(&rt, "memory");
     assert!(rt; is(&map, None, 4) && is(&copy, Some(1), 5));
 }
+
+/// How many keys the high maps have.
+const MANY: u16 = 1024;
+
+/// The most nodes on a way down that a map of so many keys may have.
+const LOW: u8 = 15;
+
+/// A map of the numbers below `MANY`, set in the order of the numbers xor that mask.
+fn many<R: Abort>(rt: &R, alloc: Global, mask: u16) -> SharedMap<u16> {
+    let mut map = SharedMap::new();
+    for n in 0..MANY {
+        map.set(alloc, &(n ^ mask).to_be_bytes(), n)
+            .expect(rt, "memory");
+    }
+    map
+}
+
+/// Whether a map has all numbers, that key the last one set, and the tree is low.
+fn is_low(map: &SharedMap<u16>, key: [u8; 2]) -> bool {
+    map.height() <= LOW && map.len() == 1024 && map.get(&key).copied() == Some(1023)
+}
+
+#[test]
+fn rising_keys_stay_low(rt: HostRuntime) {
+    assert!(rt; is_low(&many(&rt, rt.alloc(), 0), [3, 255]));
+}
+
+#[test]
+fn falling_keys_stay_low(rt: HostRuntime) {
+    assert!(rt; is_low(&many(&rt, rt.alloc(), MANY - 1), [0, 0]));
+}
+
+#[test]
+fn removals_keep_it_low(rt: HostRuntime) {
+    let mut map = many(&rt, rt.alloc(), 0);
+    for n in 0..MANY - 8 {
+        map.remove(rt.alloc(), &n.to_be_bytes())
+            .expect(&rt, "memory");
+    }
+    assert!(rt; map.len() == 8 && map.height() <= 5);
+}

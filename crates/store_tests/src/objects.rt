@@ -1,5 +1,6 @@
 mod calls;
 mod edits;
+mod in_extents;
 mod limits;
 mod names;
 mod whole;

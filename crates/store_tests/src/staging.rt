@@ -1,5 +1,6 @@
 ghost use Rattle.std.specs.Prelude.{◌≡◌};
 
+use crate::words::numbered;
 use object_store::{DATA_LIMIT, KEY_LIMIT, Object, ObjectName, Objects, StoreError, XATTR_LIMIT};
 use std::alloc::Global;
 use std::process::Abort;
@@ -197,6 +198,12 @@ fn undo_restores_what_was(rt: HostRuntime) {
     }
 }
 
+/// A copy of the change that creates an object.
+fn creation<R: Abort>(rt: &R, alloc: Global, objects: &mut Objects, name: &ObjectName) -> Change {
+    let change = step_on(rt, alloc, objects, name, Step::Write);
+    change.copy().expect(rt, "memory")
+}
+
 /// Whether undoing a copy of the change that creates an object makes it absent again.
 fn undoes_creation<R: Abort>(
     rt: &R,
@@ -204,9 +211,7 @@ fn undoes_creation<R: Abort>(
     objects: &mut Objects,
     name: &ObjectName,
 ) -> bool {
-    let change = step_on(rt, alloc, objects, name, Step::Write)
-        .copy()
-        .expect(rt, "memory");
+    let change = creation(rt, alloc, objects, name);
     let created = length(objects.get(name)) == Some(4);
     undo(alloc, objects, name, &change).expect(rt, "memory");
     created && objects.get(name).is_none() && objects.len() == 0
@@ -221,11 +226,8 @@ fn undo_makes_it_absent(rt: HostRuntime) {
 /// Sets keys and xattrs, as many as an object may have, with the longest names and values.
 fn fill(alloc: Global, staged: &mut Staged) -> Result<(), StoreError> {
     let value = [0x5a; 4096];
-    let mut name = [b'k'; 64];
     for n in 0..KEY_LIMIT as u16 {
-        let [high, low] = n.to_be_bytes();
-        name[62] = high;
-        name[63] = low;
+        let name = numbered(n);
         staged.set_key(alloc, &name, &value)?;
         if usize::from(n) < XATTR_LIMIT {
             staged.set_xattr(alloc, &name, &value)?;

@@ -34,3 +34,11 @@ pub fn number(word: &str) -> u64 {
         n
     }
 }
+
+/// A name of 64 bytes whose last two rise with the number, as `AA` of 0, `BA` of 32 and `aA` of 1,024.
+pub fn numbered(n: u16) -> [u8; 64] {
+    let mut name = [b'k'; 64];
+    name[62] = b'A' + (n / 32 % 64) as u8;
+    name[63] = b'A' + (n % 32) as u8;
+    name
+}

@@ -5,8 +5,7 @@ use object_store::ObjectName;
 use pg_log::{ClientId, Request, RequestNumber};
 use std::alloc::Global;
 use std::process::Abort;
-use std::test::Fail;
-use verifier::verify;
+use verifier::{VerifiedClass, verify};
 
 /// `put` adds the input's byte to the balance, `take` takes it away; both answer the new balance, as code and as output.
 /// `take` of more than there is answers -28, after it wrote.
@@ -60,11 +59,17 @@ done:
 exit
 ";
 
+/// The account's class.
+fn class<R: Abort>(rt: &R, alloc: Global) -> VerifiedClass {
+    let image = assemble_class(alloc, CLASS).expect(rt, "a class");
+    verify(alloc, &image).expect(rt, "a safe class")
+}
+
 /// Class 0 is the account's.
-pub(super) fn table(alloc: Global) -> Result<ClassTable, Fail> {
+pub(super) fn table<R: Abort>(rt: &R, alloc: Global) -> ClassTable {
     let mut table = ClassTable::new(alloc);
-    table.add(verify(alloc, &assemble_class(alloc, CLASS)?)?)?;
-    Ok(table)
+    table.add(class(rt, alloc)).expect(rt, "room");
+    table
 }
 
 /// How many accounts there are.

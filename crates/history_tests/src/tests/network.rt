@@ -306,27 +306,61 @@ fn arrived<C: Classes, R: Abort>(
     node: &GroupNode<C>,
     sent: &Sent,
 ) -> Option<Kind> {
-    let Some(packed) = &sent.packed else {
-        return Some(copy(rt, alloc, &sent.packet.message.kind));
-    };
+    match &sent.packed {
+        None => Some(copy(rt, alloc, &sent.packet.message.kind)),
+        Some(packed) => {
+            let list = unpack_log(alloc, &requests_of(rt, alloc, node), packed);
+            match list {
+                Ok(list) => with_list(rt, alloc, node, &sent.packet.message.kind, list),
+                Err(_) => None,
+            }
+        }
+    }
+}
+
+/// The requests of a node's log.
+fn requests_of<C: Classes, R: Abort>(rt: &R, alloc: Global, node: &GroupNode<C>) -> Vec<Request> {
     let mut own = Vec::new(alloc);
     for entry in node.group().entries() {
         let request = entry.request.copy(alloc).expect(rt, "memory");
         own.push(request).expect(rt, "memory");
     }
-    let Ok(list) = unpack_log(alloc, &own, packed) else {
-        return None;
-    };
-    match &sent.packet.message.kind {
-        Kind::Log(interval, whole) => {
-            let wanted = node.epoch() == *interval && node.status() == Status::Asking;
-            assert!(rt; !wanted || are_same(&list, whole.items()));
-            Some(Kind::Log(*interval, Requests::new(list)))
+    own
+}
+
+/// Whether the node waits for that message: then its list must be whole.
+fn is_wanted<C: Classes>(node: &GroupNode<C>, kind: &Kind) -> bool {
+    match kind {
+        Kind::Log(interval, _) => node.epoch() == *interval && node.status() == Status::Asking,
+        Kind::Install(map, _) => {
+            node.epoch().get() < map.interval().get()
+                || node.epoch() == map.interval() && node.status() == Status::Waiting
         }
-        Kind::Install(map, whole) => {
-            let wanted = node.epoch().get() < map.interval().get()
-                || node.epoch() == map.interval() && node.status() == Status::Waiting;
-            assert!(rt; !wanted || are_same(&list, whole.items()));
+        _ => false,
+    }
+}
+
+/// Whether a message has that list.
+fn has_list(kind: &Kind, list: &[Request]) -> bool {
+    match kind {
+        Kind::Log(_, whole) => are_same(list, whole.items()),
+        Kind::Install(_, whole) => are_same(list, whole.items()),
+        _ => false,
+    }
+}
+
+/// The same message with a list that was unpacked.
+fn with_list<C: Classes, R: Abort>(
+    rt: &R,
+    alloc: Global,
+    node: &GroupNode<C>,
+    kind: &Kind,
+    list: Vec<Request>,
+) -> Option<Kind> {
+    assert!(rt; !is_wanted(node, kind) || has_list(kind, &list));
+    match kind {
+        Kind::Log(interval, _) => Some(Kind::Log(*interval, Requests::new(list))),
+        Kind::Install(map, _) => {
             let map = map.copy(alloc).expect(rt, "memory");
             Some(Kind::Install(map, Requests::new(list)))
         }

@@ -1,5 +1,5 @@
 /// How often histories reached what is of interest.
-#[derive(Clone, Copy, Debug, Drop)]
+#[derive(Clone, Copy)]
 pub(super) struct Reached {
     /// Intervals in which something was committed.
     pub intervals: usize,

@@ -12,7 +12,6 @@ use pg_log::{Classes, Group, GroupWork, with_group};
 use placement::NodeId;
 use std::alloc::Global;
 use std::process::Abort;
-use std::test::Fail;
 
 /// How many clients there are.
 const CLIENTS: usize = 4;
@@ -31,6 +30,17 @@ struct Story<C: Classes> {
 }
 
 impl<C: Classes> Story<C> {
+    /// Nothing has happened yet.
+    fn new<R: Abort>(rt: &R, alloc: Global, nodes: usize, seed: u64) -> Story<C> {
+        Story {
+            alloc,
+            dice: Dice::new(seed),
+            network: Network::new(rt, alloc, nodes),
+            brought: Vec::new(alloc),
+            newest: [0; CLIENTS],
+        }
+    }
+
     /// Makes one event.
     fn go_on<R: Abort>(&mut self, rt: &R, table: &ClassTable)
         requires { table.now ≡ C.classes }
@@ -197,61 +207,49 @@ impl<C: Classes> Story<C> {
     }
 }
 
-/// The histories of some seeds.
+/// The history of a seed.
 #[derive(Drop)]
-struct Histories<'a, R> {
+struct History<'a, R> {
     rt: &'a R,
     alloc: Global,
     nodes: usize,
     events: usize,
-    seeds: &'a [u64],
+    seed: u64,
 }
 
-impl<R: Abort> GroupWork for Histories<'_, R> {
+impl<R: Abort> GroupWork for History<'_, R> {
     type Output = Reached;
 
     ghost gives = { λ _ _ _ _. Unit {0} };
 
     fn work<C: Classes>(self, table: &ClassTable, _group: Group<C>) -> Reached {
-        let rt = self.rt;
-        let mut reached = Reached::nothing();
-        for seed in self.seeds {
-            let network: Network<C> = Network::new(rt, self.alloc, self.nodes);
-            let mut story = Story {
-                alloc: self.alloc,
-                dice: Dice::new(*seed),
-                network,
-                brought: Vec::new(self.alloc),
-                newest: [0; CLIENTS],
-            };
-            story.network.reached = reached;
-            let mut witness = Witness::new(rt, self.alloc, self.nodes);
-            for _event in 0..self.events {
-                story.go_on(rt, table);
-                witness.look(rt, &story.network, &story.brought);
-            }
-            reached = story.network.reached;
-            witness.add_to(&mut reached);
+        let mut story: Story<C> = Story::new(self.rt, self.alloc, self.nodes, self.seed);
+        let mut witness = Witness::new(self.rt, self.alloc, self.nodes);
+        for _event in 0..self.events {
+            story.go_on(self.rt, table);
+            witness.look(self.rt, &story.network, &story.brought);
         }
+        let mut reached = story.network.reached;
+        witness.add_to(&mut reached);
         reached
     }
 }
 
-/// Makes the histories of these seeds, on so many nodes and of so many events each, and says what they reached.
+/// Makes the history of a seed, on so many nodes and of so many events, and says what it reached.
 pub(super) fn go_through<R: Abort>(
     rt: &R,
     alloc: Global,
     nodes: usize,
     events: usize,
-    seeds: &[u64],
-) -> Result<Reached, Fail> {
-    let table = table(alloc)?;
-    let work = Histories {
+    seed: u64,
+) -> Reached {
+    let table = table(rt, alloc);
+    let work = History {
         rt,
         alloc,
         nodes,
         events,
-        seeds,
+        seed,
     };
-    Ok(with_group(alloc, &table, work))
+    with_group(alloc, &table, work)
 }

@@ -1,10 +1,12 @@
 //! Each helper's answers, and what it leaves.
 
-use super::{call_f, class_of};
-use crate::contents::{Contents, NOTHING, Pair, holds, made};
-use std::alloc::Global;
+use super::call_f;
+use crate::classes::class_of;
+use crate::contents::{Contents, NOTHING, Pair, is_change, made};
+use interp::Outcome;
+use object_store::Object;
+use std::alloc::{AllocError, Global};
 use std::process::Abort;
-use std::test::Fail;
 
 /// An argument of a helper: a number, so many bytes from a place of the input on, or of the output.
 #[derive(Clone, Copy)]
@@ -16,15 +18,22 @@ enum Argument {
 
 use Argument::{Input, Number, Output};
 
-/// A call of a helper beside an object, its answer, the output and the object afterwards.
+/// What a call leaves.
+#[derive(Clone, Copy)]
+enum After {
+    Same,
+    Is(Option<Contents>),
+}
+
+/// A call of a helper beside the object `THERE` or none, its answer, the output and the object afterwards.
 #[derive(Clone, Copy)]
 struct Row {
-    object: Option<Contents>,
+    is_there: bool,
     id: i32,
     arguments: &'static [Argument],
     answer: i64,
     output: &'static [u8],
-    after: Option<Contents>,
+    after: After,
 }
 
 /// What the methods are called on: names are a byte of it, or some.
@@ -44,18 +53,17 @@ const THREE: &[Pair] = &[(b"a", b"1"), (b"b", b"23"), (b"c", b"22")];
 
 /// A call beside `THERE` that changes nothing and puts nothing out.
 const BESIDE: Row = Row {
-    object: Some(THERE),
+    is_there: true,
     id: 0,
     arguments: &[],
     answer: 0,
     output: b"",
-    after: Some(THERE),
+    after: After::Same,
 };
 
 /// A call beside no object that changes nothing.
 const ABSENT: Row = Row {
-    object: None,
-    after: None,
+    is_there: false,
     ..BESIDE
 };
 
@@ -79,7 +87,7 @@ macro_rules! leaves {
             id: $id,
             arguments: $arguments,
             answer: $answer,
-            after: $after,
+            after: After::Is($after),
             ..BESIDE
         }
     };
@@ -104,7 +112,7 @@ macro_rules! creates {
             id: $id,
             arguments: $arguments,
             answer: $answer,
-            after: Some($after),
+            after: After::Is(Some($after)),
             ..ABSENT
         }
     };
@@ -274,7 +282,7 @@ fn slot(opcode: u8, registers: u8, imm: i32) -> [u8; 8] {
 }
 
 /// Puts an argument into registers from one on, and gives the next one.
-fn put(code: &mut Vec<u8>, register: u8, argument: Argument) -> Result<u8, Fail> {
+fn put(code: &mut Vec<u8>, register: u8, argument: Argument) -> Result<u8, AllocError> {
     let next = register.wrapping_add(1);
     let (base, at, len) = match argument {
         Number(number) => {
@@ -291,7 +299,7 @@ fn put(code: &mut Vec<u8>, register: u8, argument: Argument) -> Result<u8, Fail>
 }
 
 /// A method that calls the helper, answers what it answered, and puts out as much as the row says.
-fn code_of(alloc: Global, row: &Row) -> Result<Vec<u8>, Fail> {
+fn code_of(alloc: Global, row: &Row) -> Result<Vec<u8>, AllocError> {
     let mut code = Vec::new(alloc);
     code.extend_from_slice(&slot(0xbf, 0x16, 0))?;
     code.extend_from_slice(&slot(0xbf, 0x37, 0))?;
@@ -308,25 +316,52 @@ fn code_of(alloc: Global, row: &Row) -> Result<Vec<u8>, Fail> {
     Ok(code)
 }
 
+/// What a row's call is beside.
+fn object_before(row: &Row) -> Option<Contents> {
+    if row.is_there { Some(THERE) } else { None }
+}
+
+/// What a row's call leaves.
+fn object_after(row: &Row) -> Option<Contents> {
+    match row.after {
+        After::Same => object_before(row),
+        After::Is(contents) => contents,
+    }
+}
+
+/// Whether an outcome is the row's.
+fn is_answer(rt: &impl Abort, alloc: Global, outcome: &Outcome, row: &Row) -> bool {
+    outcome.code == row.answer
+        && outcome.output.as_slice() == row.output
+        && is_change(rt, alloc, &outcome.change, object_before(row), object_after(row))
+}
+
+/// Whether a call beside that object answers so.
+fn answers_beside(rt: &impl Abort, alloc: Global, object: Option<&Object>, row: &Row) -> bool {
+    let code = code_of(alloc, row).expect(rt, "memory");
+    let class = class_of(rt, alloc, &code, 3, 8, 8);
+    is_answer(rt, alloc, &call_f(rt, alloc, &class, object, &INPUT), row)
+}
+
 /// Whether a call answers so.
-fn answers(rt: &impl Abort, alloc: Global, row: &Row) -> Result<bool, Fail> {
-    let class = class_of(rt, alloc, &code_of(alloc, row)?, 3, 8, 8);
-    let object = made(alloc, row.object)?;
-    let outcome = call_f(rt, alloc, &class, object.as_ref(), &INPUT);
-    let before = holds(alloc, outcome.change.before.as_ref(), row.object)?;
-    let after = holds(alloc, outcome.change.after.as_ref(), row.after)?;
-    let output = outcome.output.as_slice() == row.output;
-    Ok(before && after && output && outcome.code == row.answer)
+fn answers(rt: &impl Abort, alloc: Global, row: &Row) -> bool {
+    let object = made(rt, alloc, object_before(row));
+    answers_beside(rt, alloc, object.as_ref(), row)
+}
+
+/// The number of the first row that is answered otherwise.
+fn first_wrong(rt: &impl Abort, alloc: Global, rows: &[Row]) -> Option<usize> {
+    let mut number = 0usize;
+    for row in rows {
+        if !answers(rt, alloc, row) {
+            return Some(number);
+        }
+        number = number.wrapping_add(1);
+    }
+    None
 }
 
 #[test]
-fn each_helper(rt: HostRuntime) -> Result<(), Fail> {
-    for (n, row) in ROWS.iter().enumerate() {
-        assert!(rt;
-            answers(&rt, rt.alloc(), row)?,
-            "row {n}, helper {}",
-            row.id
-        );
-    }
-    Ok(())
+fn each_helper(rt: HostRuntime) {
+    assert_eq!(rt; first_wrong(&rt, rt.alloc(), &ROWS), None);
 }

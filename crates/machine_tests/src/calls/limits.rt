@@ -1,12 +1,11 @@
 //! A call at all limits at once: input and output of 4,096 bytes, and an object that is written to 65,536 bytes.
 
-use super::{call_f, class_of};
+use super::call_f;
+use crate::classes::class_of;
 use interp::Outcome;
 use object_store::{DATA_LIMIT, Object, calls};
 use std::alloc::Global;
 use std::process::Abort;
-use std::test::Fail;
-use txn::Change;
 
 /// Copies the input's last byte to the output's last, writes the input to the object's last 4,096 bytes, and answers
 /// with all of the output.
@@ -27,7 +26,7 @@ const LONGEST: [u8; 88] = [
 /// What `LONGEST` answers on 4,096 bytes of 0x5a.
 fn longest(rt: &impl Abort, alloc: Global, object: Option<&Object>) -> Outcome {
     let class = class_of(rt, alloc, &LONGEST, 2, 4096, 4096);
-    let input = [0x5a; 4096];
+    let input = [0x5a].repeat(alloc, 4096).expect(rt, "memory");
     call_f(rt, alloc, &class, object, &input)
 }
 
@@ -48,30 +47,47 @@ fn a_call_has_all_output(rt: HostRuntime) {
 }
 
 /// Whether an object has 65,536 bytes, which begin by so many of the one byte, and the rest are of the other.
-fn is_full(alloc: Global, object: Option<&Object>, first: u8, count: usize) -> Result<bool, Fail> {
-    let mut data = vec![in alloc; 0u8; DATA_LIMIT]?;
+fn is_full(
+    rt: &impl Abort,
+    alloc: Global,
+    object: Option<&Object>,
+    first: u8,
+    count: usize,
+) -> bool {
+    let mut data = Vec::from_elem(alloc, 0u8, DATA_LIMIT).expect(rt, "memory");
     match object {
-        None => Ok(false),
+        None => false,
         Some(object) => {
             let read = object.read(0, &mut data);
-            Ok(read == DATA_LIMIT && begins(&data, first, count, 0x5a))
+            read == DATA_LIMIT && begins(&data, first, count, 0x5a)
         }
     }
 }
 
 #[test]
-fn an_object_grows_to_its_limit(rt: HostRuntime) -> Result<(), Fail> {
-    let Change { before, after } = longest(&rt, rt.alloc(), None).change;
-    assert!(rt; before.is_none() && is_full(rt.alloc(), after.as_ref(), 0, 61_440)?);
-    Ok(())
+fn an_object_grows_to_its_limit(rt: HostRuntime) {
+    let outcome = longest(&rt, rt.alloc(), None);
+    assert!(rt; outcome.change.before.is_none());
+    assert!(rt; is_full(&rt, rt.alloc(), outcome.change.after.as_ref(), 0, 61_440));
+}
+
+/// The object of 65,536 bytes of 0x33.
+fn full(rt: &impl Abort, alloc: Global) -> Object {
+    let bytes = [0x33].repeat(alloc, DATA_LIMIT).expect(rt, "memory");
+    calls::write(alloc, None, 0, &bytes).expect(rt, "an object")
 }
 
 #[test]
-fn a_full_object_is_shared(rt: HostRuntime) -> Result<(), Fail> {
-    let bytes = vec![in rt.alloc(); 0x33u8; DATA_LIMIT]?;
-    let full = calls::write(rt.alloc(), None, 0, &bytes)?;
-    let Change { before, after } = longest(&rt, rt.alloc(), Some(&full)).change;
-    assert!(rt; is_full(rt.alloc(), before.as_ref(), 0x33, DATA_LIMIT)?);
-    assert!(rt; is_full(rt.alloc(), after.as_ref(), 0x33, 61_440)?);
-    Ok(())
+fn a_full_object_is_shared(rt: HostRuntime) {
+    let outcome = longest(&rt, rt.alloc(), Some(&full(&rt, rt.alloc())));
+    assert!(rt;
+        is_full(
+            &rt,
+            rt.alloc(),
+            outcome.change.before.as_ref(),
+            0x33,
+            DATA_LIMIT
+        )
+    );
+    assert!(rt; is_full(&rt, rt.alloc(), outcome.change.after.as_ref(), 0x33, 61_440));
 }

@@ -1,6 +1,7 @@
 //! What single operations answer by RFC 9669.
 
-use super::{call_f, class_of};
+use super::call_f;
+use crate::classes::class_of;
 use std::alloc::Global;
 use std::process::Abort;
 

@@ -1,6 +1,6 @@
 //! The table of classes, and what refusals print.
 
-use super::class_of;
+use crate::classes::class_of;
 use interp::{CallError, ClassTable, TableError};
 use std::alloc::Global;
 use std::process::Abort;

@@ -1,14 +1,14 @@
 //! Programs that call every helper beside every kind of object, with ranges that overlap and ranges of no bytes.
 
 use super::random::Random;
-use super::{agrees, image_of, put, slot};
+use super::{agrees, put, slot, verified};
 use crate::contents::{Contents, NOTHING, object_of};
 use bpf_machine::Layout;
 use helpers::{Argument, signature};
-use object_store::{DATA_LIMIT, KEY_LIMIT, Object, StoreError, XATTR_LIMIT, calls};
-use std::alloc::Global;
-use std::test::Fail;
-use verifier::{VerifiedClass, verify};
+use object_store::{DATA_LIMIT, KEY_LIMIT, Object, XATTR_LIMIT, calls};
+use std::alloc::{AllocError, Global};
+use std::process::Abort;
+use verifier::VerifiedClass;
 
 const LAYOUT: Layout = Layout {
     input: 0x1000,
@@ -34,40 +34,54 @@ const KEYS: Contents = Contents {
     ..DATA
 };
 
+const VALUE: &[u8] = &[0x5a; 24];
+
+/// The object with that key, if there is room for it.
+fn with_key(rt: &impl Abort, alloc: Global, object: Object, key: &[u8]) -> Object {
+    if object.key_count() == KEY_LIMIT {
+        return object;
+    }
+    calls::set_key(alloc, Some(&object), key, VALUE).expect(rt, "a key")
+}
+
+/// The object with that xattr, if there is room for it.
+fn with_xattr(rt: &impl Abort, alloc: Global, object: Object, name: &[u8]) -> Object {
+    if object.xattr_count() == XATTR_LIMIT {
+        return object;
+    }
+    calls::set_xattr(alloc, Some(&object), name, VALUE).expect(rt, "an xattr")
+}
+
 /// Sets numbered keys and xattrs until there are as many as there may be.
-fn filled(alloc: Global, object: Object) -> Result<Object, StoreError> {
-    let value = [0x5a; 24];
+fn filled(rt: &impl Abort, alloc: Global, object: Object) -> Object {
     let mut full = object;
     for n in 0..KEY_LIMIT as u16 {
-        let name = n.to_be_bytes();
-        if full.key_count() < KEY_LIMIT {
-            full = calls::set_key(alloc, Some(&full), &name, &value)?;
-        }
-        if full.xattr_count() < XATTR_LIMIT {
-            full = calls::set_xattr(alloc, Some(&full), &name, &value)?;
-        }
+        full = with_key(rt, alloc, full, &n.to_be_bytes());
+        full = with_xattr(rt, alloc, full, &n.to_be_bytes());
     }
-    Ok(full)
+    full
 }
 
 /// An object at all limits.
-fn full(alloc: Global) -> Result<Object, StoreError> {
+fn full(rt: &impl Abort, alloc: Global) -> Object {
     let named = Contents {
         xattrs: XATTRS.xattrs,
         ..KEYS
     };
-    let object = filled(alloc, object_of(alloc, &named)?)?;
-    calls::truncate(alloc, Some(&object), DATA_LIMIT as u64)
+    let named = object_of(alloc, &named).expect(rt, "an object");
+    let object = filled(rt, alloc, named);
+    calls::truncate(alloc, Some(&object), DATA_LIMIT as u64).expect(rt, "memory")
 }
 
 /// An object of each kind: empty, with data, with xattrs, with keys, and at all limits.
-fn objects(alloc: Global) -> Result<Vec<Object>, Fail> {
+fn objects(rt: &impl Abort, alloc: Global) -> Vec<Object> {
     let mut objects = Vec::new(alloc);
     for contents in [NOTHING, DATA, XATTRS, KEYS] {
-        objects.push(object_of(alloc, &contents)?)?;
+        let object = object_of(alloc, &contents).expect(rt, "memory");
+        objects.push(object).expect(rt, "memory");
     }
-    objects.push(full(alloc)?)?;
-    Ok(objects)
+    objects.push(full(rt, alloc)).expect(rt, "memory");
+    objects
 }
 
 /// Numbers at the limits, and small ones.
@@ -87,7 +101,12 @@ const PLACES: [i32; 8] = [0, 0, 1, 2, 3, 4, 6, 7];
 const LENGTHS: [i32; 8] = [0, 1, 1, 2, 2, 4, 8, 16];
 
 /// Puts a range into two registers.
-fn range(random: &mut Random, code: &mut Vec<u8>, register: u8, base: u8) -> Result<(), Fail> {
+fn range(
+    random: &mut Random,
+    code: &mut Vec<u8>,
+    register: u8,
+    base: u8,
+) -> Result<(), AllocError> {
     let before = if base == 10 { -64 } else { 0 };
     let place = PLACES[random.pick()].wrapping_add(before);
     put(
@@ -106,7 +125,7 @@ fn argument(
     code: &mut Vec<u8>,
     register: u8,
     argument: Argument,
-) -> Result<u8, Fail> {
+) -> Result<u8, AllocError> {
     match argument {
         Argument::Number => {
             put(code, &[slot(0xb7, register, 0, NUMBERS[random.pick()])])?;
@@ -133,7 +152,7 @@ fn argument(
 }
 
 /// Puts a call of a helper, of whose answer register 9 keeps a trace.
-fn call_of(random: &mut Random, code: &mut Vec<u8>, id: u32) -> Result<(), Fail> {
+fn call_of(random: &mut Random, code: &mut Vec<u8>, id: u32) -> Result<(), AllocError> {
     let arguments = match signature(id) {
         Some(signature) => signature.arguments,
         None => &[],
@@ -154,7 +173,7 @@ fn call_of(random: &mut Random, code: &mut Vec<u8>, id: u32) -> Result<(), Fail>
 }
 
 /// A program whose first call is of that helper, behind names in the output and on the stack.
-fn program(alloc: Global, seed: u64, id: u32) -> Result<Vec<u8>, Fail> {
+fn program(alloc: Global, seed: u64, id: u32) -> Result<Vec<u8>, AllocError> {
     let mut random = Random::new(seed);
     let mut code = Vec::new(alloc);
     put(
@@ -178,7 +197,7 @@ fn program(alloc: Global, seed: u64, id: u32) -> Result<Vec<u8>, Fail> {
 
 /// Puts the trace and some of the stack into the output, most often puts all of it out, and answers the trace, most
 /// often with no sign.
-fn end(random: &mut Random, code: &mut Vec<u8>) -> Result<(), Fail> {
+fn end(random: &mut Random, code: &mut Vec<u8>) -> Result<(), AllocError> {
     put(
         code,
         &[
@@ -199,38 +218,51 @@ fn end(random: &mut Random, code: &mut Vec<u8>) -> Result<(), Fail> {
 
 /// Whether a call of the method answers as the plain run does, beside no object and beside each of those.
 fn agrees_beside_all(
+    rt: &impl Abort,
     alloc: Global,
     class: &VerifiedClass,
     code: &[u8],
     objects: &[Object],
-) -> Result<bool, Fail> {
-    let mut all = agrees(alloc, class, code, LAYOUT, None, &INPUT)?;
+) -> bool {
+    let mut all = agrees(rt, alloc, class, code, LAYOUT, None, &INPUT);
     for object in objects {
-        all = all && agrees(alloc, class, code, LAYOUT, Some(object), &INPUT)?;
+        all = all && agrees(rt, alloc, class, code, LAYOUT, Some(object), &INPUT);
     }
-    Ok(all)
+    all
 }
 
-/// Whether the program of a seed is refused, or agrees.
-fn compared(alloc: Global, seed: u64, objects: &[Object]) -> Result<Option<bool>, Fail> {
-    let code = program(alloc, seed, (seed % 15) as u32 + 1)?;
-    match verify(alloc, &image_of(alloc, &code)?) {
-        Ok(class) => Ok(Some(agrees_beside_all(alloc, &class, &code, objects)?)),
-        Err(_) => Ok(None),
+/// Whether the program of a seed agrees; none where it is refused.
+fn compared(rt: &impl Abort, alloc: Global, seed: u64, objects: &[Object]) -> Option<bool> {
+    let code = program(alloc, seed, (seed % 15) as u32 + 1).expect(rt, "memory");
+    match verified(rt, alloc, &code) {
+        None => None,
+        Some(class) => Some(agrees_beside_all(rt, alloc, &class, &code, objects)),
     }
 }
 
-#[test]
-fn every_helper(rt: HostRuntime) -> Result<(), Fail> {
-    let objects = objects(rt.alloc())?;
-    // How many accepted programs call each helper first, and so beside each object and beside none.
+/// How many accepted programs call each helper first, and so beside each object and beside none.
+fn accepted(rt: &impl Abort, alloc: Global, objects: &[Object]) -> [u32; 15] {
     let mut accepted = [0u32; 15];
     for seed in 0..150u64 {
-        let compared = compared(rt.alloc(), seed, &objects)?;
+        let compared = compared(rt, alloc, seed, objects);
         assert!(rt; compared != Some(false), "{seed}");
         let n = (seed % 15) as usize;
         accepted[n] = accepted[n].wrapping_add(u32::from(compared.is_some()));
     }
-    assert!(rt; accepted.iter().all(|count| *count > 4), "{accepted:?}");
-    Ok(())
+    accepted
+}
+
+/// Whether each count is above 4.
+fn are_enough(counts: &[u32]) -> bool {
+    let mut all = true;
+    for count in counts {
+        all = all && *count > 4;
+    }
+    all
+}
+
+#[test]
+fn every_helper(rt: HostRuntime) {
+    let objects = objects(&rt, rt.alloc());
+    assert!(rt; are_enough(&accepted(&rt, rt.alloc(), &objects)));
 }

@@ -1,11 +1,11 @@
 //! Every width at offsets, numbers and places of the object.
 
-use super::{agrees, image_of, put, slot};
+use super::{agrees, put, slot, verified};
 use crate::contents::{Contents, NOTHING, made};
 use bpf_machine::Layout;
-use std::alloc::Global;
-use std::test::Fail;
-use verifier::verify;
+use std::alloc::{AllocError, Global};
+use std::process::Abort;
+use verifier::VerifiedClass;
 
 /// What differs between the programs.
 #[derive(Clone, Copy)]
@@ -24,7 +24,7 @@ struct Choice {
 }
 
 /// Every opcode, at a width, offsets and numbers.
-fn program(alloc: Global, c: Choice) -> Result<Vec<u8>, Fail> {
+fn program(alloc: Global, c: Choice) -> Result<Vec<u8>, AllocError> {
     let (size, bytes) = c.size;
     let below = 0i16.wrapping_sub(bytes).wrapping_sub(c.at);
     let slots = [
@@ -96,37 +96,63 @@ const NUMBERS: [(i16, i32); 5] = [
 /// Where the object is written and read, how many bytes of it, and the code.
 const PLACES: [(i32, i32, i32); 4] = [(0, 0, 0), (2, 5, 1), (40, 24, -30), (65520, 20, 5)];
 
-/// Whether a program answers so beside each object.
-fn agrees_beside_all(alloc: Global, choice: Choice) -> Result<bool, Fail> {
-    let code = program(alloc, choice)?;
-    let class = verify(alloc, &image_of(alloc, &code)?)?;
+/// Whether a program answers so beside an object of those contents.
+fn agrees_beside(
+    rt: &impl Abort,
+    alloc: Global,
+    class: &VerifiedClass,
+    code: &[u8],
+    contents: Option<Contents>,
+) -> bool {
+    let object = made(rt, alloc, contents);
+    agrees(rt, alloc, class, code, HIGH, object.as_ref(), &INPUT)
+}
+
+/// The same beside each object.
+fn agrees_beside_all(rt: &impl Abort, alloc: Global, class: &VerifiedClass, code: &[u8]) -> bool {
     let mut all = true;
     for contents in OBJECTS {
-        let object = made(alloc, contents)?;
-        all = all && agrees(alloc, &class, &code, HIGH, object.as_ref(), &INPUT)?;
+        all = all && agrees_beside(rt, alloc, class, code, contents);
     }
-    Ok(all)
+    all
+}
+
+/// Whether a program is accepted, and answers so.
+fn agrees_on(rt: &impl Abort, alloc: Global, choice: Choice) -> bool {
+    let code = program(alloc, choice).expect(rt, "memory");
+    match verified(rt, alloc, &code) {
+        None => false,
+        Some(class) => agrees_beside_all(rt, alloc, &class, &code),
+    }
+}
+
+/// The same of the programs with that size, place and number.
+fn agree_at_places(
+    rt: &impl Abort,
+    alloc: Global,
+    size: (u8, i16),
+    (at, number): (i16, i32),
+) -> bool {
+    let mut all = true;
+    for (place, count, code) in PLACES {
+        let choice = Choice {
+            size,
+            at,
+            number,
+            place,
+            count,
+            code,
+        };
+        all = all && agrees_on(rt, alloc, choice);
+    }
+    all
 }
 
 #[test]
-fn calls_are_plain_runs(rt: HostRuntime) -> Result<(), Fail> {
+fn calls_are_plain_runs(rt: HostRuntime) {
     for size in SIZES {
-        for (at, number) in NUMBERS {
-            for (place, count, code) in PLACES {
-                let choice = Choice {
-                    size,
-                    at,
-                    number,
-                    place,
-                    count,
-                    code,
-                };
-                assert!(rt;
-                    agrees_beside_all(rt.alloc(), choice)?,
-                    "{at} {number} {place}"
-                );
-            }
+        for number in NUMBERS {
+            assert!(rt; agree_at_places(&rt, rt.alloc(), size, number));
         }
     }
-    Ok(())
 }

@@ -1,11 +1,10 @@
 //! Programs with branches that together hold every row of the opcode table.
 
 use super::random::Random;
-use super::{agrees, image_of, put, slot};
+use super::{agrees, put, slot, verified};
 use bpf_machine::Layout;
-use std::alloc::Global;
-use std::test::Fail;
-use verifier::verify;
+use std::alloc::{AllocError, Global};
+use std::process::Abort;
 
 /// The arithmetic rows without class and source bit: the operation and the offset that selects it.
 const ARITHMETIC: [(u8, i16); 13] = [
@@ -120,7 +119,7 @@ impl Random {
 }
 
 /// `lddw` of any number.
-fn wide(code: &mut Vec<u8>, register: u8, number: u64) -> Result<(), Fail> {
+fn wide(code: &mut Vec<u8>, register: u8, number: u64) -> Result<(), AllocError> {
     let low = ((number % 0x1_0000_0000) as u32).cast_signed();
     let high = ((number / 0x1_0000_0000) as u32).cast_signed();
     put(code, &[slot(0x18, register, 0, low), slot(0, 0, 0, high)])
@@ -205,7 +204,7 @@ fn branch(random: &mut Random, n: usize, over: i16) -> [u8; 8] {
 }
 
 /// A program of accepted shape with rows from a number on.
-fn program(alloc: Global, seed: u64) -> Result<Vec<u8>, Fail> {
+fn program(alloc: Global, seed: u64) -> Result<Vec<u8>, AllocError> {
     let mut random = Random::new(seed);
     let mut code = Vec::new(alloc);
     put(&mut code, &[slot(0xbf, 0x16, 0, 0), slot(0xbf, 0x37, 0, 0)])?;
@@ -235,7 +234,7 @@ fn program(alloc: Global, seed: u64) -> Result<Vec<u8>, Fail> {
 }
 
 /// Puts every number into the output, and answers with the whole of it and a code that is zero or positive.
-fn end(code: &mut Vec<u8>) -> Result<(), Fail> {
+fn end(code: &mut Vec<u8>) -> Result<(), AllocError> {
     put(
         code,
         &[
@@ -263,16 +262,22 @@ const LOW: Layout = Layout {
     stack: 64,
 };
 
-#[test]
-fn every_row(rt: HostRuntime) -> Result<(), Fail> {
-    let alloc = rt.alloc();
-    let input = [
-        0x80, 0xff, 0x7f, 0, 1, 0xfe, 0x80, 0x81, 9, 0xf0, 11, 12, 0xff,
-    ];
-    for seed in 0..4096u64 {
-        let code = program(alloc, seed)?;
-        let class = verify(alloc, &image_of(alloc, &code)?)?;
-        assert!(rt; agrees(alloc, &class, &code, LOW, None, &input)?);
+const INPUT: [u8; 13] = [
+    0x80, 0xff, 0x7f, 0, 1, 0xfe, 0x80, 0x81, 9, 0xf0, 11, 12, 0xff,
+];
+
+/// Whether the program of a seed is accepted, and answers so.
+fn agrees_on(rt: &impl Abort, alloc: Global, seed: u64) -> bool {
+    let code = program(alloc, seed).expect(rt, "memory");
+    match verified(rt, alloc, &code) {
+        None => false,
+        Some(class) => agrees(rt, alloc, &class, &code, LOW, None, &INPUT),
     }
-    Ok(())
+}
+
+#[test]
+fn every_row(rt: HostRuntime) {
+    for seed in 0..4096u64 {
+        assert!(rt; agrees_on(&rt, rt.alloc(), seed));
+    }
 }

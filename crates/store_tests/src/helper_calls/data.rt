@@ -1,5 +1,6 @@
 use super::calls::right_answers;
 use object_store::Object;
+use std::alloc::Global;
 use txn::Staged;
 
 /// Beside an absent object; each leaves it absent.
@@ -84,12 +85,16 @@ fn an_absent_object_is_refused(rt: HostRuntime) {
     assert!(rt; is_absent(&staged));
 }
 
+/// Whether a line creates the object.
+fn is_created(alloc: Global, line: &str) -> bool {
+    let mut staged = Staged::over(None);
+    right_answers(alloc, &mut staged, line) == Ok(1) && !is_absent(&staged)
+}
+
 #[test]
 fn an_object_is_created(rt: HostRuntime) {
     for line in CREATES {
-        let mut staged = Staged::over(None);
-        assert!(rt; right_answers(rt.alloc(), &mut staged, line) == Ok(1));
-        assert!(rt; !is_absent(&staged));
+        assert!(rt; is_created(rt.alloc(), line));
     }
 }
 

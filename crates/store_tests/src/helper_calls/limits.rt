@@ -1,15 +1,8 @@
 use super::calls::right_answers;
+use crate::words::numbered;
 use helpers::{map_set, setxattr};
 use std::alloc::Global;
 use txn::{NoMemory, Staged};
-
-/// A name of 64 bytes whose last two rise with the number, as `AA` of 0, `BA` of 32 and `aA` of 1,024.
-fn numbered(n: u16) -> [u8; 64] {
-    let mut name = [b'k'; 64];
-    name[62] = b'A' + (n / 32 % 64) as u8;
-    name[63] = b'A' + (n % 32) as u8;
-    name
-}
 
 /// Sets that many keys with values of 4,096 bytes; false where one is refused.
 fn fills_omap(alloc: Global, staged: &mut Staged, count: u16) -> Result<bool, NoMemory> {

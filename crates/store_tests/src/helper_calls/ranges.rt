@@ -1,8 +1,8 @@
 ghost use Rattle.std.specs.Prelude.{◌≡◌, ◌+◌, ◌≤◌, IfSome};
 
-use helpers::{Span, getxattr, map_get, map_next, map_set, setxattr};
-use std::alloc::Global;
-use txn::{NoMemory, Staged};
+use super::calls::right_answers;
+use helpers::{Span, getxattr, map_get, map_next};
+use txn::Staged;
 
 /// A helper that looks up bytes and copies what it finds.
 #[derive(Clone, Copy)]
@@ -114,17 +114,16 @@ fn copies(staged: &Staged, (copying, before, name, value, want, after): Row) -> 
     answer == want.cast_unsigned() && memory == after
 }
 
-fn sets(alloc: Global, staged: &mut Staged) -> Result<bool, NoMemory> {
-    let lock = setxattr(alloc, staged, b"lock", b"12345678")?;
-    let key = map_set(alloc, staged, b"lock", b"12345678")?;
-    let short = map_set(alloc, staged, b"bb", b"")?;
-    Ok(lock == 0 && key == 0 && short == 0)
-}
+const SETS: &str = "
+setxattr lock 12345678 0
+map_set lock 12345678 0
+map_set bb - 0
+";
 
 #[test]
 fn ranges_may_overlap(rt: HostRuntime) {
     let mut staged = Staged::over(None);
-    assert!(rt; sets(rt.alloc(), &mut staged) == Ok(true));
+    assert!(rt; right_answers(rt.alloc(), &mut staged, SETS) == Ok(3));
     for row in COPIES {
         assert!(rt; copies(&staged, row));
     }

@@ -1,38 +1,29 @@
 //! Each call at its limits, with memory enough.
 
+use crate::words::numbered;
 use object_store::{Object, StoreError, calls};
 use std::alloc::Global;
 use std::process::Abort;
 
-const LONGEST_VALUE: [u8; 4096] = [7; 4096];
-
-/// A name of 64 bytes for each number.
-fn name_of(n: u16) -> [u8; 64] {
-    let mut name = [b'n'; 64];
-    let [high, low] = n.to_be_bytes();
-    name[0] = high;
-    name[1] = low;
-    name
-}
-
 /// The object with so many xattrs and keys, each with the longest name and value.
 fn with_names<R: Abort>(rt: &R, alloc: Global, object: Object, xattrs: u16, keys: u16) -> Object {
+    let value = [7; 4096];
     let mut object = object;
     for n in 0..xattrs {
-        object = with_xattr(rt, alloc, &object, n, &LONGEST_VALUE);
+        object = with_xattr(rt, alloc, &object, n, &value);
     }
     for n in 0..keys {
-        object = with_key(rt, alloc, &object, n, &LONGEST_VALUE);
+        object = with_key(rt, alloc, &object, n, &value);
     }
     object
 }
 
 fn with_xattr<R: Abort>(rt: &R, alloc: Global, object: &Object, n: u16, value: &[u8]) -> Object {
-    calls::set_xattr(alloc, Some(object), &name_of(n), value).expect(rt, "an xattr")
+    calls::set_xattr(alloc, Some(object), &numbered(n), value).expect(rt, "an xattr")
 }
 
 fn with_key<R: Abort>(rt: &R, alloc: Global, object: &Object, n: u16, value: &[u8]) -> Object {
-    calls::set_key(alloc, Some(object), &name_of(n), value).expect(rt, "a key")
+    calls::set_key(alloc, Some(object), &numbered(n), value).expect(rt, "a key")
 }
 
 /// An object of 65,536 bytes, 32 xattrs and 1,024 keys.
@@ -50,15 +41,15 @@ fn is_full(object: &Object, name: &[u8], value: &[u8]) -> bool {
 
 /// Whether one xattr and one key more are too many.
 fn refuses_more(alloc: Global, object: &Object) -> bool {
-    let xattr = calls::set_xattr(alloc, Some(object), &name_of(32), b"").err();
-    let key = calls::set_key(alloc, Some(object), &name_of(1024), b"").err();
+    let xattr = calls::set_xattr(alloc, Some(object), &numbered(32), b"").err();
+    let key = calls::set_key(alloc, Some(object), &numbered(1024), b"").err();
     xattr == Some(StoreError::TooMany) && key == Some(StoreError::TooMany)
 }
 
 #[test]
 fn the_largest_object(rt: HostRuntime) {
     let object = full(&rt, rt.alloc()).copy().expect(&rt, "memory");
-    assert!(rt; is_full(&object, &name_of(31), &LONGEST_VALUE));
+    assert!(rt; is_full(&object, &numbered(31), &[7; 4096]));
     assert!(rt; refuses_more(rt.alloc(), &object));
 }
 
@@ -67,6 +58,6 @@ fn an_old_name_at_the_limit(rt: HostRuntime) {
     let object = full(&rt, rt.alloc());
     let changed = with_xattr(&rt, rt.alloc(), &object, 5, b"new");
     let changed = with_key(&rt, rt.alloc(), &changed, 5, b"new");
-    assert!(rt; is_full(&changed, &name_of(5), b"new"));
-    assert!(rt; is_full(&object, &name_of(5), &LONGEST_VALUE));
+    assert!(rt; is_full(&changed, &numbered(5), b"new"));
+    assert!(rt; is_full(&object, &numbered(5), &[7; 4096]));
 }

@@ -1,0 +1,69 @@
+//! Drawings of runs, by hand.
+
+use sim_trace::{Lane, Letter, Step, What, draw};
+use std::alloc::Global;
+use std::process::Abort;
+
+const NODE_1: Lane = Lane::Node(1);
+
+const NODE_2: Lane = Lane::Node(2);
+
+const CLIENT: Lane = Lane::Client(1);
+
+/// Messages.
+const SENT: [(Lane, Lane, &str); 5] = [
+    (NODE_1, NODE_2, "Rep 1 0"),
+    (NODE_2, NODE_1, "Ack 1 1"),
+    (NODE_1, CLIENT, "Reply 7 0 0 -"),
+    (NODE_2, NODE_2, "Query 2"),
+    (NODE_2, Lane::Monitor, "AskActivate 2"),
+];
+
+/// What happened, what is said of it, how many messages it sent.
+const STEPS: [(What, &str, usize); 6] = [
+    (What::Asked(CLIENT, NODE_1), "req 1 1 7 a lock lock -", 1),
+    (What::Arrived(1), "", 1),
+    (What::Arrived(1), "", 0),
+    (What::Arrived(2), "", 1),
+    (What::At(NODE_2), "see 2 2", 2),
+    (What::Bounced(4), ": stopped", 0),
+];
+
+/// A reply that is never delivered reaches its client; m5 is lost; m4 comes to a stopped node; m1 comes twice.
+const DRAWN: &str = "\
+c1          1           2           mon         event
+|--req----->|           |           |           req 1 1 7 a lock lock - => m1
+|           |--m1------>|           |           Rep 1 0 => m2
+|           |--m1------>|           |           Rep 1 0
+|           |<------m2--|           |           Ack 1 1 => m3
+|<------m3--|           |           |           Reply 7 0 0 -
+|           |           *           |           see 2 2 => m4 m5
+|           |           |--m5----x  |           AskActivate 2, lost
+|           |           |  x--m4    |           Query 2: stopped
+";
+
+fn letters<R: Abort>(rt: &R, alloc: Global) -> Vec<Letter> {
+    let mut letters = Vec::new(alloc);
+    for (from, to, text) in SENT {
+        let text = String::from_str(alloc, text).expect(rt, "memory");
+        letters.push(Letter { from, to, text }).expect(rt, "memory");
+    }
+    letters
+}
+
+fn steps<R: Abort>(rt: &R, alloc: Global) -> Vec<Step> {
+    let mut steps = Vec::new(alloc);
+    for (what, text, sent) in STEPS {
+        let text = String::from_str(alloc, text).expect(rt, "memory");
+        steps.push(Step { what, text, sent }).expect(rt, "memory");
+    }
+    steps
+}
+
+#[test]
+fn a_run(rt: HostRuntime) {
+    let letters = letters(&rt, rt.alloc());
+    let steps = steps(&rt, rt.alloc());
+    let text = draw(rt.alloc(), &letters, &steps).expect(&rt, "memory");
+    assert_eq!(rt; text.as_str(), DRAWN);
+}

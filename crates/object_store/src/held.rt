@@ -1,0 +1,181 @@
+ghost use Rattle.std.specs.Prelude.{◌≡◌, ◌+◌, ◌≤◌, IfOk, IfErr, OnOk, OnErr, length};
+ghost use Rattle.std.specs.Option.{option_copied};
+ghost use Rattle.std.specs.FinMap as fin;
+ghost use Rattle.shared_map.specs.Entries.{key_above};
+ghost use Rattle.object_store.specs.declared.limits.TheConstants.{DATA_LIMIT, XATTR_LIMIT, KEY_LIMIT};
+ghost use Rattle.object_store.specs.Object.{IsContent, IsName, IsValue, nothing, part, spliced, resized};
+ghost use Rattle.object_store.specs.Edits.{overlaid};
+ghost use Rattle.object_store.specs.Calls.{set_in, removed_in, with_xattrs, with_omap};
+ghost use Rattle.object_store.specs.Returned.{Gives};
+
+use crate::attributes::{Attributes, remove_in, set_in, value_in};
+use crate::data::Data;
+use crate::extent_data::ExtentData;
+use crate::limits::{KEY_LIMIT, XATTR_LIMIT};
+use crate::store_error::StoreError;
+use shared_map::SharedMap;
+use std::alloc::{AllocError, Global};
+use std::marker::Model;
+
+/// What an object holds: its data, its xattrs and its omap, always within the limits. A copy shares all of it and costs three pointers. Contracts see its content.
+#[derive(Drop)]
+pub(crate) struct Held {
+    bytes: ExtentData,
+    xattrs: Attributes,
+    omap: Attributes,
+}
+
+impl Model for Held {
+    ghost use Rattle.object_store.specs.Object.{Content, content_code, IsContent};
+
+    ghost Value = { Content };
+
+    ghost coded = { content_code };
+
+    ghost view = { λ o. record { bytes = o.bytes; xattrs = o.xattrs; omap = o.omap } };
+
+    ghost invariant = { λ o. IsContent (record { bytes = o.bytes; xattrs = o.xattrs; omap = o.omap }) };
+}
+
+impl Held {
+    /// No data, xattrs and keys. It takes no memory.
+    pub(crate) fn new() -> Held
+        ensures { result ≡ nothing }
+    {
+        Held {
+            bytes: ExtentData::new(),
+            xattrs: SharedMap::new(),
+            omap: SharedMap::new(),
+        }
+    }
+
+    /// It is within the limits.
+    pub(crate) fn within(&self)
+        ensures { IsContent self.now }
+    {
+        let _ = &self.bytes;
+    }
+
+    /// How many bytes of data it has.
+    pub(crate) fn len(&self) -> usize
+        ensures value { result ≡ length self.now.bytes }
+        ensures within { result ≤ DATA_LIMIT }
+    {
+        self.bytes.len()
+    }
+
+    /// Copies the bytes from a place on that there are into a buffer, as many as it takes, and answers how many. It takes no memory.
+    pub(crate) fn read(&self, at: u64, out: &mut [u8]) -> usize
+        ensures count { result ≡ length (part self.now.bytes at (length out.old)) }
+        ensures bytes { out.new ≡ overlaid (part self.now.bytes at (length out.old)) out.old }
+    {
+        self.bytes.read(at, out)
+    }
+
+    /// The value of an xattr.
+    pub(crate) fn xattr(&self, name: &[u8]) -> Option<&[u8]>
+        ensures { option_copied result ≡ fin.get self.now.xattrs name.now }
+    {
+        value_in(&self.xattrs, name)
+    }
+
+    /// How many xattrs it has.
+    pub(crate) fn xattr_count(&self) -> usize
+        ensures value { result ≡ fin.len self.now.xattrs }
+        ensures within { result ≤ XATTR_LIMIT }
+    {
+        self.xattrs.len()
+    }
+
+    /// The value of a key of the omap.
+    pub(crate) fn key(&self, key: &[u8]) -> Option<&[u8]>
+        ensures { option_copied result ≡ fin.get self.now.omap key.now }
+    {
+        value_in(&self.omap, key)
+    }
+
+    /// The least key of the omap above these bytes.
+    pub(crate) fn key_above(&self, key: &[u8]) -> Option<&[u8]>
+        ensures { option_copied result ≡ key_above self.now.omap key.now }
+    {
+        self.omap.key_above(key)
+    }
+
+    /// How many keys its omap has.
+    pub(crate) fn key_count(&self) -> usize
+        ensures value { result ≡ fin.len self.now.omap }
+        ensures within { result ≤ KEY_LIMIT }
+    {
+        self.omap.len()
+    }
+
+    /// The same, of which all is shared. Refused: 7 NoMemory.
+    pub(crate) fn copy(&self) -> Result<Held, StoreError>
+        ensures value { IfOk result (λ o. o ≡ self.now) }
+        ensures refused { IfErr result (λ e. e ≡ StoreError.NoMemory) }
+    {
+        Ok(Held {
+            bytes: self.bytes.share()?,
+            xattrs: self.xattrs.copy()?,
+            omap: self.omap.copy()?,
+        })
+    }
+
+    /// Writes text at a place.
+    pub(crate) fn write(&mut self, alloc: Global, at: usize, text: &[u8]) -> Result<(), AllocError>
+        requires { at + length text.now ≤ DATA_LIMIT }
+        ensures { OnOk result (self.new ≡ record self.old { bytes = spliced self.old.bytes at text.now }) }
+    {
+        self.bytes = self.bytes.with_text(alloc, at, text)?;
+        Ok(())
+    }
+
+    /// Cuts the data, or extends it with zeros.
+    pub(crate) fn truncate(&mut self, alloc: Global, len: usize) -> Result<(), AllocError>
+        requires { len ≤ DATA_LIMIT }
+        ensures { OnOk result (self.new ≡ record self.old { bytes = resized self.old.bytes len }) }
+    {
+        self.bytes = self.bytes.with_len(alloc, len)?;
+        Ok(())
+    }
+
+    /// Sets an xattr.
+    pub(crate) fn set_xattr(
+        &mut self,
+        alloc: Global,
+        name: &[u8],
+        value: &[u8],
+    ) -> Result<(), StoreError>
+        requires { IsName name.now × IsValue value.now }
+        ensures { Gives (λ _. self.new) result (with_xattrs self.old (set_in XATTR_LIMIT self.old.xattrs name.now value.now)) }
+    {
+        set_in(alloc, &mut self.xattrs, XATTR_LIMIT, name, value)
+    }
+
+    /// Sets the value of a key.
+    pub(crate) fn set_key(
+        &mut self,
+        alloc: Global,
+        key: &[u8],
+        value: &[u8],
+    ) -> Result<(), StoreError>
+        requires { IsName key.now × IsValue value.now }
+        ensures { Gives (λ _. self.new) result (with_omap self.old (set_in KEY_LIMIT self.old.omap key.now value.now)) }
+    {
+        set_in(alloc, &mut self.omap, KEY_LIMIT, key, value)
+    }
+
+    /// Removes an xattr.
+    pub(crate) fn remove_xattr(&mut self, alloc: Global, name: &[u8]) -> Result<(), StoreError>
+        ensures { Gives (λ _. self.new) result (with_xattrs self.old (removed_in self.old.xattrs name.now)) }
+    {
+        remove_in(alloc, &mut self.xattrs, name)
+    }
+
+    /// Removes a key of the omap.
+    pub(crate) fn remove_key(&mut self, alloc: Global, key: &[u8]) -> Result<(), StoreError>
+        ensures { Gives (λ _. self.new) result (with_omap self.old (removed_in self.old.omap key.now)) }
+    {
+        remove_in(alloc, &mut self.omap, key)
+    }
+}

@@ -1,0 +1,9 @@
+//! Tests alone, of what threads share: a group under a lock, queues of operations, the board of what is committed.
+#![tactic(auto)]
+
+#[cfg(test)]
+mod boards;
+#[cfg(test)]
+mod locks;
+#[cfg(test)]
+mod queues;

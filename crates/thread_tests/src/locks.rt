@@ -1,0 +1,173 @@
+//! Eight threads that append to one group under one lock.
+
+ghost use mathlib.Core.List.{IsPrefix};
+ghost use denote.Param.Send.{IsSend, IsSync};
+ghost use Rattle.interp.specs.contracts.class_table.ClassTable as table;
+ghost use Rattle.object_store.specs.contracts.objects.Objects as objects;
+ghost use Rattle.pg_log.specs.contracts.entry.Entry as entry;
+ghost use Rattle.std.specs.contracts.sync.Barrier as barrier;
+
+use builtin_classes::load_lock;
+use interp::ClassTable;
+use object_store::{ObjectName, Objects};
+use pg_log::{Classes, ClientId, Entry, Group, Request, RequestNumber};
+use std::alloc::Global;
+use std::marker::Brand;
+use std::process::Abort;
+use std::sync::{Barrier, Mutex, Wait};
+use std::test::Fail;
+use std::thread::{Threads, map_indices};
+
+/// How many threads append. Each is a client: 1, 2 and so on.
+const THREADS: u32 = 8;
+
+/// How many requests each appends, numbered from 1 on.
+const EACH: u32 = 100;
+
+/// What `lock` answers a client while another has the lock.
+const EBUSY: i64 = -16;
+
+// What may go from thread to thread, and what threads may share, is known of each part of a group by itself: a search for
+// the whole of it at once is too long. These functions do nothing, and say it.
+
+/// Values of the type may go to another thread.
+fn sends<T: Send>()
+    ensures { IsSend T.row }
+{}
+
+/// Threads may share values of the type.
+fn shares<T: Sync>()
+    ensures { IsSync T.row }
+{}
+
+fn entry_sends()
+    ensures { IsSend entry.the_row }
+{
+    sends::<Entry>()
+}
+
+fn objects_sends()
+    ensures { IsSend objects.the_row }
+{
+    sends::<Objects>()
+}
+
+fn barrier_shares()
+    ensures { IsSync barrier.the_row }
+{
+    shares::<Barrier>()
+}
+
+fn table_shares()
+    ensures { IsSync table.the_row }
+{
+    shares::<ClassTable>()
+}
+
+/// A client's request for the lock of the one object.
+fn request<R: Abort>(rt: &R, alloc: Global, client: u32, number: u32) -> Request {
+    Request::new(
+        ClientId::new(client).expect(rt, "a client"),
+        RequestNumber::new(number).expect(rt, "a number"),
+        ObjectName::new(alloc, "object").expect(rt, "memory"),
+        0,
+        String::from_str(alloc, "lock").expect(rt, "memory"),
+        Vec::new(alloc),
+    )
+}
+
+/// A thread: once all are there, it appends its requests, each under the lock.
+fn append_each<C: Classes, R: Wait + Abort>(
+    rt: &R,
+    alloc: Global,
+    table: &ClassTable,
+    group: &Mutex<Group<C>>,
+    start: &Barrier,
+    client: u32,
+)
+    requires { IsPrefix table.now C.classes }
+{
+    start.wait(rt);
+    for number in 1..=EACH {
+        let request = request(rt, alloc, client, number);
+        let place = group.lock(rt).append(table, request);
+        place.expect(rt, "a place");
+    }
+}
+
+/// The group that all threads together make.
+fn appended<C: Classes + Send + Sync, R: Threads + Wait + Abort + Sync>(
+    rt: &R,
+    alloc: Global,
+    table: &ClassTable,
+) -> Group<C>
+    requires { IsPrefix table.now C.classes }
+{
+    entry_sends();
+    objects_sends();
+    table_shares();
+    barrier_shares();
+    let group = Mutex::new(Group::<C>::new(alloc));
+    let start = Barrier::new(THREADS as usize);
+    let thread = |index: usize|
+        requires { IsPrefix table.now C.classes }
+    {
+        let client = u32::try_from(index).unwrap_or(0).wrapping_add(1);
+        append_each(rt, alloc, table, &group, &start, client)
+    };
+    map_indices(rt, alloc, THREADS as usize, &thread).expect(rt, "memory");
+    group.into_inner()
+}
+
+/// How many entries a client has, if they are numbered 1, 2 and so on in their order.
+fn rising(entries: &[Entry], client: u32) -> Option<u32> {
+    let mut last = 0u32;
+    for entry in entries {
+        if entry.request.client().get() == client {
+            last = last.wrapping_add(1);
+            if entry.request.number().get() != last {
+                return None;
+            }
+        }
+    }
+    Some(last)
+}
+
+/// Whether the client of the first entry got the lock each time, and every other client never.
+fn is_held_by_first(entries: &[Entry]) -> bool {
+    let mut owner = None;
+    for entry in entries {
+        let client = entry.request.client().get();
+        let owner = *owner.get_or_insert(client);
+        if entry.code != if client == owner { 0 } else { EBUSY } {
+            return false;
+        }
+    }
+    true
+}
+
+/// Checks what all threads together make.
+fn check<C: Classes + Send + Sync, R: Threads + Wait + Abort + Sync>(
+    rt: &R,
+    alloc: Global,
+    table: &ClassTable,
+)
+    requires { IsPrefix table.now C.classes }
+{
+    let group = appended::<C, R>(rt, alloc, table);
+    let entries = group.entries();
+    assert_eq!(rt; entries.len(), 800);
+    for client in 1..=THREADS {
+        assert_eq!(rt; rising(entries, client), Some(EACH), "client {client}");
+    }
+    assert!(rt; is_held_by_first(entries));
+}
+
+#[test]
+fn eight_threads_append_under_a_lock(rt: HostRuntime) -> Result<(), Fail> {
+    let alloc = rt.alloc();
+    let mut table = ClassTable::new(alloc);
+    table.add(load_lock(alloc)?)?;
+    check::<Brand, HostRuntime>(&rt, alloc, &table);
+    Ok(())
+}

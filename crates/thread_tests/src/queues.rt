@@ -1,0 +1,395 @@
+//! Queues of operations among threads.
+
+ghost use Rattle.std.specs.Prelude.{◌≡◌, ◌<◌, length};
+
+use op_shards::{Op, OpShards, SendPass, TakePass};
+use std::alloc::{AllocError, Global};
+use std::process::Abort;
+use std::sync::Wait;
+use std::sync::atomic::{AtomicU64, Ordering};
+use std::thread::{Threads, join, yield_now};
+
+const SHARDS: usize = 5;
+
+/// How many operations each of the four senders sends.
+const EACH: usize = 25_000;
+
+/// An operation with its sender, and its number among all of this sender's.
+#[derive(Drop)]
+struct Job {
+    group: usize,
+    sender: usize,
+    number: usize,
+}
+
+impl Op for Job {
+    ghost group = { λ j. j.group };
+
+    fn group(&self) -> usize {
+        self.group
+    }
+}
+
+fn request(group: usize) -> Job {
+    Job {
+        group,
+        sender: 0,
+        number: 0,
+    }
+}
+
+/// Sends to seventeen groups in turn, each operation until it is accepted.
+fn send_all<R: Wait>(rt: &R, shards: &OpShards<Job, R>, mut pass: SendPass<Job>, sender: usize)
+    requires { pass.queues ≡ shards.now.queues }
+{
+    let mut number = 0;
+    for _ in rt.forever() {
+        if number >= EACH {
+            break;
+        }
+        let job = Job {
+            group: number % 17,
+            sender,
+            number,
+        };
+        match shards.submit(&mut pass, job) {
+            Ok(()) => number += 1,
+            Err(_) => yield_now(),
+        }
+    }
+}
+
+/// Takes of each shard in turn, until all takers together have taken all. Answers what it took, in its order.
+fn take_all<R: Wait>(
+    rt: &R,
+    alloc: Global,
+    shards: &OpShards<Job, R>,
+    mut pass: TakePass<Job>,
+    taken: &AtomicU64,
+) -> Result<Vec<Job>, AllocError>
+    requires { pass.queues ≡ shards.now.queues }
+{
+    let mut jobs = Vec::new(alloc);
+    let mut shard = 0;
+    for _ in rt.forever() {
+        if taken.load(Ordering::SeqCst) >= 4 * EACH as u64 {
+            break;
+        }
+        if shard >= shards.count() {
+            shard = 0;
+        }
+        match shards.take(&mut pass, shard) {
+            Some(job) => {
+                taken.fetch_add(1, Ordering::SeqCst);
+                jobs.push(job)?;
+            }
+            None => yield_now(),
+        }
+        shard += 1;
+    }
+    Ok(jobs)
+}
+
+fn send_two<R: Threads + Wait + Sync>(
+    rt: &R,
+    shards: &OpShards<Job, R>,
+    first: SendPass<Job>,
+    second: SendPass<Job>,
+    sender: usize,
+)
+    requires first { first.queues ≡ shards.now.queues }
+    requires second { second.queues ≡ shards.now.queues }
+{
+    join(
+        rt,
+        || send_all(rt, shards, first, sender),
+        || send_all(rt, shards, second, sender.wrapping_add(1)),
+    );
+}
+
+fn take_two<R: Threads + Wait + Sync>(
+    rt: &R,
+    alloc: Global,
+    shards: &OpShards<Job, R>,
+    first: TakePass<Job>,
+    second: TakePass<Job>,
+    taken: &AtomicU64,
+) -> Result<(Vec<Job>, Vec<Job>), AllocError>
+    requires first { first.queues ≡ shards.now.queues }
+    requires second { second.queues ≡ shards.now.queues }
+{
+    let (one, two) = join(
+        rt,
+        || take_all(rt, alloc, shards, first, taken),
+        || take_all(rt, alloc, shards, second, taken),
+    );
+    Ok((one?, two?))
+}
+
+/// Four senders and two takers, beside a third.
+fn run_most<R: Threads + Wait + Sync>(
+    rt: &R,
+    alloc: Global,
+    shards: &OpShards<Job, R>,
+    a: SendPass<Job>,
+    b: SendPass<Job>,
+    c: SendPass<Job>,
+    d: SendPass<Job>,
+    first: TakePass<Job>,
+    second: TakePass<Job>,
+    taken: &AtomicU64,
+) -> Result<(Vec<Job>, Vec<Job>), AllocError>
+    requires a { a.queues ≡ shards.now.queues }
+    requires b { b.queues ≡ shards.now.queues }
+    requires c { c.queues ≡ shards.now.queues }
+    requires d { d.queues ≡ shards.now.queues }
+    requires first { first.queues ≡ shards.now.queues }
+    requires second { second.queues ≡ shards.now.queues }
+{
+    let ((), got) = join(
+        rt,
+        ||
+            requires a { a.queues ≡ shards.now.queues }
+            requires b { b.queues ≡ shards.now.queues }
+            requires c { c.queues ≡ shards.now.queues }
+            requires d { d.queues ≡ shards.now.queues }
+        { send_four(rt, shards, a, b, c, d) },
+        || -> Result<(Vec<Job>, Vec<Job>), AllocError>
+            requires first { first.queues ≡ shards.now.queues }
+            requires second { second.queues ≡ shards.now.queues }
+        { take_two(rt, alloc, shards, first, second, taken) },
+    );
+    got
+}
+
+fn send_four<R: Threads + Wait + Sync>(
+    rt: &R,
+    shards: &OpShards<Job, R>,
+    a: SendPass<Job>,
+    b: SendPass<Job>,
+    c: SendPass<Job>,
+    d: SendPass<Job>,
+)
+    requires a { a.queues ≡ shards.now.queues }
+    requires b { b.queues ≡ shards.now.queues }
+    requires c { c.queues ≡ shards.now.queues }
+    requires d { d.queues ≡ shards.now.queues }
+{
+    join(
+        rt,
+        ||
+            requires a { a.queues ≡ shards.now.queues }
+            requires b { b.queues ≡ shards.now.queues }
+        { send_two(rt, shards, a, b, 0) },
+        ||
+            requires c { c.queues ≡ shards.now.queues }
+            requires d { d.queues ≡ shards.now.queues }
+        { send_two(rt, shards, c, d, 2) },
+    );
+}
+
+/// Whether an operation is no earlier than what is due of its sender and shard; the one behind it is due then.
+fn is_due(next: &mut [usize], job: &Job) -> bool {
+    let place = job
+        .sender
+        .wrapping_mul(SHARDS)
+        .wrapping_add(job.group % SHARDS);
+    match next.get_mut(place) {
+        None => false,
+        Some(due) => {
+            let is_due = *due <= job.number;
+            *due = job.number.wrapping_add(1);
+            is_due
+        }
+    }
+}
+
+/// Whether the operations of each sender and shard stand in the order in which they were sent.
+fn in_order(jobs: &[Job]) -> bool {
+    let mut next = [0usize; 20];
+    let mut all = true;
+    for job in jobs {
+        all = all && is_due(&mut next, job);
+    }
+    all
+}
+
+/// Adds to the count of an operation. False if there is no such operation.
+fn count_one(counts: &mut [u8], job: &Job) -> bool {
+    let place = job.sender.wrapping_mul(EACH).wrapping_add(job.number);
+    match counts.get_mut(place) {
+        None => false,
+        Some(count) => {
+            *count = count.wrapping_add(1);
+            job.number < EACH
+        }
+    }
+}
+
+/// Adds to the count of each operation. False if there is no such operation.
+fn count(counts: &mut [u8], jobs: &[Job]) -> bool {
+    let mut all = true;
+    for job in jobs {
+        all = all && count_one(counts, job);
+    }
+    all
+}
+
+/// Whether each is 1.
+fn are_ones(counts: &[u8]) -> bool {
+    let mut all = true;
+    for count in counts {
+        all = all && *count == 1;
+    }
+    all
+}
+
+/// Whether each operation was taken once in all, and each taker's are in order.
+fn is_complete(
+    rt: &impl Abort,
+    alloc: Global,
+    first: &[Job],
+    second: &[Job],
+    third: &[Job],
+) -> bool {
+    let mut counts = Vec::from_elem(alloc, 0u8, 4 * EACH).expect(rt, "memory");
+    let counted = count(&mut counts, first)
+        && count(&mut counts, second)
+        && count(&mut counts, third);
+    counted && in_order(first) && in_order(second) && in_order(third) && are_ones(&counts)
+}
+
+#[test]
+fn each_once_and_in_order(rt: HostRuntime) {
+    let alloc = rt.alloc();
+    let (shards, mut sends, mut takes) = OpShards::new(alloc, rt, SHARDS, 64, 4, 3).expect(
+        &rt, "memory",
+    );
+    let d = sends.pop().expect(&rt, "a sender");
+    let c = sends.pop().expect(&rt, "a sender");
+    let b = sends.pop().expect(&rt, "a sender");
+    let a = sends.pop().expect(&rt, "a sender");
+    let third = takes.pop().expect(&rt, "a taker");
+    let second = takes.pop().expect(&rt, "a taker");
+    let first = takes.pop().expect(&rt, "a taker");
+    let taken = AtomicU64::new(0);
+    let (most, last) = join(
+        &rt,
+        || run_most(&rt, alloc, &shards, a, b, c, d, first, second, &taken),
+        || take_all(&rt, alloc, &shards, third, &taken),
+    );
+    let (one, two) = most.expect(&rt, "memory");
+    let three = last.expect(&rt, "memory");
+    assert!(rt; is_complete(&rt, alloc, &one, &two, &three));
+}
+
+/// Whether an operation of a group is accepted.
+fn is_accepted<R: Wait>(shards: &OpShards<Job, R>, pass: &mut SendPass<Job>, group: usize) -> bool
+    requires { pass.old.queues ≡ shards.now.queues }
+    ensures { pass.new.queues ≡ pass.old.queues }
+{
+    shards.submit(pass, request(group)).is_ok()
+}
+
+/// The group of the operation that comes back; none where it is accepted.
+fn given_back<R: Wait>(
+    shards: &OpShards<Job, R>,
+    pass: &mut SendPass<Job>,
+    group: usize,
+) -> Option<usize>
+    requires { pass.old.queues ≡ shards.now.queues }
+    ensures { pass.new.queues ≡ pass.old.queues }
+{
+    match shards.submit(pass, request(group)) {
+        Ok(()) => None,
+        Err(job) => Some(job.group),
+    }
+}
+
+/// The group of the operation that is taken of a shard.
+fn taken_of<R: Wait>(
+    shards: &OpShards<Job, R>,
+    pass: &mut TakePass<Job>,
+    shard: usize,
+) -> Option<usize>
+    requires pass { pass.old.queues ≡ shards.now.queues }
+    requires shard { shard < length shards.now.queues.names }
+    ensures { pass.new.queues ≡ pass.old.queues }
+{
+    match shards.take(pass, shard) {
+        None => None,
+        Some(job) => Some(job.group),
+    }
+}
+
+#[test]
+fn a_full_queue_gives_back(rt: HostRuntime) {
+    let (shards, mut sends, _takes) = OpShards::new(rt.alloc(), rt, 2, 1, 1, 1).expect(
+        &rt, "memory",
+    );
+    let mut send = sends.pop().expect(&rt, "a sender");
+    let first = is_accepted(&shards, &mut send, 7);
+    let back = given_back(&shards, &mut send, 9);
+    let other = is_accepted(&shards, &mut send, 8);
+    assert!(rt; first && back == Some(9) && other);
+}
+
+/// What is taken of the shards 0, 1 and 1 of two, once an operation of group 7 was sent.
+fn takes_of_seven<R: Wait>(
+    shards: &OpShards<Job, R>,
+    send: &mut SendPass<Job>,
+    take: &mut TakePass<Job>,
+) -> [Option<usize>; 3]
+    requires send { send.old.queues ≡ shards.now.queues }
+    requires take { take.old.queues ≡ shards.now.queues }
+    requires shards { 1 < length shards.now.queues.names }
+{
+    let _ = is_accepted(shards, send, 7);
+    let before = taken_of(shards, take, 0);
+    let seven = taken_of(shards, take, 1);
+    [before, seven, taken_of(shards, take, 1)]
+}
+
+#[test]
+fn an_empty_queue_gives_none(rt: HostRuntime) {
+    let (shards, mut sends, mut takes) = OpShards::new(rt.alloc(), rt, 2, 1, 1, 1).expect(
+        &rt, "memory",
+    );
+    let mut send = sends.pop().expect(&rt, "a sender");
+    let mut take = takes.pop().expect(&rt, "a taker");
+    assert!(rt; takes_of_seven(&shards, &mut send, &mut take) == [None, Some(7), None]);
+}
+
+/// What two takers take, the first before and the second after they are put together, once operations of groups 1 and 2
+/// were sent.
+fn takes_together<R: Wait>(
+    shards: &OpShards<Job, R>,
+    send: &mut SendPass<Job>,
+    take: &mut TakePass<Job>,
+    other: TakePass<Job>,
+) -> [Option<usize>; 2]
+    requires send { send.old.queues ≡ shards.now.queues }
+    requires take { take.old.queues ≡ shards.now.queues }
+    requires other { other.queues ≡ shards.now.queues }
+    requires shards { 0 < length shards.now.queues.names }
+{
+    let mut other = other;
+    let _ = is_accepted(shards, send, 1);
+    let _ = is_accepted(shards, send, 2);
+    let first = taken_of(shards, &mut other, 0);
+    shards.gather(take, other);
+    shards.compare(send, take, 0);
+    [first, taken_of(shards, take, 0)]
+}
+
+#[test]
+fn takers_put_together(rt: HostRuntime) {
+    let (shards, mut sends, mut takes) = OpShards::new(rt.alloc(), rt, 1, 4, 1, 2).expect(
+        &rt, "memory",
+    );
+    let mut send = sends.pop().expect(&rt, "a sender");
+    let other = takes.pop().expect(&rt, "a taker");
+    let mut take = takes.pop().expect(&rt, "a taker");
+    let taken = takes_together(&shards, &mut send, &mut take, other);
+    assert!(rt; taken == [Some(1), Some(2)] && shards.count() == 1);
+}
