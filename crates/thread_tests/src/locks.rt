@@ -3,14 +3,17 @@
 ghost use mathlib.Core.List.{IsPrefix};
 ghost use denote.Param.Send.{IsSend, IsSync};
 ghost use Rattle.interp.specs.contracts.class_table.ClassTable as table;
+ghost use Rattle.object_store.specs.contracts.object.Object as object;
 ghost use Rattle.object_store.specs.contracts.objects.Objects as objects;
 ghost use Rattle.pg_log.specs.contracts.entry.Entry as entry;
+ghost use Rattle.shared_map.specs.contracts.shared_map.SharedMap as map;
 ghost use Rattle.std.specs.contracts.sync.Barrier as barrier;
 
 use builtin_classes::load_lock;
 use interp::ClassTable;
-use object_store::{ObjectName, Objects};
+use object_store::{Object, ObjectName, Objects};
 use pg_log::{Classes, ClientId, Entry, Group, Request, RequestNumber};
+use shared_map::SharedMap;
 use std::alloc::Global;
 use std::marker::Brand;
 use std::process::Abort;
@@ -46,9 +49,30 @@ fn entry_sends()
     sends::<Entry>()
 }
 
+fn object_sends()
+    ensures { IsSend object.the_row }
+{
+    sends::<Object>()
+}
+
+fn object_shares()
+    ensures { IsSync object.the_row }
+{
+    shares::<Object>()
+}
+
+fn map_sends<V: Send + Sync>()
+    ensures { IsSend (map.the_row V.row) }
+{
+    sends::<SharedMap<V>>()
+}
+
 fn objects_sends()
     ensures { IsSend objects.the_row }
 {
+    object_sends();
+    object_shares();
+    map_sends::<Object>();
     sends::<Objects>()
 }
 
