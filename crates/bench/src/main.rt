@@ -2,20 +2,8 @@
 //! methods of its own.
 #![tactic(auto)]
 
-mod measure;
-mod mode;
-mod report;
-mod subject;
-mod table;
-#[cfg(test)]
-mod tests;
-mod workload;
-
-use crate::measure::RUNS;
-use crate::mode::Mode;
-use crate::report::report;
-use crate::workload::WORKLOADS;
 use anyhow::{Context, Result};
+use bench_table::{Mode, RUNS, WORKLOADS, report};
 use std::env;
 
 fn main(rt: HostRuntime) -> Result<()> {

@@ -1,7 +1,7 @@
 ghost use Rattle.std.specs.Prelude.{◌≡◌, ◌<◌, ◌≤◌, [], length};
 
-use crate::figure::{Figure, Mode};
 use anyhow::{Context, Result};
+use bench_table::{Figure, Mode};
 use commit_board::{Board, Seen, Writer};
 use object_store::ObjectName;
 use pg_log::{ClientId, Request, RequestNumber};

@@ -2,15 +2,12 @@
 #![tactic(auto)]
 
 mod board;
-mod figure;
 mod queues;
-#[cfg(test)]
-mod tests;
 
 use crate::board::{commits, looks};
-use crate::figure::Mode;
 use crate::queues::{pairs_in_four_threads, pairs_in_one_thread};
 use anyhow::{Context, Result};
+use bench_table::Mode;
 use std::env;
 
 fn main(rt: HostRuntime) -> Result<()> {

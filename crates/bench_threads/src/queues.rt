@@ -1,7 +1,7 @@
 ghost use Rattle.std.specs.Prelude.{◌≡◌, ◌<◌, length};
 
-use crate::figure::{Figure, Mode};
 use anyhow::{Context, Result};
+use bench_table::{Figure, Mode};
 use op_shards::{Op, OpShards, SendPass, TakePass};
 use std::alloc::Global;
 use std::sync::Wait;

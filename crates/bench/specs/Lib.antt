@@ -1,5 +1,0 @@
-pub mod Measure
-pub mod Mode
-pub mod Subject
-pub mod Table
-pub mod Workload

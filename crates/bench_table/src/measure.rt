@@ -1,0 +1,172 @@
+ghost use Rattle.std.specs.Prelude.{◌≡◌, ◌-◌, ◌^◌, ◌≤◌, min};
+ghost use Rattle.bench_table.specs.Measure.{picos_each};
+
+use crate::subject::Subject;
+use crate::workload::{Ready, steps};
+use anyhow::{Context, Result};
+use interp::ClassTable;
+use object_store::ObjectName;
+use pg_log::{Classes, ClientId, Group, GroupWork, Request, RequestNumber, with_group};
+use std::alloc::Global;
+use std::time::{Clock, Instant};
+use verifier::{VerifiedClass, verify};
+
+/// How often each time is taken for the table, of which the least counts.
+pub const RUNS: usize = 50;
+
+/// How many instructions or slots a measurement has, about.
+const UNITS: usize = 100_000;
+
+/// The calls of a measurement beside an object.
+const CALLS: usize = 1_000;
+
+/// The requests of a measurement of `append`.
+const REQUESTS: u32 = 4_096;
+
+/// The picoseconds that each of `count` took, where all took so many nanoseconds; at most 2^64 - 1.
+pub fn picos_each(nanos: u128, count: usize) -> u64
+    requires { 1 ≤ count }
+    ensures { result ≡ picos_each nanos count }
+{
+    let picos = nanos.saturating_mul(1000) / count as u128;
+    picos.min(u128::from(u64::MAX)) as u64
+}
+
+/// The least time of some measurements, in picoseconds.
+#[derive(Clone, Copy, Debug)]
+pub struct Least {
+    pub picos: u64,
+}
+
+impl Least {
+    /// Of no measurement: 2^64 - 1.
+    pub fn new() -> Least
+        ensures { result.picos ≡ 2 ^ 64 - 1 }
+    {
+        Least { picos: u64::MAX }
+    }
+
+    /// Notes a measurement, in which so many took so many nanoseconds.
+    pub fn note(&mut self, nanos: u128, count: usize)
+        requires { 1 ≤ count }
+        ensures { self.new.picos ≡ min self.old.picos (picos_each nanos count) }
+    {
+        self.picos = self.picos.min(picos_each(nanos, count));
+    }
+}
+
+/// The least picoseconds that a call of a method took, of so many runs.
+pub fn time_call<C: Clock>(alloc: Global, clock: &C, ready: &Ready, runs: usize) -> Result<u64> {
+    let calls = UNITS / ready.steps.max(1) + 1;
+    let mut least = Least::new();
+    for _ in 0..runs {
+        let start = Instant::now(clock)?;
+        for _ in 0..calls {
+            let _ = steps(alloc, &ready.class)?;
+        }
+        least.note(start.elapsed(clock)?.as_nanos(), calls);
+    }
+    Ok(least.picos)
+}
+
+/// The least picoseconds that a call beside an object took, of so many runs.
+pub fn time_beside<C: Clock>(
+    alloc: Global,
+    clock: &C,
+    subject: Subject,
+    runs: usize,
+) -> Result<u64> {
+    let beside = subject.ready(alloc)?;
+    let mut least = Least::new();
+    for _ in 0..runs {
+        let start = Instant::now(clock)?;
+        for _ in 0..CALLS {
+            let _ = beside.call(alloc)?;
+        }
+        least.note(start.elapsed(clock)?.as_nanos(), CALLS);
+    }
+    Ok(least.picos)
+}
+
+/// The least picoseconds that `verify` took of a method's class, of so many runs.
+pub fn time_verify<C: Clock>(alloc: Global, clock: &C, ready: &Ready, runs: usize) -> Result<u64> {
+    let passes = UNITS / ready.instructions.max(1) / 10 + 1;
+    let mut least = Least::new();
+    for _ in 0..runs {
+        let start = Instant::now(clock)?;
+        for _ in 0..passes {
+            let _ = verify(alloc, &ready.image)?;
+        }
+        least.note(start.elapsed(clock)?.as_nanos(), passes);
+    }
+    Ok(least.picos)
+}
+
+/// The least picoseconds that an `append` to a group took that has so many entries, of so many runs: of requests of one
+/// client for the method `f` of a class.
+pub fn time_append<C: Clock>(
+    alloc: Global,
+    clock: &C,
+    class: VerifiedClass,
+    behind: u32,
+    runs: usize,
+) -> Result<u64> {
+    let mut table = ClassTable::new(alloc);
+    let class = table.add(class)?;
+    let mut least = Least::new();
+    for _ in 0..runs {
+        let work = Appends {
+            clock,
+            behind,
+            requests: requests(alloc, class, behind.saturating_add(REQUESTS))?,
+        };
+        let taken = with_group(alloc, &table, work)?;
+        least.note(taken, REQUESTS as usize);
+    }
+    Ok(least.picos)
+}
+
+/// So many requests for the method `f` of a class, numbered from 1 on, the last first.
+fn requests(alloc: Global, class: usize, count: u32) -> Result<Vec<Request>> {
+    let mut requests = Vec::new(alloc);
+    for number in 0..count {
+        requests.push(Request::new(
+            ClientId::new(1).context("a client")?,
+            RequestNumber::new(count - number).context("a number")?,
+            ObjectName::new(alloc, "o")?,
+            class,
+            String::from_str(alloc, "f")?,
+            Vec::new(alloc),
+        ))?;
+    }
+    Ok(requests)
+}
+
+/// Appends requests to a group, and gives the nanoseconds that those took which came behind the first ones.
+#[derive(Drop)]
+struct Appends<'a, C> {
+    clock: &'a C,
+    behind: u32,
+    requests: Vec<Request>,
+}
+
+impl<T: Clock> GroupWork for Appends<'_, T> {
+    type Output = Result<u128>;
+
+    ghost gives = { λ _ _ _ _. Unit {0} };
+
+    fn work<C: Classes>(mut self, table: &ClassTable, mut group: Group<C>) -> Result<u128> {
+        for _ in 0..self.behind {
+            if let Some(request) = self.requests.pop() {
+                let _ = group.append(table, request)?;
+            }
+        }
+        let start = Instant::now(self.clock)?;
+        for _ in 0..REQUESTS {
+            if let Some(request) = self.requests.pop() {
+                let _ = group.append(table, request)?;
+            }
+        }
+        Ok(start.elapsed(self.clock)?.as_nanos())
+    }
+}

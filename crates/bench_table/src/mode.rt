@@ -1,0 +1,34 @@
+ghost use Rattle.std.specs.Prelude.{◌≡◌, map, string_bytes};
+ghost use Rattle.bench_table.specs.Mode.{mode_of, runs_of};
+
+/// What is measured, and printed.
+#[derive(Clone, Copy, Debug, PartialEq, Eq)]
+pub enum Mode {
+    /// Steps or counts alone, which are the same on every machine: each measurement runs once.
+    Dry,
+    /// The least time of several runs, too.
+    Timed,
+}
+
+impl Mode {
+    /// The mode that the words of a command line ask for, of which the first is the program's own name: none more for
+    /// `Timed`, `--dry` for `Dry`.
+    pub fn of(words: &[String]) -> Option<Mode>
+        ensures { result ≡ mode_of (map string_bytes words.now) }
+    {
+        match words {
+            [_] => Some(Mode::Timed),
+            [_, word] if word.as_str() == "--dry" => Some(Mode::Dry),
+            _ => None,
+        }
+    }
+    /// How often a figure's measurement runs.
+    pub fn runs(self) -> usize
+        ensures { result ≡ runs_of self }
+    {
+        match self {
+            Mode::Dry => 1,
+            Mode::Timed => 20,
+        }
+    }
+}

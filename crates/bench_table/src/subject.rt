@@ -1,0 +1,145 @@
+ghost use Rattle.std.specs.Prelude.{◌≡◌};
+ghost use Rattle.bench_table.specs.Subject.{subject_text};
+
+use crate::workload::class_of;
+use anyhow::Result;
+use interp::call;
+use object_store::{DATA_LIMIT, KEY_LIMIT, Object, StoreError, XATTR_LIMIT, calls};
+use std::alloc::Global;
+use verifier::{VerifiedClass, verify};
+
+/// A call beside an object.
+#[derive(Clone, Copy, Debug, PartialEq, Eq)]
+pub enum Subject {
+    /// A byte written to 1 KiB, and to 64 KiB.
+    WriteShort,
+    WriteLong,
+    /// A key of 8 bytes set beside one key, and beside 1,023 with values of 4,096 bytes.
+    SetFew,
+    SetMany,
+    /// Eight bytes read beside no object, and beside one at all limits.
+    ReadNone,
+    ReadFull,
+}
+
+/// The calls beside objects that are measured, in the table's order.
+pub const SUBJECTS: [Subject; 6] = [
+    Subject::WriteShort,
+    Subject::WriteLong,
+    Subject::SetFew,
+    Subject::SetMany,
+    Subject::ReadNone,
+    Subject::ReadFull,
+];
+
+/// `mov r2, r1`, `mov r1, 512`, `mov r3, 1`, `call 3`, `exit`.
+const WRITE: [u8; 40] = [
+    0xbf, 0x12, 0, 0, 0, 0, 0, 0, 0xb7, 0x01, 0, 0, 0, 2, 0, 0, 0xb7, 0x03, 0, 0, 1, 0, 0, 0, 0x85,
+    0x00, 0, 0, 3, 0, 0, 0, 0x95, 0x00, 0, 0, 0, 0, 0, 0,
+];
+
+/// `mov r2, 8`, `mov r3, r1`, `add r3, 8`, `mov r4, 8`, `call 10`, `exit`.
+const SET: [u8; 48] = [
+    0xb7, 0x02, 0, 0, 8, 0, 0, 0, 0xbf, 0x13, 0, 0, 0, 0, 0, 0, 0x07, 0x03, 0, 0, 8, 0, 0, 0, 0xb7,
+    0x04, 0, 0, 8, 0, 0, 0, 0x85, 0x00, 0, 0, 10, 0, 0, 0, 0x95, 0x00, 0, 0, 0, 0, 0, 0,
+];
+
+/// `mov r1, 0`, `mov r2, r10`, `add r2, -8`, `mov r3, 8`, `call 2`, `mov r0, 0`, `exit`.
+const READ: [u8; 56] = [
+    0xb7, 0x01, 0, 0, 0, 0, 0, 0, 0xbf, 0xa2, 0, 0, 0, 0, 0, 0, 0x07, 0x02, 0, 0, 0xf8, 0xff, 0xff,
+    0xff, 0xb7, 0x03, 0, 0, 8, 0, 0, 0, 0x85, 0x00, 0, 0, 2, 0, 0, 0, 0xb7, 0x00, 0, 0, 0, 0, 0, 0,
+    0x95, 0x00, 0, 0, 0, 0, 0, 0,
+];
+
+/// What every call is given: the byte, or a key and its value.
+const INPUT: [u8; 16] = *b"a key...a value.";
+
+impl Subject {
+    /// What the table calls it.
+    pub fn text(self) -> &'static str
+        ensures { result.now ≡ subject_text self }
+    {
+        match self {
+            Subject::WriteShort => "write a byte to 1 KiB",
+            Subject::WriteLong => "write a byte to 64 KiB",
+            Subject::SetFew => "map_set beside 1 key",
+            Subject::SetMany => "map_set beside 1023 keys",
+            Subject::ReadNone => "read beside no object",
+            Subject::ReadFull => "read beside a full one",
+        }
+    }
+
+    /// Its method's code.
+    fn code(self) -> &'static [u8] {
+        match self {
+            Subject::WriteShort | Subject::WriteLong => &WRITE,
+            Subject::SetFew | Subject::SetMany => &SET,
+            Subject::ReadNone | Subject::ReadFull => &READ,
+        }
+    }
+
+    /// The object that it is beside.
+    fn object(self, alloc: Global) -> Result<Option<Object>, StoreError> {
+        match self {
+            Subject::WriteShort => Ok(Some(of_length(alloc, 1024)?)),
+            Subject::WriteLong => Ok(Some(of_length(alloc, DATA_LIMIT)?)),
+            Subject::SetFew => Ok(Some(with_keys(alloc, of_length(alloc, 0)?, 1)?)),
+            Subject::SetMany => Ok(Some(with_keys(
+                alloc,
+                of_length(alloc, 0)?,
+                KEY_LIMIT as u16 - 1,
+            )?)),
+            Subject::ReadNone => Ok(None),
+            Subject::ReadFull => Ok(Some(full(alloc)?)),
+        }
+    }
+
+    /// Its class, and its object.
+    pub fn ready(self, alloc: Global) -> Result<Beside> {
+        let image = class_of(alloc, self.code(), 3, INPUT.len() as u16)?;
+        Ok(Beside {
+            class: verify(alloc, &image)?,
+            object: self.object(alloc)?,
+        })
+    }
+}
+
+/// A class with a method `f`, and the object that it is called beside.
+#[derive(Drop)]
+pub struct Beside {
+    class: VerifiedClass,
+    object: Option<Object>,
+}
+
+impl Beside {
+    /// Calls the method, and gives its code.
+    pub fn call(&self, alloc: Global) -> Result<i64> {
+        Ok(call(alloc, &self.class, "f", self.object.as_ref(), 1, &INPUT)?.code)
+    }
+}
+
+/// An object of so many bytes of data.
+fn of_length(alloc: Global, len: usize) -> Result<Object, StoreError> {
+    let data = vec![in alloc; 0x5au8; len]?;
+    calls::write(alloc, None, 0, &data)
+}
+
+/// An object with so many keys more, of two bytes with values of 4,096.
+fn with_keys(alloc: Global, object: Object, count: u16) -> Result<Object, StoreError> {
+    let value = [0x5a; 4096];
+    let mut object = object;
+    for n in 0..count {
+        object = calls::set_key(alloc, Some(&object), &n.to_be_bytes(), &value)?;
+    }
+    Ok(object)
+}
+
+/// An object at all limits.
+fn full(alloc: Global) -> Result<Object, StoreError> {
+    let value = [0x5a; 4096];
+    let mut object = with_keys(alloc, of_length(alloc, DATA_LIMIT)?, KEY_LIMIT as u16)?;
+    for n in 0..XATTR_LIMIT as u16 {
+        object = calls::set_xattr(alloc, Some(&object), &n.to_be_bytes(), &value)?;
+    }
+    Ok(object)
+}

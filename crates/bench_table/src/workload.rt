@@ -1,0 +1,243 @@
+ghost use Rattle.std.specs.Prelude.{◌≡◌, IfOk};
+ghost use Rattle.bench_table.specs.Workload.{code_bytes, first_length, IsClassOf, IsReady, RunsIn};
+
+use anyhow::Result;
+use bpf_decode::{ClassImage, Method, decode};
+use interp::call;
+use std::alloc::{AllocError, Global};
+use verifier::{VerifiedClass, verify};
+
+/// A slot's bytes (RFC 9669 section 3).
+type Slot = [u8; 8];
+
+/// A method that is measured: three slots, four more so many times, and `exit`. It reads no object, and takes no input.
+#[derive(Drop)]
+pub struct Workload {
+    /// What the table calls it.
+    pub name: &'static str,
+    pub head: [Slot; 3],
+    pub cycle: [Slot; 4],
+    pub rounds: usize,
+}
+
+/// A method that is ready to be measured.
+#[derive(Drop)]
+pub struct Ready {
+    /// The class whose one method it is.
+    pub image: ClassImage,
+    /// The same, verified.
+    pub class: VerifiedClass,
+    /// Its instructions, each of which takes one slot.
+    pub instructions: usize,
+    /// The instructions that a run executes.
+    pub steps: usize,
+}
+
+/// `exit`.
+const EXIT: Slot = [0x95, 0, 0, 0, 0, 0, 0, 0];
+
+/// `mov r0, 1`, `mov r6, 3`, `mov r7, 5`.
+const NUMBERS: [Slot; 3] = [
+    [0xb7, 0x00, 0, 0, 1, 0, 0, 0],
+    [0xb7, 0x06, 0, 0, 3, 0, 0, 0],
+    [0xb7, 0x07, 0, 0, 5, 0, 0, 0],
+];
+
+/// `add r0, 7`, `xor r0, r6`, `lsh r0, 1`, `sub r0, r7`.
+const ALU: [Slot; 4] = [
+    [0x07, 0x00, 0, 0, 7, 0, 0, 0],
+    [0xaf, 0x60, 0, 0, 0, 0, 0, 0],
+    [0x67, 0x00, 0, 0, 1, 0, 0, 0],
+    [0x1f, 0x70, 0, 0, 0, 0, 0, 0],
+];
+
+/// `mul r0, 65599`, `div r0, r6`, `mul r0, r7`, `div r0, 7`.
+const MUL_DIV: [Slot; 4] = [
+    [0x27, 0x00, 0, 0, 0x3f, 0, 1, 0],
+    [0x3f, 0x60, 0, 0, 0, 0, 0, 0],
+    [0x2f, 0x70, 0, 0, 0, 0, 0, 0],
+    [0x37, 0x00, 0, 0, 7, 0, 0, 0],
+];
+
+/// `ldxdw r0, [r10-8]`, `ldxw r4, [r10-16]`, `ldxh r5, [r10-24]`, `ldxb r8, [r10-32]`.
+const LOADS: [Slot; 4] = [
+    [0x79, 0xa0, 0xf8, 0xff, 0, 0, 0, 0],
+    [0x61, 0xa4, 0xf0, 0xff, 0, 0, 0, 0],
+    [0x69, 0xa5, 0xe8, 0xff, 0, 0, 0, 0],
+    [0x71, 0xa8, 0xe0, 0xff, 0, 0, 0, 0],
+];
+
+/// `mov r0, 0`, `mov r6, r10`, `add r6, -512`: register 6 points to the first byte of the stack.
+const STACK: [Slot; 3] = [
+    [0xb7, 0x00, 0, 0, 0, 0, 0, 0],
+    [0xbf, 0xa6, 0, 0, 0, 0, 0, 0],
+    [0x07, 0x06, 0, 0, 0x00, 0xfe, 0xff, 0xff],
+];
+
+/// `ldxb r4, [r6+0]`, `mul r0, 31`, `add r0, r4`, `add r6, 1`: one byte of the checksum.
+const CHECKSUM: [Slot; 4] = [
+    [0x71, 0x64, 0, 0, 0, 0, 0, 0],
+    [0x27, 0x00, 0, 0, 31, 0, 0, 0],
+    [0x0f, 0x40, 0, 0, 0, 0, 0, 0],
+    [0x07, 0x06, 0, 0, 1, 0, 0, 0],
+];
+
+/// `jeq r6, 3, +0`, `jne r6, 3, +0`, `jlt r6, r7, +0`, `jge r6, r7, +0`: every other one is taken.
+const BRANCHES: [Slot; 4] = [
+    [0x15, 0x06, 0, 0, 3, 0, 0, 0],
+    [0x55, 0x06, 0, 0, 3, 0, 0, 0],
+    [0xad, 0x76, 0, 0, 0, 0, 0, 0],
+    [0x3d, 0x76, 0, 0, 0, 0, 0, 0],
+];
+
+/// `jsgt r0, 0, +2`, `add r0, 1`, `ja +1`, `add r0, -1`: its two sides in turn, of two and of three steps.
+const DIAMOND: [Slot; 4] = [
+    [0x65, 0x00, 2, 0, 0, 0, 0, 0],
+    [0x07, 0x00, 0, 0, 1, 0, 0, 0],
+    [0x05, 0x00, 1, 0, 0, 0, 0, 0],
+    [0x07, 0x00, 0, 0, 0xff, 0xff, 0xff, 0xff],
+];
+
+/// `ldxb r4, [r6+0]`, `mov r5, r6`, `add r5, r4`, `ldxb r0, [r5+0]`: a place that is a range.
+const RANGES: [Slot; 4] = [
+    [0x71, 0x64, 0, 0, 0, 0, 0, 0],
+    [0xbf, 0x65, 0, 0, 0, 0, 0, 0],
+    [0x0f, 0x45, 0, 0, 0, 0, 0, 0],
+    [0x71, 0x50, 0, 0, 0, 0, 0, 0],
+];
+
+/// `ldxdw r4, [r6+0]`, `jgt r4, 511, +2`, `add r4, r6`, `ldxb r0, [r4+0]`: a place that a jump has checked.
+const CHECKED: [Slot; 4] = [
+    [0x79, 0x64, 0, 0, 0, 0, 0, 0],
+    [0x25, 0x04, 2, 0, 0xff, 1, 0, 0],
+    [0x0f, 0x64, 0, 0, 0, 0, 0, 0],
+    [0x71, 0x40, 0, 0, 0, 0, 0, 0],
+];
+
+/// The methods that are measured, in the table's order. What the first takes is what a call costs beside its steps.
+pub const WORKLOADS: [Workload; 10] = [
+    Workload {
+        name: "call",
+        head: NUMBERS,
+        cycle: ALU,
+        rounds: 0,
+    },
+    Workload {
+        name: "alu_100",
+        head: NUMBERS,
+        cycle: ALU,
+        rounds: 24,
+    },
+    Workload {
+        name: "alu_4000",
+        head: NUMBERS,
+        cycle: ALU,
+        rounds: 999,
+    },
+    Workload {
+        name: "mul_div",
+        head: NUMBERS,
+        cycle: MUL_DIV,
+        rounds: 249,
+    },
+    Workload {
+        name: "loads",
+        head: NUMBERS,
+        cycle: LOADS,
+        rounds: 249,
+    },
+    Workload {
+        name: "checksum",
+        head: STACK,
+        cycle: CHECKSUM,
+        rounds: 512,
+    },
+    Workload {
+        name: "branches",
+        head: NUMBERS,
+        cycle: BRANCHES,
+        rounds: 249,
+    },
+    Workload {
+        name: "diamonds",
+        head: NUMBERS,
+        cycle: DIAMOND,
+        rounds: 1000,
+    },
+    Workload {
+        name: "ranges",
+        head: STACK,
+        cycle: RANGES,
+        rounds: 249,
+    },
+    Workload {
+        name: "checked",
+        head: STACK,
+        cycle: CHECKED,
+        rounds: 249,
+    },
+];
+
+impl Workload {
+    /// Its code.
+    fn code(&self, alloc: Global) -> Result<Vec<u8>, AllocError>
+        ensures { IfOk result (λ v. v.items ≡ code_bytes self.now) }
+    {
+        let cycles = self.cycle.as_flattened().repeat(alloc, self.rounds)?;
+        let mut bytes = Vec::from_slice(alloc, self.head.as_flattened())?;
+        bytes.extend_from_slice(&cycles)?;
+        bytes.extend_from_slice(&EXIT)?;
+        Ok(bytes)
+    }
+
+    /// A class of one method, `f`, which has that code.
+    fn image(&self, alloc: Global) -> Result<ClassImage>
+        ensures { IfOk result (λ c. IsClassOf (code_bytes self.now) 1 0 c) }
+    {
+        class_of(alloc, &self.code(alloc)?, 1, 0)
+    }
+
+    /// The method in a class of its own, verified and run once.
+    pub fn ready(&self, alloc: Global) -> Result<Ready>
+        ensures { IfOk result (IsReady self.now) }
+    {
+        let image = self.image(alloc)?;
+        let class = verify(alloc, &image)?;
+        let instructions = instructions(&class);
+        let steps = steps(alloc, &class)?;
+        Ok(Ready {
+            image,
+            class,
+            instructions,
+            steps,
+        })
+    }
+}
+
+/// A class of one method, `f`, which has that code, flags and in_cap, and no output.
+pub fn class_of(alloc: Global, code: &[u8], flags: u8, in_cap: u16) -> Result<ClassImage>
+    ensures { IfOk result (λ c. IsClassOf code.now flags in_cap c) }
+{
+    let code = decode(alloc, code)?;
+    let mut methods = Vec::new(alloc);
+    methods.push(Method::new(String::from_str(alloc, "f")?, flags, in_cap, 0, code))?;
+    Ok(ClassImage::new(methods)?)
+}
+
+/// How many instructions the class's first method has.
+fn instructions(class: &VerifiedClass) -> usize
+    ensures { result ≡ first_length class.now }
+{
+    match class.methods() {
+        [first, ..] => first.count(),
+        [] => 0,
+    }
+}
+
+/// How many instructions a run of the class's method `f` executes, beside no object, for client 1, on no input.
+pub fn steps(alloc: Global, class: &VerifiedClass) -> Result<usize>
+    ensures { IfOk result (λ n. RunsIn class.now n) }
+{
+    let outcome = call(alloc, class, "f", None, 1, &[])?;
+    Ok(outcome.steps)
+}
