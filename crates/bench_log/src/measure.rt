@@ -1,3 +1,5 @@
+ghost use mathlib.Core.List.{IsPrefix};
+
 use anyhow::{Context, Result};
 use builtin_classes::load_lock;
 use interp::ClassTable;
@@ -54,7 +56,38 @@ fn request(alloc: Global, client: u32, number: u32) -> Result<Request> {
     ))
 }
 
-/// Replays one list, and adopts the other and it in turn.
+/// The nanoseconds of one replay of a list, and of one adoption of the other.
+fn once<C: Classes, T: Clock>(
+    clock: &T,
+    alloc: Global,
+    table: &ClassTable,
+    lists: (&[Request], &[Request]),
+) -> Result<Times>
+    requires { IsPrefix table.now C.classes }
+{
+    let start = Instant::now(clock)?;
+    let mut group = Group::<C>::replay(alloc, table, lists.0)?;
+    then_adopt(clock, table, &mut group, start, lists.1)
+}
+
+/// The same, of a replay that began at `start` and has just ended.
+fn then_adopt<C: Classes, T: Clock>(
+    clock: &T,
+    table: &ClassTable,
+    group: &mut Group<C>,
+    start: Instant,
+    list: &[Request],
+) -> Result<Times>
+    requires { IsPrefix table.now C.classes }
+{
+    let replay = start.elapsed(clock)?.as_nanos();
+    let start = Instant::now(clock)?;
+    let _ = group.adopt(table, list)?;
+    let adopt = start.elapsed(clock)?.as_nanos();
+    Ok(Times { replay, adopt })
+}
+
+/// Replays one list, and adopts the other, again and again.
 #[derive(Drop)]
 struct Measures<'a, T> {
     clock: &'a T,
@@ -70,18 +103,16 @@ impl<T: Clock> GroupWork for Measures<'_, T> {
 
     fn work<C: Classes>(self, table: &ClassTable, group: Group<C>) -> Result<Times> {
         let _ = group;
-        let mut times = Times {
+        let lists = (self.first.as_slice(), self.second.as_slice());
+        let mut least = Times {
             replay: u128::MAX,
             adopt: u128::MAX,
         };
         for _ in 0..RUNS {
-            let start = Instant::now(self.clock)?;
-            let mut group = Group::<C>::replay(self.alloc, table, &self.first)?;
-            times.replay = times.replay.min(start.elapsed(self.clock)?.as_nanos());
-            let start = Instant::now(self.clock)?;
-            let _ = group.adopt(table, &self.second)?;
-            times.adopt = times.adopt.min(start.elapsed(self.clock)?.as_nanos());
+            let times = once::<C, T>(self.clock, self.alloc, table, lists)?;
+            least.replay = least.replay.min(times.replay);
+            least.adopt = least.adopt.min(times.adopt);
         }
-        Ok(times)
+        Ok(least)
     }
 }
