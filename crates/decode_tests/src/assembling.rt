@@ -21,24 +21,22 @@ fn register(rt: &impl Abort, number: u8) -> Register {
 
 /// The text of a row, where `/` stands for the end of a line.
 fn lines_of<R: Abort>(rt: &R, alloc: Global, row: &str) -> String {
-    let mut text = String::new(alloc);
-    let mut parts = row.split('/');
-    text.push_str(parts.next().unwrap_or(""))
-        .expect(rt, "memory");
-    for part in parts {
-        text.push_str("\n").expect(rt, "memory");
-        text.push_str(part).expect(rt, "memory");
-    }
-    text
+    row.replace(alloc, '/', "\n").expect(rt, "memory")
+}
+
+/// The instructions' bytes are read as the same instructions.
+fn is_read_again(rt: &impl Abort, alloc: Global, insns: &[Insn]) {
+    let bytes = encode(alloc, insns).expect(rt, "memory");
+    let again = decode(alloc, &bytes).expect(rt, "instructions");
+    assert!(rt; again.as_slice() == insns);
 }
 
 /// The text is assembled, and the bytes that it gives are read and printed as `canonical`.
 fn reads(rt: &impl Abort, alloc: Global, text: &str, canonical: &str) {
     let insns = assemble(alloc, text).expect(rt, "instructions");
-    let bytes = encode(alloc, &insns).expect(rt, "memory");
-    let again = decode(alloc, &bytes).expect(rt, "instructions");
+    is_read_again(rt, alloc, &insns);
     let printed = disassemble(alloc, &insns).expect(rt, "memory");
-    assert!(rt; again.as_slice() == insns.as_slice() && printed.as_str() == canonical);
+    assert!(rt; printed.as_str() == canonical);
 }
 
 /// The text is refused so.
@@ -71,9 +69,9 @@ fn lines(
     for word in words {
         for ending in endings {
             for operand in operands {
-                for part in [*word, *ending, *operand] {
-                    text.push_str(part)?;
-                }
+                text.push_str(word)?;
+                text.push_str(ending)?;
+                text.push_str(operand)?;
             }
         }
     }
@@ -247,18 +245,22 @@ const REFUSED: &str = "1 Range
 2 Operand mov r0, 1/mov r0/foo
 ";
 
-/// A fault, its line, and the text that has it.
-fn row_of<R: Abort>(rt: &R, alloc: Global, row: &str) -> (AsmError, String) {
-    let (line, rest) = row.split_once(" ").expect(rt, "a line");
-    let (fault, text) = rest.split_once(" ").expect(rt, "a fault");
-    let fault = match fault {
+fn fault_of(name: &str) -> AsmFault {
+    match name {
         "Word" => AsmFault::Word,
         "Operand" => AsmFault::Operand,
         "Range" => AsmFault::Range,
         "Label" => AsmFault::Label,
         _ => AsmFault::NoMemory,
-    };
+    }
+}
+
+/// A fault, its line, and the text that has it.
+fn row_of<R: Abort>(rt: &R, alloc: Global, row: &str) -> (AsmError, String) {
+    let (line, rest) = row.split_once(" ").expect(rt, "a line");
+    let (fault, text) = rest.split_once(" ").expect(rt, "a fault");
     let line = line.parse::<usize>().expect(rt, "a number");
+    let fault = fault_of(fault);
     (AsmError { line, fault }, lines_of(rt, alloc, text))
 }
 

@@ -1,4 +1,4 @@
-use crate::folder::{Folder, run_on};
+use crate::folder::{only_prints, with_repeated};
 use crate::script::prints;
 use std::process::Abort;
 use std::test::Fail;
@@ -60,20 +60,19 @@ fn a_bad_line_is_the_last(rt: HostRuntime) -> Result<(), Fail> {
     Ok(())
 }
 
-/// How the request is answered whose object's name has so many bytes.
-fn asks_beside<R: Abort + AllocGlobal>(rt: &R, length: usize, answer: &str) -> Result<(), Fail> {
-    let name = "a".repeat(rt.alloc(), length)?;
-    let mut events = String::from_str(rt.alloc(), "req 1 1 1 ")?;
-    events.push_str(&name)?;
-    events.push_str(" lock lock -\n")?;
-    let mut folder = Folder::of(rt.alloc(), "", events.as_bytes())?;
-    let ended = run_on(rt.alloc(), &["sim", "text"], &mut folder)?;
-    assert!(rt; ended.printed.as_slice() == answer.as_bytes(), "{length}");
-    Ok(())
+/// How the request is answered whose object's name has so many bytes, and how the run ends.
+fn asks_beside<R: Abort + AllocGlobal>(
+    rt: &R,
+    length: usize,
+    answer: &str,
+    status: u8,
+) -> Result<(), Fail> {
+    let events = with_repeated(rt.alloc(), "req 1 1 1 ", "a", length, " lock lock -\n")?;
+    only_prints(rt, &["sim", "text"], "", events.as_bytes(), answer, status)
 }
 
 #[test]
 fn an_object_has_a_name_of_255_bytes(rt: HostRuntime) -> Result<(), Fail> {
-    asks_beside(&rt, 255, "refused 1 NotPrimary\n")?;
-    asks_beside(&rt, 256, "line 1: bad\n")
+    asks_beside(&rt, 255, "refused 1 NotPrimary\n", 0)?;
+    asks_beside(&rt, 256, "line 1: bad\n", 1)
 }

@@ -1,4 +1,4 @@
-use crate::folder::{Folder, run_on};
+use crate::folder::only_prints;
 use std::test::Fail;
 
 /// An acknowledgement that is lost, of examples/lost_ack.sim.
@@ -84,14 +84,9 @@ line 3: bad
 #[test]
 fn a_run_is_drawn(rt: HostRuntime) -> Result<(), Fail> {
     for row in &ROWS {
-        let mut folder = Folder::of(rt.alloc(), "", row.events.as_bytes())?;
-        let ended = run_on(rt.alloc(), &["sim", "--trace", "text"], &mut folder)?;
-        let printed = row.printed;
-        assert!(rt; ended.printed.as_slice() == printed.as_bytes(), "{printed}");
-        assert!(rt;
-            ended.status == row.status && folder.writes == 0,
-            "{printed}"
-        );
+        let words = ["sim", "--trace", "text"];
+        let events = row.events.as_bytes();
+        only_prints(&rt, &words, "", events, row.printed, row.status)?;
     }
     Ok(())
 }

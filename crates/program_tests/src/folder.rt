@@ -5,6 +5,7 @@ use radoscls_program::program;
 use std::alloc::Global;
 use std::cell::Cell;
 use std::io::{self, ErrorKind};
+use std::process::Abort;
 use std::test::Fail;
 
 /// `mov r0, 0`, `exit`.
@@ -107,4 +108,52 @@ pub fn run_on(alloc: Global, words: &[&str], folder: &mut Folder) -> Result<Ende
         printed,
         explained,
     })
+}
+
+/// Runs the program on those words and that folder: it prints that, explains nothing, and ends with that status.
+pub fn prints_on<R: Abort + AllocGlobal>(
+    rt: &R,
+    words: &[&str],
+    folder: &mut Folder,
+    printed: &str,
+    status: u8,
+) -> Result<(), Fail> {
+    let ended = run_on(rt.alloc(), words, folder)?;
+    assert!(rt; ended.printed.as_slice() == printed.as_bytes(), "{printed}");
+    assert!(rt;
+        ended.status == status && ended.explained.is_empty(),
+        "{printed}"
+    );
+    Ok(())
+}
+
+/// The same on a folder with that image, in hexadecimal, and that text; and no file is written.
+pub fn only_prints<R: Abort + AllocGlobal>(
+    rt: &R,
+    words: &[&str],
+    image: &str,
+    text: &[u8],
+    printed: &str,
+    status: u8,
+) -> Result<(), Fail> {
+    let mut folder = Folder::of(rt.alloc(), image, text)?;
+    prints_on(rt, words, &mut folder, printed, status)?;
+    assert!(rt; folder.writes == 0, "{printed}");
+    Ok(())
+}
+
+/// A text that begins with the first part, has the next so many times, and ends with the last.
+pub fn with_repeated(
+    alloc: Global,
+    first: &str,
+    part: &str,
+    count: usize,
+    last: &str,
+) -> Result<String, Fail> {
+    let mut text = String::from_str(alloc, first)?;
+    for _ in 0..count {
+        text.push_str(part)?;
+    }
+    text.push_str(last)?;
+    Ok(text)
 }

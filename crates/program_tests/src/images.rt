@@ -1,4 +1,4 @@
-use crate::folder::{Folder, TWO, run_on};
+use crate::folder::{Folder, TWO, only_prints, prints_on, with_repeated};
 use std::process::Abort;
 use std::test::Fail;
 
@@ -293,18 +293,10 @@ static SHOWN: [Row; 6] = [
     },
 ];
 
-/// Whether each row prints what it should, ends so, and writes no file.
+/// Each row prints what it should, ends so, and writes no file.
 fn passes<R: Abort + AllocGlobal>(rt: &R, rows: &[Row]) -> Result<(), Fail> {
     for row in rows {
-        let mut folder = Folder::of(rt.alloc(), row.image, b"")?;
-        let ended = run_on(rt.alloc(), row.words, &mut folder)?;
-        let printed = row.printed;
-        assert!(rt; ended.printed.as_slice() == printed.as_bytes(), "{printed}");
-        assert_eq!(rt; ended.status, row.status, "{printed}");
-        assert!(rt;
-            ended.explained.is_empty() && folder.writes == 0,
-            "{printed}"
-        );
+        only_prints(rt, row.words, row.image, b"", row.printed, row.status)?;
     }
     Ok(())
 }
@@ -328,29 +320,19 @@ fn disassembles(rt: HostRuntime) -> Result<(), Fail> {
 fn disassembles_a_long_text(rt: HostRuntime) -> Result<(), Fail> {
     let alloc = rt.alloc();
     // 500 times `mov r0, 0`, and `exit`
-    let mut image = String::from_str(alloc, "52434c31 0100 0000 01 66 01 0000 0000 f501")?;
-    image.push_str(&"b700000000000000".repeat(alloc, 500)?)?;
-    image.push_str("9500000000000000")?;
-    let mut printed = String::from_str(alloc, ".method f r 0 0\n")?;
-    printed.push_str(&"mov r0, 0\n".repeat(alloc, 500)?)?;
-    printed.push_str("exit\n")?;
-    let mut folder = Folder::of(alloc, &image, b"")?;
-    let ended = run_on(alloc, &["dis", "image"], &mut folder)?;
-    assert!(rt; ended.printed.as_slice() == printed.as_bytes());
-    assert_eq!(rt; ended.status, 0);
-    Ok(())
+    let head = "52434c31 0100 0000 01 66 01 0000 0000 f501";
+    let image = with_repeated(alloc, head, "b700000000000000", 500, "9500000000000000")?;
+    let printed = with_repeated(alloc, ".method f r 0 0\n", "mov r0, 0\n", 500, "exit\n")?;
+    only_prints(&rt, &["dis", "image"], &image, b"", &printed, 0)
 }
 
 /// Bytes behind an image, more of them than an image has.
 #[test]
 fn reads_no_more_than_an_image_has(rt: HostRuntime) -> Result<(), Fail> {
-    let alloc = rt.alloc();
-    let mut image = String::from_str(alloc, TWO)?;
-    image.push_str(&"00".repeat(alloc, 1_100_000)?)?;
-    let mut folder = Folder::of(alloc, &image, b"")?;
-    let ended = run_on(alloc, &["verify", "image"], &mut folder)?;
+    let image = with_repeated(rt.alloc(), TWO, "00", 1_100_000, "")?;
+    let mut folder = Folder::of(rt.alloc(), &image, b"")?;
     let printed = "image refused after 1 methods: 11 Trailing\n";
-    assert!(rt; ended.printed.as_slice() == printed.as_bytes());
+    prints_on(&rt, &["verify", "image"], &mut folder, printed, 1)?;
     assert_eq!(rt; folder.most_read.get(), 1_050_889);
     Ok(())
 }

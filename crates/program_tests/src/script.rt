@@ -1,6 +1,6 @@
 //! Files of events with what they print, as one text: an event stands behind `>`, and below it the lines that it comes to.
 
-use crate::folder::{Folder, run_on};
+use crate::folder::only_prints;
 use std::alloc::Global;
 use std::process::Abort;
 use std::test::Fail;
@@ -43,10 +43,6 @@ pub fn prints<R: Abort + AllocGlobal>(rt: &R, texts: &[&str], status: u8) -> Res
     for text in texts {
         script.add(text)?;
     }
-    let mut folder = Folder::of(rt.alloc(), "", script.events.as_bytes())?;
-    let ended = run_on(rt.alloc(), &["sim", "text"], &mut folder)?;
-    let printed = script.printed.as_str();
-    assert!(rt; ended.printed.as_slice() == printed.as_bytes(), "{printed}");
-    assert!(rt; ended.status == status && folder.writes == 0, "{printed}");
-    Ok(())
+    let events = script.events.as_bytes();
+    only_prints(rt, &["sim", "text"], "", events, &script.printed, status)
 }

@@ -1,7 +1,9 @@
 use crate::folder::{Folder, TWO, run_on};
 use class_tool::Printer;
 use radoscls_program::program;
+use std::alloc::Global;
 use std::io::{self, ErrorKind, Write};
+use std::process::Abort;
 use std::test::Fail;
 
 /// Words that ask for nothing that the program does, or for help.
@@ -54,13 +56,17 @@ static USAGES: [&[&str]; 26] = [
     ],
 ];
 
+/// Whether the program prints nothing of those words, explains its use, and ends with 2.
+fn explains(alloc: Global, words: &[&str], folder: &mut Folder) -> Result<bool, Fail> {
+    let ended = run_on(alloc, words, folder)?;
+    Ok(ended.status == 2 && ended.printed.is_empty() && !ended.explained.is_empty())
+}
+
 #[test]
 fn explains_its_use(rt: HostRuntime) -> Result<(), Fail> {
     let mut folder = Folder::of(rt.alloc(), TWO, b"")?;
     for words in USAGES {
-        let ended = run_on(rt.alloc(), words, &mut folder)?;
-        assert_eq!(rt; ended.status, 2);
-        assert!(rt; ended.printed.is_empty() && !ended.explained.is_empty());
+        assert!(rt; explains(rt.alloc(), words, &mut folder)?);
     }
     assert_eq!(rt; folder.writes, 0);
     Ok(())
@@ -111,27 +117,48 @@ static EVENTS: [(usize, bool, u8); 5] = [
     (26, false, 1),
 ];
 
+/// Runs the program on that text, where standard output is so limited: it ends so, and standard output has failed where
+/// the status is 1.
+fn ends_with<R: Abort + AllocGlobal>(
+    rt: &R,
+    words: &[&str],
+    text: &str,
+    limited: Limited,
+    want: u8,
+) -> Result<(), Fail> {
+    let room = limited.room;
+    let mut err = Limited {
+        room: 0,
+        flushes: limited.flushes,
+    };
+    let mut folder = Folder::of(rt.alloc(), TWO, text.as_bytes())?;
+    let mut out = Printer::new(limited);
+    let status = program(rt.alloc(), words, &mut folder, &mut out, &mut err);
+    assert_eq!(rt; status, want, "{room}");
+    assert_eq!(rt; out.has_failed(), want == 1, "{room}");
+    Ok(())
+}
+
 #[test]
 fn an_event_fails_where_standard_output_does(rt: HostRuntime) -> Result<(), Fail> {
+    let words = ["radoscls", "sim", "text"];
     for (room, flushes, want) in EVENTS {
-        let mut folder = Folder::of(rt.alloc(), TWO, b"map 1\nmap 2\n")?;
-        let mut out = Printer::new(Limited { room, flushes });
-        let mut err = Limited { room: 0, flushes };
-        let words = ["radoscls", "sim", "text"];
-        let status = program(rt.alloc(), &words, &mut folder, &mut out, &mut err);
-        assert_eq!(rt; (status, out.has_failed()), (want, want == 1), "{room}");
+        ends_with(
+            &rt,
+            &words,
+            "map 1\nmap 2\n",
+            Limited { room, flushes },
+            want,
+        )?;
     }
     Ok(())
 }
 
 #[test]
 fn fails_where_standard_output_does(rt: HostRuntime) -> Result<(), Fail> {
+    let text = ".method f r 0 0\nexit\n";
     for (words, room, flushes, want) in LIMITS {
-        let mut folder = Folder::of(rt.alloc(), TWO, b".method f r 0 0\nexit\n")?;
-        let mut out = Printer::new(Limited { room, flushes });
-        let mut err = Limited { room: 0, flushes };
-        let status = program(rt.alloc(), words, &mut folder, &mut out, &mut err);
-        assert_eq!(rt; (status, out.has_failed()), (want, want == 1), "{room}");
+        ends_with(&rt, words, text, Limited { room, flushes }, want)?;
     }
     Ok(())
 }

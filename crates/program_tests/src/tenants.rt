@@ -1,5 +1,6 @@
-use crate::folder::{Ended, Folder, TWO, run_on};
+use crate::folder::{Ended, Folder, TWO, only_prints, run_on};
 use std::alloc::Global;
+use std::fmt::Write;
 use std::test::Fail;
 
 /// A class whose method `hello` answers five bytes.
@@ -133,41 +134,35 @@ static ROWS: [Row; 12] = [
 #[test]
 fn tenants_classes_are_asked(rt: HostRuntime) -> Result<(), Fail> {
     for row in &ROWS {
-        let mut folder = Folder::of(rt.alloc(), row.image, row.events.as_bytes())?;
-        let ended = run_on(rt.alloc(), row.words, &mut folder)?;
-        let printed = row.printed;
-        assert!(rt; ended.printed.as_slice() == printed.as_bytes(), "{printed}");
-        assert!(rt;
-            ended.status == row.status && folder.writes == 0,
-            "{printed}"
-        );
+        let events = row.events.as_bytes();
+        only_prints(&rt, row.words, row.image, events, row.printed, row.status)?;
     }
     Ok(())
 }
 
 #[test]
 fn a_file_of_events_is_utf8(rt: HostRuntime) -> Result<(), Fail> {
-    let mut folder = Folder::of(rt.alloc(), TWO, b"map 1\n# \xff\n")?;
-    let ended = run_on(rt.alloc(), &["sim", "text"], &mut folder)?;
-    assert!(rt; ended.printed.as_slice() == "cannot read\n".as_bytes());
-    assert_eq!(rt; ended.status, 1);
-    Ok(())
+    let events = b"map 1\n# \xff\n";
+    only_prints(&rt, &["sim", "text"], TWO, events, "cannot read\n", 1)
+}
+
+/// The words of `sim` with so many classes of one image.
+fn line_of_classes(alloc: Global, count: usize) -> Result<String, Fail> {
+    let mut line = String::from_str(alloc, "sim")?;
+    for number in 0..count {
+        write!(line, " --class=c{number}=image")?;
+    }
+    line.push_str(" text")?;
+    Ok(line)
 }
 
 /// `sim` with so many classes of one image, of which the last is asked.
 fn with_classes(alloc: Global, count: usize) -> Result<Ended, Fail> {
-    let mut words = vec![in alloc; String::from_str(alloc, "sim")?]?;
-    for number in 0..count {
-        words.push(format!(in alloc; "--class=c{number}=image")?)?;
-    }
-    words.push(String::from_str(alloc, "text")?)?;
+    let line = line_of_classes(alloc, count)?;
+    let words: Vec<&str> = line.split_whitespace().collect(alloc)?;
     let events = "map 1\nsee 1 1\ndeliver 1\ndeliver 2\nreq 1 1 1 a c61 hello -\n";
     let mut folder = Folder::of(alloc, HELLO, events.as_bytes())?;
-    let mut asked = Vec::new(alloc);
-    for word in &words {
-        asked.push(word.as_str())?;
-    }
-    run_on(alloc, &asked, &mut folder)
+    run_on(alloc, &words, &mut folder)
 }
 
 #[test]

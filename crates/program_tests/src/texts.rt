@@ -1,5 +1,4 @@
-use crate::folder::{Ended, Folder, TWO, bytes_of, run_on};
-use std::alloc::Global;
+use crate::folder::{Folder, TWO, bytes_of, only_prints, prints_on};
 use std::test::Fail;
 
 /// The text of the two instructions.
@@ -23,6 +22,8 @@ const LOOSE_TEXT: &str =
 const LOOSE: &str = "52434c31 0100 0000 01 66 01 0000 0000 0400 b700000000000000 1500010000000000 \
     b700000001000000 9500000000000000";
 
+const ASM: [&str; 3] = ["asm", "text", "out"];
+
 /// Texts and their images.
 static ASSEMBLED: [(&str, &str); 3] = [(TWO_TEXT, TWO), (KEEP_TEXT, KEEP), (LOOSE_TEXT, LOOSE)];
 
@@ -45,17 +46,11 @@ static FAILURES: [(&[&str], &str); 2] = [
     (&["asm", "text", "full"], "cannot write\n"),
 ];
 
-/// Runs `asm` on that text.
-fn assemble(alloc: Global, folder: &mut Folder) -> Result<Ended, Fail> {
-    run_on(alloc, &["asm", "text", "out"], folder)
-}
-
 #[test]
 fn assembles(rt: HostRuntime) -> Result<(), Fail> {
     for (text, image) in &ASSEMBLED {
         let mut folder = Folder::of(rt.alloc(), "", text.as_bytes())?;
-        let ended = assemble(rt.alloc(), &mut folder)?;
-        assert!(rt; ended.status == 0 && ended.printed.is_empty(), "{text}");
+        prints_on(&rt, &ASM, &mut folder, "", 0)?;
         assert!(rt; folder.out == bytes_of(rt.alloc(), image)?, "{text}");
         assert!(rt;
             folder.writes == 1 && folder.text.as_slice() == text.as_bytes(),
@@ -68,10 +63,7 @@ fn assembles(rt: HostRuntime) -> Result<(), Fail> {
 #[test]
 fn refuses_texts(rt: HostRuntime) -> Result<(), Fail> {
     for (text, printed) in &REFUSED {
-        let mut folder = Folder::of(rt.alloc(), "", text.as_bytes())?;
-        let ended = assemble(rt.alloc(), &mut folder)?;
-        assert!(rt; ended.status == 1 && folder.writes == 0, "{text}");
-        assert!(rt; ended.printed.as_slice() == printed.as_bytes(), "{text}");
+        only_prints(&rt, &ASM, "", text.as_bytes(), printed, 1)?;
     }
     Ok(())
 }
@@ -79,29 +71,23 @@ fn refuses_texts(rt: HostRuntime) -> Result<(), Fail> {
 #[test]
 fn names_files_that_fail(rt: HostRuntime) -> Result<(), Fail> {
     for (words, printed) in &FAILURES {
-        let mut folder = Folder::of(rt.alloc(), TWO, TWO_TEXT.as_bytes())?;
-        let ended = run_on(rt.alloc(), words, &mut folder)?;
-        assert!(rt; ended.status == 1 && folder.writes == 0, "{printed}");
-        assert!(rt; ended.printed.as_slice() == printed.as_bytes(), "{printed}");
+        only_prints(&rt, words, TWO, TWO_TEXT.as_bytes(), printed, 1)?;
     }
     Ok(())
 }
 
 #[test]
 fn a_text_is_utf8(rt: HostRuntime) -> Result<(), Fail> {
-    let mut folder = Folder::of(rt.alloc(), "", b".method f r 0 0\nexit ; \xff\n")?;
-    let ended = assemble(rt.alloc(), &mut folder)?;
-    assert!(rt; ended.status == 1 && folder.writes == 0);
-    assert!(rt; ended.printed.as_slice() == "cannot read\n".as_bytes());
-    Ok(())
+    let text = b".method f r 0 0\nexit ; \xff\n";
+    only_prints(&rt, &ASM, "", text, "cannot read\n", 1)
 }
 
 /// The file of the image may be that of the text.
 #[test]
 fn out_may_be_in(rt: HostRuntime) -> Result<(), Fail> {
     let mut folder = Folder::of(rt.alloc(), "", LOOSE_TEXT.as_bytes())?;
-    let ended = run_on(rt.alloc(), &["asm", "text", "text"], &mut folder)?;
-    assert!(rt; ended.status == 0 && folder.writes == 1);
+    prints_on(&rt, &["asm", "text", "text"], &mut folder, "", 0)?;
+    assert_eq!(rt; folder.writes, 1);
     assert!(rt; folder.text == bytes_of(rt.alloc(), LOOSE)?);
     Ok(())
 }

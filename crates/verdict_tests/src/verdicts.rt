@@ -8,13 +8,22 @@ mod longest;
 mod methods;
 mod ranges;
 
-use bpf_decode::{ClassImage, Method, decode};
+use bpf_decode::{ClassImage, Insn, Method, decode};
 use std::alloc::Global;
 use std::process::Abort;
 use std::test::Fail;
 use verifier::{Refusal, verify};
 
-/// A method of that name, by its code's slots: each is eight bytes, 16 hexadecimal digits in a text's order.
+/// The instructions of slots: each is eight bytes, 16 hexadecimal digits in a text's order.
+fn instructions(alloc: Global, code: &[u64]) -> Result<Vec<Insn>, Fail> {
+    let mut bytes = Vec::new(alloc);
+    for slot in code {
+        bytes.extend_from_slice(&slot.to_be_bytes())?;
+    }
+    Ok(decode(alloc, &bytes)?)
+}
+
+/// A method of that name, by its code's slots.
 fn method(
     alloc: Global,
     name: &str,
@@ -23,12 +32,9 @@ fn method(
     in_cap: u16,
     out_cap: u16,
 ) -> Result<Method, Fail> {
-    let mut bytes = Vec::new(alloc);
-    for slot in code {
-        bytes.extend_from_slice(&slot.to_be_bytes())?;
-    }
+    let code = instructions(alloc, code)?;
     let name = String::from_str(alloc, name)?;
-    Ok(Method::new(name, flags, in_cap, out_cap, decode(alloc, &bytes)?))
+    Ok(Method::new(name, flags, in_cap, out_cap, code))
 }
 
 /// What `verify` says of a class of one method: None where it accepts.
@@ -60,15 +66,22 @@ fn answer(alloc: Global, row: &str) -> Result<String, Fail> {
     }
 }
 
+/// The verdict of a row, its method, and the method in words.
+fn parts(row: &str) -> Option<(&str, &str, &str)> {
+    let (want, behind) = row.split_once(' ')?;
+    let (slots, words) = behind.split_once(" | ")?;
+    Some((want, slots, words))
+}
+
 /// Checks rows, one a line: a verdict (`ok`, or the slot and the rule's number), a method, a bar, and the method in
 /// words. A line whose first character is `#` says of what the rows behind it are. Gives the number of rows.
 fn check<R: Abort>(rt: &R, alloc: Global, rows: &str) -> Result<usize, Fail> {
     let mut count = 0usize;
     for row in rows.lines() {
         if !row.starts_with('#') {
-            let (want, behind) = row.split_once(' ').ok_or("no verdict")?;
-            let (bytes, words) = behind.split_once(" | ").ok_or("no words")?;
-            assert_eq!(rt; answer(alloc, bytes)?.as_str(), want, "of {words}");
+            let (want, slots, words) = parts(row).ok_or("no verdict, or no words")?;
+            let found = answer(alloc, slots)?;
+            assert!(rt; found.as_str() == want, "{found} of {words}");
             count = count.wrapping_add(1);
         }
     }

@@ -1,16 +1,16 @@
 use bpf_asm::{AsmError, AsmFault, assemble, assemble_class, disassemble_class};
-use std::alloc::{AllocError, Global};
+use std::alloc::Global;
+use std::fmt::{self, Write};
 
 /// The canonical text of 32 methods of 4,096 slots.
-fn largest(alloc: Global) -> Result<String, AllocError> {
-    let movs = "mov r0, 0\n".repeat(alloc, 4095)?;
+fn largest(alloc: Global) -> Result<String, fmt::Error> {
     let mut text = String::new(alloc);
     for method in 10..42u8 {
-        text.push_str(".method m")?;
-        text.push_str(method.to_string(alloc)?.as_str())?;
-        text.push_str(" rw 4096 4096\n")?;
-        text.push_str(movs.as_str())?;
-        text.push_str("exit\n")?;
+        write!(text, ".method m{method} rw 4096 4096\n")?;
+        for _ in 0..4095 {
+            text.write_str("mov r0, 0\n")?;
+        }
+        text.write_str("exit\n")?;
     }
     Ok(text)
 }
@@ -39,12 +39,10 @@ fn a_method_too_many(rt: HostRuntime) {
 }
 
 /// Lines that are numbered from 0 on, each number between the two texts.
-fn numbered(alloc: Global, front: &str, count: u32, back: &str) -> Result<String, AllocError> {
+fn numbered(alloc: Global, front: &str, count: u32, back: &str) -> Result<String, fmt::Error> {
     let mut text = String::new(alloc);
     for number in 0..count {
-        text.push_str(front)?;
-        text.push_str(number.to_string(alloc)?.as_str())?;
-        text.push_str(back)?;
+        write!(text, "{front}{number}{back}")?;
     }
     Ok(text)
 }

@@ -6,7 +6,7 @@ use bpf_machine::{Caps, Ending, Layout, flat_run, is_layout};
 use std::alloc::Global;
 use std::process::Abort;
 use std::test::Fail;
-use verifier::{Op, Refusal, Rule, one_table, verify};
+use verifier::{Op, Refusal, Rule, VerifiedMethod, one_table, verify};
 
 const EXIT: u64 = 0x9500000000000000;
 
@@ -24,7 +24,7 @@ const IMAGE: [u8; 33] = [
     0x95, 0, 0, 0, 0, 0, 0, 0,
 ];
 
-const RULES: [(Rule, &str); 16] = [
+static RULES: [(Rule, &str); 16] = [
     (Rule::Backward, "1 Backward"),
     (Rule::Target, "2 Target"),
     (Rule::FallsOff, "3 FallsOff"),
@@ -45,8 +45,9 @@ const RULES: [(Rule, &str); 16] = [
 
 #[test]
 fn names_rules(rt: HostRuntime) -> Result<(), Fail> {
-    for (rule, text) in RULES {
-        assert_eq!(rt; format!(in rt.alloc(); "{rule}")?.as_str(), text);
+    for (rule, text) in &RULES {
+        let printed = rule.to_string(rt.alloc())?;
+        assert!(rt; printed.as_str() == *text, "{text}");
     }
     Ok(())
 }
@@ -58,26 +59,28 @@ fn prints_refusals(rt: HostRuntime) -> Result<(), Fail> {
         slot: 12,
         rule: Rule::UnsetRead,
     };
-    assert_eq!(rt;
-        format!(in rt.alloc(); "{refusal}")?.as_str(),
-        "refused method 0 slot 12: 5 UnsetRead"
-    );
+    let printed = refusal.to_string(rt.alloc())?;
+    assert!(rt; printed.as_str() == "refused method 0 slot 12: 5 UnsetRead");
     Ok(())
+}
+
+/// A class of three methods, of which the first is safe.
+fn three(alloc: Global) -> Result<ClassImage, Fail> {
+    let mut methods = Vec::new(alloc);
+    methods.push(method(alloc, "f", &[MOV_R0_0, EXIT], 1, 0, 0)?)?;
+    methods.push(method(alloc, "g", &[JA_0, EXIT], 1, 0, 0)?)?;
+    methods.push(method(alloc, "h", &[EXIT], 1, 0, 0)?)?;
+    Ok(ClassImage::new(methods)?)
 }
 
 #[test]
 fn finds_the_first_method(rt: HostRuntime) -> Result<(), Fail> {
-    let mut methods = Vec::new(rt.alloc());
-    methods.push(method(rt.alloc(), "f", &[MOV_R0_0, EXIT], 1, 0, 0)?)?;
-    methods.push(method(rt.alloc(), "g", &[JA_0, EXIT], 1, 0, 0)?)?;
-    methods.push(method(rt.alloc(), "h", &[EXIT], 1, 0, 0)?)?;
     let want = Refusal {
         method: 1,
         slot: 1,
         rule: Rule::UnsetRead,
     };
-    let image = ClassImage::new(methods)?;
-    assert_eq!(rt; verify(rt.alloc(), &image).err(), Some(want));
+    assert_eq!(rt; verify(rt.alloc(), &three(rt.alloc())?).err(), Some(want));
     Ok(())
 }
 
@@ -88,17 +91,21 @@ fn image(alloc: Global) -> Result<ClassImage, Fail> {
     Ok(ClassImage::new(methods)?)
 }
 
-#[test]
-fn keeps_what_is_declared(rt: HostRuntime) -> Result<(), Fail> {
-    one_table();
-    let class = verify(rt.alloc(), &image(rt.alloc())?)?;
-    let found = class.method("f").ok_or("no method")?;
+/// Whether a method has the image's name, caps and number of instructions.
+fn is_declared(found: &VerifiedMethod) -> bool {
     let caps = Caps {
         in_cap: 3,
         out_cap: 4,
         writes: true,
     };
-    assert_eq!(rt; (found.name(), found.count(), found.caps()), ("f", 3, caps));
+    found.name() == "f" && found.count() == 3 && found.caps() == caps
+}
+
+#[test]
+fn keeps_what_is_declared(rt: HostRuntime) -> Result<(), Fail> {
+    one_table();
+    let class = verify(rt.alloc(), &image(rt.alloc())?)?;
+    assert!(rt; class.method("f").is_some_and(is_declared));
     assert!(rt; class.method("g").is_none());
     Ok(())
 }
@@ -125,14 +132,13 @@ fn keeps_what_a_run_takes(rt: HostRuntime) -> Result<(), Fail> {
     Ok(())
 }
 
-/// Runs a method on the flat machine with an input of so many such bytes: it comes to its exit.
+/// Runs a method on the flat machine with that input: it comes to its exit.
 fn exits<R: Abort>(
     rt: &R,
     alloc: Global,
     method: &Method,
     caps: &Caps,
-    byte: u8,
-    count: usize,
+    input: &[u8],
 ) -> Result<(), Fail> {
     let layout = Layout {
         input: 0x1000,
@@ -142,14 +148,25 @@ fn exits<R: Abort>(
     assert!(rt; is_layout(caps, &layout));
     assert!(rt; caps.in_cap <= 4096 && caps.out_cap <= 4096);
     let code = encode(alloc, method.instructions())?;
-    let input = vec![in alloc; byte; count]?;
     assert!(rt; input.len() <= usize::from(caps.in_cap));
     let limit = method.instructions().len();
-    match flat_run(alloc, caps, &code, &layout, None, 1, &input, limit)? {
+    match flat_run(alloc, caps, &code, &layout, None, 1, input, limit)? {
         Ending::Ended { .. } => Ok(()),
         Ending::Stuck => Err("stuck")?,
         Ending::Unfinished => Err("unfinished")?,
     }
+}
+
+/// Runs a method on no input, and on the longest.
+fn exits_on_inputs<R: Abort>(
+    rt: &R,
+    alloc: Global,
+    method: &Method,
+    caps: &Caps,
+) -> Result<(), Fail> {
+    exits(rt, alloc, method, caps, &[])?;
+    let input = vec![in alloc; 0xff; usize::from(caps.in_cap)]?;
+    exits(rt, alloc, method, caps, &input)
 }
 
 /// Where the bytes are an image of a class that is accepted, runs its methods; whether they are.
@@ -161,9 +178,7 @@ fn exits_if_accepted<R: Abort>(rt: &R, alloc: Global, bytes: &[u8]) -> Result<bo
         return Ok(false);
     };
     for (verified, method) in class.methods().iter().zip(image.methods()) {
-        let caps = verified.caps();
-        exits(rt, alloc, method, &caps, 0, 0)?;
-        exits(rt, alloc, method, &caps, 0xff, usize::from(caps.in_cap))?;
+        exits_on_inputs(rt, alloc, method, &verified.caps())?;
     }
     Ok(true)
 }
