@@ -9,7 +9,7 @@ use bpf_decode::{
 
 /// What an instruction's first word says: the instruction without its operands.
 /// `call` stands for a helper's call and for a local one, which their operand tells apart.
-#[derive(Clone, Copy, Debug, PartialEq, Eq)]
+#[derive(Clone, Copy)]
 pub enum Form {
     Alu(Bits, Arithmetic),
     Neg(Bits),

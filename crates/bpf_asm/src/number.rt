@@ -8,7 +8,7 @@ ghost use Rattle.bpf_asm.specs.Numbers.{all_digits, decimal_number, hex_number, 
 use crate::fault::AsmFault;
 
 /// A number with its sign: -0 isn't one.
-#[derive(Clone, Copy, Debug, PartialEq, Eq)]
+#[derive(Clone, Copy)]
 pub(crate) struct Number {
     pub(crate) negative: bool,
     pub(crate) magnitude: u64,

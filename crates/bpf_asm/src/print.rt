@@ -253,11 +253,12 @@ fn flags_word(flags: u8) -> &'static str
 fn push_directive(out: &mut String, method: &Method) -> Result<(), AllocError>
     ensures { OnOk result (string_bytes out.new ≡ string_bytes out.old ++ directive_line method.now) }
 {
-    out.push_str(".method ")?;
-    out.push_str(method.name())?;
-    out.push_str(" ")?;
-    out.push_str(flags_word(method.flags()))?;
-    out.push_str(" ")?;
+    write!(
+        out,
+        ".method {} {} ",
+        method.name(),
+        flags_word(method.flags())
+    )?;
     let in_cap = method.in_cap();
     let out_cap = method.out_cap();
     write!(out, "{in_cap} {out_cap}")

@@ -1,13 +1,14 @@
 //! Code as bytes: reading, and the one spelling.
 
 ghost use Rattle.std.specs.Prelude.{◌≡◌, ◌≤◌, ◌<◌, ◌++◌, List, length, IfOk, IfErr, OnOk, true};
-ghost use Rattle.bpf_decode.specs.Instruction.{IsCode, AllFit, Fits, OperandFits, slot, bytes_of, spelling, slot_total};
+ghost use Rattle.bpf_decode.specs.Instruction.{IsCode, AllFit, Fits, OperandFits, slot, bytes_of, spelling, slot_count, slot_total};
 ghost use Rattle.bpf_decode.specs.Table.{opcode, operand_slot};
 ghost use Rattle.bpf_decode.specs.Reading.{Gives, width_of, insn_at, code_of, count_of};
 ghost use Rattle.bpf_decode.specs.declared.insn.Insn.{Insn};
 ghost use Rattle.bpf_decode.specs.declared.insn.Insn.TheVariants.{LoadWide};
 ghost use Rattle.bpf_decode.specs.declared.decode_error.DecodeError.TheVariants.{NoMemory};
 
+use crate::arithmetic::low;
 use crate::decode_error::DecodeError;
 use crate::insn::{Insn, Operand, width};
 use crate::ranges::fits;
@@ -109,17 +110,13 @@ pub fn decode(alloc: Global, bytes: &[u8]) -> Result<Vec<Insn>, DecodeError>
     read(alloc, bytes)
 }
 
-fn put(
-    out: &mut Vec<u8>,
-    row: Row,
-    dst: u8,
-    src: u8,
-    offset: u16,
-    imm: u32,
-) -> Result<(), AllocError>
-    requires dst { dst < 16 }
-    requires src { src < 16 }
-    ensures { OnOk result (out.new.items ≡ out.old.items ++ slot (opcode row) dst src offset imm) }
+/// The slot of a row with those fields.
+fn row_slot(row: Row, dst: u8, src: u8, offset: u16, imm: u32) -> Slot
+    ensures opcode { result.opcode ≡ opcode row }
+    ensures dst { result.dst ≡ dst }
+    ensures src { result.src ≡ src }
+    ensures offset { result.offset ≡ offset }
+    ensures imm { result.imm ≡ imm }
 {
     let opcode = row.opcode();
     Slot {
@@ -129,55 +126,45 @@ fn put(
         offset,
         imm,
     }
-    .put(out)
 }
 
-/// Writes an operation on a register and an operand: by one row for a number, by another for a register.
-fn put_operand(
-    out: &mut Vec<u8>,
-    immediate: Row,
-    register: Row,
-    dst: Register,
-    source: Operand,
-    offset: u16,
-) -> Result<(), AllocError>
-    ensures spelled { OnOk result (out.new.items ≡ out.old.items ++ operand_slot (opcode immediate) (opcode register) dst source offset) }
+/// The slot of an operation on a register and an operand: by one row for a number, by another for a register.
+fn operand_slot(immediate: Row, register: Row, dst: Register, source: Operand, offset: u16) -> Slot
+    ensures spelled { operand_slot (opcode immediate) (opcode register) dst source offset ≡ slot result.opcode result.dst result.src result.offset result.imm }
+    ensures dst { result.dst < 16 }
+    ensures src { result.src < 16 }
     ensures fit { (dst ≤ 10) × OperandFits source }
 {
     match source {
-        Operand::Immediate(imm) => put(
-            out,
-            immediate,
-            dst.number(),
-            0,
-            offset,
-            imm.cast_unsigned(),
-        ),
-        Operand::Register(src) => put(out, register, dst.number(), src.number(), offset, 0),
+        Operand::Immediate(imm) => {
+            row_slot(immediate, dst.number(), 0, offset, imm.cast_unsigned())
+        }
+        Operand::Register(src) => row_slot(register, dst.number(), src.number(), offset, 0),
     }
 }
 
-fn put_insn(out: &mut Vec<u8>, insn: &Insn) -> Result<(), AllocError>
-    ensures spelled { OnOk result (out.new.items ≡ out.old.items ++ bytes_of insn.now) }
-    ensures fit { Fits insn.now }
+/// The first slot of an instruction.
+fn first_slot(insn: Insn) -> Slot
+    ensures spelled { slot_count insn ≡ 1 → bytes_of insn ≡ slot result.opcode result.dst result.src result.offset result.imm }
+    ensures dst { result.dst < 16 }
+    ensures src { result.src < 16 }
+    ensures fit { Fits insn }
 {
-    match *insn {
+    match insn {
         Insn::Alu {
             bits,
             operation,
             dst,
             source,
-        } => put_operand(
-            out,
+        } => operand_slot(
             Row::AluImmediate(bits, operation),
             Row::AluRegister(bits, operation),
             dst,
             source,
             operation.offset(),
         ),
-        Insn::Neg { bits, dst } => put(out, Row::Neg(bits), dst.number(), 0, 0, 0),
-        Insn::Mov { bits, dst, source } => put_operand(
-            out,
+        Insn::Neg { bits, dst } => row_slot(Row::Neg(bits), dst.number(), 0, 0, 0),
+        Insn::Mov { bits, dst, source } => operand_slot(
             Row::MovImmediate(bits),
             Row::MovRegister(bits),
             dst,
@@ -188,8 +175,7 @@ fn put_insn(out: &mut Vec<u8>, insn: &Insn) -> Result<(), AllocError>
             extension,
             dst,
             src,
-        } => put(
-            out,
+        } => row_slot(
             Row::MovRegister(extension.bits()),
             dst.number(),
             src.number(),
@@ -197,16 +183,15 @@ fn put_insn(out: &mut Vec<u8>, insn: &Insn) -> Result<(), AllocError>
             0,
         ),
         Insn::End { order, width, dst } => {
-            put(out, Row::End(order), dst.number(), 0, 0, width.bits())
+            row_slot(Row::End(order), dst.number(), 0, 0, width.bits())
         }
-        Insn::LoadWide { dst, value } => put_wide(out, dst, value),
+        Insn::LoadWide { dst, value } => row_slot(Row::Wide, dst.number(), 0, 0, low(value)),
         Insn::Load {
             width,
             dst,
             base,
             offset,
-        } => put(
-            out,
+        } => row_slot(
             Row::Load(width),
             dst.number(),
             base.number(),
@@ -218,8 +203,7 @@ fn put_insn(out: &mut Vec<u8>, insn: &Insn) -> Result<(), AllocError>
             dst,
             base,
             offset,
-        } => put(
-            out,
+        } => row_slot(
             Row::LoadSigned(width),
             dst.number(),
             base.number(),
@@ -231,33 +215,41 @@ fn put_insn(out: &mut Vec<u8>, insn: &Insn) -> Result<(), AllocError>
             base,
             offset,
             source,
-        } => put_operand(
-            out,
+        } => operand_slot(
             Row::StoreImmediate(width),
             Row::StoreRegister(width),
             base,
             source,
             offset.cast_unsigned(),
         ),
-        Insn::Jump { offset } => put(out, Row::Jump, 0, 0, offset.cast_unsigned(), 0),
-        Insn::JumpLong { distance } => put(out, Row::JumpLong, 0, 0, 0, distance.cast_unsigned()),
+        Insn::Jump { offset } => row_slot(Row::Jump, 0, 0, offset.cast_unsigned(), 0),
+        Insn::JumpLong { distance } => row_slot(Row::JumpLong, 0, 0, 0, distance.cast_unsigned()),
         Insn::Branch {
             bits,
             comparison,
             dst,
             source,
             offset,
-        } => put_operand(
-            out,
+        } => operand_slot(
             Row::BranchImmediate(bits, comparison),
             Row::BranchRegister(bits, comparison),
             dst,
             source,
             offset.cast_unsigned(),
         ),
-        Insn::Call { helper } => put(out, Row::Call, 0, 0, 0, helper),
-        Insn::CallLocal { distance } => put(out, Row::Call, 0, 1, 0, distance.cast_unsigned()),
-        Insn::Exit => put(out, Row::Exit, 0, 0, 0, 0),
+        Insn::Call { helper } => row_slot(Row::Call, 0, 0, 0, helper),
+        Insn::CallLocal { distance } => row_slot(Row::Call, 0, 1, 0, distance.cast_unsigned()),
+        Insn::Exit => row_slot(Row::Exit, 0, 0, 0, 0),
+    }
+}
+
+fn put_insn(out: &mut Vec<u8>, insn: &Insn) -> Result<(), AllocError>
+    ensures spelled { OnOk result (out.new.items ≡ out.old.items ++ bytes_of insn.now) }
+    ensures fit { Fits insn.now }
+{
+    match *insn {
+        Insn::LoadWide { dst, value } => put_wide(out, dst, value),
+        insn => first_slot(insn).put(out),
     }
 }
 
@@ -265,9 +257,8 @@ fn put_wide(out: &mut Vec<u8>, dst: Register, value: u64) -> Result<(), AllocErr
     ensures spelled { OnOk result (out.new.items ≡ out.old.items ++ bytes_of (LoadWide dst value)) }
     ensures fit { dst ≤ 10 }
 {
-    let low = (value & 0xffff_ffff) as u32;
     let high = (value >> 32) as u32;
-    put(out, Row::Wide, dst.number(), 0, 0, low)?;
+    row_slot(Row::Wide, dst.number(), 0, 0, low(value)).put(out)?;
     Slot {
         opcode: 0,
         dst: 0,

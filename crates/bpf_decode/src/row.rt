@@ -8,7 +8,7 @@ use crate::register::Register;
 use crate::slot::Slot;
 
 /// A row of the table of opcodes (RFC 9669 sections 4 and 5): which fields an instruction uses, and how.
-#[derive(Clone, Copy, Debug, PartialEq, Eq)]
+#[derive(Clone, Copy)]
 pub enum Row {
     AluImmediate(Bits, Arithmetic),
     AluRegister(Bits, Arithmetic),

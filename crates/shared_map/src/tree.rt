@@ -215,7 +215,20 @@ fn joined<V: Drop>(
     })
 }
 
-/// The same, turned where one side is two higher than the other.
+/// The tree of a branch that shares its parts with others.
+fn sharing<V: Drop>(
+    alloc: Global,
+    left: &Tree<V>,
+    entry: &Arc<Entry<V>>,
+    right: &Tree<V>,
+) -> Result<Tree<V>, AllocError>
+    requires { IsTrue (sorted (left.now ++ pair (arc_value entry.now) ∷ right.now)) }
+    ensures { IfOk result (λ t. t ≡ left.now ++ pair (arc_value entry.now) ∷ right.now) }
+{
+    joined(alloc, left.copy()?, Arc::try_clone(entry)?, right.copy()?)
+}
+
+/// The tree of a branch, turned where one side is two higher than the other.
 fn balanced<V: Drop>(
     alloc: Global,
     left: Tree<V>,
@@ -251,12 +264,7 @@ fn lean_left<V: Drop>(
             if outer.left.height() < outer.right.height()
                 && let Link::Fork(inner) = &outer.right.root
             {
-                let low = joined(
-                    alloc,
-                    outer.left.copy()?,
-                    Arc::try_clone(&outer.entry)?,
-                    inner.left.copy()?,
-                )?;
+                let low = sharing(alloc, &outer.left, &outer.entry, &inner.left)?;
                 let high = joined(alloc, inner.right.copy()?, entry, right)?;
                 return joined(alloc, low, Arc::try_clone(&inner.entry)?, high);
             }
@@ -288,12 +296,7 @@ fn lean_right<V: Drop>(
                 && let Link::Fork(inner) = &outer.left.root
             {
                 let low = joined(alloc, left, entry, inner.left.copy()?)?;
-                let high = joined(
-                    alloc,
-                    inner.right.copy()?,
-                    Arc::try_clone(&outer.entry)?,
-                    outer.right.copy()?,
-                )?;
+                let high = sharing(alloc, &inner.right, &outer.entry, &outer.right)?;
                 return joined(alloc, low, Arc::try_clone(&inner.entry)?, high);
             }
             let low = joined(alloc, left, entry, outer.left.copy()?)?;

@@ -30,11 +30,16 @@ fn is(map: &SharedMap<u8>, value: Option<u8>, len: usize) -> bool {
     map.get(b"ab").copied() == value && map.len() == len
 }
 
+/// Whether some bytes are read so.
+fn is_read(map: &SharedMap<u8>, key: &[u8], value: Option<u8>, above: Option<&[u8]>) -> bool {
+    map.get(key).copied() == value && map.key_above(key) == above
+}
+
 #[test]
 fn reads(rt: HostRuntime) {
     let map = few(&rt, rt.alloc());
     for (key, value, above) in READS {
-        assert!(rt; map.get(key).copied() == value && map.key_above(key) == above);
+        assert!(rt; is_read(&map, key, value, above));
     }
     assert!(rt; map.len() == 5);
 }

@@ -223,15 +223,19 @@ fn undo_makes_it_absent(rt: HostRuntime) {
     assert!(rt; undoes_creation(&rt, rt.alloc(), &mut Objects::new(), &name));
 }
 
+/// Sets the key of a number, and while an object may have more xattrs, the xattr too.
+fn set_both(alloc: Global, staged: &mut Staged, n: u16, value: &[u8]) -> Result<(), StoreError> {
+    let name = numbered(n);
+    if usize::from(n) < XATTR_LIMIT {
+        staged.set_xattr(alloc, &name, value)?;
+    }
+    staged.set_key(alloc, &name, value)
+}
+
 /// Sets keys and xattrs, as many as an object may have, with the longest names and values.
 fn fill(alloc: Global, staged: &mut Staged) -> Result<(), StoreError> {
-    let value = [0x5a; 4096];
     for n in 0..KEY_LIMIT as u16 {
-        let name = numbered(n);
-        staged.set_key(alloc, &name, &value)?;
-        if usize::from(n) < XATTR_LIMIT {
-            staged.set_xattr(alloc, &name, &value)?;
-        }
+        set_both(alloc, staged, n, &[0x5a; 4096])?;
     }
     Ok(())
 }

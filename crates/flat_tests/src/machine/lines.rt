@@ -230,7 +230,10 @@ fn runs(alloc: Global, line: &str) -> Result<(), Fail> {
 }
 
 fn capacity(text: &str) -> Result<u16, Fail> {
-    Ok(u16::try_from(number(text)).map_err(|_| "a capacity")?)
+    match u16::try_from(number(text)) {
+        Ok(capacity) => Ok(capacity),
+        Err(_) => Err("a capacity")?,
+    }
 }
 
 /// The same beside an object, in three layouts; before the code stand in_cap, out_cap, `w` for a method that may write
@@ -262,9 +265,11 @@ pub fn is_row(line: &str) -> bool {
 /// Runs each line of a text; gives their number.
 pub fn run_all(alloc: Global, text: &str) -> Result<usize, Fail> {
     let mut count = 0usize;
-    for line in text.lines().filter(|line| is_row(line)) {
-        runs(alloc, line)?;
-        count = count.wrapping_add(1);
+    for line in text.lines() {
+        if is_row(line) {
+            runs(alloc, line)?;
+            count = count.wrapping_add(1);
+        }
     }
     Ok(count)
 }
@@ -272,9 +277,11 @@ pub fn run_all(alloc: Global, text: &str) -> Result<usize, Fail> {
 /// Runs each line of a text that names its object; gives their number.
 pub fn run_all_beside(alloc: Global, text: &str) -> Result<usize, Fail> {
     let mut count = 0usize;
-    for line in text.lines().filter(|line| is_row(line)) {
-        runs_beside(alloc, line)?;
-        count = count.wrapping_add(1);
+    for line in text.lines() {
+        if is_row(line) {
+            runs_beside(alloc, line)?;
+            count = count.wrapping_add(1);
+        }
     }
     Ok(count)
 }

@@ -57,8 +57,10 @@ fn compute(alloc: Global, line: &str) -> Result<usize, Fail> {
 /// Computes each line; gives the number of runs.
 fn compute_all(alloc: Global, text: &str) -> Result<usize, Fail> {
     let mut count = 0usize;
-    for line in text.lines().filter(|line| is_row(line)) {
-        count = count.wrapping_add(compute(alloc, line)?);
+    for line in text.lines() {
+        if is_row(line) {
+            count = count.wrapping_add(compute(alloc, line)?);
+        }
     }
     Ok(count)
 }

@@ -66,11 +66,15 @@ fn put_key(alloc: Global, staged: &mut Staged, pair: &str) -> Result<(), Fail> {
 fn fill(alloc: Global, staged: &mut Staged, text: &str) -> Result<(), Fail> {
     let (data, xattrs, keys) = three_parts(text);
     staged.write(alloc, 0, &bytes(alloc, data)?)?;
-    for pair in xattrs.split(',').filter(|pair| !pair.is_empty()) {
-        put_xattr(alloc, staged, pair)?;
+    for pair in xattrs.split(',') {
+        if !pair.is_empty() {
+            put_xattr(alloc, staged, pair)?;
+        }
     }
-    for pair in keys.split(',').filter(|pair| !pair.is_empty()) {
-        put_key(alloc, staged, pair)?;
+    for pair in keys.split(',') {
+        if !pair.is_empty() {
+            put_key(alloc, staged, pair)?;
+        }
     }
     Ok(())
 }
@@ -84,36 +88,55 @@ pub fn object(alloc: Global, text: &str) -> Result<Option<Object>, Fail> {
     Ok(staged.finish()?.after)
 }
 
-/// Whether an object holds that data.
+/// Whether an object holds that data, which is read into a buffer as long.
+fn reads(object: &Object, data: &[u8], buffer: &mut [u8]) -> bool {
+    let count = object.read(0, buffer);
+    object.len() == data.len() && count == data.len() && *buffer == *data
+}
+
+/// Whether an object holds the data that a word tells.
 fn holds_data(alloc: Global, object: &Object, text: &str) -> Result<bool, Fail> {
     let data = bytes(alloc, text)?;
-    let mut read = vec![in alloc; 0u8; data.len()]?;
-    let count = object.read(0, &mut read);
-    Ok(object.len() == data.len() && count == data.len() && read == data)
+    let mut buffer = vec![in alloc; 0u8; data.len()]?;
+    Ok(reads(object, &data, &mut buffer))
+}
+
+/// Whether an object has an xattr, as `NAME=VALUE`.
+fn has_xattr(alloc: Global, object: &Object, pair: &str) -> Result<bool, Fail> {
+    let (name, value) = attribute(alloc, pair)?;
+    Ok(object.xattr(&name) == Some(value.as_slice()))
 }
 
 /// Whether an object has those xattrs and no other.
 fn has_xattrs(alloc: Global, object: &Object, text: &str) -> Result<bool, Fail> {
     let mut count = 0usize;
-    for pair in text.split(',').filter(|pair| !pair.is_empty()) {
-        let (name, value) = attribute(alloc, pair)?;
-        if object.xattr(&name) != Some(value.as_slice()) {
-            return Ok(false);
+    for pair in text.split(',') {
+        if !pair.is_empty() {
+            if !has_xattr(alloc, object, pair)? {
+                return Ok(false);
+            }
+            count = count.wrapping_add(1);
         }
-        count = count.wrapping_add(1);
     }
     Ok(object.xattr_count() == count)
+}
+
+/// Whether an object has a value of a key, as `KEY=VALUE`.
+fn has_key(alloc: Global, object: &Object, pair: &str) -> Result<bool, Fail> {
+    let (key, value) = attribute(alloc, pair)?;
+    Ok(object.key(&key) == Some(value.as_slice()))
 }
 
 /// Whether an object has those keys and no other.
 fn has_keys(alloc: Global, object: &Object, text: &str) -> Result<bool, Fail> {
     let mut count = 0usize;
-    for pair in text.split(',').filter(|pair| !pair.is_empty()) {
-        let (key, value) = attribute(alloc, pair)?;
-        if object.key(&key) != Some(value.as_slice()) {
-            return Ok(false);
+    for pair in text.split(',') {
+        if !pair.is_empty() {
+            if !has_key(alloc, object, pair)? {
+                return Ok(false);
+            }
+            count = count.wrapping_add(1);
         }
-        count = count.wrapping_add(1);
     }
     Ok(object.key_count() == count)
 }
