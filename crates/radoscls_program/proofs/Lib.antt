@@ -1,3 +1,4 @@
+mod Built
 mod Ended
 mod Entered
 mod Simulated

@@ -1,3 +1,5 @@
+pub mod Grown
+pub mod Listed
 pub mod Numbers
 pub mod Equal
 pub mod Reaching

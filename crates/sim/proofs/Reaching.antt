@@ -131,6 +131,12 @@ pub starts : (classes : Classes) (names : List (List ℕ)) (ws : List (Bor (List
     → Going classes names (take 0 (map (λ (l : Bor (List ℕ)). l.now) ws)) 0 opening old old failed failed
 starts classes names ws old failed = going_none classes names old failed
 
+pub starts_at : (classes : Classes) (names : List (List ℕ)) (ws : List (Bor (List ℕ))) (w : SimWorld) (old : Option (List ℕ)) (failed : Bool) → w ≡ opening
+    → Going classes names (take 0 (map (λ (l : Bor (List ℕ)). l.now) ws)) 0 w old old failed failed
+starts_at classes names ws w old failed e =
+    let S : SimWorld → Type 0 = λ v. Going classes names (take 0 (map (λ (l : Bor (List ℕ)). l.now) ws)) 0 v old old failed failed in
+    subst S (sym e) (starts classes names ws old failed)
+
 -- memory was refused at a line, or before the first
 pub stops : (classes : Classes) (names : List (List ℕ)) (ws : List (Bor (List ℕ))) (i number : ℕ) (w : SimWorld) (old new : Option (List ℕ)) (failed fails : Bool) → i ≤ length ws
     → Going classes names (take i (map (λ (l : Bor (List ℕ)). l.now) ws)) number w old new failed fails → Stops classes names (map (λ l. l.now) ws) old new failed fails

@@ -2,8 +2,8 @@
 ghost use Rattle.std.specs.Prelude.{◌≡◌, IfOk};
 ghost use Rattle.pg_log.specs.Entries.{requests_of};
 
-use group_world::{Answer, Kind, Message, Requests};
-use pg_log::{Entry, Request};
+use group_world::{Answer, Epoch, GroupMap, Kind, Message, Place, Requests};
+use pg_log::{ClientId, Entry, Request, RequestNumber};
 use std::alloc::{AllocError, Global};
 
 /// An equal request.
@@ -46,28 +46,68 @@ fn copy_answer(alloc: Global, answer: &Answer) -> Result<Answer, AllocError>
     Ok(Answer::new(answer.code(), output))
 }
 
+/// An equal Query.
+fn copy_query(alloc: Global, map: &GroupMap) -> Result<Kind, AllocError>
+    ensures { IfOk result (λ k. k ≡ Kind.Query map.now) }
+{
+    Ok(Kind::Query(map.copy(alloc)?))
+}
+
+/// An equal Log.
+fn copy_log(alloc: Global, interval: Epoch, list: &Requests) -> Result<Kind, AllocError>
+    ensures { IfOk result (λ k. k ≡ Kind.Log interval list.now) }
+{
+    Ok(Kind::Log(interval, copy_requests(alloc, list.items())?))
+}
+
+/// An equal Install.
+fn copy_install(alloc: Global, map: &GroupMap, list: &Requests) -> Result<Kind, AllocError>
+    ensures { IfOk result (λ k. k ≡ Kind.Install map.now list.now) }
+{
+    let list = copy_requests(alloc, list.items())?;
+    Ok(Kind::Install(map.copy(alloc)?, list))
+}
+
+/// An equal Rep.
+fn copy_rep(
+    alloc: Global,
+    interval: Epoch,
+    place: Place,
+    request: &Request,
+) -> Result<Kind, AllocError>
+    ensures { IfOk result (λ k. k ≡ Kind.Rep interval place request.now) }
+{
+    Ok(Kind::Rep(interval, place, copy_request(alloc, request)?))
+}
+
+/// An equal Reply.
+fn copy_reply(
+    alloc: Global,
+    client: ClientId,
+    number: RequestNumber,
+    place: Place,
+    answer: &Answer,
+) -> Result<Kind, AllocError>
+    ensures { IfOk result (λ k. k ≡ Kind.Reply client number place answer.now) }
+{
+    Ok(Kind::Reply(client, number, place, copy_answer(alloc, answer)?))
+}
+
 /// What an equal message says.
 fn copy_kind(alloc: Global, kind: &Kind) -> Result<Kind, AllocError>
     ensures { IfOk result (λ k. k ≡ kind.now) }
 {
     match kind {
-        Kind::Query(map) => Ok(Kind::Query(map.copy(alloc)?)),
-        Kind::Log(interval, list) => Ok(Kind::Log(*interval, copy_requests(alloc, list.items())?)),
-        Kind::Install(map, list) => {
-            let list = copy_requests(alloc, list.items())?;
-            Ok(Kind::Install(map.copy(alloc)?, list))
-        }
+        Kind::Query(map) => copy_query(alloc, map),
+        Kind::Log(interval, list) => copy_log(alloc, *interval, list),
+        Kind::Install(map, list) => copy_install(alloc, map, list),
         Kind::Installed(interval) => Ok(Kind::Installed(*interval)),
         Kind::AskActivate(interval) => Ok(Kind::AskActivate(*interval)),
         Kind::Activated(interval) => Ok(Kind::Activated(*interval)),
-        Kind::Rep(interval, place, request) => {
-            let request = copy_request(alloc, request)?;
-            Ok(Kind::Rep(*interval, *place, request))
-        }
+        Kind::Rep(interval, place, request) => copy_rep(alloc, *interval, *place, request),
         Kind::Ack(interval, length) => Ok(Kind::Ack(*interval, *length)),
         Kind::Reply(client, number, place, answer) => {
-            let answer = copy_answer(alloc, answer)?;
-            Ok(Kind::Reply(*client, *number, *place, answer))
+            copy_reply(alloc, *client, *number, *place, answer)
         }
     }
 }

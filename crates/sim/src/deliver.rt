@@ -7,6 +7,7 @@ ghost use Rattle.sim.specs.Step.{numbered, is_node, at_monitor, deliver, deliver
 use crate::copies::{copy_message, requests_of};
 use crate::kept::{Kept, ShortLog};
 use crate::print::{message_line, refused_line};
+use crate::sent::next_number;
 use crate::world::{World, numbered};
 use group_world::{Epoch, Event, Kind, Message, Packet, Party, Requests};
 use interp::ClassTable;
@@ -43,7 +44,7 @@ impl<C: Classes> World<C> {
     fn tell(&mut self, asker: Party, interval: Epoch) -> Result<String, AllocError>
         ensures { IfOk result (λ t. record { world = self.new; printed = string_bytes t } ≡ tells self.old asker interval) }
     {
-        let number = self.sent.len().checked_add(1).ok_or(AllocError)?;
+        let number = next_number(self.sent.len())?;
         let packet = activated_for(asker, interval);
         let text = message_line(self.alloc, number, &packet)?;
         self.sent.push(Kept::Whole(packet))?;

@@ -126,6 +126,23 @@ fn push_printed(text: &mut String, printed: &str) -> Result<(), AllocError> {
     Ok(())
 }
 
+/// Notes what a line made happen.
+fn note(
+    alloc: Global,
+    names: &[&str],
+    text: &str,
+    sent: usize,
+    printed: &str,
+    steps: &mut Vec<Step>,
+) -> Result<(), AllocError> {
+    let line = read_line(alloc, names, text)?;
+    if let Some(what) = what(&line, printed) {
+        let text = said(alloc, text, what, sent, printed)?;
+        steps.push(Step { what, text, sent })?;
+    }
+    Ok(())
+}
+
 /// Does a line and notes what happened, and says whether it is bad.
 fn take_line<C: Classes>(
     alloc: Global,
@@ -139,16 +156,65 @@ fn take_line<C: Classes>(
 {
     let before = world.sent.len();
     let line = read_line(alloc, names, text)?;
-    let again = read_line(alloc, names, text)?;
     let Some(printed) = world.take(table, line)? else {
         return Ok(true);
     };
     let sent = world.sent.len().saturating_sub(before);
-    if let Some(what) = what(&again, printed.as_str()) {
-        let text = said(alloc, text, what, sent, printed.as_str())?;
-        steps.push(Step { what, text, sent })?;
-    }
+    note(alloc, names, text, sent, printed.as_str(), steps)?;
     Ok(false)
+}
+
+/// Does lines up to the first that is bad, notes what happened, and gives the number of the bad one.
+fn take_lines<C: Classes>(
+    alloc: Global,
+    table: &ClassTable,
+    names: &[&str],
+    lines: &[&str],
+    world: &mut World<C>,
+    steps: &mut Vec<Step>,
+) -> Result<Option<usize>, AllocError>
+    requires { table.now ≡ C.classes }
+{
+    let mut number = 0;
+    for line in lines {
+        number += 1;
+        if take_line(alloc, table, names, world, line, steps)? {
+            return Ok(Some(number));
+        }
+    }
+    Ok(None)
+}
+
+/// Draws messages and steps, and says which line is bad, if one is.
+fn drawn(
+    alloc: Global,
+    letters: &[Letter],
+    steps: &[Step],
+    bad: Option<usize>,
+) -> Result<Traced, AllocError> {
+    let mut text = draw(alloc, letters, steps)?;
+    if let Some(number) = bad {
+        text.push_str(bad_line(alloc, number)?.as_str())?;
+    }
+    Ok(Traced {
+        text,
+        bad: bad.is_some(),
+    })
+}
+
+fn trace_from<C: Classes>(
+    alloc: Global,
+    table: &ClassTable,
+    names: &[&str],
+    lines: &[&str],
+    world: &mut World<C>,
+) -> Result<Traced, AllocError>
+    requires { table.now ≡ C.classes }
+{
+    let mut steps = Vec::new(alloc);
+    let bad = take_lines(alloc, table, names, lines, world, &mut steps)?;
+    let letters = letters(alloc, world.sent.items())?;
+    drawn(alloc, &letters, &steps, bad)
 }
 
 fn trace_lines<C: Classes>(
@@ -160,22 +226,7 @@ fn trace_lines<C: Classes>(
     requires { table.now ≡ C.classes }
 {
     let mut world = World::<C>::new(alloc)?;
-    let mut steps = Vec::new(alloc);
-    let mut number = 0;
-    let mut bad = false;
-    for line in lines {
-        number += 1;
-        bad = take_line(alloc, table, names, &mut world, line, &mut steps)?;
-        if bad {
-            break;
-        }
-    }
-    let letters = letters(alloc, world.sent.items())?;
-    let mut text = draw(alloc, &letters, &steps)?;
-    if bad {
-        text.push_str(bad_line(alloc, number)?.as_str())?;
-    }
-    Ok(Traced { text, bad })
+    trace_from(alloc, table, names, lines, &mut world)
 }
 
 /// The same, where the classes are the table's.

@@ -1,7 +1,7 @@
 ghost use Rattle.std.specs.Prelude.{◌≡◌, IfOk, map, string_bytes};
 ghost use Rattle.sim.specs.Lines.{line_of, lines_of};
 ghost use Rattle.sim.specs.Run.{EndsBy, IsLine};
-ghost use Rattle.sim.specs.Step.{step};
+ghost use Rattle.sim.specs.Step.{opening, step};
 
 use crate::line::read_line;
 use crate::print::bad_line;
@@ -60,25 +60,23 @@ fn take_line<C: Classes>(
     }
 }
 
-/// Does lines, one after the other.
-fn run_lines<C: Classes, O: Output>(
+/// Does lines, one after the other, from the first world on.
+fn run_from<C: Classes, O: Output>(
     alloc: Global,
     table: &ClassTable,
     names: &[&str],
     lines: &[&str],
+    world: &mut World<C>,
     out: &mut O,
 ) -> Ending
-    requires { table.now ≡ C.classes }
+    requires classes { table.now ≡ C.classes }
+    requires first { world.old ≡ opening }
     ensures { EndsBy table.now (map (λ n. n.now) names.now) (map (λ l. l.now) lines.now) (O.printed out.old) (O.printed out.new) (O.failed out.old) (O.failed out.new) result }
 {
-    let mut world = match World::<C>::new(alloc) {
-        Ok(world) => world,
-        Err(_) => return Ending::NoMemory,
-    };
     let mut number = 0;
     for line in lines {
         number += 1;
-        match take_line(alloc, table, names, &mut world, number, line) {
+        match take_line(alloc, table, names, world, number, line) {
             Ok(taken) => {
                 if out.print(taken.text.as_str()).is_err() {
                     return Ending::Unprinted;
@@ -92,6 +90,23 @@ fn run_lines<C: Classes, O: Output>(
         }
     }
     Ending::Done
+}
+
+/// Does lines, one after the other.
+fn run_lines<C: Classes, O: Output>(
+    alloc: Global,
+    table: &ClassTable,
+    names: &[&str],
+    lines: &[&str],
+    out: &mut O,
+) -> Ending
+    requires { table.now ≡ C.classes }
+    ensures { EndsBy table.now (map (λ n. n.now) names.now) (map (λ l. l.now) lines.now) (O.printed out.old) (O.printed out.new) (O.failed out.old) (O.failed out.new) result }
+{
+    match World::<C>::new(alloc) {
+        Ok(mut world) => run_from(alloc, table, names, lines, &mut world, out),
+        Err(_) => Ending::NoMemory,
+    }
 }
 
 /// The same, where the classes are the table's.

@@ -2,6 +2,7 @@
 ghost use Rattle.std.specs.Prelude.{◌≡◌, IfOk, IfSome, string_bytes};
 ghost use Rattle.sim.specs.Output.{party_text, with_one, with_two, digits_or_dash, reply_text, kind_text, message_line, message_lines, sent_text, refused_line, map_line, status_text, node_line, again_lines, again_text, bad_line};
 
+use crate::sent::next_number;
 use group_world::{Answer, GroupMap, Kind, Packet, Party, Status};
 use peering::GroupNode;
 use pg_log::Classes;
@@ -94,8 +95,7 @@ fn message_lines(alloc: Global, number: usize, packets: &[Packet]) -> Result<Str
     for packet in packets {
         let line = message_line(alloc, next, packet)?;
         text.push_str(line.as_str())?;
-        // There is no memory for more messages than there are numbers.
-        next = next.checked_add(1).ok_or(AllocError)?;
+        next = next_number(next)?;
     }
     Ok(text)
 }

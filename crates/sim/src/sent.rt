@@ -100,6 +100,13 @@ fn put(shelves: &mut Vec<Numbers>, at: usize, number: usize) -> Result<(), Alloc
     shelves[at].push(number)
 }
 
+/// The number behind that one. There is no memory for more messages than there are numbers.
+pub(crate) fn next_number(number: usize) -> Result<usize, AllocError>
+    ensures { IfOk result (λ n. n ≡ suc number) }
+{
+    number.checked_add(1).ok_or(AllocError)
+}
+
 /// The number of the last message.
 fn last_number(kept: &Vec<Kept>) -> usize
     ensures { result ≡ length kept.now.items }
@@ -149,8 +156,7 @@ fn first_equal(packet: &Packet, kept: &[Kept], numbers: &[usize]) -> Result<usiz
             return Ok(*number);
         }
     }
-    // There is no memory for more messages than there are numbers.
-    kept.len().checked_add(1).ok_or(AllocError)
+    next_number(kept.len())
 }
 
 /// The lowest number of a message equal to that one.

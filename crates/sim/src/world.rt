@@ -1,4 +1,4 @@
-ghost use Rattle.std.specs.Prelude.{◌≡◌, IfOk, IsTrue, string_bytes, option_copied};
+ghost use Rattle.std.specs.Prelude.{◌≡◌, ◌≤◌, ◌-◌, IfOk, IsTrue, string_bytes, option_copied};
 ghost use Rattle.group_world.specs.Monitor.{map_refusal};
 ghost use Rattle.group_world.specs.Rules.{local_step};
 ghost use Rattle.sim.specs.Step.{opening, fresh_nodes, step, numbered, is_node, is_stopped, see, show, at_node, made_map, set_stopped, sends_again, unless_stopped, handled, happened_of, prints, IsTaken};
@@ -7,7 +7,7 @@ use crate::kept::keep_all;
 use crate::line::Line;
 use crate::print::{again_text, map_line, node_line, refused_line, sent_text};
 use crate::same::numbers_of;
-use crate::sent::Sent;
+use crate::sent::{Sent, next_number};
 use group_world::{Event, GroupMap, HandleError, Messages, MonitorError};
 use interp::ClassTable;
 use peering::{GroupNode, Monitor};
@@ -62,7 +62,15 @@ pub(crate) fn numbered<T>(items: &[T], number: u64) -> Option<&T>
     if number == 0 {
         return None;
     }
-    items.get((number - 1) as usize)
+    items.get(place_of(number))
+}
+
+/// The place of the one of that number, from 0.
+fn place_of(number: u64) -> usize
+    requires { 1 ≤ number }
+    ensures { result ≡ number - 1 }
+{
+    (number - 1) as usize
 }
 
 impl<C: Classes> World<C> {
@@ -136,8 +144,7 @@ impl<C: Classes> World<C> {
         requires known { IsTrue (is_node self.old node) }
         ensures { IfOk result (λ t. record { world = self.new; printed = string_bytes t } ≡ handled table.now self.old node event) }
     {
-        // There is no memory for more messages than there are numbers.
-        let number = self.sent.len().checked_add(1).ok_or(AllocError)?;
+        let number = next_number(self.sent.len())?;
         match take_event(table, &mut self.nodes[node.get() as usize], event)? {
             Ok(sent) => {
                 let text = sent_text(self.alloc, number, sent.items())?;

@@ -1,7 +1,13 @@
-use Rattle.std.proofs.Common.{◌+◌, ℕ, List, arith, subst}
+use Rattle.std.proofs.Common.{◌+◌, ℕ, List, arith, refl, subst}
 use Rattle.std.specs.Io.KnownBytes.{Appends}
-use Rattle.sim.proofs.Reaching.{all_done, bad_end, next_line, ok_if, printed_if, stops}
-use Rattle.sim.proofs.file.run_lines.Goals as goal
+use Rattle.sim.proofs.Reaching.{all_done, bad_end, next_line, ok_if, printed_if, starts_at, stops}
+use Rattle.sim.proofs.file.run_from.Goals as goal
+
+pub loop-line-init : goal.loop-line-init
+loop-line-init g c = record {
+  going = starts_at _ _ c.args.lines.now c.args.world.now _ _ c.requires.first;
+  number = refl;
+}
 
 pub returns-then-is_bad : goal.returns-then-is_bad
 returns-then-is_bad g c =
@@ -9,10 +15,10 @@ returns-then-is_bad g c =
     let grew = subst P c.as_str.ensures.value (printed_if c.print.result c.is_err.result _ c.is_err.ensures.value c.if-is_err.false c.print.ensures.printed) in
     let well = c.print.ensures.took (ok_if c.print.result c.is_err.result c.is_err.ensures.value c.if-is_err.false) in
     bad_end _ _ c.args.lines.now c.loop-line.line-index _ c.loop-line.number (c.loop-line.number + 1) _ _ _ _ _ _ _ _ _ _ c.loop-line-test.true (omega arith) c.loop-line.invariant.going
-    c.in-Ok-take_line.ensures c.if-is_bad.true grew well
+    c.in-Ok.ensures c.if-is_bad.true grew well
 
-pub returns-in-Err-take_line : goal.returns-in-Err-take_line
-returns-in-Err-take_line g c =
+pub returns-in-Err : goal.returns-in-Err
+returns-in-Err g c =
     stops _ _ c.args.lines.now c.loop-line.line-index c.loop-line.number c.loop-line.world _ _ _ _ (omega arith) c.loop-line.invariant.going
 
 pub loop-line-preserved : goal.loop-line-preserved
@@ -22,7 +28,7 @@ loop-line-preserved g c =
     let well = c.print.ensures.took (ok_if c.print.result c.is_err.result c.is_err.ensures.value c.if-is_err.false) in
     record {
       going = next_line _ _ c.args.lines.now c.loop-line.line-index (c.loop-line.line-index + 1) _ c.loop-line.number (c.loop-line.number + 1) _ _ _ _ _ _ _ _ _ _ c.loop-line-test.true (omega arith) (omega arith)
-          c.loop-line.invariant.going c.in-Ok-take_line.ensures c.if-is_bad.false grew well;
+          c.loop-line.invariant.going c.in-Ok.ensures c.if-is_bad.false grew well;
       number = omega arith;
     }
 

@@ -1,6 +1,6 @@
 use Rattle.std.proofs.Common.{◌≡◌, take, map, Bor, List, ℕ}
 use Rattle.sim.proofs.Reaching.{Going}
-use Rattle.sim.proofs.file.run_lines.Given as goal
+use Rattle.sim.proofs.file.run_from.Given as goal
 
 -- the lines above were done, and what they come to was printed
 abbrev pub invariant-loop-line : goal.invariant-loop-line
