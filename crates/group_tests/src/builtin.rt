@@ -2,13 +2,15 @@
 
 ghost use mathlib.Core.List.{IsPrefix};
 
+use super::printed::prints;
+use super::requests::{client, list, number};
+use super::words::next;
 use builtin_classes::{BuiltInFailure, LOCK, OBJ, load_all, load_lock, load_obj};
 use interp::{ClassTable, Outcome, call};
 use object_store::{Object, ObjectName};
-use pg_log::{Classes, ClientId, Group, GroupWork, Request, RequestNumber, with_group};
+use pg_log::{Classes, Group, GroupWork, Request, with_group};
 use std::alloc::Global;
 use std::process::Abort;
-use std::str::SplitWhitespace;
 use verifier::{VerifiedClass, VerifiedMethod};
 
 /// An owner, another, and nobody. A row is a request (client, object, class, method and input), a bar, and its reply
@@ -166,10 +168,6 @@ struct Line<'a> {
     output: &'a str,
 }
 
-fn next<'a>(words: &mut SplitWhitespace<'a>) -> &'a str {
-    words.next().unwrap_or("")
-}
-
 fn line_of(line: &str) -> Line<'_> {
     let mut words = line.split_whitespace();
     let client = next(&mut words);
@@ -190,11 +188,11 @@ fn line_of(line: &str) -> Line<'_> {
 }
 
 /// A request for a method of a built-in class.
-fn request_of<R: Abort>(rt: &R, alloc: Global, line: Line<'_>, number: u32) -> Request {
-    let client = line.client.parse::<u32>().expect(rt, "a client");
+fn request_of<R: Abort>(rt: &R, alloc: Global, line: Line<'_>, value: u32) -> Request {
+    let who = line.client.parse::<u32>().expect(rt, "a client");
     Request::new(
-        ClientId::new(client).expect(rt, "a client"),
-        RequestNumber::new(number).expect(rt, "a number"),
+        client(rt, who),
+        number(rt, value),
         ObjectName::new(alloc, line.object).expect(rt, "memory"),
         usize::from(line.class == "obj"),
         String::from_str(alloc, line.method).expect(rt, "memory"),
@@ -303,38 +301,19 @@ fn fills_an_object(rt: HostRuntime) {
     check(&rt, rt.alloc(), FULL);
 }
 
-/// A client, a number, and a method of `lock`, on the object `a`.
-type Asked = (u32, u32, &'static str);
-
 /// The owner's second lock and its unlock in between, and a list without them.
-const OLD: [Asked; 3] = [(1, 1, "lock"), (1, 2, "unlock"), (1, 3, "lock")];
+const OLD: &str = "1 1 0 lock
+1 2 0 unlock
+1 3 0 lock";
 
-const NEW: [Asked; 2] = [(1, 1, "lock"), (2, 1, "lock")];
-
-fn asked<R: Abort>(rt: &R, alloc: Global, (client, number, method): Asked) -> Request {
-    Request::new(
-        ClientId::new(client).expect(rt, "a client"),
-        RequestNumber::new(number).expect(rt, "a number"),
-        ObjectName::new(alloc, "a").expect(rt, "memory"),
-        0,
-        String::from_str(alloc, method).expect(rt, "memory"),
-        Vec::new(alloc),
-    )
-}
-
-fn list<R: Abort>(rt: &R, alloc: Global, rows: &[Asked]) -> Vec<Request> {
-    let mut list = Vec::new(alloc);
-    for row in rows {
-        list.push(asked(rt, alloc, *row)).expect(rt, "memory");
-    }
-    list
-}
+const NEW: &str = "1 1 0 lock
+2 1 0 lock";
 
 /// The group whose log is the old list.
 fn replayed<C: Classes, R: Abort>(rt: &R, alloc: Global, table: &ClassTable) -> Group<C>
     requires { IsPrefix table.now C.classes }
 {
-    let old = list(rt, alloc, &OLD);
+    let old = list(rt, alloc, OLD);
     Group::<C>::replay(alloc, table, &old).expect(rt, "memory")
 }
 
@@ -347,7 +326,7 @@ fn adopted<C: Classes, R: Abort>(
 ) -> Option<usize>
     requires { IsPrefix table.now C.classes }
 {
-    group.adopt(table, &list(rt, alloc, &NEW)).ok()
+    group.adopt(table, &list(rt, alloc, NEW)).ok()
 }
 
 /// Makes the old list a group's log, and that group adopts the new one.
@@ -480,6 +459,5 @@ fn loads_one_class(rt: HostRuntime) {
 
 #[test]
 fn printed_failure(rt: HostRuntime) {
-    let text = BuiltInFailure::NoMemory.to_string(rt.alloc());
-    assert!(rt; text.expect(&rt, "memory").as_str() == "no memory");
+    assert!(rt; prints(&rt, rt.alloc(), &BuiltInFailure::NoMemory, "no memory"));
 }

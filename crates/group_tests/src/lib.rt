@@ -5,14 +5,24 @@
 #[cfg(test)]
 mod builtin;
 #[cfg(test)]
+mod classes;
+#[cfg(test)]
 mod drawings;
 #[cfg(test)]
 mod log;
+#[cfg(test)]
+mod nodes;
 #[cfg(test)]
 mod peers;
 #[cfg(test)]
 mod placing;
 #[cfg(test)]
+mod printed;
+#[cfg(test)]
 mod replicating;
+#[cfg(test)]
+mod requests;
+#[cfg(test)]
+mod words;
 #[cfg(test)]
 mod world;

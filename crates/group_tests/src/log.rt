@@ -5,96 +5,47 @@ mod full;
 mod replay;
 mod undone;
 
-use bpf_decode::{ClassImage, Method, decode};
+use super::classes::class;
+use super::printed::prints;
+use super::requests::{client, number, request};
 use interp::ClassTable;
-use object_store::{Object, ObjectName};
+use object_store::Object;
 use pg_log::{
-    Classes, ClientId, Group, LogError, Request, RequestNumber, adopting, classes_added, folds,
-    legal_lists, objects_within_limits, pairs, refusals, replies, undoing,
+    Classes, ClientId, Group, LogError, RequestNumber, adopting, classes_added, folds, legal_lists,
+    objects_within_limits, pairs, refusals, replies, undoing,
 };
 use std::alloc::Global;
 use std::process::Abort;
-use std::test::Fail;
-use verifier::{VerifiedClass, verify};
 
 /// `mov r0, 0`, `exit`.
-const SUCCEED: [[u8; 8]; 2] = [[0xb7, 0, 0, 0, 0, 0, 0, 0], [0x95, 0, 0, 0, 0, 0, 0, 0]];
+pub(super) const SUCCEED: [u8; 16] = [0xb7, 0, 0, 0, 0, 0, 0, 0, 0x95, 0, 0, 0, 0, 0, 0, 0];
 
 /// `mov r2, r1`, `mov r1, 0`, `mov r3, 3`, `call 3`, `mov r0, -5`, `exit`: writes three bytes of the input, and fails.
-const WRITE_THEN_FAIL: [[u8; 8]; 6] = [
-    [0xbf, 0x12, 0, 0, 0, 0, 0, 0],
-    [0xb7, 0x01, 0, 0, 0, 0, 0, 0],
-    [0xb7, 0x03, 0, 0, 3, 0, 0, 0],
-    [0x85, 0, 0, 0, 3, 0, 0, 0],
-    [0xb7, 0, 0, 0, 0xfb, 0xff, 0xff, 0xff],
-    [0x95, 0, 0, 0, 0, 0, 0, 0],
+const WRITE_THEN_FAIL: [u8; 48] = [
+    0xbf, 0x12, 0, 0, 0, 0, 0, 0, 0xb7, 0x01, 0, 0, 0, 0, 0, 0, 0xb7, 0x03, 0, 0, 3, 0, 0, 0, 0x85,
+    0, 0, 0, 3, 0, 0, 0, 0xb7, 0, 0, 0, 0xfb, 0xff, 0xff, 0xff, 0x95, 0, 0, 0, 0, 0, 0, 0,
 ];
 
 /// `mov r2, r1`, `mov r1, 0`, `mov r3, 3`, `call 3`, `exit`: writes three bytes of the input, and gives their count.
-const WRITE: [[u8; 8]; 5] = [
-    [0xbf, 0x12, 0, 0, 0, 0, 0, 0],
-    [0xb7, 0x01, 0, 0, 0, 0, 0, 0],
-    [0xb7, 0x03, 0, 0, 3, 0, 0, 0],
-    [0x85, 0, 0, 0, 3, 0, 0, 0],
-    [0x95, 0, 0, 0, 0, 0, 0, 0],
+const WRITE: [u8; 40] = [
+    0xbf, 0x12, 0, 0, 0, 0, 0, 0, 0xb7, 0x01, 0, 0, 0, 0, 0, 0, 0xb7, 0x03, 0, 0, 3, 0, 0, 0, 0x85,
+    0, 0, 0, 3, 0, 0, 0, 0x95, 0, 0, 0, 0, 0, 0, 0,
 ];
 
 /// Client and number of a logged request, its place and its code.
 type Logged = (u32, u32, usize, i64);
 
-/// A class of one method `f`.
-fn class(alloc: Global, code: &[[u8; 8]], flags: u8, in_cap: u16) -> Result<VerifiedClass, Fail> {
-    let mut bytes = Vec::new(alloc);
-    for slot in code {
-        bytes.extend_from_slice(slot)?;
-    }
-    let name = String::from_str(alloc, "f")?;
-    let mut methods = Vec::new(alloc);
-    methods.push(Method::new(name, flags, in_cap, 0, decode(alloc, &bytes)?))?;
-    Ok(verify(alloc, &ClassImage::new(methods)?)?)
-}
-
 /// Class 0 succeeds, class 1 writes and fails, class 2 writes.
-fn table(alloc: Global) -> Result<ClassTable, Fail> {
+pub(super) fn table<R: Abort>(rt: &R, alloc: Global) -> ClassTable {
     let mut table = ClassTable::new(alloc);
-    table.add(class(alloc, &SUCCEED, 1, 3)?)?;
-    table.add(class(alloc, &WRITE_THEN_FAIL, 2, 3)?)?;
-    table.add(class(alloc, &WRITE, 2, 3)?)?;
-    Ok(table)
-}
-
-fn client<R: Abort>(rt: &R, number: u32) -> ClientId {
-    ClientId::new(number).expect(rt, "a client")
-}
-
-fn number<R: Abort>(rt: &R, value: u32) -> RequestNumber {
-    RequestNumber::new(value).expect(rt, "a number")
-}
-
-fn name<R: Abort>(rt: &R, alloc: Global) -> ObjectName {
-    ObjectName::new(alloc, "object").expect(rt, "memory")
-}
-
-/// A request of a client for the object `object`.
-fn request<R: Abort>(
-    rt: &R,
-    alloc: Global,
-    (who, value): (u32, u32),
-    class: usize,
-    method: &str,
-    input: &[u8],
-) -> Request {
-    let object = name(rt, alloc);
-    let method = String::from_str(alloc, method).expect(rt, "memory");
-    let input = Vec::from_slice(alloc, input).expect(rt, "memory");
-    Request::new(
-        client(rt, who),
-        number(rt, value),
-        object,
-        class,
-        method,
-        input,
-    )
+    let _ = table
+        .add(class(rt, alloc, 1, 3, &SUCCEED))
+        .expect(rt, "room");
+    let _ = table
+        .add(class(rt, alloc, 2, 3, &WRITE_THEN_FAIL))
+        .expect(rt, "room");
+    let _ = table.add(class(rt, alloc, 2, 3, &WRITE)).expect(rt, "room");
+    table
 }
 
 /// Whether the object has those bytes, at most eight, or is absent.
@@ -146,8 +97,7 @@ fn equal_requests(rt: HostRuntime) {
 
 #[test]
 fn printed_refusal(rt: HostRuntime) {
-    let text = format!(in rt.alloc(); "{}", LogError::StaleNumber).expect(&rt, "memory");
-    assert!(rt; text.as_str() == "2 StaleNumber");
+    assert!(rt; prints(&rt, rt.alloc(), &LogError::StaleNumber, "2 StaleNumber"));
 }
 
 #[test]

@@ -1,8 +1,10 @@
+use super::nodes::nodes;
+use super::printed::prints;
 use placement::{
     ClusterMap, GROUP_LIMIT, NodeId, PlacementError, acting, group_of, ranking, score,
 };
 use std::alloc::Global;
-use std::test::Fail;
+use std::process::Abort;
 
 /// The published values of FNV-1a with 64 bits, modulo 64.
 const NAMES: [(&str, u64); 3] = [("", 0x25), ("a", 12), ("foobar", 0x28)];
@@ -48,57 +50,65 @@ const LIMITS: [Refused; 11] = [
     (1, &[0, 1], 3, 64, 64),
 ];
 
-fn map_of(alloc: Global, (epoch, nodes, replicas, groups, _): Refused) -> Result<ClusterMap, Fail> {
-    let mut up = Vec::new(alloc);
-    for node in nodes {
-        up.push(NodeId::new(*node))?;
-    }
-    Ok(ClusterMap {
+fn map_of<R: Abort>(
+    rt: &R,
+    alloc: Global,
+    (epoch, up, replicas, groups, _): Refused,
+) -> ClusterMap {
+    ClusterMap {
         epoch,
-        up,
+        up: nodes(rt, alloc, up),
         replicas,
         groups,
-    })
+    }
+}
+
+/// How many nodes act, or the refusal.
+fn count<R: Abort>(rt: &R, alloc: Global, row: Refused) -> Result<usize, PlacementError> {
+    let map = map_of(rt, alloc, row);
+    match acting(alloc, &map, row.4) {
+        Ok(nodes) => Ok(nodes.len()),
+        Err(error) => Err(error),
+    }
 }
 
 /// The nodes of the bits that are set, in falling order, so that the order comes from the scores.
-fn nodes_of(alloc: Global, bits: u64) -> Result<Vec<NodeId>, Fail> {
+fn nodes_of<R: Abort>(rt: &R, alloc: Global, bits: u64) -> Vec<NodeId> {
     let mut up = Vec::new(alloc);
     for node in (0..16u64).rev() {
         if bits >> node & 1 == 1 {
-            up.push(NodeId::new(node))?;
+            up.push(NodeId::new(node)).expect(rt, "memory");
         }
     }
-    Ok(up)
+    up
 }
 
 #[test]
 fn names(rt: HostRuntime) {
     for (name, group) in NAMES {
-        assert_eq!(rt; group_of(name.as_bytes(), 64), group, "of {name}");
+        assert!(rt; group_of(name.as_bytes(), 64) == group, "of {name}");
     }
-    assert_eq!(rt; group_of(b"a", 8), 4);
-    assert_eq!(rt; group_of(b"a", 1), 0);
+    assert!(rt; group_of(b"a", 8) == 4 && group_of(b"a", 1) == 0);
 }
 
 #[test]
 fn scores(rt: HostRuntime) {
     for (group, node, value) in SCORES {
-        assert_eq!(rt; score(group, NodeId::new(node)), value, "of node {node}");
+        assert!(rt; score(group, NodeId::new(node)) == value, "of node {node}");
     }
 }
 
 #[test]
-fn acting_sets(rt: HostRuntime) -> Result<(), Fail> {
+fn acting_sets(rt: HostRuntime) {
     for (group, bits, replicas, wanted) in ACTING {
-        let up = nodes_of(rt.alloc(), bits)?;
+        let up = nodes_of(&rt, rt.alloc(), bits);
         let map = ClusterMap {
             epoch: 1,
             up,
             replicas,
             groups: 64,
         };
-        let found = acting(rt.alloc(), &map, group)?;
+        let found = acting(rt.alloc(), &map, group).expect(&rt, "an acting set");
         assert!(rt;
             found
                 .iter()
@@ -107,39 +117,28 @@ fn acting_sets(rt: HostRuntime) -> Result<(), Fail> {
             "of group {group}"
         );
     }
-    Ok(())
 }
 
 #[test]
-fn refusals(rt: HostRuntime) -> Result<(), Fail> {
+fn refusals(rt: HostRuntime) {
     for row in LIMITS {
-        let map = map_of(rt.alloc(), row)?;
-        assert_eq!(rt;
-            acting(rt.alloc(), &map, row.4).err(),
-            Some(PlacementError::Limit)
-        );
+        assert!(rt; count(&rt, rt.alloc(), row) == Err(PlacementError::Limit));
     }
-    let none = map_of(rt.alloc(), (0, &[], 0, 0, 0))?;
-    assert_eq!(rt;
-        acting(rt.alloc(), &none, 0).err(),
-        Some(PlacementError::NoneUp)
-    );
-    let last = map_of(rt.alloc(), ((1 << 32) - 1, &[15], 3, 64, 63))?;
-    assert_eq!(rt; acting(rt.alloc(), &last, 63)?.len(), 1);
-    assert_eq!(rt; GROUP_LIMIT, 64);
-    Ok(())
+    let none = count(&rt, rt.alloc(), (0, &[], 0, 0, 0));
+    assert!(rt; none == Err(PlacementError::NoneUp));
+    let last = count(&rt, rt.alloc(), ((1 << 32) - 1, &[15], 3, 64, 63));
+    assert!(rt; last == Ok(1) && GROUP_LIMIT == 64);
 }
 
 #[test]
-fn printed(rt: HostRuntime) -> Result<(), Fail> {
+fn printed(rt: HostRuntime) {
     let refusals = [
         (PlacementError::NoneUp, "1 NoneUp"),
         (PlacementError::Limit, "2 Limit"),
         (PlacementError::NoMemory, "3 NoMemory"),
     ];
     for (refusal, text) in refusals {
-        assert_eq!(rt; format!(in rt.alloc(); "{refusal}")?.as_str(), text);
+        assert!(rt; prints(&rt, rt.alloc(), &refusal, text));
     }
     ranking();
-    Ok(())
 }

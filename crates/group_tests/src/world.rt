@@ -1,12 +1,13 @@
+use super::nodes::nodes;
+use super::printed::prints;
+use super::requests::request_of;
 use group_world::{
     Answer, Epoch, GroupMap, HandleError, Kind, Message, Messages, MonitorError, Packet, Party,
     Requests, agreement, nothing_is_cut, worked_runs,
 };
-use object_store::ObjectName;
-use pg_log::{ClientId, Request, RequestNumber};
 use placement::NodeId;
 use std::alloc::Global;
-use std::test::Fail;
+use std::process::Abort;
 
 const NODE_REFUSALS: [(HandleError, &str); 8] = [
     (HandleError::NotPrimary, "1 NotPrimary"),
@@ -26,85 +27,65 @@ const MONITOR_REFUSALS: [(MonitorError, &str); 4] = [
     (MonitorError::NoMemory, "4 NoMemory"),
 ];
 
-fn nodes(alloc: Global, numbers: &[u64]) -> Result<Vec<NodeId>, Fail> {
-    let mut nodes = Vec::new(alloc);
-    for number in numbers {
-        nodes.push(NodeId::new(*number))?;
-    }
-    Ok(nodes)
-}
-
 /// The fourth map of a group. Its interval began with the third, and before it interval 1 was activated last.
-fn map(alloc: Global) -> Result<GroupMap, Fail> {
-    Ok(GroupMap::new(
-        Epoch::new(4),
-        Epoch::new(3),
-        nodes(alloc, &[1, 2])?,
-        Epoch::new(1),
-        nodes(alloc, &[1, 2, 3])?,
-    ))
-}
-
-fn request(alloc: Global) -> Result<Request, Fail> {
-    let name = ObjectName::new(alloc, "a")?;
-    let method = String::from_str(alloc, "lock")?;
-    let client = ClientId::new(1).ok_or("a client")?;
-    let number = RequestNumber::new(7).ok_or("a number")?;
-    Ok(Request::new(client, number, name, 0, method, Vec::new(alloc)))
+fn map<R: Abort>(rt: &R, alloc: Global) -> GroupMap {
+    let acting = nodes(rt, alloc, &[1, 2]);
+    let before = nodes(rt, alloc, &[1, 2, 3]);
+    GroupMap::new(Epoch::new(4), Epoch::new(3), acting, Epoch::new(1), before)
 }
 
 #[test]
-fn parts_of_a_map(rt: HostRuntime) -> Result<(), Fail> {
-    let map = map(rt.alloc())?.copy(rt.alloc())?;
+fn parts_of_a_map(rt: HostRuntime) {
+    let map = map(&rt, rt.alloc());
+    let map = map.copy(rt.alloc()).expect(&rt, "memory");
     assert!(rt; map.epoch().get() == 4 && map.interval().get() == 3 && map.prev().get() == 1);
     assert!(rt; map.acting().len() == 2 && map.prev_acting().len() == 3);
-    Ok(())
 }
 
 #[test]
-fn lists_of_requests(rt: HostRuntime) -> Result<(), Fail> {
+fn lists_of_requests(rt: HostRuntime) {
     let mut items = Vec::new(rt.alloc());
-    items.push(request(rt.alloc())?)?;
+    let request = request_of(&rt, rt.alloc(), "1 7 0 lock");
+    items.push(request).expect(&rt, "memory");
     let list = Requests::new(items);
     assert!(rt; list.items().len() == 1);
     let items = list.into_items();
     assert!(rt; items.len() == 1 && items[0].number().get() == 7);
-    Ok(())
 }
 
 #[test]
-fn lists_of_messages(rt: HostRuntime) -> Result<(), Fail> {
+fn lists_of_messages(rt: HostRuntime) {
     let mut items = Vec::new(rt.alloc());
-    items.push(Packet {
+    let message = Message {
+        sender: Party::Node(NodeId::new(1)),
+        kind: Kind::AskActivate(Epoch::new(1)),
+    };
+    let packet = Packet {
         receiver: Party::Monitor,
-        message: Message {
-            sender: Party::Node(NodeId::new(1)),
-            kind: Kind::AskActivate(Epoch::new(1)),
-        },
-    })?;
+        message,
+    };
+    items.push(packet).expect(&rt, "memory");
     let messages = Messages::new(items);
     assert!(rt; messages.items().len() == 1);
     let items = messages.into_items();
     assert!(rt; items[0].receiver == Party::Monitor);
-    Ok(())
 }
 
 #[test]
-fn parts_of_an_answer(rt: HostRuntime) -> Result<(), Fail> {
-    let answer = Answer::new(-16, Vec::from_slice(rt.alloc(), b"ab")?);
+fn parts_of_an_answer(rt: HostRuntime) {
+    let output = Vec::from_slice(rt.alloc(), b"ab").expect(&rt, "memory");
+    let answer = Answer::new(-16, output);
     assert!(rt; answer.code() == -16 && answer.output() == b"ab".as_slice());
-    Ok(())
 }
 
 #[test]
-fn printed_refusals(rt: HostRuntime) -> Result<(), Fail> {
+fn printed_refusals(rt: HostRuntime) {
     for (refusal, text) in NODE_REFUSALS {
-        assert_eq!(rt; format!(in rt.alloc(); "{refusal}")?.as_str(), text);
+        assert!(rt; prints(&rt, rt.alloc(), &refusal, text));
     }
     for (refusal, text) in MONITOR_REFUSALS {
-        assert_eq!(rt; format!(in rt.alloc(); "{refusal}")?.as_str(), text);
+        assert!(rt; prints(&rt, rt.alloc(), &refusal, text));
     }
-    Ok(())
 }
 
 #[test]

@@ -1,12 +1,13 @@
 ghost use Rattle.std.specs.Prelude.{◌≡◌};
 
-use super::{SUCCEED, class, request, see, table};
+use super::super::classes::class;
+use super::super::requests::request_of;
+use super::{SUCCEED, see, table};
 use interp::ClassTable;
 use pg_log::{Classes, Group, GroupWork, LogError, go_on};
 use std::alloc::Global;
 use std::marker::Brand;
 use std::process::Abort;
-use std::test::Fail;
 use verifier::VerifiedClass;
 
 /// Goes on with a group whose first request was client 1's first.
@@ -22,7 +23,7 @@ impl<R: Abort> GroupWork for Rest<'_, R> {
     ghost gives = { λ _ _ _ _. Unit {0} };
 
     fn work<C: Classes>(self, table: &ClassTable, mut group: Group<C>) {
-        let second = request(self.rt, self.alloc, (1, 2), 3, "f", b"");
+        let second = request_of(self.rt, self.alloc, "1 2 3 f");
         assert!(self.rt; group.append(table, second) == Ok(1));
         see(self.rt, &group, (1, 1, 0, 3));
     }
@@ -33,9 +34,9 @@ fn adds<C: Classes, R: Abort>(rt: &R, alloc: Global, mut table: ClassTable, clas
     requires { table ≡ C.classes }
 {
     let mut group = Group::<C>::new(alloc);
-    let first = request(rt, alloc, (1, 1), 2, "f", b"abc");
+    let first = request_of(rt, alloc, "1 1 2 f abc");
     assert!(rt; group.append(&table, first) == Ok(0));
-    let second = request(rt, alloc, (1, 2), 3, "f", b"");
+    let second = request_of(rt, alloc, "1 2 3 f");
     assert!(rt; group.append(&table, second) == Err(LogError::NoClass));
     let _ = table.add(class).expect(rt, "memory");
     go_on(&table, group, Rest { rt, alloc });
@@ -43,9 +44,9 @@ fn adds<C: Classes, R: Abort>(rt: &R, alloc: Global, mut table: ClassTable, clas
 
 /// A class added between two appends can be named by the second.
 #[test]
-fn class_added(rt: HostRuntime) -> Result<(), Fail> {
+fn class_added(rt: HostRuntime) {
     let alloc = rt.alloc();
-    let (table, class) = (table(alloc)?, class(alloc, &SUCCEED, 1, 3)?);
+    let table = table(&rt, alloc);
+    let class = class(&rt, alloc, 1, 3, &SUCCEED);
     adds::<Brand, HostRuntime>(&rt, alloc, table, class);
-    Ok(())
 }

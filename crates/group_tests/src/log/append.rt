@@ -1,19 +1,12 @@
-use super::{Logged, is_object, name, request, see, table};
+use super::super::requests::{name, request_of};
+use super::{Logged, is_object, see, table};
 use interp::ClassTable;
 use pg_log::{Classes, Group, GroupWork, LogError, with_group};
 use std::alloc::Global;
 use std::process::Abort;
-use std::test::Fail;
 
-/// Client, number, class, method and input of a request, and what its append answers.
-type Row = (
-    u32,
-    u32,
-    usize,
-    &'static str,
-    &'static str,
-    Result<usize, LogError>,
-);
+/// A request, and what its append answers.
+type Row = (&'static str, Result<usize, LogError>);
 
 /// Appends each row, and then looks for the logged requests and for the object.
 #[derive(Drop)]
@@ -32,10 +25,9 @@ impl<R: Abort> GroupWork for Appends<'_, R> {
 
     fn work<C: Classes>(self, table: &ClassTable, mut group: Group<C>) {
         let rt = self.rt;
-        for row in self.rows {
-            let input = row.4.as_bytes();
-            let request = request(rt, self.alloc, (row.0, row.1), row.2, row.3, input);
-            assert!(rt; group.append(table, request) == row.5);
+        for (line, answer) in self.rows {
+            let request = request_of(rt, self.alloc, line);
+            assert!(rt; group.append(table, request) == *answer);
         }
         assert!(rt; group.len() == self.logged.len());
         for logged in self.logged {
@@ -47,17 +39,17 @@ impl<R: Abort> GroupWork for Appends<'_, R> {
 
 /// Two clients, the same pair again, and each refusal but a full log.
 const ROWS: [Row; 11] = [
-    (1, 5, 0, "f", "", Ok(0)),
-    (1, 5, 0, "f", "", Ok(0)),
-    (1, 5, 64, "g", "abcd", Ok(0)),
-    (1, 4, 0, "f", "", Err(LogError::StaleNumber)),
-    (2, 1, 64, "f", "", Err(LogError::NoClass)),
-    (2, 1, 0, "g", "abcd", Err(LogError::NoMethod)),
-    (2, 1, 0, "f", "abcd", Err(LogError::InputTooLong)),
-    (2, 1, 0, "f", "abc", Ok(1)),
-    (1, 6, 2, "f", "abc", Ok(2)),
-    (2, 4_294_967_295, 0, "f", "", Ok(3)),
-    (1, 5, 0, "f", "", Ok(0)),
+    ("1 5 0 f", Ok(0)),
+    ("1 5 0 f", Ok(0)),
+    ("1 5 64 g abcd", Ok(0)),
+    ("1 4 0 f", Err(LogError::StaleNumber)),
+    ("2 1 64 f", Err(LogError::NoClass)),
+    ("2 1 0 g abcd", Err(LogError::NoMethod)),
+    ("2 1 0 f abcd", Err(LogError::InputTooLong)),
+    ("2 1 0 f abc", Ok(1)),
+    ("1 6 2 f abc", Ok(2)),
+    ("2 4294967295 0 f", Ok(3)),
+    ("1 5 0 f", Ok(0)),
 ];
 
 /// The requests of those rows that are logged.
@@ -69,8 +61,8 @@ const LOGGED: [Logged; 4] = [
 ];
 
 #[test]
-fn places_and_refusals(rt: HostRuntime) -> Result<(), Fail> {
-    let table = table(rt.alloc())?;
+fn places_and_refusals(rt: HostRuntime) {
+    let table = table(&rt, rt.alloc());
     let work = Appends {
         rt: &rt,
         alloc: rt.alloc(),
@@ -79,20 +71,18 @@ fn places_and_refusals(rt: HostRuntime) -> Result<(), Fail> {
         object: Some("abc"),
     };
     with_group(rt.alloc(), &table, work);
-    Ok(())
 }
 
 /// A call that wrote and failed stands in the log, and its object is absent.
 #[test]
-fn failed_write(rt: HostRuntime) -> Result<(), Fail> {
-    let table = table(rt.alloc())?;
+fn failed_write(rt: HostRuntime) {
+    let table = table(&rt, rt.alloc());
     let work = Appends {
         rt: &rt,
         alloc: rt.alloc(),
-        rows: &[(1, 1, 1, "f", "abc", Ok(0))],
+        rows: &[("1 1 1 f abc", Ok(0))],
         logged: &[(1, 1, 0, -5)],
         object: None,
     };
     with_group(rt.alloc(), &table, work);
-    Ok(())
 }

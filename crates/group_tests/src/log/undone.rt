@@ -1,11 +1,13 @@
-use super::{has_data, name, request};
+use super::super::classes::table_of;
+use super::super::requests::{add, list, name};
+use super::super::words::next;
+use super::has_data;
 use bpf_asm::assemble_class;
 use interp::ClassTable;
 use object_store::Object;
-use pg_log::{Classes, Group, GroupWork, Request, with_group};
+use pg_log::{Classes, Group, GroupWork, with_group};
 use std::alloc::Global;
 use std::process::Abort;
-use std::test::Fail;
 use verifier::verify;
 
 /// `drop` removes the object; `key` sets the omap's key `k` to its input, `xattr` the xattr `k`; `unkey` removes the key;
@@ -50,76 +52,52 @@ call 7
 exit
 ";
 
-/// Method and input of client 1's requests, numbered from 1 on.
-type Calls = &'static [(&'static str, &'static str)];
-
 /// The log before: the object is made, changed, removed and made again.
-const OLD: [(&str, &str); 9] = [
-    ("write", "abc"),
-    ("xattr", "one"),
-    ("key", "two"),
-    ("key", "three"),
-    ("unkey", ""),
-    ("drop", ""),
-    ("key", "four"),
-    ("write", "xyz"),
-    ("xattr", "five"),
+const OLD: &str = "1 1 0 write abc
+1 2 0 xattr one
+1 3 0 key two
+1 4 0 key three
+1 5 0 unkey
+1 6 0 drop
+1 7 0 key four
+1 8 0 write xyz
+1 9 0 xattr five";
+
+/// How many entries stay, what client 2 calls behind them, and the object after, by its data and the values of its xattr
+/// and of its key, `-` for none. Worked out by hand.
+type Row = (usize, &'static str, Option<&'static str>);
+
+const ROWS: [Row; 8] = [
+    (8, "", Some("xyz - four")),
+    (7, "2 1 0 xattr new", Some("- new four")),
+    (6, "", None),
+    (5, "2 1 0 key new", Some("abc one new")),
+    (4, "", Some("abc one three")),
+    (3, "", Some("abc one two")),
+    (2, "2 1 0 drop\n2 2 0 write de", Some("de - -")),
+    (1, "", Some("abc - -")),
 ];
-
-/// The object's data, and the values of its xattr and of its key.
-type Content = (&'static str, Option<&'static str>, Option<&'static str>);
-
-/// How many entries stay, what client 2 calls behind them, and the object after, worked out by hand.
-const ROWS: [(usize, Calls, Option<Content>); 8] = [
-    (8, &[], Some(("xyz", None, Some("four")))),
-    (
-        7,
-        &[("xattr", "new")],
-        Some(("", Some("new"), Some("four"))),
-    ),
-    (6, &[], None),
-    (
-        5,
-        &[("key", "new")],
-        Some(("abc", Some("one"), Some("new"))),
-    ),
-    (4, &[], Some(("abc", Some("one"), Some("three")))),
-    (3, &[], Some(("abc", Some("one"), Some("two")))),
-    (
-        2,
-        &[("drop", ""), ("write", "de")],
-        Some(("de", None, None)),
-    ),
-    (1, &[], Some(("abc", None, None))),
-];
-
-/// A client's calls, numbered from 1 on.
-fn put<R: Abort>(rt: &R, alloc: Global, list: &mut Vec<Request>, who: u32, calls: &[(&str, &str)]) {
-    let mut value: u32 = 0;
-    for &(method, input) in calls {
-        value = value.wrapping_add(1);
-        let one = request(rt, alloc, (who, value), 0, method, input.as_bytes());
-        list.push(one).expect(rt, "memory");
-    }
-}
 
 /// Whether the object is this, or absent.
-fn holds(object: Option<&Object>, want: Option<Content>) -> bool {
+fn holds(object: Option<&Object>, want: Option<&str>) -> bool {
     match (object, want) {
         (None, None) => true,
-        (Some(object), Some((data, xattr, key))) => {
-            has_data(object, data.as_bytes())
-                && is_value(object.xattr(b"k"), xattr)
-                && is_value(object.key(b"k"), key)
-        }
+        (Some(object), Some(text)) => is_content(object, text),
         _ => false,
     }
 }
 
-fn is_value(value: Option<&[u8]>, want: Option<&str>) -> bool {
-    match want {
-        None => value.is_none(),
-        Some(text) => value == Some(text.as_bytes()),
+fn is_content(object: &Object, text: &str) -> bool {
+    let mut words = text.split_whitespace();
+    has_data(object, next(&mut words).trim_matches('-').as_bytes())
+        && is_value(object.xattr(b"k"), next(&mut words))
+        && is_value(object.key(b"k"), next(&mut words))
+}
+
+fn is_value(value: Option<&[u8]>, want: &str) -> bool {
+    match value {
+        None => want == "-",
+        Some(bytes) => bytes == want.as_bytes(),
     }
 }
 
@@ -138,22 +116,21 @@ impl<R: Abort> GroupWork for Undoes<'_, R> {
     fn work<C: Classes>(self, table: &ClassTable, mut group: Group<C>) {
         let (rt, alloc) = (self.rt, self.alloc);
         for (stay, calls, want) in ROWS {
-            let mut old = Vec::new(alloc);
-            put(rt, alloc, &mut old, 1, &OLD);
-            let _ = group.adopt(table, &old).expect(rt, "memory");
-            old.truncate(stay);
-            put(rt, alloc, &mut old, 2, calls);
-            assert!(rt; group.adopt(table, &old) == Ok(stay));
+            let mut requests = list(rt, alloc, OLD);
+            let _ = group.adopt(table, &requests).expect(rt, "memory");
+            requests.truncate(stay);
+            add(rt, alloc, &mut requests, calls);
+            assert!(rt; group.adopt(table, &requests) == Ok(stay));
             assert!(rt; holds(group.object(&name(rt, alloc)), want));
         }
     }
 }
 
 #[test]
-fn changes_are_undone(rt: HostRuntime) -> Result<(), Fail> {
+fn changes_are_undone(rt: HostRuntime) {
     let alloc = rt.alloc();
-    let mut table = ClassTable::new(alloc);
-    table.add(verify(alloc, &assemble_class(alloc, TEXT)?)?)?;
+    let image = assemble_class(alloc, TEXT).expect(&rt, "a class");
+    let class = verify(alloc, &image).expect(&rt, "a safe class");
+    let table = table_of(&rt, alloc, class);
     with_group(alloc, &table, Undoes { rt: &rt, alloc });
-    Ok(())
 }

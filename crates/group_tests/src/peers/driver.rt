@@ -1,8 +1,10 @@
 //! Drives nodes and their monitor by hand, a step at a time.
 ghost use Rattle.std.specs.Prelude.{◌≡◌};
 
+use super::super::requests::request;
+use super::super::words::{next, next_number};
 use super::lines::{copy, line, shown};
-use super::table::{request, table};
+use super::table::table;
 use group_world::{Epoch, Event, GroupMap, Kind, Message, Packet, Party};
 use interp::ClassTable;
 use peering::{GroupNode, Monitor};
@@ -11,21 +13,6 @@ use placement::NodeId;
 use std::alloc::Global;
 use std::process::Abort;
 use std::str::SplitWhitespace;
-
-/// The decimal number of a word.
-fn number(word: &str) -> u32 {
-    let mut n = 0u32;
-    for byte in word.bytes() {
-        if byte.is_ascii_digit() {
-            n = n.wrapping_mul(10).wrapping_add(u32::from(byte - b'0'));
-        }
-    }
-    n
-}
-
-fn next<'a>(words: &mut SplitWhitespace<'a>) -> &'a str {
-    words.next().unwrap_or("")
-}
 
 /// Nodes 0 to 5, their monitor, its maps, all messages that were sent, the lines of a step, and how many of them were wanted so
 /// far.
@@ -93,7 +80,7 @@ impl<C: Classes> World<C> {
     fn map<R: Abort>(&mut self, rt: &R, numbers: SplitWhitespace<'_>) {
         let mut acting = Vec::new(self.alloc);
         for word in numbers {
-            let node = NodeId::new(u64::from(number(word)));
+            let node = NodeId::new(word.parse::<u64>().expect(rt, "a node"));
             acting.push(node).expect(rt, "memory");
         }
         let text = match self.monitor.new_map(&acting) {
@@ -195,8 +182,8 @@ impl<C: Classes> World<C> {
     )
         requires { table.now ≡ C.classes }
     {
-        let pair = (number(next(&mut words)), number(next(&mut words)));
-        let request = request(rt, self.alloc, pair, next(&mut words));
+        let pair = (next_number(rt, &mut words), next_number(rt, &mut words));
+        let request = request(rt, self.alloc, pair, 0, next(&mut words), b"");
         self.take(rt, table, at, Event::Request(request));
     }
 
@@ -217,9 +204,9 @@ impl<C: Classes> World<C> {
             self.map(rt, words);
             return;
         }
-        let at = number(next(&mut words)) as usize;
+        let at = next_number(rt, &mut words) as usize;
         match what {
-            "see" => self.see(rt, table, at, number(next(&mut words)) as usize),
+            "see" => self.see(rt, table, at, next_number(rt, &mut words) as usize),
             "ask" => self.ask(rt, table, at, words),
             "deliver" => self.deliver(rt, table, at),
             "show" => self.show(rt, at),

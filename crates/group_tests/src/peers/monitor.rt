@@ -1,21 +1,17 @@
 //! The monitor's refusals, and copies.
+use super::super::nodes::nodes;
 use group_world::{Epoch, MonitorError};
-use peering::{GroupNode, Monitor};
-use pg_log::{Classes, Group, GroupWork, with_group};
-use placement::NodeId;
+use peering::Monitor;
 use std::alloc::Global;
 use std::process::Abort;
-use std::test::Fail;
 
 /// Acting lists that no map has.
 const BAD: [&[u64]; 5] = [&[], &[1, 2, 3, 4], &[1, 2, 1], &[16], &[3, 3]];
 
-fn nodes<R: Abort>(rt: &R, alloc: Global, numbers: &[u64]) -> Vec<NodeId> {
-    let mut nodes = Vec::new(alloc);
-    for number in numbers {
-        nodes.push(NodeId::new(*number)).expect(rt, "memory");
-    }
-    nodes
+/// Epoch and interval of the monitor's next map, of node 1 alone.
+fn next_map<R: Abort>(rt: &R, alloc: Global, monitor: &mut Monitor) -> (u32, u32) {
+    let map = monitor.new_map(&nodes(rt, alloc, &[1])).expect(rt, "a map");
+    (map.epoch().get(), map.interval().get())
 }
 
 #[test]
@@ -23,11 +19,8 @@ fn bad_acting_lists(rt: HostRuntime) {
     let mut monitor = Monitor::new(rt.alloc());
     for numbers in BAD {
         let acting = nodes(&rt, rt.alloc(), numbers);
-        assert!(rt;
-            monitor
-                .new_map(&acting)
-                .is_err_and(|e| e == MonitorError::BadActing)
-        );
+        let refusal = monitor.new_map(&acting).err();
+        assert!(rt; refusal == Some(MonitorError::BadActing));
     }
 }
 
@@ -49,10 +42,8 @@ fn activation_before_any_map(rt: HostRuntime) {
 #[test]
 fn copies(rt: HostRuntime) {
     let mut monitor = Monitor::new(rt.alloc());
-    let acting = nodes(&rt, rt.alloc(), &[1]);
-    let _ = monitor.new_map(&acting);
+    let _ = next_map(&rt, rt.alloc(), &mut monitor);
     let mut copy = monitor.copy(rt.alloc()).expect(&rt, "memory");
     assert!(rt; copy.activate(Epoch::new(1)) == Ok(()));
-    let second = copy.new_map(&acting).expect(&rt, "a map");
-    assert!(rt; second.epoch().get() == 2 && second.interval().get() == 1);
+    assert!(rt; next_map(&rt, rt.alloc(), &mut copy) == (2, 1));
 }

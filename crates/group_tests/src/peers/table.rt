@@ -1,11 +1,8 @@
 //! A class whose answers are worked out by hand: the first byte of an object is 1 while it is locked.
-use bpf_decode::{ClassImage, Method, decode};
+use super::super::classes::{class_of, method, table_of};
 use interp::ClassTable;
-use object_store::ObjectName;
-use pg_log::{ClientId, Request, RequestNumber};
 use std::alloc::Global;
 use std::process::Abort;
-use verifier::verify;
 
 /// Reads the first byte to the stack; answers -16 where it isn't 0; else writes a 1 and answers 0.
 const LOCK: [u8; 136] = [
@@ -24,41 +21,12 @@ const UNLOCK: [u8; 56] = [
     0x95, 0, 0, 0, 0, 0, 0, 0,
 ];
 
-fn method<R: Abort>(rt: &R, alloc: Global, name: &str, code: &[u8]) -> Method {
-    let name = String::from_str(alloc, name).expect(rt, "memory");
-    let insns = decode(alloc, code).expect(rt, "instructions");
-    Method::new(name, 3, 0, 0, insns)
-}
-
 /// Class 0 has `lock` and `unlock`.
 pub(super) fn table<R: Abort>(rt: &R, alloc: Global) -> ClassTable {
     let mut methods = Vec::new(alloc);
-    let (lock, unlock) = (
-        method(rt, alloc, "lock", &LOCK),
-        method(rt, alloc, "unlock", &UNLOCK),
-    );
+    let lock = method(rt, alloc, "lock", 3, 0, &LOCK);
     methods.push(lock).expect(rt, "memory");
+    let unlock = method(rt, alloc, "unlock", 3, 0, &UNLOCK);
     methods.push(unlock).expect(rt, "memory");
-    let image = ClassImage::new(methods).expect(rt, "a class");
-    let class = verify(alloc, &image).expect(rt, "a safe class");
-    let mut table = ClassTable::new(alloc);
-    table.add(class).expect(rt, "room");
-    table
-}
-
-/// A request of a client for the object `a`, to class 0.
-pub(super) fn request<R: Abort>(
-    rt: &R,
-    alloc: Global,
-    (client, number): (u32, u32),
-    method: &str,
-) -> Request {
-    Request::new(
-        ClientId::new(client).expect(rt, "a client"),
-        RequestNumber::new(number).expect(rt, "a number"),
-        ObjectName::new(alloc, "a").expect(rt, "memory"),
-        0,
-        String::from_str(alloc, method).expect(rt, "memory"),
-        Vec::new(alloc),
-    )
+    table_of(rt, alloc, class_of(rt, alloc, methods))
 }

@@ -1,10 +1,10 @@
-use super::{Pair, request, table};
+use super::super::log::table;
+use super::super::requests::{Pair, request};
 use interp::ClassTable;
 use pg_log::{Classes, Group, GroupWork, LogError, with_group};
 use replication::{Rep, append_at};
 use std::alloc::Global;
 use std::process::Abort;
-use std::test::Fail;
 
 /// A place, the request that comes for it, and what is answered.
 type Row = (usize, Pair, Result<Option<usize>, LogError>);
@@ -37,7 +37,7 @@ impl<R: Abort> GroupWork for Places<'_, R> {
             let rep = Rep {
                 epoch: 1,
                 place,
-                request: request(self.rt, self.alloc, pair),
+                request: request(self.rt, self.alloc, pair, 0, "f", b""),
             };
             let found = append_at(&mut group, table, &rep);
             assert!(self.rt; found == answer);
@@ -47,12 +47,8 @@ impl<R: Abort> GroupWork for Places<'_, R> {
 }
 
 #[test]
-fn requests_at_their_places(rt: HostRuntime) -> Result<(), Fail> {
-    let table = table(rt.alloc())?;
-    let work = Places {
-        rt: &rt,
-        alloc: rt.alloc(),
-    };
-    with_group(rt.alloc(), &table, work);
-    Ok(())
+fn requests_at_their_places(rt: HostRuntime) {
+    let alloc = rt.alloc();
+    let table = table(&rt, alloc);
+    with_group(alloc, &table, Places { rt: &rt, alloc });
 }

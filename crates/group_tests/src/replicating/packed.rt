@@ -1,26 +1,22 @@
-use super::{Pair, requests};
+use super::super::requests::list;
 use pg_log::Request;
 use replication::{UnpackError, pack_log, unpack_log};
 use std::alloc::Global;
 use std::process::Abort;
 
-/// The list that is packed.
-const LIST: [Pair; 3] = [(1, 1), (2, 1), (1, 2)];
+/// The list that is packed, of three requests.
+const LIST: &str = "1 1 0 f\n2 1 0 f\n1 2 0 f";
 
-/// What the receiver told and has, how many requests are left out and how many are packed, and what is unpacked.
-type Row = (
-    usize,
-    &'static [Pair],
-    (usize, usize),
-    Option<&'static [Pair]>,
-);
+/// What the receiver told and has, how many requests are left out and how many are packed, and whether the list is
+/// unpacked.
+type Row = (usize, &'static str, (usize, usize), bool);
 
 const ROWS: [Row; 5] = [
-    (0, &[], (0, 3), Some(&LIST)),
-    (1, &[(1, 1)], (1, 2), Some(&LIST)),
-    (2, &[(1, 1), (2, 1), (3, 1)], (2, 1), Some(&LIST)),
-    (9, &LIST, (3, 0), Some(&LIST)),
-    (2, &[(1, 1)], (2, 1), None),
+    (0, "", (0, 3), true),
+    (1, "1 1 0 f", (1, 2), true),
+    (2, "1 1 0 f\n2 1 0 f\n3 1 0 f", (2, 1), true),
+    (9, LIST, (3, 0), true),
+    (2, "1 1 0 f", (2, 1), false),
 ];
 
 /// Whether the lists are equal.
@@ -36,15 +32,14 @@ fn is_list(found: &[Request], want: &[Request]) -> bool {
     true
 }
 
-fn see<R: Abort>(rt: &R, alloc: Global, (told, own, (common, rest), want): Row) {
-    let packed = pack_log(alloc, &requests(rt, alloc, &LIST), told).expect(rt, "memory");
+fn see<R: Abort>(rt: &R, alloc: Global, (told, own, (common, rest), is_unpacked): Row) {
+    let all = list(rt, alloc, LIST);
+    assert!(rt; all.len() == 3);
+    let packed = pack_log(alloc, &all, told).expect(rt, "memory");
     assert!(rt; packed.common() == common && packed.rest().len() == rest);
-    let own = requests(rt, alloc, own);
-    match (unpack_log(alloc, &own, &packed), want) {
-        (Ok(found), Some(pairs)) => {
-            assert!(rt; is_list(&found, &requests(rt, alloc, pairs)));
-        }
-        (found, _) => assert!(rt; found.err() == Some(UnpackError::TooShort)),
+    match unpack_log(alloc, &list(rt, alloc, own), &packed) {
+        Ok(found) => assert!(rt; is_unpacked && is_list(&found, &all)),
+        Err(error) => assert!(rt; !is_unpacked && error == UnpackError::TooShort),
     }
 }
 

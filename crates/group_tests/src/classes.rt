@@ -1,0 +1,46 @@
+//! Classes from their instructions.
+use bpf_decode::{ClassImage, Method, decode};
+use interp::ClassTable;
+use std::alloc::Global;
+use std::process::Abort;
+use verifier::{VerifiedClass, verify};
+
+pub(super) fn method<R: Abort>(
+    rt: &R,
+    alloc: Global,
+    name: &str,
+    flags: u8,
+    in_cap: u16,
+    code: &[u8],
+) -> Method {
+    let name = String::from_str(alloc, name).expect(rt, "memory");
+    let insns = decode(alloc, code).expect(rt, "instructions");
+    Method::new(name, flags, in_cap, 0, insns)
+}
+
+/// The class of those methods.
+pub(super) fn class_of<R: Abort>(rt: &R, alloc: Global, methods: Vec<Method>) -> VerifiedClass {
+    let image = ClassImage::new(methods).expect(rt, "a class");
+    verify(alloc, &image).expect(rt, "a safe class")
+}
+
+/// A class of one method `f`.
+pub(super) fn class<R: Abort>(
+    rt: &R,
+    alloc: Global,
+    flags: u8,
+    in_cap: u16,
+    code: &[u8],
+) -> VerifiedClass {
+    let mut methods = Vec::new(alloc);
+    let method = method(rt, alloc, "f", flags, in_cap, code);
+    methods.push(method).expect(rt, "memory");
+    class_of(rt, alloc, methods)
+}
+
+/// The table of one class.
+pub(super) fn table_of<R: Abort>(rt: &R, alloc: Global, class: VerifiedClass) -> ClassTable {
+    let mut table = ClassTable::new(alloc);
+    let _ = table.add(class).expect(rt, "room");
+    table
+}

@@ -1,0 +1,68 @@
+//! Requests for one object, by their parts or from a text.
+use super::words::{next, next_number};
+use object_store::ObjectName;
+use pg_log::{ClientId, Request, RequestNumber};
+use std::alloc::Global;
+use std::process::Abort;
+
+/// Client and number of a request.
+pub(super) type Pair = (u32, u32);
+
+pub(super) fn client<R: Abort>(rt: &R, number: u32) -> ClientId {
+    ClientId::new(number).expect(rt, "a client")
+}
+
+pub(super) fn number<R: Abort>(rt: &R, value: u32) -> RequestNumber {
+    RequestNumber::new(value).expect(rt, "a number")
+}
+
+pub(super) fn name<R: Abort>(rt: &R, alloc: Global) -> ObjectName {
+    ObjectName::new(alloc, "object").expect(rt, "memory")
+}
+
+/// A request for the object `object`.
+pub(super) fn request<R: Abort>(
+    rt: &R,
+    alloc: Global,
+    (who, value): Pair,
+    class: usize,
+    method: &str,
+    input: &[u8],
+) -> Request {
+    let object = name(rt, alloc);
+    let method = String::from_str(alloc, method).expect(rt, "memory");
+    let input = Vec::from_slice(alloc, input).expect(rt, "memory");
+    Request::new(
+        client(rt, who),
+        number(rt, value),
+        object,
+        class,
+        method,
+        input,
+    )
+}
+
+/// The request of a line: client, number, class, method, and its input if that isn't empty.
+pub(super) fn request_of<R: Abort>(rt: &R, alloc: Global, line: &str) -> Request {
+    let mut words = line.split_whitespace();
+    let who = next_number(rt, &mut words);
+    let value = next_number(rt, &mut words);
+    let class = next_number(rt, &mut words) as usize;
+    let method = next(&mut words);
+    let input = next(&mut words).as_bytes();
+    request(rt, alloc, (who, value), class, method, input)
+}
+
+/// Puts the requests of a text, a line each, behind those that there are.
+pub(super) fn add<R: Abort>(rt: &R, alloc: Global, list: &mut Vec<Request>, text: &str) {
+    for line in text.lines() {
+        list.push(request_of(rt, alloc, line)).expect(rt, "memory");
+    }
+}
+
+/// The requests of a text, a line each.
+pub(super) fn list<R: Abort>(rt: &R, alloc: Global, text: &str) -> Vec<Request> {
+    let mut list = Vec::new(alloc);
+    add(rt, alloc, &mut list, text);
+    list
+}
