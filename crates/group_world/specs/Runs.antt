@@ -102,11 +102,11 @@ abbrev pub both_lines : List Line
 both_lines = three_lines ++ from_to 1 2 (codes "Rep") 1 0 ∷ from_to 1 3 (codes "Rep") 1 0 ∷ from_to 2 1 (codes "Ack") 1 1 ∷ from_to 3 1 (codes "Ack") 1 1 ∷ []
 
 -- A REPEATED REQUEST gets the same reply, and stands once.
-abbrev pub repeated_request : List WorldEvent
-repeated_request = both_have ++ delivers 9 ∷ delivers 10 ∷ RequestAt 1 (call 1 7 (codes "lock")) ∷ []
+abbrev pub request_repeated : List WorldEvent
+request_repeated = both_have ++ delivers 9 ∷ delivers 10 ∷ RequestAt 1 (call 1 7 (codes "lock")) ∷ []
 
 abbrev pub RepeatedRequest : Type 0
-RepeatedRequest = (lines repeated_request ≡ both_lines ++ reply 1 1 7 0 ∷ reply 1 1 7 0 ∷ []) × (standing repeated_request 1 ≡ (1, Active, 1, 1))
+RepeatedRequest = (lines request_repeated ≡ both_lines ++ reply 1 1 7 0 ∷ reply 1 1 7 0 ∷ []) × (standing request_repeated 1 ≡ (1, Active, 1, 1))
 
 -- LOST ACKNOWLEDGEMENTS: the primary stops before it hears them. The next one finds the request, and both answer alike.
 abbrev pub lost_acknowledgements : List WorldEvent
