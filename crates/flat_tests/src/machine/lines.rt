@@ -1,59 +1,57 @@
-use super::told::{bytes, is_object, number, object};
+use super::told::{ROOM, are_bytes, bytes, is_object, number, object};
 use bpf_machine::{Caps, Ending, Layout, flat_run, is_layout};
 use object_store::Object;
 use std::alloc::Global;
 use std::str::SplitWhitespace;
-use std::test::Fail;
 
 /// The input of the runs of short lines.
-const INPUT: &str = "8102830485068708098a0b8c0d8e0f90";
+const INPUT: [u8; 16] = [
+    0x81, 0x02, 0x83, 0x04, 0x85, 0x06, 0x87, 0x08, 0x09, 0x8a, 0x0b, 0x8c, 0x0d, 0x8e, 0x0f, 0x90,
+];
+
+/// How many bytes the code of a line has at most.
+const CODE_ROOM: usize = 256;
 
 /// The number of two hexadecimal digits.
 pub fn byte(text: &str) -> u8 {
     (number(text) % 256) as u8
 }
 
-pub fn word<'a>(words: &mut SplitWhitespace<'a>) -> Result<&'a str, Fail> {
-    Ok(words.next().ok_or("a word is missing")?)
+/// The next word; where none is left, one without letters.
+pub fn word<'a>(words: &mut SplitWhitespace<'a>) -> &'a str {
+    words.next().unwrap_or("")
 }
 
 /// What a run begins with beside its object.
-#[derive(Drop)]
-struct Start {
+#[derive(Clone, Copy)]
+struct Start<'a> {
     caps: Caps,
-    input: Vec<u8>,
+    input: &'a [u8],
 }
 
 /// Whether the output and the object after a run are those that two words tell; no words tell of neither.
-fn is_left(
-    alloc: Global,
-    output: &[u8],
-    object: Option<&Object>,
-    words: &mut SplitWhitespace<'_>,
-) -> Result<bool, Fail> {
+fn is_left(output: &[u8], object: Option<&Object>, words: &mut SplitWhitespace<'_>) -> bool {
     match words.next() {
-        None | Some(";") => Ok(output.is_empty() && object.is_none()),
-        Some(told) => {
-            Ok(output == bytes(alloc, told)?.as_slice() && is_object(alloc, object, word(words)?)?)
-        }
+        None | Some(";") => output.is_empty() && object.is_none(),
+        Some(told) => are_bytes(output, told) && is_object(object, word(words)),
     }
 }
 
 /// Whether a run ended so: `stuck`, `unfinished`, or the code, the number of steps, the output and the object.
-fn is_told(alloc: Global, ending: &Ending, words: &mut SplitWhitespace<'_>) -> Result<bool, Fail> {
-    let first = word(words)?;
+fn is_told(ending: &Ending, words: &mut SplitWhitespace<'_>) -> bool {
+    let first = word(words);
     match ending {
-        Ending::Stuck => Ok(first == "stuck"),
-        Ending::Unfinished => Ok(first == "unfinished"),
+        Ending::Stuck => first == "stuck",
+        Ending::Unfinished => first == "unfinished",
         Ending::Ended {
             code,
             output,
             object,
             steps,
         } => {
-            let counted = number(word(words)?);
-            let same = is_left(alloc, output, object.as_ref(), words)?;
-            Ok(same && *code == number(first) && *steps as u64 == counted)
+            *code == number(first)
+                && *steps as u64 == number(word(words))
+                && is_left(output, object.as_ref(), words)
         }
     }
 }
@@ -61,32 +59,34 @@ fn is_told(alloc: Global, ending: &Ending, words: &mut SplitWhitespace<'_>) -> R
 /// A run of at most sixteen steps.
 fn run_in(
     alloc: Global,
-    start: &Start,
+    start: &Start<'_>,
     object: Option<&Object>,
     layout: &Layout,
     code: &[u8],
-) -> Result<Ending, Fail> {
+) -> Option<Ending> {
     let caps = start.caps;
     if caps.in_cap > 4096 || caps.out_cap > 4096 || start.input.len() > usize::from(caps.in_cap) {
-        return Err("no start")?;
+        return None;
     }
     if !is_layout(&caps, layout) {
-        return Err("no layout")?;
+        return None;
     }
-    Ok(flat_run(alloc, &caps, code, layout, object, 7, &start.input, 16)?)
+    flat_run(alloc, &caps, code, layout, object, 7, start.input, 16).ok()
 }
 
 /// Whether a run of at most sixteen steps ends as the words say.
 fn runs_so(
     alloc: Global,
-    start: &Start,
+    start: &Start<'_>,
     object: Option<&Object>,
     layout: &Layout,
     code: &[u8],
     words: &mut SplitWhitespace<'_>,
-) -> Result<bool, Fail> {
-    let ending = run_in(alloc, start, object, layout, code)?;
-    is_told(alloc, &ending, words)
+) -> bool {
+    match run_in(alloc, start, object, layout, code) {
+        None => false,
+        Some(ending) => is_told(&ending, words),
+    }
 }
 
 /// The stack ends at 2^64 - 1; the regions touch, the stack first; they touch, the stack last, from address 0 on.
@@ -110,20 +110,20 @@ pub const fn layout(input: u64, output: u64, stack: u64) -> Layout {
 /// Whether a run ends in three layouts as a line says behind its first six words.
 fn runs_so_everywhere(
     alloc: Global,
-    start: &Start,
+    start: &Start<'_>,
     object: Option<&Object>,
     code: &[u8],
     line: &str,
-) -> Result<bool, Fail> {
+) -> bool {
     let mut same = true;
     for layout in three_layouts(start.caps) {
         let mut words = line.split_whitespace();
         for _ in 0..6 {
-            word(&mut words)?;
+            word(&mut words);
         }
-        same = same && runs_so(alloc, start, object, &layout, code, &mut words)?;
+        same = same && runs_so(alloc, start, object, &layout, code, &mut words);
     }
-    Ok(same)
+    same
 }
 
 pub const fn capacities(in_cap: u16, out_cap: u16, writes: bool) -> Caps {
@@ -135,11 +135,11 @@ pub const fn capacities(in_cap: u16, out_cap: u16, writes: bool) -> Caps {
 }
 
 /// On 16 bytes of input and of output.
-fn plain(alloc: Global) -> Result<Start, Fail> {
-    Ok(Start {
+fn plain(input: &[u8]) -> Start<'_> {
+    Start {
         caps: capacities(16, 16, false),
-        input: bytes(alloc, INPUT)?,
-    })
+        input,
+    }
 }
 
 /// Where no region touches another.
@@ -156,14 +156,11 @@ fn code_and_steps(ending: &Ending) -> Option<(u64, usize)> {
     }
 }
 
-/// The run of code without an object ends with a number in register 0, after so many steps.
-pub fn ends_with(alloc: Global, code: &[u8], value: u64, counted: usize) -> Result<(), Fail> {
-    let start = plain(alloc)?;
-    let ending = run_in(alloc, &start, None, &apart(), code)?;
-    if code_and_steps(&ending) == Some((value, counted)) {
-        Ok(())
-    } else {
-        Err("another ending")?
+/// Whether the run of code without an object ends with a number in register 0, after so many steps.
+pub fn ends_with(alloc: Global, code: &[u8], value: u64, counted: usize) -> bool {
+    match run_in(alloc, &plain(&INPUT), None, &apart(), code) {
+        None => false,
+        Some(ending) => code_and_steps(&ending) == Some((value, counted)),
     }
 }
 
@@ -190,71 +187,40 @@ pub fn short_run(
     layout: &Layout,
     code: &[u8],
     limit: usize,
-) -> Result<Short, Fail> {
+) -> Option<Short> {
     if caps.in_cap > 4096 || caps.out_cap > 4096 || !is_layout(caps, layout) {
-        return Err("no start")?;
+        return None;
     }
-    let ending = flat_run(alloc, caps, code, layout, None, 7, &[], limit)?;
-    Ok(shortened(&ending))
+    match flat_run(alloc, caps, code, layout, None, 7, &[], limit) {
+        Ok(ending) => Some(shortened(&ending)),
+        Err(_) => None,
+    }
 }
 
-/// Appends a slot; the registers are the destination in the low and the source in the high four bits.
-pub fn put(
-    code: &mut Vec<u8>,
-    opcode: u8,
-    registers: u8,
-    offset: u16,
-    imm: u32,
-) -> Result<(), Fail> {
-    code.extend_from_slice(&[opcode, registers])?;
-    code.extend_from_slice(&offset.to_le_bytes())?;
-    code.extend_from_slice(&imm.to_le_bytes())?;
-    Ok(())
-}
-
-/// Appends a wide load.
-pub fn put_wide(code: &mut Vec<u8>, dst: u8, value: u64) -> Result<(), Fail> {
-    put(code, 0x18, dst, 0, (value % 0x1_0000_0000) as u32)?;
-    put(code, 0x00, 0, 0, (value / 0x1_0000_0000) as u32)
-}
-
-/// The code of a line, run without an object where no region touches another, comes to what the next words say.
-fn runs(alloc: Global, line: &str) -> Result<(), Fail> {
+/// Whether the code of a line, run without an object where no region touches another, comes to what the next words say.
+fn runs(alloc: Global, line: &str) -> bool {
     let mut words = line.split_whitespace();
-    let code = bytes(alloc, word(&mut words)?)?;
-    if runs_so(alloc, &plain(alloc)?, None, &apart(), &code, &mut words)? {
-        Ok(())
-    } else {
-        Err("another ending")?
-    }
+    let mut code = [0u8; CODE_ROOM];
+    let code = bytes(word(&mut words), &mut code);
+    runs_so(alloc, &plain(&INPUT), None, &apart(), code, &mut words)
 }
 
-fn capacity(text: &str) -> Result<u16, Fail> {
-    match u16::try_from(number(text)) {
-        Ok(capacity) => Ok(capacity),
-        Err(_) => Err("a capacity")?,
-    }
+fn capacity(text: &str) -> u16 {
+    (number(text) % 65_536) as u16
 }
 
 /// The same beside an object, in three layouts; before the code stand in_cap, out_cap, `w` for a method that may write
 /// or `r`, the object, and the input.
-fn runs_beside(alloc: Global, line: &str) -> Result<(), Fail> {
+fn runs_beside(alloc: Global, line: &str) -> bool {
     let mut words = line.split_whitespace();
-    let in_cap = capacity(word(&mut words)?)?;
-    let out_cap = capacity(word(&mut words)?)?;
-    let writes = word(&mut words)? == "w";
-    let told = word(&mut words)?;
-    let start = Start {
-        caps: capacities(in_cap, out_cap, writes),
-        input: bytes(alloc, word(&mut words)?)?,
-    };
-    let code = bytes(alloc, word(&mut words)?)?;
-    let beside = object(alloc, told)?;
-    if runs_so_everywhere(alloc, &start, beside.as_ref(), &code, line)? {
-        Ok(())
-    } else {
-        Err("another ending")?
-    }
+    let in_cap = capacity(word(&mut words));
+    let out_cap = capacity(word(&mut words));
+    let caps = capacities(in_cap, out_cap, word(&mut words) == "w");
+    let beside = object(alloc, word(&mut words));
+    let (mut input, mut code) = ([0u8; ROOM], [0u8; CODE_ROOM]);
+    let input = bytes(word(&mut words), &mut input);
+    let code = bytes(word(&mut words), &mut code);
+    runs_so_everywhere(alloc, &Start { caps, input }, beside.as_ref(), code, line)
 }
 
 /// Whether a line is no remark.
@@ -262,26 +228,24 @@ pub fn is_row(line: &str) -> bool {
     !line.is_empty() && !line.starts_with('#')
 }
 
-/// Runs each line of a text; gives their number.
-pub fn run_all(alloc: Global, text: &str) -> Result<usize, Fail> {
+/// Runs each line of a text; gives how many came to what they say.
+pub fn run_all(alloc: Global, text: &str) -> usize {
     let mut count = 0usize;
     for line in text.lines() {
-        if is_row(line) {
-            runs(alloc, line)?;
+        if is_row(line) && runs(alloc, line) {
             count = count.wrapping_add(1);
         }
     }
-    Ok(count)
+    count
 }
 
-/// Runs each line of a text that names its object; gives their number.
-pub fn run_all_beside(alloc: Global, text: &str) -> Result<usize, Fail> {
+/// Runs each line of a text that names its object; gives how many came to what they say.
+pub fn run_all_beside(alloc: Global, text: &str) -> usize {
     let mut count = 0usize;
     for line in text.lines() {
-        if is_row(line) {
-            runs_beside(alloc, line)?;
+        if is_row(line) && runs_beside(alloc, line) {
             count = count.wrapping_add(1);
         }
     }
-    Ok(count)
+    count
 }

@@ -1,5 +1,4 @@
 use super::lines::run_all;
-use std::test::Fail;
 
 /// Loads at the ends of the input, the output and the stack.
 const LOADED: &str = "
@@ -201,19 +200,16 @@ const OUTSIDE: &str = "
 ";
 
 #[test]
-fn loads_at_the_ends(rt: HostRuntime) -> Result<(), Fail> {
-    assert_eq!(rt; run_all(rt.alloc(), LOADED)?, 56);
-    Ok(())
+fn loads_at_the_ends(rt: HostRuntime) {
+    assert!(rt; run_all(rt.alloc(), LOADED) == 56);
 }
 
 #[test]
-fn stores_at_the_ends(rt: HostRuntime) -> Result<(), Fail> {
-    assert_eq!(rt; run_all(rt.alloc(), STORED)?, 48);
-    Ok(())
+fn stores_at_the_ends(rt: HostRuntime) {
+    assert!(rt; run_all(rt.alloc(), STORED) == 48);
 }
 
 #[test]
-fn keeps_within_regions(rt: HostRuntime) -> Result<(), Fail> {
-    assert_eq!(rt; run_all(rt.alloc(), OUTSIDE)?, 83);
-    Ok(())
+fn keeps_within_regions(rt: HostRuntime) {
+    assert!(rt; run_all(rt.alloc(), OUTSIDE) == 83);
 }

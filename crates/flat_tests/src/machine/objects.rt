@@ -1,5 +1,4 @@
 use super::lines::run_all_beside;
-use std::test::Fail;
 
 /// The helpers `stat`, `truncate`, `remove`, `create` and `caller`. A failed method leaves the object.
 const PLAIN: &str = "
@@ -147,25 +146,21 @@ const SET: &str = "
 ";
 
 #[test]
-fn changes_the_object_whole(rt: HostRuntime) -> Result<(), Fail> {
-    assert_eq!(rt; run_all_beside(rt.alloc(), PLAIN)?, 20);
-    Ok(())
+fn changes_the_object_whole(rt: HostRuntime) {
+    assert!(rt; run_all_beside(rt.alloc(), PLAIN) == 20);
 }
 
 #[test]
-fn looks_values_up(rt: HostRuntime) -> Result<(), Fail> {
-    assert_eq!(rt; run_all_beside(rt.alloc(), LOOKED_UP)?, 18);
-    Ok(())
+fn looks_values_up(rt: HostRuntime) {
+    assert!(rt; run_all_beside(rt.alloc(), LOOKED_UP) == 18);
 }
 
 #[test]
-fn finds_the_next_key(rt: HostRuntime) -> Result<(), Fail> {
-    assert_eq!(rt; run_all_beside(rt.alloc(), NEXT)?, 13);
-    Ok(())
+fn finds_the_next_key(rt: HostRuntime) {
+    assert!(rt; run_all_beside(rt.alloc(), NEXT) == 13);
 }
 
 #[test]
-fn sets_and_removes(rt: HostRuntime) -> Result<(), Fail> {
-    assert_eq!(rt; run_all_beside(rt.alloc(), SET)?, 30);
-    Ok(())
+fn sets_and_removes(rt: HostRuntime) {
+    assert!(rt; run_all_beside(rt.alloc(), SET) == 30);
 }

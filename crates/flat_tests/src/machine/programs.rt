@@ -1,5 +1,4 @@
 use super::lines::run_all;
-use std::test::Fail;
 
 /// Programs, and fields that are to be 0 or to select a row.
 const NAMED: &str = "
@@ -168,25 +167,21 @@ const ORDERED: &str = "
 ";
 
 #[test]
-fn runs_programs(rt: HostRuntime) -> Result<(), Fail> {
-    assert_eq!(rt; run_all(rt.alloc(), NAMED)?, 34);
-    Ok(())
+fn runs_programs(rt: HostRuntime) {
+    assert!(rt; run_all(rt.alloc(), NAMED) == 34);
 }
 
 #[test]
-fn moves(rt: HostRuntime) -> Result<(), Fail> {
-    assert_eq!(rt; run_all(rt.alloc(), MOVED)?, 38);
-    Ok(())
+fn moves(rt: HostRuntime) {
+    assert!(rt; run_all(rt.alloc(), MOVED) == 38);
 }
 
 #[test]
-fn extends_signs(rt: HostRuntime) -> Result<(), Fail> {
-    assert_eq!(rt; run_all(rt.alloc(), EXTENDED)?, 60);
-    Ok(())
+fn extends_signs(rt: HostRuntime) {
+    assert!(rt; run_all(rt.alloc(), EXTENDED) == 60);
 }
 
 #[test]
-fn orders_bytes(rt: HostRuntime) -> Result<(), Fail> {
-    assert_eq!(rt; run_all(rt.alloc(), ORDERED)?, 18);
-    Ok(())
+fn orders_bytes(rt: HostRuntime) {
+    assert!(rt; run_all(rt.alloc(), ORDERED) == 18);
 }

@@ -2,8 +2,10 @@
 
 use object_store::Object;
 use std::alloc::Global;
-use std::test::Fail;
 use txn::Staged;
+
+/// How many bytes a value, a name or the data of an object has at most in a line.
+pub const ROOM: usize = 80;
 
 fn digit(byte: u8) -> u8 {
     match byte {
@@ -22,21 +24,27 @@ pub fn number(text: &str) -> u64 {
     n
 }
 
-/// The bytes of hexadecimal digits; of `-` none.
-pub fn bytes(alloc: Global, text: &str) -> Result<Vec<u8>, Fail> {
-    let mut read = Vec::new(alloc);
+/// The bytes of hexadecimal digits, which are read into a buffer; of `-` none.
+pub fn bytes<'a>(text: &str, buffer: &'a mut [u8]) -> &'a [u8] {
+    let mut count = 0usize;
     for pair in text.as_bytes().chunks_exact(2) {
-        if let [high, low] = pair {
-            read.push((digit(*high) << 4) | digit(*low))?;
+        if let ([high, low], Some(byte)) = (pair, buffer.get_mut(count)) {
+            *byte = (digit(*high) << 4) | digit(*low);
+            count = count.wrapping_add(1);
         }
     }
-    Ok(read)
+    buffer.get(..count).unwrap_or(&[])
 }
 
-/// A name and its value, as `NAME=VALUE`.
-fn attribute(alloc: Global, text: &str) -> Result<(Vec<u8>, Vec<u8>), Fail> {
-    let (name, value) = text.split_once('=').ok_or("a value is missing")?;
-    Ok((bytes(alloc, name)?, bytes(alloc, value)?))
+/// Whether bytes are those that a word tells.
+pub fn are_bytes(found: &[u8], text: &str) -> bool {
+    let mut told = [0u8; ROOM];
+    found == bytes(text, &mut told)
+}
+
+/// The parts of `NAME=VALUE`.
+fn attribute(text: &str) -> (&str, &str) {
+    text.split_once('=').unwrap_or((text, ""))
 }
 
 /// The three parts of an object's word: the data, and behind `/` the xattrs, and behind `/` the keys.
@@ -51,108 +59,120 @@ fn three_parts(text: &str) -> (&str, &str, &str) {
 }
 
 /// Sets an xattr, as `NAME=VALUE`.
-fn put_xattr(alloc: Global, staged: &mut Staged, pair: &str) -> Result<(), Fail> {
-    let (name, value) = attribute(alloc, pair)?;
-    Ok(staged.set_xattr(alloc, &name, &value)?)
+fn put_xattr(alloc: Global, staged: &mut Staged, pair: &str) -> bool {
+    let (name, value) = attribute(pair);
+    let (mut names, mut values) = ([0u8; ROOM], [0u8; ROOM]);
+    staged
+        .set_xattr(alloc, bytes(name, &mut names), bytes(value, &mut values))
+        .is_ok()
 }
 
 /// Sets the value of a key, as `KEY=VALUE`.
-fn put_key(alloc: Global, staged: &mut Staged, pair: &str) -> Result<(), Fail> {
-    let (key, value) = attribute(alloc, pair)?;
-    Ok(staged.set_key(alloc, &key, &value)?)
+fn put_key(alloc: Global, staged: &mut Staged, pair: &str) -> bool {
+    let (key, value) = attribute(pair);
+    let (mut keys, mut values) = ([0u8; ROOM], [0u8; ROOM]);
+    staged
+        .set_key(alloc, bytes(key, &mut keys), bytes(value, &mut values))
+        .is_ok()
 }
 
 /// Writes data, and sets xattrs and keys, which are separated by commas.
-fn fill(alloc: Global, staged: &mut Staged, text: &str) -> Result<(), Fail> {
+fn fill(alloc: Global, staged: &mut Staged, text: &str) -> bool {
     let (data, xattrs, keys) = three_parts(text);
-    staged.write(alloc, 0, &bytes(alloc, data)?)?;
+    let mut told = [0u8; ROOM];
+    let mut is_filled = staged.write(alloc, 0, bytes(data, &mut told)).is_ok();
     for pair in xattrs.split(',') {
-        if !pair.is_empty() {
-            put_xattr(alloc, staged, pair)?;
-        }
+        is_filled = is_filled && (pair.is_empty() || put_xattr(alloc, staged, pair));
     }
     for pair in keys.split(',') {
-        if !pair.is_empty() {
-            put_key(alloc, staged, pair)?;
-        }
+        is_filled = is_filled && (pair.is_empty() || put_key(alloc, staged, pair));
     }
-    Ok(())
+    is_filled
+}
+
+fn finished(staged: Staged) -> Option<Object> {
+    match staged.finish() {
+        Ok(change) => change.after,
+        Err(_) => None,
+    }
 }
 
 /// The object that a word tells: `none`, or its data, xattrs and keys.
-pub fn object(alloc: Global, text: &str) -> Result<Option<Object>, Fail> {
+pub fn object(alloc: Global, text: &str) -> Option<Object> {
     let mut staged = Staged::over(None);
-    if text != "none" {
-        fill(alloc, &mut staged, text)?;
+    if text == "none" || fill(alloc, &mut staged, text) {
+        finished(staged)
+    } else {
+        None
     }
-    Ok(staged.finish()?.after)
-}
-
-/// Whether an object holds that data, which is read into a buffer as long.
-fn reads(object: &Object, data: &[u8], buffer: &mut [u8]) -> bool {
-    let count = object.read(0, buffer);
-    object.len() == data.len() && count == data.len() && *buffer == *data
 }
 
 /// Whether an object holds the data that a word tells.
-fn holds_data(alloc: Global, object: &Object, text: &str) -> Result<bool, Fail> {
-    let data = bytes(alloc, text)?;
-    let mut buffer = vec![in alloc; 0u8; data.len()]?;
-    Ok(reads(object, &data, &mut buffer))
+fn holds_data(object: &Object, text: &str) -> bool {
+    let mut found = [0u8; ROOM];
+    let count = object.read(0, &mut found);
+    match found.get(..count) {
+        None => false,
+        Some(data) => object.len() == count && are_bytes(data, text),
+    }
+}
+
+/// Whether a value is there, and is the one that a word tells.
+fn is_value(found: Option<&[u8]>, text: &str) -> bool {
+    match found {
+        None => false,
+        Some(value) => are_bytes(value, text),
+    }
 }
 
 /// Whether an object has an xattr, as `NAME=VALUE`.
-fn has_xattr(alloc: Global, object: &Object, pair: &str) -> Result<bool, Fail> {
-    let (name, value) = attribute(alloc, pair)?;
-    Ok(object.xattr(&name) == Some(value.as_slice()))
+fn has_xattr(object: &Object, pair: &str) -> bool {
+    let (name, value) = attribute(pair);
+    let mut told = [0u8; ROOM];
+    is_value(object.xattr(bytes(name, &mut told)), value)
 }
 
 /// Whether an object has those xattrs and no other.
-fn has_xattrs(alloc: Global, object: &Object, text: &str) -> Result<bool, Fail> {
-    let mut count = 0usize;
+fn has_xattrs(object: &Object, text: &str) -> bool {
+    let (mut count, mut same) = (0usize, true);
     for pair in text.split(',') {
         if !pair.is_empty() {
-            if !has_xattr(alloc, object, pair)? {
-                return Ok(false);
-            }
+            same = same && has_xattr(object, pair);
             count = count.wrapping_add(1);
         }
     }
-    Ok(object.xattr_count() == count)
+    same && object.xattr_count() == count
 }
 
 /// Whether an object has a value of a key, as `KEY=VALUE`.
-fn has_key(alloc: Global, object: &Object, pair: &str) -> Result<bool, Fail> {
-    let (key, value) = attribute(alloc, pair)?;
-    Ok(object.key(&key) == Some(value.as_slice()))
+fn has_key(object: &Object, pair: &str) -> bool {
+    let (key, value) = attribute(pair);
+    let mut told = [0u8; ROOM];
+    is_value(object.key(bytes(key, &mut told)), value)
 }
 
 /// Whether an object has those keys and no other.
-fn has_keys(alloc: Global, object: &Object, text: &str) -> Result<bool, Fail> {
-    let mut count = 0usize;
+fn has_keys(object: &Object, text: &str) -> bool {
+    let (mut count, mut same) = (0usize, true);
     for pair in text.split(',') {
         if !pair.is_empty() {
-            if !has_key(alloc, object, pair)? {
-                return Ok(false);
-            }
+            same = same && has_key(object, pair);
             count = count.wrapping_add(1);
         }
     }
-    Ok(object.key_count() == count)
+    same && object.key_count() == count
 }
 
 /// Whether an object is the one that a word tells.
-pub fn is_object(alloc: Global, object: Option<&Object>, text: &str) -> Result<bool, Fail> {
+pub fn is_object(object: Option<&Object>, text: &str) -> bool {
     match object {
-        None => Ok(text == "none"),
+        None => text == "none",
         Some(object) => {
             let (data, xattrs, keys) = three_parts(text);
-            Ok(
-                text != "none"
-                    && holds_data(alloc, object, data)?
-                    && has_xattrs(alloc, object, xattrs)?
-                    && has_keys(alloc, object, keys)?,
-            )
+            text != "none"
+                && holds_data(object, data)
+                && has_xattrs(object, xattrs)
+                && has_keys(object, keys)
         }
     }
 }
