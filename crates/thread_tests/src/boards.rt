@@ -92,17 +92,33 @@ fn a_fresh_token_sees_three_commits(rt: HostRuntime) {
     assert!(rt; found_late(&board, &mut writer, &mut seen, &request, 3) == 3);
 }
 
+/// Whether two rows have counts of their own, once the second was committed five times and the first twice.
+fn are_apart(
+    board: &Board,
+    first: &mut Writer,
+    second: &mut Writer,
+    seen: &mut Seen,
+    request: &Request,
+) -> bool
+    requires first { first.old.board ≡ board.now }
+    requires second { second.old.board ≡ board.now }
+    requires new { first.old.list ≡ [] × second.old.list ≡ [] }
+    requires seen { seen.old.board ≡ board.now }
+    requires rows { 1 < board.now.words }
+{
+    let rows = (first.row(), second.row());
+    commit_many(board, second, request, 5);
+    commit_many(board, first, request, 2);
+    rows == (0, 1) && board.look(seen, 0) == 2 && board.look(seen, 1) == 5
+}
+
 #[test]
 fn neighbouring_rows_have_counts_of_their_own(rt: HostRuntime) {
     let (board, mut writers, mut seen) = Board::new(rt.alloc(), 2).expect(&rt, "memory");
     let mut second = writers.pop().expect(&rt, "a writer");
     let mut first = writers.pop().expect(&rt, "a writer");
-    assert!(rt; first.row() == 0 && second.row() == 1);
     let request = request(&rt, rt.alloc());
-    commit_many(&board, &mut second, &request, 5);
-    commit_many(&board, &mut first, &request, 2);
-    assert!(rt; board.look(&mut seen, 0) == 2);
-    assert!(rt; board.look(&mut seen, 1) == 5);
+    assert!(rt; are_apart(&board, &mut first, &mut second, &mut seen, &request));
 }
 
 /// What is found in the first row by a token that heard of it over another one's note.
