@@ -290,18 +290,47 @@ fn lean_left<V: Drop>(
 {
     match &left.root {
         Link::Leaf => joined(alloc, left, entry, right),
-        Link::Fork(fork) => {
-            let outer: &Branch<V> = fork;
-            if outer.left.height() < outer.right.height()
-                && let Link::Fork(fork) = &outer.right.root
-            {
-                let inner: &Branch<V> = fork;
-                let low = joined(alloc, &outer.left, &outer.entry, &inner.left)?;
-                let high = joined(alloc, &inner.right, entry, right)?;
-                return joined(alloc, &low, &inner.entry, &high);
+        Link::Fork(outer) => {
+            if outer.left.height() < outer.right.height() {
+                rotated_left_right(alloc, outer, entry, right)
+            } else {
+                rotated_right(alloc, outer, entry, right)
             }
-            let high = joined(alloc, &outer.right, entry, right)?;
-            joined(alloc, &outer.left, &outer.entry, &high)
+        }
+    }
+}
+
+/// The right rotation: the left branch comes to the top.
+fn rotated_right<V: Drop>(
+    alloc: Global,
+    left: &Branch<V>,
+    entry: &Arc<Entry<V>>,
+    right: &Tree<V>,
+) -> Result<Tree<V>, AllocError>
+    requires { IsTrue (sorted ((left.now.left ++ pair (arc_value left.now.entry) ∷ left.now.right) ++ pair (arc_value entry.now) ∷ right.now)) }
+    ensures { IfOk result (λ t. t ≡ (left.now.left ++ pair (arc_value left.now.entry) ∷ left.now.right) ++ pair (arc_value entry.now) ∷ right.now) }
+{
+    let high = joined(alloc, &left.right, entry, right)?;
+    joined(alloc, &left.left, &left.entry, &high)
+}
+
+/// The double rotation: the right side of the left branch comes to the top.
+fn rotated_left_right<V: Drop>(
+    alloc: Global,
+    left: &Branch<V>,
+    entry: &Arc<Entry<V>>,
+    right: &Tree<V>,
+) -> Result<Tree<V>, AllocError>
+    requires { IsTrue (sorted ((left.now.left ++ pair (arc_value left.now.entry) ∷ left.now.right) ++ pair (arc_value entry.now) ∷ right.now)) }
+    ensures { IfOk result (λ t. t ≡ (left.now.left ++ pair (arc_value left.now.entry) ∷ left.now.right) ++ pair (arc_value entry.now) ∷ right.now) }
+{
+    match &left.right.root {
+        Link::Leaf => rotated_right(alloc, left, entry, right),
+        Link::Fork(fork) => {
+            let inner: &Branch<V> = fork;
+            let low = joined(alloc, &left.left, &left.entry, &inner.left)?;
+            let high = joined(alloc, &inner.right, entry, right)?;
+            joined(alloc, &low, &inner.entry, &high)
         }
     }
 }
@@ -318,18 +347,47 @@ fn lean_right<V: Drop>(
 {
     match &right.root {
         Link::Leaf => joined(alloc, left, entry, right),
-        Link::Fork(fork) => {
-            let outer: &Branch<V> = fork;
-            if outer.right.height() < outer.left.height()
-                && let Link::Fork(fork) = &outer.left.root
-            {
-                let inner: &Branch<V> = fork;
-                let low = joined(alloc, left, entry, &inner.left)?;
-                let high = joined(alloc, &inner.right, &outer.entry, &outer.right)?;
-                return joined(alloc, &low, &inner.entry, &high);
+        Link::Fork(outer) => {
+            if outer.right.height() < outer.left.height() {
+                rotated_right_left(alloc, left, entry, outer)
+            } else {
+                rotated_left(alloc, left, entry, outer)
             }
-            let low = joined(alloc, left, entry, &outer.left)?;
-            joined(alloc, &low, &outer.entry, &outer.right)
+        }
+    }
+}
+
+/// The left rotation: the right branch comes to the top.
+fn rotated_left<V: Drop>(
+    alloc: Global,
+    left: &Tree<V>,
+    entry: &Arc<Entry<V>>,
+    right: &Branch<V>,
+) -> Result<Tree<V>, AllocError>
+    requires { IsTrue (sorted (left.now ++ pair (arc_value entry.now) ∷ (right.now.left ++ pair (arc_value right.now.entry) ∷ right.now.right))) }
+    ensures { IfOk result (λ t. t ≡ left.now ++ pair (arc_value entry.now) ∷ (right.now.left ++ pair (arc_value right.now.entry) ∷ right.now.right)) }
+{
+    let low = joined(alloc, left, entry, &right.left)?;
+    joined(alloc, &low, &right.entry, &right.right)
+}
+
+/// The double rotation: the left side of the right branch comes to the top.
+fn rotated_right_left<V: Drop>(
+    alloc: Global,
+    left: &Tree<V>,
+    entry: &Arc<Entry<V>>,
+    right: &Branch<V>,
+) -> Result<Tree<V>, AllocError>
+    requires { IsTrue (sorted (left.now ++ pair (arc_value entry.now) ∷ (right.now.left ++ pair (arc_value right.now.entry) ∷ right.now.right))) }
+    ensures { IfOk result (λ t. t ≡ left.now ++ pair (arc_value entry.now) ∷ (right.now.left ++ pair (arc_value right.now.entry) ∷ right.now.right)) }
+{
+    match &right.left.root {
+        Link::Leaf => rotated_left(alloc, left, entry, right),
+        Link::Fork(fork) => {
+            let inner: &Branch<V> = fork;
+            let low = joined(alloc, left, entry, &inner.left)?;
+            let high = joined(alloc, &inner.right, &right.entry, &right.right)?;
+            joined(alloc, &low, &inner.entry, &high)
         }
     }
 }

@@ -8,6 +8,7 @@ use Rattle.std.proofs.lemmas.Result.{IfOk-weaker}
 use Rattle.shared_map.specs.Entries.{sorted, without}
 use Rattle.shared_map.specs.Tree.{pair, listed, IsSplit}
 use Rattle.shared_map.specs.declared.tree.Branch.{Branch}
+use Rattle.shared_map.specs.declared.tree.Entry.{Entry}
 use Rattle.shared_map.proofs.Halves.{without-left, without-middle, without-right, sorted-as_without, sorted-along}
 use Rattle.shared_map.proofs.tree.Tree.+remove.Goals as goal
 
@@ -18,7 +19,8 @@ balanced-requires g t c =
     let shape = ap listed c.in-Fork.is ∙ ap (λ (d : Branch g.row.V.Denot). d.left ++ pair (arc_value d.entry) ∷ d.right) (sym c.deref-b.ensures) in
     let h : IsTrue (sorted (b.left ++ e ∷ b.right)) = sorted-along _ _ shape c.self.invariant in
     let k = c.args.key.now in
-    let o : slice_cmp nat_cmp k e.0 ≡ Less = cc in
+    let its : c.as_slice.result.now ≡ e.0 = c.as_slice.ensures.value ∙ ap (λ (x : Entry g.row.V.Denot). x.key.items) c.deref.ensures in
+    let o : slice_cmp nat_cmp k e.0 ≡ Less = sym (c.cmp.ensures ∙ ap (slice_cmp nat_cmp k) its) ∙ c.in-Less.is in
     sorted-as_without k (b.left ++ e ∷ b.right) _ h (without-left k b.left e b.right _ h o c.in_ok-left-in-Less.ensures)
 
 pub returns-in_ok-left-in-Less : goal.returns-in_ok-left-in-Less
@@ -28,7 +30,8 @@ returns-in_ok-left-in-Less g t c =
     let shape = ap listed c.in-Fork.is ∙ ap (λ (d : Branch g.row.V.Denot). d.left ++ pair (arc_value d.entry) ∷ d.right) (sym c.deref-b.ensures) in
     let h : IsTrue (sorted (b.left ++ e ∷ b.right)) = sorted-along _ _ shape c.self.invariant in
     let k = c.args.key.now in
-    let o : slice_cmp nat_cmp k e.0 ≡ Less = cc in
+    let its : c.as_slice.result.now ≡ e.0 = c.as_slice.ensures.value ∙ ap (λ (x : Entry g.row.V.Denot). x.key.items) c.deref.ensures in
+    let o : slice_cmp nat_cmp k e.0 ≡ Less = sym (c.cmp.ensures ∙ ap (slice_cmp nat_cmp k) its) ∙ c.in-Less.is in
     IfOk-weaker c.balanced.result _ _
     (λ t' is. is ∙ without-left k b.left e b.right _ h o c.in_ok-left-in-Less.ensures ∙ ap (without k) (sym (sym c.self.view_is ∙ shape)))
     c.balanced.ensures
@@ -40,7 +43,8 @@ balanced-requires-in-Greater g t c =
     let shape = ap listed c.in-Fork.is ∙ ap (λ (d : Branch g.row.V.Denot). d.left ++ pair (arc_value d.entry) ∷ d.right) (sym c.deref-b.ensures) in
     let h : IsTrue (sorted (b.left ++ e ∷ b.right)) = sorted-along _ _ shape c.self.invariant in
     let k = c.args.key.now in
-    let o : slice_cmp nat_cmp k e.0 ≡ Greater = cc in
+    let its : c.as_slice.result.now ≡ e.0 = c.as_slice.ensures.value ∙ ap (λ (x : Entry g.row.V.Denot). x.key.items) c.deref.ensures in
+    let o : slice_cmp nat_cmp k e.0 ≡ Greater = sym (c.cmp.ensures ∙ ap (slice_cmp nat_cmp k) its) ∙ c.in-Greater.is in
     sorted-as_without k (b.left ++ e ∷ b.right) _ h (without-right k b.left e b.right _ h o c.in_ok-right-in-Greater.ensures)
 
 pub returns-in_ok-right-in-Greater : goal.returns-in_ok-right-in-Greater
@@ -50,7 +54,8 @@ returns-in_ok-right-in-Greater g t c =
     let shape = ap listed c.in-Fork.is ∙ ap (λ (d : Branch g.row.V.Denot). d.left ++ pair (arc_value d.entry) ∷ d.right) (sym c.deref-b.ensures) in
     let h : IsTrue (sorted (b.left ++ e ∷ b.right)) = sorted-along _ _ shape c.self.invariant in
     let k = c.args.key.now in
-    let o : slice_cmp nat_cmp k e.0 ≡ Greater = cc in
+    let its : c.as_slice.result.now ≡ e.0 = c.as_slice.ensures.value ∙ ap (λ (x : Entry g.row.V.Denot). x.key.items) c.deref.ensures in
+    let o : slice_cmp nat_cmp k e.0 ≡ Greater = sym (c.cmp.ensures ∙ ap (slice_cmp nat_cmp k) its) ∙ c.in-Greater.is in
     IfOk-weaker c.balanced-in-Greater.result _ _
     (λ t' is. is ∙ without-right k b.left e b.right _ h o c.in_ok-right-in-Greater.ensures ∙ ap (without k) (sym (sym c.self.view_is ∙ shape)))
     c.balanced-in-Greater.ensures
@@ -62,7 +67,8 @@ balanced-requires-in-Some g t c =
     let shape = ap listed c.in-Fork.is ∙ ap (λ (d : Branch g.row.V.Denot). d.left ++ pair (arc_value d.entry) ∷ d.right) (sym c.deref-b.ensures) in
     let h : IsTrue (sorted (b.left ++ e ∷ b.right)) = sorted-along _ _ shape c.self.invariant in
     let k = c.args.key.now in
-    let o : slice_cmp nat_cmp k e.0 ≡ Equal = cc in
+    let its : c.as_slice.result.now ≡ e.0 = c.as_slice.ensures.value ∙ ap (λ (x : Entry g.row.V.Denot). x.key.items) c.deref.ensures in
+    let o : slice_cmp nat_cmp k e.0 ≡ Equal = sym (c.cmp.ensures ∙ ap (slice_cmp nat_cmp k) its) ∙ c.in-Equal.is in
     let rest : b.right ≡ pair (arc_value c.in-Some.first) ∷ c.in-Some.right = subst (IsSplit b.right) c.in-Some.is c.in_ok-split_first-in-Equal.ensures in
     sorted-as_without k (b.left ++ e ∷ b.right) _ h (without-middle k b.left e b.right _ h o (sym rest))
 
@@ -73,7 +79,8 @@ returns-in-Some g t c =
     let shape = ap listed c.in-Fork.is ∙ ap (λ (d : Branch g.row.V.Denot). d.left ++ pair (arc_value d.entry) ∷ d.right) (sym c.deref-b.ensures) in
     let h : IsTrue (sorted (b.left ++ e ∷ b.right)) = sorted-along _ _ shape c.self.invariant in
     let k = c.args.key.now in
-    let o : slice_cmp nat_cmp k e.0 ≡ Equal = cc in
+    let its : c.as_slice.result.now ≡ e.0 = c.as_slice.ensures.value ∙ ap (λ (x : Entry g.row.V.Denot). x.key.items) c.deref.ensures in
+    let o : slice_cmp nat_cmp k e.0 ≡ Equal = sym (c.cmp.ensures ∙ ap (slice_cmp nat_cmp k) its) ∙ c.in-Equal.is in
     let rest : b.right ≡ pair (arc_value c.in-Some.first) ∷ c.in-Some.right = subst (IsSplit b.right) c.in-Some.is c.in_ok-split_first-in-Equal.ensures in
     IfOk-weaker c.balanced-in-Some.result _ _
     (λ t' is. is ∙ without-middle k b.left e b.right _ h o (sym rest) ∙ ap (without k) (sym (sym c.self.view_is ∙ shape)))
@@ -86,7 +93,8 @@ returns-in-None g t c =
     let shape = ap listed c.in-Fork.is ∙ ap (λ (d : Branch g.row.V.Denot). d.left ++ pair (arc_value d.entry) ∷ d.right) (sym c.deref-b.ensures) in
     let h : IsTrue (sorted (b.left ++ e ∷ b.right)) = sorted-along _ _ shape c.self.invariant in
     let k = c.args.key.now in
-    let o : slice_cmp nat_cmp k e.0 ≡ Equal = cc in
+    let its : c.as_slice.result.now ≡ e.0 = c.as_slice.ensures.value ∙ ap (λ (x : Entry g.row.V.Denot). x.key.items) c.deref.ensures in
+    let o : slice_cmp nat_cmp k e.0 ≡ Equal = sym (c.cmp.ensures ∙ ap (slice_cmp nat_cmp k) its) ∙ c.in-Equal.is in
     let rest : b.right ≡ [] = subst (IsSplit b.right) c.in-None.is c.in_ok-split_first-in-Equal.ensures in
     IfOk-weaker c.copy.result _ _
     (λ t' is. is ∙ sym (append-nil b.left) ∙ without-middle k b.left e b.right _ h o (sym rest) ∙ ap (without k) (sym (sym c.self.view_is ∙ shape)))
