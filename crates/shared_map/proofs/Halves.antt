@@ -264,6 +264,12 @@ module _ {V : Type 0} where
   pub turned : (x : Entries V) (e : Pair V) (y : Entries V) (f : Pair V) (z : Entries V) → (x ++ e ∷ y) ++ f ∷ z ≡ x ++ e ∷ (y ++ f ∷ z)
   turned x e y f z = append_assoc x (e ∷ y) (f ∷ z)
 
+  pub turned_inside : (x : Entries V) (e : Pair V) (y : Entries V) (d : Pair V) (z : Entries V) (f : Pair V) (w : Entries V) → (x ++ e ∷ y) ++ d ∷ (z ++ f ∷ w) ≡ x ++ e ∷ ((y ++ d ∷ z) ++ f ∷ w)
+  turned_inside x e y d z f w = turned x e y d (z ++ f ∷ w) ∙ ap (λ l. x ++ e ∷ l) (sym (turned y d z f w))
+
+  pub turned_twice : (x : Entries V) (e : Pair V) (y : Entries V) (d : Pair V) (z : Entries V) (f : Pair V) (w : Entries V) → (x ++ e ∷ y) ++ d ∷ (z ++ f ∷ w) ≡ (x ++ e ∷ (y ++ d ∷ z)) ++ f ∷ w
+  turned_twice x e y d z f w = turned_inside x e y d z f w ∙ sym (turned x e (y ++ d ∷ z) f w)
+
   pub sorted-turned : (x : Entries V) (e : Pair V) (y : Entries V) (f : Pair V) (z : Entries V) → IsTrue (sorted ((x ++ e ∷ y) ++ f ∷ z)) → IsTrue (sorted (x ++ e ∷ (y ++ f ∷ z)))
   sorted-turned x e y f z h = subst (λ es. IsTrue (sorted es)) (turned x e y f z) h
 
