@@ -62,7 +62,9 @@ pub fn write(
 ) -> Result<Object, StoreError>
     ensures { Gives (λ o. o) result (spec.write (option_copied object.entry) at text.now) }
 {
-    let at = place_of(at, text.len()).ok_or(StoreError::TooBig)?;
+    let Some(at) = place_of(at, text.len()) else {
+        return Err(StoreError::TooBig);
+    };
     let mut new = there_or_new(object)?;
     let done = new.write(alloc, at, text);
     finished(alloc, new, done)
@@ -72,7 +74,9 @@ pub fn write(
 pub fn truncate(alloc: Global, object: Option<&Object>, len: u64) -> Result<Object, StoreError>
     ensures { Gives (λ o. o) result (spec.truncate (option_copied object.entry) len) }
 {
-    let len = place_of(len, 0).ok_or(StoreError::TooBig)?;
+    let Some(len) = place_of(len, 0) else {
+        return Err(StoreError::TooBig);
+    };
     let mut new = there(object)?.opened()?;
     let done = new.truncate(alloc, len);
     finished(alloc, new, done)

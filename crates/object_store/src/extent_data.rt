@@ -121,12 +121,16 @@ impl Data for ExtentData {
         if text.is_empty() {
             return Ok(());
         }
-        let at = place_of(at, text.len()).ok_or(DataError::TooBig)?;
+        let Some(at) = place_of(at, text.len()) else {
+            return Err(DataError::TooBig);
+        };
         Ok(self.splice(alloc, at, text)?)
     }
 
     fn truncate(&mut self, alloc: Global, len: u64) -> Result<(), DataError> {
-        let len = place_of(len, 0).ok_or(DataError::TooBig)?;
+        let Some(len) = place_of(len, 0) else {
+            return Err(DataError::TooBig);
+        };
         Ok(self.resize(alloc, len)?)
     }
 

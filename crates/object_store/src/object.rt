@@ -64,7 +64,7 @@ impl Object {
     {
         match &self.held {
             Some(held) => held.within(),
-            None => Held::new().within(),
+            None => {}
         }
     }
 
