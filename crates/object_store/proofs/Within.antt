@@ -11,7 +11,8 @@ use Rattle.std.proofs.lemmas.Map.Lookups.{exact_bytes}
 use Rattle.std.specs.FinMap as fin
 use Rattle.object_store.specs.declared.store_error.StoreError.{StoreError}
 use Rattle.object_store.specs.declared.store_error.StoreError.TheVariants.{TooMany, NoAttr}
-use Rattle.object_store.specs.Object.{Attributes, AreWithin, IsName, IsValue}
+use Rattle.object_store.specs.declared.limits.TheConstants.{XATTR_LIMIT, KEY_LIMIT}
+use Rattle.object_store.specs.Object.{Attributes, AreWithin, IsContent, IsName, IsValue, nothing}
 use Rattle.object_store.specs.Calls.{set_in, removed_in}
 use Rattle.object_store.specs.Returned.{Gives}
 
@@ -34,6 +35,10 @@ tied_key q k e = exact_bytes q k (tied _ e)
 
 pub none_within : (most : ℕ) → AreWithin most fin.empty
 none_within most = record { number = omega (arith, fin.len-empty (slice_cmp nat_cmp) (List ℕ)); each = λ q x e. absurd (none_some x (sym (fin.get-empty (slice_cmp nat_cmp) q) ∙ e)) }
+
+-- an object that was just created
+pub nothing_within : IsContent nothing
+nothing_within = record { length = omega arith; bytes = tt; xattrs = none_within XATTR_LIMIT; omap = none_within KEY_LIMIT }
 
 module _ (most : ℕ) (m : Attributes) (k v : List ℕ) where
   inserted_within : AreWithin most m → IsName k → IsValue v → fin.len (fin.insert m k v) ≤ most → AreWithin most (fin.insert m k v)

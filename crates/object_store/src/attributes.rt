@@ -1,4 +1,4 @@
-ghost use Rattle.std.specs.Prelude.{◌≡◌, OnErr};
+ghost use Rattle.std.specs.Prelude.{◌≡◌, OnOk, OnErr};
 ghost use Rattle.std.specs.Option.{option_copied};
 ghost use Rattle.std.specs.FinMap as fin;
 ghost use Rattle.object_store.specs.Calls.{set_in, removed_in};
@@ -7,7 +7,7 @@ ghost use Rattle.object_store.specs.Returned.{Gives};
 use crate::store_error::StoreError;
 use crate::stored_bytes::StoredBytes;
 use shared_map::SharedMap;
-use std::alloc::Global;
+use std::alloc::{AllocError, Global};
 
 /// Names and their values.
 pub(crate) type Attributes = SharedMap<StoredBytes>;
@@ -36,9 +36,21 @@ pub(crate) fn set_in(
     if attributes.len() >= most && attributes.get(name).is_none() {
         return Err(StoreError::TooMany);
     }
+    Ok(put_in(alloc, attributes, name, value)?)
+}
+
+/// Makes this the value of a name, in place of the one that it has.
+fn put_in(
+    alloc: Global,
+    attributes: &mut Attributes,
+    name: &[u8],
+    value: &[u8],
+) -> Result<(), AllocError>
+    ensures ok { OnOk result (attributes.new ≡ fin.insert attributes.old name.now value.now) }
+    ensures err { OnErr result (attributes.new ≡ attributes.old) }
+{
     let value = StoredBytes::new(alloc, value)?;
-    attributes.set(alloc, name, value)?;
-    Ok(())
+    attributes.set(alloc, name, value)
 }
 
 /// Removes a name that has to be there.
@@ -53,6 +65,5 @@ pub(crate) fn remove_in(
     if attributes.get(name).is_none() {
         return Err(StoreError::NoAttr);
     }
-    attributes.remove(alloc, name)?;
-    Ok(())
+    Ok(attributes.remove(alloc, name)?)
 }

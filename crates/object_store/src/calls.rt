@@ -1,8 +1,8 @@
 //! The calls on one object, absent or there. A read takes no memory. A change leaves the object that it is given as it is, and makes what it becomes, sharing
 //! all that it doesn't touch.
-ghost use Rattle.std.specs.Prelude.{◌≡◌, IfOk, IfErr, Ok, Err, if◌then◌else◌, nat_lt, length};
+ghost use Rattle.std.specs.Prelude.{◌≡◌, Result, IfOk, IfErr, Ok, Err, if◌then◌else◌, nat_lt, length};
 ghost use Rattle.std.specs.Option.{option_copied};
-ghost use Rattle.object_store.specs.Object.{IsName, IsValue, content_of};
+ghost use Rattle.object_store.specs.Object.{Content, IsName, IsValue, content_of};
 ghost use Rattle.object_store.specs.Edits.{overlaid};
 ghost use Rattle.object_store.specs.Calls as spec;
 ghost use Rattle.object_store.specs.Returned.{Gives, behind};
@@ -33,16 +33,14 @@ pub fn read(object: Option<&Object>, at: u64, out: &mut [u8]) -> Result<usize, S
 pub fn get_xattr<'a>(object: Option<&'a Object>, name: &[u8]) -> Result<&'a [u8], StoreError>
     ensures { behind result ≡ spec.get_xattr (option_copied object.entry) name.now }
 {
-    check_name(name)?;
-    there(object)?.xattr(name).ok_or(StoreError::NoAttr)
+    named(object, name)?.xattr(name).ok_or(StoreError::NoAttr)
 }
 
 /// The value of a key of the omap. Refused: 6 Range, 1 Absent, 3 NoAttr.
 pub fn get_key<'a>(object: Option<&'a Object>, key: &[u8]) -> Result<&'a [u8], StoreError>
     ensures { behind result ≡ spec.get_key (option_copied object.entry) key.now }
 {
-    check_name(key)?;
-    there(object)?.key(key).ok_or(StoreError::NoAttr)
+    named(object, key)?.key(key).ok_or(StoreError::NoAttr)
 }
 
 /// The least key of the omap above these bytes, which may be none. Refused: 6 Range past `NAME_LIMIT`, 1 Absent, 3 NoAttr.
@@ -64,20 +62,24 @@ pub fn write(
 ) -> Result<Object, StoreError>
     ensures { Gives (λ o. o) result (spec.write (option_copied object.entry) at text.now) }
 {
-    let at = place_of(at, text.len()).ok_or(StoreError::TooBig)?;
+    let Some(at) = place_of(at, text.len()) else {
+        return Err(StoreError::TooBig);
+    };
     let mut new = there_or_new(object)?;
-    new.write(alloc, at, text)?;
-    Ok(Object::of(alloc, new)?)
+    let done = new.write(alloc, at, text);
+    finished(alloc, new, done)
 }
 
 /// The data cut, or extended with zeros. Refused: 4 TooBig, 1 Absent, 7 NoMemory.
 pub fn truncate(alloc: Global, object: Option<&Object>, len: u64) -> Result<Object, StoreError>
     ensures { Gives (λ o. o) result (spec.truncate (option_copied object.entry) len) }
 {
-    let len = place_of(len, 0).ok_or(StoreError::TooBig)?;
+    let Some(len) = place_of(len, 0) else {
+        return Err(StoreError::TooBig);
+    };
     let mut new = there(object)?.opened()?;
-    new.truncate(alloc, len)?;
-    Ok(Object::of(alloc, new)?)
+    let done = new.truncate(alloc, len);
+    finished(alloc, new, done)
 }
 
 /// An xattr set; it creates an object that is absent. Refused: 6 Range, 4 TooBig, 5 TooMany, 7 NoMemory.
@@ -89,11 +91,10 @@ pub fn set_xattr(
 ) -> Result<Object, StoreError>
     ensures { Gives (λ o. o) result (spec.set_xattr (option_copied object.entry) name.now value.now) }
 {
-    check_name(name)?;
-    check_value(value)?;
+    check_entry(name, value)?;
     let mut new = there_or_new(object)?;
-    new.set_xattr(alloc, name, value)?;
-    Ok(Object::of(alloc, new)?)
+    let done = new.set_xattr(alloc, name, value);
+    finished(alloc, new, done)
 }
 
 /// A key of the omap set; it creates an object that is absent. Refused: 6 Range, 4 TooBig, 5 TooMany, 7 NoMemory.
@@ -105,11 +106,10 @@ pub fn set_key(
 ) -> Result<Object, StoreError>
     ensures { Gives (λ o. o) result (spec.set_key (option_copied object.entry) key.now value.now) }
 {
-    check_name(key)?;
-    check_value(value)?;
+    check_entry(key, value)?;
     let mut new = there_or_new(object)?;
-    new.set_key(alloc, key, value)?;
-    Ok(Object::of(alloc, new)?)
+    let done = new.set_key(alloc, key, value);
+    finished(alloc, new, done)
 }
 
 /// An xattr removed. Refused: 6 Range, 1 Absent, 3 NoAttr, 7 NoMemory.
@@ -120,20 +120,18 @@ pub fn remove_xattr(
 ) -> Result<Object, StoreError>
     ensures { Gives (λ o. o) result (spec.remove_xattr (option_copied object.entry) name.now) }
 {
-    check_name(name)?;
-    let mut new = there(object)?.opened()?;
-    new.remove_xattr(alloc, name)?;
-    Ok(Object::of(alloc, new)?)
+    let mut new = named(object, name)?.opened()?;
+    let done = new.remove_xattr(alloc, name);
+    finished(alloc, new, done)
 }
 
 /// A key of the omap removed. Refused: 6 Range, 1 Absent, 3 NoAttr, 7 NoMemory.
 pub fn remove_key(alloc: Global, object: Option<&Object>, key: &[u8]) -> Result<Object, StoreError>
     ensures { Gives (λ o. o) result (spec.remove_key (option_copied object.entry) key.now) }
 {
-    check_name(key)?;
-    let mut new = there(object)?.opened()?;
-    new.remove_key(alloc, key)?;
-    Ok(Object::of(alloc, new)?)
+    let mut new = named(object, key)?.opened()?;
+    let done = new.remove_key(alloc, key);
+    finished(alloc, new, done)
 }
 
 /// An object without data, xattrs and keys where none is; one that is there stays as it is. Refused: 2 Exists, where it is there and the creation is
@@ -167,6 +165,14 @@ fn there(object: Option<&Object>) -> Result<&Object, StoreError>
     object.ok_or(StoreError::Absent)
 }
 
+/// The object, for a call that names an xattr or a key. Refused: 6 Range, 1 Absent.
+fn named<'a>(object: Option<&'a Object>, name: &[u8]) -> Result<&'a Object, StoreError>
+    ensures { behind result ≡ (if spec.is_named name.now then spec.if_there (option_copied object.entry) (λ c. Ok c) else Err StoreError.Range) }
+{
+    check_name(name)?;
+    there(object)
+}
+
 /// What the object holds, to be changed; nothing where it is absent.
 fn there_or_new(object: Option<&Object>) -> Result<Held, StoreError>
     ensures value { IfOk result (λ h. h ≡ content_of (option_copied object.entry)) }
@@ -176,6 +182,24 @@ fn there_or_new(object: Option<&Object>) -> Result<Held, StoreError>
         Some(object) => object.opened(),
         None => Ok(Held::new()),
     }
+}
+
+/// The object that a change made of what it was given. Refused: as the change was, or 7 NoMemory.
+fn finished(alloc: Global, new: Held, done: Result<(), StoreError>) -> Result<Object, StoreError>
+    ensures { (answer : Result Content StoreError) → Gives (λ _. new) done answer → Gives (λ o. o) result answer }
+{
+    done?;
+    Ok(Object::of(alloc, new)?)
+}
+
+/// Refuses a name, and then a value, that no xattr and no key has: 6 Range, 4 TooBig.
+fn check_entry(name: &[u8], value: &[u8]) -> Result<(), StoreError>
+    ensures answer { result ≡ (if spec.is_named name.now then (if nat_lt VALUE_LIMIT (length value.now) then Err StoreError.TooBig else Ok tt) else Err StoreError.Range) }
+    ensures name { IfOk result (λ _. IsName name.now) }
+    ensures value { IfOk result (λ _. IsValue value.now) }
+{
+    check_name(name)?;
+    check_value(value)
 }
 
 /// Refuses a name of no bytes or of too many: 6 Range.

@@ -1,4 +1,4 @@
-ghost use Rattle.std.specs.Prelude.{◌≡◌, ◌+◌, ◌≤◌, [], IfOk, OnErr, IfErr, length};
+ghost use Rattle.std.specs.Prelude.{◌≡◌, ◌+◌, ◌≤◌, [], IfOk, OnOk, OnErr, IfErr, length};
 ghost use Rattle.object_store.specs.declared.limits.TheConstants.{DATA_LIMIT};
 ghost use Rattle.object_store.specs.Object.{part, spliced, resized};
 ghost use Rattle.object_store.specs.Edits.{written, truncated, overlaid};
@@ -68,36 +68,39 @@ impl ExtentData {
         })
     }
 
-    /// The bytes with text written over them at a place.
-    pub(crate) fn with_text(
-        &self,
-        alloc: Global,
-        at: usize,
-        text: &[u8],
-    ) -> Result<ExtentData, AllocError>
+    /// Writes text over the bytes at a place.
+    pub(crate) fn splice(&mut self, alloc: Global, at: usize, text: &[u8]) -> Result<(), AllocError>
         requires { at + length text.now ≤ DATA_LIMIT }
-        ensures { IfOk result (λ d. d ≡ spliced self.now at text.now) }
+        ensures ok { OnOk result (self.new ≡ spliced self.old at text.now) }
+        ensures err { OnErr result (self.new ≡ self.old) }
     {
         if text.is_empty() {
-            return self.share();
+            return Ok(());
         }
         let parts = with_text(alloc, self.parts(), self.len, at, text)?;
-        Ok(ExtentData {
-            parts: Some(Arc::new(alloc, parts)?),
-            len: self.len.max(at + text.len()),
-        })
+        let len = self.len.max(at + text.len());
+        self.remake(alloc, parts, len)
     }
 
-    /// The bytes cut, or extended with zeros, to a length.
-    pub(crate) fn with_len(&self, alloc: Global, len: usize) -> Result<ExtentData, AllocError>
+    /// Cuts the bytes, or extends them with zeros, to a length.
+    pub(crate) fn resize(&mut self, alloc: Global, len: usize) -> Result<(), AllocError>
         requires { len ≤ DATA_LIMIT }
-        ensures { IfOk result (λ d. d ≡ resized self.now len) }
+        ensures ok { OnOk result (self.new ≡ resized self.old len) }
+        ensures err { OnErr result (self.new ≡ self.old) }
     {
         let parts = with_len(alloc, self.parts(), self.len, len)?;
-        Ok(ExtentData {
-            parts: Some(Arc::new(alloc, parts)?),
-            len,
-        })
+        self.remake(alloc, parts, len)
+    }
+
+    /// Makes the data that of these extents, which have so many bytes.
+    fn remake(&mut self, alloc: Global, parts: Vec<Extent>, len: usize) -> Result<(), AllocError>
+        requires { (len ≡ length (flat parts.items)) × (len ≤ DATA_LIMIT) }
+        ensures ok { OnOk result (self.new ≡ flat parts.items) }
+        ensures err { OnErr result (self.new ≡ self.old) }
+    {
+        self.parts = Some(Arc::new(alloc, parts)?);
+        self.len = len;
+        Ok(())
     }
 }
 
@@ -118,15 +121,17 @@ impl Data for ExtentData {
         if text.is_empty() {
             return Ok(());
         }
-        let at = place_of(at, text.len()).ok_or(DataError::TooBig)?;
-        *self = self.with_text(alloc, at, text)?;
-        Ok(())
+        let Some(at) = place_of(at, text.len()) else {
+            return Err(DataError::TooBig);
+        };
+        Ok(self.splice(alloc, at, text)?)
     }
 
     fn truncate(&mut self, alloc: Global, len: u64) -> Result<(), DataError> {
-        let len = place_of(len, 0).ok_or(DataError::TooBig)?;
-        *self = self.with_len(alloc, len)?;
-        Ok(())
+        let Some(len) = place_of(len, 0) else {
+            return Err(DataError::TooBig);
+        };
+        Ok(self.resize(alloc, len)?)
     }
 
     fn copy(&self, alloc: Global) -> Result<ExtentData, DataError> {

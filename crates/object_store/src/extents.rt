@@ -187,11 +187,20 @@ fn push_cut(alloc: Global, parts: &mut Vec<Extent>, bytes: &[u8]) -> Result<(), 
     let mut rest = bytes;
     while rest.len() > EXTENT_LIMIT {
         let (first, others) = rest.split_at(EXTENT_LIMIT);
-        parts.push(Arc::new(alloc, Vec::from_slice(alloc, first)?)?)?;
+        push_extent(alloc, parts, first)?;
         rest = others;
     }
-    if !rest.is_empty() {
-        parts.push(Arc::new(alloc, Vec::from_slice(alloc, rest)?)?)?;
+    if rest.is_empty() {
+        return Ok(());
     }
+    push_extent(alloc, parts, rest)
+}
+
+/// Adds one extent of new bytes.
+fn push_extent(alloc: Global, parts: &mut Vec<Extent>, bytes: &[u8]) -> Result<(), AllocError>
+    ensures { OnOk result (flat parts.new.items ≡ flat parts.old.items ++ bytes.now) }
+{
+    let extent = Arc::new(alloc, Vec::from_slice(alloc, bytes)?)?;
+    parts.push(extent)?;
     Ok(())
 }

@@ -55,14 +55,18 @@ impl Data for FlatData {
         if text.is_empty() {
             return Ok(());
         }
-        let at = place_of(at, text.len()).ok_or(DataError::TooBig)?;
+        let Some(at) = place_of(at, text.len()) else {
+            return Err(DataError::TooBig);
+        };
         splice(&mut self.content, at, text)?;
         Ok(())
     }
 
     fn truncate(&mut self, alloc: Global, len: u64) -> Result<(), DataError> {
         let _ = alloc;
-        let len = place_of(len, 0).ok_or(DataError::TooBig)?;
+        let Some(len) = place_of(len, 0) else {
+            return Err(DataError::TooBig);
+        };
         self.content.resize(len, 0)?;
         Ok(())
     }

@@ -1,4 +1,4 @@
-ghost use Rattle.std.specs.Prelude.{◌≡◌, ◌+◌, ◌≤◌, IfOk, IfErr, OnOk, OnErr, length};
+ghost use Rattle.std.specs.Prelude.{◌≡◌, ◌+◌, ◌≤◌, IfOk, Ok, length};
 ghost use Rattle.std.specs.Option.{option_copied};
 ghost use Rattle.std.specs.FinMap as fin;
 ghost use Rattle.shared_map.specs.Entries.{key_above};
@@ -109,10 +109,9 @@ impl Held {
         self.omap.len()
     }
 
-    /// The same, of which all is shared. Refused: 7 NoMemory.
-    pub(crate) fn copy(&self) -> Result<Held, StoreError>
-        ensures value { IfOk result (λ o. o ≡ self.now) }
-        ensures refused { IfErr result (λ e. e ≡ StoreError.NoMemory) }
+    /// The same, of which all is shared.
+    pub(crate) fn copy(&self) -> Result<Held, AllocError>
+        ensures { IfOk result (λ o. o ≡ self.now) }
     {
         Ok(Held {
             bytes: self.bytes.share()?,
@@ -122,21 +121,19 @@ impl Held {
     }
 
     /// Writes text at a place.
-    pub(crate) fn write(&mut self, alloc: Global, at: usize, text: &[u8]) -> Result<(), AllocError>
+    pub(crate) fn write(&mut self, alloc: Global, at: usize, text: &[u8]) -> Result<(), StoreError>
         requires { at + length text.now ≤ DATA_LIMIT }
-        ensures { OnOk result (self.new ≡ record self.old { bytes = spliced self.old.bytes at text.now }) }
+        ensures { Gives (λ _. self.new) result (Ok (record self.old { bytes = spliced self.old.bytes at text.now })) }
     {
-        self.bytes = self.bytes.with_text(alloc, at, text)?;
-        Ok(())
+        Ok(self.bytes.splice(alloc, at, text)?)
     }
 
     /// Cuts the data, or extends it with zeros.
-    pub(crate) fn truncate(&mut self, alloc: Global, len: usize) -> Result<(), AllocError>
+    pub(crate) fn truncate(&mut self, alloc: Global, len: usize) -> Result<(), StoreError>
         requires { len ≤ DATA_LIMIT }
-        ensures { OnOk result (self.new ≡ record self.old { bytes = resized self.old.bytes len }) }
+        ensures { Gives (λ _. self.new) result (Ok (record self.old { bytes = resized self.old.bytes len })) }
     {
-        self.bytes = self.bytes.with_len(alloc, len)?;
-        Ok(())
+        Ok(self.bytes.resize(alloc, len)?)
     }
 
     /// Sets an xattr.

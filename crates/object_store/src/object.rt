@@ -53,7 +53,7 @@ impl Object {
         ensures refused { IfErr result (λ e. e ≡ StoreError.NoMemory) }
     {
         match &self.held {
-            Some(held) => held.copy(),
+            Some(held) => Ok(held.copy()?),
             None => Ok(Held::new()),
         }
     }
@@ -64,7 +64,7 @@ impl Object {
     {
         match &self.held {
             Some(held) => held.within(),
-            None => Held::new().within(),
+            None => {}
         }
     }
 
@@ -86,7 +86,7 @@ impl Object {
     {
         match &self.held {
             Some(held) => held.read(at, out),
-            None => Held::new().read(at, out),
+            None => 0,
         }
     }
 

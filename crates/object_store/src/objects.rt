@@ -1,7 +1,8 @@
-ghost use Rattle.std.specs.Prelude.{◌≡◌, ℕ, List, Bool, IfOk, IfErr, OnErr, OnOk, length};
+ghost use Rattle.std.specs.Prelude.{◌≡◌, ℕ, List, Bool, Result, IfOk, IfErr, OnErr, OnOk, length};
 ghost use Rattle.std.specs.Option.{option_copied};
 ghost use Rattle.std.specs.FinMap as fin;
 ghost use Rattle.object_store.specs.Calls as spec;
+ghost use Rattle.object_store.specs.Object.{Content};
 ghost use Rattle.object_store.specs.Names.{stored, after, after_removal};
 ghost use Rattle.object_store.specs.Returned.{Gives, behind};
 
@@ -77,8 +78,29 @@ impl Objects {
         ensures refused { IfErr result (λ e. e ≡ StoreError.NoMemory) }
         ensures err { OnErr result (self.new ≡ self.old) }
     {
-        self.by_name.set(alloc, name.text().as_bytes(), object)?;
-        Ok(())
+        Ok(self.by_name.set(alloc, name.text().as_bytes(), object)?)
+    }
+
+    /// Makes the object of that name the one that a change made of it.
+    fn put_changed(
+        &mut self,
+        alloc: Global,
+        name: &ObjectName,
+        changed: Result<Object, StoreError>,
+    ) -> Result<(), StoreError>
+        ensures answer { (answer : Result Content StoreError) → Gives (λ o. o) changed answer → Gives (λ _. self.new) result (after self.old name.now answer) }
+        ensures err { OnErr result (self.new ≡ self.old) }
+    {
+        self.put(alloc, name, changed?)
+    }
+
+    /// Takes the object of that name away, where there is one.
+    fn take_away(&mut self, alloc: Global, name: &ObjectName) -> Result<(), StoreError>
+        ensures ok { OnOk result (self.new ≡ fin.remove self.old name.now) }
+        ensures refused { IfErr result (λ e. e ≡ StoreError.NoMemory) }
+        ensures err { OnErr result (self.new ≡ self.old) }
+    {
+        Ok(self.by_name.remove(alloc, name.text().as_bytes())?)
     }
 
     /// Makes the object of that name equal to this one, which it shares, or absent. Refused: 7 NoMemory; nothing has changed then.
@@ -93,10 +115,7 @@ impl Objects {
         ensures err { OnErr result (self.new ≡ self.old) }
     {
         match object {
-            None => {
-                self.by_name.remove(alloc, name.text().as_bytes())?;
-                Ok(())
-            }
+            None => self.take_away(alloc, name),
             Some(object) => self.put(alloc, name, object.copy()?),
         }
     }
@@ -150,8 +169,8 @@ impl Objects {
         ensures answer { Gives (λ _. self.new) result (after self.old name.now (spec.write (fin.get self.old name.now) at text.now)) }
         ensures err { OnErr result (self.new ≡ self.old) }
     {
-        let new = calls::write(alloc, self.get(name), at, text)?;
-        self.put(alloc, name, new)
+        let changed = calls::write(alloc, self.get(name), at, text);
+        self.put_changed(alloc, name, changed)
     }
 
     /// Cuts the data of an object, or extends it with zeros. Refused: 4 TooBig, 1 Absent, 7 NoMemory; nothing has changed then.
@@ -159,8 +178,8 @@ impl Objects {
         ensures answer { Gives (λ _. self.new) result (after self.old name.now (spec.truncate (fin.get self.old name.now) len)) }
         ensures err { OnErr result (self.new ≡ self.old) }
     {
-        let new = calls::truncate(alloc, self.get(name), len)?;
-        self.put(alloc, name, new)
+        let changed = calls::truncate(alloc, self.get(name), len);
+        self.put_changed(alloc, name, changed)
     }
 
     /// Sets an xattr of an object, which it creates where it is absent. Refused: 6 Range, 4 TooBig, 5 TooMany, 7 NoMemory; nothing has changed then.
@@ -174,8 +193,8 @@ impl Objects {
         ensures answer { Gives (λ _. self.new) result (after self.old name.now (spec.set_xattr (fin.get self.old name.now) xattr.now value.now)) }
         ensures err { OnErr result (self.new ≡ self.old) }
     {
-        let new = calls::set_xattr(alloc, self.get(name), xattr, value)?;
-        self.put(alloc, name, new)
+        let changed = calls::set_xattr(alloc, self.get(name), xattr, value);
+        self.put_changed(alloc, name, changed)
     }
 
     /// Sets a key of the omap of an object, which it creates where it is absent. Refused: 6 Range, 4 TooBig, 5 TooMany, 7 NoMemory; nothing has changed then.
@@ -189,8 +208,8 @@ impl Objects {
         ensures answer { Gives (λ _. self.new) result (after self.old name.now (spec.set_key (fin.get self.old name.now) key.now value.now)) }
         ensures err { OnErr result (self.new ≡ self.old) }
     {
-        let new = calls::set_key(alloc, self.get(name), key, value)?;
-        self.put(alloc, name, new)
+        let changed = calls::set_key(alloc, self.get(name), key, value);
+        self.put_changed(alloc, name, changed)
     }
 
     /// Removes an xattr of an object. Refused: 6 Range, 1 Absent, 3 NoAttr, 7 NoMemory; nothing has changed then.
@@ -203,8 +222,8 @@ impl Objects {
         ensures answer { Gives (λ _. self.new) result (after self.old name.now (spec.remove_xattr (fin.get self.old name.now) xattr.now)) }
         ensures err { OnErr result (self.new ≡ self.old) }
     {
-        let new = calls::remove_xattr(alloc, self.get(name), xattr)?;
-        self.put(alloc, name, new)
+        let changed = calls::remove_xattr(alloc, self.get(name), xattr);
+        self.put_changed(alloc, name, changed)
     }
 
     /// Removes a key of the omap of an object. Refused: 6 Range, 1 Absent, 3 NoAttr, 7 NoMemory; nothing has changed then.
@@ -217,8 +236,8 @@ impl Objects {
         ensures answer { Gives (λ _. self.new) result (after self.old name.now (spec.remove_key (fin.get self.old name.now) key.now)) }
         ensures err { OnErr result (self.new ≡ self.old) }
     {
-        let new = calls::remove_key(alloc, self.get(name), key)?;
-        self.put(alloc, name, new)
+        let changed = calls::remove_key(alloc, self.get(name), key);
+        self.put_changed(alloc, name, changed)
     }
 
     /// Creates an object without data, xattrs and keys; one that is there stays as it is. Refused: 2 Exists, where it is there and the creation is exclusive,
@@ -232,8 +251,8 @@ impl Objects {
         ensures answer { Gives (λ _. self.new) result (after self.old name.now (spec.create (fin.get self.old name.now) exclusive)) }
         ensures err { OnErr result (self.new ≡ self.old) }
     {
-        let new = calls::create(self.get(name), exclusive)?;
-        self.put(alloc, name, new)
+        let changed = calls::create(self.get(name), exclusive);
+        self.put_changed(alloc, name, changed)
     }
 
     /// Removes an object. Refused: 1 Absent, 7 NoMemory; nothing has changed then.
@@ -242,7 +261,6 @@ impl Objects {
         ensures err { OnErr result (self.new ≡ self.old) }
     {
         calls::remove(self.get(name))?;
-        self.by_name.remove(alloc, name.text().as_bytes())?;
-        Ok(())
+        self.take_away(alloc, name)
     }
 }

@@ -1,6 +1,6 @@
-ghost use Rattle.std.specs.Prelude.{◌≡◌, IfOk, OnErr, None, Some};
+ghost use Rattle.std.specs.Prelude.{◌≡◌, Result, IfOk, OnErr, None, Some};
 ghost use Rattle.std.specs.Option.{option_copied};
-ghost use Rattle.object_store.specs.Object.{content_of};
+ghost use Rattle.object_store.specs.Object.{Content, content_of};
 ghost use Rattle.object_store.specs.Calls as spec;
 ghost use Rattle.object_store.specs.Returned.{Gives};
 ghost use Rattle.txn.specs.Versions.{made};
@@ -69,9 +69,8 @@ impl<'a> Staged<'a> {
         ensures answer { Gives (λ _. self.new.after) result (made (spec.write self.old.after at text.now)) }
         ensures refused { OnErr result (self.new ≡ self.old) }
     {
-        let object = calls::write(alloc, self.object(), at, text)?;
-        self.newest = Newest::Written(Some(object));
-        Ok(())
+        let object = calls::write(alloc, self.object(), at, text);
+        self.renew(object)
     }
 
     /// Cuts the data to a length, or extends it with zeros. Refused: 4 TooBig, 1 Absent, 7 NoMemory.
@@ -80,9 +79,8 @@ impl<'a> Staged<'a> {
         ensures answer { Gives (λ _. self.new.after) result (made (spec.truncate self.old.after len)) }
         ensures refused { OnErr result (self.new ≡ self.old) }
     {
-        let object = calls::truncate(alloc, self.object(), len)?;
-        self.newest = Newest::Written(Some(object));
-        Ok(())
+        let object = calls::truncate(alloc, self.object(), len);
+        self.renew(object)
     }
 
     /// Sets an xattr. An absent object comes to be. Refused: 6 Range, 4 TooBig, 5 TooMany, 7 NoMemory.
@@ -91,9 +89,8 @@ impl<'a> Staged<'a> {
         ensures answer { Gives (λ _. self.new.after) result (made (spec.set_xattr self.old.after name.now value.now)) }
         ensures refused { OnErr result (self.new ≡ self.old) }
     {
-        let object = calls::set_xattr(alloc, self.object(), name, value)?;
-        self.newest = Newest::Written(Some(object));
-        Ok(())
+        let object = calls::set_xattr(alloc, self.object(), name, value);
+        self.renew(object)
     }
 
     /// Removes an xattr. Refused: 6 Range, 1 Absent, 3 NoAttr, 7 NoMemory.
@@ -102,9 +99,8 @@ impl<'a> Staged<'a> {
         ensures answer { Gives (λ _. self.new.after) result (made (spec.remove_xattr self.old.after name.now)) }
         ensures refused { OnErr result (self.new ≡ self.old) }
     {
-        let object = calls::remove_xattr(alloc, self.object(), name)?;
-        self.newest = Newest::Written(Some(object));
-        Ok(())
+        let object = calls::remove_xattr(alloc, self.object(), name);
+        self.renew(object)
     }
 
     /// Sets the value of a key of the omap. An absent object comes to be. Refused: 6 Range, 4 TooBig, 5 TooMany,
@@ -114,9 +110,8 @@ impl<'a> Staged<'a> {
         ensures answer { Gives (λ _. self.new.after) result (made (spec.set_key self.old.after key.now value.now)) }
         ensures refused { OnErr result (self.new ≡ self.old) }
     {
-        let object = calls::set_key(alloc, self.object(), key, value)?;
-        self.newest = Newest::Written(Some(object));
-        Ok(())
+        let object = calls::set_key(alloc, self.object(), key, value);
+        self.renew(object)
     }
 
     /// Removes a key of the omap. Refused: 6 Range, 1 Absent, 3 NoAttr, 7 NoMemory.
@@ -125,8 +120,17 @@ impl<'a> Staged<'a> {
         ensures answer { Gives (λ _. self.new.after) result (made (spec.remove_key self.old.after key.now)) }
         ensures refused { OnErr result (self.new ≡ self.old) }
     {
-        let object = calls::remove_key(alloc, self.object(), key)?;
-        self.newest = Newest::Written(Some(object));
+        let object = calls::remove_key(alloc, self.object(), key);
+        self.renew(object)
+    }
+
+    /// Makes the object that a call made the newest version; where the call was refused, all stays as it was.
+    fn renew(&mut self, object: Result<Object, StoreError>) -> Result<(), StoreError>
+        ensures before { self.new.before ≡ self.old.before }
+        ensures answer { (answer : Result Content StoreError) → Gives (λ o. o) object answer → Gives (λ _. self.new.after) result (made answer) }
+        ensures refused { OnErr result (self.new ≡ self.old) }
+    {
+        self.newest = Newest::Written(Some(object?));
         Ok(())
     }
 

@@ -1,98 +1,31 @@
 ghost use Rattle.std.specs.Prelude.{◌≡◌, ◌+◌, ◌≤◌, IfSome};
 
 use super::calls::right_answers;
+use crate::words::{next, number};
 use helpers::{Span, getxattr, map_get, map_next};
+use std::str::SplitWhitespace;
 use txn::Staged;
 
-/// A helper that looks up bytes and copies what it finds.
-#[derive(Clone, Copy)]
-enum Copying {
-    GetXattr,
-    MapGet,
-    MapNext,
-}
-
-/// Twelve bytes of memory, the ranges of a name and of a value as place and length, the answer, and the memory after.
-type Row = (Copying, [u8; 12], (u64, u64), (u64, u64), i64, [u8; 12]);
-
-/// No bytes lie anywhere.
-const NOWHERE: (u64, u64) = (u64::MAX, 0);
-
+/// A line is a helper that looks up bytes and copies what it finds, twelve bytes of memory, the ranges of a name and of a value as place and length, the
+/// answer, and the memory after. The value comes to stand over its name, and a key over the one before. No bytes lie anywhere.
+///
 /// Beside the xattr `lock` and the keys `bb` and `lock`.
-const COPIES: [Row; 8] = [
-    // the value comes to stand over its name
-    (
-        Copying::GetXattr,
-        *b"..lock......",
-        (2, 4),
-        (1, 9),
-        8,
-        *b".12345678...",
-    ),
-    (
-        Copying::MapGet,
-        *b"..lock......",
-        (2, 4),
-        (3, 8),
-        8,
-        *b"..l12345678.",
-    ),
-    (
-        Copying::GetXattr,
-        *b"..lock......",
-        (2, 4),
-        (2, 7),
-        -34,
-        *b"..lock......",
-    ),
-    // and a key over the one before
-    (
-        Copying::MapNext,
-        *b"a...........",
-        (0, 1),
-        (0, 2),
-        2,
-        *b"bb..........",
-    ),
-    (
-        Copying::MapNext,
-        *b"bb..........",
-        (0, 2),
-        (1, 9),
-        4,
-        *b"block.......",
-    ),
-    (
-        Copying::MapNext,
-        *b"lock........",
-        (0, 4),
-        (0, 9),
-        -61,
-        *b"lock........",
-    ),
-    (
-        Copying::MapNext,
-        *b"............",
-        NOWHERE,
-        (0, 2),
-        2,
-        *b"bb..........",
-    ),
-    (
-        Copying::MapGet,
-        *b"bb..........",
-        (0, 2),
-        NOWHERE,
-        0,
-        *b"bb..........",
-    ),
-];
+const COPIES: &str = "
+getxattr ..lock...... 2 4 1 9 8 .12345678...
+map_get ..lock...... 2 4 3 8 8 ..l12345678.
+getxattr ..lock...... 2 4 2 7 -34 ..lock......
+map_next a........... 0 1 0 2 2 bb..........
+map_next bb.......... 0 2 1 9 4 block.......
+map_next lock........ 0 4 0 9 -61 lock........
+map_next ............ 18446744073709551615 0 0 2 2 bb..........
+map_get bb.......... 0 2 18446744073709551615 0 0 bb..........
+";
 
-/// A range within twelve bytes.
-fn span(range: (u64, u64)) -> Option<Span>
+/// The range within twelve bytes that comes next.
+fn span(words: &mut SplitWhitespace<'_>) -> Option<Span>
     ensures { IfSome result (λ s. (s.len ≡ 0 → ⊥) → s.at + s.len ≤ 12) }
 {
-    let (at, len) = range;
+    let (at, len) = (number(next(words)), number(next(words)));
     if len == 0 || (at <= 12 && len <= 12 - at) {
         Some(Span { at, len })
     } else {
@@ -101,17 +34,36 @@ fn span(range: (u64, u64)) -> Option<Span>
 }
 
 /// Whether a helper answers and copies so.
-fn copies(staged: &Staged, (copying, before, name, value, want, after): Row) -> bool {
-    let (Some(name), Some(value)) = (span(name), span(value)) else {
+fn copies(staged: &Staged, line: &str) -> bool {
+    let mut words = line.split_whitespace();
+    let helper = next(&mut words);
+    let before = next(&mut words).as_bytes();
+    let (Some(name), Some(value)) = (span(&mut words), span(&mut words)) else {
         return false;
     };
-    let mut memory = before;
-    let answer = match copying {
-        Copying::GetXattr => getxattr(staged, &mut memory, name, value),
-        Copying::MapGet => map_get(staged, &mut memory, name, value),
-        Copying::MapNext => map_next(staged, &mut memory, name, value),
+    if before.len() != 12 {
+        return false;
+    }
+    let mut memory = [0; 12];
+    memory.copy_from_slice(before);
+    let answer = match helper {
+        "getxattr" => getxattr(staged, &mut memory, name, value),
+        "map_get" => map_get(staged, &mut memory, name, value),
+        "map_next" => map_next(staged, &mut memory, name, value),
+        _ => return false,
     };
-    answer == want.cast_unsigned() && memory == after
+    answer == number(next(&mut words)) && memory.as_slice() == next(&mut words).as_bytes()
+}
+
+/// How many lines come out so.
+fn right_copies(staged: &Staged, text: &str) -> usize {
+    let mut count = 0usize;
+    for line in text.lines() {
+        if !line.is_empty() && copies(staged, line) {
+            count = count.saturating_add(1);
+        }
+    }
+    count
 }
 
 const SETS: &str = "
@@ -124,7 +76,5 @@ map_set bb - 0
 fn ranges_may_overlap(rt: HostRuntime) {
     let mut staged = Staged::over(None);
     assert!(rt; right_answers(rt.alloc(), &mut staged, SETS) == Ok(3));
-    for row in COPIES {
-        assert!(rt; copies(&staged, row));
-    }
+    assert!(rt; right_copies(&staged, COPIES) == 8);
 }

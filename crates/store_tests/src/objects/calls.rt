@@ -3,7 +3,6 @@
 use crate::words::{bytes, next, number};
 use object_store::{ObjectName, Objects, StoreError};
 use std::alloc::Global;
-use std::test::Fail;
 
 /// A value of one byte more than there may be.
 const LONG_VALUE: &[u8] = &[7; 4097];
@@ -111,15 +110,15 @@ fn value_of(word: &str) -> &[u8] {
     }
 }
 
-/// What a line wants: a refusal, or bytes.
-fn wanted(word: &str) -> Result<&[u8], StoreError> {
+/// The refusal of that name; none of another word.
+fn refusal(word: &str) -> Option<StoreError> {
     match word {
-        "Absent" => Err(StoreError::Absent),
-        "Exists" => Err(StoreError::Exists),
-        "NoAttr" => Err(StoreError::NoAttr),
-        "TooBig" => Err(StoreError::TooBig),
-        "Range" => Err(StoreError::Range),
-        _ => Ok(bytes(word)),
+        "Absent" => Some(StoreError::Absent),
+        "Exists" => Some(StoreError::Exists),
+        "NoAttr" => Some(StoreError::NoAttr),
+        "TooBig" => Some(StoreError::TooBig),
+        "Range" => Some(StoreError::Range),
+        _ => None,
     }
 }
 
@@ -162,18 +161,26 @@ fn looked_up<'a>(
 /// Whether a read of four bytes answers so, and leaves the buffer where it is refused.
 fn reads(objects: &Objects, name: &ObjectName, line: Line<'_>) -> bool {
     let mut buffer = [1; 4];
-    let found = objects.read(name, number(line.first), &mut buffer).err();
-    match wanted(line.answer) {
-        Ok(bytes) => found.is_none() && bytes == buffer.as_slice(),
-        Err(refusal) => found == Some(refusal) && buffer == [1; 4],
+    let found = objects.read(name, number(line.first), &mut buffer);
+    match found {
+        Ok(_) => refusal(line.answer).is_none() && buffer.as_slice() == bytes(line.answer),
+        Err(error) => refusal(line.answer) == Some(error) && buffer == [1; 4],
     }
 }
 
 /// Whether the length of the data is so.
 fn has_length(objects: &Objects, name: &ObjectName, line: Line<'_>) -> bool {
     match objects.stat(name) {
-        Ok(len) => len as u64 == number(line.answer) && wanted(line.answer).is_ok(),
-        Err(error) => wanted(line.answer) == Err(error),
+        Ok(len) => refusal(line.answer).is_none() && len as u64 == number(line.answer),
+        Err(error) => refusal(line.answer) == Some(error),
+    }
+}
+
+/// Whether what was looked up is a line's answer.
+fn is_found(found: Result<&[u8], StoreError>, answer: &str) -> bool {
+    match found {
+        Ok(value) => refusal(answer).is_none() && value == bytes(answer),
+        Err(error) => refusal(answer) == Some(error),
     }
 }
 
@@ -186,9 +193,9 @@ fn answers(alloc: Global, objects: &mut Objects, name: &ObjectName, line: Line<'
         return reads(objects, name, line);
     }
     if let Some(found) = looked_up(objects, name, line) {
-        return found == wanted(line.answer);
+        return is_found(found, line.answer);
     }
-    change(alloc, objects, name, line).err() == wanted(line.answer).err()
+    change(alloc, objects, name, line).err() == refusal(line.answer)
 }
 
 /// How many lines come before the first that is answered otherwise. An empty one isn't counted.
@@ -207,9 +214,8 @@ fn right_answers(alloc: Global, objects: &mut Objects, name: &ObjectName, text: 
 }
 
 #[test]
-fn rows(rt: HostRuntime) -> Result<(), Fail> {
-    let name = ObjectName::new(rt.alloc(), "o")?;
+fn rows(rt: HostRuntime) {
+    let name = ObjectName::new(rt.alloc(), "o").expect(&rt, "memory");
     let count = right_answers(rt.alloc(), &mut Objects::new(), &name, ROWS);
     assert!(rt; count == 71, "{count} right answers");
-    Ok(())
 }

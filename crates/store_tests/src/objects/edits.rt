@@ -1,6 +1,7 @@
 use crate::words::{bytes, next, number};
 use object_store::{Data, DataError, Edit, ExtentData, FlatData, edit_all};
-use std::alloc::{AllocError, Global};
+use std::alloc::Global;
+use std::process::Abort;
 use std::str::SplitWhitespace;
 
 /// A line is what edits of data `0123456789` answer, the length afterwards, a place, the bytes there, and then the edits: `w`
@@ -21,21 +22,31 @@ TooBig 10 8 89 w 18446744073709551615 z
 TooBig 10 8 89 t 65537
 ";
 
+/// A write of the place and the text that come next.
+fn write_of<R: Abort>(rt: &R, alloc: Global, words: &mut SplitWhitespace<'_>) -> Edit {
+    let at = number(next(words));
+    let text = Vec::from_slice(alloc, bytes(next(words))).expect(rt, "memory");
+    Edit::Write { at, text }
+}
+
+/// The edit that the next words name, where they name one.
+fn edit_of<R: Abort>(rt: &R, alloc: Global, words: &mut SplitWhitespace<'_>) -> Option<Edit> {
+    match next(words) {
+        "w" => Some(write_of(rt, alloc, words)),
+        "t" => Some(Edit::Truncate(number(next(words)))),
+        _ => None,
+    }
+}
+
 /// The edits that the rest of a line names.
-fn edits_of(alloc: Global, words: &mut SplitWhitespace<'_>) -> Result<Vec<Edit>, AllocError> {
+fn edits_of<R: Abort>(rt: &R, alloc: Global, words: &mut SplitWhitespace<'_>) -> Vec<Edit> {
     let mut edits = Vec::new(alloc);
     for _ in 0..4 {
-        match next(words) {
-            "w" => {
-                let at = number(next(words));
-                let text = Vec::from_slice(alloc, bytes(next(words)))?;
-                edits.push(Edit::Write { at, text })?;
-            }
-            "t" => edits.push(Edit::Truncate(number(next(words))))?,
-            _ => {}
+        if let Some(edit) = edit_of(rt, alloc, words) {
+            edits.push(edit).expect(rt, "memory");
         }
     }
-    Ok(edits)
+    edits
 }
 
 /// Whether the data is so long, and has these bytes at that place.
@@ -45,31 +56,48 @@ fn holds<D: Data>(data: &D, len: u64, at: u64, bytes: &[u8]) -> bool {
     data.len() as u64 == len && count >= bytes.len() && found.starts_with(bytes)
 }
 
+/// Whether the edits that the rest of a line names are made, or refused so.
+fn are_made<R: Abort, D: Data>(
+    rt: &R,
+    alloc: Global,
+    data: &mut D,
+    words: &mut SplitWhitespace<'_>,
+    refusal: Option<DataError>,
+) -> bool {
+    let edits = edits_of(rt, alloc, words);
+    edit_all(alloc, data, &edits).err() == refusal
+}
+
 /// Makes the edits of a line, and says whether all is as the line wants it.
-fn passes<D: Data>(alloc: Global, data: &mut D, line: &str) -> Result<bool, DataError> {
-    data.write(alloc, 0, b"0123456789")?;
+fn passes<R: Abort, D: Data>(rt: &R, alloc: Global, data: &mut D, line: &str) -> bool {
+    data.write(alloc, 0, b"0123456789").expect(rt, "memory");
     let mut words = line.split_whitespace();
-    let is_made = next(&mut words) == "ok";
+    let refusal = match next(&mut words) {
+        "ok" => None,
+        _ => Some(DataError::TooBig),
+    };
     let (len, at) = (number(next(&mut words)), number(next(&mut words)));
     let wanted = bytes(next(&mut words));
-    let edits = edits_of(alloc, &mut words)?;
-    let answer = if is_made {
-        Ok(())
-    } else {
-        Err(DataError::TooBig)
-    };
-    Ok(edit_all(alloc, data, &edits) == answer && holds(data, len, at, wanted))
+    are_made(rt, alloc, data, &mut words, refusal) && holds(data, len, at, wanted)
+}
+
+fn passes_flat<R: Abort>(rt: &R, alloc: Global, line: &str) -> bool {
+    let mut data = FlatData::new(alloc);
+    passes(rt, alloc, &mut data, line)
+}
+
+fn passes_in_extents<R: Abort>(rt: &R, alloc: Global, line: &str) -> bool {
+    let mut data = ExtentData::new();
+    passes(rt, alloc, &mut data, line)
 }
 
 #[test]
 fn flat(rt: HostRuntime) {
     let mut count = 0usize;
     for line in ROWS.lines() {
-        let mut data = FlatData::new(rt.alloc());
-        if line.is_empty() || passes(rt.alloc(), &mut data, line) != Ok(true) {
-            continue;
+        if !line.is_empty() && passes_flat(&rt, rt.alloc(), line) {
+            count = count.saturating_add(1);
         }
-        count = count.saturating_add(1);
     }
     assert!(rt; count == 13);
 }
@@ -78,11 +106,9 @@ fn flat(rt: HostRuntime) {
 fn extents(rt: HostRuntime) {
     let mut count = 0usize;
     for line in ROWS.lines() {
-        let mut data = ExtentData::new();
-        if line.is_empty() || passes(rt.alloc(), &mut data, line) != Ok(true) {
-            continue;
+        if !line.is_empty() && passes_in_extents(&rt, rt.alloc(), line) {
+            count = count.saturating_add(1);
         }
-        count = count.saturating_add(1);
     }
     assert!(rt; count == 13);
 }

@@ -15,12 +15,24 @@ fn sevens<R: Abort>(rt: &R, alloc: Global, len: usize) -> ExtentData {
 /// A length, and how many extents data of that length has.
 const COUNTS: [(usize, usize); 4] = [(1, 1), (4096, 1), (4097, 2), (65_536, 16)];
 
+/// How many extents data of that length has once it is written to; none where one is too long.
+fn extents_of<R: Abort>(rt: &R, alloc: Global, len: usize) -> usize {
+    let mut data = sevens(rt, alloc, len);
+    data.write(alloc, 0, b"a").expect(rt, "memory");
+    count_of(&data)
+}
+
+fn count_of(data: &ExtentData) -> usize {
+    if data.longest_extent() > 4096 {
+        return 0;
+    }
+    data.extent_count()
+}
+
 #[test]
 fn extents_are_at_most_4096_bytes(rt: HostRuntime) {
     for (len, count) in COUNTS {
-        let mut data = sevens(&rt, rt.alloc(), len);
-        data.write(rt.alloc(), 0, b"a").expect(&rt, "memory");
-        assert!(rt; data.extent_count() == count && data.longest_extent() <= 4096);
+        assert!(rt; extents_of(&rt, rt.alloc(), len) == count);
     }
 }
 
@@ -30,13 +42,18 @@ fn is_seven(data: &ExtentData) -> bool {
     data.read(5000, &mut byte) == 1 && byte == [7]
 }
 
+/// How many extents a copy shares once it is written to, and once it is cut as well.
+fn shared_by_copy<R: Abort>(rt: &R, alloc: Global, old: &ExtentData) -> (usize, usize) {
+    let mut new = old.copy(alloc).expect(rt, "memory");
+    new.write(alloc, 5000, b"a").expect(rt, "memory");
+    let written = new.shared_count();
+    new.truncate(alloc, 10_000).expect(rt, "memory");
+    (written, new.shared_count())
+}
+
 #[test]
 fn a_write_shares_what_it_does_not_touch(rt: HostRuntime) {
     let old = sevens(&rt, rt.alloc(), 65_536);
-    let mut new = old.copy(rt.alloc()).expect(&rt, "memory");
-    new.write(rt.alloc(), 5000, b"a").expect(&rt, "memory");
-    assert!(rt; new.shared_count() == 15);
-    new.truncate(rt.alloc(), 10_000).expect(&rt, "memory");
-    assert!(rt; new.shared_count() == 1);
-    assert!(rt; is_seven(&old));
+    let (written, cut) = shared_by_copy(&rt, rt.alloc(), &old);
+    assert!(rt; written == 15 && cut == 1 && is_seven(&old));
 }

@@ -33,31 +33,54 @@ fn full<R: Abort>(rt: &R, alloc: Global) -> Object {
     with_names(rt, alloc, object, 32, 1024)
 }
 
+/// A copy of such an object, which is gone by then.
+fn full_copy<R: Abort>(rt: &R, alloc: Global) -> Object {
+    let object = full(rt, alloc);
+    object.copy().expect(rt, "memory")
+}
+
+/// Whether a value is there, and is this one.
+fn is(found: Option<&[u8]>, value: &[u8]) -> bool {
+    match found {
+        None => false,
+        Some(found) => found == value,
+    }
+}
+
 /// Whether the object has all that, with this value of a name.
 fn is_full(object: &Object, name: &[u8], value: &[u8]) -> bool {
     let counts = object.len() == 65_536 && object.xattr_count() == 32 && object.key_count() == 1024;
-    counts && object.xattr(name) == Some(value) && object.key(name) == Some(value)
+    counts && is(object.xattr(name), value) && is(object.key(name), value)
+}
+
+/// Whether a call is refused since there would be too many.
+fn is_too_many(changed: Result<Object, StoreError>) -> bool {
+    changed.err() == Some(StoreError::TooMany)
 }
 
 /// Whether one xattr and one key more are too many.
 fn refuses_more(alloc: Global, object: &Object) -> bool {
-    let xattr = calls::set_xattr(alloc, Some(object), &numbered(32), b"").err();
-    let key = calls::set_key(alloc, Some(object), &numbered(1024), b"").err();
-    xattr == Some(StoreError::TooMany) && key == Some(StoreError::TooMany)
+    is_too_many(calls::set_xattr(alloc, Some(object), &numbered(32), b""))
+        && is_too_many(calls::set_key(alloc, Some(object), &numbered(1024), b""))
 }
 
 #[test]
 fn the_largest_object(rt: HostRuntime) {
-    let object = full(&rt, rt.alloc()).copy().expect(&rt, "memory");
+    let object = full_copy(&rt, rt.alloc());
     assert!(rt; is_full(&object, &numbered(31), &[7; 4096]));
     assert!(rt; refuses_more(rt.alloc(), &object));
+}
+
+/// Whether an xattr and a key that are there may have new values.
+fn takes_new<R: Abort>(rt: &R, alloc: Global, object: &Object) -> bool {
+    let renewed = with_xattr(rt, alloc, object, 5, b"new");
+    let renewed = with_key(rt, alloc, &renewed, 5, b"new");
+    is_full(&renewed, &numbered(5), b"new")
 }
 
 #[test]
 fn an_old_name_at_the_limit(rt: HostRuntime) {
     let object = full(&rt, rt.alloc());
-    let changed = with_xattr(&rt, rt.alloc(), &object, 5, b"new");
-    let changed = with_key(&rt, rt.alloc(), &changed, 5, b"new");
-    assert!(rt; is_full(&changed, &numbered(5), b"new"));
+    assert!(rt; takes_new(&rt, rt.alloc(), &object));
     assert!(rt; is_full(&object, &numbered(5), &[7; 4096]));
 }

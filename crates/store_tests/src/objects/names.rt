@@ -1,49 +1,74 @@
+use crate::words::{next, number};
 use object_store::{DataError, ObjectName, StoreError};
 use std::alloc::Global;
-use std::test::Fail;
+use std::process::Abort;
 
-/// Each refusal, its number, and how it prints.
-const REFUSALS: [(StoreError, u8, &str); 7] = [
-    (StoreError::Absent, 1, "1 Absent"),
-    (StoreError::Exists, 2, "2 Exists"),
-    (StoreError::NoAttr, 3, "3 NoAttr"),
-    (StoreError::TooBig, 4, "4 TooBig"),
-    (StoreError::TooMany, 5, "5 TooMany"),
-    (StoreError::Range, 6, "6 Range"),
-    (StoreError::NoMemory, 7, "7 NoMemory"),
+/// Each refusal.
+const REFUSALS: [StoreError; 7] = [
+    StoreError::Absent,
+    StoreError::Exists,
+    StoreError::NoAttr,
+    StoreError::TooBig,
+    StoreError::TooMany,
+    StoreError::Range,
+    StoreError::NoMemory,
 ];
 
+/// How they print, each on its line, with their numbers first.
+const PRINTED: &str = "1 Absent
+2 Exists
+3 NoAttr
+4 TooBig
+5 TooMany
+6 Range
+7 NoMemory";
+
 /// The length of a name of so many letters, where it isn't refused by its length.
-fn length_of(alloc: Global, len: usize) -> Result<Option<usize>, Fail> {
-    let text = "x".repeat(alloc, len)?;
+fn length_of<R: Abort>(rt: &R, alloc: Global, len: usize) -> Option<usize> {
+    let text = "x".repeat(alloc, len).expect(rt, "memory");
     match ObjectName::new(alloc, &text) {
-        Ok(name) => Ok(Some(name.copy(alloc)?.text().len())),
-        Err(StoreError::Range) => Ok(None),
-        Err(error) => Err(error)?,
+        Err(StoreError::Range) => None,
+        made => Some(copied_length(rt, alloc, &made.expect(rt, "memory"))),
     }
 }
 
+fn copied_length<R: Abort>(rt: &R, alloc: Global, name: &ObjectName) -> usize {
+    name.copy(alloc).expect(rt, "memory").text().len()
+}
+
 #[test]
-fn lengths(rt: HostRuntime) -> Result<(), Fail> {
+fn lengths(rt: HostRuntime) {
     for (len, wanted) in [(0, None), (1, Some(1)), (255, Some(255)), (256, None)] {
-        assert!(rt; length_of(rt.alloc(), len)? == wanted);
+        assert!(rt; length_of(&rt, rt.alloc(), len) == wanted);
     }
-    Ok(())
+}
+
+/// Whether a refusal has the number that a line begins with.
+fn has_number(error: StoreError, line: &str) -> bool {
+    let mut words = line.split_whitespace();
+    number(next(&mut words)) == u64::from(error.number())
+}
+
+/// Whether a refusal prints so.
+fn prints<R: Abort>(rt: &R, alloc: Global, error: StoreError, text: &str) -> bool {
+    let printed = format!(in alloc; "{error}").expect(rt, "memory");
+    printed.as_str() == text
 }
 
 #[test]
-fn refusals(rt: HostRuntime) -> Result<(), Fail> {
-    for (error, number, text) in REFUSALS {
-        let printed = format!(in rt.alloc(); "{error}")?;
-        assert!(rt; error.number() == number && printed.as_str() == text);
+fn refusals(rt: HostRuntime) {
+    let mut lines = PRINTED.lines();
+    for error in REFUSALS {
+        let line = lines.next().unwrap_or("");
+        assert!(rt; has_number(error, line) && prints(&rt, rt.alloc(), error, line));
     }
-    Ok(())
 }
 
 #[test]
-fn refusals_of_data(rt: HostRuntime) -> Result<(), Fail> {
-    let printed = format!(in rt.alloc(); "{} {}", DataError::TooBig, DataError::NoMemory)?;
+fn refusals_of_data(rt: HostRuntime) {
+    let printed = format!(in rt.alloc(); "{} {}", DataError::TooBig, DataError::NoMemory).expect(
+        &rt, "memory",
+    );
     assert!(rt; printed.as_str() == "4 TooBig 7 NoMemory");
     assert!(rt; DataError::TooBig.number() == 4 && DataError::NoMemory.number() == 7);
-    Ok(())
 }

@@ -6,10 +6,10 @@ use Rattle.object_store.proofs.Flats.{length_resized}
 use Rattle.std.proofs.Common.{List, ℕ, ap, ◌∙◌}
 use Rattle.object_store.proofs.held.Held.truncate.Goals as goal
 
-pub invariant_of-self : goal.invariant_of-self
-invariant_of-self c = record {
-  length = subst (λ n. n ≤ DATA_LIMIT) (sym (ap length c.in_ok-self-inside.ensures ∙ length_resized c.self.inside.bytes c.args.len)) c.requires;
-  bytes = subst AreBytes (sym c.in_ok-self-inside.ensures) (are_resized c.self.inside.bytes c.args.len c.self.invariant.bytes);
+pub invariant_of-self-2 : goal.invariant_of-self-2
+invariant_of-self-2 c = record {
+  length = subst (λ n. n ≤ DATA_LIMIT) (sym (ap length c.in_ok-resize.ensures.ok ∙ length_resized c.self.inside.bytes c.args.len)) c.requires;
+  bytes = subst AreBytes (sym c.in_ok-resize.ensures.ok) (are_resized c.self.inside.bytes c.args.len c.self.invariant.bytes);
   xattrs = c.self.invariant.xattrs;
   omap = c.self.invariant.omap;
 }
