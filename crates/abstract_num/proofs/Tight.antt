@@ -1,7 +1,8 @@
 -- Tightening keeps every number.
 use Rattle.std.specs.Prelude.{ℕ, ℤ, pos, negsuc, ◌<ℤ◌, ◌+ℤ◌, ◌≤ℤ◌, int_le, int_lt, nat_lt, nat_le, ◌==◌, ◌+◌, ◌^◌, ◌≡◌, ◌≤◌, ◌<◌, true, false, cond, Option, Some, None, IsSomeAnd, bit_and, bit_or}
 use Rattle.std.specs.Int.{int_max, int_min}
-use Rattle.std.proofs.Common.{sym, ◌∙◌, refl, arith, subst}
+use Rattle.std.proofs.Common.{sym, ap, ◌∙◌, refl, arith, subst}
+use Rattle.std.proofs.lemmas.Bool.{lt-ltb, le-ltb, le-leb}
 use Rattle.std.proofs.lemmas.Int.{ints, clamps}
 use Rattle.std.proofs.lemmas.Nat.{or_disjoint, and_le_r}
 use Rattle.std.proofs.lemmas.Nat.Bits.{bit_at_and, bit_at_or, bit_at-lt, bit_at-zero, same_from_bits}
@@ -12,7 +13,7 @@ use Rattle.abstract_num.specs.Cases.{cond_dec, cond_both}
 use Rattle.abstract_num.specs.Signed.{signed}
 use Rattle.abstract_num.specs.Plain.{Plain, Number, Holds, Gives, Kept, constant}
 pub use Rattle.abstract_num.specs.Keeping.{Fits}
-use Rattle.abstract_num.specs.Tighten.{natural, less_all, plus_all, by_bits, by_unsigned, by_signed, agrees_with, by_constant, tighten}
+use Rattle.abstract_num.specs.Tighten.{natural, less_all, plus_all, meet_signed, by_bits, by_unsigned, by_signed, agrees_with, by_constant, tighten}
 
 -- the code's answer keeps what the table's keeps
 pub from_table : (t : Option Plain) (r : Option Number) (n : ℕ) → Gives t r → IsSomeAnd t (λ z. Holds z n) → Kept r n
@@ -77,6 +78,22 @@ below_natural (negsuc k) n h = omega arith
 above_natural : (z : ℤ) (n : ℕ) → pos n ≤ℤ z → n ≤ natural z
 above_natural (pos k) n h = omega (arith, ints)
 above_natural (negsuc k) n h = omega (arith, ints)
+
+-- Where the numbers of the unsigned range have one sign, its ends as signed numbers are those that the signed range meets.
+pub meets_low : (x : Plain) (p q : ℤ) → x.low ≤ x.high → x.high < 2 ^ 63 → p ≡ signed x.low → q ≡ signed x.high → by_unsigned x ≡ meet_signed x p q
+meets_low x p q le lt e f =
+    let met : by_unsigned x ≡ meet_signed x (pos x.low) (pos x.high) = rw (lt-ltb x.high (2 ^ 63) lt) in
+    met ∙ ap (λ (z : ℤ). meet_signed x z (pos x.high)) (sym (e ∙ signed_low x.low (omega arith))) ∙ ap (λ (z : ℤ). meet_signed x p z) (sym (f ∙ signed_low x.high lt))
+
+pub meets_high : (x : Plain) (p q : ℤ) → x.low ≤ x.high → x.high < 2 ^ 64 → 2 ^ 63 ≤ x.low → p ≡ signed x.low → q ≡ signed x.high → by_unsigned x ≡ meet_signed x p q
+meets_high x p q le lt high e f =
+    let beyond : 2 ^ 63 ≤ x.high = omega arith in
+    let met : by_unsigned x ≡ meet_signed x (less_all x.low) (less_all x.high) = rw (le-ltb x.high (2 ^ 63) beyond, le-leb (2 ^ 63) x.low high) in
+    met ∙ ap (λ (z : ℤ). meet_signed x z (less_all x.high)) (sym (e ∙ signed_high x.low high (omega arith))) ∙ ap (λ (z : ℤ). meet_signed x p z) (sym (f ∙ signed_high x.high beyond lt))
+
+-- a range whose ends are those of the meet
+pub met_signed : (x : Plain) (p q low high : ℤ) → low ≡ int_max x.least p → high ≡ int_min x.greatest q → record x { least = low; greatest = high } ≡ meet_signed x p q
+met_signed x p q low high e f = ap (λ (z : ℤ). record x { least = z; greatest = high }) e ∙ ap (λ (z : ℤ). record x { least = int_max x.least p; greatest = z }) f
 
 sign_sound : (x : Plain) (n : ℕ) → Holds x n → Holds (by_unsigned x) n
 sign_sound x n h =
