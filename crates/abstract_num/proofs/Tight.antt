@@ -92,8 +92,11 @@ meets_high x p q le lt high e f =
     met ∙ ap (λ (z : ℤ). meet_signed x z (less_all x.high)) (sym (e ∙ signed_high x.low high (omega arith))) ∙ ap (λ (z : ℤ). meet_signed x p z) (sym (f ∙ signed_high x.high beyond lt))
 
 -- a range whose ends are those of the meet
-pub met_signed : (x : Plain) (p q low high : ℤ) → low ≡ int_max x.least p → high ≡ int_min x.greatest q → record x { least = low; greatest = high } ≡ meet_signed x p q
-met_signed x p q low high e f = ap (λ (z : ℤ). record x { least = z; greatest = high }) e ∙ ap (λ (z : ℤ). record x { least = int_max x.least p; greatest = z }) f
+pub met_signed : (x : Plain) (p q low high a b c d : ℤ) → low ≡ int_max a b → a ≡ x.least → b ≡ p → high ≡ int_min c d → c ≡ x.greatest → d ≡ q → record x { least = low; greatest = high } ≡ meet_signed x p q
+met_signed x p q low high a b c d e ea eb f fc fd =
+    let least : low ≡ int_max x.least p = e ∙ ap (λ (z : ℤ). int_max z b) ea ∙ ap (λ (z : ℤ). int_max x.least z) eb in
+    let greatest : high ≡ int_min x.greatest q = f ∙ ap (λ (z : ℤ). int_min z d) fc ∙ ap (λ (z : ℤ). int_min x.greatest z) fd in
+    ap (λ (z : ℤ). record x { least = z; greatest = high }) least ∙ ap (λ (z : ℤ). record x { least = int_max x.least p; greatest = z }) greatest
 
 sign_sound : (x : Plain) (n : ℕ) → Holds x n → Holds (by_unsigned x) n
 sign_sound x n h =

@@ -12,6 +12,6 @@ returns c =
     let q : FitsSigned w64 c.args.x.second.first.high = search rules in
     let r : FitsSigned w64 c.args.low = search rules in
     let s : FitsSigned w64 c.args.high = search rules in
-    let low = to_z-of_z w64 c.max-low.result a ∙ (simp to_z-of_z at c.max-low.ensures.value) in
-    let high = to_z-of_z w64 c.min-high.result b ∙ (simp to_z-of_z at c.min-high.ensures.value) in
-    met_signed (view c.args.x) c.args.low c.args.high _ _ low high
+    met_signed (view c.args.x) c.args.low c.args.high _ _ _ _ _ _
+    (to_z-of_z w64 c.max-low.result a ∙ c.max-low.ensures.value) (to_z-of_z w64 c.args.x.second.first.low p) (to_z-of_z w64 c.args.low r)
+    (to_z-of_z w64 c.min-high.result b ∙ c.min-high.ensures.value) (to_z-of_z w64 c.args.x.second.first.high q) (to_z-of_z w64 c.args.high s)
