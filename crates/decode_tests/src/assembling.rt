@@ -325,11 +325,15 @@ fn wide_loads(rt: &impl Abort, alloc: Global, behind: &str) -> String {
     text
 }
 
+/// How many instructions the text is.
+fn count_of(rt: &impl Abort, alloc: Global, text: &str) -> usize {
+    assemble(alloc, text).expect(rt, "instructions").len()
+}
+
 #[test]
 fn slots(rt: HostRuntime) {
     let wide = wide_loads(&rt, rt.alloc(), "");
-    let insns = assemble(rt.alloc(), wide.as_str()).expect(&rt, "instructions");
-    assert!(rt; insns.len() == 2048);
+    assert!(rt; count_of(&rt, rt.alloc(), wide.as_str()) == 2048);
 }
 
 #[test]

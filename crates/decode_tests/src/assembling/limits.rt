@@ -1,5 +1,5 @@
-use super::reads_class;
-use bpf_asm::{AsmError, AsmFault, assemble, assemble_class};
+use super::{count_of, reads_class};
+use bpf_asm::{AsmError, AsmFault, assemble_class};
 use std::alloc::Global;
 use std::fmt::{self, Write};
 use std::process::Abort;
@@ -69,6 +69,5 @@ fn jumps_and_labels(rt: &impl Abort, alloc: Global) -> String {
 #[test]
 fn many_labels(rt: HostRuntime) {
     let text = jumps_and_labels(&rt, rt.alloc());
-    let insns = assemble(rt.alloc(), text.as_str()).expect(&rt, "instructions");
-    assert!(rt; insns.len() == 4096);
+    assert!(rt; count_of(&rt, rt.alloc(), text.as_str()) == 4096);
 }
