@@ -1,8 +1,8 @@
 -- Tightening keeps every number.
-use Rattle.std.specs.Prelude.{ℕ, ℤ, pos, negsuc, ◌<ℤ◌, ◌+ℤ◌, ◌≤ℤ◌, int_le, int_lt, nat_lt, nat_le, ◌==◌, ◌+◌, ◌^◌, ◌≡◌, ◌≤◌, ◌<◌, true, false, cond, Option, Some, None, IsSomeAnd, bit_and, bit_or}
+use Rattle.std.specs.Prelude.{Bool, ◌&&◌, ℕ, ℤ, pos, negsuc, ◌<ℤ◌, ◌+ℤ◌, ◌≤ℤ◌, int_le, int_lt, nat_lt, nat_le, ◌==◌, ◌+◌, ◌^◌, ◌≡◌, ◌≤◌, ◌<◌, true, false, cond, Option, Some, None, IsSomeAnd, bit_and, bit_or}
 use Rattle.std.specs.Int.{int_max, int_min}
-use Rattle.std.proofs.Common.{sym, ap, ◌∙◌, refl, arith, subst}
-use Rattle.std.proofs.lemmas.Bool.{lt-ltb, le-ltb, le-leb}
+use Rattle.std.proofs.Common.{sym, ap, ◌∙◌, refl, arith, subst, eq-eqb}
+use Rattle.std.proofs.lemmas.Bool.{lt-ltb, le-ltb, le-leb, ne_eqb}
 use Rattle.std.proofs.lemmas.Int.{ints, clamps}
 use Rattle.std.proofs.lemmas.Nat.{or_disjoint, and_le_r}
 use Rattle.std.proofs.lemmas.Nat.Bits.{bit_at_and, bit_at_or, bit_at-lt, bit_at-zero, same_from_bits}
@@ -78,6 +78,27 @@ below_natural (negsuc k) n h = omega arith
 above_natural : (z : ℤ) (n : ℕ) → pos n ≤ℤ z → n ≤ natural z
 above_natural (pos k) n h = omega (arith, ints)
 above_natural (negsuc k) n h = omega (arith, ints)
+
+-- of a range of one number, whose sign is s
+pub agrees_if : (x : Plain) (s low high : ℤ) (bits l h : Bool) → s ≡ signed x.low → low ≡ x.least → high ≡ x.greatest → (clear x.low x.unknown == x.value) ≡ bits → int_le low s ≡ l → int_le s high ≡ h
+    → agrees_with x x.low ≡ (bits && (l && h))
+agrees_if x s low high bits l h es el eh b p q =
+    let below : int_le x.least (signed x.low) ≡ l = subst (λ (z : ℤ). int_le x.least z ≡ l) es (subst (λ (z : ℤ). int_le z s ≡ l) el p) in
+    let above : int_le (signed x.low) x.greatest ≡ h = subst (λ (z : ℤ). int_le z x.greatest ≡ h) es (subst (λ (z : ℤ). int_le s z ≡ h) eh q) in
+    ap (λ (z : Bool). z && (int_le x.least (signed x.low) && int_le (signed x.low) x.greatest)) b ∙ ap (λ (z : Bool). bits && (z && int_le (signed x.low) x.greatest)) below ∙ ap (λ (z : Bool). bits && (l && z)) above
+
+pub one_number : (x : Plain) (s low high : ℤ) → x.low ≡ x.high → s ≡ signed x.low → low ≡ x.least → high ≡ x.greatest → clear x.low x.unknown ≡ x.value → int_le low s ≡ true → int_le s high ≡ true
+    → by_constant x ≡ Some (record { low = x.low; high = x.high; least = s; greatest = s; value = x.low; unknown = 0 })
+one_number x s low high e es el eh b p q =
+    let found : by_constant x ≡ Some (constant x.low) = rw (eq-eqb x.low x.high e, agrees_if x s low high true true true es el eh (eq-eqb _ _ b) p q) in
+    found ∙ ap (λ (z : ℤ). Some (record { low = x.low; high = x.low; least = z; greatest = z; value = x.low; unknown = 0 })) (sym es)
+    ∙ ap (λ (n : ℕ). Some (record { low = x.low; high = n; least = s; greatest = s; value = x.low; unknown = 0 })) e
+
+pub denied : (x : Plain) → x.low ≡ x.high → agrees_with x x.low ≡ false → by_constant x ≡ None
+denied x e f = rw (eq-eqb x.low x.high e, f)
+
+pub denied_by_bits : (x : Plain) → x.low ≡ x.high → (clear x.low x.unknown ≡ x.value → ⊥) → by_constant x ≡ None
+denied_by_bits x e b = denied x e (ap (λ (z : Bool). z && (int_le x.least (signed x.low) && int_le (signed x.low) x.greatest)) (ne_eqb _ _ b))
 
 -- Where the numbers of the unsigned range have one sign, its ends as signed numbers are those that the signed range meets.
 pub meets_low : (x : Plain) (p q : ℤ) → x.low ≤ x.high → x.high < 2 ^ 63 → p ≡ signed x.low → q ≡ signed x.high → by_unsigned x ≡ meet_signed x p q
