@@ -1,7 +1,8 @@
 -- Tightening keeps every number.
-use Rattle.std.specs.Prelude.{ℕ, ℤ, pos, negsuc, ◌<ℤ◌, ◌+ℤ◌, ◌≤ℤ◌, int_le, int_lt, nat_lt, nat_le, ◌==◌, ◌+◌, ◌^◌, ◌≡◌, ◌≤◌, ◌<◌, true, false, cond, Option, Some, None, IsSomeAnd, bit_and, bit_or}
+use Rattle.std.specs.Prelude.{Bool, ◌&&◌, ℕ, ℤ, pos, negsuc, ◌<ℤ◌, ◌+ℤ◌, ◌≤ℤ◌, int_le, int_lt, nat_lt, nat_le, ◌==◌, ◌+◌, ◌^◌, ◌≡◌, ◌≤◌, ◌<◌, true, false, cond, Option, Some, None, IsSomeAnd, bit_and, bit_or}
 use Rattle.std.specs.Int.{int_max, int_min}
-use Rattle.std.proofs.Common.{sym, ◌∙◌, refl, arith, subst}
+use Rattle.std.proofs.Common.{sym, ap, ◌∙◌, refl, arith, subst, eq-eqb}
+use Rattle.std.proofs.lemmas.Bool.{lt-ltb, le-ltb, le-leb, ne_eqb}
 use Rattle.std.proofs.lemmas.Int.{ints, clamps}
 use Rattle.std.proofs.lemmas.Nat.{or_disjoint, and_le_r}
 use Rattle.std.proofs.lemmas.Nat.Bits.{bit_at_and, bit_at_or, bit_at-lt, bit_at-zero, same_from_bits}
@@ -12,7 +13,7 @@ use Rattle.abstract_num.specs.Cases.{cond_dec, cond_both}
 use Rattle.abstract_num.specs.Signed.{signed}
 use Rattle.abstract_num.specs.Plain.{Plain, Number, Holds, Gives, Kept, constant}
 pub use Rattle.abstract_num.specs.Keeping.{Fits}
-use Rattle.abstract_num.specs.Tighten.{natural, less_all, plus_all, by_bits, by_unsigned, by_signed, agrees_with, by_constant, tighten}
+use Rattle.abstract_num.specs.Tighten.{natural, less_all, plus_all, meet_signed, by_bits, by_unsigned, by_signed, agrees_with, by_constant, tighten}
 
 -- the code's answer keeps what the table's keeps
 pub from_table : (t : Option Plain) (r : Option Number) (n : ℕ) → Gives t r → IsSomeAnd t (λ z. Holds z n) → Kept r n
@@ -77,6 +78,46 @@ below_natural (negsuc k) n h = omega arith
 above_natural : (z : ℤ) (n : ℕ) → pos n ≤ℤ z → n ≤ natural z
 above_natural (pos k) n h = omega (arith, ints)
 above_natural (negsuc k) n h = omega (arith, ints)
+
+-- of a range of one number, whose sign is s
+pub agrees_if : (x : Plain) (s low high : ℤ) (bits l h : Bool) → s ≡ signed x.low → low ≡ x.least → high ≡ x.greatest → (clear x.low x.unknown == x.value) ≡ bits → int_le low s ≡ l → int_le s high ≡ h
+    → agrees_with x x.low ≡ (bits && (l && h))
+agrees_if x s low high bits l h es el eh b p q =
+    let below : int_le x.least (signed x.low) ≡ l = subst (λ (z : ℤ). int_le x.least z ≡ l) es (subst (λ (z : ℤ). int_le z s ≡ l) el p) in
+    let above : int_le (signed x.low) x.greatest ≡ h = subst (λ (z : ℤ). int_le z x.greatest ≡ h) es (subst (λ (z : ℤ). int_le s z ≡ h) eh q) in
+    ap (λ (z : Bool). z && (int_le x.least (signed x.low) && int_le (signed x.low) x.greatest)) b ∙ ap (λ (z : Bool). bits && (z && int_le (signed x.low) x.greatest)) below ∙ ap (λ (z : Bool). bits && (l && z)) above
+
+pub one_number : (x : Plain) (s low high : ℤ) → x.low ≡ x.high → s ≡ signed x.low → low ≡ x.least → high ≡ x.greatest → clear x.low x.unknown ≡ x.value → int_le low s ≡ true → int_le s high ≡ true
+    → by_constant x ≡ Some (record { low = x.low; high = x.high; least = s; greatest = s; value = x.low; unknown = 0 })
+one_number x s low high e es el eh b p q =
+    let found : by_constant x ≡ Some (constant x.low) = rw (eq-eqb x.low x.high e, agrees_if x s low high true true true es el eh (eq-eqb _ _ b) p q) in
+    found ∙ ap (λ (z : ℤ). Some (record { low = x.low; high = x.low; least = z; greatest = z; value = x.low; unknown = 0 })) (sym es)
+    ∙ ap (λ (n : ℕ). Some (record { low = x.low; high = n; least = s; greatest = s; value = x.low; unknown = 0 })) e
+
+pub denied : (x : Plain) → x.low ≡ x.high → agrees_with x x.low ≡ false → by_constant x ≡ None
+denied x e f = rw (eq-eqb x.low x.high e, f)
+
+pub denied_by_bits : (x : Plain) → x.low ≡ x.high → (clear x.low x.unknown ≡ x.value → ⊥) → by_constant x ≡ None
+denied_by_bits x e b = denied x e (ap (λ (z : Bool). z && (int_le x.least (signed x.low) && int_le (signed x.low) x.greatest)) (ne_eqb _ _ b))
+
+-- Where the numbers of the unsigned range have one sign, its ends as signed numbers are those that the signed range meets.
+pub meets_low : (x : Plain) (p q : ℤ) → x.low ≤ x.high → x.high < 2 ^ 63 → p ≡ signed x.low → q ≡ signed x.high → by_unsigned x ≡ meet_signed x p q
+meets_low x p q le lt e f =
+    let met : by_unsigned x ≡ meet_signed x (pos x.low) (pos x.high) = rw (lt-ltb x.high (2 ^ 63) lt) in
+    met ∙ ap (λ (z : ℤ). meet_signed x z (pos x.high)) (sym (e ∙ signed_low x.low (omega arith))) ∙ ap (λ (z : ℤ). meet_signed x p z) (sym (f ∙ signed_low x.high lt))
+
+pub meets_high : (x : Plain) (p q : ℤ) → x.low ≤ x.high → x.high < 2 ^ 64 → 2 ^ 63 ≤ x.low → p ≡ signed x.low → q ≡ signed x.high → by_unsigned x ≡ meet_signed x p q
+meets_high x p q le lt high e f =
+    let beyond : 2 ^ 63 ≤ x.high = omega arith in
+    let met : by_unsigned x ≡ meet_signed x (less_all x.low) (less_all x.high) = rw (le-ltb x.high (2 ^ 63) beyond, le-leb (2 ^ 63) x.low high) in
+    met ∙ ap (λ (z : ℤ). meet_signed x z (less_all x.high)) (sym (e ∙ signed_high x.low high (omega arith))) ∙ ap (λ (z : ℤ). meet_signed x p z) (sym (f ∙ signed_high x.high beyond lt))
+
+-- a range whose ends are those of the meet
+pub met_signed : (x : Plain) (p q low high a b c d : ℤ) → low ≡ int_max a b → a ≡ x.least → b ≡ p → high ≡ int_min c d → c ≡ x.greatest → d ≡ q → record x { least = low; greatest = high } ≡ meet_signed x p q
+met_signed x p q low high a b c d e ea eb f fc fd =
+    let least : low ≡ int_max x.least p = e ∙ ap (λ (z : ℤ). int_max z b) ea ∙ ap (λ (z : ℤ). int_max x.least z) eb in
+    let greatest : high ≡ int_min x.greatest q = f ∙ ap (λ (z : ℤ). int_min z d) fc ∙ ap (λ (z : ℤ). int_min x.greatest z) fd in
+    ap (λ (z : ℤ). record x { least = z; greatest = high }) least ∙ ap (λ (z : ℤ). record x { least = int_max x.least p; greatest = z }) greatest
 
 sign_sound : (x : Plain) (n : ℕ) → Holds x n → Holds (by_unsigned x) n
 sign_sound x n h =

@@ -5,11 +5,11 @@ mod parts;
 use abstract_num::{Number, holds, loaded};
 use abstract_regs::{Frame, Kind};
 use bpf_decode::{Insn, Register, Width};
-use std::test::Fail;
+use std::process::Abort;
 
 /// The register of that number.
-fn register(number: u8) -> Result<Register, Fail> {
-    Ok(Register::new(number).ok_or("no register")?)
+fn register(rt: &impl Abort, number: u8) -> Register {
+    Register::new(number).expect(rt, "a register")
 }
 
 /// A method's entry with an input of at most 16 bytes.
@@ -18,13 +18,18 @@ fn entry() -> Frame {
 }
 
 /// A load of that width into a register.
-fn load(width: Width, dst: u8) -> Result<Insn, Fail> {
-    Ok(Insn::Load {
+fn load(rt: &impl Abort, width: Width, dst: u8) -> Insn {
+    Insn::Load {
         width,
-        dst: register(dst)?,
-        base: register(1)?,
+        dst: register(rt, dst),
+        base: register(rt, 1),
         offset: 0,
-    })
+    }
+}
+
+/// Whether a register of the frame has that kind.
+fn has(frame: &Frame, number: usize, kind: Kind) -> bool {
+    frame.kind(number) == kind
 }
 
 /// Whether a kind is a number that holds the first, and not the second.

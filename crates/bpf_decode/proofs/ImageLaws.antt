@@ -29,6 +29,11 @@ above before name = slice_cmp nat_cmp before name ≡ Less
 abbrev made : List ℕ → ℕ → ℕ → ℕ → List Insn → ClassMethod
 made name flags in_cap out_cap is = record { name = name; flags = flags; in_cap = in_cap; out_cap = out_cap; instructions = is }
 
+-- the same of an equal method and an equal rest
+same_method : (before bytes : List ℕ) (m n : ClassMethod) (behind rest : List ℕ) → m ≡ n → behind ≡ rest → Takes bytes (method_bytes m) behind → IsMethod m → above before m.name → Takes bytes (method_bytes n) rest × IsMethod n × above before n.name
+same_method before bytes m n behind rest same end taken known rises =
+    subst (λ (x : ClassMethod). Takes bytes (method_bytes x) rest × IsMethod x × above before x.name) same (subst (λ (r : List ℕ). Takes bytes (method_bytes m) r) end taken, known, rises)
+
 pub method_takes : (before bytes : List ℕ) (m : ClassMethod) (rest : List ℕ) → IsBytes bytes → method_at before bytes ≡ Ok (m, rest) → Takes bytes (method_bytes m) rest × IsMethod m × above before m.name
 unfolding method_at
 method_takes before bytes m rest fits e =
@@ -59,7 +64,7 @@ method_takes before bytes m rest fits e =
       slots = t4.1.few;
       fit = t4.1.fit;
     } in
-    subst (λ (x : ClassMethod). Takes bytes (method_bytes x) rest × IsMethod x × above before x.name) last.0 (subst (λ (r : List ℕ). Takes bytes (method_bytes (made a.0.0 b.0.0 c.0.0 d.0.0 f.0.0)) r) last.1 whole, known, t0.1.above)
+    same_method before bytes (made a.0.0 b.0.0 c.0.0 d.0.0 f.0.0) m f.0.1 rest last.0 last.1 whole known t0.1.above
 
 -- the fields behind a method's name
 abbrev behind_name : ClassMethod → List ℕ
@@ -140,6 +145,13 @@ methods_again k before (m ∷ ms) rest all rises =
 
 -- ---- the image
 
+abbrev header_bytes : ℕ → List ℕ
+header_bytes n = codes "RCL1" ++ (little_bytes 2 n ++ (0 ∷ 0 ∷ []))
+
+-- the same of an equal number and an equal rest
+same_header : (bytes : List ℕ) (k n : ℕ) (behind rest : List ℕ) → k ≡ n → behind ≡ rest → Takes bytes (header_bytes k) behind → Takes bytes (header_bytes n) rest
+same_header bytes k n behind rest same end taken = subst (λ (j : ℕ). Takes bytes (header_bytes j) rest) same (subst (λ (r : List ℕ). Takes bytes (header_bytes k) r) end taken)
+
 pub header_takes : (bytes : List ℕ) (n : ℕ) (rest : List ℕ) → IsBytes bytes → header_at bytes ≡ Ok (n, rest) → Takes bytes (codes "RCL1" ++ (little_bytes 2 n ++ (0 ∷ 0 ∷ []))) rest × (1 ≤ n) × (n ≤ 32)
 unfolding header_at
 header_takes bytes n rest fits e =
@@ -160,8 +172,7 @@ header_takes bytes n rest fits e =
     let first : Takes bytes (codes "RCL1") a.0.1 = subst (λ (x : List ℕ). Takes bytes x a.0.1) magic t0.0 in
     let e12 = Takes-then a.0.1 (little_bytes 2 c.0.0) c.0.1 (0 ∷ 0 ∷ []) f.0.1 t1.0 zero_field in
     let e02 = Takes-then bytes (codes "RCL1") a.0.1 (little_bytes 2 c.0.0 ++ (0 ∷ 0 ∷ [])) f.0.1 first e12 in
-    let here : Takes bytes (codes "RCL1" ++ (little_bytes 2 c.0.0 ++ (0 ∷ 0 ∷ []))) rest = subst (λ (r : List ℕ). Takes bytes (codes "RCL1" ++ (little_bytes 2 c.0.0 ++ (0 ∷ 0 ∷ []))) r) last.1 e02 in
-    (subst (λ (k : ℕ). Takes bytes (codes "RCL1" ++ (little_bytes 2 k ++ (0 ∷ 0 ∷ []))) rest) last.0 here, omega (arith, some.0, last.0), omega (arith, some.1, last.0))
+    (same_header bytes c.0.0 n f.0.1 rest last.0 last.1 e02, omega (arith, some.0, last.0), omega (arith, some.1, last.0))
 
 pub header_again : (n : ℕ) (rest : List ℕ) → 1 ≤ n → n ≤ 32 → header_at (codes "RCL1" ++ (little_bytes 2 n ++ (0 ∷ 0 ∷ rest))) ≡ Ok (n, rest)
 unfolding header_at

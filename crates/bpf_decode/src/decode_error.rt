@@ -92,7 +92,8 @@ impl fmt::Display for DecodeError {
     ghost output = { λ e. Some (text_of e) };
 
     fn fmt<W: fmt::Write>(&self, f: &mut fmt::Formatter<W>) -> fmt::Result {
-        write!(f, "{} {}", self.number(), self.name())
+        let (number, name) = self.row();
+        write!(f, "{number} {name}")
     }
 }
 

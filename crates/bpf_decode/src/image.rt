@@ -1,7 +1,8 @@
 //! Class images as bytes: reading, and the one spelling.
 
 ghost use Rattle.std.specs.Prelude.{◌≡◌, ◌≤◌, ◌++◌, List, [], length, take, string_bytes, IsTrue, IfOk, IfErr, OnOk};
-ghost use Rattle.bpf_decode.specs.Class.{ClassMethod, IsMethod, IsImage, method_bytes};
+ghost use Rattle.std.specs.List.{flat_map};
+ghost use Rattle.bpf_decode.specs.Class.{ClassMethod, IsMethod, IsClass, IsImage, method_bytes, image_bytes};
 ghost use Rattle.byteorder.specs.Endian.{little_bytes};
 ghost use Rattle.bpf_decode.specs.Reading.{Reads, Gives};
 ghost use Rattle.bpf_decode.specs.Limits.{are_name_bytes};
@@ -237,18 +238,34 @@ fn put_method(out: &mut Vec<u8>, method: &Method) -> Result<(), AllocError>
     put_code(out, instructions)
 }
 
+/// Writes methods at the end.
+fn put_methods(out: &mut Vec<u8>, methods: &[Method]) -> Result<(), AllocError>
+    requires { IsClass methods.now }
+    ensures { OnOk result (out.new.items ≡ out.old.items ++ flat_map method_bytes methods.now) }
+{
+    for method in methods {
+        put_method(out, method)?;
+    }
+    Ok(())
+}
+
+/// Writes the image of those methods at the end.
+fn put_image(out: &mut Vec<u8>, methods: &[Method]) -> Result<(), AllocError>
+    requires { IsClass methods.now }
+    ensures { OnOk result (out.new.items ≡ out.old.items ++ image_bytes methods.now) }
+{
+    out.extend_from_slice(b"RCL1")?;
+    put_number(out, methods.len() as u16)?;
+    put_number(out, 0)?;
+    put_methods(out, methods)
+}
+
 /// The one spelling of the class. Only memory may run out.
 pub fn write_image(alloc: Global, image: &ClassImage) -> Result<Vec<u8>, DecodeError>
     ensures image { IfOk result (λ v. IsImage v.items image.now) }
     ensures refused { IfErr result (λ e. e ≡ NoMemory) }
 {
-    let methods = image.methods();
     let mut out = Vec::new(alloc);
-    out.extend_from_slice(b"RCL1")?;
-    put_number(&mut out, methods.len() as u16)?;
-    put_number(&mut out, 0)?;
-    for method in methods {
-        put_method(&mut out, method)?;
-    }
+    put_image(&mut out, image.methods())?;
     Ok(out)
 }

@@ -19,7 +19,6 @@ mod laws;
 mod limits;
 mod method;
 mod operation;
-mod ranges;
 mod region;
 mod register;
 mod row;

@@ -190,16 +190,18 @@ impl Row {
         ensures { result ≡ high_half self bytes.now }
     {
         match self {
-            Row::Wide => {
-                let Slot {
-                    opcode,
-                    dst,
-                    src,
-                    offset,
-                    imm,
-                } = Slot::of(bytes)?;
-                (opcode == 0 && dst == 0 && src == 0 && offset == 0).then_some(imm)
-            }
+            Row::Wide => match Slot::of(bytes) {
+                Some(
+                    Slot {
+                        opcode: 0,
+                        dst: 0,
+                        src: 0,
+                        offset: 0,
+                        imm,
+                    },
+                ) => Some(imm),
+                _ => None,
+            },
             _ => Some(0),
         }
     }

@@ -24,18 +24,32 @@ fn lines_of<R: Abort>(rt: &R, alloc: Global, row: &str) -> String {
     row.replace(alloc, '/', "\n").expect(rt, "memory")
 }
 
+/// The instructions that are read of the instructions' bytes.
+fn read_again(rt: &impl Abort, alloc: Global, insns: &[Insn]) -> Vec<Insn> {
+    let bytes = encode(alloc, insns).expect(rt, "memory");
+    decode(alloc, &bytes).expect(rt, "instructions")
+}
+
 /// The instructions' bytes are read as the same instructions.
 fn is_read_again(rt: &impl Abort, alloc: Global, insns: &[Insn]) {
-    let bytes = encode(alloc, insns).expect(rt, "memory");
-    let again = decode(alloc, &bytes).expect(rt, "instructions");
-    assert!(rt; again.as_slice() == insns);
+    let again = read_again(rt, alloc, insns);
+    assert!(rt; are(&again, insns));
+}
+
+fn are(found: &[Insn], wanted: &[Insn]) -> bool {
+    found == wanted
+}
+
+/// What is printed of the instructions of the text, whose bytes are read as the same ones.
+fn printed_again(rt: &impl Abort, alloc: Global, text: &str) -> String {
+    let insns = assemble(alloc, text).expect(rt, "instructions");
+    is_read_again(rt, alloc, &insns);
+    disassemble(alloc, &insns).expect(rt, "memory")
 }
 
 /// The text is assembled, and the bytes that it gives are read and printed as `canonical`.
 fn reads(rt: &impl Abort, alloc: Global, text: &str, canonical: &str) {
-    let insns = assemble(alloc, text).expect(rt, "instructions");
-    is_read_again(rt, alloc, &insns);
-    let printed = disassemble(alloc, &insns).expect(rt, "memory");
+    let printed = printed_again(rt, alloc, text);
     assert!(rt; printed.as_str() == canonical);
 }
 
@@ -45,37 +59,52 @@ fn refuses(rt: &impl Abort, alloc: Global, text: &str, line: usize, fault: AsmFa
     assert!(rt; error == Some(AsmError { line, fault }), "{text}");
 }
 
-#[test]
-fn bytes_of_lines(rt: HostRuntime) {
-    let insns = assemble(rt.alloc(), "ldxw r0, [r1+4]\njgt r2, 15, +3\n").expect(
-        &rt,
-        "instructions",
-    );
-    let bytes = encode(rt.alloc(), &insns).expect(&rt, "memory");
-    let wanted: [u8; 16] = [
-        0x61, 0x10, 0x04, 0, 0, 0, 0, 0, 0x25, 0x02, 0x03, 0, 0x0f, 0, 0, 0,
-    ];
-    assert!(rt; bytes.as_slice() == wanted.as_slice());
+/// The bytes of the text's instructions.
+fn bytes_of(rt: &impl Abort, alloc: Global, text: &str) -> Vec<u8> {
+    let insns = assemble(alloc, text).expect(rt, "instructions");
+    encode(alloc, &insns).expect(rt, "memory")
 }
 
-/// Each word with each of the endings and each of the operands, a line each.
-fn lines(
-    alloc: Global,
-    words: &[&str],
-    endings: &[&str],
-    operands: &[&str],
-) -> Result<String, AllocError> {
+/// The bytes of a load and of a comparison.
+const TWO: [u8; 16] = [
+    0x61, 0x10, 0x04, 0, 0, 0, 0, 0, 0x25, 0x02, 0x03, 0, 0x0f, 0, 0, 0,
+];
+
+#[test]
+fn bytes_of_lines(rt: HostRuntime) {
+    let bytes = bytes_of(&rt, rt.alloc(), "ldxw r0, [r1+4]\njgt r2, 15, +3\n");
+    assert!(rt; bytes.as_slice() == TWO.as_slice());
+}
+
+/// Writes a word with an ending and an operand.
+fn put_line(text: &mut String, word: &str, ending: &str, operand: &str) -> Result<(), AllocError> {
+    text.push_str(word)?;
+    text.push_str(ending)?;
+    text.push_str(operand)
+}
+
+/// Writes a word with each of the operands, without and with `32`.
+fn put_lines(text: &mut String, word: &str, operands: &[&str]) -> Result<(), AllocError> {
+    for operand in operands {
+        put_line(text, word, "", operand)?;
+        put_line(text, word, "32", operand)?;
+    }
+    Ok(())
+}
+
+/// Each word with each of the operands, without and with `32`, a line each.
+fn lines(rt: &impl Abort, alloc: Global, words: &[&str], operands: &[&str]) -> String {
     let mut text = String::new(alloc);
     for word in words {
-        for ending in endings {
-            for operand in operands {
-                text.push_str(word)?;
-                text.push_str(ending)?;
-                text.push_str(operand)?;
-            }
-        }
+        put_lines(&mut text, word, operands).expect(rt, "memory");
     }
-    Ok(text)
+    text
+}
+
+/// Those lines are read and printed as they are.
+fn reads_lines(rt: &impl Abort, alloc: Global, words: &[&str], operands: &[&str]) {
+    let text = lines(rt, alloc, words, operands);
+    reads(rt, alloc, text.as_str(), text.as_str());
 }
 
 /// Words of arithmetic and of conditional jumps, each also with `32`.
@@ -90,30 +119,32 @@ const COMPARISONS: [&str; 11] = [
 
 #[test]
 fn every_form(rt: HostRuntime) {
-    let arithmetic = [" r1, r2\n", " r10, -5\n"];
-    let text = lines(rt.alloc(), &ARITHMETIC, &["", "32"], &arithmetic).expect(&rt, "memory");
-    reads(&rt, rt.alloc(), text.as_str(), text.as_str());
+    reads_lines(&rt, rt.alloc(), &ARITHMETIC, &[" r1, r2\n", " r10, -5\n"]);
     reads(&rt, rt.alloc(), OTHERS, OTHERS);
 }
 
 #[test]
 fn every_branch(rt: HostRuntime) {
     let operands = [" r2, 15, +3\n", " r2, r3, -32768\n"];
-    let text = lines(rt.alloc(), &COMPARISONS, &["", "32"], &operands).expect(&rt, "memory");
-    reads(&rt, rt.alloc(), text.as_str(), text.as_str());
+    reads_lines(&rt, rt.alloc(), &COMPARISONS, &operands);
 }
 
-#[test]
-fn instructions_of_lines(rt: HostRuntime) {
-    let r0 = register(&rt, 0);
-    let r1 = register(&rt, 1);
-    let r2 = register(&rt, 2);
-    let insns = assemble(
-        rt.alloc(),
-        "ldxw r0, [r1+4]\njgt r2, 15, +3\nadd32 r0, r2\nlddw r1, 5\nmovsx8_32 r0, r1\nbswap16 r2\nldxsh r0, [r1]\nstxdw [r1-8], r2\nneg r1\ncall local -1\nexit",
-    )
-    .expect(&rt, "instructions");
-    let wanted = [
+/// Instructions of several forms, as text.
+const SEVERAL: &str = "ldxw r0, [r1+4]
+jgt r2, 15, +3
+add32 r0, r2
+lddw r1, 5
+movsx8_32 r0, r1
+bswap16 r2
+ldxsh r0, [r1]
+stxdw [r1-8], r2
+neg r1
+call local -1
+exit";
+
+/// They themselves.
+fn several(r0: Register, r1: Register, r2: Register) -> [Insn; 11] {
+    [
         Insn::Load {
             width: Width::Word,
             dst: r0,
@@ -162,8 +193,14 @@ fn instructions_of_lines(rt: HostRuntime) {
         },
         Insn::CallLocal { distance: -1 },
         Insn::Exit,
-    ];
-    assert!(rt; insns.as_slice() == wanted.as_slice());
+    ]
+}
+
+#[test]
+fn instructions_of_lines(rt: HostRuntime) {
+    let wanted = several(register(&rt, 0), register(&rt, 1), register(&rt, 2));
+    let insns = assemble(rt.alloc(), SEVERAL).expect(&rt, "instructions");
+    assert!(rt; are(&insns, &wanted));
 }
 
 /// Texts and their canonical texts, with `/` for the end of a line.
@@ -184,16 +221,19 @@ r1:/call  local\tr1 => call local -1/
 ja32 +0x10 => ja32 +16/
 ";
 
+/// The row's text is read, and printed as its canonical one.
+fn reads_row<R: Abort>(rt: &R, alloc: Global, row: &str) {
+    let (text, canonical) = row.split_once(" => ").expect(rt, "a row");
+    let canonical = lines_of(rt, alloc, canonical);
+    let text = lines_of(rt, alloc, text);
+    reads(rt, alloc, text.as_str(), canonical.as_str());
+}
+
 #[test]
 fn also_read(rt: HostRuntime) {
     let mut count = 0usize;
     for row in ALSO_READ.lines() {
-        let (text, canonical) = row.split_once(" => ").expect(&rt, "a row");
-        let (text, canonical) = (
-            lines_of(&rt, rt.alloc(), text),
-            lines_of(&rt, rt.alloc(), canonical),
-        );
-        reads(&rt, rt.alloc(), text.as_str(), canonical.as_str());
+        reads_row(&rt, rt.alloc(), row);
         count = count.saturating_add(1);
     }
     assert!(rt; count == 15);
@@ -278,21 +318,27 @@ fn refused(rt: HostRuntime) {
     assert!(rt; count == 43);
 }
 
+/// 2,048 wide loads, which are 4,096 slots, and the lines behind them.
+fn wide_loads(rt: &impl Abort, alloc: Global, behind: &str) -> String {
+    let mut text = "lddw r1, 5\n".repeat(alloc, 2048).expect(rt, "memory");
+    text.push_str(behind).expect(rt, "memory");
+    text
+}
+
+/// How many instructions the text is.
+fn count_of(rt: &impl Abort, alloc: Global, text: &str) -> usize {
+    assemble(alloc, text).expect(rt, "instructions").len()
+}
+
 #[test]
 fn slots(rt: HostRuntime) {
-    let wide = "lddw r1, 5\n"
-        .repeat(rt.alloc(), 2048)
-        .expect(&rt, "memory");
-    let insns = assemble(rt.alloc(), wide.as_str()).expect(&rt, "instructions");
-    assert!(rt; insns.len() == 2048);
+    let wide = wide_loads(&rt, rt.alloc(), "");
+    assert!(rt; count_of(&rt, rt.alloc(), wide.as_str()) == 2048);
 }
 
 #[test]
 fn a_slot_too_many(rt: HostRuntime) {
-    let mut text = "lddw r1, 5\n"
-        .repeat(rt.alloc(), 2048)
-        .expect(&rt, "memory");
-    text.push_str("exit\n").expect(&rt, "memory");
+    let text = wide_loads(&rt, rt.alloc(), "exit\n");
     refuses(&rt, rt.alloc(), text.as_str(), 2049, AsmFault::Range);
 }
 
@@ -315,21 +361,31 @@ fn prints(rt: HostRuntime) {
     assert!(rt; AsmFault::NoMemory.number() == 5);
 }
 
-#[test]
-fn prints_instructions(rt: HostRuntime) {
+/// What is printed of `mov r0, 0` and `exit`.
+fn printed_pair(rt: &impl Abort, alloc: Global) -> String {
     let mov = Insn::Mov {
         bits: Bits::Bits64,
-        dst: register(&rt, 0),
+        dst: register(rt, 0),
         source: Operand::Immediate(0),
     };
-    let text = disassemble(rt.alloc(), &[mov, Insn::Exit]).expect(&rt, "memory");
+    disassemble(alloc, &[mov, Insn::Exit]).expect(rt, "memory")
+}
+
+#[test]
+fn prints_instructions(rt: HostRuntime) {
+    let text = printed_pair(&rt, rt.alloc());
     assert!(rt; text.as_str() == "mov r0, 0\nexit\n");
+}
+
+/// What is printed of the class of the text.
+fn printed_class<R: Abort>(rt: &R, alloc: Global, text: &str) -> String {
+    let class = assemble_class(alloc, text).expect(rt, "a class");
+    disassemble_class(alloc, &class).expect(rt, "memory")
 }
 
 /// The class's text is read, and printed as `canonical`.
 fn reads_class<R: Abort>(rt: &R, alloc: Global, text: &str, canonical: &str) {
-    let class = assemble_class(alloc, text).expect(rt, "a class");
-    let printed = disassemble_class(alloc, &class).expect(rt, "memory");
+    let printed = printed_class(rt, alloc, text);
     assert!(rt; printed.as_str() == canonical, "{text}");
 }
 

@@ -146,17 +146,25 @@ fn last_insns(rt: &impl Abort) -> [Insn; 12] {
     ]
 }
 
-/// Whether the instructions are written as those bytes, and the bytes read as them.
-fn are_spelled(alloc: Global, insns: &[Insn], bytes: &[u8]) -> bool {
-    let are_written = match encode(alloc, insns) {
+/// Whether the instructions are written as those bytes.
+fn are_written(alloc: Global, insns: &[Insn], bytes: &[u8]) -> bool {
+    match encode(alloc, insns) {
         Ok(code) => code.as_slice() == bytes,
         Err(_) => false,
-    };
-    let are_read = match decode(alloc, bytes) {
+    }
+}
+
+/// Whether the bytes are read as those instructions.
+fn are_read(alloc: Global, bytes: &[u8], insns: &[Insn]) -> bool {
+    match decode(alloc, bytes) {
         Ok(read) => read.as_slice() == insns,
         Err(_) => false,
-    };
-    are_written && are_read
+    }
+}
+
+/// Whether the instructions are written as those bytes, and the bytes read as them.
+fn are_spelled(alloc: Global, insns: &[Insn], bytes: &[u8]) -> bool {
+    are_written(alloc, insns, bytes) && are_read(alloc, bytes, insns)
 }
 
 /// The image with one byte changed.
@@ -233,19 +241,31 @@ fn decoded(alloc: Global, code: &[u8]) -> Result<usize, DecodeError> {
     Ok(decode(alloc, code)?.len())
 }
 
+/// Whether `check` and `decode` say that of code.
+fn is_found(alloc: Global, code: &[u8], found: Result<usize, DecodeError>) -> bool {
+    check(code) == found && decoded(alloc, code) == found
+}
+
 #[test]
 fn code_alone(rt: HostRuntime) {
-    for (code, found) in CHECKED {
-        assert!(rt; check(code) == found);
-        assert!(rt; decoded(rt.alloc(), code) == found);
+    for row in &CHECKED {
+        assert!(rt; is_found(rt.alloc(), row.0, row.1));
     }
+}
+
+/// Whether it is the code of `IMAGE`.
+fn is_the_code(rt: &impl Abort, insns: &[Insn]) -> bool {
+    let code = [mov(register_of(rt, 0), Operand::Immediate(0)), Insn::Exit];
+    insns == code.as_slice()
 }
 
 /// Whether it is the method of `IMAGE`.
 fn is_the_method(rt: &impl Abort, method: &Method) -> bool {
-    let code = [mov(register_of(rt, 0), Operand::Immediate(0)), Insn::Exit];
-    let numbers = (method.flags(), method.in_cap(), method.out_cap());
-    method.name() == "f" && numbers == (1, 0, 0) && method.instructions() == code.as_slice()
+    method.name() == "f"
+        && method.flags() == 1
+        && method.in_cap() == 0
+        && method.out_cap() == 0
+        && is_the_code(rt, method.instructions())
 }
 
 #[test]
@@ -287,14 +307,19 @@ fn refuses_equal_names(rt: HostRuntime) {
     refuses(&rt, rt.alloc(), &twice, 1, DecodeError::Order);
 }
 
-/// Whether the image is refused, or written as it was read.
-fn is_kept(alloc: Global, image: &[u8]) -> bool {
-    let Ok(class) = read_image(alloc, image) else {
-        return true;
-    };
-    match write_image(alloc, &class) {
+/// Whether the class's image is that one.
+fn is_written_as(alloc: Global, class: &ClassImage, image: &[u8]) -> bool {
+    match write_image(alloc, class) {
         Ok(bytes) => bytes.as_slice() == image,
         Err(_) => false,
+    }
+}
+
+/// Whether the image is refused, or written as it was read.
+fn is_kept(alloc: Global, image: &[u8]) -> bool {
+    match read_image(alloc, image) {
+        Ok(class) => is_written_as(alloc, &class, image),
+        Err(_) => true,
     }
 }
 
@@ -307,10 +332,15 @@ fn every_changed_byte(rt: HostRuntime) {
     }
 }
 
+/// The image of the class that is read.
+fn written_again(rt: &impl Abort, alloc: Global, image: &[u8]) -> Vec<u8> {
+    let class = read_image(alloc, image).expect(rt, "a class");
+    write_image(alloc, &class).expect(rt, "memory")
+}
+
 #[test]
 fn writes_the_image(rt: HostRuntime) {
-    let class = read_image(rt.alloc(), &IMAGE).expect(&rt, "a class");
-    let bytes = write_image(rt.alloc(), &class).expect(&rt, "memory");
+    let bytes = written_again(&rt, rt.alloc(), &IMAGE);
     assert!(rt; bytes.as_slice() == IMAGE.as_slice());
 }
 
@@ -322,16 +352,23 @@ fn in_caps(class: &ClassImage) -> Option<(u16, u16)> {
     }
 }
 
+/// A class of two methods.
+fn two_methods(rt: &impl Abort, alloc: Global) -> ClassImage {
+    let first = method(rt, alloc, "get_2", 1, 0);
+    let second = method(rt, alloc, "set", 3, 4096);
+    ClassImage::new(methods(rt, alloc, first, second)).expect(rt, "a class")
+}
+
+/// Its image.
+fn image_of_two(rt: &impl Abort, alloc: Global) -> Vec<u8> {
+    let class = two_methods(rt, alloc);
+    write_image(alloc, &class).expect(rt, "memory")
+}
+
 #[test]
 fn builds_classes(rt: HostRuntime) {
-    let alloc = rt.alloc();
-    let (first, second) = (
-        method(&rt, alloc, "get_2", 1, 0),
-        method(&rt, alloc, "set", 3, 4096),
-    );
-    let class = ClassImage::new(methods(&rt, alloc, first, second)).expect(&rt, "a class");
-    let bytes = write_image(alloc, &class).expect(&rt, "memory");
-    let again = read_image(alloc, &bytes).expect(&rt, "a class");
+    let bytes = image_of_two(&rt, rt.alloc());
+    let again = read_image(rt.alloc(), &bytes).expect(&rt, "a class");
     assert!(rt; in_caps(&again) == Some((0, 4096)));
 }
 
@@ -345,12 +382,23 @@ const SECOND: [(&str, u8, u16, DecodeError); 6] = [
     ("b", 2, 4097, DecodeError::Limit),
 ];
 
+/// The refusal of a class of `a` and that second method.
+fn refusal_of(
+    rt: &impl Abort,
+    alloc: Global,
+    name: &str,
+    flags: u8,
+    in_cap: u16,
+) -> Option<ImageError> {
+    let first = method(rt, alloc, "a", 1, 0);
+    let second = method(rt, alloc, name, flags, in_cap);
+    ClassImage::new(methods(rt, alloc, first, second)).err()
+}
+
 #[test]
 fn refuses_methods(rt: HostRuntime) {
     for (name, flags, in_cap, error) in SECOND {
-        let first = method(&rt, rt.alloc(), "a", 1, 0);
-        let second = method(&rt, rt.alloc(), name, flags, in_cap);
-        let found = ClassImage::new(methods(&rt, rt.alloc(), first, second)).err();
+        let found = refusal_of(&rt, rt.alloc(), name, flags, in_cap);
         assert!(rt; found == Some(ImageError { methods: 1, error }));
     }
 }

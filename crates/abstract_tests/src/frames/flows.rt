@@ -1,40 +1,30 @@
 //! Flows over single instructions.
 
-use super::{entry, load, register, tells};
+use super::{entry, has, load, register, tells};
 use abstract_num::{any, constant};
 use abstract_regs::{Edges, Kind};
-use bpf_decode::{Arithmetic, Bits, Comparison, Insn, Operand, Region, Width};
+use bpf_decode::{Arithmetic, Bits, Comparison, Insn, Operand, Region, Register, Width};
 use std::process::Abort;
-use std::test::Fail;
 
 /// A 64-bit jump of five slots by register 2 and a source.
-fn jump(comparison: Comparison, source: Operand) -> Result<Insn, Fail> {
-    Ok(Insn::Branch {
+fn jump(rt: &impl Abort, comparison: Comparison, source: Operand) -> Insn {
+    Insn::Branch {
         bits: Bits::Bits64,
         comparison,
-        dst: register(2)?,
+        dst: register(rt, 2),
         source,
         offset: 5,
-    })
+    }
 }
 
 /// 64-bit addition to a register.
-fn add(dst: u8, source: Operand) -> Result<Insn, Fail> {
-    Ok(Insn::Alu {
+fn add(dst: Register, source: Operand) -> Insn {
+    Insn::Alu {
         bits: Bits::Bits64,
         operation: Arithmetic::Add,
-        dst: register(dst)?,
+        dst,
         source,
-    })
-}
-
-#[test]
-fn loads_bytes(rt: HostRuntime) -> Result<(), Fail> {
-    let insn = load(Width::Byte, 4)?;
-    let mut frame = entry();
-    assert!(rt; falls(frame.flow(&insn, 0)));
-    assert!(rt; tells(frame.operand(Operand::Register(register(4)?)), 255, 256));
-    Ok(())
+    }
 }
 
 fn falls(edges: Edges) -> bool {
@@ -44,111 +34,112 @@ fn falls(edges: Edges) -> bool {
     }
 }
 
+fn leaves(edges: Edges) -> bool {
+    match edges {
+        Edges::Leaves => true,
+        Edges::Falls | Edges::Jumps(_) | Edges::Branches(_, _) => false,
+    }
+}
+
+fn jumps_to(edges: Edges, slot: usize) -> bool {
+    match edges {
+        Edges::Jumps(target) => target == slot,
+        Edges::Leaves | Edges::Falls | Edges::Branches(_, _) => false,
+    }
+}
+
 #[test]
-fn moves_pointers(rt: HostRuntime) -> Result<(), Fail> {
-    let first = add(3, Operand::Immediate(7))?;
-    let second = add(2, Operand::Register(register(3)?))?;
+fn loads_bytes(rt: HostRuntime) {
+    let insn = load(&rt, Width::Byte, 4);
+    let mut frame = entry();
+    assert!(rt; falls(frame.flow(&insn, 0)));
+    assert!(rt; tells(frame.operand(Operand::Register(register(&rt, 4))), 255, 256));
+}
+
+#[test]
+fn moves_pointers(rt: HostRuntime) {
+    let first = add(register(&rt, 3), Operand::Immediate(7));
+    let second = add(register(&rt, 2), Operand::Register(register(&rt, 3)));
     let mut frame = entry();
     assert!(rt; falls(frame.flow(&first, 0)));
-    assert_eq!(rt; frame.kind(3), Kind::Ptr(Region::Output, constant(7)));
+    assert!(rt; has(&frame, 3, Kind::Ptr(Region::Output, constant(7))));
     assert!(rt; falls(frame.flow(&second, 1)));
     assert!(rt; frame.kind(2).is_ptr());
-    Ok(())
 }
 
 #[test]
-fn forgets_at_a_call(rt: HostRuntime) -> Result<(), Fail> {
+fn forgets_at_a_call(rt: HostRuntime) {
     let mut frame = entry();
     assert!(rt; falls(frame.flow(&Insn::Call { helper: 1 }, 0)));
-    assert_eq!(rt; frame.kind(0), Kind::Num(any()));
+    assert!(rt; has(&frame, 0, Kind::Num(any())));
     assert!(rt; frame.kind(1).is_unset() && frame.kind(2).is_unset() && frame.kind(3).is_unset());
     assert!(rt; frame.kind(10).is_ptr());
-    Ok(())
 }
 
 #[test]
-fn jumps(rt: HostRuntime) -> Result<(), Fail> {
+fn jumps(rt: HostRuntime) {
     let mut frame = entry();
-    match frame.flow(&Insn::Jump { offset: 5 }, 2) {
-        Edges::Jumps(target) => assert_eq!(rt; target, 8),
-        Edges::Leaves | Edges::Falls | Edges::Branches(_, _) => Err("no jump")?,
+    assert!(rt; jumps_to(frame.flow(&Insn::Jump { offset: 5 }, 2), 8));
+}
+
+/// Whether the jump at slot 2 goes to slot 8, where register 2 holds 4 and not 3.
+fn is_above_3(edges: Edges) -> bool {
+    match edges {
+        Edges::Branches(target, taken) => target == 8 && tells(taken.kind(2), 4, 3),
+        Edges::Leaves | Edges::Falls | Edges::Jumps(_) => false,
     }
-    Ok(())
 }
 
 /// Both edges of `jgt r2, 3`: 4 to 16, and 0 to 3.
 #[test]
-fn refines_both_edges(rt: HostRuntime) -> Result<(), Fail> {
-    let insn = jump(Comparison::Greater, Operand::Immediate(3))?;
+fn refines_both_edges(rt: HostRuntime) {
+    let insn = jump(&rt, Comparison::Greater, Operand::Immediate(3));
     let mut frame = entry();
-    match frame.flow(&insn, 2) {
-        Edges::Branches(target, taken) => {
-            assert_eq!(rt; target, 8);
-            assert!(rt; tells(taken.kind(2), 4, 3));
-            assert!(rt; tells(frame.kind(2), 3, 4));
-        }
-        Edges::Leaves | Edges::Falls | Edges::Jumps(_) => Err("an edge is dead")?,
-    }
-    Ok(())
+    assert!(rt; is_above_3(frame.flow(&insn, 2)));
+    assert!(rt; tells(frame.kind(2), 3, 4));
 }
 
 /// Of a length of at most 16.
 #[test]
-fn falls_past_a_dead_edge(rt: HostRuntime) -> Result<(), Fail> {
-    let insn = jump(Comparison::Greater, Operand::Immediate(16))?;
+fn falls_past_a_dead_edge(rt: HostRuntime) {
+    let insn = jump(&rt, Comparison::Greater, Operand::Immediate(16));
     let mut frame = entry();
     assert!(rt; falls(frame.flow(&insn, 0)));
-    Ok(())
 }
 
 #[test]
-fn jumps_where_it_cannot_fall(rt: HostRuntime) -> Result<(), Fail> {
-    let insn = jump(Comparison::LessEqual, Operand::Immediate(16))?;
+fn jumps_where_it_cannot_fall(rt: HostRuntime) {
+    let insn = jump(&rt, Comparison::LessEqual, Operand::Immediate(16));
     let mut frame = entry();
-    match frame.flow(&insn, 0) {
-        Edges::Jumps(target) => assert_eq!(rt; target, 6),
-        Edges::Leaves | Edges::Falls | Edges::Branches(_, _) => Err("a dead edge")?,
-    }
-    Ok(())
+    assert!(rt; jumps_to(frame.flow(&insn, 0), 6));
 }
 
-/// A jump by a register and itself leaves both edges.
-fn both_edges<R: Abort>(rt: &R, comparison: Comparison) -> Result<(), Fail> {
-    let insn = Insn::Branch {
-        bits: Bits::Bits64,
-        comparison,
-        dst: register(2)?,
-        source: Operand::Register(register(2)?),
-        offset: 5,
-    };
+/// Whether the frame along the taken edge knows the length as the entry does.
+fn keeps_the_length(edges: Edges) -> bool {
+    match edges {
+        Edges::Branches(_, taken) => has(&taken, 2, entry().kind(2)),
+        Edges::Leaves | Edges::Falls | Edges::Jumps(_) => false,
+    }
+}
+
+/// A jump by register 2 and itself leaves both edges.
+fn tells_nothing(rt: &impl Abort, comparison: Comparison) {
+    let insn = jump(rt, comparison, Operand::Register(register(rt, 2)));
     let mut frame = entry();
-    match frame.flow(&insn, 0) {
-        Edges::Branches(_, taken) => {
-            assert_eq!(rt; taken.kind(2), entry().kind(2));
-            assert_eq!(rt; frame.kind(2), entry().kind(2));
-        }
-        Edges::Leaves | Edges::Falls | Edges::Jumps(_) => Err("an edge is dead")?,
-    }
-    Ok(())
+    assert!(rt; keeps_the_length(frame.flow(&insn, 0)));
+    assert!(rt; has(&frame, 2, entry().kind(2)));
 }
 
 #[test]
-fn tells_nothing_of_itself(rt: HostRuntime) -> Result<(), Fail> {
-    both_edges(&rt, Comparison::Greater)?;
-    both_edges(&rt, Comparison::NotEqual)?;
-    both_edges(&rt, Comparison::Less)
+fn tells_nothing_of_itself(rt: HostRuntime) {
+    tells_nothing(&rt, Comparison::Greater);
+    tells_nothing(&rt, Comparison::NotEqual);
+    tells_nothing(&rt, Comparison::Less);
 }
 
 #[test]
-fn leaves_at_exit(rt: HostRuntime) -> Result<(), Fail> {
+fn leaves_at_exit(rt: HostRuntime) {
     let mut frame = entry().copy();
-    match frame.flow(&Insn::Exit, 0) {
-        Edges::Leaves => {}
-        Edges::Falls | Edges::Jumps(_) | Edges::Branches(_, _) => Err("it goes on")?,
-    }
-    assert_eq!(rt;
-        frame.operand(Operand::Immediate(-1)),
-        Kind::Num(constant(u64::MAX))
-    );
-    Ok(())
+    assert!(rt; leaves(frame.flow(&Insn::Exit, 0)));
+    assert!(rt; frame.operand(Operand::Immediate(-1)) == Kind::Num(constant(u64::MAX)));
 }

@@ -1,79 +1,65 @@
 //! Kinds and bounds.
 
-use super::{byte, entry, tells};
+use super::{byte, entry, has, tells};
 use abstract_num::{between, constant, keeping_laws};
 use abstract_regs::{Kind, access_fits, holding_laws, join_laws, range_fits};
 use bpf_decode::Region;
-use std::test::Fail;
 
 #[test]
-fn begins_with_the_entry(rt: HostRuntime) -> Result<(), Fail> {
+fn begins_with_the_entry(rt: HostRuntime) {
     let frame = entry();
-    assert_eq!(rt; frame.kind(1), Kind::Ptr(Region::Input, constant(0)));
-    assert_eq!(rt; frame.kind(3), Kind::Ptr(Region::Output, constant(0)));
-    assert_eq!(rt; frame.kind(10), Kind::Ptr(Region::Stack, constant(512)));
-    Ok(())
+    assert!(rt; has(&frame, 1, Kind::Ptr(Region::Input, constant(0))));
+    assert!(rt; has(&frame, 3, Kind::Ptr(Region::Output, constant(0))));
+    assert!(rt; has(&frame, 10, Kind::Ptr(Region::Stack, constant(512))));
 }
 
 #[test]
-fn knows_the_length(rt: HostRuntime) -> Result<(), Fail> {
+fn knows_the_length(rt: HostRuntime) {
     assert!(rt; tells(entry().kind(2), 16, 17));
-    Ok(())
 }
 
 #[test]
-fn knows_nothing_of_the_others(rt: HostRuntime) -> Result<(), Fail> {
+fn knows_nothing_of_the_others(rt: HostRuntime) {
     let frame = entry();
     for number in [0usize, 4, 5, 6, 7, 8, 9, 11] {
         assert!(rt; frame.kind(number).is_unset());
     }
-    Ok(())
 }
 
 #[test]
-fn tells_kinds_apart(rt: HostRuntime) -> Result<(), Fail> {
+fn tells_kinds_apart(rt: HostRuntime) {
     let number = Kind::Num(byte());
     let pointer = Kind::Ptr(Region::Stack, byte());
-    assert_eq!(rt;
-        (number.is_num(), number.is_ptr(), number.is_unset()),
-        (true, false, false)
-    );
-    assert_eq!(rt;
-        (pointer.is_num(), pointer.is_ptr(), pointer.is_unset()),
-        (false, true, false)
-    );
-    Ok(())
+    assert!(rt; number.is_num() && !number.is_ptr() && !number.is_unset());
+    assert!(rt; !pointer.is_num() && pointer.is_ptr() && !pointer.is_unset());
 }
 
 /// Offset 0 to 255, a distance, a number of bytes, and the least length in which they fit.
 const ACCESSES: [(u64, u64, u64); 4] = [(0, 1, 256), (8, 4, 267), (0, 8, 263), (1, 1, 257)];
 
 #[test]
-fn bounds_accesses(rt: HostRuntime) -> Result<(), Fail> {
+fn bounds_accesses(rt: HostRuntime) {
     for (distance, bytes, least) in ACCESSES {
         assert!(rt; access_fits(byte(), distance, bytes, least));
         assert!(rt; !access_fits(byte(), distance, bytes, least.wrapping_sub(1)));
     }
-    Ok(())
 }
 
 /// From 8 to 255 less 8; from 0 the sum wraps.
 #[test]
-fn bounds_accesses_below(rt: HostRuntime) -> Result<(), Fail> {
+fn bounds_accesses_below(rt: HostRuntime) {
     let less = 8u64.wrapping_neg();
     assert!(rt; access_fits(between(8, 255), less, 8, 255));
     assert!(rt; !access_fits(between(8, 255), less, 8, 254));
     assert!(rt; !access_fits(byte(), less, 8, 4096));
-    Ok(())
 }
 
 #[test]
-fn bounds_ranges(rt: HostRuntime) -> Result<(), Fail> {
+fn bounds_ranges(rt: HostRuntime) {
     join_laws();
     holding_laws();
     keeping_laws();
     assert!(rt; range_fits(byte(), between(0, 4), 259));
     assert!(rt; !range_fits(byte(), between(0, 4), 258));
     assert!(rt; range_fits(constant(16), constant(0), 16));
-    Ok(())
 }

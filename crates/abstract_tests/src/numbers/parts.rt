@@ -66,9 +66,12 @@ fn constant_is(x: Number, want: Option<u64>) -> bool {
 
 #[test]
 fn readings(rt: HostRuntime) {
-    assert!(rt; highest(&between(2, 9)) == 9);
-    assert!(rt; holds(&between(2, 9), 2) && !holds(&between(2, 9), 10) && !holds(&constant(4), 5));
-    assert!(rt; constant_is(constant(6), Some(6)) && constant_is(between(2, 9), None));
+    let x = between(2, 9);
+    assert!(rt; highest(&x) == 9);
+    assert!(rt; holds(&x, 2) && !holds(&x, 10));
+    assert!(rt; !holds(&constant(4), 5));
+    assert!(rt; constant_is(x, None));
+    assert!(rt; constant_is(constant(6), Some(6)));
 }
 
 /// A number is constant where its unsigned range is, whatever its other parts say.

@@ -3,6 +3,7 @@
 use super::{ALL, ANY, LOW, MAX, MIN, Six, TOP, gives, number};
 use abstract_num::{arithmetic, between, constant, copied, negative, ordered, sign_extended};
 use bpf_decode::{Arithmetic, Bits, ByteOrder, EndWidth, SignedMove};
+use std::process::Abort;
 
 /// An operation on two ranges and what it gives.
 type Row = (Arithmetic, (u64, u64), (u64, u64), Six);
@@ -183,32 +184,31 @@ fn holds(bits: Bits, row: Row) -> bool {
     )
 }
 
+/// Each row is what the operation gives.
+fn all_hold(rt: &impl Abort, bits: Bits, rows: &[Row]) {
+    for (i, row) in rows.iter().enumerate() {
+        assert!(rt; holds(bits, *row), "row {i}");
+    }
+}
+
 #[test]
 fn sums_and_products(rt: HostRuntime) {
-    for (i, row) in FITS.iter().enumerate() {
-        assert!(rt; holds(Bits::Bits64, *row), "row {i}");
-    }
+    all_hold(&rt, Bits::Bits64, &FITS);
 }
 
 #[test]
 fn bits_and_shifts(rt: HostRuntime) {
-    for (i, row) in BITWISE.iter().enumerate() {
-        assert!(rt; holds(Bits::Bits64, *row), "row {i}");
-    }
+    all_hold(&rt, Bits::Bits64, &BITWISE);
 }
 
 #[test]
 fn ends_of_the_word(rt: HostRuntime) {
-    for (i, row) in ENDS.iter().enumerate() {
-        assert!(rt; holds(Bits::Bits64, *row), "row {i}");
-    }
+    all_hold(&rt, Bits::Bits64, &ENDS);
 }
 
 #[test]
 fn low_halves(rt: HostRuntime) {
-    for (i, row) in HALVES.iter().enumerate() {
-        assert!(rt; holds(Bits::Bits32, *row), "row {i}");
-    }
+    all_hold(&rt, Bits::Bits32, &HALVES);
 }
 
 /// An operation on a number and a constant, and what it gives.

@@ -73,30 +73,54 @@ fn branch(bits: Bits, comparison: Comparison, dst: Register, source: Operand, of
     }
 }
 
+/// An operation with an immediate and with a register is spelled by those opcodes and that offset.
+fn spells_operation(
+    rt: &impl Abort,
+    alloc: Global,
+    bits: Bits,
+    operation: Arithmetic,
+    opcodes: (u8, u8),
+    offset: u8,
+) {
+    let (k, x) = opcodes;
+    let (dst, src) = (register_of(rt, 3), register_of(rt, 9));
+    let by_number = alu(bits, operation, dst, Operand::Immediate(-2));
+    spells(rt, alloc, by_number, of_one(k, offset), -2);
+    let by_register = alu(bits, operation, dst, Operand::Register(src));
+    spells(rt, alloc, by_register, of_two(x, offset), 0);
+}
+
 #[test]
 fn every_operation(rt: HostRuntime) {
-    let (dst, src) = (register_of(&rt, 3), register_of(&rt, 9));
-    for (operation, k32, x32, k64, x64, offset) in ARITHMETIC {
-        for (bits, k, x) in [(Bits::Bits32, k32, x32), (Bits::Bits64, k64, x64)] {
-            let by_number = alu(bits, operation, dst, Operand::Immediate(-2));
-            spells(&rt, rt.alloc(), by_number, of_one(k, offset), -2);
-            let by_register = alu(bits, operation, dst, Operand::Register(src));
-            spells(&rt, rt.alloc(), by_register, of_two(x, offset), 0);
-        }
+    for row in &ARITHMETIC {
+        let (operation, k32, x32, k64, x64, offset) = *row;
+        spells_operation(&rt, rt.alloc(), Bits::Bits32, operation, (k32, x32), offset);
+        spells_operation(&rt, rt.alloc(), Bits::Bits64, operation, (k64, x64), offset);
     }
+}
+
+/// A comparison with an immediate and with a register is spelled by those opcodes.
+fn spells_comparison(
+    rt: &impl Abort,
+    alloc: Global,
+    bits: Bits,
+    comparison: Comparison,
+    opcodes: (u8, u8),
+) {
+    let (k, x) = opcodes;
+    let (dst, src) = (register_of(rt, 3), register_of(rt, 9));
+    let by_number = branch(bits, comparison, dst, Operand::Immediate(-2), -3);
+    spells(rt, alloc, by_number, [k, 0x03, 0xfd, 0xff], -2);
+    let by_register = branch(bits, comparison, dst, Operand::Register(src), 258);
+    spells(rt, alloc, by_register, [x, 0x93, 2, 1], 0);
 }
 
 #[test]
 fn every_comparison(rt: HostRuntime) {
-    let (dst, src) = (register_of(&rt, 3), register_of(&rt, 9));
-    for (comparison, k64, x64, k32, x32) in COMPARISONS {
-        for (bits, k, x) in [(Bits::Bits32, k32, x32), (Bits::Bits64, k64, x64)] {
-            let number = Operand::Immediate(-2);
-            let by_number = branch(bits, comparison, dst, number, -3);
-            spells(&rt, rt.alloc(), by_number, [k, 0x03, 0xfd, 0xff], -2);
-            let by_register = branch(bits, comparison, dst, Operand::Register(src), 258);
-            spells(&rt, rt.alloc(), by_register, [x, 0x93, 2, 1], 0);
-        }
+    for row in &COMPARISONS {
+        let (comparison, k64, x64, k32, x32) = *row;
+        spells_comparison(&rt, rt.alloc(), Bits::Bits32, comparison, (k32, x32));
+        spells_comparison(&rt, rt.alloc(), Bits::Bits64, comparison, (k64, x64));
     }
 }
 
@@ -109,7 +133,8 @@ const MOVES: [(Bits, u8, u8, u8); 2] = [
 #[test]
 fn moves(rt: HostRuntime) {
     let (dst, src) = (register_of(&rt, 3), register_of(&rt, 9));
-    for (bits, neg, by_number, by_register) in MOVES {
+    for row in &MOVES {
+        let (bits, neg, by_number, by_register) = *row;
         let source = Operand::Immediate(1);
         spells(&rt, rt.alloc(), Insn::Neg { bits, dst }, of_one(neg, 0), 0);
         spells(
@@ -147,9 +172,10 @@ const SIGNED_LOADS: [(SignedWidth, u8); 3] = [
 ];
 
 #[test]
-fn signed_rows(rt: HostRuntime) {
+fn signed_moves(rt: HostRuntime) {
     let (dst, src) = (register_of(&rt, 3), register_of(&rt, 9));
-    for (extension, opcode, offset) in SIGNED_MOVES {
+    for row in &SIGNED_MOVES {
+        let (extension, opcode, offset) = *row;
         let insn = Insn::MovSigned {
             extension,
             dst,
@@ -157,11 +183,17 @@ fn signed_rows(rt: HostRuntime) {
         };
         spells(&rt, rt.alloc(), insn, of_two(opcode, offset), 0);
     }
-    for (width, opcode) in SIGNED_LOADS {
+}
+
+#[test]
+fn signed_loads(rt: HostRuntime) {
+    let (dst, base) = (register_of(&rt, 3), register_of(&rt, 9));
+    for row in &SIGNED_LOADS {
+        let (width, opcode) = *row;
         let insn = Insn::LoadSigned {
             width,
             dst,
-            base: src,
+            base,
             offset: -1,
         };
         spells(&rt, rt.alloc(), insn, [opcode, 0x93, 0xff, 0xff], 0);
@@ -200,16 +232,31 @@ const OTHERS: [u8; 29] = [
     0x71, 0x79, 0x81, 0x89, 0x91, 0x62, 0x6a, 0x72, 0x7a, 0x63, 0x6b, 0x73, 0x7b,
 ];
 
+/// Whether the table of operations has an opcode.
+fn is_operation(opcode: u8) -> bool {
+    for row in &ARITHMETIC {
+        let (_, k32, x32, k64, x64, _) = *row;
+        if [k32, x32, k64, x64].contains(&opcode) {
+            return true;
+        }
+    }
+    false
+}
+
+/// Whether that of comparisons has it.
+fn is_comparison(opcode: u8) -> bool {
+    for row in &COMPARISONS {
+        let (_, k64, x64, k32, x32) = *row;
+        if [k64, x64, k32, x32].contains(&opcode) {
+            return true;
+        }
+    }
+    false
+}
+
 /// Whether the tables have an opcode.
 fn is_known(opcode: u8) -> bool {
-    let mut known = OTHERS.contains(&opcode);
-    for (_, k32, x32, k64, x64, _) in ARITHMETIC {
-        known = known || opcode == k32 || opcode == x32 || opcode == k64 || opcode == x64;
-    }
-    for (_, k64, x64, k32, x32) in COMPARISONS {
-        known = known || opcode == k32 || opcode == x32 || opcode == k64 || opcode == x64;
-    }
-    known
+    OTHERS.contains(&opcode) || is_operation(opcode) || is_comparison(opcode)
 }
 
 /// An immediate that the opcode allows: END wants a width.
@@ -221,31 +268,35 @@ fn own_imm(opcode: u8) -> u8 {
     }
 }
 
+/// Whether `check` takes the opcode where the tables have it, and else refuses it.
+fn is_told(opcode: u8) -> bool {
+    let expected = if is_known(opcode) {
+        Ok(1)
+    } else {
+        Err(DecodeError::Opcode(0))
+    };
+    read(opcode, 0, 0, own_imm(opcode)) == expected
+}
+
 #[test]
 fn no_other_opcode(rt: HostRuntime) {
     for opcode in 0..=255u8 {
-        let expected = if is_known(opcode) {
-            Ok(1)
-        } else {
-            Err(DecodeError::Opcode(0))
-        };
-        let found = read(opcode, 0, 0, own_imm(opcode));
-        assert!(rt; found == expected, "opcode {opcode}");
+        assert!(rt; is_told(opcode), "opcode {opcode}");
     }
 }
 
-/// Opcodes, and whether an instruction of theirs may have the destination 2, the source 2, the offset 4, another immediate.
-const USES: [(&[u8], bool, bool, bool, bool); 8] = [
+/// Whether an instruction may have the destination 2, the source 2, the offset 4, another immediate.
+type Fields = (bool, bool, bool, bool);
+
+/// Opcodes, and which fields an instruction of theirs may have.
+const USES: [(&[u8], Fields); 8] = [
     // an operation on an immediate, MOV of one, the wide load
     (
         &[
             0x04, 0x07, 0x14, 0x17, 0x18, 0x24, 0x27, 0x34, 0x37, 0x44, 0x47, 0x54, 0x57, 0x64,
             0x67, 0x74, 0x77, 0x94, 0x97, 0xa4, 0xa7, 0xb4, 0xb7, 0xc4, 0xc7,
         ],
-        true,
-        false,
-        false,
-        true,
+        (true, false, false, true),
     ),
     // an operation on a register, MOV of one
     (
@@ -253,23 +304,17 @@ const USES: [(&[u8], bool, bool, bool, bool); 8] = [
             0x0c, 0x0f, 0x1c, 0x1f, 0x2c, 0x2f, 0x3c, 0x3f, 0x4c, 0x4f, 0x5c, 0x5f, 0x6c, 0x6f,
             0x7c, 0x7f, 0x9c, 0x9f, 0xac, 0xaf, 0xbc, 0xbf, 0xcc, 0xcf,
         ],
-        true,
-        true,
-        false,
-        false,
+        (true, true, false, false),
     ),
     // NEG and END
-    (&[0x84, 0x87, 0xd4, 0xdc, 0xd7], true, false, false, false),
+    (&[0x84, 0x87, 0xd4, 0xdc, 0xd7], (true, false, false, false)),
     // comparisons with an immediate, stores of one
     (
         &[
             0x15, 0x16, 0x25, 0x26, 0x35, 0x36, 0x45, 0x46, 0x55, 0x56, 0x62, 0x65, 0x66, 0x6a,
             0x72, 0x75, 0x76, 0x7a, 0xa5, 0xa6, 0xb5, 0xb6, 0xc5, 0xc6, 0xd5, 0xd6,
         ],
-        true,
-        false,
-        true,
-        true,
+        (true, false, true, true),
     ),
     // comparisons with a register, loads, stores of a register
     (
@@ -278,17 +323,14 @@ const USES: [(&[u8], bool, bool, bool, bool); 8] = [
             0x6d, 0x6e, 0x71, 0x73, 0x79, 0x7b, 0x7d, 0x7e, 0x81, 0x89, 0x91, 0xad, 0xae, 0xbd,
             0xbe, 0xcd, 0xce, 0xdd, 0xde,
         ],
-        true,
-        true,
-        true,
-        false,
+        (true, true, true, false),
     ),
     // JA
-    (&[0x05], false, false, true, false),
+    (&[0x05], (false, false, true, false)),
     // JA by the immediate, CALL
-    (&[0x06, 0x85], false, false, false, true),
+    (&[0x06, 0x85], (false, false, false, true)),
     // EXIT
-    (&[0x95], false, false, false, false),
+    (&[0x95], (false, false, false, false)),
 ];
 
 /// A slot, and behind it an empty one where it is a wide load's.
@@ -309,33 +351,54 @@ fn allowed(is_allowed: bool) -> Result<usize, DecodeError> {
     }
 }
 
+/// Whether a slot of those fields is read where that is allowed, and else refused for a field that isn't zero.
+fn is_read_if(is_allowed: bool, opcode: u8, registers: u8, offset: u16, imm: u8) -> bool {
+    read(opcode, registers, offset, imm) == allowed(is_allowed)
+}
+
+/// Whether an instruction of the opcode may have those fields and no others.
+fn has_fields(opcode: u8, fields: Fields) -> bool {
+    let (dst, src, offset, imm) = fields;
+    let own = own_imm(opcode);
+    is_read_if(true, opcode, 0, 0, own)
+        && is_read_if(dst, opcode, 0x02, 0, own)
+        && is_read_if(src, opcode, 0x20, 0, own)
+        && is_read_if(offset, opcode, 0, 4, own)
+        && is_read_if(imm, opcode, 0, 0, own | 3)
+}
+
+/// Instructions of the opcodes may have those fields and no others.
+fn have_fields(rt: &impl Abort, opcodes: &[u8], fields: Fields) {
+    for opcode in opcodes {
+        assert!(rt; has_fields(*opcode, fields), "opcode {opcode}");
+    }
+}
+
 #[test]
 fn unused_fields(rt: HostRuntime) {
-    for (opcodes, dst, src, offset, imm) in USES {
-        for opcode in opcodes {
-            let (opcode, own) = (*opcode, own_imm(*opcode));
-            let found = [
-                read(opcode, 0, 0, own),
-                read(opcode, 0x02, 0, own),
-                read(opcode, 0x20, 0, own),
-                read(opcode, 0, 4, own),
-                read(opcode, 0, 0, own | 3),
-            ];
-            let expected = [true, dst, src, offset, imm].map(allowed);
-            assert!(rt; found == expected, "opcode {opcode}");
-        }
+    for row in &USES {
+        have_fields(&rt, row.0, row.1);
+    }
+}
+
+/// Whether register 11 is refused as the destination and as the source.
+fn lacks_register_11(opcode: u8) -> bool {
+    let refused = Err(DecodeError::Register(0));
+    let own = own_imm(opcode);
+    read(opcode, 0x0b, 0, own) == refused && read(opcode, 0xb0, 0, own) == refused
+}
+
+/// Instructions of the opcodes have no register 11.
+fn lack_register_11(rt: &impl Abort, opcodes: &[u8]) {
+    for opcode in opcodes {
+        assert!(rt; lacks_register_11(*opcode), "opcode {opcode}");
     }
 }
 
 #[test]
 fn no_such_register(rt: HostRuntime) {
-    let refused = Err(DecodeError::Register(0));
-    for (opcodes, _, _, _, _) in USES {
-        for opcode in opcodes {
-            let (opcode, own) = (*opcode, own_imm(*opcode));
-            let found = [read(opcode, 0x0b, 0, own), read(opcode, 0xb0, 0, own)];
-            assert!(rt; found == [refused, refused], "opcode {opcode}");
-        }
+    for row in &USES {
+        lack_register_11(&rt, row.0);
     }
 }
 
@@ -355,36 +418,46 @@ const SELECTED: [(u8, &[u16]); 12] = [
     (0xbf, &[0, 8, 16, 32]),
 ];
 
+/// Those offsets, and no others, select an instruction of the opcode.
+fn select(rt: &impl Abort, opcode: u8, offsets: &[u16]) {
+    for offset in 0..=0xffffu16 {
+        let is_allowed = offsets.contains(&offset);
+        assert!(rt;
+            is_read_if(is_allowed, opcode, 0, offset, 0),
+            "opcode {opcode}"
+        );
+    }
+}
+
 #[test]
 fn selecting_offsets(rt: HostRuntime) {
-    for (opcode, offsets) in SELECTED {
-        for offset in 0..=0xffffu16 {
-            let found = read(opcode, 0, offset, 0);
-            assert!(rt;
-                found == allowed(offsets.contains(&offset)),
-                "opcode {opcode}"
-            );
-        }
+    for row in &SELECTED {
+        select(&rt, row.0, row.1);
+    }
+}
+
+/// The immediates 16, 32 and 64, and no others, select an instruction of the opcode.
+fn select_width(rt: &impl Abort, opcode: u8) {
+    for imm in 0..=255u8 {
+        let is_allowed = [16, 32, 64].contains(&imm);
+        assert!(rt;
+            is_read_if(is_allowed, opcode, 0, 0, imm),
+            "opcode {opcode}"
+        );
     }
 }
 
 #[test]
 fn selecting_immediates(rt: HostRuntime) {
     for opcode in [0xd4, 0xdc, 0xd7] {
-        for imm in 0..=255u8 {
-            let found = read(opcode, 0, 0, imm);
-            assert!(rt;
-                found == allowed([16, 32, 64].contains(&imm)),
-                "opcode {opcode}"
-            );
-        }
+        select_width(&rt, opcode);
     }
 }
 
 #[test]
 fn selecting_registers(rt: HostRuntime) {
     for src in 0..=10u8 {
-        assert!(rt; read(0x85, src << 4, 0, 0) == allowed(src <= 1));
-        assert!(rt; read(0x18, src << 4, 0, 0) == allowed(src == 0));
+        assert!(rt; is_read_if(src <= 1, 0x85, src << 4, 0, 0));
+        assert!(rt; is_read_if(src == 0, 0x18, src << 4, 0, 0));
     }
 }

@@ -1,6 +1,7 @@
 use Rattle.std.proofs.Common.{rules, ◌∙◌, FitsSigned, ◌-ℤ◌, w64}
 use Rattle.std.proofs.lemmas.Int.{to_z-of_z}
-use Rattle.abstract_num.specs.SignedRowLaws.{ends_fit, high_end_too_far}
+use Rattle.abstract_num.specs.SignedRowLaws.{ends_fit, low_end_too_far, high_end_too_far}
+use Rattle.abstract_num.proofs.SignedEnds.{difference_ordered}
 use Rattle.abstract_num.proofs.srange.rows.sub.Goals as goal
 
 pub returns-in_default-checked_sub : goal.returns-in_default-checked_sub
@@ -25,3 +26,26 @@ returns c =
     let l = simp to_z-of_z at c.in-Some.ensures in
     rw (ends_fit (c.args.left.low -ℤ c.args.right.high) (c.args.left.high -ℤ c.args.right.low) l.0 h.0)
     (to_z-of_z w64 c.in-Some.low a5 ∙ l.1, to_z-of_z w64 c.in-Some-checked_sub.high a6 ∙ h.1)
+
+pub invariant_of-result : goal.invariant_of-result
+invariant_of-result c =
+    let a1 : FitsSigned w64 c.args.left.low = search rules in
+    let a2 : FitsSigned w64 c.args.left.high = search rules in
+    let a3 : FitsSigned w64 c.args.right.low = search rules in
+    let a4 : FitsSigned w64 c.args.right.high = search rules in
+    let a5 : FitsSigned w64 c.in-Some.low = search rules in
+    let a6 : FitsSigned w64 c.in-Some-checked_sub.high = search rules in
+    let h = simp to_z-of_z at c.in-Some-checked_sub.ensures in
+    let l = simp to_z-of_z at c.in-Some.ensures in
+    let low = to_z-of_z w64 c.in-Some.low a5 ∙ l.1 in
+    let high = to_z-of_z w64 c.in-Some-checked_sub.high a6 ∙ h.1 in
+    record { ordered = rw (low, high) (difference_ordered c.args.left.low c.args.left.high c.args.right.low c.args.right.high c.args.left.ordered c.args.right.ordered) }
+
+pub returns-in_default : goal.returns-in_default
+returns-in_default c =
+    let a1 : FitsSigned w64 c.args.left.low = search rules in
+    let a2 : FitsSigned w64 c.args.left.high = search rules in
+    let a3 : FitsSigned w64 c.args.right.low = search rules in
+    let a4 : FitsSigned w64 c.args.right.high = search rules in
+    let h = simp to_z-of_z at c.in_default.ensures in
+    rw (low_end_too_far (c.args.left.low -ℤ c.args.right.high) (c.args.left.high -ℤ c.args.right.low) h) c.every.ensures
