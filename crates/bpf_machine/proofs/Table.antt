@@ -1,5 +1,5 @@
 -- The helper of an id is its row.
-use Rattle.std.proofs.Common.{◌≡◌, ℕ, Option, Some, None, Bool, true, false, refl, ap, ◌∙◌, sym, cond}
+use Rattle.std.proofs.Common.{◌≡◌, ℕ, Option, Some, None, true, false, refl, ap, ◌∙◌, sym, cond}
 use Rattle.std.specs.Prelude.{◌||◌, not, unwrap_or}
 use Rattle.std.specs.Option.{option_map}
 use Rattle.helpers.specs.declared.helper.Helper.{Helper}

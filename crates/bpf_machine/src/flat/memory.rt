@@ -85,9 +85,10 @@ fn number_bytes(n: u64) -> [u8; 8]
     ]
 }
 
-fn overwrite(xs: &mut [u8], at: usize, bytes: &[u8])
-    requires { at + length bytes.now ≤ length xs.old }
-    ensures { xs.new ≡ written xs.old at bytes.now }
+/// Bytes written over those at a place.
+fn overwrite(xs: &mut Vec<u8>, at: usize, bytes: &[u8])
+    requires { at + length bytes.now ≤ length xs.old.items }
+    ensures { xs.new.items ≡ written xs.old.items at bytes.now }
 {
     xs[at..at + bytes.len()].copy_from_slice(bytes);
 }

@@ -1,6 +1,6 @@
 ghost use Rattle.std.specs.Prelude.{◌≡◌, ◌+◌, ◌≤◌, ◌<◌, length};
 ghost use Rattle.helpers.specs.Table.{read_answer};
-ghost use Rattle.bpf_machine.specs.State.{put, size};
+ghost use Rattle.bpf_machine.specs.State.{written, put, size};
 ghost use Rattle.bpf_machine.specs.View.{layout_of};
 ghost use Rattle.bpf_machine.specs.inner.FlatState.{memory_of, flat_state, Answers, IsSized, helped};
 
@@ -12,6 +12,17 @@ use crate::layout::Layout;
 use bpf_decode::Region;
 use helpers::{Helper, Span};
 use txn::Staged;
+
+/// The object's bytes from a place on, read over those at a place; and what `read` answers.
+fn read_over(staged: &Staged, at: u64, bytes: &mut Vec<u8>, room: Span) -> u64
+    requires inside { room.at + room.len ≤ length bytes.old.items }
+    requires some { 0 < room.len }
+    ensures answer { result ≡ (read_answer staged.entry.now.after at room.len).number }
+    ensures bytes { bytes.new.items ≡ written bytes.old.items room.at (read_answer staged.entry.now.after at room.len).bytes }
+    ensures long { length bytes.new.items ≡ length bytes.old.items }
+{
+    helpers::read(staged, at, bytes, room)
+}
 
 /// The object's bytes from a place on, read into a region at a place; and what `read` answers.
 fn read_into(
@@ -30,9 +41,9 @@ fn read_into(
     ensures sized { IsSized caps.now memory.new }
 {
     match region {
-        Region::Input => helpers::read(staged, at, &mut memory.input, room),
-        Region::Output => helpers::read(staged, at, &mut memory.output, room),
-        Region::Stack => helpers::read(staged, at, &mut memory.stack, room),
+        Region::Input => read_over(staged, at, &mut memory.input, room),
+        Region::Output => read_over(staged, at, &mut memory.output, room),
+        Region::Stack => read_over(staged, at, &mut memory.stack, room),
     }
 }
 

@@ -1,4 +1,4 @@
-use Rattle.std.proofs.Common.{◌≡◌, Some, sym, subst}
+use Rattle.std.proofs.Common.{sym, subst}
 use Rattle.std.specs.Prelude.{IfOk}
 use Rattle.bpf_machine.specs.View.{layout_of}
 use Rattle.bpf_machine.specs.inner.FlatState.{flat_state, GivesState}

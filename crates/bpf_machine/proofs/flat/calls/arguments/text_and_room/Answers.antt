@@ -1,5 +1,4 @@
-use Rattle.std.proofs.Common.{◌≡◌, Some, None, true, false, ap, ◌∙◌}
-use Rattle.std.specs.Option.{option_map}
+use Rattle.std.proofs.Common.{Some, None, true, false}
 use Rattle.bpf_machine.specs.Helper.{nothing_given, with_text, with_room, bytes_in}
 use Rattle.bpf_machine.specs.View.{layout_of}
 use Rattle.bpf_machine.specs.inner.FlatState.{flat_state}

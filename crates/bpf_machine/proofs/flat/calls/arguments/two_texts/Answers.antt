@@ -1,5 +1,4 @@
-use Rattle.std.proofs.Common.{◌≡◌, Some, None, false, ap, ◌∙◌}
-use Rattle.std.specs.Option.{option_map}
+use Rattle.std.proofs.Common.{Some, None, false}
 use Rattle.bpf_machine.specs.Helper.{nothing_given, with_text, bytes_in}
 use Rattle.bpf_machine.specs.View.{layout_of}
 use Rattle.bpf_machine.specs.inner.FlatState.{flat_state}
