@@ -1,5 +1,5 @@
 -- Bytes by their places, in a part of a list and after a write.
-use Rattle.std.proofs.Common.{◌≡◌, ℕ, zero, suc, ◌+◌, ◌-◌, ◌/◌, ◌<◌, ◌≤◌, List, [], ◌∷◌, ◌++◌, refl, ap, ◌∙◌, arith, length, take, drop, length-append, length-drop}
+use Rattle.std.proofs.Common.{◌≡◌, ℕ, zero, suc, ◌+◌, ◌-◌, ◌/◌, ◌<◌, ◌≤◌, List, [], ◌∷◌, ◌++◌, refl, ap, ◌∙◌, sym, subst, arith, length, take, drop, length-append, length-drop}
 use Rattle.std.specs.Prelude.{slice_get}
 use Rattle.std.proofs.lemmas.List.{length-take-le}
 use Rattle.object_store.specs.Object.{part}
@@ -63,3 +63,8 @@ module _ (xs : List ℕ) (place : ℕ) (bytes : List ℕ) (inside : place + leng
   pub length-written : length (written xs place bytes) ≡ length xs
   length-written =
       omega (arith, front, length-append (take place xs) (bytes ++ drop (place + length bytes) xs), length-append bytes (drop (place + length bytes) xs), length-drop (place + length bytes) xs)
+
+-- a region keeps its length
+pub kept : (xs ys : List ℕ) (place : ℕ) (bytes : List ℕ) (n : ℕ) → ys ≡ written xs place bytes → place + length bytes ≤ n → length xs ≡ n → length ys ≡ n
+kept xs ys place bytes n e inside long =
+    ap length e ∙ (length-written xs place bytes (subst (λ k. place + length bytes ≤ k) (sym long) inside) ∙ long)

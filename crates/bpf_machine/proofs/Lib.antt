@@ -16,3 +16,5 @@ pub mod Going
 pub mod Bytes
 pub mod Kept
 pub mod Table
+pub mod Ranges
+pub mod Row

@@ -19,6 +19,7 @@ use object_store::Object;
 use rows::{exit_code, step};
 use state::FlatState;
 use std::alloc::{AllocError, Global};
+use std::mem::replace;
 use txn::{NoMemory, Staged};
 
 /// How a run ends.
@@ -47,13 +48,22 @@ pub enum Stop {
     Unfinished,
 }
 
+/// So many zeros.
+fn zeros(alloc: Global, count: usize) -> Result<Vec<u8>, AllocError>
+    ensures items { IfOk result (λ v. v.items ≡ replicate count 0) }
+    ensures long { IfOk result (λ v. length v.items ≡ count) }
+{
+    vec![in alloc; 0u8; count]
+}
+
 /// Bytes and then zeros, so many in all.
 fn padded_with_zeros(alloc: Global, bytes: &[u8], len: usize) -> Result<Vec<u8>, AllocError>
     requires { length bytes.now ≤ len }
-    ensures { IfOk result (λ v. v.items ≡ bytes.now ++ replicate (len - length bytes.now) 0) }
+    ensures items { IfOk result (λ v. v.items ≡ bytes.now ++ replicate (len - length bytes.now) 0) }
+    ensures long { IfOk result (λ v. length v.items ≡ len) }
 {
     let mut padded = Vec::from_slice(alloc, bytes)?;
-    let rest = vec![in alloc; 0u8; len - bytes.len()]?;
+    let rest = zeros(alloc, len - bytes.len())?;
     padded.extend_from_slice(&rest)?;
     Ok(padded)
 }
@@ -78,10 +88,13 @@ fn opening(alloc: Global, caps: &Caps, input: &[u8]) -> Result<Regions, AllocErr
     ensures memory { IfOk result (λ m. memory_of m ≡ opening caps.now input.now) }
     ensures sized { IfOk result (λ m. IsSized caps.now m) }
 {
+    let input = padded_with_zeros(alloc, input, usize::from(caps.in_cap))?;
+    let output = zeros(alloc, usize::from(caps.out_cap))?;
+    let stack = zeros(alloc, STACK_SIZE)?;
     Ok(Regions {
-        input: padded_with_zeros(alloc, input, usize::from(caps.in_cap))?,
-        output: padded_with_zeros(alloc, &[], usize::from(caps.out_cap))?,
-        stack: padded_with_zeros(alloc, &[], STACK_SIZE)?,
+        input,
+        output,
+        stack,
     })
 }
 
@@ -152,28 +165,18 @@ fn finish(
     alloc: Global,
     before: Option<&Object>,
     code: u64,
-    s: FlatState,
+    s: &mut FlatState,
 ) -> Result<(Vec<u8>, Option<Object>), NoMemory>
-    ensures { IfOk result (λ r. record { code = code; output = r.0.items; object = r.1 } ≡ outcome_of (option_copied before.entry) code (flat_state s.entry)) }
+    ensures { IfOk result (λ r. record { code = code; output = r.0.items; object = r.1 } ≡ outcome_of (option_copied before.entry) code (flat_state s.old)) }
 {
     if code < 0x8000_0000_0000_0000 {
-        let FlatState {
-            slot: _,
-            regs: _,
-            memory,
-            object,
-            out_len,
-            caller: _,
-        } = s;
-        let Regions {
-            input: _,
-            mut output,
-            stack: _,
-        } = memory;
-        output.truncate(out_len);
-        Ok((output, copied(object.object())?))
+        let object = copied(s.object.object())?;
+        let mut output = replace(&mut s.memory.output, Vec::new(alloc));
+        output.truncate(s.out_len);
+        Ok((output, object))
     } else {
-        Ok((Vec::new(alloc), copied(before)?))
+        let object = copied(before)?;
+        Ok((Vec::new(alloc), object))
     }
 }
 
@@ -182,9 +185,9 @@ fn ended(
     alloc: Global,
     before: Option<&Object>,
     stop: Stop,
-    s: FlatState,
+    s: &mut FlatState,
 ) -> Result<Ending, NoMemory>
-    ensures { IfOk result (λ e. ending_of e ≡ stopped (option_copied before.entry) stop (flat_state s.entry)) }
+    ensures { IfOk result (λ e. ending_of e ≡ stopped (option_copied before.entry) stop (flat_state s.old)) }
 {
     match stop {
         Stop::Exit(code, steps) => {
@@ -199,6 +202,24 @@ fn ended(
         Stop::Stuck => Ok(Ending::Stuck),
         Stop::Unfinished => Ok(Ending::Unfinished),
     }
+}
+
+/// How a run from a state ends that is beside that object.
+fn run_from(
+    alloc: Global,
+    caps: &Caps,
+    layout: &Layout,
+    code: &[u8],
+    before: Option<&Object>,
+    s: &mut FlatState,
+    limit: usize,
+) -> Result<Ending, NoMemory>
+    requires sized { IsSized caps.now s.old.memory }
+    requires beside { s.old.object.after ≡ option_copied before }
+    ensures { IfOk result (λ e. ending_of e ≡ run caps.now (layout_of layout.now) code.now (option_copied before.entry) limit (flat_state s.old)) }
+{
+    let stop = run_on(alloc, caps, layout, code, s, limit)?;
+    ended(alloc, before, stop, s)
 }
 
 /// Runs a method's bytes on plain addresses, beside an object, for a client, on an input, in at most so many steps.
@@ -219,6 +240,5 @@ pub fn flat_run(
     ensures { IfOk result (λ e. ending_of e ≡ run caps.now (layout_of layout.now) code.now (option_copied object.entry) limit (entry caps.now (layout_of layout.now) (option_copied object.entry) caller input.now)) }
 {
     let mut s = enter(alloc, caps, layout, object, caller, input)?;
-    let stop = run_on(alloc, caps, layout, code, &mut s, limit)?;
-    ended(alloc, object, stop, s)
+    run_from(alloc, caps, layout, code, object, &mut s, limit)
 }

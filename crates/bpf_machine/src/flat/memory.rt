@@ -1,12 +1,12 @@
-ghost use Rattle.std.specs.Prelude.{◌≡◌, ◌<◌, ◌≤◌, ◌+◌, ◌^◌, ◌-◌, Some, None, if◌then◌else◌, length, take, IfSome};
+ghost use Rattle.std.specs.Prelude.{◌≡◌, ◌<◌, ◌≤◌, ◌+◌, ◌^◌, ◌-◌, ℕ, Some, None, if◌then◌else◌, length, take, IfSome};
 ghost use Rattle.bpf_machine.specs.State.{le_value, le_bytes, cells, written, put, size};
 ghost use Rattle.bpf_machine.specs.Helper.{write_room};
-ghost use Rattle.bpf_machine.specs.Flat.{base, holds, find, range, load, load_signed, store};
+ghost use Rattle.bpf_machine.specs.Flat.{base, holds, find, range, load, load_signed, store, flat_after};
 ghost use Rattle.bpf_machine.specs.View.{layout_of};
-ghost use Rattle.bpf_machine.specs.inner.FlatState.{memory_of, flat_state, GivesState, IsSized};
+ghost use Rattle.bpf_machine.specs.inner.FlatState.{memory_of, flat_state, sets, GivesState, IsSized};
 
 use crate::caps::Caps;
-use crate::flat::state::{FlatState, set};
+use crate::flat::state::FlatState;
 use crate::layout::Layout;
 use bpf_decode::arithmetic::sign_extended_load;
 use bpf_decode::{Region, SignedWidth};
@@ -85,9 +85,10 @@ fn number_bytes(n: u64) -> [u8; 8]
     ]
 }
 
-fn overwrite(xs: &mut [u8], at: usize, bytes: &[u8])
-    requires { at + length bytes.now ≤ length xs.old }
-    ensures { xs.new ≡ written xs.old at bytes.now }
+/// Bytes written over those at a place.
+fn overwrite(xs: &mut Vec<u8>, at: usize, bytes: &[u8])
+    requires { at + length bytes.now ≤ length xs.old.items }
+    ensures { xs.new.items ≡ written xs.old.items at bytes.now }
 {
     xs[at..at + bytes.len()].copy_from_slice(bytes);
 }
@@ -129,25 +130,15 @@ pub fn put_room(caps: &Caps, memory: &mut Regions, room: Option<(Region, usize)>
     }
 }
 
-/// A load of w bytes into a register, zero-extended (RFC 9669 section 5.1).
-pub fn load(
-    caps: &Caps,
-    layout: &Layout,
-    w: usize,
-    dst: u8,
-    at: u64,
-    s: &mut FlatState,
-) -> Option<()>
-    requires sized { IsSized caps.now s.old.memory }
+/// A load of w bytes, zero-extended (RFC 9669 section 5.1): the number for its register.
+pub fn load(caps: &Caps, layout: &Layout, w: usize, at: u64, s: &FlatState) -> Option<u64>
+    requires sized { IsSized caps.now s.now.memory }
     requires short { w ≤ 8 }
-    ensures load { GivesState result (flat_state s.new) (load caps.now (layout_of layout.now) w dst at (flat_state s.old)) }
-    ensures slot { s.new.slot ≡ s.old.slot }
-    ensures sized { IsSized caps.now s.new.memory }
+    ensures { (dst : ℕ) → sets dst (flat_state s.now) result ≡ flat_after caps.now (layout_of layout.now) (flat_state s.now) (load caps.now (layout_of layout.now) w dst at (flat_state s.now)) }
 {
     let (region, place) = find(caps, layout, at, w as u64)?;
     let bytes = region_bytes(&s.memory, region);
-    let value = read_number(&bytes[place..place + w]);
-    set(caps, s, dst, value)
+    Some(read_number(&bytes[place..place + w]))
 }
 
 /// A load with sign extension (section 5.2).
@@ -155,20 +146,16 @@ pub fn load_signed(
     caps: &Caps,
     layout: &Layout,
     width: SignedWidth,
-    dst: u8,
     at: u64,
-    s: &mut FlatState,
-) -> Option<()>
-    requires sized { IsSized caps.now s.old.memory }
-    ensures load { GivesState result (flat_state s.new) (load_signed caps.now (layout_of layout.now) width dst at (flat_state s.old)) }
-    ensures slot { s.new.slot ≡ s.old.slot }
-    ensures sized { IsSized caps.now s.new.memory }
+    s: &FlatState,
+) -> Option<u64>
+    requires sized { IsSized caps.now s.now.memory }
+    ensures { (dst : ℕ) → sets dst (flat_state s.now) result ≡ flat_after caps.now (layout_of layout.now) (flat_state s.now) (load_signed caps.now (layout_of layout.now) width dst at (flat_state s.now)) }
 {
     let w = width.bytes();
     let (region, place) = find(caps, layout, at, w as u64)?;
     let bytes = region_bytes(&s.memory, region);
-    let value = sign_extended_load(width, read_number(&bytes[place..place + w]));
-    set(caps, s, dst, value)
+    Some(sign_extended_load(width, read_number(&bytes[place..place + w])))
 }
 
 /// A store of the low w bytes of a number (section 5.1).

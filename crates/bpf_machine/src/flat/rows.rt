@@ -1,7 +1,8 @@
-ghost use Rattle.std.specs.Prelude.{◌≡◌, ◌<◌, ◌≤◌, ◌+◌, ◌*◌, ◌^◌, length, IfOk};
-ghost use Rattle.bpf_machine.specs.Flat.{operand, operation_row, neg_row, mov_row, end_row, alu_row, mem_row, memsx_row, ldx_row, st_row, stx_row, wide_row, ja_row, ja32_row, branch_row, call_row, act, step, exit_code, at_base};
+ghost use Rattle.std.specs.Prelude.{◌≡◌, ◌<◌, ◌≤◌, ◌+◌, ◌*◌, ◌^◌, ℕ, length, IfOk};
+ghost use Rattle.bpf_machine.specs.State.{State};
+ghost use Rattle.bpf_machine.specs.Flat.{operand, operation_row, neg_row, mov_row, end_row, alu_row, mem_row, memsx_row, ldx_row, st_row, stx_row, wide_row, ja_row, ja32_row, branch_row, call_row, act, step, exit_code, at_base, width_of, store, flat_after};
 ghost use Rattle.bpf_machine.specs.View.{layout_of};
-ghost use Rattle.bpf_machine.specs.inner.FlatState.{flat_state, GivesState, IsSized};
+ghost use Rattle.bpf_machine.specs.inner.FlatState.{flat_state, sets, sets_wide, GivesState, IsSized};
 
 use crate::caps::Caps;
 use crate::flat::calls::help;
@@ -31,12 +32,9 @@ fn operand(f: Slot, s: &FlatState) -> Option<u64>
     }
 }
 
-/// An operation; the offset tells signed division and modulo apart.
-fn operation_row(caps: &Caps, bits: Bits, f: Slot, s: &mut FlatState) -> Option<()>
-    requires sized { IsSized caps.now s.old.memory }
-    requires slot { s.old.slot < 2 ^ 62 }
-    ensures row { GivesState result (flat_state s.new) (operation_row bits f (flat_state s.old)) }
-    ensures sized { IsSized caps.now s.new.memory }
+/// What an operation gives; the offset tells signed division and modulo apart.
+fn operation_value(bits: Bits, f: Slot, s: &FlatState) -> Option<u64>
+    ensures { sets f.dst (flat_state s.now) result ≡ operation_row bits f (flat_state s.now) }
 {
     let row = Arithmetic::of(f.opcode / 16)?;
     if !row.allows(f.offset) {
@@ -44,62 +42,66 @@ fn operation_row(caps: &Caps, bits: Bits, f: Slot, s: &mut FlatState) -> Option<
     }
     let y = operand(f, s)?;
     let x = get(s, f.dst)?;
-    set(caps, s, f.dst, alu(bits, row.selected(f.offset), x, y))?;
-    s.slot += 1;
-    Some(())
+    Some(alu(bits, row.selected(f.offset), x, y))
 }
 
-/// NEG.
-fn neg_row(caps: &Caps, bits: Bits, f: Slot, s: &mut FlatState) -> Option<()>
-    requires sized { IsSized caps.now s.old.memory }
-    requires slot { s.old.slot < 2 ^ 62 }
-    ensures row { GivesState result (flat_state s.new) (neg_row bits f (flat_state s.old)) }
-    ensures sized { IsSized caps.now s.new.memory }
+/// What NEG gives.
+fn neg_value(bits: Bits, f: Slot, s: &FlatState) -> Option<u64>
+    ensures { sets f.dst (flat_state s.now) result ≡ neg_row bits f (flat_state s.now) }
 {
     if f.opcode / 8 % 2 != 0 || f.src != 0 || f.offset != 0 || f.imm != 0 {
         return None;
     }
     let x = get(s, f.dst)?;
-    set(caps, s, f.dst, negative(bits, x))?;
-    s.slot += 1;
-    Some(())
+    Some(negative(bits, x))
 }
 
-/// MOV, and MOVSX of a register.
-fn mov_row(caps: &Caps, bits: Bits, f: Slot, s: &mut FlatState) -> Option<()>
-    requires sized { IsSized caps.now s.old.memory }
-    requires slot { s.old.slot < 2 ^ 62 }
-    ensures row { GivesState result (flat_state s.new) (mov_row bits f (flat_state s.old)) }
-    ensures sized { IsSized caps.now s.new.memory }
+/// What MOV gives, and MOVSX of a register.
+fn mov_value(bits: Bits, f: Slot, s: &FlatState) -> Option<u64>
+    ensures { sets f.dst (flat_state s.now) result ≡ mov_row bits f (flat_state s.now) }
 {
     if f.offset == 0 {
         let y = operand(f, s)?;
-        set(caps, s, f.dst, copied(bits, y))?;
-    } else {
-        if f.opcode / 8 % 2 != 1 || f.imm != 0 || !SignedMove::exists(bits, f.offset) {
-            return None;
-        }
-        let y = get(s, f.src)?;
-        let extension = SignedMove::selected(bits, f.offset);
-        set(caps, s, f.dst, sign_extended(extension, y))?;
+        return Some(copied(bits, y));
     }
-    s.slot += 1;
-    Some(())
+    if f.opcode / 8 % 2 != 1 || f.imm != 0 || !SignedMove::exists(bits, f.offset) {
+        return None;
+    }
+    let y = get(s, f.src)?;
+    Some(sign_extended(SignedMove::selected(bits, f.offset), y))
 }
 
-/// END: the order by the class and the source bit, the bits kept by the immediate.
-fn end_row(caps: &Caps, bits: Bits, f: Slot, s: &mut FlatState) -> Option<()>
-    requires sized { IsSized caps.now s.old.memory }
-    requires slot { s.old.slot < 2 ^ 62 }
-    ensures row { GivesState result (flat_state s.new) (end_row bits f (flat_state s.old)) }
-    ensures sized { IsSized caps.now s.new.memory }
+/// What END gives: the order by the class and the source bit, the bits kept by the immediate.
+fn end_value(bits: Bits, f: Slot, s: &FlatState) -> Option<u64>
+    ensures { sets f.dst (flat_state s.now) result ≡ end_row bits f (flat_state s.now) }
 {
     let order = ByteOrder::of(bits, f.opcode / 8 % 2)?;
     if f.src != 0 || f.offset != 0 || !EndWidth::exists(f.imm) {
         return None;
     }
     let x = get(s, f.dst)?;
-    set(caps, s, f.dst, ordered(order, EndWidth::selected(f.imm), x))?;
+    Some(ordered(order, EndWidth::selected(f.imm), x))
+}
+
+/// What an instruction of ALU and ALU64 gives.
+fn alu_value(bits: Bits, f: Slot, s: &FlatState) -> Option<u64>
+    ensures { sets f.dst (flat_state s.now) result ≡ alu_row bits f (flat_state s.now) }
+{
+    match f.opcode / 16 {
+        0x8 => neg_value(bits, f, s),
+        0xb => mov_value(bits, f, s),
+        0xd => end_value(bits, f, s),
+        _ => operation_value(bits, f, s),
+    }
+}
+
+/// Sets the destination to a value, and goes on at the next slot.
+fn set_and_go(dst: u8, value: Option<u64>, s: &mut FlatState) -> Option<()>
+    requires slot { s.old.slot < 2 ^ 62 }
+    ensures sets { GivesState result (flat_state s.new) (sets dst (flat_state s.old) value) }
+    ensures memory { s.new.memory ≡ s.old.memory }
+{
+    set(s, dst, value?)?;
     s.slot += 1;
     Some(())
 }
@@ -111,12 +113,8 @@ fn alu_row(caps: &Caps, bits: Bits, f: Slot, s: &mut FlatState) -> Option<()>
     ensures row { GivesState result (flat_state s.new) (alu_row bits f (flat_state s.old)) }
     ensures sized { IsSized caps.now s.new.memory }
 {
-    match f.opcode / 16 {
-        0x8 => neg_row(caps, bits, f, s),
-        0xb => mov_row(caps, bits, f, s),
-        0xd => end_row(caps, bits, f, s),
-        _ => operation_row(caps, bits, f, s),
-    }
+    let value = alu_value(bits, f, s);
+    set_and_go(f.dst, value, s)
 }
 
 /// The address that is offset from a base.
@@ -126,31 +124,38 @@ fn at_base(f: Slot, base: u64) -> u64
     base.wrapping_add(signed16(f.offset))
 }
 
-/// LDX in the mode MEM.
-fn mem_row(caps: &Caps, layout: &Layout, f: Slot, s: &mut FlatState) -> Option<()>
-    requires sized { IsSized caps.now s.old.memory }
-    requires slot { s.old.slot < 2 ^ 62 }
-    ensures row { GivesState result (flat_state s.new) (mem_row caps.now (layout_of layout.now) f (flat_state s.old)) }
-    ensures sized { IsSized caps.now s.new.memory }
+/// What LDX gives in the mode MEM.
+fn mem_value(caps: &Caps, layout: &Layout, f: Slot, s: &FlatState) -> Option<u64>
+    requires { IsSized caps.now s.now.memory }
+    ensures { sets f.dst (flat_state s.now) result ≡ mem_row caps.now (layout_of layout.now) f (flat_state s.now) }
 {
     let base = get(s, f.src)?;
-    load(caps, layout, width_of(f.opcode), f.dst, at_base(f, base), s)?;
-    s.slot += 1;
-    Some(())
+    load(caps, layout, width_of(f.opcode), at_base(f, base), s)
 }
 
-/// LDX in the mode MEMSX.
-fn memsx_row(caps: &Caps, layout: &Layout, f: Slot, s: &mut FlatState) -> Option<()>
-    requires sized { IsSized caps.now s.old.memory }
-    requires slot { s.old.slot < 2 ^ 62 }
-    ensures row { GivesState result (flat_state s.new) (memsx_row caps.now (layout_of layout.now) f (flat_state s.old)) }
-    ensures sized { IsSized caps.now s.new.memory }
+/// What LDX gives in the mode MEMSX.
+fn memsx_value(caps: &Caps, layout: &Layout, f: Slot, s: &FlatState) -> Option<u64>
+    requires { IsSized caps.now s.now.memory }
+    ensures { sets f.dst (flat_state s.now) result ≡ memsx_row caps.now (layout_of layout.now) f (flat_state s.now) }
 {
     let width = signed_width_of(f.opcode)?;
     let base = get(s, f.src)?;
-    load_signed(caps, layout, width, f.dst, at_base(f, base), s)?;
-    s.slot += 1;
-    Some(())
+    load_signed(caps, layout, width, at_base(f, base), s)
+}
+
+/// What LDX gives in the modes MEM and MEMSX.
+fn ldx_value(caps: &Caps, layout: &Layout, f: Slot, s: &FlatState) -> Option<u64>
+    requires { IsSized caps.now s.now.memory }
+    ensures { sets f.dst (flat_state s.now) result ≡ ldx_row caps.now (layout_of layout.now) f (flat_state s.now) }
+{
+    if f.imm != 0 {
+        return None;
+    }
+    match f.opcode / 32 {
+        3 => mem_value(caps, layout, f, s),
+        4 => memsx_value(caps, layout, f, s),
+        _ => None,
+    }
 }
 
 /// LDX in the modes MEM and MEMSX.
@@ -160,14 +165,27 @@ fn ldx_row(caps: &Caps, layout: &Layout, f: Slot, s: &mut FlatState) -> Option<(
     ensures row { GivesState result (flat_state s.new) (ldx_row caps.now (layout_of layout.now) f (flat_state s.old)) }
     ensures sized { IsSized caps.now s.new.memory }
 {
-    if f.imm != 0 {
-        return None;
-    }
-    match f.opcode / 32 {
-        3 => mem_row(caps, layout, f, s),
-        4 => memsx_row(caps, layout, f, s),
-        _ => None,
-    }
+    let value = ldx_value(caps, layout, f, s);
+    set_and_go(f.dst, value, s)
+}
+
+/// Stores a number at an offset from a base, and goes on at the next slot.
+fn store_and_go(
+    caps: &Caps,
+    layout: &Layout,
+    f: Slot,
+    base: u64,
+    value: u64,
+    s: &mut FlatState,
+) -> Option<()>
+    requires sized { IsSized caps.now s.old.memory }
+    requires slot { s.old.slot < 2 ^ 62 }
+    ensures stores { GivesState result (flat_state s.new) (flat_after caps.now (layout_of layout.now) (flat_state s.old) (store caps.now (layout_of layout.now) (width_of f.opcode) (at_base f base) value (flat_state s.old))) }
+    ensures sized { IsSized caps.now s.new.memory }
+{
+    store(caps, layout, width_of(f.opcode), at_base(f, base), value, s)?;
+    s.slot += 1;
+    Some(())
 }
 
 /// ST in the mode MEM.
@@ -181,16 +199,7 @@ fn st_row(caps: &Caps, layout: &Layout, f: Slot, s: &mut FlatState) -> Option<()
         return None;
     }
     let base = get(s, f.dst)?;
-    store(
-        caps,
-        layout,
-        width_of(f.opcode),
-        at_base(f, base),
-        signed32(f.imm),
-        s,
-    )?;
-    s.slot += 1;
-    Some(())
+    store_and_go(caps, layout, f, base, signed32(f.imm), s)
 }
 
 /// STX in the mode MEM.
@@ -205,17 +214,12 @@ fn stx_row(caps: &Caps, layout: &Layout, f: Slot, s: &mut FlatState) -> Option<(
     }
     let base = get(s, f.dst)?;
     let value = get(s, f.src)?;
-    store(caps, layout, width_of(f.opcode), at_base(f, base), value, s)?;
-    s.slot += 1;
-    Some(())
+    store_and_go(caps, layout, f, base, value, s)
 }
 
-/// The wide load of a number: the high half is the next slot's immediate.
-fn wide_row(caps: &Caps, f: Slot, next: Option<Slot>, s: &mut FlatState) -> Option<()>
-    requires sized { IsSized caps.now s.old.memory }
-    requires slot { s.old.slot < 2 ^ 62 }
-    ensures row { GivesState result (flat_state s.new) (wide_row f next (flat_state s.old)) }
-    ensures sized { IsSized caps.now s.new.memory }
+/// The number of a wide load: the high half is the next slot's immediate.
+fn wide_value(f: Slot, next: Option<Slot>) -> Option<u64>
+    ensures { (s : State ℕ) → sets_wide f.dst s result ≡ wide_row f next s }
 {
     if f.src != 0 || f.offset != 0 {
         return None;
@@ -224,8 +228,17 @@ fn wide_row(caps: &Caps, f: Slot, next: Option<Slot>, s: &mut FlatState) -> Opti
     if half.opcode != 0 || half.dst != 0 || half.src != 0 || half.offset != 0 {
         return None;
     }
-    let value = u64::from(f.imm) + 0x1_0000_0000 * u64::from(half.imm);
-    set(caps, s, f.dst, value)?;
+    Some(u64::from(f.imm) + 0x1_0000_0000 * u64::from(half.imm))
+}
+
+/// The wide load of a number.
+fn wide_row(caps: &Caps, f: Slot, next: Option<Slot>, s: &mut FlatState) -> Option<()>
+    requires sized { IsSized caps.now s.old.memory }
+    requires slot { s.old.slot < 2 ^ 62 }
+    ensures row { GivesState result (flat_state s.new) (wide_row f next (flat_state s.old)) }
+    ensures sized { IsSized caps.now s.new.memory }
+{
+    set(s, f.dst, wide_value(f, next)?)?;
     s.slot += 2;
     Some(())
 }

@@ -1,9 +1,8 @@
 ghost use Rattle.std.specs.Prelude.{◌≡◌, ◌<◌, ◌≤◌};
 ghost use Rattle.bpf_machine.specs.State.{reg, set_reg};
 ghost use Rattle.bpf_machine.specs.Helper.{answered};
-ghost use Rattle.bpf_machine.specs.inner.FlatState.{flat_state, GivesState, IsSized};
+ghost use Rattle.bpf_machine.specs.inner.FlatState.{flat_state, GivesState};
 
-use crate::caps::Caps;
 use crate::flat::memory::Regions;
 use txn::Staged;
 
@@ -33,11 +32,10 @@ pub fn get(s: &FlatState, register: u8) -> Option<u64>
 }
 
 /// A write of a register; none of register 10.
-pub fn set(caps: &Caps, s: &mut FlatState, register: u8, value: u64) -> Option<()>
-    requires { IsSized caps.now s.old.memory }
+pub fn set(s: &mut FlatState, register: u8, value: u64) -> Option<()>
     ensures set { GivesState result (flat_state s.new) (set_reg (flat_state s.old) register value) }
     ensures slot { s.new.slot ≡ s.old.slot }
-    ensures sized { IsSized caps.now s.new.memory }
+    ensures memory { s.new.memory ≡ s.old.memory }
 {
     if register < 10 {
         s.regs[usize::from(register)] = Some(value);

@@ -1,28 +1,27 @@
 ghost use Rattle.std.specs.Prelude.{◌≡◌, ◌+◌, ◌≤◌, ◌<◌, length};
 ghost use Rattle.helpers.specs.Table.{read_answer};
-ghost use Rattle.bpf_machine.specs.State.{put, size};
+ghost use Rattle.bpf_machine.specs.State.{written, put, size};
 ghost use Rattle.bpf_machine.specs.View.{layout_of};
-ghost use Rattle.bpf_machine.specs.inner.FlatState.{memory_of, flat_state, GivesState, IsSized, help_by};
+ghost use Rattle.bpf_machine.specs.inner.FlatState.{memory_of, flat_state, Answers, IsSized, helped};
 
 use crate::caps::Caps;
 use crate::flat::calls::arguments::{Range, number_and_room, text_and_room, text_in};
 use crate::flat::memory::{Regions, put_room};
-use crate::flat::state::{FlatState, answer, get};
+use crate::flat::state::{FlatState, get};
 use crate::layout::Layout;
 use bpf_decode::Region;
 use helpers::{Helper, Span};
 use txn::Staged;
 
-/// Helper 1, `stat`: the length of the object's data.
-pub fn stat(caps: &Caps, layout: &Layout, s: &mut FlatState) -> Option<()>
-    requires sized { IsSized caps.now s.old.memory }
-    ensures helped { GivesState result (flat_state s.new) (help_by caps.now (layout_of layout.now) Helper.Stat (flat_state s.old)) }
-    ensures slot { s.new.slot ≡ s.old.slot }
-    ensures sized { IsSized caps.now s.new.memory }
+/// The object's bytes from a place on, read over those at a place; and what `read` answers.
+fn read_over(staged: &Staged, at: u64, bytes: &mut Vec<u8>, room: Span) -> u64
+    requires inside { room.at + room.len ≤ length bytes.old.items }
+    requires some { 0 < room.len }
+    ensures answer { result ≡ (read_answer staged.entry.now.after at room.len).number }
+    ensures bytes { bytes.new.items ≡ written bytes.old.items room.at (read_answer staged.entry.now.after at room.len).bytes }
+    ensures long { length bytes.new.items ≡ length bytes.old.items }
 {
-    let number = helpers::stat(&s.object);
-    s.regs = answer(s.regs, number);
-    Some(())
+    helpers::read(staged, at, bytes, room)
 }
 
 /// The object's bytes from a place on, read into a region at a place; and what `read` answers.
@@ -42,80 +41,75 @@ fn read_into(
     ensures sized { IsSized caps.now memory.new }
 {
     match region {
-        Region::Input => helpers::read(staged, at, &mut memory.input, room),
-        Region::Output => helpers::read(staged, at, &mut memory.output, room),
-        Region::Stack => helpers::read(staged, at, &mut memory.stack, room),
+        Region::Input => read_over(staged, at, &mut memory.input, room),
+        Region::Output => read_over(staged, at, &mut memory.output, room),
+        Region::Stack => read_over(staged, at, &mut memory.stack, room),
     }
 }
 
 /// Helper 2, `read`: copies the object's bytes from a place on into a range.
-pub fn read(caps: &Caps, layout: &Layout, s: &mut FlatState) -> Option<()>
+pub fn read(caps: &Caps, layout: &Layout, s: &mut FlatState) -> Option<u64>
     requires sized { IsSized caps.now s.old.memory }
-    ensures helped { GivesState result (flat_state s.new) (help_by caps.now (layout_of layout.now) Helper.Read (flat_state s.old)) }
+    ensures helped { Answers result (flat_state s.new) (helped caps.now (layout_of layout.now) Helper.Read (flat_state s.old)) }
     ensures slot { s.new.slot ≡ s.old.slot }
     ensures sized { IsSized caps.now s.new.memory }
 {
     let (at, room) = number_and_room(caps, layout, s)?;
-    let number = match room.place {
-        None => helpers::read(&s.object, at, &mut [], Span { at: 0, len: 0 }),
+    match room.place {
+        None => Some(helpers::read(&s.object, at, &mut [], Span { at: 0, len: 0 })),
         Some((region, place)) => {
             let span = Span {
                 at: place as u64,
                 len: room.len,
             };
-            read_into(caps, &mut s.memory, region, span, &s.object, at)
+            Some(read_into(caps, &mut s.memory, region, span, &s.object, at))
         }
-    };
-    s.regs = answer(s.regs, number);
-    Some(())
+    }
 }
 
 /// Helper 6, `getxattr`: copies an xattr's value into a range.
-pub fn getxattr(caps: &Caps, layout: &Layout, s: &mut FlatState) -> Option<()>
+pub fn getxattr(caps: &Caps, layout: &Layout, s: &mut FlatState) -> Option<u64>
     requires sized { IsSized caps.now s.old.memory }
-    ensures helped { GivesState result (flat_state s.new) (help_by caps.now (layout_of layout.now) Helper.GetXattr (flat_state s.old)) }
+    ensures helped { Answers result (flat_state s.new) (helped caps.now (layout_of layout.now) Helper.GetXattr (flat_state s.old)) }
     ensures slot { s.new.slot ≡ s.old.slot }
     ensures sized { IsSized caps.now s.new.memory }
 {
     let (name, room) = text_and_room(caps, layout, s)?;
     let found = helpers::xattr_value(&s.object, text_in(&s.memory, name), room.len);
     put_room(caps, &mut s.memory, room.place, found.bytes);
-    s.regs = answer(s.regs, found.number);
-    Some(())
+    Some(found.number)
 }
 
 /// Helper 9, `map_get`: copies a key's value into a range.
-pub fn map_get(caps: &Caps, layout: &Layout, s: &mut FlatState) -> Option<()>
+pub fn map_get(caps: &Caps, layout: &Layout, s: &mut FlatState) -> Option<u64>
     requires sized { IsSized caps.now s.old.memory }
-    ensures helped { GivesState result (flat_state s.new) (help_by caps.now (layout_of layout.now) Helper.MapGet (flat_state s.old)) }
+    ensures helped { Answers result (flat_state s.new) (helped caps.now (layout_of layout.now) Helper.MapGet (flat_state s.old)) }
     ensures slot { s.new.slot ≡ s.old.slot }
     ensures sized { IsSized caps.now s.new.memory }
 {
     let (name, room) = text_and_room(caps, layout, s)?;
     let found = helpers::map_value(&s.object, text_in(&s.memory, name), room.len);
     put_room(caps, &mut s.memory, room.place, found.bytes);
-    s.regs = answer(s.regs, found.number);
-    Some(())
+    Some(found.number)
 }
 
 /// Helper 12, `map_next`: copies the least key above a range's bytes into a range.
-pub fn map_next(caps: &Caps, layout: &Layout, s: &mut FlatState) -> Option<()>
+pub fn map_next(caps: &Caps, layout: &Layout, s: &mut FlatState) -> Option<u64>
     requires sized { IsSized caps.now s.old.memory }
-    ensures helped { GivesState result (flat_state s.new) (help_by caps.now (layout_of layout.now) Helper.MapNext (flat_state s.old)) }
+    ensures helped { Answers result (flat_state s.new) (helped caps.now (layout_of layout.now) Helper.MapNext (flat_state s.old)) }
     ensures slot { s.new.slot ≡ s.old.slot }
     ensures sized { IsSized caps.now s.new.memory }
 {
     let (name, room) = text_and_room(caps, layout, s)?;
     let found = helpers::key_above(&s.object, text_in(&s.memory, name), room.len);
     put_room(caps, &mut s.memory, room.place, found.bytes);
-    s.regs = answer(s.regs, found.number);
-    Some(())
+    Some(found.number)
 }
 
 /// Helper 13, `out_len`: how much of the output region is output.
-pub fn out_len(caps: &Caps, layout: &Layout, s: &mut FlatState) -> Option<()>
+pub fn out_len(caps: &Caps, layout: &Layout, s: &mut FlatState) -> Option<u64>
     requires sized { IsSized caps.now s.old.memory }
-    ensures helped { GivesState result (flat_state s.new) (help_by caps.now (layout_of layout.now) Helper.OutLen (flat_state s.old)) }
+    ensures helped { Answers result (flat_state s.new) (helped caps.now (layout_of layout.now) Helper.OutLen (flat_state s.old)) }
     ensures slot { s.new.slot ≡ s.old.slot }
     ensures sized { IsSized caps.now s.new.memory }
 {
@@ -123,19 +117,5 @@ pub fn out_len(caps: &Caps, layout: &Layout, s: &mut FlatState) -> Option<()>
     if n > u64::from(caps.out_cap) {
         return None;
     }
-    let number = helpers::out_len(&mut s.out_len, n);
-    s.regs = answer(s.regs, number);
-    Some(())
-}
-
-/// Helper 15, `caller`: the client for whom the method runs.
-pub fn caller(caps: &Caps, layout: &Layout, s: &mut FlatState) -> Option<()>
-    requires sized { IsSized caps.now s.old.memory }
-    ensures helped { GivesState result (flat_state s.new) (help_by caps.now (layout_of layout.now) Helper.Caller (flat_state s.old)) }
-    ensures slot { s.new.slot ≡ s.old.slot }
-    ensures sized { IsSized caps.now s.new.memory }
-{
-    let number = helpers::caller(s.caller);
-    s.regs = answer(s.regs, number);
-    Some(())
+    Some(helpers::out_len(&mut s.out_len, n))
 }

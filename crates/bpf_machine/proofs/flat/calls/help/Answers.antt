@@ -1,12 +1,26 @@
-use Rattle.std.proofs.Common.{◌≡◌, Some, sym, subst, ◌∙◌}
-use Rattle.std.specs.Prelude.{IfOk}
+use Rattle.std.proofs.Common.{◌≡◌, Some, true, ap, sym, subst, ◌∙◌}
 use Rattle.helpers.specs.Table.{helper_of}
 use Rattle.bpf_machine.specs.View.{layout_of}
-use Rattle.bpf_machine.specs.inner.FlatState.{flat_state, GivesState}
+use Rattle.bpf_machine.specs.inner.FlatState.{flat_state, Answers, may_call, helped}
 use Rattle.bpf_machine.proofs.Table.{help_is}
 use Rattle.bpf_machine.proofs.flat.calls.help.Goals as goal
 
-pub returns-in-Some-clause-helped : goal.returns-in-Some-clause-helped
-returns-in-Some-clause-helped c =
-    let e : helper_of c.args.id ≡ Some c.in-Some.helper = sym c.of.ensures ∙ c.in-Some.is in
-    subst (λ step. IfOk c.help_by.result (λ o. GivesState o (flat_state c.help_by.new.s) step)) (sym (help_is c.args.caps.now (layout_of c.args.layout.now) c.args.id (flat_state c.args.s.now) c.in-Some.helper e)) c.help_by.ensures.helped
+pub returns-in-None-2-clause-helped : goal.returns-in-None-2-clause-helped
+returns-in-None-2-clause-helped c =
+    let caps = c.args.caps.now in
+    let lay = layout_of c.args.layout.now in
+    let s = flat_state c.args.s.now in
+    let h = c.in-Some.helper in
+    let leave : may_call caps c.args.id ≡ true = sym c.may_call.ensures ∙ c.if-not-may_call.false in
+    let named : helper_of c.args.id ≡ Some h = sym c.of.ensures ∙ c.in-Some.is in
+    help_is caps lay s c.args.id h leave named ∙ subst (λ o. Answers o (flat_state c.help_by.new.s) (helped caps lay h s)) c.in-None-2.is c.in_ok-help_by-in-Some.ensures.helped
+
+pub returns-in-Some-2-clause-helped : goal.returns-in-Some-2-clause-helped
+returns-in-Some-2-clause-helped c =
+    let caps = c.args.caps.now in
+    let lay = layout_of c.args.layout.now in
+    let s = flat_state c.args.s.now in
+    let h = c.in-Some.helper in
+    let leave : may_call caps c.args.id ≡ true = sym c.may_call.ensures ∙ c.if-not-may_call.false in
+    let named : helper_of c.args.id ≡ Some h = sym c.of.ensures ∙ c.in-Some.is in
+    help_is caps lay s c.args.id h leave named ∙ (subst (λ o. Answers o (flat_state c.help_by.new.s) (helped caps lay h s)) c.in-Some-2.is c.in_ok-help_by-in-Some.ensures.helped ∙ ap (λ t. Some t) (sym c.put_answer.ensures.state))
