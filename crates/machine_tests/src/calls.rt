@@ -22,3 +22,14 @@ fn call_f(
 ) -> Outcome {
     call(alloc, class, "f", object, 7, input).expect(rt, "an answer")
 }
+
+/// The same of a class that is used once.
+fn call_once(
+    rt: &impl Abort,
+    alloc: Global,
+    class: VerifiedClass,
+    object: Option<&Object>,
+    input: &[u8],
+) -> Outcome {
+    call_f(rt, alloc, &class, object, input)
+}

@@ -10,7 +10,7 @@ use crate::contents::same;
 use bpf_machine::{Caps, Ending, Layout, flat_run, is_layout};
 use interp::{Outcome, call};
 use object_store::Object;
-use std::alloc::{AllocError, Global};
+use std::alloc::Global;
 use std::process::Abort;
 use verifier::{VerifiedClass, verify};
 
@@ -29,8 +29,9 @@ fn slot(opcode: u8, registers: u8, offset: i16, imm: i32) -> [u8; 8] {
 }
 
 /// Puts slots behind a code.
-fn put(code: &mut Vec<u8>, slots: &[[u8; 8]]) -> Result<(), AllocError> {
+fn put(rt: &impl Abort, code: &mut Vec<u8>, slots: &[[u8; 8]]) {
     code.extend_from_slice(slots.as_flattened())
+        .expect(rt, "memory");
 }
 
 /// The class of that code, where it is safe.
@@ -83,6 +84,20 @@ fn ending_of(
     flat_run(alloc, &CAPS, code, &layout, object, 7, input, 100).expect(rt, "memory")
 }
 
+/// Whether a call answered as the plain run of a code ends in that layout.
+fn is_plain_run(
+    rt: &impl Abort,
+    alloc: Global,
+    outcome: &Outcome,
+    code: &[u8],
+    layout: Layout,
+    object: Option<&Object>,
+    input: &[u8],
+) -> bool {
+    let ending = ending_of(rt, alloc, code, layout, object, input);
+    is_ending(rt, alloc, object, outcome, &ending)
+}
+
 /// Whether a call of a method, which has that code, answers as the plain run of the code does in that layout.
 fn agrees(
     rt: &impl Abort,
@@ -94,6 +109,5 @@ fn agrees(
     input: &[u8],
 ) -> bool {
     let outcome = call(alloc, class, "f", object, 7, input).expect(rt, "an answer");
-    let ending = ending_of(rt, alloc, code, layout, object, input);
-    is_ending(rt, alloc, object, &outcome, &ending)
+    is_plain_run(rt, alloc, &outcome, code, layout, object, input)
 }

@@ -1,6 +1,6 @@
 //! Objects by what they hold.
 
-use object_store::{Object, StoreError, calls};
+use object_store::{Object, calls};
 use std::alloc::Global;
 use std::process::Abort;
 use txn::Change;
@@ -23,23 +23,45 @@ pub const NOTHING: Contents = Contents {
     keys: &[],
 };
 
+/// The object with that xattr.
+pub fn with_xattr(
+    rt: &impl Abort,
+    alloc: Global,
+    object: Object,
+    name: &[u8],
+    value: &[u8],
+) -> Object {
+    calls::set_xattr(alloc, Some(&object), name, value).expect(rt, "an xattr")
+}
+
+/// The object with that key.
+pub fn with_key(
+    rt: &impl Abort,
+    alloc: Global,
+    object: Object,
+    key: &[u8],
+    value: &[u8],
+) -> Object {
+    calls::set_key(alloc, Some(&object), key, value).expect(rt, "a key")
+}
+
 /// The object that holds those.
-pub fn object_of(alloc: Global, contents: &Contents) -> Result<Object, StoreError> {
-    let mut object = calls::write(alloc, None, 0, contents.data)?;
+pub fn object_of(rt: &impl Abort, alloc: Global, contents: &Contents) -> Object {
+    let mut object = calls::write(alloc, None, 0, contents.data).expect(rt, "an object");
     for (name, value) in contents.xattrs {
-        object = calls::set_xattr(alloc, Some(&object), name, value)?;
+        object = with_xattr(rt, alloc, object, name, value);
     }
     for (key, value) in contents.keys {
-        object = calls::set_key(alloc, Some(&object), key, value)?;
+        object = with_key(rt, alloc, object, key, value);
     }
-    Ok(object)
+    object
 }
 
 /// The object that holds those, or none.
 pub fn made(rt: &impl Abort, alloc: Global, contents: Option<Contents>) -> Option<Object> {
     match contents {
         None => None,
-        Some(contents) => Some(object_of(alloc, &contents).expect(rt, "an object")),
+        Some(contents) => Some(object_of(rt, alloc, &contents)),
     }
 }
 

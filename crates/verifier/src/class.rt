@@ -1,12 +1,13 @@
-ghost use Rattle.std.specs.Prelude.{◌≡◌, ◌⊎◌, IfOk, IfErr, Some, None};
+ghost use Rattle.std.specs.Prelude.{◌≡◌, ◌⊎◌, ◌++◌, ◌∷◌, [], IfOk, IfErr, OnOk, Some, None};
+ghost use Rattle.bpf_decode.specs.Class.{IsMethod};
 ghost use Rattle.std.specs.List.{AllByRecursion};
 ghost use Rattle.bpf_machine.specs.Safe.{IsSafe};
-ghost use Rattle.verifier.specs.Verdict.{class_verdict, out_of_memory, IsDeserved};
+ghost use Rattle.verifier.specs.Verdict.{class_verdict, method_verdict, out_of_memory, IsDeserved, IsFirst};
 
 use crate::method::verify_method;
 use crate::refusal::Refusal;
-use crate::verified::VerifiedClass;
-use bpf_decode::ClassImage;
+use crate::verified::{VerifiedClass, VerifiedMethod};
+use bpf_decode::{ClassImage, Method};
 use std::alloc::Global;
 
 /// Accepts a class, each of whose methods then runs to its exit on every object and input, or gives the first refusal:
@@ -23,7 +24,24 @@ pub fn verify(alloc: Global, image: &ClassImage) -> Result<VerifiedClass, Refusa
 {
     let mut methods = Vec::new(alloc);
     for (number, method) in image.methods().iter().enumerate() {
-        methods.push(verify_method(alloc, number, method)?)?;
+        push_verified(alloc, &mut methods, number, method)?;
     }
     Ok(VerifiedClass::new(methods))
+}
+
+/// Verifies the method of a number, and puts it behind those before it.
+fn push_verified(
+    alloc: Global,
+    methods: &mut Vec<VerifiedMethod>,
+    number: usize,
+    method: &Method,
+) -> Result<(), Refusal>
+    requires { IsMethod method.now }
+    ensures pushed { OnOk result (methods.new.items ≡ methods.old.items ++ method.now ∷ []) }
+    ensures safe { IfOk result (λ _. IsSafe method.now) }
+    ensures accepted { IfOk result (λ _. method_verdict method.now ≡ None) }
+    ensures refused { IfErr result (λ r. (r ≡ out_of_memory) ⊎ IsFirst number method.now r) }
+{
+    let verified = verify_method(alloc, number, method)?;
+    Ok(methods.push(verified)?)
 }

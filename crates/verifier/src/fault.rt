@@ -7,7 +7,7 @@ use bpf_machine::Caps;
 use helpers::{Argument, signature};
 
 /// What may be wrong with an argument of a helper.
-#[derive(Clone, Copy, Debug, PartialEq, Eq)]
+#[derive(Clone, Copy)]
 pub enum Fault {
     NotSet,
     OutOfRegion,

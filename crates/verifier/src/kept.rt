@@ -24,7 +24,6 @@ impl Model for Kept {
 
 impl Kept {
     /// None, of so many slots.
-    #[tactic(auto, using(crate::proofs::Boxes::unboxed_none))]
     pub fn new(alloc: Global, slots: usize) -> Result<Kept, AllocError>
         ensures { IfOk result (λ k. k ≡ replicate slots None) }
     {

@@ -35,14 +35,7 @@ pub fn first_refusal(
     ensures sound { IfOk result (λ r. r ≡ None → AllSound caps.now code.now) }
 {
     let mut pass = Pass::new(alloc, caps, code.len())?;
-    for (slot, begun) in code.iter().enumerate() {
-        if let Some(insn) = begun {
-            if let Some(rule) = pass.visit(alloc, caps, code, slot, insn)? {
-                return Ok(Some((slot, rule)));
-            }
-        }
-    }
-    Ok(None)
+    pass.run(alloc, caps, code)
 }
 
 impl Pass {
@@ -57,6 +50,31 @@ impl Pass {
             landing: 0,
             kept: Kept::new(alloc, slots)?,
         })
+    }
+
+    /// Goes over all slots, up to the first that is refused.
+    fn run(
+        &mut self,
+        alloc: Global,
+        caps: &Caps,
+        code: &[Option<Insn>],
+    ) -> Result<Option<(usize, Rule)>, AllocError>
+        requires small { length code.now < 2 ^ 62 }
+        requires spaced { IsSpaced code.now }
+        requires kept { self.old.kept ≡ replicate (length code.now) None }
+        requires current { self.old.current ≡ Some (entry caps.now) }
+        requires landing { self.old.landing ≡ 0 }
+        ensures verdict { IfOk result (λ r. r ≡ code_verdict caps.now code.now) }
+        ensures sound { IfOk result (λ r. r ≡ None → AllSound caps.now code.now) }
+    {
+        for (slot, begun) in code.iter().enumerate() {
+            if let Some(insn) = begun {
+                if let Some(rule) = self.visit(alloc, caps, code, slot, insn)? {
+                    return Ok(Some((slot, rule)));
+                }
+            }
+        }
+        Ok(None)
     }
 
     /// One slot: the rule that refuses its instruction, or its frame flows on.

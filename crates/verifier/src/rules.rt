@@ -87,8 +87,7 @@ fn begins_at(code: &[Option<Insn>], slot: usize) -> bool
     ensures { result ≡ begins_at code.now slot }
 {
     match code.get(slot) {
-        Some(Some(_)) => true,
-        Some(None) => false,
+        Some(begun) => begun.is_some(),
         None => false,
     }
 }

@@ -1,36 +1,44 @@
 //! Each helper's answers, and what it leaves.
 
-use super::call_f;
+use super::call_once;
 use crate::classes::class_of;
 use crate::contents::{Contents, NOTHING, Pair, is_change, made};
 use interp::Outcome;
 use object_store::Object;
-use std::alloc::{AllocError, Global};
+use std::alloc::Global;
 use std::process::Abort;
+use verifier::VerifiedClass;
 
-/// An argument of a helper: a number, so many bytes from a place of the input on, or of the output.
+/// An argument of a helper: none, a number, so many bytes from a place of the input on, or of the output.
 #[derive(Clone, Copy)]
 enum Argument {
+    Nothing,
     Number(i32),
     Input(i32, i32),
     Output(i32),
 }
 
-use Argument::{Input, Number, Output};
+use Argument::{Input, Nothing, Number, Output};
 
-/// What a call leaves.
+/// What a call leaves: what it was beside, or nothing, or an object with other data, xattrs or keys. One that it creates
+/// has nothing else.
 #[derive(Clone, Copy)]
 enum After {
     Same,
-    Is(Option<Contents>),
+    Removed,
+    Data(&'static [u8]),
+    Xattrs(&'static [Pair]),
+    Keys(&'static [Pair]),
 }
+
+use After::{Data, Keys, Removed, Xattrs};
 
 /// A call of a helper beside the object `THERE` or none, its answer, the output and the object afterwards.
 #[derive(Clone, Copy)]
 struct Row {
     is_there: bool,
     id: i32,
-    arguments: &'static [Argument],
+    arguments: [Argument; 2],
     answer: i64,
     output: &'static [u8],
     after: After,
@@ -45,17 +53,11 @@ const THERE: Contents = Contents {
     keys: &[(b"a", b"1"), (b"c", b"22")],
 };
 
-const RENEWED: &[Pair] = &[(b"n", b"123")];
-
-const TWO: &[Pair] = &[(b"m", b""), (b"n", b"value")];
-
-const THREE: &[Pair] = &[(b"a", b"1"), (b"b", b"23"), (b"c", b"22")];
-
 /// A call beside `THERE` that changes nothing and puts nothing out.
 const BESIDE: Row = Row {
     is_there: true,
     id: 0,
-    arguments: &[],
+    arguments: [Nothing; 2],
     answer: 0,
     output: b"",
     after: After::Same,
@@ -87,7 +89,7 @@ macro_rules! leaves {
             id: $id,
             arguments: $arguments,
             answer: $answer,
-            after: After::Is($after),
+            after: $after,
             ..BESIDE
         }
     };
@@ -112,7 +114,7 @@ macro_rules! creates {
             id: $id,
             arguments: $arguments,
             answer: $answer,
-            after: After::Is(Some($after)),
+            after: $after,
             ..ABSENT
         }
     };
@@ -120,159 +122,81 @@ macro_rules! creates {
 
 static ROWS: [Row; 52] = [
     // stat
-    there!(1, &[], 5, b""),
-    absent!(1, &[], -2),
+    there!(1, [Nothing; 2], 5, b""),
+    absent!(1, [Nothing; 2], -2),
     // read
-    there!(2, &[Number(1), Output(3)], 3, b"ell"),
-    there!(2, &[Number(3), Output(8)], 2, b"lo"),
-    there!(2, &[Number(9), Output(8)], 0, b""),
-    absent!(2, &[Number(0), Output(8)], -2),
+    there!(2, [Number(1), Output(3)], 3, b"ell"),
+    there!(2, [Number(3), Output(8)], 2, b"lo"),
+    there!(2, [Number(9), Output(8)], 0, b""),
+    absent!(2, [Number(0), Output(8)], -2),
     // write
-    leaves!(
-        3,
-        &[Number(4), Input(5, 3)],
-        3,
-        Some(Contents {
-            data: b"hell123",
-            ..THERE
-        })
-    ),
-    creates!(
-        3,
-        &[Number(2), Input(0, 1)],
-        1,
-        Contents {
-            data: b"\0\0n",
-            ..NOTHING
-        }
-    ),
-    creates!(3, &[Number(65_536), Input(0, 0)], 0, NOTHING),
-    absent!(3, &[Number(65_537), Input(0, 0)], -27),
-    absent!(3, &[Number(-1), Input(0, 1)], -27),
+    leaves!(3, [Number(4), Input(5, 3)], 3, Data(b"hell123")),
+    creates!(3, [Number(2), Input(0, 1)], 1, Data(b"\0\0n")),
+    creates!(3, [Number(65_536), Input(0, 0)], 0, Data(b"")),
+    absent!(3, [Number(65_537), Input(0, 0)], -27),
+    absent!(3, [Number(-1), Input(0, 1)], -27),
     // truncate
-    leaves!(
-        4,
-        &[Number(2)],
-        0,
-        Some(Contents {
-            data: b"he",
-            ..THERE
-        })
-    ),
-    leaves!(
-        4,
-        &[Number(7)],
-        0,
-        Some(Contents {
-            data: b"hello\0\0",
-            ..THERE
-        })
-    ),
-    there!(4, &[Number(65_537)], -27, b""),
-    absent!(4, &[Number(65_537)], -27),
-    absent!(4, &[Number(0)], -2),
+    leaves!(4, [Number(2), Nothing], 0, Data(b"he")),
+    leaves!(4, [Number(7), Nothing], 0, Data(b"hello\0\0")),
+    there!(4, [Number(65_537), Nothing], -27, b""),
+    absent!(4, [Number(65_537), Nothing], -27),
+    absent!(4, [Number(0), Nothing], -2),
     // remove
-    leaves!(5, &[], 0, None),
-    absent!(5, &[], -2),
+    leaves!(5, [Nothing; 2], 0, Removed),
+    absent!(5, [Nothing; 2], -2),
     // getxattr
-    there!(6, &[Input(0, 1), Output(8)], 5, b"value"),
-    there!(6, &[Input(0, 1), Output(4)], -34, b""),
-    there!(6, &[Input(1, 1), Output(8)], -61, b""),
-    there!(6, &[Input(0, 0), Output(8)], -22, b""),
-    absent!(6, &[Input(0, 1), Output(8)], -2),
+    there!(6, [Input(0, 1), Output(8)], 5, b"value"),
+    there!(6, [Input(0, 1), Output(4)], -34, b""),
+    there!(6, [Input(1, 1), Output(8)], -61, b""),
+    there!(6, [Input(0, 0), Output(8)], -22, b""),
+    absent!(6, [Input(0, 1), Output(8)], -2),
     // setxattr
+    leaves!(7, [Input(0, 1), Input(5, 3)], 0, Xattrs(&[(b"n", b"123")])),
     leaves!(
         7,
-        &[Input(0, 1), Input(5, 3)],
+        [Input(1, 1), Input(7, 0)],
         0,
-        Some(Contents {
-            xattrs: RENEWED,
-            ..THERE
-        })
+        Xattrs(&[(b"m", b""), (b"n", b"value")])
     ),
-    leaves!(
-        7,
-        &[Input(1, 1), Input(7, 0)],
-        0,
-        Some(Contents {
-            xattrs: TWO,
-            ..THERE
-        })
-    ),
-    creates!(
-        7,
-        &[Input(0, 2), Input(7, 1)],
-        0,
-        Contents {
-            xattrs: &[(b"nm", b"3")],
-            ..NOTHING
-        }
-    ),
-    absent!(7, &[Input(0, 0), Input(7, 1)], -22),
+    creates!(7, [Input(0, 2), Input(7, 1)], 0, Xattrs(&[(b"nm", b"3")])),
+    absent!(7, [Input(0, 0), Input(7, 1)], -22),
     // rmxattr
-    leaves!(
-        8,
-        &[Input(0, 1)],
-        0,
-        Some(Contents {
-            xattrs: &[],
-            ..THERE
-        })
-    ),
-    there!(8, &[Input(2, 1)], -61, b""),
-    there!(8, &[Input(0, 0)], -22, b""),
-    absent!(8, &[Input(0, 1)], -2),
+    leaves!(8, [Input(0, 1), Nothing], 0, Xattrs(&[])),
+    there!(8, [Input(2, 1), Nothing], -61, b""),
+    there!(8, [Input(0, 0), Nothing], -22, b""),
+    absent!(8, [Input(0, 1), Nothing], -2),
     // map_get
-    there!(9, &[Input(3, 1), Output(2)], 2, b"22"),
-    there!(9, &[Input(3, 1), Output(1)], -34, b""),
-    there!(9, &[Input(4, 1), Output(2)], -61, b""),
-    absent!(9, &[Input(3, 1), Output(2)], -2),
+    there!(9, [Input(3, 1), Output(2)], 2, b"22"),
+    there!(9, [Input(3, 1), Output(1)], -34, b""),
+    there!(9, [Input(4, 1), Output(2)], -61, b""),
+    absent!(9, [Input(3, 1), Output(2)], -2),
     // map_set
     leaves!(
         10,
-        &[Input(4, 1), Input(6, 2)],
+        [Input(4, 1), Input(6, 2)],
         0,
-        Some(Contents {
-            keys: THREE,
-            ..THERE
-        })
+        Keys(&[(b"a", b"1"), (b"b", b"23"), (b"c", b"22")])
     ),
-    creates!(
-        10,
-        &[Input(4, 1), Input(6, 2)],
-        0,
-        Contents {
-            keys: &[(b"b", b"23")],
-            ..NOTHING
-        }
-    ),
-    there!(10, &[Input(4, 0), Input(6, 2)], -22, b""),
+    creates!(10, [Input(4, 1), Input(6, 2)], 0, Keys(&[(b"b", b"23")])),
+    there!(10, [Input(4, 0), Input(6, 2)], -22, b""),
     // map_rm
-    leaves!(
-        11,
-        &[Input(2, 1)],
-        0,
-        Some(Contents {
-            keys: &[(b"c", b"22")],
-            ..THERE
-        })
-    ),
-    there!(11, &[Input(4, 1)], -61, b""),
-    absent!(11, &[Input(2, 1)], -2),
+    leaves!(11, [Input(2, 1), Nothing], 0, Keys(&[(b"c", b"22")])),
+    there!(11, [Input(4, 1), Nothing], -61, b""),
+    absent!(11, [Input(2, 1), Nothing], -2),
     // map_next
-    there!(12, &[Input(0, 0), Output(1)], 1, b"a"),
-    there!(12, &[Input(2, 1), Output(1)], 1, b"c"),
-    there!(12, &[Input(4, 1), Output(1)], 1, b"c"),
-    there!(12, &[Input(3, 1), Output(8)], -61, b""),
-    there!(12, &[Input(2, 1), Output(0)], -34, b""),
-    absent!(12, &[Input(0, 0), Output(8)], -2),
+    there!(12, [Input(0, 0), Output(1)], 1, b"a"),
+    there!(12, [Input(2, 1), Output(1)], 1, b"c"),
+    there!(12, [Input(4, 1), Output(1)], 1, b"c"),
+    there!(12, [Input(3, 1), Output(8)], -61, b""),
+    there!(12, [Input(2, 1), Output(0)], -34, b""),
+    absent!(12, [Input(0, 0), Output(8)], -2),
     // create
-    there!(14, &[Number(0)], 0, b""),
-    there!(14, &[Number(1)], -17, b""),
-    creates!(14, &[Number(1)], 0, NOTHING),
+    there!(14, [Number(0), Nothing], 0, b""),
+    there!(14, [Number(1), Nothing], -17, b""),
+    creates!(14, [Number(1), Nothing], 0, Data(b"")),
     // caller
-    there!(15, &[], 7, b""),
-    absent!(15, &[], 7),
+    there!(15, [Nothing; 2], 7, b""),
+    absent!(15, [Nothing; 2], 7),
 ];
 
 /// One slot: opcode, registers and immediate.
@@ -282,38 +206,67 @@ fn slot(opcode: u8, registers: u8, imm: i32) -> [u8; 8] {
 }
 
 /// Puts an argument into registers from one on, and gives the next one.
-fn put(code: &mut Vec<u8>, register: u8, argument: Argument) -> Result<u8, AllocError> {
+fn put_argument(rt: &impl Abort, code: &mut Vec<u8>, register: u8, argument: Argument) -> u8 {
     let next = register.wrapping_add(1);
-    let (base, at, len) = match argument {
+    match argument {
+        Nothing => register,
         Number(number) => {
-            code.extend_from_slice(&slot(0xb7, register, number))?;
-            return Ok(next);
+            put(rt, code, &[slot(0xb7, register, number)]);
+            next
         }
-        Input(at, len) => (0x60u8, at, len),
-        Output(len) => (0x70, 0, len),
-    };
-    code.extend_from_slice(&slot(0xbf, base | register, 0))?;
-    code.extend_from_slice(&slot(0x07, register, at))?;
-    code.extend_from_slice(&slot(0xb7, next, len))?;
-    Ok(next.wrapping_add(1))
+        Input(at, len) => put_range(rt, code, register, 0x60, at, len),
+        Output(len) => put_range(rt, code, register, 0x70, 0, len),
+    }
+}
+
+/// Puts a range into a register and the next, so many bytes from a place of a register's region on. It gives the one
+/// behind them.
+fn put_range(rt: &impl Abort, code: &mut Vec<u8>, register: u8, base: u8, at: i32, len: i32) -> u8 {
+    let next = register.wrapping_add(1);
+    put(
+        rt,
+        code,
+        &[
+            slot(0xbf, base | register, 0),
+            slot(0x07, register, at),
+            slot(0xb7, next, len),
+        ],
+    );
+    next.wrapping_add(1)
+}
+
+/// Puts slots behind a code.
+fn put(rt: &impl Abort, code: &mut Vec<u8>, slots: &[[u8; 8]]) {
+    code.extend_from_slice(slots.as_flattened())
+        .expect(rt, "memory");
+}
+
+/// Puts the row's arguments into registers from 1 on.
+fn put_arguments(rt: &impl Abort, code: &mut Vec<u8>, row: &Row) {
+    let mut register = 1;
+    for argument in &row.arguments {
+        register = put_argument(rt, code, register, *argument);
+    }
 }
 
 /// A method that calls the helper, answers what it answered, and puts out as much as the row says.
-fn code_of(alloc: Global, row: &Row) -> Result<Vec<u8>, AllocError> {
+fn code_of(rt: &impl Abort, alloc: Global, row: &Row) -> Vec<u8> {
     let mut code = Vec::new(alloc);
-    code.extend_from_slice(&slot(0xbf, 0x16, 0))?;
-    code.extend_from_slice(&slot(0xbf, 0x37, 0))?;
-    let mut register = 1;
-    for argument in row.arguments {
-        register = put(&mut code, register, *argument)?;
-    }
-    code.extend_from_slice(&slot(0x85, 0, row.id))?;
-    code.extend_from_slice(&slot(0xbf, 0x08, 0))?;
-    code.extend_from_slice(&slot(0xb7, 1, (row.output.len() % 256) as i32))?;
-    code.extend_from_slice(&slot(0x85, 0, 13))?;
-    code.extend_from_slice(&slot(0xbf, 0x80, 0))?;
-    code.extend_from_slice(&slot(0x95, 0, 0))?;
-    Ok(code)
+    put(rt, &mut code, &[slot(0xbf, 0x16, 0), slot(0xbf, 0x37, 0)]);
+    put_arguments(rt, &mut code, row);
+    put(
+        rt,
+        &mut code,
+        &[
+            slot(0x85, 0, row.id),
+            slot(0xbf, 0x08, 0),
+            slot(0xb7, 1, (row.output.len() % 256) as i32),
+            slot(0x85, 0, 13),
+            slot(0xbf, 0x80, 0),
+            slot(0x95, 0, 0),
+        ],
+    );
+    code
 }
 
 /// What a row's call is beside.
@@ -323,9 +276,13 @@ fn object_before(row: &Row) -> Option<Contents> {
 
 /// What a row's call leaves.
 fn object_after(row: &Row) -> Option<Contents> {
+    let others = if row.is_there { THERE } else { NOTHING };
     match row.after {
         After::Same => object_before(row),
-        After::Is(contents) => contents,
+        Removed => None,
+        Data(data) => Some(Contents { data, ..others }),
+        Xattrs(xattrs) => Some(Contents { xattrs, ..others }),
+        Keys(keys) => Some(Contents { keys, ..others }),
     }
 }
 
@@ -342,11 +299,16 @@ fn is_answer(rt: &impl Abort, alloc: Global, outcome: &Outcome, row: &Row) -> bo
         )
 }
 
+/// The class of that method.
+fn class_of_row(rt: &impl Abort, alloc: Global, row: &Row) -> VerifiedClass {
+    let code = code_of(rt, alloc, row);
+    class_of(rt, alloc, &code, 3, 8, 8)
+}
+
 /// Whether a call beside that object answers so.
 fn answers_beside(rt: &impl Abort, alloc: Global, object: Option<&Object>, row: &Row) -> bool {
-    let code = code_of(alloc, row).expect(rt, "memory");
-    let class = class_of(rt, alloc, &code, 3, 8, 8);
-    is_answer(rt, alloc, &call_f(rt, alloc, &class, object, &INPUT), row)
+    let class = class_of_row(rt, alloc, row);
+    is_answer(rt, alloc, &call_once(rt, alloc, class, object, &INPUT), row)
 }
 
 /// Whether a call answers so.
@@ -369,5 +331,5 @@ fn first_wrong(rt: &impl Abort, alloc: Global, rows: &[Row]) -> Option<usize> {
 
 #[test]
 fn each_helper(rt: HostRuntime) {
-    assert_eq!(rt; first_wrong(&rt, rt.alloc(), &ROWS), None);
+    assert!(rt; first_wrong(&rt, rt.alloc(), &ROWS).is_none());
 }

@@ -1,6 +1,6 @@
 //! A call at all limits at once: input and output of 4,096 bytes, and an object that is written to 65,536 bytes.
 
-use super::call_f;
+use super::call_once;
 use crate::classes::class_of;
 use interp::Outcome;
 use object_store::{DATA_LIMIT, Object, calls};
@@ -25,9 +25,9 @@ const LONGEST: [u8; 88] = [
 
 /// What `LONGEST` answers on 4,096 bytes of 0x5a.
 fn longest(rt: &impl Abort, alloc: Global, object: Option<&Object>) -> Outcome {
-    let class = class_of(rt, alloc, &LONGEST, 2, 4096, 4096);
     let input = [0x5a].repeat(alloc, 4096).expect(rt, "memory");
-    call_f(rt, alloc, &class, object, &input)
+    let class = class_of(rt, alloc, &LONGEST, 2, 4096, 4096);
+    call_once(rt, alloc, class, object, &input)
 }
 
 /// Whether those bytes begin by so many of the one byte, and the rest are of the other.
@@ -39,11 +39,17 @@ fn begins(bytes: &[u8], first: u8, count: usize, then: u8) -> bool {
     all
 }
 
+/// Whether an outcome's output is 4,095 zeros and a byte of 0x5a.
+fn has_all_output(outcome: &Outcome) -> bool {
+    outcome.code == 4096
+        && outcome.steps == 11
+        && outcome.output.len() == 4096
+        && begins(&outcome.output, 0, 4095, 0x5a)
+}
+
 #[test]
 fn a_call_has_all_output(rt: HostRuntime) {
-    let outcome = longest(&rt, rt.alloc(), None);
-    assert!(rt; outcome.code == 4096 && outcome.steps == 11 && outcome.output.len() == 4096);
-    assert!(rt; begins(&outcome.output, 0, 4095, 0x5a));
+    assert!(rt; has_all_output(&longest(&rt, rt.alloc(), None)));
 }
 
 /// Whether an object has 65,536 bytes, which begin by so many of the one byte, and the rest are of the other.
@@ -54,21 +60,23 @@ fn is_full(
     first: u8,
     count: usize,
 ) -> bool {
-    let mut data = Vec::from_elem(alloc, 0u8, DATA_LIMIT).expect(rt, "memory");
     match object {
         None => false,
         Some(object) => {
-            let read = object.read(0, &mut data);
-            read == DATA_LIMIT && begins(&data, first, count, 0x5a)
+            let mut data = Vec::from_elem(alloc, 0u8, DATA_LIMIT).expect(rt, "memory");
+            object.read(0, &mut data) == DATA_LIMIT && begins(&data, first, count, 0x5a)
         }
     }
 }
 
+/// Whether a call beside no object left a full one.
+fn has_grown(rt: &impl Abort, alloc: Global, outcome: &Outcome) -> bool {
+    outcome.change.before.is_none() && is_full(rt, alloc, outcome.change.after.as_ref(), 0, 61_440)
+}
+
 #[test]
 fn an_object_grows_to_its_limit(rt: HostRuntime) {
-    let outcome = longest(&rt, rt.alloc(), None);
-    assert!(rt; outcome.change.before.is_none());
-    assert!(rt; is_full(&rt, rt.alloc(), outcome.change.after.as_ref(), 0, 61_440));
+    assert!(rt; has_grown(&rt, rt.alloc(), &longest(&rt, rt.alloc(), None)));
 }
 
 /// The object of 65,536 bytes of 0x33.
@@ -77,17 +85,14 @@ fn full(rt: &impl Abort, alloc: Global) -> Object {
     calls::write(alloc, None, 0, &bytes).expect(rt, "an object")
 }
 
+/// Whether a call beside that object left it, and another full one.
+fn has_shared(rt: &impl Abort, alloc: Global, outcome: &Outcome) -> bool {
+    is_full(rt, alloc, outcome.change.before.as_ref(), 0x33, DATA_LIMIT)
+        && is_full(rt, alloc, outcome.change.after.as_ref(), 0x33, 61_440)
+}
+
 #[test]
 fn a_full_object_is_shared(rt: HostRuntime) {
-    let outcome = longest(&rt, rt.alloc(), Some(&full(&rt, rt.alloc())));
-    assert!(rt;
-        is_full(
-            &rt,
-            rt.alloc(),
-            outcome.change.before.as_ref(),
-            0x33,
-            DATA_LIMIT
-        )
-    );
-    assert!(rt; is_full(&rt, rt.alloc(), outcome.change.after.as_ref(), 0x33, 61_440));
+    let object = full(&rt, rt.alloc());
+    assert!(rt; has_shared(&rt, rt.alloc(), &longest(&rt, rt.alloc(), Some(&object))));
 }

@@ -1,9 +1,11 @@
 //! What single operations answer by RFC 9669.
 
-use super::call_f;
+use super::call_once;
 use crate::classes::class_of;
+use interp::Outcome;
 use std::alloc::Global;
 use std::process::Abort;
+use verifier::VerifiedClass;
 
 /// What is computed, the code's slots, the code that the method gives, and its steps.
 type Row = (&'static str, &'static [u8], i64, usize);
@@ -91,18 +93,29 @@ static ROWS: [Row; 10] = [
     ),
 ];
 
-/// What a method of those slots and an `exit` answers, and its steps.
-fn answer(rt: &impl Abort, alloc: Global, slots: &[u8]) -> (i64, usize) {
+/// The class of a method of those slots and an `exit`.
+fn class_of_slots(rt: &impl Abort, alloc: Global, slots: &[u8]) -> VerifiedClass {
     let mut code = Vec::from_slice(alloc, slots).expect(rt, "memory");
     code.extend_from_slice(&EXIT).expect(rt, "memory");
-    let class = class_of(rt, alloc, &code, 1, 0, 0);
-    let outcome = call_f(rt, alloc, &class, None, &[]);
-    (outcome.code, outcome.steps)
+    class_of(rt, alloc, &code, 1, 0, 0)
+}
+
+/// What that method answers.
+fn answer(rt: &impl Abort, alloc: Global, slots: &[u8]) -> Outcome {
+    call_once(rt, alloc, class_of_slots(rt, alloc, slots), None, &[])
+}
+
+/// Whether an outcome has that code and those steps.
+fn is_answer(outcome: &Outcome, code: i64, steps: usize) -> bool {
+    outcome.code == code && outcome.steps == steps
 }
 
 #[test]
 fn operations(rt: HostRuntime) {
     for (name, slots, code, steps) in &ROWS {
-        assert!(rt; answer(&rt, rt.alloc(), slots) == (*code, *steps), "{name}");
+        assert!(rt;
+            is_answer(&answer(&rt, rt.alloc(), slots), *code, *steps),
+            "{name}"
+        );
     }
 }

@@ -13,14 +13,31 @@ fn class(rt: &impl Abort, alloc: Global, in_cap: u16) -> VerifiedClass {
     class_of(rt, alloc, &RETURNS_ZERO, 1, in_cap, 0)
 }
 
+/// Adds a class to a table; whether it has that id.
+fn is_added(table: &mut ClassTable, class: VerifiedClass, id: u16) -> bool {
+    table.add(class) == Ok(usize::from(id))
+}
+
+/// Fills a table with 64 classes; whether they have the ids from 0 on.
+fn are_added(rt: &impl Abort, alloc: Global, table: &mut ClassTable) -> bool {
+    let mut all = true;
+    for id in 0..64u16 {
+        all = all && is_added(table, class(rt, alloc, id), id);
+    }
+    all && table.len() == 64 && !table.is_empty()
+}
+
+/// Whether a table refuses one class more.
+fn is_full(table: &mut ClassTable, class: VerifiedClass) -> bool {
+    table.add(class) == Err(TableError::TooMany)
+}
+
 #[test]
 fn classes(rt: HostRuntime) {
     let mut table = ClassTable::new(rt.alloc());
-    for id in 0..64u16 {
-        assert!(rt; table.add(class(&rt, rt.alloc(), id)) == Ok(usize::from(id)));
-    }
-    assert!(rt; table.len() == 64 && !table.is_empty());
-    assert!(rt; table.add(class(&rt, rt.alloc(), 64)) == Err(TableError::TooMany));
+    assert!(rt;
+        are_added(&rt, rt.alloc(), &mut table) && is_full(&mut table, class(&rt, rt.alloc(), 64))
+    );
 }
 
 /// The in_cap of the method `f` of a class.
@@ -28,39 +45,48 @@ fn in_cap(table: &ClassTable, id: usize) -> Option<u16> {
     Some(table.get(id)?.method("f")?.caps().in_cap)
 }
 
-#[test]
-fn ids(rt: HostRuntime) {
-    let mut table = ClassTable::new(rt.alloc());
-    for cap in [5, 6] {
-        let _ = table.add(class(&rt, rt.alloc(), cap));
+/// A table of classes whose methods have those.
+fn table_of(rt: &impl Abort, alloc: Global, in_caps: &[u16]) -> ClassTable {
+    let mut table = ClassTable::new(alloc);
+    for in_cap in in_caps {
+        let _ = table.add(class(rt, alloc, *in_cap));
     }
-    assert!(rt; in_cap(&table, 0) == Some(5) && in_cap(&table, 1) == Some(6));
-    assert!(rt; in_cap(&table, 2).is_none());
+    table
 }
 
-const CALL_ERRORS: [(CallError, u8, &str); 3] = [
+/// Whether the table's classes have the in_caps 5 and 6, and are no more.
+fn has_two(table: &ClassTable) -> bool {
+    in_cap(table, 0) == Some(5) && in_cap(table, 1) == Some(6) && in_cap(table, 2).is_none()
+}
+
+#[test]
+fn ids(rt: HostRuntime) {
+    assert!(rt; has_two(&table_of(&rt, rt.alloc(), &[5, 6])));
+}
+
+static CALL_ERRORS: [(CallError, u8, &str); 3] = [
     (CallError::NoMethod, 1, "1 NoMethod"),
     (CallError::InputTooLong, 2, "2 InputTooLong"),
     (CallError::NoMemory, 3, "3 NoMemory"),
 ];
 
-const TABLE_ERRORS: [(TableError, u8, &str); 2] = [
+static TABLE_ERRORS: [(TableError, u8, &str); 2] = [
     (TableError::TooMany, 1, "1 TooMany"),
     (TableError::NoMemory, 2, "2 NoMemory"),
 ];
 
 #[test]
 fn call_errors(rt: HostRuntime) {
-    for (error, number, text) in CALL_ERRORS {
+    for (error, number, text) in &CALL_ERRORS {
         let printed = error.to_string(rt.alloc()).expect(&rt, "memory");
-        assert!(rt; error.number() == number && printed.as_str() == text);
+        assert!(rt; error.number() == *number && printed.as_str() == *text);
     }
 }
 
 #[test]
 fn table_errors(rt: HostRuntime) {
-    for (error, number, text) in TABLE_ERRORS {
+    for (error, number, text) in &TABLE_ERRORS {
         let printed = error.to_string(rt.alloc()).expect(&rt, "memory");
-        assert!(rt; error.number() == number && printed.as_str() == text);
+        assert!(rt; error.number() == *number && printed.as_str() == *text);
     }
 }

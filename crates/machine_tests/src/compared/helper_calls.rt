@@ -2,11 +2,11 @@
 
 use super::random::Random;
 use super::{agrees, put, slot, verified};
-use crate::contents::{Contents, NOTHING, object_of};
+use crate::contents::{Contents, NOTHING, object_of, with_key, with_xattr};
 use bpf_machine::Layout;
 use helpers::{Argument, signature};
 use object_store::{DATA_LIMIT, KEY_LIMIT, Object, XATTR_LIMIT, calls};
-use std::alloc::{AllocError, Global};
+use std::alloc::Global;
 use std::process::Abort;
 use verifier::VerifiedClass;
 
@@ -37,27 +37,29 @@ const KEYS: Contents = Contents {
 const VALUE: &[u8] = &[0x5a; 24];
 
 /// The object with that key, if there is room for it.
-fn with_key(rt: &impl Abort, alloc: Global, object: Object, key: &[u8]) -> Object {
+fn and_key(rt: &impl Abort, alloc: Global, object: Object, key: &[u8]) -> Object {
     if object.key_count() == KEY_LIMIT {
-        return object;
+        object
+    } else {
+        with_key(rt, alloc, object, key, VALUE)
     }
-    calls::set_key(alloc, Some(&object), key, VALUE).expect(rt, "a key")
 }
 
 /// The object with that xattr, if there is room for it.
-fn with_xattr(rt: &impl Abort, alloc: Global, object: Object, name: &[u8]) -> Object {
+fn and_xattr(rt: &impl Abort, alloc: Global, object: Object, name: &[u8]) -> Object {
     if object.xattr_count() == XATTR_LIMIT {
-        return object;
+        object
+    } else {
+        with_xattr(rt, alloc, object, name, VALUE)
     }
-    calls::set_xattr(alloc, Some(&object), name, VALUE).expect(rt, "an xattr")
 }
 
 /// Sets numbered keys and xattrs until there are as many as there may be.
 fn filled(rt: &impl Abort, alloc: Global, object: Object) -> Object {
     let mut full = object;
     for n in 0..KEY_LIMIT as u16 {
-        full = with_key(rt, alloc, full, &n.to_be_bytes());
-        full = with_xattr(rt, alloc, full, &n.to_be_bytes());
+        full = and_key(rt, alloc, full, &n.to_be_bytes());
+        full = and_xattr(rt, alloc, full, &n.to_be_bytes());
     }
     full
 }
@@ -68,7 +70,7 @@ fn full(rt: &impl Abort, alloc: Global) -> Object {
         xattrs: XATTRS.xattrs,
         ..KEYS
     };
-    let named = object_of(alloc, &named).expect(rt, "an object");
+    let named = object_of(rt, alloc, &named);
     let object = filled(rt, alloc, named);
     calls::truncate(alloc, Some(&object), DATA_LIMIT as u64).expect(rt, "memory")
 }
@@ -76,9 +78,10 @@ fn full(rt: &impl Abort, alloc: Global) -> Object {
 /// An object of each kind: empty, with data, with xattrs, with keys, and at all limits.
 fn objects(rt: &impl Abort, alloc: Global) -> Vec<Object> {
     let mut objects = Vec::new(alloc);
-    for contents in [NOTHING, DATA, XATTRS, KEYS] {
-        let object = object_of(alloc, &contents).expect(rt, "memory");
-        objects.push(object).expect(rt, "memory");
+    for contents in &[NOTHING, DATA, XATTRS, KEYS] {
+        objects
+            .push(object_of(rt, alloc, contents))
+            .expect(rt, "memory");
     }
     objects.push(full(rt, alloc)).expect(rt, "memory");
     objects
@@ -101,83 +104,77 @@ const PLACES: [i32; 8] = [0, 0, 1, 2, 3, 4, 6, 7];
 const LENGTHS: [i32; 8] = [0, 1, 1, 2, 2, 4, 8, 16];
 
 /// Puts a range into two registers.
-fn range(
-    random: &mut Random,
-    code: &mut Vec<u8>,
-    register: u8,
-    base: u8,
-) -> Result<(), AllocError> {
+fn range(rt: &impl Abort, random: &mut Random, code: &mut Vec<u8>, register: u8, base: u8) {
     let before = if base == 10 { -64 } else { 0 };
     let place = PLACES[random.pick()].wrapping_add(before);
+    let length = LENGTHS[random.pick()];
     put(
+        rt,
         code,
         &[
             slot(0xbf, register | base.wrapping_mul(16), 0, 0),
             slot(0x07, register, 0, place),
-            slot(0xb7, register.wrapping_add(1), 0, LENGTHS[random.pick()]),
+            slot(0xb7, register.wrapping_add(1), 0, length),
         ],
-    )
+    );
 }
 
 /// Puts an argument into one register or two, and gives how many.
 fn argument(
+    rt: &impl Abort,
     random: &mut Random,
     code: &mut Vec<u8>,
     register: u8,
     argument: Argument,
-) -> Result<u8, AllocError> {
+) -> u8 {
+    let choice = random.pick();
     match argument {
         Argument::Number => {
-            put(code, &[slot(0xb7, register, 0, NUMBERS[random.pick()])])?;
-            Ok(1)
+            put(rt, code, &[slot(0xb7, register, 0, NUMBERS[choice])]);
+            1
         }
         Argument::OutputLength => {
-            put(
-                code,
-                &[slot(0xb7, register, 0, OUTPUT_LENGTHS[random.pick()])],
-            )?;
-            Ok(1)
+            put(rt, code, &[slot(0xb7, register, 0, OUTPUT_LENGTHS[choice])]);
+            1
         }
         Argument::Readable => {
-            let base = READ[random.pick()];
-            range(random, code, register, base)?;
-            Ok(2)
+            range(rt, random, code, register, READ[choice]);
+            2
         }
         Argument::Writable => {
-            let base = WRITTEN[random.pick()];
-            range(random, code, register, base)?;
-            Ok(2)
+            range(rt, random, code, register, WRITTEN[choice]);
+            2
         }
     }
 }
 
 /// Puts a call of a helper, of whose answer register 9 keeps a trace.
-fn call_of(random: &mut Random, code: &mut Vec<u8>, id: u32) -> Result<(), AllocError> {
+fn call_of(rt: &impl Abort, random: &mut Random, code: &mut Vec<u8>, id: u32) {
     let arguments = match signature(id) {
         Some(signature) => signature.arguments,
         None => &[],
     };
     let mut register = 1u8;
     for kind in arguments {
-        let taken = argument(random, code, register, *kind)?;
+        let taken = argument(rt, random, code, register, *kind);
         register = register.wrapping_add(taken);
     }
     put(
+        rt,
         code,
         &[
             slot(0x85, 0, 0, id.cast_signed()), // call id
             slot(0x27, 0x09, 0, 31), // mul r9, 31
             slot(0x0f, 0x09, 0, 0), // add r9, r0
         ],
-    )
+    );
 }
 
-/// A program whose first call is of that helper, behind names in the output and on the stack.
-fn program(alloc: Global, seed: u64, id: u32) -> Result<Vec<u8>, AllocError> {
-    let mut random = Random::new(seed);
-    let mut code = Vec::new(alloc);
+/// Puts names into the output and onto the stack, and then calls, the first one of that helper.
+fn calls_of(rt: &impl Abort, random: &mut Random, code: &mut Vec<u8>, id: u32) {
     put(
-        &mut code,
+        rt,
+        code,
         &[
             slot(0xbf, 0x16, 0, 0), // mov r6, r1
             slot(0xbf, 0x37, 0, 0), // mov r7, r3
@@ -185,35 +182,43 @@ fn program(alloc: Global, seed: u64, id: u32) -> Result<Vec<u8>, AllocError> {
             slot(0x62, 0x07, 0, 0x6162_6e6d), // stw [r7+0], "mnba"
             slot(0x62, 0x0a, -63, 0x6e61_6b63), // stw [r10-63], "ckan"
         ],
-    )?;
-    call_of(&mut random, &mut code, id)?;
+    );
+    call_of(rt, random, code, id);
     for _ in 0..5 {
         let id = (random.next() % 15) as u32 + 1;
-        call_of(&mut random, &mut code, id)?;
+        call_of(rt, random, code, id);
     }
-    end(&mut random, &mut code)?;
-    Ok(code)
+}
+
+/// A program whose first call is of that helper.
+fn program(rt: &impl Abort, alloc: Global, seed: u64, id: u32) -> Vec<u8> {
+    let mut random = Random::new(seed);
+    let mut code = Vec::new(alloc);
+    calls_of(rt, &mut random, &mut code, id);
+    end(rt, &mut random, &mut code);
+    code
 }
 
 /// Puts the trace and some of the stack into the output, most often puts all of it out, and answers the trace, most
 /// often with no sign.
-fn end(random: &mut Random, code: &mut Vec<u8>) -> Result<(), AllocError> {
+fn end(rt: &impl Abort, random: &mut Random, code: &mut Vec<u8>) {
     put(
+        rt,
         code,
         &[
             slot(0x79, 0xa2, -64, 0), // ldxdw r2, [r10-64]
             slot(0x7b, 0x27, 24, 0), // stxdw [r7+24], r2
             slot(0x7b, 0x97, 32, 0), // stxdw [r7+32], r9
         ],
-    )?;
+    );
     if random.next() % 4 != 0 {
-        put(code, &[slot(0xb7, 0x01, 0, 40), slot(0x85, 0, 0, 13)])?;
+        put(rt, code, &[slot(0xb7, 0x01, 0, 40), slot(0x85, 0, 0, 13)]);
     }
-    put(code, &[slot(0xbf, 0x90, 0, 0)])?;
+    put(rt, code, &[slot(0xbf, 0x90, 0, 0)]);
     if random.next() % 4 != 0 {
-        put(code, &[slot(0x77, 0, 0, 1)])?;
+        put(rt, code, &[slot(0x77, 0, 0, 1)]);
     }
-    put(code, &[slot(0x95, 0, 0, 0)])
+    put(rt, code, &[slot(0x95, 0, 0, 0)]);
 }
 
 /// Whether a call of the method answers as the plain run does, beside no object and beside each of those.
@@ -233,7 +238,7 @@ fn agrees_beside_all(
 
 /// Whether the program of a seed agrees; none where it is refused.
 fn compared(rt: &impl Abort, alloc: Global, seed: u64, objects: &[Object]) -> Option<bool> {
-    let code = program(alloc, seed, (seed % 15) as u32 + 1).expect(rt, "memory");
+    let code = program(rt, alloc, seed, (seed % 15) as u32 + 1);
     match verified(rt, alloc, &code) {
         None => None,
         Some(class) => Some(agrees_beside_all(rt, alloc, &class, &code, objects)),

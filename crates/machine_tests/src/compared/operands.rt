@@ -1,9 +1,9 @@
 //! Every width at offsets, numbers and places of the object.
 
-use super::{agrees, put, slot, verified};
+use super::{agrees, slot, verified};
 use crate::contents::{Contents, NOTHING, made};
 use bpf_machine::Layout;
-use std::alloc::{AllocError, Global};
+use std::alloc::Global;
 use std::process::Abort;
 use verifier::VerifiedClass;
 
@@ -24,7 +24,7 @@ struct Choice {
 }
 
 /// Every opcode, at a width, offsets and numbers.
-fn program(alloc: Global, c: Choice) -> Result<Vec<u8>, AllocError> {
+fn program(rt: &impl Abort, alloc: Global, c: Choice) -> Vec<u8> {
     let (size, bytes) = c.size;
     let below = 0i16.wrapping_sub(bytes).wrapping_sub(c.at);
     let slots = [
@@ -57,9 +57,7 @@ fn program(alloc: Global, c: Choice) -> Result<Vec<u8>, AllocError> {
         slot(0x07, 0x00, 0, c.code), // add r0, code
         slot(0x95, 0x00, 0, 0), // exit
     ];
-    let mut code = Vec::new(alloc);
-    put(&mut code, &slots)?;
-    Ok(code)
+    Vec::from_slice(alloc, slots.as_flattened()).expect(rt, "memory")
 }
 
 const OBJECTS: [Option<Contents>; 3] = [
@@ -111,15 +109,15 @@ fn agrees_beside(
 /// The same beside each object.
 fn agrees_beside_all(rt: &impl Abort, alloc: Global, class: &VerifiedClass, code: &[u8]) -> bool {
     let mut all = true;
-    for contents in OBJECTS {
-        all = all && agrees_beside(rt, alloc, class, code, contents);
+    for contents in &OBJECTS {
+        all = all && agrees_beside(rt, alloc, class, code, *contents);
     }
     all
 }
 
 /// Whether a program is accepted, and answers so.
 fn agrees_on(rt: &impl Abort, alloc: Global, choice: Choice) -> bool {
-    let code = program(alloc, choice).expect(rt, "memory");
+    let code = program(rt, alloc, choice);
     match verified(rt, alloc, &code) {
         None => false,
         Some(class) => agrees_beside_all(rt, alloc, &class, &code),
@@ -134,14 +132,14 @@ fn agree_at_places(
     (at, number): (i16, i32),
 ) -> bool {
     let mut all = true;
-    for (place, count, code) in PLACES {
+    for (place, count, code) in &PLACES {
         let choice = Choice {
             size,
             at,
             number,
-            place,
-            count,
-            code,
+            place: *place,
+            count: *count,
+            code: *code,
         };
         all = all && agrees_on(rt, alloc, choice);
     }
@@ -150,9 +148,9 @@ fn agree_at_places(
 
 #[test]
 fn calls_are_plain_runs(rt: HostRuntime) {
-    for size in SIZES {
-        for number in NUMBERS {
-            assert!(rt; agree_at_places(&rt, rt.alloc(), size, number));
+    for size in &SIZES {
+        for number in &NUMBERS {
+            assert!(rt; agree_at_places(&rt, rt.alloc(), *size, *number));
         }
     }
 }

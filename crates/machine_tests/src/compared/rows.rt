@@ -3,7 +3,7 @@
 use super::random::Random;
 use super::{agrees, put, slot, verified};
 use bpf_machine::Layout;
-use std::alloc::{AllocError, Global};
+use std::alloc::Global;
 use std::process::Abort;
 
 /// The arithmetic rows without class and source bit: the operation and the offset that selects it.
@@ -119,10 +119,14 @@ impl Random {
 }
 
 /// `lddw` of any number.
-fn wide(code: &mut Vec<u8>, register: u8, number: u64) -> Result<(), AllocError> {
+fn wide(rt: &impl Abort, code: &mut Vec<u8>, register: u8, number: u64) {
     let low = ((number % 0x1_0000_0000) as u32).cast_signed();
     let high = ((number / 0x1_0000_0000) as u32).cast_signed();
-    put(code, &[slot(0x18, register, 0, low), slot(0, 0, 0, high)])
+    put(
+        rt,
+        code,
+        &[slot(0x18, register, 0, low), slot(0, 0, 0, high)],
+    );
 }
 
 /// An instruction of one slot, the row of that number.
@@ -203,39 +207,57 @@ fn branch(random: &mut Random, n: usize, over: i16) -> [u8; 8] {
     }
 }
 
+/// Puts pointers to the input and the output, and any numbers, into the registers.
+fn begin(rt: &impl Abort, random: &mut Random, code: &mut Vec<u8>) {
+    put(rt, code, &[slot(0xbf, 0x16, 0, 0), slot(0xbf, 0x37, 0, 0)]);
+    for register in &[0u8, 2, 3, 4, 5, 8, 9] {
+        wide(rt, code, *register, random.number());
+    }
+}
+
+/// A jump over so many slots, most often the comparison of that number.
+fn jump(random: &mut Random, n: usize, over: u16) -> [u8; 8] {
+    match random.next() % 8 {
+        0 => slot(0x05, 0, over.cast_signed(), 0),
+        1 => slot(0x06, 0, 0, i32::from(over)),
+        _ => branch(random, n, over.cast_signed()),
+    }
+}
+
+/// Puts the row of a number, a jump, and the rows that it goes over.
+fn put_rows(rt: &impl Abort, random: &mut Random, code: &mut Vec<u8>, n: usize, comparison: usize) {
+    put(rt, code, &[row(random, n)]);
+    let over = (random.next() % 4) as u16;
+    put(rt, code, &[jump(random, comparison, over)]);
+    for _ in 0..over {
+        let n = (random.next() % 87) as usize;
+        put(rt, code, &[row(random, n)]);
+    }
+}
+
 /// A program of accepted shape with rows from a number on.
-fn program(alloc: Global, seed: u64) -> Result<Vec<u8>, AllocError> {
+fn program(rt: &impl Abort, alloc: Global, seed: u64) -> Vec<u8> {
     let mut random = Random::new(seed);
     let mut code = Vec::new(alloc);
-    put(&mut code, &[slot(0xbf, 0x16, 0, 0), slot(0xbf, 0x37, 0, 0)])?;
-    for register in [0u8, 2, 3, 4, 5, 8, 9] {
-        wide(&mut code, register, random.number())?;
-    }
+    begin(rt, &mut random, &mut code);
     let start = (seed % 4096) as usize;
     for k in 0..12usize {
-        let n = (start * 7 + k) % 87;
-        put(&mut code, &[row(&mut random, n)])?;
-        let over = (random.next() % 4) as u16;
-        match random.next() % 8 {
-            0 => put(&mut code, &[slot(0x05, 0, over.cast_signed(), 0)])?,
-            1 => put(&mut code, &[slot(0x06, 0, 0, i32::from(over))])?,
-            _ => {
-                let n = (start * 5 + k) % 44;
-                put(&mut code, &[branch(&mut random, n, over.cast_signed())])?;
-            }
-        }
-        for _ in 0..over {
-            let n = (random.next() % 87) as usize;
-            put(&mut code, &[row(&mut random, n)])?;
-        }
+        put_rows(
+            rt,
+            &mut random,
+            &mut code,
+            (start * 7 + k) % 87,
+            (start * 5 + k) % 44,
+        );
     }
-    end(&mut code)?;
-    Ok(code)
+    end(rt, &mut code);
+    code
 }
 
 /// Puts every number into the output, and answers with the whole of it and a code that is zero or positive.
-fn end(code: &mut Vec<u8>) -> Result<(), AllocError> {
+fn end(rt: &impl Abort, code: &mut Vec<u8>) {
     put(
+        rt,
         code,
         &[
             slot(0x7b, 0x07, 0, 0), // stxdw [r7+0], r0
@@ -253,7 +275,7 @@ fn end(code: &mut Vec<u8>) -> Result<(), AllocError> {
             slot(0x77, 0x00, 0, 1), // rsh r0, 1
             slot(0x95, 0x00, 0, 0), // exit
         ],
-    )
+    );
 }
 
 const LOW: Layout = Layout {
@@ -268,7 +290,7 @@ const INPUT: [u8; 13] = [
 
 /// Whether the program of a seed is accepted, and answers so.
 fn agrees_on(rt: &impl Abort, alloc: Global, seed: u64) -> bool {
-    let code = program(alloc, seed).expect(rt, "memory");
+    let code = program(rt, alloc, seed);
     match verified(rt, alloc, &code) {
         None => false,
         Some(class) => agrees(rt, alloc, &class, &code, LOW, None, &INPUT),

@@ -1,26 +1,48 @@
-use Rattle.std.proofs.Common.{◌+◌, ◌<◌, ◌++◌, [], ◌∷◌, refl, take, drop, get_or, ◌≡◌, ◌≤◌, ap, ◌∙◌, sym, subst, arith, length, ◌⊎◌, IfErr, Some, List, Result, Ok, Err, inl, inr, ⊎_elim}
+use Rattle.std.proofs.Common.{◌+◌, ◌<◌, ◌++◌, [], ◌∷◌, refl, drop, get_or, ◌≡◌, ◌≤◌, ℕ, ap, ◌∙◌, sym, subst, arith, length, ◌⊎◌, Some, List, inl, inr}
 use Rattle.std.proofs.lemmas.Option.{slice_get_read}
-use Rattle.std.proofs.lemmas.Grind.{common_steps}
+use Rattle.std.proofs.lemmas.Result.{err_from_is_err_and}
 use Rattle.std.proofs.lemmas.List.{take_all}
 use Rattle.std.specs.List.{AllByRecursion}
 use Rattle.bpf_decode.specs.Class.{ClassMethod}
 use Rattle.bpf_machine.specs.Safe.{IsSafe}
 use Rattle.verifier.specs.declared.refusal.Refusal.{Refusal}
-use Rattle.verifier.specs.Verdict.{verdict_from, or_later, class_verdict, out_of_memory, IsDeserved}
+use Rattle.verifier.specs.Verdict.{verdict_from, or_later, class_verdict, out_of_memory, IsFirst, IsDeserved}
 use Rattle.verifier.proofs.Verdicts.{deserved}
 use Rattle.std.specs.Prelude.{slice_get}
 use Rattle.verifier.proofs.Tables.{drop_head}
 use Rattle.verifier.proofs.Accepts.{all_more, take_next}
 use Rattle.verifier.proofs.class.verify.Goals as goal
 
-deserved_if : {A : Type 0} (ms : List ClassMethod) (r : Result A Refusal) → IfErr r (λ r. (r ≡ out_of_memory) ⊎ (class_verdict ms ≡ Some r)) → IfErr r (λ r. (r ≡ out_of_memory) ⊎ IsDeserved ms r)
-deserved_if ms (Ok x) h = h
-deserved_if ms (Err r) h = ⊎_elim (λ e. inl e) (λ e. inr (deserved ms r e)) h
+-- the refusal of a method is the verdict, where the methods below it have none
+refusal_is : (ms : List ClassMethod) (number : ℕ) (m : ClassMethod) (r : Refusal) → slice_get ms number ≡ Some m → verdict_from number (drop number ms) ≡ class_verdict ms → (r ≡ out_of_memory) ⊎ IsFirst number m r → (r ≡ out_of_memory) ⊎ (class_verdict ms ≡ Some r)
+refusal_is ms number m r at rest (inl e) = inl e
+refusal_is ms number m r at rest (inr first) =
+    let later = verdict_from (number + 1) (drop (number + 1) ms) in
+    inr (sym rest ∙ ap (verdict_from number) (drop_head ms number m at) ∙ ap (λ o. or_later number o later) first.1 ∙ ap (λ k. Some (record { method = k; slot = r.slot; rule = r.rule })) (sym first.0))
 
-pub returns-in_err-verify_method-clause-deserved : goal.returns-in_err-verify_method-clause-deserved
-returns-in_err-verify_method-clause-deserved c =
-    let refused : IfErr c.from_residual.result (λ r. (r ≡ out_of_memory) ⊎ (class_verdict c.args.image.now ≡ Some r)) = grind (arith, common_steps) in
-    deserved_if c.args.image.now c.from_residual.result refused
+deserved_if : (ms : List ClassMethod) (r : Refusal) → (r ≡ out_of_memory) ⊎ (class_verdict ms ≡ Some r) → (r ≡ out_of_memory) ⊎ IsDeserved ms r
+deserved_if ms r (inl e) = inl e
+deserved_if ms r (inr e) = inr (deserved ms r e)
+
+pub returns-in_err-push_verified-clause-refused : goal.returns-in_err-push_verified-clause-refused
+returns-in_err-push_verified-clause-refused c =
+    let image = c.args.image.now in
+    let number = c.loop-number.number in
+    let few : number < length image = omega (arith, ap length c.methods-method-items.ensures.methods) in
+    let at : slice_get image number ≡ Some c.method-item.result =
+    slice_get_read image (length image) number c.method-item.result refl few (c.method-item.is ∙ ap (λ ms. get_or ms number c.method-item.result) c.methods-method-items.ensures.methods) in
+    let p = err_from_is_err_and c.from_residual.result c.from_residual.ensures.1 in
+    rw (p.1, p.2) (refusal_is image number c.method-item.result c.in_err-push_verified.field-0.0 at c.loop-number.invariant.rest c.in_err-push_verified.ensures.refused)
+
+pub returns-in_err-push_verified-clause-deserved : goal.returns-in_err-push_verified-clause-deserved
+returns-in_err-push_verified-clause-deserved c =
+    let image = c.args.image.now in
+    let number = c.loop-number.number in
+    let few : number < length image = omega (arith, ap length c.methods-method-items.ensures.methods) in
+    let at : slice_get image number ≡ Some c.method-item.result =
+    slice_get_read image (length image) number c.method-item.result refl few (c.method-item.is ∙ ap (λ ms. get_or ms number c.method-item.result) c.methods-method-items.ensures.methods) in
+    let p = err_from_is_err_and c.from_residual.result c.from_residual.ensures.1 in
+    rw (p.1, p.2) (deserved_if image c.in_err-push_verified.field-0.0 (refusal_is image number c.method-item.result c.in_err-push_verified.field-0.0 at c.loop-number.invariant.rest c.in_err-push_verified.ensures.refused))
 
 pub returns-clause-safe : goal.returns-clause-safe
 returns-clause-safe c =
@@ -39,14 +61,13 @@ loop-number-preserved c =
     let at : slice_get image number ≡ Some m =
     slice_get_read image (length image) number m refl few (c.method-item.is ∙ ap (λ ms. get_or ms number m) c.methods-method-items.ensures.methods) in
     let more = drop_head image number m at in
-    let clear = c.in_ok-verify_method.ensures.accepted in
+    let clear = c.in_ok-push_verified.ensures.accepted in
     let rest = verdict_from (number + 1) (drop (number + 1) image) in
     record {
-      safe = all_more IsSafe image number m at c.loop-number.invariant.safe c.in_ok-verify_method.ensures.safe;
+      safe = all_more IsSafe image number m at c.loop-number.invariant.safe c.in_ok-push_verified.ensures.safe;
       sofar =
-          c.in_ok-push.ensures.items
-          ∙ ap (λ ms. ms ++ c.in_ok-verify_method.field-0 ∷ []) c.loop-number.invariant.sofar
-          ∙ ap (λ v. take number image ++ v ∷ []) c.in_ok-verify_method.ensures.ok
+          c.in_ok-push_verified.ensures.pushed
+          ∙ ap (λ ms. ms ++ m ∷ []) c.loop-number.invariant.sofar
           ∙ sym (take_next image number m at);
       rest = sym (ap (verdict_from number) more ∙ ap (λ o. or_later number o rest) clear) ∙ c.loop-number.invariant.rest;
     }

@@ -4,16 +4,23 @@ use Rattle.std.proofs.lemmas.Option.{none-some, slice_get_read, slice_get_within
 use Rattle.verifier.specs.Pass.{IsSound}
 use Rattle.bpf_machine.specs.State.{◌>>=◌}
 use Rattle.verifier.proofs.Runs.{inner}
-use Rattle.verifier.proofs.Tables.{Brought, refused_at, refused_over, brought_more, brought_over, its_frame, sound_more, sound_over}
-use Rattle.verifier.proofs.pass.first_refusal.Goals.{in-Some+in_ok-rule+in_default-2, in_default}
-use Rattle.verifier.proofs.pass.first_refusal.Goals as goal
+use Rattle.verifier.proofs.Tables.{Brought, refused_at, refused_over, brought_first, brought_more, brought_over, its_frame, sound_more, sound_over}
+use Rattle.verifier.proofs.pass.Pass.run.Goals.{in-Some+in_ok-rule+in_default-2, in_default}
+use Rattle.verifier.proofs.pass.Pass.run.Goals as goal
+
+pub loop-slot-init : goal.loop-slot-init
+loop-slot-init c = record {
+  rest = refl;
+  sound = λ p i lt. absurd (omega arith);
+  brought = brought_first c.args.caps.now c.args.code.now c.args.self.now c.requires.kept c.requires.current c.requires.landing;
+}
 
 pub returns-in-Some-2 : goal.returns-in-Some-2
 returns-in-Some-2 c =
     let caps = c.args.caps.now in
     let code = c.args.code.now in
     let slot = c.loop-slot.slot in
-    let pass = c.loop-slot.pass in
+    let pass = c.loop-slot.self in
     let lt : slot < length code = omega arith in
     let at : slice_get code slot ≡ Some (Some c.in-Some.insn) = slice_get_read code (length code) slot _ refl lt c.index-code-slot.is ∙ ap Some c.in-Some.is in
     let rule = sym c.in_ok-rule.ensures.rule ∙ c.in-Some-2.is in
@@ -28,7 +35,7 @@ loop-slot-preserved c = elim c.match-begun.branch [
       let caps = c.args.caps.now in
       let code = c.args.code.now in
       let slot = c.loop-slot.slot in
-      let pass = c.loop-slot.pass in
+      let pass = c.loop-slot.self in
       let lt : slot < length code = omega arith in
       let at : slice_get code slot ≡ Some (Some w.in-Some.insn) = slice_get_read code (length code) slot _ refl lt c.index-code-slot.is ∙ ap Some w.in-Some.is in
       let rule = sym w.in_ok-rule.ensures.rule ∙ w.in_default-2.is in
@@ -39,19 +46,19 @@ loop-slot-preserved c = elim c.match-begun.branch [
       record {
         sound = sound_more caps code slot w.in-Some.insn c.loop-slot.invariant.sound fetched sound;
         rest = sym (refused_at caps code slot w.in-Some.insn pass None lt at c.loop-slot.invariant.brought rule) ∙ c.loop-slot.invariant.rest;
-        brought = subst (Brought caps code (slot + 1)) (sym w.pass-is) (brought_more caps code slot w.in-Some.insn pass _ c.requires.spaced lt fetched rule left c.loop-slot.invariant.brought);
+        brought = subst (Brought caps code (slot + 1)) (sym w.self-is) (brought_more caps code slot w.in-Some.insn pass _ c.requires.spaced lt fetched rule left c.loop-slot.invariant.brought);
       }
   | in_default w ↦
       let caps = c.args.caps.now in
       let code = c.args.code.now in
       let slot = c.loop-slot.slot in
-      let pass = c.loop-slot.pass in
+      let pass = c.loop-slot.self in
       let lt : slot < length code = omega arith in
       let at : slice_get code slot ≡ Some None = slice_get_read code (length code) slot _ refl lt c.index-code-slot.is ∙ ap Some w.in_default.is in
       record {
         sound = sound_over caps code slot c.loop-slot.invariant.sound (ap (λ o. o >>= λ i. i) at);
         rest = sym (refused_over caps code slot at) ∙ c.loop-slot.invariant.rest;
-        brought = subst (Brought caps code (slot + 1)) (sym w.pass-is) (brought_over caps code slot pass (ap (λ o. o >>= λ i. i) at) c.loop-slot.invariant.brought);
+        brought = subst (Brought caps code (slot + 1)) (sym w.self-is) (brought_over caps code slot pass (ap (λ o. o >>= λ i. i) at) c.loop-slot.invariant.brought);
       }
 ]
 
