@@ -35,9 +35,9 @@ impl<C: Classes> GroupNode<C> {
         if interval != self.interval || self.status != Status::Asking {
             return Ok(Vec::new(self.alloc));
         }
-        let sent = adoption(self.alloc, self.number, self.interval, &self.members, list)?;
         let mut joined = Vec::with_capacity(self.alloc, 1)?;
         joined.push_reserved(self.number);
+        let sent = adoption(self.alloc, self.number, self.interval, &self.members, list)?;
         if !self.take_list(table, list)? {
             return Ok(Vec::new(self.alloc));
         }

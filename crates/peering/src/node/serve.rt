@@ -1,13 +1,13 @@
 //! An active primary and its members: requests, their replication, and acknowledgements.
-ghost use Rattle.std.specs.Prelude.{◌≡◌, ◌≤◌, ◌++◌, ◌∷◌, [], max, if◌then◌else◌, is_none, IfOk, IfErr, OnErr, None, Some};
+ghost use Rattle.std.specs.Prelude.{◌≡◌, ◌≤◌, ◌+◌, ◌++◌, ◌∷◌, [], length, max, if◌then◌else◌, is_none, IfOk, IfErr, OnErr, None, Some};
 ghost use mathlib.Core.List.{IsPrefix};
 ghost use Rattle.pg_log.specs.Log.{Legal, reply_at};
 ghost use Rattle.std.specs.Int.{w64, cast_unsigned};
 ghost use Rattle.pg_log.specs.Refusals.{place_of, refusal};
-ghost use Rattle.group_world.specs.Rules.{request as request_step, request_at, append_new, replicate, acknowledge, least_of, raised};
+ghost use Rattle.group_world.specs.Rules.{request as request_step, request_at, append_new, replicate, says_ack, acknowledge, least_of, raised};
 ghost use Rattle.pg_log.specs.Entries.{IsNextEntry};
 ghost use Rattle.peering.specs.Numbered.{IsDone, IsRefusal};
-ghost use Rattle.peering.specs.Arriving.{IsNextReply, with_log};
+ghost use Rattle.peering.specs.Arriving.{IsNextReply, sent_with, grown, replicated_next, with_log};
 
 use crate::copies::refusal_of;
 use crate::node::GroupNode;
@@ -19,6 +19,14 @@ use pg_log::{Classes, Entry, LogError, Request, classes_added, legal_lists, refu
 use placement::NodeId;
 use replication::commit_point;
 use std::alloc::Global;
+
+/// What a primary has acknowledged and committed, and sends, once a new request is logged.
+#[derive(Drop)]
+struct Growth {
+    acked: Vec<usize>,
+    point: Place,
+    sent: Vec<Packet>,
+}
 
 impl<C: Classes> GroupNode<C> {
     /// A client's request.
@@ -103,34 +111,80 @@ impl<C: Classes> GroupNode<C> {
         ensures err { OnErr result (self.new ≡ self.old) }
         ensures why { IfErr result (λ e. e ≡ HandleError.NoMemory) }
     {
-        let length = self.group.len();
+        let growth = self.growth(table, &entry)?;
+        self.grow(entry, growth)
+    }
+
+    /// What it is to have acknowledged and committed, and to send, with the entry of a new request.
+    fn growth(&self, table: &ClassTable, entry: &Entry) -> Result<Growth, HandleError>
+        requires table { IsPrefix table.now C.classes }
+        requires legal { Legal table.now self.now.state.log }
+        requires reply { IsNextReply table.now self.now.state.log entry.now }
+        ensures ok { IfOk result (λ w. grown self.now.state entry.now.request w.acked.items w.point w.sent.items ≡ append_new table.now self.now.number self.now.state entry.now.request) }
+        ensures within { IfOk result (λ w. w.point ≤ length self.now.state.log + 1) }
+        ensures err { IfErr result (λ e. e ≡ HandleError.NoMemory) }
+    {
+        let length = self.group.len() + 1;
         let acting = self.members.acting();
-        let acked = raised(self.alloc, &self.acked, acting, self.number, length + 1)?;
-        let point = self.committed.max(least_of(length + 1, &acked));
+        let acked = raised(self.alloc, &self.acked, acting, self.number, length)?;
+        let point = self.committed.max(least_of(length, &acked));
+        let sent = self.sent_with(table, entry, point)?;
+        Ok(Growth {
+            acked,
+            point,
+            sent,
+        })
+    }
+
+    /// The entry of a new request for the others, and the Replies to what is committed with it, up to a place.
+    fn sent_with(
+        &self,
+        table: &ClassTable,
+        entry: &Entry,
+        point: Place,
+    ) -> Result<Vec<Packet>, HandleError>
+        requires table { IsPrefix table.now C.classes }
+        requires legal { Legal table.now self.now.state.log }
+        requires reply { IsNextReply table.now self.now.state.log entry.now }
+        requires within { point ≤ length self.now.state.log + 1 }
+        ensures ok { IfOk result (λ v. v.items ≡ sent_with table.now self.now.number self.now.state entry.now.request point) }
+        ensures err { IfErr result (λ e. e ≡ HandleError.NoMemory) }
+    {
         let mut sent = rep_to_others(
             self.alloc,
             self.number,
-            acting,
+            self.members.acting(),
             self.interval,
-            length,
+            self.group.len(),
             &entry.request,
         )?;
-        let mut answers = replies_with(
+        replies_with(
             self.alloc,
             table,
             self.number,
             &self.group,
-            &entry,
+            entry,
             self.committed,
             point,
+            &mut sent,
         )?;
-        sent.append(&mut answers)?;
+        Ok(sent)
+    }
+
+    /// Logs the entry of a new request, with what was decided of it.
+    fn grow(&mut self, entry: Entry, growth: Growth) -> Result<Vec<Packet>, HandleError>
+        requires next { IsNextEntry C.classes self.old.state.log entry }
+        requires within { growth.point ≤ length self.old.state.log + 1 }
+        ensures done { IfOk result (λ sent. IsDone self.old self.new sent.items (grown self.old.state entry.request growth.acked.items growth.point growth.sent.items)) }
+        ensures err { OnErr result (self.new ≡ self.old) }
+        ensures why { IfErr result (λ e. e ≡ HandleError.NoMemory) }
+    {
         if self.group.keep(entry).is_err() {
             return Err(HandleError::NoMemory);
         }
-        self.acked = acked;
-        self.committed = point;
-        Ok(sent)
+        self.acked = growth.acked;
+        self.committed = growth.point;
+        Ok(growth.sent)
     }
 
     /// The entry that a new request would be. It changes nothing.
@@ -167,17 +221,51 @@ impl<C: Classes> GroupNode<C> {
         ensures err { OnErr result (self.new ≡ self.old) }
         ensures why { IfErr result (λ e. e ≡ HandleError.NoMemory) }
     {
-        let mut sent = Vec::with_capacity(self.alloc, 1)?;
         let length = self.group.len();
         if interval != self.interval || self.status != Status::Installed || length < place {
-            return Ok(sent);
+            return Ok(Vec::new(self.alloc));
         }
-        if place == length && !self.follow(table, request)? {
-            return Ok(sent);
+        if place < length {
+            return self.send_ack(sender);
         }
-        let kind = Kind::Ack(self.interval, self.group.len());
-        sent.push_reserved(packet(self.number, sender, kind));
+        self.replicate_next(table, sender, request)
+    }
+
+    /// A Rep of the next place at a member that has installed.
+    fn replicate_next(
+        &mut self,
+        table: &ClassTable,
+        sender: Party,
+        request: Request,
+    ) -> Result<Vec<Packet>, HandleError>
+        requires table { IsPrefix table.now C.classes }
+        ensures done { IfOk result (λ sent. IsDone self.old self.new sent.items (replicated_next table.now self.old.number self.old.state sender request)) }
+        ensures err { OnErr result (self.new ≡ self.old) }
+        ensures why { IfErr result (λ e. e ≡ HandleError.NoMemory) }
+    {
+        let mut sent = Vec::with_capacity(self.alloc, 1)?;
+        if self.follow(table, request)? {
+            sent.push_reserved(self.ack(sender));
+        }
         Ok(sent)
+    }
+
+    /// An Ack alone.
+    fn send_ack(&self, receiver: Party) -> Result<Vec<Packet>, HandleError>
+        ensures ok { IfOk result (λ v. v.items ≡ says_ack self.now.number receiver self.now.state ∷ []) }
+        ensures err { IfErr result (λ e. e ≡ HandleError.NoMemory) }
+    {
+        let mut sent = Vec::with_capacity(self.alloc, 1)?;
+        sent.push_reserved(self.ack(receiver));
+        Ok(sent)
+    }
+
+    /// An Ack of the log's length.
+    fn ack(&self, receiver: Party) -> Packet
+        ensures { result ≡ says_ack self.now.number receiver self.now.state }
+    {
+        let kind = Kind::Ack(self.interval, self.group.len());
+        packet(self.number, receiver, kind)
     }
 
     /// Appends a request where it may follow the log, and says whether. Else, and at an error, nothing changes.
