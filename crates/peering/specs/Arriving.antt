@@ -1,17 +1,16 @@
 -- What is decided before a node moves: the move itself, and what it leaves.
-use Rattle.std.specs.Prelude.{◌≡◌, ℕ, List, [], ◌∷◌, ◌++◌, length, take, drop, Option, Some, None, is_none, ◌==◌, unwrap_or, Bool, true, false, if◌then◌else◌}
+use Rattle.std.specs.Prelude.{◌≡◌, ℕ, List, [], ◌∷◌, ◌++◌, length, take, drop, Option, Some, None, ◌==◌, unwrap_or, Bool, true, false, if◌then◌else◌}
 use Rattle.pg_log.specs.Requests.{ClientRequest}
 use Rattle.pg_log.specs.declared.log_error.LogError.{LogError}
 use Rattle.pg_log.specs.declared.log_error.LogError.TheVariants.{NoMemory}
 use Rattle.pg_log.specs.Log.{Classes, Legal, reply_at}
-use Rattle.pg_log.specs.Refusals.{refusal}
 use Rattle.std.specs.Int.{w64, cast_unsigned}
 use Rattle.pg_log.specs.declared.entry.Entry.{Entry}
 use Rattle.group_world.specs.Maps.{GroupMap, all_among}
 use Rattle.group_world.specs.Node.{NodeState, Outcome, nothing, fresh, is_installing, is_installed, packet, to_others}
 use Rattle.peering.specs.Numbered.{NumberedNode}
 use Rattle.group_world.specs.Unanswered.{reps_from}
-use Rattle.group_world.specs.Rules.{arrive, lead, is_usable, replies_from, and_acks}
+use Rattle.group_world.specs.Rules.{arrive, lead, is_usable, replies_from}
 use Rattle.group_world.specs.declared.status.Status.{Status}
 use Rattle.group_world.specs.declared.status.Status.TheVariants.{Installed}
 use Rattle.group_world.specs.declared.party.Party.{Party}
@@ -67,10 +66,6 @@ sent_with classes n s r point =
 -- one request more, with what is acknowledged and committed then, and what is sent
 abbrev pub grown : NodeState → ClientRequest → List ℕ → ℕ → List Packet → Outcome
 grown s r acked point sent = record { node = record s { log = s.log ++ r ∷ []; committed = point; acked = acked }; sent = sent; refusal = None }
-
--- what a Rep of the next place makes of a member that has installed
-abbrev pub replicated_next : Classes → ℕ → NodeState → Party → ClientRequest → Outcome
-replicated_next classes n s sender r = if is_none (refusal classes s.log r) then and_acks n sender (record s { log = s.log ++ r ∷ [] }) else nothing s
 
 -- a node of which only interval and log count
 abbrev pub at_interval : ℕ → List ClientRequest → NodeState

@@ -46,10 +46,24 @@ pub(crate) fn query_to_all(
 {
     let mut sent = Vec::new(alloc);
     for node in nodes {
-        let kind = Kind::Query(map.copy(alloc)?);
-        send(&mut sent, packet(number, Party::Node(*node), kind))?;
+        send_query(alloc, number, *node, map, &mut sent)?;
     }
     Ok(sent)
+}
+
+/// Sends a Query to a node.
+fn send_query(
+    alloc: Global,
+    number: NodeId,
+    node: NodeId,
+    map: &GroupMap,
+    sent: &mut Vec<Packet>,
+) -> Result<(), HandleError>
+    ensures ok { OnOk result (sent.new.items ≡ sent.old.items ++ packet number (Party.Node node) (Kind.Query map.now) ∷ []) }
+    ensures err { IfErr result (λ e. e ≡ HandleError.NoMemory) }
+{
+    let kind = Kind::Query(map.copy(alloc)?);
+    send(sent, packet(number, Party::Node(node), kind))
 }
 
 /// An Install to each of these nodes that isn't the sender and hasn't joined.
@@ -97,6 +111,23 @@ pub(crate) fn rep_to_others(
     Ok(sent)
 }
 
+/// Sends a Rep to a node.
+fn send_rep(
+    alloc: Global,
+    number: NodeId,
+    node: NodeId,
+    interval: Epoch,
+    place: Place,
+    request: &Request,
+    sent: &mut Vec<Packet>,
+) -> Result<(), HandleError>
+    ensures ok { OnOk result (sent.new.items ≡ sent.old.items ++ packet number (Party.Node node) (Kind.Rep interval place request.now) ∷ []) }
+    ensures err { IfErr result (λ e. e ≡ HandleError.NoMemory) }
+{
+    let kind = Kind::Rep(interval, place, copy_request(alloc, request)?);
+    send(sent, packet(number, Party::Node(node), kind))
+}
+
 /// A Rep to one node of each of these entries, which stand in the log from a place on.
 pub(crate) fn reps_to(
     alloc: Global,
@@ -111,9 +142,8 @@ pub(crate) fn reps_to(
     ensures err { IfErr result (λ e. e ≡ HandleError.NoMemory) }
 {
     for place in from..entries.len() {
-        let request = copy_request(alloc, &entries[place].request)?;
-        let kind = Kind::Rep(interval, place, request);
-        send(sent, packet(number, Party::Node(node), kind))?;
+        let request = &entries[place].request;
+        send_rep(alloc, number, node, interval, place, request, sent)?;
     }
     Ok(())
 }

@@ -1,11 +1,11 @@
 //! A node at a map: learning it, and what it does at a Query or an Install that carries one.
-ghost use Rattle.std.specs.Prelude.{◌≡◌, ◌≤◌, ◌++◌, ◌∷◌, [], length, unwrap_or, false, IfOk, IfErr, OnOk, OnErr};
+ghost use Rattle.std.specs.Prelude.{◌≡◌, ◌≤◌, ◌++◌, ◌∷◌, [], length, unwrap_or, false, Some, IfOk, IfErr, OnOk, OnErr};
 ghost use mathlib.Core.List.{IsPrefix};
 ghost use Rattle.pg_log.specs.Log.{Legal};
 ghost use Rattle.group_world.specs.Node.{is_waiting, packet};
 ghost use Rattle.group_world.specs.Rules.{arrive, would_forget, ignores, learn_map, answer_query, install};
 ghost use Rattle.peering.specs.Numbered.{IsDone};
-ghost use Rattle.peering.specs.Arriving.{after_move, IsArrival, IsLeading, log_after, interval_after, install_first, install_again};
+ghost use Rattle.peering.specs.Arriving.{after_move, IsArrival, IsLeading, log_after, interval_after, adopted_sent, install_first, install_again};
 
 use crate::compare::{is_among, leads};
 use crate::copies::copy_log;
@@ -213,14 +213,7 @@ impl<C: Classes> GroupNode<C> {
         ensures err { IfErr result (λ e. e ≡ HandleError.NoMemory) }
     {
         if map.prev().get() == 0 {
-            let mut joined = Vec::with_capacity(self.alloc, 1)?;
-            joined.push_reserved(self.number);
-            let sent = adoption(self.alloc, self.number, map.interval(), map, &[])?;
-            return Ok(Arrival {
-                status: Some(Status::Installing),
-                joined,
-                sent,
-            });
+            return installing(self.alloc, self.number, map.interval(), map, &[]);
         }
         Ok(Arrival {
             status: Some(Status::Asking),
@@ -278,6 +271,29 @@ impl<C: Classes> GroupNode<C> {
             self.group = Group::new(self.alloc);
         }
     }
+}
+
+/// What a primary is to do on adopting a list: it has installed it, and has the others do so.
+pub(crate) fn installing(
+    alloc: Global,
+    number: NodeId,
+    interval: Epoch,
+    members: &GroupMap,
+    list: &[Request],
+) -> Result<Arrival, HandleError>
+    ensures status { IfOk result (λ a. a.status ≡ Some Status.Installing) }
+    ensures joined { IfOk result (λ a. a.joined.items ≡ number ∷ []) }
+    ensures sent { IfOk result (λ a. a.sent.items ≡ adopted_sent number interval members.now list.now) }
+    ensures err { IfErr result (λ e. e ≡ HandleError.NoMemory) }
+{
+    let mut joined = Vec::with_capacity(alloc, 1)?;
+    joined.push_reserved(number);
+    let sent = adoption(alloc, number, interval, members, list)?;
+    Ok(Arrival {
+        status: Some(Status::Installing),
+        joined,
+        sent,
+    })
 }
 
 /// Nothing to send, and nobody has installed.

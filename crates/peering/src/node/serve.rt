@@ -4,14 +4,14 @@ ghost use mathlib.Core.List.{IsPrefix};
 ghost use Rattle.pg_log.specs.Log.{Legal, reply_at};
 ghost use Rattle.std.specs.Int.{w64, cast_unsigned};
 ghost use Rattle.pg_log.specs.Refusals.{place_of, refusal};
-ghost use Rattle.group_world.specs.Rules.{request as request_step, request_at, append_new, replicate, says_ack, acknowledge, least_of, raised};
+ghost use Rattle.group_world.specs.Rules.{request as request_step, request_at, append_new, replicate, acknowledge, least_of, raised};
 ghost use Rattle.pg_log.specs.Entries.{IsNextEntry};
 ghost use Rattle.peering.specs.Numbered.{IsDone, IsRefusal};
-ghost use Rattle.peering.specs.Arriving.{IsNextReply, sent_with, grown, replicated_next, with_log};
+ghost use Rattle.peering.specs.Arriving.{IsNextReply, sent_with, grown, with_log};
 
 use crate::copies::refusal_of;
 use crate::node::GroupNode;
-use crate::packets::{packet, rep_to_others};
+use crate::packets::{packet, rep_to_others, send};
 use crate::replies::{replies, replies_with, reply, same_reply};
 use group_world::{Epoch, HandleError, Kind, Packet, Party, Place, Status};
 use interp::ClassTable;
@@ -20,9 +20,9 @@ use placement::NodeId;
 use replication::commit_point;
 use std::alloc::Global;
 
-/// What a primary has acknowledged and committed, and sends, once a new request is logged.
+/// What a primary has acknowledged and committed after an event, and sends.
 #[derive(Drop)]
-struct Growth {
+struct Commit {
     acked: Vec<usize>,
     point: Place,
     sent: Vec<Packet>,
@@ -84,8 +84,8 @@ impl<C: Classes> GroupNode<C> {
         }
         same_reply(table, self.group(), place);
         let said = reply(self.alloc, self.number, place, request, code, output)?;
-        let mut sent = Vec::with_capacity(self.alloc, 1)?;
-        sent.push_reserved(said);
+        let mut sent = Vec::new(self.alloc);
+        send(&mut sent, said)?;
         Ok(sent)
     }
 
@@ -111,12 +111,12 @@ impl<C: Classes> GroupNode<C> {
         ensures err { OnErr result (self.new ≡ self.old) }
         ensures why { IfErr result (λ e. e ≡ HandleError.NoMemory) }
     {
-        let growth = self.growth(table, &entry)?;
-        self.grow(entry, growth)
+        let commit = self.commit_new(table, &entry)?;
+        self.grow(entry, commit)
     }
 
-    /// What it is to have acknowledged and committed, and to send, with the entry of a new request.
-    fn growth(&self, table: &ClassTable, entry: &Entry) -> Result<Growth, HandleError>
+    /// What it has acknowledged and committed, and sends, with the entry of a new request.
+    fn commit_new(&self, table: &ClassTable, entry: &Entry) -> Result<Commit, HandleError>
         requires table { IsPrefix table.now C.classes }
         requires legal { Legal table.now self.now.state.log }
         requires reply { IsNextReply table.now self.now.state.log entry.now }
@@ -129,7 +129,7 @@ impl<C: Classes> GroupNode<C> {
         let acked = raised(self.alloc, &self.acked, acting, self.number, length)?;
         let point = self.committed.max(least_of(length, &acked));
         let sent = self.sent_with(table, entry, point)?;
-        Ok(Growth {
+        Ok(Commit {
             acked,
             point,
             sent,
@@ -171,20 +171,20 @@ impl<C: Classes> GroupNode<C> {
         Ok(sent)
     }
 
-    /// Logs the entry of a new request, with what was decided of it.
-    fn grow(&mut self, entry: Entry, growth: Growth) -> Result<Vec<Packet>, HandleError>
+    /// Logs the entry of a new request, and has acknowledged and committed what is handed over.
+    fn grow(&mut self, entry: Entry, commit: Commit) -> Result<Vec<Packet>, HandleError>
         requires next { IsNextEntry C.classes self.old.state.log entry }
-        requires within { growth.point ≤ length self.old.state.log + 1 }
-        ensures done { IfOk result (λ sent. IsDone self.old self.new sent.items (grown self.old.state entry.request growth.acked.items growth.point growth.sent.items)) }
+        requires within { commit.point ≤ length self.old.state.log + 1 }
+        ensures done { IfOk result (λ sent. IsDone self.old self.new sent.items (grown self.old.state entry.request commit.acked.items commit.point commit.sent.items)) }
         ensures err { OnErr result (self.new ≡ self.old) }
         ensures why { IfErr result (λ e. e ≡ HandleError.NoMemory) }
     {
         if self.group.keep(entry).is_err() {
             return Err(HandleError::NoMemory);
         }
-        self.acked = growth.acked;
-        self.committed = growth.point;
-        Ok(growth.sent)
+        self.acked = commit.acked;
+        self.committed = commit.point;
+        Ok(commit.sent)
     }
 
     /// The entry that a new request would be. It changes nothing.
@@ -221,51 +221,17 @@ impl<C: Classes> GroupNode<C> {
         ensures err { OnErr result (self.new ≡ self.old) }
         ensures why { IfErr result (λ e. e ≡ HandleError.NoMemory) }
     {
+        let mut sent = Vec::with_capacity(self.alloc, 1)?;
         let length = self.group.len();
         if interval != self.interval || self.status != Status::Installed || length < place {
-            return Ok(Vec::new(self.alloc));
+            return Ok(sent);
         }
-        if place < length {
-            return self.send_ack(sender);
+        if place == length && !self.follow(table, request)? {
+            return Ok(sent);
         }
-        self.replicate_next(table, sender, request)
-    }
-
-    /// A Rep of the next place at a member that has installed.
-    fn replicate_next(
-        &mut self,
-        table: &ClassTable,
-        sender: Party,
-        request: Request,
-    ) -> Result<Vec<Packet>, HandleError>
-        requires table { IsPrefix table.now C.classes }
-        ensures done { IfOk result (λ sent. IsDone self.old self.new sent.items (replicated_next table.now self.old.number self.old.state sender request)) }
-        ensures err { OnErr result (self.new ≡ self.old) }
-        ensures why { IfErr result (λ e. e ≡ HandleError.NoMemory) }
-    {
-        let mut sent = Vec::with_capacity(self.alloc, 1)?;
-        if self.follow(table, request)? {
-            sent.push_reserved(self.ack(sender));
-        }
-        Ok(sent)
-    }
-
-    /// An Ack alone.
-    fn send_ack(&self, receiver: Party) -> Result<Vec<Packet>, HandleError>
-        ensures ok { IfOk result (λ v. v.items ≡ says_ack self.now.number receiver self.now.state ∷ []) }
-        ensures err { IfErr result (λ e. e ≡ HandleError.NoMemory) }
-    {
-        let mut sent = Vec::with_capacity(self.alloc, 1)?;
-        sent.push_reserved(self.ack(receiver));
-        Ok(sent)
-    }
-
-    /// An Ack of the log's length.
-    fn ack(&self, receiver: Party) -> Packet
-        ensures { result ≡ says_ack self.now.number receiver self.now.state }
-    {
         let kind = Kind::Ack(self.interval, self.group.len());
-        packet(self.number, receiver, kind)
+        sent.push_reserved(packet(self.number, sender, kind));
+        Ok(sent)
     }
 
     /// Appends a request where it may follow the log, and says whether. Else, and at an error, nothing changes.

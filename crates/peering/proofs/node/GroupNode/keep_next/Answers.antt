@@ -6,4 +6,4 @@ use Rattle.peering.proofs.node.GroupNode.keep_next.Goals as goal
 pub returns-clause-done : goal.returns-clause-done
 returns-clause-done g c =
     let P : Outcome → Type 0 = λ o. IfOk c.grow.result (λ sent. IsDone c.args.self.now c.grow.new.self sent.items o) in
-    subst P c.in_ok-growth.ensures.ok c.grow.ensures.done
+    subst P c.in_ok-commit.ensures.ok c.grow.ensures.done
