@@ -12,13 +12,11 @@ ghost use Rattle.pg_log.specs.Refusals.{place_of, refusal, refusal_of_method, Re
 ghost use Rattle.pg_log.specs.Entries.{IsOutcome, IsOutcomeOn, IsSafeRequest, IsNextEntry, Keeps, requests_of};
 
 use crate::classes::Classes;
-use crate::client_id::ClientId;
 use crate::entry::Entry;
 use crate::group::{Group, LOG_LIMIT};
 use crate::log_error::LogError;
 use crate::places::Places;
 use crate::request::Request;
-use crate::request_number::RequestNumber;
 use bpf_machine::outcomes;
 use interp::{CallError, ClassTable, Outcome, call};
 use object_store::{Object, Objects};
@@ -45,17 +43,17 @@ impl<C: Classes> Group<C> {
         ensures ok { OnOk result (self.new ≡ list_after (place_of request.client request.number self.old) self.old request) }
         ensures refused { OnErr result (self.new ≡ self.old) }
     {
-        if let Some(place) = self.place(request.client(), request.number()) {
+        if let Some(place) = self.place(&request) {
             return Ok(place);
         }
         self.append_new(table, request)
     }
 
-    /// The place of the client's request of that number.
-    fn place(&self, client: ClientId, number: RequestNumber) -> Option<usize>
-        ensures { result ≡ place_of client number self.now }
+    /// The place at which a request's client and number are logged.
+    fn place(&self, request: &Request) -> Option<usize>
+        ensures { result ≡ place_of request.now.client request.now.number self.now }
     {
-        self.places.place(client, number)
+        self.places.place(request.client(), request.number())
     }
 
     /// Runs a request whose pair isn't logged, and logs it.
