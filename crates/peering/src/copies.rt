@@ -33,11 +33,7 @@ pub(crate) fn copy_request(alloc: Global, request: &Request) -> Result<Request, 
 }
 
 /// Adds an equal request.
-fn add_copy(
-    alloc: Global,
-    request: &Request,
-    copies: &mut Vec<Request>,
-) -> Result<(), HandleError>
+fn add_copy(alloc: Global, request: &Request, copies: &mut Vec<Request>) -> Result<(), HandleError>
     ensures ok { OnOk result (copies.new.items ≡ copies.old.items ++ request.now ∷ []) }
     ensures err { IfErr result (λ e. e ≡ HandleError.NoMemory) }
 {

@@ -124,7 +124,14 @@ impl Monitor {
             return map_of(self.alloc, epoch, interval, acting, prev, prev_acting);
         }
         let last = self.last_activated();
-        map_of(self.alloc, epoch, epoch, acting, last.interval(), last.acting())
+        map_of(
+            self.alloc,
+            epoch,
+            epoch,
+            acting,
+            last.interval(),
+            last.acting(),
+        )
     }
 
     /// The map that was the newest at the last activation.

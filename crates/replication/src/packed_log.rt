@@ -85,11 +85,7 @@ fn copied(alloc: Global, list: &[Request]) -> Result<Vec<Request>, NoMemory>
 }
 
 /// Adds equal requests.
-fn add_copies(
-    alloc: Global,
-    list: &[Request],
-    copies: &mut Vec<Request>,
-) -> Result<(), NoMemory>
+fn add_copies(alloc: Global, list: &[Request], copies: &mut Vec<Request>) -> Result<(), NoMemory>
     ensures { OnOk result (copies.new.items ≡ copies.old.items ++ list.now) }
 {
     copies.reserve(list.len())?;

@@ -55,7 +55,12 @@ impl<C: Classes> GroupNode<C> {
             &self.members,
             &list,
         )?;
-        ask_if(self.number, self.interval, are_among(acting, &self.joined), &mut sent)?;
+        ask_if(
+            self.number,
+            self.interval,
+            are_among(acting, &self.joined),
+            &mut sent,
+        )?;
         Ok(sent)
     }
 }

@@ -129,11 +129,7 @@ impl<C: Classes> GroupNode<C> {
         let acked = raised(self.alloc, &self.acked, acting, self.number, length)?;
         let point = self.committed.max(least_of(length, &acked));
         let sent = self.sent_with(table, entry, point)?;
-        Ok(Commit {
-            acked,
-            point,
-            sent,
-        })
+        Ok(Commit { acked, point, sent })
     }
 
     /// The entry of a new request for the others, and the Replies to what is committed with it, up to a place.
