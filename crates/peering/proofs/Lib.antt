@@ -4,3 +4,4 @@ pub mod Raising
 pub mod Following
 pub mod Keeping
 pub mod Installing
+pub mod Growing

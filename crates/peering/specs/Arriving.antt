@@ -1,5 +1,5 @@
 -- What is decided before a node moves: the move itself, and what it leaves.
-use Rattle.std.specs.Prelude.{◌≡◌, ℕ, List, [], ◌∷◌, ◌++◌, length, Option, Some, None, ◌==◌, unwrap_or, Bool, true, false, if◌then◌else◌}
+use Rattle.std.specs.Prelude.{◌≡◌, ℕ, List, [], ◌∷◌, ◌++◌, length, take, drop, Option, Some, None, ◌==◌, unwrap_or, Bool, true, false, if◌then◌else◌}
 use Rattle.pg_log.specs.Requests.{ClientRequest}
 use Rattle.pg_log.specs.declared.log_error.LogError.{LogError}
 use Rattle.pg_log.specs.declared.log_error.LogError.TheVariants.{NoMemory}
@@ -10,12 +10,12 @@ use Rattle.group_world.specs.Maps.{GroupMap, all_among}
 use Rattle.group_world.specs.Node.{NodeState, Outcome, nothing, fresh, is_installing, is_installed, packet, to_others}
 use Rattle.peering.specs.Numbered.{NumberedNode}
 use Rattle.group_world.specs.Unanswered.{reps_from}
-use Rattle.group_world.specs.Rules.{arrive, lead, is_usable}
+use Rattle.group_world.specs.Rules.{arrive, lead, is_usable, replies_from}
 use Rattle.group_world.specs.declared.status.Status.{Status}
 use Rattle.group_world.specs.declared.status.Status.TheVariants.{Installed}
 use Rattle.group_world.specs.declared.party.Party.{Party}
 use Rattle.group_world.specs.declared.party.Party.TheVariants.{Monitor as TheMonitor}
-use Rattle.group_world.specs.declared.message.Kind.TheVariants.{Install, Installed as InstalledIn, AskActivate}
+use Rattle.group_world.specs.declared.message.Kind.TheVariants.{Install, Installed as InstalledIn, AskActivate, Rep}
 use Rattle.group_world.specs.declared.message.Packet.{Packet}
 
 -- the log after a move: a primary that is installing at once has adopted the empty list
@@ -57,6 +57,15 @@ with_log node list = record { number = node.number; state = record (node.state) 
 pub record IsNextReply (classes : Classes) (log : List ClientRequest) (e : Entry) : Type 0 where
   pub legal : Legal classes (log ++ e.request ∷ [])
   pub reply : reply_at classes (log ++ e.request ∷ []) (length log) ≡ Some (record { code = cast_unsigned w64 e.code; output = e.output.items })
+
+-- what an active primary sends of one request more, where it commits up to a place
+abbrev pub sent_with : Classes → ℕ → NodeState → ClientRequest → ℕ → List Packet
+sent_with classes n s r point =
+    to_others n s.members.acting (Rep s.interval (length s.log) r) ++ replies_from classes n (s.log ++ r ∷ []) s.committed (drop s.committed (take point (s.log ++ r ∷ [])))
+
+-- one request more, with what is acknowledged and committed then, and what is sent
+abbrev pub grown : NodeState → ClientRequest → List ℕ → ℕ → List Packet → Outcome
+grown s r acked point sent = record { node = record s { log = s.log ++ r ∷ []; committed = point; acked = acked }; sent = sent; refusal = None }
 
 -- a node of which only interval and log count
 abbrev pub at_interval : ℕ → List ClientRequest → NodeState

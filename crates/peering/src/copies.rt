@@ -1,5 +1,5 @@
 //! Copies of requests, and the log's refusals as a node gives them.
-ghost use Rattle.std.specs.Prelude.{◌≡◌, IfOk, IfErr};
+ghost use Rattle.std.specs.Prelude.{◌≡◌, ◌∷◌, ◌++◌, [], IfOk, IfErr, OnOk};
 ghost use Rattle.pg_log.specs.Entries.{requests_of};
 ghost use Rattle.group_world.specs.Refusal.{of_log};
 
@@ -32,6 +32,16 @@ pub(crate) fn copy_request(alloc: Global, request: &Request) -> Result<Request, 
     }
 }
 
+/// Adds an equal request.
+fn add_copy(alloc: Global, request: &Request, copies: &mut Vec<Request>) -> Result<(), HandleError>
+    ensures ok { OnOk result (copies.new.items ≡ copies.old.items ++ request.now ∷ []) }
+    ensures err { IfErr result (λ e. e ≡ HandleError.NoMemory) }
+{
+    let copy = copy_request(alloc, request)?;
+    copies.push(copy)?;
+    Ok(())
+}
+
 /// Equal requests.
 pub(crate) fn copy_requests(alloc: Global, list: &[Request]) -> Result<Vec<Request>, HandleError>
     ensures ok { IfOk result (λ v. v.items ≡ list.now) }
@@ -39,7 +49,7 @@ pub(crate) fn copy_requests(alloc: Global, list: &[Request]) -> Result<Vec<Reque
 {
     let mut copies = Vec::new(alloc);
     for request in list {
-        copies.push(copy_request(alloc, request)?)?;
+        add_copy(alloc, request, &mut copies)?;
     }
     Ok(copies)
 }
@@ -51,7 +61,7 @@ pub(crate) fn copy_log(alloc: Global, entries: &[Entry]) -> Result<Vec<Request>,
 {
     let mut copies = Vec::new(alloc);
     for entry in entries {
-        copies.push(copy_request(alloc, &entry.request)?)?;
+        add_copy(alloc, &entry.request, &mut copies)?;
     }
     Ok(copies)
 }

@@ -41,6 +41,28 @@ fn no_map(alloc: Global) -> GroupMap
     GroupMap::new(none, none, Vec::new(alloc), none, Vec::new(alloc))
 }
 
+/// The map of those parts, with lists of its own.
+fn map_of(
+    alloc: Global,
+    epoch: Epoch,
+    interval: Epoch,
+    acting: &[NodeId],
+    prev: Epoch,
+    prev_acting: &[NodeId],
+) -> Result<GroupMap, AllocError>
+    ensures { IfOk result (λ m. m ≡ record {
+      epoch = epoch;
+      interval = interval;
+      acting = acting.now;
+      prev = prev;
+      prev_acting = prev_acting.now;
+    }) }
+{
+    let acting = Vec::from_slice(alloc, acting)?;
+    let prev_acting = Vec::from_slice(alloc, prev_acting)?;
+    Ok(GroupMap::new(epoch, interval, acting, prev, prev_acting))
+}
+
 impl Monitor {
     /// The monitor before its first map. It takes no memory.
     pub fn new(alloc: Global) -> Monitor
@@ -74,12 +96,20 @@ impl Monitor {
         }
         let next = self.next_map(acting)?;
         let kept = next.copy(self.alloc)?;
-        let before = mem::replace(&mut self.newest, kept);
+        self.keep(kept);
+        Ok(next)
+    }
+
+    /// Keeps a map as the newest.
+    fn keep(&mut self, map: GroupMap)
+        ensures newest { self.new.newest ≡ map }
+        ensures activated { self.new.activated ≡ self.old.activated }
+    {
+        let before = mem::replace(&mut self.newest, map);
         if self.is_activated {
             self.activated = before;
             self.is_activated = false;
         }
-        Ok(next)
     }
 
     /// The next map of an acting list.
@@ -88,20 +118,20 @@ impl Monitor {
         ensures { IfOk result (λ m. m ≡ next_map self.now acting.now) }
     {
         let epoch = Epoch::new(self.newest.epoch().get() + 1);
-        let nodes = Vec::from_slice(self.alloc, acting)?;
         if are_same(self.newest.acting(), acting) {
-            let before = Vec::from_slice(self.alloc, self.newest.prev_acting())?;
-            return Ok(GroupMap::new(
-                epoch,
-                self.newest.interval(),
-                nodes,
-                self.newest.prev(),
-                before,
-            ));
+            let (interval, prev) = (self.newest.interval(), self.newest.prev());
+            let prev_acting = self.newest.prev_acting();
+            return map_of(self.alloc, epoch, interval, acting, prev, prev_acting);
         }
         let last = self.last_activated();
-        let before = Vec::from_slice(self.alloc, last.acting())?;
-        Ok(GroupMap::new(epoch, epoch, nodes, last.interval(), before))
+        map_of(
+            self.alloc,
+            epoch,
+            epoch,
+            acting,
+            last.interval(),
+            last.acting(),
+        )
     }
 
     /// The map that was the newest at the last activation.

@@ -113,6 +113,9 @@ impl<C: Classes> GroupNode<C> {
         ensures ok { IfOk result (λ n. n ≡ self.now) }
         ensures err { IfErr result (λ e. e ≡ HandleError.NoMemory) }
     {
+        let joined = Vec::from_slice(alloc, &self.joined)?;
+        let acked = Vec::from_slice(alloc, &self.acked)?;
+        let members = self.members.copy(alloc)?;
         let Ok(group) = self.group.copy(alloc) else {
             return Err(HandleError::NoMemory);
         };
@@ -120,12 +123,12 @@ impl<C: Classes> GroupNode<C> {
             alloc,
             number: self.number,
             interval: self.interval,
-            members: self.members.copy(alloc)?,
+            members,
             status: self.status,
             group,
             committed: self.committed,
-            joined: Vec::from_slice(alloc, &self.joined)?,
-            acked: Vec::from_slice(alloc, &self.acked)?,
+            joined,
+            acked,
         })
     }
 }

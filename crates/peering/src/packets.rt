@@ -1,5 +1,5 @@
 //! The messages of a node.
-ghost use Rattle.std.specs.Prelude.{◌≡◌, ◌++◌, drop, IfOk, IfErr, OnOk};
+ghost use Rattle.std.specs.Prelude.{◌≡◌, ◌∷◌, ◌++◌, [], drop, IfOk, IfErr, OnOk};
 ghost use Rattle.pg_log.specs.Entries.{requests_of};
 ghost use Rattle.group_world.specs.Node.{packet, to_all, to_others};
 ghost use Rattle.group_world.specs.Unanswered.{to_missing, reps_from};
@@ -25,6 +25,15 @@ pub(crate) fn packet(number: NodeId, receiver: Party, kind: Kind) -> Packet
     }
 }
 
+/// Adds a message to those that are sent.
+pub(crate) fn send(sent: &mut Vec<Packet>, packet: Packet) -> Result<(), HandleError>
+    ensures ok { OnOk result (sent.new.items ≡ sent.old.items ++ packet ∷ []) }
+    ensures err { IfErr result (λ e. e ≡ HandleError.NoMemory) }
+{
+    sent.push(packet)?;
+    Ok(())
+}
+
 /// A Query to each of these nodes.
 pub(crate) fn query_to_all(
     alloc: Global,
@@ -37,10 +46,24 @@ pub(crate) fn query_to_all(
 {
     let mut sent = Vec::new(alloc);
     for node in nodes {
-        let kind = Kind::Query(map.copy(alloc)?);
-        sent.push(packet(number, Party::Node(*node), kind))?;
+        send_query(alloc, number, *node, map, &mut sent)?;
     }
     Ok(sent)
+}
+
+/// Sends a Query to a node.
+fn send_query(
+    alloc: Global,
+    number: NodeId,
+    node: NodeId,
+    map: &GroupMap,
+    sent: &mut Vec<Packet>,
+) -> Result<(), HandleError>
+    ensures ok { OnOk result (sent.new.items ≡ sent.old.items ++ packet number (Party.Node node) (Kind.Query map.now) ∷ []) }
+    ensures err { IfErr result (λ e. e ≡ HandleError.NoMemory) }
+{
+    let kind = Kind::Query(map.copy(alloc)?);
+    send(sent, packet(number, Party::Node(node), kind))
 }
 
 /// An Install to each of these nodes that isn't the sender and hasn't joined.
@@ -60,7 +83,7 @@ pub(crate) fn install_to_missing(
         if !(is_among(joined, *node) || *node == number) {
             let list = Requests::new(copy_requests(alloc, list)?);
             let kind = Kind::Install(map.copy(alloc)?, list);
-            sent.push(packet(number, Party::Node(*node), kind))?;
+            send(&mut sent, packet(number, Party::Node(*node), kind))?;
         }
     }
     Ok(sent)
@@ -82,10 +105,27 @@ pub(crate) fn rep_to_others(
     for node in nodes {
         if *node != number {
             let kind = Kind::Rep(interval, place, copy_request(alloc, request)?);
-            sent.push(packet(number, Party::Node(*node), kind))?;
+            send(&mut sent, packet(number, Party::Node(*node), kind))?;
         }
     }
     Ok(sent)
+}
+
+/// Sends a Rep to a node.
+fn send_rep(
+    alloc: Global,
+    number: NodeId,
+    node: NodeId,
+    interval: Epoch,
+    place: Place,
+    request: &Request,
+    sent: &mut Vec<Packet>,
+) -> Result<(), HandleError>
+    ensures ok { OnOk result (sent.new.items ≡ sent.old.items ++ packet number (Party.Node node) (Kind.Rep interval place request.now) ∷ []) }
+    ensures err { IfErr result (λ e. e ≡ HandleError.NoMemory) }
+{
+    let kind = Kind::Rep(interval, place, copy_request(alloc, request)?);
+    send(sent, packet(number, Party::Node(node), kind))
 }
 
 /// A Rep to one node of each of these entries, which stand in the log from a place on.
@@ -102,9 +142,8 @@ pub(crate) fn reps_to(
     ensures err { IfErr result (λ e. e ≡ HandleError.NoMemory) }
 {
     for place in from..entries.len() {
-        let request = copy_request(alloc, &entries[place].request)?;
-        let kind = Kind::Rep(interval, place, request);
-        sent.push(packet(number, Party::Node(node), kind))?;
+        let request = &entries[place].request;
+        send_rep(alloc, number, node, interval, place, request, sent)?;
     }
     Ok(())
 }
@@ -138,7 +177,8 @@ pub(crate) fn ask_if(
     ensures err { IfErr result (λ e. e ≡ HandleError.NoMemory) }
 {
     if all {
-        sent.push(packet(number, Party::Monitor, Kind::AskActivate(interval)))?;
+        let kind = Kind::AskActivate(interval);
+        send(sent, packet(number, Party::Monitor, kind))?;
     }
     Ok(())
 }

@@ -1,5 +1,5 @@
 //! Replies to what is committed.
-ghost use Rattle.std.specs.Prelude.{◌≡◌, ◌<◌, ◌≤◌, ◌+◌, ◌++◌, ◌∷◌, [], drop, length, take, slice_index_or, IfOk, IfErr};
+ghost use Rattle.std.specs.Prelude.{◌≡◌, ◌<◌, ◌≤◌, ◌+◌, ◌++◌, ◌∷◌, [], drop, length, take, slice_index_or, IfOk, IfErr, OnOk};
 ghost use Rattle.std.specs.Int.{w64, cast_unsigned};
 ghost use mathlib.Core.List.{IsPrefix};
 ghost use Rattle.pg_log.specs.Log.{Legal, reply_at};
@@ -9,7 +9,7 @@ ghost use Rattle.group_world.specs.Node.{packet};
 ghost use Rattle.group_world.specs.Rules.{reply_packet, replies_from};
 ghost use Rattle.peering.specs.Arriving.{IsNextReply};
 
-use crate::packets::packet;
+use crate::packets::{packet, send};
 use group_world::{Answer, HandleError, Kind, Packet, Party, Place};
 use interp::ClassTable;
 use pg_log::{Classes, Entry, Group, Request, classes_added, replies as replies_of_lists};
@@ -83,7 +83,8 @@ pub(crate) fn replies<C: Classes>(
 {
     let mut sent = Vec::new(alloc);
     for place in from..to {
-        sent.push(reply_in(alloc, table, number, group, place)?)?;
+        let reply = reply_in(alloc, table, number, group, place)?;
+        send(&mut sent, reply)?;
     }
     Ok(sent)
 }
@@ -115,7 +116,7 @@ fn request_in(entries: &[Entry], place: Place) -> &Request
     &entries[place].request
 }
 
-/// The same, of the log with the entry that is to come.
+/// Adds the same, of the log with the entry that is to come.
 pub(crate) fn replies_with<C: Classes>(
     alloc: Global,
     table: &ClassTable,
@@ -124,19 +125,20 @@ pub(crate) fn replies_with<C: Classes>(
     next: &Entry,
     from: Place,
     to: Place,
-) -> Result<Vec<Packet>, HandleError>
+    sent: &mut Vec<Packet>,
+) -> Result<(), HandleError>
     requires table { IsPrefix table.now C.classes }
     requires legal { Legal table.now group.now }
     requires next { IsNextReply table.now group.now next.now }
     requires within { to ≤ length group.now + 1 }
-    ensures ok { IfOk result (λ v. v.items ≡ replies_from table.now number (group.now ++ next.now.request ∷ []) from (drop from (take to (group.now ++ next.now.request ∷ [])))) }
+    ensures ok { OnOk result (sent.new.items ≡ sent.old.items ++ replies_from table.now number (group.now ++ next.now.request ∷ []) from (drop from (take to (group.now ++ next.now.request ∷ [])))) }
     ensures err { IfErr result (λ e. e ≡ HandleError.NoMemory) }
 {
-    let mut sent = Vec::new(alloc);
     for place in from..to {
-        sent.push(reply_with(alloc, table, number, group, next, place)?)?;
+        let reply = reply_with(alloc, table, number, group, next, place)?;
+        send(sent, reply)?;
     }
-    Ok(sent)
+    Ok(())
 }
 
 /// The Reply of a place of the log with the entry that is to come.

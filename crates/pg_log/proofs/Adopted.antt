@@ -1,5 +1,5 @@
 -- The common beginning of a log and a list, and a log that is cut back to it.
-use Rattle.std.proofs.Common.{◌≡◌, ℕ, zero, suc, ◌+◌, ◌-◌, ◌<◌, ◌≤◌, ◌⊎◌, List, [], ◌∷◌, ◌++◌, length, take, drop, Some, None, refl, ap, sym, ◌∙◌, arith, subst, inl, inr, ⊎_elim, append_assoc, append-nil}
+use Rattle.std.proofs.Common.{◌≡◌, ℕ, zero, suc, ◌+◌, ◌-◌, ◌<◌, ◌≤◌, ◌⊎◌, List, [], ◌∷◌, ◌++◌, length, take, drop, Some, None, refl, ap, sym, ◌∙◌, arith, subst, inl, inr, ⊎_elim, append_assoc, append-nil, Result, Ok, Err, OnOk, IfErr}
 use Rattle.std.specs.List.{slice_get}
 use Rattle.std.specs.FinMap as fin
 use Rattle.std.proofs.lemmas.Option.{same_Some, slice_get_within}
@@ -187,8 +187,13 @@ undone_more classes es objects k e h at is =
     ap (λ w. undone w e.request.object e.change) (is ∙ ap (λ (w : List Entry). fold classes (requests_of w)) more)
     ∙ undone_last classes (take k es) e (subst A more (entries_beginning classes fin.empty es (k + 1) h))
 
-pub prefix_push : (xs zs ws : List Entry) (e : Entry) → IsPrefix xs zs → ws ≡ zs ++ e ∷ [] → IsPrefix xs ws
-prefix_push xs zs ws e p is = (p.0 ++ e ∷ [], sym (append_assoc xs p.0 (e ∷ [])) ∙ ap (λ (w : List Entry). w ++ e ∷ []) p.1 ∙ sym is)
+pub prefix_on : (xs ys zs : List Entry) → IsPrefix xs ys → IsPrefix ys zs → IsPrefix xs zs
+prefix_on xs ys zs p q = (p.0 ++ q.0, sym (append_assoc xs p.0 q.0) ∙ ap (λ (w : List Entry). w ++ q.0) p.1 ∙ q.1)
+
+-- an entry was added, or the list stayed
+pub prefix_added : (r : Result (Unit {0}) LogError) (xs ys : List Entry) (e : Entry) → OnOk r (ys ≡ xs ++ e ∷ []) → IfErr r (λ w. (w ≡ NoMemory) × (ys ≡ xs)) → IsPrefix xs ys
+prefix_added (Ok u) xs ys e h f = (e ∷ [], sym h)
+prefix_added (Err w) xs ys e h f = ([], append-nil xs ∙ sym f.1)
 
 -- refusals of a list go on after a beginning that isn't refused
 refusals_go_on : (classes : Classes) (before xs ys : List ClientRequest) → first_refusal_from classes before xs ≡ None →

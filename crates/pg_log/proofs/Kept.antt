@@ -1,9 +1,9 @@
 -- What a group keeps of its list, where it is read and where a request is added.
-use Rattle.std.proofs.Common.{◌≡◌, ℕ, zero, suc, true, false, List, [], ◌∷◌, ◌++◌, length, take, drop, ◌+◌, Some, None, Result, Ok, Err, is_err, OnErr, OnOk, IfOk, IfErr, Option, ◌⊎◌, inl, inr, option_map, refl, ap, sym, ◌∙◌, subst, arith, ⊎_elim}
+use Rattle.std.proofs.Common.{◌≡◌, ℕ, zero, suc, true, false, List, [], ◌∷◌, ◌++◌, length, take, drop, ◌+◌, Some, None, Result, Ok, Err, is_err, OnErr, OnOk, IfOk, IfErr, Option, ◌⊎◌, inl, inr, option_map, refl, ap, sym, ◌∙◌, subst, ⊎_elim}
 use Rattle.std.specs.List.{slice_get}
 use Rattle.std.specs.Int.{w64, cast_unsigned}
 use Rattle.std.specs.FinMap as fin
-use Rattle.std.proofs.lemmas.Option.{none-some, same_Some, slice_get-map, slice_get_within}
+use Rattle.std.proofs.lemmas.Option.{none-some, same_Some, slice_get-map}
 use Rattle.object_store.specs.Names.{PlainObjects, stored}
 use Rattle.pg_log.specs.declared.entry.Entry.{Entry}
 use Rattle.pg_log.specs.declared.places.Places.{Places}
@@ -11,14 +11,13 @@ use Rattle.pg_log.specs.Requests.{ClientRequest}
 use Rattle.pg_log.specs.Log.{Classes, Legal, after, fold, fold_from, reply_to, reply_at}
 use Rattle.pg_log.specs.declared.log_error.LogError.{LogError}
 use Rattle.pg_log.specs.declared.log_error.LogError.TheVariants.{NoMemory}
-use Rattle.pg_log.specs.Refusals.{place_of, answer_of, list_after}
+use Rattle.pg_log.specs.Refusals.{answer_of, list_after}
 use Rattle.pg_log.specs.Places.{ArePlaces}
 use Rattle.pg_log.specs.Entries.{IsOutcomeOn, AreEntries, IsSafeRequest, AreSafe, requests_of, undone, Keeps}
 use Rattle.std.proofs.lemmas.List.{length-map, take-append-drop}
-use Rattle.pg_log.proofs.Lists.{get_before, get_last, get_push, take_get}
+use Rattle.pg_log.proofs.Lists.{get_push, take_get}
 use Rattle.pg_log.proofs.Legal.{legal_beginning}
 use Rattle.pg_log.proofs.Fold.{fold_from-append}
-use Rattle.pg_log.proofs.Standing.{same_place, place_of-has}
 use Rattle.pg_log.proofs.Stored.{undone-stored}
 
 pub on_err : {T E P : Type 0} (r : Result T E) → is_err r ≡ true → OnErr r P → P
@@ -107,18 +106,6 @@ keeps_same classes es fs objects next places more k p q at =
     let P : List Entry → Type 0 = λ w. Keeps classes w next more in
     subst P (sym p) (record { legal = k.legal; safe = k.safe; kept = k.kept; folded = q ∙ k.folded; indexed = at })
 
--- what may follow a list isn't of a logged pair
-pub fresh : (classes : Classes) (xs : List ClientRequest) (r : ClientRequest) → Legal classes (xs ++ r ∷ []) → place_of r.client r.number xs ≡ None
-fresh classes xs r l =
-    elim (place_of r.client r.number xs) as (λ o. place_of r.client r.number xs ≡ o → o ≡ None) [
-      | None ↦ λ p. refl
-      | Some k ↦ λ p.
-          let w = place_of-has xs r.client r.number k p in
-          let within = slice_get_within xs k w.0 w.1 in
-          let same = same_place classes (xs ++ r ∷ []) l k (length xs) w.0 r (get_before xs (r ∷ []) k within ∙ w.1) (get_last xs r) w.2 w.3 in
-          absurd (omega (arith, within, same))
-    ] refl
-
 pub length-requests : (es : List Entry) (xs : List ClientRequest) → requests_of es ≡ xs → length es ≡ length xs
 length-requests es xs e = sym (length-map es (λ (w : Entry). w.request)) ∙ ap (λ l. length l) e
 
@@ -149,3 +136,7 @@ pub kept_list : (place : Option ℕ) (xs new : List ClientRequest) (s r : Client
 kept_list place xs new s r (Ok k) none same h =
     h.1 ∙ ap (λ w. xs ++ w ∷ []) same ∙ sym (ap (λ w. list_after w xs r) none)
 kept_list place xs new s r (Err e) none same h = tt
+
+pub kept_nothing : {T : Type 0} (xs new : List ClientRequest) (o : Result T LogError) → IfErr o (λ e. (e ≡ NoMemory) × (new ≡ xs)) → OnErr o (new ≡ xs)
+kept_nothing xs new (Ok k) f = tt
+kept_nothing xs new (Err e) f = f.1

@@ -25,8 +25,8 @@ impl Entry {
         ensures ok { IfOk result (λ e. IsSameEntry e self.now) }
         ensures err { IfErr result (λ e. e ≡ LogError.NoMemory) }
     {
-        let request = self.request.copy(alloc)?;
         let output = Vec::from_slice(alloc, &self.output)?;
+        let request = self.request.copy(alloc)?;
         let change = self.change.copy()?;
         Ok(Entry {
             request,

@@ -1,4 +1,4 @@
-ghost use Rattle.std.specs.Prelude.{◌≡◌, ◌<◌, ◌∷◌, ◌++◌, [], List, length, take, IsOk, OnOk, OnErr};
+ghost use Rattle.std.specs.Prelude.{◌≡◌, ◌<◌, ◌∷◌, ◌++◌, [], List, length, take, None, IsOk, IfOk, OnOk, OnErr};
 ghost use Rattle.std.specs.Ordering.{nat_cmp};
 ghost use Rattle.std.specs.BTreeMap as tree;
 ghost use Rattle.pg_log.specs.Requests.{ClientRequest};
@@ -68,13 +68,29 @@ impl Places {
         let request = (number.get(), place);
         let key = client.get();
         match self.by_client.get_mut(&key) {
-            Some(requests) => requests.push(request)?,
-            None => {
-                let mut requests = Vec::new(alloc);
+            Some(requests) => {
                 requests.push(request)?;
-                let _ = self.by_client.insert(key, requests)?;
+                Ok(())
             }
+            None => self.add_first(alloc, key, request),
         }
+    }
+
+    /// Adds the place of a request that follows the list, of a client that has none.
+    fn add_first(
+        &mut self,
+        alloc: Global,
+        key: u32,
+        request: (u32, usize),
+    ) -> Result<(), AllocError>
+        requires { tree.get nat_cmp self.old.by_client key ≡ None }
+        ensures ok { OnOk result ((list : List ClientRequest) (r : ClientRequest) → ArePlaces self.old list
+            → key ≡ r.client → request.0 ≡ r.number → request.1 ≡ length list → ArePlaces self.new (list ++ r ∷ [])) }
+        ensures err { OnErr result ((list : List ClientRequest) → ArePlaces self.old list → ArePlaces self.new list) }
+        ensures room { RoomStays self.old self.new }
+    {
+        let requests = just(alloc, request)?;
+        let _ = self.by_client.insert(key, requests)?;
         Ok(())
     }
 
@@ -115,6 +131,15 @@ impl Places {
             }
         }
     }
+}
+
+/// That request alone.
+fn just(alloc: Global, request: (u32, usize)) -> Result<Vec<(u32, usize)>, AllocError>
+    ensures { IfOk result (λ v. v.items ≡ request ∷ []) }
+{
+    let mut requests = Vec::new(alloc);
+    requests.push(request)?;
+    Ok(requests)
 }
 
 /// The place of a number. Above the last one it costs nothing.

@@ -127,10 +127,21 @@ impl Request {
     pub fn is(&self, other: &Request) -> bool
         ensures { IsTrue result ↔ (self.now ≡ other.now) }
     {
-        self.client == other.client
-            && self.number == other.number
-            && self.object.text() == other.object.text()
-            && self.class == other.class
+        self.has_numbers_of(other) && self.has_texts_of(other)
+    }
+
+    /// Whether client, number and class are equal.
+    fn has_numbers_of(&self, other: &Request) -> bool
+        ensures { IsTrue result ↔ ((self.now.client ≡ other.now.client) × (self.now.number ≡ other.now.number) × (self.now.class ≡ other.now.class)) }
+    {
+        self.client == other.client && self.number == other.number && self.class == other.class
+    }
+
+    /// Whether object, method and input are equal.
+    fn has_texts_of(&self, other: &Request) -> bool
+        ensures { IsTrue result ↔ ((self.now.object ≡ other.now.object) × (self.now.method ≡ other.now.method) × (self.now.input ≡ other.now.input)) }
+    {
+        self.object.text() == other.object.text()
             && self.method.as_str() == other.method.as_str()
             && self.input.as_slice() == other.input.as_slice()
     }

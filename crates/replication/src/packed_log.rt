@@ -1,4 +1,4 @@
-ghost use Rattle.std.specs.Prelude.{◌≡◌, ◌<◌, ◌↔◌, ◌⊎◌, Err, IfOk, IfErr, length};
+ghost use Rattle.std.specs.Prelude.{◌≡◌, ◌<◌, ◌++◌, ◌↔◌, ◌⊎◌, Err, IfOk, IfErr, OnOk, length};
 ghost use Rattle.replication.specs.Packed.{packed, spread};
 ghost use Rattle.replication.specs.declared.unpack_error.UnpackError.TheVariants.{TooShort, NoMemory as NoRoom};
 
@@ -69,10 +69,7 @@ pub fn unpack_log(
     let Ok(mut list) = copied(alloc, &own[..log.common]) else {
         return Err(UnpackError::NoMemory);
     };
-    let Ok(mut rest) = copied(alloc, &log.rest) else {
-        return Err(UnpackError::NoMemory);
-    };
-    if list.append(&mut rest).is_err() {
+    if add_copies(alloc, &log.rest, &mut list).is_err() {
         return Err(UnpackError::NoMemory);
     }
     Ok(list)
@@ -80,14 +77,23 @@ pub fn unpack_log(
 
 /// Equal requests.
 fn copied(alloc: Global, list: &[Request]) -> Result<Vec<Request>, NoMemory>
-    ensures { IfOk result (λ copy. copy.items ≡ list.now) }
+    ensures { IfOk result (λ copies. copies.items ≡ list.now) }
 {
-    let mut copy = Vec::with_capacity(alloc, list.len())?;
+    let mut copies = Vec::new(alloc);
+    add_copies(alloc, list, &mut copies)?;
+    Ok(copies)
+}
+
+/// Adds equal requests.
+fn add_copies(alloc: Global, list: &[Request], copies: &mut Vec<Request>) -> Result<(), NoMemory>
+    ensures { OnOk result (copies.new.items ≡ copies.old.items ++ list.now) }
+{
+    copies.reserve(list.len())?;
     for request in list {
         let Ok(request) = request.copy(alloc) else {
             return Err(NoMemory);
         };
-        copy.push_reserved(request);
+        copies.push_reserved(request);
     }
-    Ok(copy)
+    Ok(())
 }

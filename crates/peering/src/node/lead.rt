@@ -1,17 +1,19 @@
 //! A primary before it is active: it adopts a list, notes who has installed it, and becomes active.
-ghost use Rattle.std.specs.Prelude.{◌≡◌, ◌++◌, ◌∷◌, [], take, length, IfOk, IfErr, OnErr, if◌then◌else◌, is_none, true, ◌≤◌};
+ghost use Rattle.std.specs.Prelude.{◌≡◌, ◌++◌, ◌∷◌, [], take, length, IfOk, IfErr, OnErr, if◌then◌else◌, ◌&&◌, ◌==◌, not, is_none, true, ◌≤◌};
 ghost use mathlib.Core.List.{IsPrefix};
+ghost use Rattle.placement.specs.Placement.{has};
 ghost use Rattle.pg_log.specs.Log.{Legal};
 ghost use Rattle.pg_log.specs.Entries.{requests_of};
 ghost use Rattle.pg_log.specs.Refusals.{first_refusal};
-ghost use Rattle.group_world.specs.Node.{committed_list};
+ghost use Rattle.group_world.specs.Node.{committed_list, is_installing};
 ghost use Rattle.group_world.specs.Rules.{adopt_log, note_installed, activate, each_at, is_usable, is_same_request, begins};
 ghost use Rattle.peering.specs.Numbered.{IsDone};
 ghost use Rattle.peering.specs.Arriving.{with_log, is_memory};
 
 use crate::compare::{are_among, is_among};
 use crate::node::GroupNode;
-use crate::packets::{adoption, packet};
+use crate::node::moves::installing;
+use crate::packets::packet;
 use group_world::{Epoch, HandleError, Kind, Packet, Party, Status};
 use interp::ClassTable;
 use pg_log::{Classes, Entry, Group, LogError, Request, adopting};
@@ -35,16 +37,14 @@ impl<C: Classes> GroupNode<C> {
         if interval != self.interval || self.status != Status::Asking {
             return Ok(Vec::new(self.alloc));
         }
-        let sent = adoption(self.alloc, self.number, self.interval, &self.members, list)?;
-        let mut joined = Vec::with_capacity(self.alloc, 1)?;
-        joined.push_reserved(self.number);
+        let adopted = installing(self.alloc, self.number, self.interval, &self.members, list)?;
         if !self.take_list(table, list)? {
             return Ok(Vec::new(self.alloc));
         }
         self.status = Status::Installing;
-        self.joined = joined;
+        self.joined = adopted.joined;
         self.acked.clear();
-        Ok(sent)
+        Ok(adopted.sent)
     }
 
     /// Makes the log a received list, where it is usable. Else, and at an error, nothing changes.
@@ -91,10 +91,7 @@ impl<C: Classes> GroupNode<C> {
         let Party::Node(member) = sender else {
             return Ok(Vec::new(self.alloc));
         };
-        if interval != self.interval || self.status != Status::Installing {
-            return Ok(Vec::new(self.alloc));
-        }
-        if !is_among(self.members.acting(), member) || is_among(&self.joined, member) {
+        if !self.awaits(member, interval) {
             return Ok(Vec::new(self.alloc));
         }
         let mut sent = Vec::with_capacity(self.alloc, 1)?;
@@ -104,6 +101,16 @@ impl<C: Classes> GroupNode<C> {
             sent.push_reserved(packet(self.number, Party::Monitor, kind));
         }
         Ok(sent)
+    }
+
+    /// Whether it is to note that a member has installed.
+    fn awaits(&self, member: NodeId, interval: Epoch) -> bool
+        ensures { result ≡ ((interval == self.now.state.interval) && (is_installing self.now.state.status && (has member self.now.state.members.acting && not (has member self.now.state.joined)))) }
+    {
+        interval == self.interval
+            && self.status == Status::Installing
+            && is_among(self.members.acting(), member)
+            && !is_among(&self.joined, member)
     }
 
     /// Becomes active, where the monitor has activated its interval.

@@ -1,16 +1,16 @@
 //! A node at a map: learning it, and what it does at a Query or an Install that carries one.
-ghost use Rattle.std.specs.Prelude.{◌≡◌, ◌≤◌, ◌++◌, ◌∷◌, [], length, unwrap_or, false, IfOk, IfErr, OnErr};
+ghost use Rattle.std.specs.Prelude.{◌≡◌, ◌≤◌, ◌++◌, ◌∷◌, [], length, unwrap_or, false, Some, IfOk, IfErr, OnOk, OnErr};
 ghost use mathlib.Core.List.{IsPrefix};
 ghost use Rattle.pg_log.specs.Log.{Legal};
-ghost use Rattle.group_world.specs.Node.{is_waiting};
+ghost use Rattle.group_world.specs.Node.{is_waiting, packet};
 ghost use Rattle.group_world.specs.Rules.{arrive, would_forget, ignores, learn_map, answer_query, install};
 ghost use Rattle.peering.specs.Numbered.{IsDone};
-ghost use Rattle.peering.specs.Arriving.{after_move, IsArrival, IsLeading, log_after, interval_after, install_first, install_again};
+ghost use Rattle.peering.specs.Arriving.{after_move, IsArrival, IsLeading, log_after, interval_after, adopted_sent, install_first, install_again};
 
 use crate::compare::{is_among, leads};
 use crate::copies::copy_log;
 use crate::node::GroupNode;
-use crate::packets::{adoption, packet, query_to_all};
+use crate::packets::{adoption, packet, query_to_all, send};
 use group_world::{Epoch, GroupMap, HandleError, Kind, Packet, Party, Requests, Status};
 use interp::ClassTable;
 use pg_log::{Classes, Group, LogError, Request};
@@ -53,13 +53,41 @@ impl<C: Classes> GroupNode<C> {
         if self.ignores(&map) {
             return Ok(Vec::new(self.alloc));
         }
-        let arrival = self.arrival(&map)?;
-        let list = Requests::new(self.log_after(arrival.status)?);
-        let kind = Kind::Log(self.interval_after(&map, arrival.status), list);
-        let mut sent = arrival.sent;
-        sent.push(packet(self.number, asker, kind))?;
+        let mut arrival = self.arrival(&map)?;
+        self.send_log(asker, &map, arrival.status, &mut arrival.sent)?;
         self.move_to(map, arrival.status, arrival.joined);
-        Ok(sent)
+        Ok(arrival.sent)
+    }
+
+    /// Sends its list after a move.
+    fn send_log(
+        &self,
+        receiver: Party,
+        map: &GroupMap,
+        status: Option<Status>,
+        sent: &mut Vec<Packet>,
+    ) -> Result<(), HandleError>
+        ensures ok { OnOk result (sent.new.items ≡ sent.old.items ++ packet self.now.number receiver (Kind.Log (interval_after self.now.state map.now status) (log_after self.now.state status)) ∷ []) }
+        ensures err { IfErr result (λ e. e ≡ HandleError.NoMemory) }
+    {
+        let list = Requests::new(self.log_after(status)?);
+        let kind = Kind::Log(self.interval_after(map, status), list);
+        send(sent, packet(self.number, receiver, kind))
+    }
+
+    /// Says that it has installed, after a move.
+    fn send_installed(
+        &self,
+        receiver: Party,
+        map: &GroupMap,
+        status: Option<Status>,
+        sent: &mut Vec<Packet>,
+    ) -> Result<(), HandleError>
+        ensures ok { OnOk result (sent.new.items ≡ sent.old.items ++ packet self.now.number receiver (Kind.Installed (interval_after self.now.state map.now status)) ∷ []) }
+        ensures err { IfErr result (λ e. e ≡ HandleError.NoMemory) }
+    {
+        let kind = Kind::Installed(self.interval_after(map, status));
+        send(sent, packet(self.number, receiver, kind))
     }
 
     /// Takes the list of an Install: moves to its map first.
@@ -93,7 +121,7 @@ impl<C: Classes> GroupNode<C> {
         sender: Party,
         map: GroupMap,
         list: &[Request],
-        arrival: Arrival,
+        mut arrival: Arrival,
     ) -> Result<Vec<Packet>, HandleError>
         requires table { IsPrefix table.now C.classes }
         requires legal { Legal table.now self.old.state.log }
@@ -102,16 +130,14 @@ impl<C: Classes> GroupNode<C> {
         ensures err { OnErr result (self.new ≡ self.old) }
         ensures why { IfErr result (λ e. e ≡ HandleError.NoMemory) }
     {
-        let said = Kind::Installed(self.interval_after(&map, arrival.status));
-        let mut sent = arrival.sent;
-        sent.push(packet(self.number, sender, said))?;
+        self.send_installed(sender, &map, arrival.status, &mut arrival.sent)?;
         if !self.take_list(table, list)? {
             return Ok(Vec::new(self.alloc));
         }
         let _ = self.committed();
         self.move_to(map, arrival.status, arrival.joined);
         self.status = Status::Installed;
-        Ok(sent)
+        Ok(arrival.sent)
     }
 
     /// Says of an Install that it has installed, where it has once it has moved.
@@ -119,20 +145,18 @@ impl<C: Classes> GroupNode<C> {
         &mut self,
         sender: Party,
         map: GroupMap,
-        arrival: Arrival,
+        mut arrival: Arrival,
     ) -> Result<Vec<Packet>, HandleError>
         requires { self.old.state.committed ≤ length (log_after self.old.state arrival.status) }
         ensures done { IfOk result (λ sent. IsDone self.old self.new sent.items (install_again self.old.number self.old.state sender map arrival.status arrival.joined.items arrival.sent.items)) }
         ensures err { OnErr result (self.new ≡ self.old) }
         ensures why { IfErr result (λ e. e ≡ HandleError.NoMemory) }
     {
-        let mut sent = arrival.sent;
         if let Status::Installed = self.status_after(arrival.status) {
-            let said = Kind::Installed(self.interval_after(&map, arrival.status));
-            sent.push(packet(self.number, sender, said))?;
+            self.send_installed(sender, &map, arrival.status, &mut arrival.sent)?;
         }
         self.move_to(map, arrival.status, arrival.joined);
-        Ok(sent)
+        Ok(arrival.sent)
     }
 }
 
@@ -189,14 +213,7 @@ impl<C: Classes> GroupNode<C> {
         ensures err { IfErr result (λ e. e ≡ HandleError.NoMemory) }
     {
         if map.prev().get() == 0 {
-            let mut joined = Vec::with_capacity(self.alloc, 1)?;
-            joined.push_reserved(self.number);
-            let sent = adoption(self.alloc, self.number, map.interval(), map, &[])?;
-            return Ok(Arrival {
-                status: Some(Status::Installing),
-                joined,
-                sent,
-            });
+            return installing(self.alloc, self.number, map.interval(), map, &[]);
         }
         Ok(Arrival {
             status: Some(Status::Asking),
@@ -254,6 +271,29 @@ impl<C: Classes> GroupNode<C> {
             self.group = Group::new(self.alloc);
         }
     }
+}
+
+/// What a primary is to do on adopting a list: it has installed it, and has the others do so.
+pub(crate) fn installing(
+    alloc: Global,
+    number: NodeId,
+    interval: Epoch,
+    members: &GroupMap,
+    list: &[Request],
+) -> Result<Arrival, HandleError>
+    ensures status { IfOk result (λ a. a.status ≡ Some Status.Installing) }
+    ensures joined { IfOk result (λ a. a.joined.items ≡ number ∷ []) }
+    ensures sent { IfOk result (λ a. a.sent.items ≡ adopted_sent number interval members.now list.now) }
+    ensures err { IfErr result (λ e. e ≡ HandleError.NoMemory) }
+{
+    let mut joined = Vec::with_capacity(alloc, 1)?;
+    joined.push_reserved(number);
+    let sent = adoption(alloc, number, interval, members, list)?;
+    Ok(Arrival {
+        status: Some(Status::Installing),
+        joined,
+        sent,
+    })
 }
 
 /// Nothing to send, and nobody has installed.

@@ -7,8 +7,8 @@ ghost use Rattle.peering.specs.Arriving.{at_interval, reps_for};
 use crate::compare::are_among;
 use crate::copies::copy_log;
 use crate::node::GroupNode;
-use crate::packets::{install_to_missing, packet, query_to_all, reps_to};
-use group_world::{Epoch, HandleError, Kind, Messages, Packet, Party, Place, Status};
+use crate::packets::{ask_if, install_to_missing, query_to_all, reps_to};
+use group_world::{Epoch, HandleError, Messages, Packet, Place, Status};
 use pg_log::{Classes, Entry};
 use placement::NodeId;
 use std::alloc::Global;
@@ -55,10 +55,12 @@ impl<C: Classes> GroupNode<C> {
             &self.members,
             &list,
         )?;
-        if are_among(acting, &self.joined) {
-            let kind = Kind::AskActivate(self.interval);
-            sent.push(packet(self.number, Party::Monitor, kind))?;
-        }
+        ask_if(
+            self.number,
+            self.interval,
+            are_among(acting, &self.joined),
+            &mut sent,
+        )?;
         Ok(sent)
     }
 }

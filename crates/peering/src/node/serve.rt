@@ -1,5 +1,5 @@
 //! An active primary and its members: requests, their replication, and acknowledgements.
-ghost use Rattle.std.specs.Prelude.{◌≡◌, ◌≤◌, ◌++◌, ◌∷◌, [], max, if◌then◌else◌, is_none, IfOk, IfErr, OnErr, None, Some};
+ghost use Rattle.std.specs.Prelude.{◌≡◌, ◌≤◌, ◌+◌, ◌++◌, ◌∷◌, [], length, max, if◌then◌else◌, is_none, IfOk, IfErr, OnErr, None, Some};
 ghost use mathlib.Core.List.{IsPrefix};
 ghost use Rattle.pg_log.specs.Log.{Legal, reply_at};
 ghost use Rattle.std.specs.Int.{w64, cast_unsigned};
@@ -7,11 +7,11 @@ ghost use Rattle.pg_log.specs.Refusals.{place_of, refusal};
 ghost use Rattle.group_world.specs.Rules.{request as request_step, request_at, append_new, replicate, acknowledge, least_of, raised};
 ghost use Rattle.pg_log.specs.Entries.{IsNextEntry};
 ghost use Rattle.peering.specs.Numbered.{IsDone, IsRefusal};
-ghost use Rattle.peering.specs.Arriving.{IsNextReply, with_log};
+ghost use Rattle.peering.specs.Arriving.{IsNextReply, sent_with, grown, with_log};
 
 use crate::copies::refusal_of;
 use crate::node::GroupNode;
-use crate::packets::{packet, rep_to_others};
+use crate::packets::{packet, rep_to_others, send};
 use crate::replies::{replies, replies_with, reply, same_reply};
 use group_world::{Epoch, HandleError, Kind, Packet, Party, Place, Status};
 use interp::ClassTable;
@@ -19,6 +19,14 @@ use pg_log::{Classes, Entry, LogError, Request, classes_added, legal_lists, refu
 use placement::NodeId;
 use replication::commit_point;
 use std::alloc::Global;
+
+/// What a primary has acknowledged and committed after an event, and sends.
+#[derive(Drop)]
+struct Commit {
+    acked: Vec<usize>,
+    point: Place,
+    sent: Vec<Packet>,
+}
 
 impl<C: Classes> GroupNode<C> {
     /// A client's request.
@@ -76,8 +84,8 @@ impl<C: Classes> GroupNode<C> {
         }
         same_reply(table, self.group(), place);
         let said = reply(self.alloc, self.number, place, request, code, output)?;
-        let mut sent = Vec::with_capacity(self.alloc, 1)?;
-        sent.push_reserved(said);
+        let mut sent = Vec::new(self.alloc);
+        send(&mut sent, said)?;
         Ok(sent)
     }
 
@@ -103,34 +111,76 @@ impl<C: Classes> GroupNode<C> {
         ensures err { OnErr result (self.new ≡ self.old) }
         ensures why { IfErr result (λ e. e ≡ HandleError.NoMemory) }
     {
-        let length = self.group.len();
+        let commit = self.commit_new(table, &entry)?;
+        self.grow(entry, commit)
+    }
+
+    /// What it has acknowledged and committed, and sends, with the entry of a new request.
+    fn commit_new(&self, table: &ClassTable, entry: &Entry) -> Result<Commit, HandleError>
+        requires table { IsPrefix table.now C.classes }
+        requires legal { Legal table.now self.now.state.log }
+        requires reply { IsNextReply table.now self.now.state.log entry.now }
+        ensures ok { IfOk result (λ w. grown self.now.state entry.now.request w.acked.items w.point w.sent.items ≡ append_new table.now self.now.number self.now.state entry.now.request) }
+        ensures within { IfOk result (λ w. w.point ≤ length self.now.state.log + 1) }
+        ensures err { IfErr result (λ e. e ≡ HandleError.NoMemory) }
+    {
+        let length = self.group.len() + 1;
         let acting = self.members.acting();
-        let acked = raised(self.alloc, &self.acked, acting, self.number, length + 1)?;
-        let point = self.committed.max(least_of(length + 1, &acked));
+        let acked = raised(self.alloc, &self.acked, acting, self.number, length)?;
+        let point = self.committed.max(least_of(length, &acked));
+        let sent = self.sent_with(table, entry, point)?;
+        Ok(Commit { acked, point, sent })
+    }
+
+    /// The entry of a new request for the others, and the Replies to what is committed with it, up to a place.
+    fn sent_with(
+        &self,
+        table: &ClassTable,
+        entry: &Entry,
+        point: Place,
+    ) -> Result<Vec<Packet>, HandleError>
+        requires table { IsPrefix table.now C.classes }
+        requires legal { Legal table.now self.now.state.log }
+        requires reply { IsNextReply table.now self.now.state.log entry.now }
+        requires within { point ≤ length self.now.state.log + 1 }
+        ensures ok { IfOk result (λ v. v.items ≡ sent_with table.now self.now.number self.now.state entry.now.request point) }
+        ensures err { IfErr result (λ e. e ≡ HandleError.NoMemory) }
+    {
         let mut sent = rep_to_others(
             self.alloc,
             self.number,
-            acting,
+            self.members.acting(),
             self.interval,
-            length,
+            self.group.len(),
             &entry.request,
         )?;
-        let mut answers = replies_with(
+        replies_with(
             self.alloc,
             table,
             self.number,
             &self.group,
-            &entry,
+            entry,
             self.committed,
             point,
+            &mut sent,
         )?;
-        sent.append(&mut answers)?;
+        Ok(sent)
+    }
+
+    /// Logs the entry of a new request, and has acknowledged and committed what is handed over.
+    fn grow(&mut self, entry: Entry, commit: Commit) -> Result<Vec<Packet>, HandleError>
+        requires next { IsNextEntry C.classes self.old.state.log entry }
+        requires within { commit.point ≤ length self.old.state.log + 1 }
+        ensures done { IfOk result (λ sent. IsDone self.old self.new sent.items (grown self.old.state entry.request commit.acked.items commit.point commit.sent.items)) }
+        ensures err { OnErr result (self.new ≡ self.old) }
+        ensures why { IfErr result (λ e. e ≡ HandleError.NoMemory) }
+    {
         if self.group.keep(entry).is_err() {
             return Err(HandleError::NoMemory);
         }
-        self.acked = acked;
-        self.committed = point;
-        Ok(sent)
+        self.acked = commit.acked;
+        self.committed = commit.point;
+        Ok(commit.sent)
     }
 
     /// The entry that a new request would be. It changes nothing.

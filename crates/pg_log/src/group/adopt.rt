@@ -1,9 +1,9 @@
-ghost use Rattle.std.specs.Prelude.{◌≡◌, ◌<◌, ◌≤◌, ◌+◌, ◌++◌, List, Some, None, IfOk, IfErr, OnOk, OnErr, Ok, Err, length, take, drop, vec_capacity};
+ghost use Rattle.std.specs.Prelude.{◌≡◌, ◌<◌, ◌≤◌, ◌+◌, ◌∷◌, ◌++◌, ◌⊎◌, [], List, Some, None, IfOk, IfErr, OnOk, OnErr, Ok, Err, length, take, drop, vec_capacity};
 ghost use Rattle.std.specs.FinMap as fin;
 ghost use mathlib.Core.List.{IsPrefix};
 ghost use Rattle.pg_log.specs.Log.{Legal, fold};
 ghost use Rattle.pg_log.specs.Requests.{ClientRequest};
-ghost use Rattle.pg_log.specs.Refusals.{first_refusal, SomeCanRun};
+ghost use Rattle.pg_log.specs.Refusals.{refusal, first_refusal, SomeCanRun, Refuses};
 ghost use Rattle.pg_log.specs.Adopting.{IsCommonBeginning, rest_refusal, RestRefuses, AdoptRefuses};
 ghost use Rattle.pg_log.specs.Places.{ArePlaces, HasRoom, RoomStays};
 ghost use Rattle.pg_log.specs.Entries.{AreEntries, Keeps, requests_of};
@@ -11,7 +11,7 @@ ghost use Rattle.pg_log.specs.Entries.{AreEntries, Keeps, requests_of};
 use crate::classes::Classes;
 use crate::entry::Entry;
 use crate::group::Group;
-use crate::group::append::run_after;
+use crate::group::append::{entry_of_copy, run_after};
 use crate::log_error::LogError;
 use crate::places::Places;
 use crate::request::Request;
@@ -37,24 +37,51 @@ impl<C: Classes> Group<C> {
         ensures refused { OnErr result (self.new ≡ self.old) }
         ensures err { IfErr result (λ e. AdoptRefuses table.now self.old list.now e) }
     {
-        let common = common_beginning(&self.entries, list);
-        let alloc = self.alloc;
+        let common = common_beginning(self.entries(), list);
         if common == 0 {
-            *self = Self::replay(alloc, table, list)?;
-            return Ok(0);
+            self.start_over(table, list)?;
+        } else {
+            self.change_from(table, list, common)?;
         }
-        let objects = Self::objects_before(alloc, &self.entries, &self.objects, common)?;
+        Ok(common)
+    }
+
+    /// Replays a list in place of the log.
+    fn start_over(&mut self, table: &ClassTable, list: &[Request]) -> Result<(), LogError>
+        requires { IsPrefix table.now C.classes }
+        ensures ok { OnOk result ((self.new ≡ list.now) × (first_refusal table.now list.now ≡ None)) }
+        ensures refused { OnErr result (self.new ≡ self.old) }
+        ensures err { IfErr result (λ e. (first_refusal table.now list.now ≡ Some e) ⊎ ((e ≡ LogError.NoMemory) × SomeCanRun table.now list.now)) }
+    {
+        *self = Self::replay(self.alloc, table, list)?;
+        Ok(())
+    }
+
+    /// Puts the rest of a list, from a place on, in place of what the log has from there on.
+    fn change_from(
+        &mut self,
+        table: &ClassTable,
+        list: &[Request],
+        at: usize,
+    ) -> Result<(), LogError>
+        requires table { IsPrefix table.now C.classes }
+        requires common { take at self.old ≡ take at list.now }
+        requires within { (0 < at) × (at ≤ length self.old) × (at ≤ length list.now) }
+        ensures ok { OnOk result ((self.new ≡ list.now) × (rest_refusal table.now list.now at ≡ None)) }
+        ensures refused { OnErr result (self.new ≡ self.old) }
+        ensures err { IfErr result (λ e. RestRefuses table.now list.now at e) }
+    {
+        let objects = Self::objects_before(self.alloc, &self.entries, &self.objects, at)?;
         Self::change_end(
-            alloc,
+            self.alloc,
             table,
             list,
-            common,
+            at,
             objects,
             &mut self.entries,
             &mut self.objects,
             &mut self.places,
-        )?;
-        Ok(common)
+        )
     }
 
     /// A copy of the objects as they were before the entry of a place, by undoing the changes from the last one back.
@@ -73,14 +100,31 @@ impl<C: Classes> Group<C> {
         let Ok(mut before) = objects.copy() else {
             return Err(LogError::NoMemory);
         };
-        for back in 0..entries.len() - at {
-            let entry = &entries[entries.len() - 1 - back];
-            undo(alloc, &mut before, entry.request.object(), &entry.change)?;
-        }
+        Self::undo_from(alloc, entries, at, &mut before)?;
         Ok(before)
     }
 
-    /// Puts the rest of a list, from a place on, in place of what the log has from there on.
+    /// Undoes the changes of the entries from a place on, from the last one back.
+    fn undo_from(
+        alloc: Global,
+        entries: &[Entry],
+        at: usize,
+        objects: &mut Objects,
+    ) -> Result<(), LogError>
+        requires within { at ≤ length entries.now }
+        requires kept { AreEntries C.classes fin.empty entries.now }
+        requires folded { objects.old ≡ fold C.classes (requests_of entries.now) }
+        ensures ok { OnOk result (objects.new ≡ fold C.classes (take at (requests_of entries.now))) }
+        ensures err { IfErr result (λ e. e ≡ LogError.NoMemory) }
+    {
+        for back in 0..entries.len() - at {
+            let entry = &entries[entries.len() - 1 - back];
+            undo(alloc, objects, entry.request.object(), &entry.change)?;
+        }
+        Ok(())
+    }
+
+    /// The same, given the objects before that place, of a log's entries, objects and index.
     fn change_end(
         alloc: Global,
         table: &ClassTable,
@@ -137,17 +181,32 @@ impl<C: Classes> Group<C> {
         ensures room { RoomStays places.old places.new }
     {
         for k in at..list.len() {
-            let request = &list[k];
-            let outcome = run_after(alloc, table, k, places, objects, request)?;
-            let entry = Entry {
-                request: request.copy(alloc)?,
-                code: outcome.code,
-                output: outcome.output,
-                change: outcome.change,
-            };
-            Self::add(alloc, entry, entries, objects, places)?;
+            Self::extend_by(alloc, table, &list[k], entries, objects, places)?;
         }
         Ok(())
+    }
+
+    /// Runs a request that may follow a log, and adds a copy of it to the log's entries, objects and index.
+    fn extend_by(
+        alloc: Global,
+        table: &ClassTable,
+        request: &Request,
+        entries: &mut Vec<Entry>,
+        objects: &mut Objects,
+        places: &mut Places,
+    ) -> Result<(), LogError>
+        requires table { IsPrefix table.now C.classes }
+        requires kept { Keeps C.classes entries.old.items objects.old places.old }
+        ensures ok { OnOk result ((requests_of entries.new.items ≡ requests_of entries.old.items ++ request.now ∷ []) × (refusal table.now (requests_of entries.old.items) request.now ≡ None)) }
+        ensures err { IfErr result (λ e. Refuses (refusal table.now (requests_of entries.old.items) request.now) e) }
+        ensures kept { Keeps C.classes entries.new.items objects.new places.new }
+        ensures begun { IsPrefix entries.old.items entries.new.items }
+        ensures entries_room { vec_capacity entries.old ≤ vec_capacity entries.new }
+        ensures room { RoomStays places.old places.new }
+    {
+        let outcome = run_after(alloc, table, entries.len(), places, objects, request)?;
+        let entry = entry_of_copy(alloc, request, outcome)?;
+        Self::add(alloc, entry, entries, objects, places)
     }
 }
 

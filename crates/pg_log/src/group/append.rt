@@ -1,5 +1,5 @@
 ghost use Rattle.std.specs.Int.{w64, cast_unsigned};
-ghost use Rattle.std.specs.Prelude.{◌≡◌, ◌≤◌, ◌∷◌, ◌++◌, ◌⊎◌, [], List, length, vec_capacity, IfOk, IfErr, OnOk, OnErr, Some, None, Ok, Err};
+ghost use Rattle.std.specs.Prelude.{◌≡◌, ◌<◌, ◌≤◌, ◌∷◌, ◌++◌, ◌⊎◌, [], List, length, vec_len, vec_capacity, IfOk, IfErr, OnOk, OnErr, Some, None, Ok, Err};
 ghost use mathlib.Core.List.{IsPrefix};
 ghost use Rattle.bpf_decode.specs.Class.{ClassMethod};
 ghost use Rattle.bpf_machine.specs.Safe.{IsSafe};
@@ -43,9 +43,28 @@ impl<C: Classes> Group<C> {
         ensures ok { OnOk result (self.new ≡ list_after (place_of request.client request.number self.old) self.old request) }
         ensures refused { OnErr result (self.new ≡ self.old) }
     {
-        if let Some(place) = self.places.place(request.client(), request.number()) {
+        if let Some(place) = self.place(&request) {
             return Ok(place);
         }
+        self.append_new(table, request)
+    }
+
+    /// The place at which a request's client and number are logged.
+    fn place(&self, request: &Request) -> Option<usize>
+        ensures { result ≡ place_of request.now.client request.now.number self.now }
+    {
+        self.places.place(request.client(), request.number())
+    }
+
+    /// Runs a request whose pair isn't logged, and logs it.
+    fn append_new(&mut self, table: &ClassTable, request: Request) -> Result<usize, LogError>
+        requires table { IsPrefix table.now C.classes }
+        requires none { place_of request.client request.number self.old ≡ None }
+        ensures answer { (result ≡ append_answer table.now self.old request)
+            ⊎ ((result ≡ Err LogError.NoMemory) × (place_of request.client request.number self.old ≡ None) × (refusal table.now self.old request ≡ None)) }
+        ensures ok { OnOk result (self.new ≡ list_after (place_of request.client request.number self.old) self.old request) }
+        ensures refused { OnErr result (self.new ≡ self.old) }
+    {
         let entry = self.next_entry(table, request)?;
         self.keep(entry)
     }
@@ -76,7 +95,8 @@ impl<C: Classes> Group<C> {
         ensures err { IfErr result (λ e. Refuses (refusal table.now self.now request.now) e) }
     {
         let outcome = self.run(table, request)?;
-        Ok(entry_of(request.copy(self.alloc)?, outcome))
+        let entry = entry_of_copy(self.alloc, request, outcome)?;
+        Ok(entry)
     }
 
     /// What a request that may follow the log makes of its object. It changes nothing.
@@ -131,16 +151,54 @@ impl<C: Classes> Group<C> {
         ensures entries_room { vec_capacity entries.old ≤ vec_capacity entries.new }
         ensures room { RoomStays places.old places.new }
     {
-        let place = entries.len();
-        let client = entry.request.client();
-        let number = entry.request.number();
+        Self::admit(alloc, &entry, entries, objects, places)?;
+        entries.push_reserved(entry);
+        Ok(())
+    }
+
+    /// Makes room for an entry that may follow a log, and changes the log's objects and index to those with it.
+    fn admit(
+        alloc: Global,
+        entry: &Entry,
+        entries: &mut Vec<Entry>,
+        objects: &mut Objects,
+        places: &mut Places,
+    ) -> Result<(), LogError>
+        requires kept { Keeps C.classes entries.old.items objects.old places.old }
+        requires next { IsNextEntry C.classes (requests_of entries.old.items) entry.now }
+        ensures ok { OnOk result (Keeps C.classes (entries.old.items ++ entry.now ∷ []) objects.new places.new) }
+        ensures reserved { OnOk result (vec_len entries.new < vec_capacity entries.new) }
+        ensures err { IfErr result (λ e. e ≡ LogError.NoMemory) }
+        ensures stays { OnErr result (Keeps C.classes entries.old.items objects.new places.new) }
+        ensures entries { entries.new.items ≡ entries.old.items }
+        ensures entries_room { vec_capacity entries.old ≤ vec_capacity entries.new }
+        ensures room { RoomStays places.old places.new }
+    {
         entries.reserve(1)?;
-        places.add(alloc, client, number, place)?;
+        Self::put(alloc, entries, entry, objects, places)
+    }
+
+    /// Changes a log's objects and index to those with one entry more, which may follow it.
+    fn put(
+        alloc: Global,
+        entries: &[Entry],
+        entry: &Entry,
+        objects: &mut Objects,
+        places: &mut Places,
+    ) -> Result<(), LogError>
+        requires kept { Keeps C.classes entries.now objects.old places.old }
+        requires next { IsNextEntry C.classes (requests_of entries.now) entry.now }
+        ensures ok { OnOk result (Keeps C.classes (entries.now ++ entry.now ∷ []) objects.new places.new) }
+        ensures err { IfErr result (λ e. e ≡ LogError.NoMemory) }
+        ensures stays { OnErr result (Keeps C.classes entries.now objects.new places.new) }
+        ensures room { RoomStays places.old places.new }
+    {
+        let client = entry.request.client();
+        places.add(alloc, client, entry.request.number(), entries.len())?;
         if apply(alloc, objects, entry.request.object(), &entry.change).is_err() {
             places.remove(client);
             return Err(LogError::NoMemory);
         }
-        entries.push_reserved(entry);
         Ok(())
     }
 }
@@ -186,6 +244,22 @@ pub(crate) fn entry_of(request: Request, outcome: Outcome) -> Entry
         output: outcome.output,
         change: outcome.change,
     }
+}
+
+/// A copy of a request with what it made. It refuses by `NoMemory` alone.
+pub(crate) fn entry_of_copy(
+    alloc: Global,
+    request: &Request,
+    outcome: Outcome,
+) -> Result<Entry, LogError>
+    ensures request { IfOk result (λ e. e.request ≡ request.now) }
+    ensures code { IfOk result (λ e. e.code ≡ outcome.code) }
+    ensures output { IfOk result (λ e. e.output.items ≡ outcome.output.items) }
+    ensures change { IfOk result (λ e. e.change ≡ outcome.change) }
+    ensures err { IfErr result (λ e. e ≡ LogError.NoMemory) }
+{
+    let copy = request.copy(alloc)?;
+    Ok(entry_of(copy, outcome))
 }
 
 /// Runs a request's method beside its object.

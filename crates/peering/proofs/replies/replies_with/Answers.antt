@@ -12,9 +12,9 @@ loop-place-preserved g c =
     let k : ℕ = c.loop-place.place in
     let log : List ClientRequest = c.args.group.now ++ c.args.next.now.request ∷ [] in
     let longer = length-append c.args.group.now (c.args.next.now.request ∷ []) in
-    let p : Packet = c.in_ok-reply_with.field-0 in
-    let pe = c.in_ok-reply_with.ensures.ok d in
+    let p : Packet = c.in_ok-reply.reply in
+    let pe = c.in_ok-reply.ensures.ok d in
     let s = replies_step c.args.table.now n k c.args.to log d (omega arith) (omega arith) in
     let t : List Packet = replies_from c.args.table.now n log (k + 1) (drop (k + 1) (take c.args.to log)) in
-    ap (λ x. x ++ t) c.in_ok-push.ensures.items ∙ append_assoc c.loop-place.sent.items (p ∷ []) t ∙ ap (λ x. c.loop-place.sent.items ++ (x ∷ t)) pe
+    ap (λ x. x ++ t) c.in_ok-send.ensures.ok ∙ append_assoc c.loop-place.sent.items (p ∷ []) t ∙ ap (λ x. c.loop-place.sent.items ++ (x ∷ t)) pe
     ∙ ap (λ x. c.loop-place.sent.items ++ x) (sym s) ∙ c.loop-place.invariant

@@ -1,4 +1,3 @@
-use Rattle.std.proofs.Common.{◌∙◌}
 use Rattle.pg_log.specs.Log.{fold}
 use Rattle.pg_log.proofs.Ran.{next_legal, next_outcome, next_safe, entry_made}
 use Rattle.pg_log.proofs.group.Group.next_entry_of.Goals as goal
@@ -10,8 +9,8 @@ returns-clause-next g c =
     let r = c.args.request.now in
     let o = c.in_ok-outcome.outcome in
     let ran = c.in_ok-outcome.ensures in
-    let made = c.entry_of.ensures in
-    entry_made classes xs r o c.entry_of.result (made.request ∙ c.in_ok-copy.ensures.ok) made.code made.output made.change
+    let made = c.in_ok-entry.ensures in
+    entry_made classes xs r o c.in_ok-entry.entry made.request made.code made.output made.change
     (next_legal c.args.table.now classes xs r c.requires c.run.ensures.legal ran.ok.0)
     (next_safe c.args.table.now classes xs r c.requires ran.ok.0 ran.safe)
     (next_outcome c.args.table.now classes xs (fold classes xs) r o.code o.output.items o.change c.requires ran.ok.0 ran.ok.1)

@@ -2,9 +2,9 @@ use Rattle.std.proofs.Common.{◌≡◌, length, arith, ◌∙◌, ap, sym, refl
 use Rattle.std.specs.declared.alloc.Global.{Global}
 use Rattle.std.specs.Ordering.{nat_cmp}
 use Rattle.std.specs.BTreeMap as tree
+use Rattle.std.proofs.lemmas.Result.{on_ok_weaker, on_err_weaker}
 use Rattle.pg_log.specs.Places.{kept_of, room_of}
 use Rattle.pg_log.proofs.Indexed.{added}
-use Rattle.pg_log.proofs.Room.{room_put}
 use Rattle.pg_log.proofs.places.Places.add.Goals as goal
 
 pub returns-in_ok-push-in-Some-clause-ok : goal.returns-in_ok-push-in-Some-clause-ok
@@ -16,15 +16,6 @@ returns-in_ok-push-in-Some-clause-ok c = λ list r is client number at.
     added m after c.get-key.result c.get.result c.args.place c.push.new.self updates
     (c.in_ok-push-in-Some.ensures.items ∙ ap (λ o. kept_of o ++ (c.get.result, c.args.place) ∷ []) c.in-Some.ensures.value)
     list r is (c.get-key.ensures.value ∙ client) (c.get.ensures.value ∙ number) at
-
-pub returns-in_ok-insert-in-None-clause-ok : goal.returns-in_ok-insert-in-None-clause-ok
-returns-in_ok-insert-in-None-clause-ok c = λ list r is client number at.
-    let m = c.get_mut.follows.lender-at-none in
-    let same = c.get_mut.follows.holds-at-none in
-    let none = c.in-None.ensures.value ∙ sym (ap (λ w. tree.get nat_cmp w c.get-key.result) same) in
-    added m c.insert.new.self c.get-key.result c.get.result c.args.place c.push-in-None.new.self c.in_ok-insert-in-None.ensures.updates
-    (c.in_ok-push-in-None.ensures.items ∙ ap (λ l. l ++ (c.get.result, c.args.place) ∷ []) (c.new-requests.ensures.items ∙ ap (λ o. kept_of o) none))
-    list r (λ q. ap (λ w. kept_of (tree.get nat_cmp w q)) same ∙ is q) (c.get-key.ensures.value ∙ client) (c.get.ensures.value ∙ number) at
 
 pub returns-in_err-push-in-Some-clause-succeeds : goal.returns-in_err-push-in-Some-clause-succeeds
 returns-in_err-push-in-Some-clause-succeeds c = λ h.
@@ -38,23 +29,29 @@ returns-in_err-push-in-Some-clause-succeeds c = λ h.
     let full = c.in_err-push-in-Some.ensures.full in
     absurd (omega (arith, h, kept, room, same, full))
 
-pub returns-in_err-push-in-None-clause-succeeds : goal.returns-in_err-push-in-None-clause-succeeds
-returns-in_err-push-in-None-clause-succeeds c = λ h.
-    let m = c.args.self.now.by_client in
-    let room : 0 ≡ room_of (tree.get nat_cmp m c.args.client) = ap (λ o. room_of o) c.in-None.ensures.value ∙ ap (λ k. room_of (tree.get nat_cmp m k)) c.get-key.ensures.value in
-    absurd (omega (arith, h, room))
+pub add_first-requires : goal.add_first-requires
+add_first-requires c = ap (λ w. tree.get nat_cmp w c.get-key.result) c.get_mut.follows.holds-at-none ∙ sym c.in-None.ensures.value
 
-pub returns-in_err-insert-in-None-clause-succeeds : goal.returns-in_err-insert-in-None-clause-succeeds
-returns-in_err-insert-in-None-clause-succeeds c = λ h.
-    let m = c.args.self.now.by_client in
-    let room : 0 ≡ room_of (tree.get nat_cmp m c.args.client) = ap (λ o. room_of o) c.in-None.ensures.value ∙ ap (λ k. room_of (tree.get nat_cmp m k)) c.get-key.ensures.value in
-    absurd (omega (arith, h, room))
-
-pub returns-in_ok-insert-in-None-clause-room : goal.returns-in_ok-insert-in-None-clause-room
-returns-in_ok-insert-in-None-clause-room c = λ client.
-    let m = c.get_mut.follows.lender-at-none in
+pub returns-in-None-clause-ok : goal.returns-in-None-clause-ok
+returns-in-None-clause-ok c =
     let same = c.get_mut.follows.holds-at-none in
-    let none = c.in-None.ensures.value ∙ sym (ap (λ w. tree.get nat_cmp w c.get-key.result) same) in
-    let more = room_put m c.insert.new.self c.get-key.result c.push-in-None.new.self c.in_ok-insert-in-None.ensures.updates none client in
-    let was = ap (λ w. room_of (tree.get nat_cmp w client)) same in
+    on_ok_weaker c.add_first.result
+    (λ h list r is client number at. h list r (λ q. ap (λ w. kept_of (tree.get nat_cmp w q)) same ∙ is q) (c.get-key.ensures.value ∙ client) (c.get.ensures.value ∙ number) at)
+    c.add_first.ensures.ok
+
+pub returns-in-None-clause-err : goal.returns-in-None-clause-err
+returns-in-None-clause-err c =
+    let same = c.get_mut.follows.holds-at-none in
+    on_err_weaker c.add_first.result (λ h list is. h list (λ q. ap (λ w. kept_of (tree.get nat_cmp w q)) same ∙ is q)) c.add_first.ensures.err
+
+pub returns-in-None-clause-room : goal.returns-in-None-clause-room
+returns-in-None-clause-room c = λ client.
+    let more = c.add_first.ensures.room client in
+    let was = ap (λ w. room_of (tree.get nat_cmp w client)) c.get_mut.follows.holds-at-none in
     omega (arith, more, was)
+
+pub returns-in-None-clause-succeeds : goal.returns-in-None-clause-succeeds
+returns-in-None-clause-succeeds c = λ h.
+    let m = c.args.self.now.by_client in
+    let room : 0 ≡ room_of (tree.get nat_cmp m c.args.client) = ap (λ o. room_of o) c.in-None.ensures.value ∙ ap (λ k. room_of (tree.get nat_cmp m k)) c.get-key.ensures.value in
+    absurd (omega (arith, h, room))

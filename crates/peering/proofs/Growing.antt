@@ -1,0 +1,20 @@
+-- A primary's log with one request more.
+use Rattle.std.proofs.Common.{◌≡◌, ℕ, ◌+◌, ◌++◌, ◌∷◌, [], List, length, length-append, max, ap, sym, ◌∙◌}
+use Rattle.pg_log.specs.Requests.{ClientRequest}
+use Rattle.pg_log.specs.Log.{Classes}
+use Rattle.group_world.specs.Node.{NodeState}
+use Rattle.group_world.specs.Rules.{append_new, least_of, raised}
+use Rattle.group_world.specs.declared.message.Packet.{Packet}
+use Rattle.peering.specs.Arriving.{sent_with, grown}
+
+-- what is acknowledged, committed and sent with one request more is what the rule says
+pub grown_is : (classes : Classes) (n k : ℕ) (s : NodeState) (r : ClientRequest) (acked : List ℕ) (point : ℕ) (sent : List Packet) → k ≡ length s.log + 1 →
+    acked ≡ raised n k s.members.acting s.acked → point ≡ max s.committed (least_of k acked) → sent ≡ sent_with classes n s r point → grown s r acked point sent ≡ append_new classes n s r
+grown_is classes n k s r acked point sent e a p q =
+    let longer : k ≡ length (s.log ++ r ∷ []) = e ∙ sym (length-append s.log (r ∷ [])) in
+    let b : acked ≡ raised n (length (s.log ++ r ∷ [])) s.members.acting s.acked = a ∙ ap (λ j. raised n j s.members.acting s.acked) longer in
+    let o : point ≡ max s.committed (least_of (length (s.log ++ r ∷ [])) (raised n (length (s.log ++ r ∷ [])) s.members.acting s.acked)) =
+    p ∙ ap (λ j. max s.committed (least_of j acked)) longer ∙ ap (λ w. max s.committed (least_of (length (s.log ++ r ∷ [])) w)) b in
+    let t : sent ≡ sent_with classes n s r (max s.committed (least_of (length (s.log ++ r ∷ [])) (raised n (length (s.log ++ r ∷ [])) s.members.acting s.acked))) =
+    q ∙ ap (sent_with classes n s r) o in
+    λ i. grown s r (b i) (o i) (t i)

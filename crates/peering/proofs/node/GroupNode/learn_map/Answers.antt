@@ -1,0 +1,15 @@
+use Rattle.std.proofs.Common.{ap, sym, ◌∙◌, subst, cond}
+use Rattle.group_world.specs.Node.{Outcome, nothing}
+use Rattle.group_world.specs.Rules.{arrive}
+use Rattle.peering.specs.Numbered.{IsDone}
+use Rattle.peering.proofs.Keeping.{arrive_unrefused}
+use Rattle.peering.proofs.node.GroupNode.learn_map.Goals as goal
+
+pub returns-clause-done : goal.returns-clause-done
+returns-clause-done g c =
+    let n = c.args.self.now in
+    let a = c.in_ok-arrival.arrival in
+    let e = c.in_ok-arrival.ensures.ok in
+    let learns = ap (λ b. cond b (nothing n.state) (arrive n.number n.state c.args.map)) (sym c.would_forget.ensures ∙ c.if-would_forget.false) in
+    let P : Outcome → Type 0 = λ o. IsDone n c.move_to.new.self a.sent.items o in
+    subst P (sym learns) (record { number = c.move_to.ensures.number; state = c.move_to.ensures.state ∙ e.0; sent = e.1; unrefused = arrive_unrefused n.number n.state c.args.map })
