@@ -1,5 +1,6 @@
 -- The numbers of words, read one after another.
-use Rattle.std.proofs.Common.{◌≡◌, ◌<◌, ℕ, suc, List, [], ◌∷◌, ◌++◌, length, map, drop, get_or, Bor, Option, Some, None, refl, sym, ap, ◌∙◌, append_assoc, drop-cons}
+use Rattle.std.proofs.Common.{◌≡◌, ◌<◌, ◌≤◌, ◌-◌, ℕ, suc, List, [], ◌∷◌, ◌++◌, length, map, take, drop, get_or, Bor, Option, Some, None, refl, sym, ap, ◌∙◌, append_assoc, arith, drop-cons}
+use Rattle.std.proofs.lemmas.List.{take_rest}
 use Rattle.sim.specs.Lines.{before, number_in, numbers_in, onto, with_all}
 
 with_one_more : (ns : List ℕ) (n : ℕ) (rest : Option (List ℕ)) → with_all (ns ++ n ∷ []) rest ≡ with_all ns (onto n rest)
@@ -36,3 +37,9 @@ numbers_none ws i d ns o all h is none so_far =
     ap (λ (p : Option ℕ). with_all ns (before p (numbers_in (map (λ (w : Bor (List ℕ)). w.now) (drop (suc i) ws))))) (sym none)
     ∙ next_read ws i d ns o h is
     ∙ so_far
+
+-- words, by the first of them and those behind it
+pub first_word : (ws : List (Bor (List ℕ))) (d : Bor (List ℕ)) → 1 ≤ length ws
+    → map (λ (w : Bor (List ℕ)). w.now) ws ≡ (get_or ws 0 d).now ∷ map (λ w. w.now) (take (length ws - 1) (drop 1 ws))
+first_word [] d h = absurd (omega arith)
+first_word (w ∷ ws) d h = ap (λ (xs : List (Bor (List ℕ))). w.now ∷ map (λ (v : Bor (List ℕ)). v.now) xs) (sym (take_rest (w ∷ ws) 1))

@@ -64,8 +64,8 @@ fn copy_log(alloc: Global, interval: Epoch, list: &Requests) -> Result<Kind, All
 fn copy_install(alloc: Global, map: &GroupMap, list: &Requests) -> Result<Kind, AllocError>
     ensures { IfOk result (λ k. k ≡ Kind.Install map.now list.now) }
 {
-    let list = copy_requests(alloc, list.items())?;
-    Ok(Kind::Install(map.copy(alloc)?, list))
+    let map = map.copy(alloc)?;
+    Ok(Kind::Install(map, copy_requests(alloc, list.items())?))
 }
 
 /// An equal Rep.

@@ -1,8 +1,8 @@
 //! Messages come to their receivers.
-ghost use Rattle.std.specs.Prelude.{◌≡◌, Some, IfOk, IsTrue, string_bytes};
+ghost use Rattle.std.specs.Prelude.{◌≡◌, Some, IfOk, string_bytes, codes};
 ghost use Rattle.group_world.specs.Monitor.{activation_refusal};
 ghost use Rattle.group_world.specs.World.{activated_for};
-ghost use Rattle.sim.specs.Step.{numbered, is_node, at_monitor, deliver, deliver_to, activated, tells, nth_node, whole_log, list_told, come, comes_as, coming, unless_stopped, happened_of};
+ghost use Rattle.sim.specs.Step.{numbered, at_monitor, deliver, deliver_to, activated, tells, nth_node, whole_log, list_told, come, comes_as, coming, unless_stopped, happened_of};
 
 use crate::copies::{copy_message, requests_of};
 use crate::kept::{Kept, ShortLog};
@@ -122,24 +122,20 @@ impl<C: Classes> World<C> {
         }
     }
 
-    /// A list, or that it was lost, at a node that is there and runs.
-    fn list_told(
-        &mut self,
-        table: &ClassTable,
-        node: NodeId,
-        message: Option<Message>,
-    ) -> Result<Option<String>, AllocError>
-        requires table { table.now ≡ C.classes }
-        requires known { IsTrue (is_node self.old node) }
-        ensures { IfOk result (λ t. happened_of string_bytes self.new t ≡ Some (list_told table.now self.old node message)) }
+    /// A list that was lost, at a node.
+    fn lost_at(&self, node: NodeId) -> Result<Option<String>, AllocError>
+        ensures { IfOk result (λ t. happened_of string_bytes self.now t ≡ unless_stopped self.now node (record { world = self.now; printed = codes "nothing\n" })) }
     {
-        match message {
-            Some(message) => Ok(Some(self.handle(table, node, Event::Message(message))?)),
-            None => self.says("nothing\n"),
+        if !self.is_node(node) {
+            return Ok(None);
         }
+        if self.is_stopped(node) {
+            return self.says("stopped\n");
+        }
+        self.says("nothing\n")
     }
 
-    /// A list at a node.
+    /// A list at a node, or that it was lost.
     fn list_at(
         &mut self,
         table: &ClassTable,
@@ -149,13 +145,10 @@ impl<C: Classes> World<C> {
         requires { table.now ≡ C.classes }
         ensures { IfOk result (λ t. happened_of string_bytes self.new t ≡ unless_stopped self.old node (list_told table.now self.old node message)) }
     {
-        if !self.is_node(node) {
-            return Ok(None);
+        match message {
+            Some(message) => self.at_node(table, node, Event::Message(message)),
+            None => self.lost_at(node),
         }
-        if self.is_stopped(node) {
-            return self.says("stopped\n");
-        }
-        self.list_told(table, node, message)
     }
 
     /// What the message of a number comes as.
@@ -195,6 +188,18 @@ impl<C: Classes> World<C> {
     }
 }
 
+/// The message of a list, for its receiver as it stands; none where the receiver's own is too short.
+fn list_for<C: Classes>(
+    alloc: Global,
+    nodes: &[GroupNode<C>],
+    short: &ShortLog,
+) -> Result<Option<Message>, AllocError>
+    ensures { IfOk result (λ m. m ≡ whole_log (nth_node nodes.now short.now.receiver).state.log short.now) }
+{
+    let own = log_of(alloc, nodes, short.receiver)?;
+    whole_log(alloc, &own, short)
+}
+
 /// What a message that is kept comes as.
 fn comes_as<C: Classes>(
     alloc: Global,
@@ -209,8 +214,7 @@ fn comes_as<C: Classes>(
             Ok(Coming::Told(packet.receiver, message))
         }
         Kept::Short(short) => {
-            let own = log_of(alloc, nodes, short.receiver)?;
-            let message = whole_log(alloc, &own, short)?;
+            let message = list_for(alloc, nodes, short)?;
             Ok(Coming::List(short.receiver, message))
         }
     }

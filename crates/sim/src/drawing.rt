@@ -126,6 +126,17 @@ fn push_printed(text: &mut String, printed: &str) -> Result<(), AllocError> {
     Ok(())
 }
 
+/// What a line of a file made happen, if anything did.
+fn what_of(
+    alloc: Global,
+    names: &[&str],
+    text: &str,
+    printed: &str,
+) -> Result<Option<What>, AllocError> {
+    let line = read_line(alloc, names, text)?;
+    Ok(what(&line, printed))
+}
+
 /// Notes what a line made happen.
 fn note(
     alloc: Global,
@@ -135,8 +146,7 @@ fn note(
     printed: &str,
     steps: &mut Vec<Step>,
 ) -> Result<(), AllocError> {
-    let line = read_line(alloc, names, text)?;
-    if let Some(what) = what(&line, printed) {
+    if let Some(what) = what_of(alloc, names, text, printed)? {
         let text = said(alloc, text, what, sent, printed)?;
         steps.push(Step { what, text, sent })?;
     }
@@ -194,12 +204,18 @@ fn drawn(
 ) -> Result<Traced, AllocError> {
     let mut text = draw(alloc, letters, steps)?;
     if let Some(number) = bad {
-        text.push_str(bad_line(alloc, number)?.as_str())?;
+        push_bad(alloc, &mut text, number)?;
     }
     Ok(Traced {
         text,
         bad: bad.is_some(),
     })
+}
+
+/// Puts the line behind a drawing that says which line is bad.
+fn push_bad(alloc: Global, text: &mut String, number: usize) -> Result<(), AllocError> {
+    let line = bad_line(alloc, number)?;
+    text.push_str(line.as_str())
 }
 
 fn trace_from<C: Classes>(

@@ -78,14 +78,16 @@ impl<C: Classes> World<C> {
     pub fn new(alloc: Global) -> Result<World<C>, AllocError>
         ensures { IfOk result (λ w. w ≡ opening) }
     {
+        let stopped = vec![in alloc; false; NODE_COUNT]?;
+        let sent = Sent::new(alloc)?;
         let nodes = fresh_nodes(alloc)?;
         Ok(World {
             alloc,
             maps: Vec::new(alloc),
             monitor: Monitor::new(alloc),
             nodes,
-            stopped: vec![in alloc; false; NODE_COUNT]?,
-            sent: Sent::new(alloc)?,
+            stopped,
+            sent,
         })
     }
 

@@ -1,2 +1,4 @@
 pub mod Counted
+pub mod Gathered
+pub mod Lost
 pub mod Marks

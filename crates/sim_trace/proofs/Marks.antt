@@ -1,6 +1,6 @@
 -- A list of marks is the definition's.
-use Rattle.std.proofs.Common.{◌≡◌, ◌<◌, ◌≤◌, ℕ, suc, ◌+◌, List, Bool, false, length, take, map, slice_index_or, sym, ◌∙◌, ap, subst, zero-add, arith}
-use Rattle.std.proofs.Math.Seq.{take-length}
+use Rattle.std.proofs.Common.{◌≡◌, ◌<◌, ◌≤◌, ℕ, suc, ◌+◌, List, Bool, false, length, take, drop, ◌++◌, map, slice_index_or, sym, ◌∙◌, ap, subst, zero-add, arith}
+use Rattle.std.proofs.Math.Seq.{take-append_seam}
 use Rattle.std.proofs.lemmas.List.{ext_get_or}
 use Rattle.std.proofs.lemmas.List.FromFn.{length-map-range_with_len, get_or-map-range_with_len}
 use Rattle.std.specs.List.{list_any, range_with_len}
@@ -17,10 +17,8 @@ delivered_by letters steps come e h =
     ext_get_or false come (map f (range_with_len 0 n)) (e ∙ sym (length-map-range_with_len f 0 n))
     (subst P (sym e) (λ i lt. h i lt ∙ sym (get_or-map-range_with_len f 0 n i i false lt (zero-add i))))
 
--- the same, of marks that were made step by step
-pub delivered_after : (letters : List Letter) (steps : List Step) (come : List Bool) (i : ℕ) → i ≡ length steps → length come ≡ length letters →
-    ((k : ℕ) → k < length letters → slice_index_or come k false ≡ list_any (λ s. names_it (suc k) s.what) (take i steps)) → come ≡ delivered letters steps
-delivered_after letters steps come i end e h =
-    delivered_by letters steps come e (λ k lt.
-    let F : List Step → Bool = λ ss. list_any (λ s. names_it (suc k) s.what) ss in
-    h k lt ∙ ap (λ m. F (take m steps)) end ∙ ap F (take-length steps))
+-- the same, where a vector lent its marks
+pub delivered_in : (letters : List Letter) (steps : List Step) (before come : List Bool) (n : ℕ) → n ≡ length come → n ≡ length letters →
+    ((k : ℕ) → k < length letters → slice_index_or come k false ≡ list_any (λ s. names_it (suc k) s.what) steps) → take n (come ++ drop (length come) before) ≡ delivered letters steps
+delivered_in letters steps before come n own all h =
+    ap (λ m. take m (come ++ drop (length come) before)) own ∙ take-append_seam come (drop (length come) before) ∙ delivered_by letters steps come (sym own ∙ all) h

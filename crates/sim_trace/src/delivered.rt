@@ -1,5 +1,6 @@
 //! Which messages are delivered.
 ghost use Rattle.std.specs.Prelude.{◌≡◌, ◌<◌, ◌==◌, ◌||◌, ℕ, suc, false, IfOk, length, slice_index_or};
+ghost use Rattle.std.specs.List.{list_any};
 ghost use Rattle.sim_trace.specs.Drawing.{delivered, names_it};
 
 use crate::letter::Letter;
@@ -15,14 +16,19 @@ pub(crate) fn delivered(
     ensures value { IfOk result (λ v. v.items ≡ delivered letters.now steps.now) }
     ensures count { IfOk result (λ v. length v.items ≡ length letters.now) }
 {
-    let mut come = Vec::new(alloc);
-    for _letter in letters {
-        come.push(false)?;
-    }
-    for step in steps {
-        note(&mut come, step.what);
-    }
+    let mut come = vec![in alloc; false; letters.len()]?;
+    note_all(&mut come, steps);
     Ok(come)
+}
+
+/// Notes what steps deliver, where nothing is noted yet.
+fn note_all(come: &mut [bool], steps: &[Step])
+    requires { (k : ℕ) → k < length come.old → slice_index_or come.old k false ≡ false }
+    ensures { (k : ℕ) → k < length come.old → slice_index_or come.new k false ≡ list_any (λ s. names_it (suc k) s.what) steps.now }
+{
+    for step in steps {
+        note(come, step.what);
+    }
 }
 
 /// Notes what a step delivers.

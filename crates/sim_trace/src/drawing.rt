@@ -1,7 +1,7 @@
 //! The drawing, line by line.
-ghost use Rattle.std.specs.Prelude.{◌≡◌, ◌≤◌, ◌<◌, ◌+◌, ◌++◌, Some, false, length, slice_get, slice_index_or, OnOk, IfOk, string_bytes};
+ghost use Rattle.std.specs.Prelude.{◌≡◌, ◌≤◌, ◌<◌, ◌+◌, ◌++◌, Some, false, length, slice_get, slice_index_or, OnOk, IfOk, option_copied, string_bytes};
 ghost use Rattle.sim_trace.specs.Columns.{name};
-ghost use Rattle.sim_trace.specs.Drawing.{letter_at, letter_row, delivery, picture, sends, step_row, lost_row, lost_unless, lost_rows, sent_by, rows, heading, names, drawn};
+ghost use Rattle.sim_trace.specs.Drawing.{letter_at, letter_row, delivery, picture, sends, step_row, lost_row, lost_unless, lost_rows, delivered, sent_by, rows, heading, names, drawn};
 
 use crate::columns::{columns_of, place_of};
 use crate::delivered::delivered;
@@ -18,12 +18,37 @@ use std::alloc::{AllocError, Global};
 pub fn draw(alloc: Global, letters: &[Letter], steps: &[Step]) -> Result<String, AllocError>
     ensures { IfOk result (λ s. string_bytes s ≡ drawn letters.now steps.now) }
 {
-    let columns = columns_of(alloc, letters, steps)?;
-    let come = delivered(alloc, letters, steps)?;
     let mut out = String::new(alloc);
-    push_names(alloc, &mut out, &columns)?;
-    push_rows(alloc, &mut out, &columns, letters, &come, steps)?;
+    push_drawing(alloc, &mut out, letters, steps)?;
     Ok(out)
+}
+
+/// The names of the columns and the lines of all steps.
+fn push_drawing(
+    alloc: Global,
+    out: &mut String,
+    letters: &[Letter],
+    steps: &[Step],
+) -> Result<(), AllocError>
+    ensures { OnOk result (string_bytes out.new ≡ string_bytes out.old ++ drawn letters.now steps.now) }
+{
+    let columns = columns_of(alloc, letters, steps)?;
+    push_names(alloc, out, &columns)?;
+    push_steps(alloc, out, &columns, letters, steps)
+}
+
+/// The lines of all steps, and below them those of the messages that no step delivers.
+fn push_steps(
+    alloc: Global,
+    out: &mut String,
+    columns: &[Lane],
+    letters: &[Letter],
+    steps: &[Step],
+) -> Result<(), AllocError>
+    ensures { OnOk result (string_bytes out.new ≡ string_bytes out.old ++ rows columns.now letters.now (delivered letters.now steps.now) 0 steps.now) }
+{
+    let come = delivered(alloc, letters, steps)?;
+    push_rows(alloc, out, columns, letters, &come, steps)
 }
 
 /// The names of the columns.
@@ -41,7 +66,14 @@ fn push_heading(alloc: Global, out: &mut String, lane: Lane) -> Result<(), Alloc
     ensures { OnOk result (string_bytes out.new ≡ string_bytes out.old ++ heading (name lane)) }
 {
     let text = name(alloc, lane)?;
-    out.push_str(text.as_str())?;
+    push_filled(out, text.as_str())
+}
+
+/// A text, filled to the width of a column.
+fn push_filled(out: &mut String, text: &str) -> Result<(), AllocError>
+    ensures { OnOk result (string_bytes out.new ≡ string_bytes out.old ++ heading text.now) }
+{
+    out.push_str(text)?;
     push_repeated(out, 12usize.saturating_sub(text.len()), " ")
 }
 
@@ -69,6 +101,16 @@ fn push_letter(
     push_arrow(out, columns.len(), start, end, arrives, label.as_str())
 }
 
+/// The message of a number, if there is one.
+fn letter_at(letters: &[Letter], number: usize) -> Option<&Letter>
+    ensures { option_copied result ≡ letter_at letters.now number }
+{
+    if number == 0 {
+        return None;
+    }
+    letters.get(number - 1)
+}
+
 /// A message that is delivered, and what it says.
 fn push_delivery(
     alloc: Global,
@@ -80,10 +122,7 @@ fn push_delivery(
 ) -> Result<(), AllocError>
     ensures { OnOk result (string_bytes out.new ≡ string_bytes out.old ++ delivery columns.now number arrives (letter_at letters.now number)) }
 {
-    if number == 0 {
-        return Ok(());
-    }
-    match letters.get(number - 1) {
+    match letter_at(letters, number) {
         Some(letter) => push_said(alloc, out, columns, number, arrives, letter),
         None => Ok(()),
     }
@@ -179,10 +218,7 @@ fn push_if_lost(
     if comes(come, place) {
         return Ok(());
     }
-    match letters.get(place) {
-        Some(letter) => push_lost(alloc, out, columns, place + 1, letter),
-        None => Ok(()),
-    }
+    push_lost(alloc, out, columns, place + 1, &letters[place])
 }
 
 #[tactic(auto, using(crate::proofs::Counted::lost_rows_more))]

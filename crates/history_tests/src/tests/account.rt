@@ -97,16 +97,22 @@ fn name_of(account: usize) -> &'static str {
 pub(super) fn request<R: Abort>(rt: &R, alloc: Global, plain: Asked) -> Request {
     let client = u32::try_from(plain.client.saturating_add(1)).unwrap_or(1);
     let method = if plain.takes { "take" } else { "put" };
-    let mut input = Vec::new(alloc);
-    input.push(plain.amount).expect(rt, "memory");
-    Request::new(
-        ClientId::new(client).expect(rt, "a client"),
-        RequestNumber::new(plain.number).expect(rt, "a number"),
-        ObjectName::new(alloc, name_of(plain.account)).expect(rt, "memory"),
-        0,
-        String::from_str(alloc, method).expect(rt, "memory"),
-        input,
-    )
+    let client = ClientId::new(client).expect(rt, "a client");
+    let number = RequestNumber::new(plain.number).expect(rt, "a number");
+    let object = object(rt, alloc, plain.account);
+    let method = String::from_str(alloc, method).expect(rt, "memory");
+    let input = input(rt, alloc, plain.amount);
+    Request::new(client, number, object, 0, method, input)
+}
+
+/// The object of an account.
+fn object<R: Abort>(rt: &R, alloc: Global, account: usize) -> ObjectName {
+    ObjectName::new(alloc, name_of(account)).expect(rt, "memory")
+}
+
+/// The input of one byte.
+fn input<R: Abort>(rt: &R, alloc: Global, amount: u8) -> Vec<u8> {
+    vec![in alloc; amount].expect(rt, "memory")
 }
 
 /// The numbers of a request.

@@ -39,16 +39,10 @@ pub(super) struct Network<C: Classes> {
 impl<C: Classes> Network<C> {
     /// So many nodes, before the first map.
     pub(super) fn new<R: Abort>(rt: &R, alloc: Global, count: usize) -> Network<C> {
-        let mut nodes = Vec::new(alloc);
-        let mut stopped = Vec::new(alloc);
-        for number in 0..count {
-            let node = GroupNode::new(alloc, NodeId::new(number as u64));
-            nodes.push(node).expect(rt, "memory");
-            stopped.push(false).expect(rt, "memory");
-        }
+        let stopped = vec![in alloc; false; count].expect(rt, "memory");
         Network {
             alloc,
-            nodes,
+            nodes: fresh_nodes(rt, alloc, count),
             stopped,
             monitor: Monitor::new(alloc),
             maps: Vec::new(alloc),
@@ -112,7 +106,7 @@ impl<C: Classes> Network<C> {
         self.sent.push(sent).expect(rt, "memory");
     }
 
-    /// A node takes an event, if it isn't stopped. It says whether the node refused it.
+    /// A node that isn't stopped takes an event. It says whether the node refused it.
     fn take<R: Abort>(
         &mut self,
         rt: &R,
@@ -122,26 +116,31 @@ impl<C: Classes> Network<C> {
     ) -> Option<HandleError>
         requires { table.now ≡ C.classes }
     {
-        if self.is_stopped(at) {
-            return None;
-        }
         let node = self.nodes.get_mut(at).expect(rt, "a node");
         let _ = node.group().entries();
         match node.handle(table, event) {
             Ok(sent) => {
-                for packet in sent.into_items() {
-                    self.send(rt, packet);
-                }
+                self.send_all(rt, sent.into_items());
                 None
             }
             Err(error) => Some(error),
         }
     }
 
-    /// A client asks a node.
+    /// Messages are sent, in their order.
+    fn send_all<R: Abort>(&mut self, rt: &R, packets: Vec<Packet>) {
+        for packet in packets {
+            self.send(rt, packet);
+        }
+    }
+
+    /// A client asks a node. One that is stopped isn't there.
     pub(super) fn ask<R: Abort>(&mut self, rt: &R, table: &ClassTable, at: usize, asked: Asked)
         requires { table.now ≡ C.classes }
     {
+        if self.is_stopped(at) {
+            return;
+        }
         let before = (self.length(at), self.sent.len());
         let event = Event::Request(request(rt, self.alloc, asked));
         match self.take(rt, table, at, event) {
@@ -172,14 +171,17 @@ impl<C: Classes> Network<C> {
         }
     }
 
-    /// A node sees a map, by its place among all.
+    /// A node sees a map, by its place among all. One that is stopped doesn't.
     pub(super) fn see<R: Abort>(&mut self, rt: &R, table: &ClassTable, at: usize, place: usize)
         requires { table.now ≡ C.classes }
     {
+        if self.is_stopped(at) {
+            return;
+        }
         let Some(map) = self.maps.get(place) else {
             return;
         };
-        let map = map.copy(self.alloc).expect(rt, "memory");
+        let map = copied_map(rt, self.alloc, map);
         let _ = self.take(rt, table, at, Event::Map(map));
     }
 
@@ -283,6 +285,26 @@ impl Sent {
     }
 }
 
+/// So many nodes that have learned nothing.
+fn fresh_nodes<C: Classes, R: Abort>(rt: &R, alloc: Global, count: usize) -> Vec<GroupNode<C>> {
+    let mut nodes = Vec::new(alloc);
+    for number in 0..count {
+        let node = GroupNode::new(alloc, NodeId::new(number as u64));
+        nodes.push(node).expect(rt, "memory");
+    }
+    nodes
+}
+
+/// An equal map.
+fn copied_map<R: Abort>(rt: &R, alloc: Global, map: &GroupMap) -> GroupMap {
+    map.copy(alloc).expect(rt, "memory")
+}
+
+/// An equal request.
+fn copied_request<R: Abort>(rt: &R, alloc: Global, request: &Request) -> Request {
+    request.copy(alloc).expect(rt, "memory")
+}
+
 fn first(nodes: &[NodeId]) -> usize {
     match nodes {
         [node, ..] => node.get() as usize,
@@ -309,21 +331,29 @@ fn arrived<C: Classes, R: Abort>(
     match &sent.packed {
         None => Some(copy(rt, alloc, &sent.packet.message.kind)),
         Some(packed) => {
-            let list = unpack_log(alloc, &requests_of(rt, alloc, node), packed);
-            match list {
-                Ok(list) => with_list(rt, alloc, node, &sent.packet.message.kind, list),
-                Err(_) => None,
-            }
+            let list = unpacked(rt, alloc, node, packed)?;
+            with_list(rt, alloc, node, &sent.packet.message.kind, list)
         }
     }
+}
+
+/// A list, unpacked from a node's own; none where that is too short.
+fn unpacked<C: Classes, R: Abort>(
+    rt: &R,
+    alloc: Global,
+    node: &GroupNode<C>,
+    packed: &PackedLog,
+) -> Option<Vec<Request>> {
+    let own = requests_of(rt, alloc, node);
+    unpack_log(alloc, &own, packed).ok()
 }
 
 /// The requests of a node's log.
 fn requests_of<C: Classes, R: Abort>(rt: &R, alloc: Global, node: &GroupNode<C>) -> Vec<Request> {
     let mut own = Vec::new(alloc);
     for entry in node.group().entries() {
-        let request = entry.request.copy(alloc).expect(rt, "memory");
-        own.push(request).expect(rt, "memory");
+        own.push(copied_request(rt, alloc, &entry.request))
+            .expect(rt, "memory");
     }
     own
 }
@@ -361,7 +391,7 @@ fn with_list<C: Classes, R: Abort>(
     match kind {
         Kind::Log(interval, _) => Some(Kind::Log(*interval, Requests::new(list))),
         Kind::Install(map, _) => {
-            let map = map.copy(alloc).expect(rt, "memory");
+            let map = copied_map(rt, alloc, map);
             Some(Kind::Install(map, Requests::new(list)))
         }
         _ => None,
@@ -371,9 +401,9 @@ fn with_list<C: Classes, R: Abort>(
 /// An equal kind of message; of one without a list.
 fn copy<R: Abort>(rt: &R, alloc: Global, kind: &Kind) -> Kind {
     match kind {
-        Kind::Query(map) => Kind::Query(map.copy(alloc).expect(rt, "memory")),
+        Kind::Query(map) => Kind::Query(copied_map(rt, alloc, map)),
         Kind::Rep(interval, place, request) => {
-            Kind::Rep(*interval, *place, request.copy(alloc).expect(rt, "memory"))
+            Kind::Rep(*interval, *place, copied_request(rt, alloc, request))
         }
         Kind::Installed(interval) => Kind::Installed(*interval),
         Kind::AskActivate(interval) => Kind::AskActivate(*interval),
@@ -381,7 +411,7 @@ fn copy<R: Abort>(rt: &R, alloc: Global, kind: &Kind) -> Kind {
         Kind::Ack(interval, length) => Kind::Ack(*interval, *length),
         Kind::Log(interval, _) => Kind::Log(*interval, Requests::new(Vec::new(alloc))),
         Kind::Install(map, _) => {
-            let map = map.copy(alloc).expect(rt, "memory");
+            let map = copied_map(rt, alloc, map);
             Kind::Install(map, Requests::new(Vec::new(alloc)))
         }
         Kind::Reply(client, number, place, answer) => {

@@ -26,22 +26,26 @@ pub(super) struct Witness {
     cut: usize,
 }
 
+/// The logs of so many nodes, before any event.
+fn no_logs<R: Abort>(rt: &R, alloc: Global, nodes: usize) -> Vec<Vec<Asked>> {
+    let mut logs = Vec::new(alloc);
+    for _node in 0..nodes {
+        logs.push(Vec::new(alloc)).expect(rt, "memory");
+    }
+    logs
+}
+
 impl Witness {
     /// Of so many nodes, before any event.
     pub(super) fn new<R: Abort>(rt: &R, alloc: Global, nodes: usize) -> Witness {
-        let mut logs = Vec::new(alloc);
-        let mut committed = Vec::new(alloc);
-        for _node in 0..nodes {
-            logs.push(Vec::new(alloc)).expect(rt, "memory");
-            committed.push(0).expect(rt, "memory");
-        }
+        let committed = vec![in alloc; 0; nodes].expect(rt, "memory");
         Witness {
             alloc,
             agreed: Vec::new(alloc),
             answers: Vec::new(alloc),
             balances: Balances::new(),
             intervals: Vec::new(alloc),
-            logs,
+            logs: no_logs(rt, alloc, nodes),
             committed,
             read: 0,
             cut: 0,
