@@ -77,10 +77,7 @@ fn with_arg<'a>(
 ) -> Result<Command<'a>, AllocError>
     ensures { IfOk result (λ new. (old : ACommand) × (command.entry ≡ Ok old) × AddsArg old arg.entry new) }
 {
-    match command {
-        Ok(command) => command.arg(arg),
-        Err(error) => Err(error),
-    }
+    command?.arg(arg)
 }
 
 /// A command with one more subcommand, where there are both.
@@ -91,10 +88,7 @@ fn with_subcommand<'a>(
     ensures { IfOk result (λ new. (old : ACommand) × (sub : ACommand) × (command.entry ≡ Ok old) × (subcommand.entry ≡ Ok sub) × AddsSubcommand old sub new) }
 {
     let subcommand = subcommand?;
-    match command {
-        Ok(command) => command.subcommand(subcommand),
-        Err(error) => Err(error),
-    }
+    command?.subcommand(subcommand)
 }
 
 fn verify_command<'a>(alloc: Global) -> Result<Command<'a>, AllocError>
