@@ -63,7 +63,7 @@ fn explains<R: Abort + AllocGlobal>(rt: &R, words: &[&str], folder: &mut Folder)
 #[test]
 fn explains_its_use(rt: HostRuntime) {
     let mut folder = Folder::of(&rt, TWO, b"");
-    for words in USAGES {
+    for words in &USAGES {
         assert!(rt; explains(&rt, words, &mut folder));
     }
     assert!(rt; folder.writes == 0);
@@ -137,17 +137,23 @@ fn ends_with<R: Abort + AllocGlobal>(
 fn an_event_fails_where_standard_output_does(rt: HostRuntime) {
     let words = ["radoscls", "sim", "text"];
     let text = "map 1\nmap 2\n";
-    for (room, flushes, want) in EVENTS {
-        let limited = Limited { room, flushes };
-        assert!(rt; ends_with(&rt, &words, text, limited, want), "{room}");
+    for (room, flushes, want) in &EVENTS {
+        let limited = Limited {
+            room: *room,
+            flushes: *flushes,
+        };
+        assert!(rt; ends_with(&rt, &words, text, limited, *want), "{room}");
     }
 }
 
 #[test]
 fn fails_where_standard_output_does(rt: HostRuntime) {
     let text = ".method f r 0 0\nexit\n";
-    for (words, room, flushes, want) in LIMITS {
-        let limited = Limited { room, flushes };
-        assert!(rt; ends_with(&rt, words, text, limited, want), "{room}");
+    for (words, room, flushes, want) in &LIMITS {
+        let limited = Limited {
+            room: *room,
+            flushes: *flushes,
+        };
+        assert!(rt; ends_with(&rt, words, text, limited, *want), "{room}");
     }
 }
