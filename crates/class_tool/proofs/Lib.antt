@@ -1,3 +1,4 @@
 mod Called
 mod Refused
+mod Reported
 pub mod Longer

@@ -5,7 +5,7 @@ ghost use Rattle.class_tool.specs.Answer.{method_line};
 
 use crate::reply::Reply;
 use std::fmt;
-use verifier::VerifiedClass;
+use verifier::{VerifiedClass, VerifiedMethod};
 
 /// What was found. It prints as its lines; there are none where an image was written.
 #[derive(Drop)]
@@ -40,7 +40,15 @@ fn write_methods<W: fmt::Write>(class: &VerifiedClass, f: &mut fmt::Formatter<W>
     ensures { DisplaysOnOk W.write_str_gives f.old result (Some (flat_map method_line class.now)) f.new }
 {
     for method in class.methods() {
-        writeln!(f, "{} ok {}", method.name(), method.count())?;
+        write_method(method, f)?;
     }
     Ok(())
+}
+
+/// The line of a method.
+fn write_method<W: fmt::Write>(method: &VerifiedMethod, f: &mut fmt::Formatter<W>) -> fmt::Result
+    ensures { DisplaysOnOk W.write_str_gives f.old result (Some (method_line method.now)) f.new }
+{
+    let (name, count) = (method.name(), method.count());
+    writeln!(f, "{name} ok {count}")
 }

@@ -1,5 +1,5 @@
-ghost use Rattle.std.specs.Prelude.{IfErr, IfOk, string_bytes};
-ghost use Rattle.class_tool.specs.Assembly.{Assembles, AssembleFails, IsTextOf, Spells, TextFails, ImageFails};
+ghost use Rattle.std.specs.Prelude.{◌⊎◌, IfErr, IfOk, string_bytes};
+ghost use Rattle.class_tool.specs.Assembly.{Assembles, AssembleFails, IsSourceIn, IsTextOf, SourceFails, Spells, TextFails, ImageFails};
 ghost use Rattle.class_tool.specs.Files.{Holds};
 ghost use Rattle.class_tool.specs.Image.{ReadFails};
 
@@ -38,6 +38,15 @@ fn image_of(alloc: Global, text: &str) -> Result<Vec<u8>, Failure>
     }
 }
 
+/// The image of the class whose text a file holds.
+fn image_in<F: Reads>(alloc: Global, files: &F, name: &str) -> Result<Vec<u8>, Failure>
+    ensures source { IfOk result (λ bytes. IsSourceIn (F.disk files.now) name.now bytes.items) }
+    ensures fails { IfErr result (λ e. TextFails (F.disk files.now) name.now e ⊎ SourceFails (F.disk files.now) name.now e) }
+{
+    let text = read_text(alloc, files, name)?;
+    image_of(alloc, &text)
+}
+
 /// Writes the image of the class whose text the one file holds to the other, which may be the same one. Nothing is
 /// written before the text is read whole and known to be right.
 pub fn assemble<F: Files>(
@@ -49,8 +58,7 @@ pub fn assemble<F: Files>(
     ensures ok { IfOk result (λ _. Assembles (F.disk files.old) (F.disk files.new) text.now image.now) }
     ensures err { IfErr result (AssembleFails (F.disk files.old) (F.disk files.new) text.now image.now) }
 {
-    let text = read_text(alloc, files, text)?;
-    let bytes = image_of(alloc, &text)?;
+    let bytes = image_in(alloc, files, text)?;
     match files.write(image, &bytes) {
         Ok(()) => Ok(()),
         Err(_) => Err(Failure::CannotWrite),

@@ -56,9 +56,9 @@ impl fmt::Display for Failure {
             Failure::CannotRead => f.write_str("cannot read"),
             Failure::CannotWrite => f.write_str("cannot write"),
             Failure::NoMemory => f.write_str("no memory"),
-            Failure::Text(error) => write!(f, "{error}"),
-            Failure::Image(error) => write!(f, "{error}"),
-            Failure::Verdict(refusal) => write!(f, "{refusal}"),
+            Failure::Text(error) => error.fmt(f),
+            Failure::Image(error) => error.fmt(f),
+            Failure::Verdict(refusal) => refusal.fmt(f),
             Failure::InputNotHex => f.write_str("input is not hex"),
             Failure::Call(error) => write!(f, "call refused: {error}"),
         }

@@ -49,8 +49,8 @@ impl<R: std::rt::Files + AllocGlobal> Reads for SystemFiles<'_, R> {
     }
 
     fn read_first(&self, alloc: Global, name: &str, most: usize) -> io::Result<Vec<u8>> {
-        let mut bytes = Vec::new(alloc);
         let mut beginning = fs::open(self.rt, name)?.take(most as u64);
+        let mut bytes = Vec::new(alloc);
         beginning.read_to_end(&mut bytes)?;
         Ok(bytes)
     }

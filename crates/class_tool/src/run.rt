@@ -1,9 +1,11 @@
 ghost use Rattle.std.specs.Prelude.{FitsSigned, None, IfOk, IfErr};
 ghost use Rattle.std.specs.Int.{w64};
 ghost use Rattle.interp.specs.Plain.{Answers};
-ghost use Rattle.class_tool.specs.Log.{LogFails};
-ghost use Rattle.class_tool.specs.Reply.{Reports};
+ghost use Rattle.interp.specs.declared.outcome.Outcome.{Outcome as AnOutcome};
+ghost use Rattle.class_tool.specs.Log.{IsLogged, LogFails, first_request};
+ghost use Rattle.class_tool.specs.Reply.{IsOneOutcome, IsReplyOf, Reports};
 ghost use Rattle.class_tool.specs.Run.{RunFails};
+ghost use Rattle.class_tool.specs.declared.log.Logged.{Logged as ALogged};
 
 use crate::action::Call;
 use crate::failure::Failure;
@@ -42,6 +44,39 @@ fn are_codes(logged: &Logged, outcome: &Outcome)
     let _codes = (logged.code, outcome.code);
 }
 
+/// Appends the request of a call to an empty group, and gives the reply of its entry and of the call's outcome.
+fn log(
+    alloc: Global,
+    class: VerifiedClass,
+    asked: &Call<'_>,
+    input: Vec<u8>,
+    outcome: &Outcome,
+) -> Result<Reply, Failure>
+    ensures ok { IfOk result (λ reply. (logged : ALogged) × IsLogged class (first_request asked.now.caller asked.now.method.now input.items) logged × FitsSigned w64 logged.code × FitsSigned w64 outcome.now.code × IsReplyOf logged outcome.now reply) }
+    ensures err { IfErr result (LogFails class asked.now.method.now input.items) }
+{
+    let logged = append(alloc, class, asked.caller, asked.method, input)?;
+    are_codes(&logged, outcome);
+    Ok(Reply::new(alloc, &logged, outcome)?)
+}
+
+/// Makes the call, then appends the same request to an empty group.
+fn call_and_log(
+    alloc: Global,
+    class: VerifiedClass,
+    asked: &Call<'_>,
+    input: Vec<u8>,
+) -> Result<Reply, Failure>
+    ensures ok { IfOk result (λ reply. (outcome : AnOutcome) × (logged : ALogged) × Answers class asked.now.method.now None asked.now.caller input.items outcome × IsLogged class (first_request asked.now.caller asked.now.method.now input.items) logged × IsOneOutcome outcome logged × IsReplyOf logged outcome reply) }
+    ensures err { IfErr result (LogFails class asked.now.method.now input.items) }
+{
+    let outcome = call(alloc, &class, asked, &input)?;
+    // A call has one outcome, which is proved of the machine, of a class; the calls do nothing.
+    outcomes();
+    let _methods = class.methods();
+    log(alloc, class, asked, input, &outcome)
+}
+
 /// Makes the call, then appends the same request to an empty group. Code and output are those of the log's entry.
 pub fn run<F: Reads>(alloc: Global, files: &F, asked: &Call<'_>) -> Result<Reply, Failure>
     ensures ok { IfOk result (Reports (F.disk files.now) asked.now) }
@@ -49,11 +84,5 @@ pub fn run<F: Reads>(alloc: Global, files: &F, asked: &Call<'_>) -> Result<Reply
 {
     let class = load(alloc, files, asked.image)?;
     let input = decode_input(alloc, asked.input)?;
-    let outcome = call(alloc, &class, asked, &input)?;
-    // A call has one outcome, which is proved of the machine, of a class; the calls do nothing.
-    outcomes();
-    let _methods = class.methods();
-    let logged = append(alloc, class, asked.caller, asked.method, input)?;
-    are_codes(&logged, &outcome);
-    Ok(Reply::new(alloc, &logged, &outcome)?)
+    call_and_log(alloc, class, asked, input)
 }

@@ -18,14 +18,21 @@ pub fn find<F: Files>(alloc: Global, files: &mut F, action: &Action<'_>) -> Resu
     ensures fails { IfErr result (Fails (F.disk files.old) (F.disk files.new) action.now) }
 {
     match action {
-        Action::Verify { image } => Ok(Answer::Accepted(load(alloc, files, image)?)),
-        Action::Run(asked) => Ok(Answer::Ran(run(alloc, files, asked)?)),
-        Action::Assemble { text, image } => {
-            assemble(alloc, files, text, image)?;
-            Ok(Answer::Assembled)
-        }
-        Action::Disassemble { image } => {
-            Ok(Answer::Disassembled(disassemble(alloc, files, image)?))
-        }
+        Action::Verify { image } => match load(alloc, files, image) {
+            Ok(class) => Ok(Answer::Accepted(class)),
+            Err(failure) => Err(failure),
+        },
+        Action::Run(asked) => match run(alloc, files, asked) {
+            Ok(reply) => Ok(Answer::Ran(reply)),
+            Err(failure) => Err(failure),
+        },
+        Action::Assemble { text, image } => match assemble(alloc, files, text, image) {
+            Ok(()) => Ok(Answer::Assembled),
+            Err(failure) => Err(failure),
+        },
+        Action::Disassemble { image } => match disassemble(alloc, files, image) {
+            Ok(text) => Ok(Answer::Disassembled(text)),
+            Err(failure) => Err(failure),
+        },
     }
 }

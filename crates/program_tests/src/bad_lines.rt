@@ -1,7 +1,6 @@
 use crate::folder::{only_prints, with_repeated};
 use crate::script::prints;
 use std::process::Abort;
-use std::test::Fail;
 
 /// Files of events whose last line is bad: what is printed stands below each event.
 static BAD: [&str; 34] = [
@@ -53,26 +52,20 @@ static BAD: [&str; 34] = [
 ];
 
 #[test]
-fn a_bad_line_is_the_last(rt: HostRuntime) -> Result<(), Fail> {
+fn a_bad_line_is_the_last(rt: HostRuntime) {
     for text in &BAD {
-        prints(&rt, &[text], 1)?;
+        prints(&rt, &[text], 1);
     }
-    Ok(())
 }
 
 /// How the request is answered whose object's name has so many bytes, and how the run ends.
-fn asks_beside<R: Abort + AllocGlobal>(
-    rt: &R,
-    length: usize,
-    answer: &str,
-    status: u8,
-) -> Result<(), Fail> {
-    let events = with_repeated(rt.alloc(), "req 1 1 1 ", "a", length, " lock lock -\n")?;
-    only_prints(rt, &["sim", "text"], "", events.as_bytes(), answer, status)
+fn asks_beside<R: Abort + AllocGlobal>(rt: &R, length: usize, answer: &str, status: u8) {
+    let events = with_repeated(rt, "req 1 1 1 ", "a", length, " lock lock -\n");
+    only_prints(rt, &["sim", "text"], "", events.as_bytes(), answer, status);
 }
 
 #[test]
-fn an_object_has_a_name_of_255_bytes(rt: HostRuntime) -> Result<(), Fail> {
-    asks_beside(&rt, 255, "refused 1 NotPrimary\n", 0)?;
-    asks_beside(&rt, 256, "line 1: bad\n", 1)
+fn an_object_has_a_name_of_255_bytes(rt: HostRuntime) {
+    asks_beside(&rt, 255, "refused 1 NotPrimary\n", 0);
+    asks_beside(&rt, 256, "line 1: bad\n", 1);
 }

@@ -6,7 +6,6 @@ use std::alloc::Global;
 use std::cell::Cell;
 use std::io::{self, ErrorKind};
 use std::process::Abort;
-use std::test::Fail;
 
 /// `mov r0, 0`, `exit`.
 pub const TWO: &str =
@@ -26,24 +25,22 @@ pub struct Folder {
 }
 
 /// The bytes of hexadecimal digits, with spaces between them.
-pub fn bytes_of(alloc: Global, text: &str) -> io::Result<Vec<u8>> {
-    let digits: String = text.chars().filter(|c| *c != ' ').collect(alloc)?;
-    match hex::decode(alloc, digits.as_str()) {
-        Ok(bytes) => Ok(bytes),
-        Err(_) => Err(io::Error::from(ErrorKind::InvalidData)),
-    }
+pub fn bytes_of<R: Abort + AllocGlobal>(rt: &R, text: &str) -> Vec<u8> {
+    let digits = text.chars().filter(|c| *c != ' ').collect(rt.alloc());
+    let digits: String = digits.expect(rt, "memory");
+    hex::decode(rt.alloc(), digits.as_str()).expect(rt, "hexadecimal digits")
 }
 
 impl Folder {
     /// An image in hexadecimal, a text, and a file `out` that holds something else.
-    pub fn of(alloc: Global, image: &str, text: &[u8]) -> io::Result<Folder> {
-        Ok(Folder {
-            image: bytes_of(alloc, image)?,
-            text: Vec::from_slice(alloc, text)?,
-            out: Vec::from_slice(alloc, b"before")?,
+    pub fn of<R: Abort + AllocGlobal>(rt: &R, image: &str, text: &[u8]) -> Folder {
+        Folder {
+            image: bytes_of(rt, image),
+            text: Vec::from_slice(rt.alloc(), text).expect(rt, "memory"),
+            out: Vec::from_slice(rt.alloc(), b"before").expect(rt, "memory"),
             writes: 0,
             most_read: Cell::new(0),
-        })
+        }
     }
 
     fn file(&self, name: &str) -> io::Result<&[u8]> {
@@ -70,14 +67,16 @@ impl Reads for Folder {
 
 impl Files for Folder {
     fn write(&mut self, name: &str, bytes: &[u8]) -> io::Result<()> {
-        match name {
-            "image" => replace(&mut self.image, bytes)?,
-            "text" => replace(&mut self.text, bytes)?,
-            "out" => replace(&mut self.out, bytes)?,
-            _ => return Err(io::Error::from(ErrorKind::StorageFull)),
+        let written = match name {
+            "image" => replace(&mut self.image, bytes),
+            "text" => replace(&mut self.text, bytes),
+            "out" => replace(&mut self.out, bytes),
+            _ => Err(io::Error::from(ErrorKind::StorageFull)),
+        };
+        if written.is_ok() {
+            self.writes = self.writes.wrapping_add(1);
         }
-        self.writes = self.writes.wrapping_add(1);
-        Ok(())
+        written
     }
 }
 
@@ -95,19 +94,40 @@ pub struct Ended {
     pub explained: Vec<u8>,
 }
 
+impl Ended {
+    /// Whether that was printed, nothing was explained, and the status is that.
+    fn shows(&self, printed: &str, status: u8) -> bool {
+        self.status == status
+            && self.printed.as_slice() == printed.as_bytes()
+            && self.explained.is_empty()
+    }
+}
+
+/// The program's name, and those words behind it.
+fn line_of<'a, R: Abort + AllocGlobal>(rt: &R, words: &[&'a str]) -> Vec<&'a str> {
+    let mut line = vec![in rt.alloc(); "radoscls"].expect(rt, "memory");
+    line.extend_from_slice(words).expect(rt, "memory");
+    line
+}
+
 /// Runs the program on those words behind its name, and on that folder.
-pub fn run_on(alloc: Global, words: &[&str], folder: &mut Folder) -> Result<Ended, Fail> {
-    let mut all = vec![in alloc; "radoscls"]?;
-    all.extend_from_slice(words)?;
-    let mut printed = Vec::new(alloc);
-    let mut explained = Vec::new(alloc);
+pub fn run_on<R: Abort + AllocGlobal>(rt: &R, words: &[&str], folder: &mut Folder) -> Ended {
+    let line = line_of(rt, words);
+    let mut printed = Vec::new(rt.alloc());
+    let mut explained = Vec::new(rt.alloc());
     let mut out = Printer::new(&mut printed);
-    let status = program(alloc, all.as_slice(), folder, &mut out, &mut explained);
-    Ok(Ended {
+    let status = program(
+        rt.alloc(),
+        line.as_slice(),
+        folder,
+        &mut out,
+        &mut explained,
+    );
+    Ended {
         status,
         printed,
         explained,
-    })
+    }
 }
 
 /// Runs the program on those words and that folder: it prints that, explains nothing, and ends with that status.
@@ -117,14 +137,9 @@ pub fn prints_on<R: Abort + AllocGlobal>(
     folder: &mut Folder,
     printed: &str,
     status: u8,
-) -> Result<(), Fail> {
-    let ended = run_on(rt.alloc(), words, folder)?;
-    assert!(rt; ended.printed.as_slice() == printed.as_bytes(), "{printed}");
-    assert!(rt;
-        ended.status == status && ended.explained.is_empty(),
-        "{printed}"
-    );
-    Ok(())
+) {
+    let ended = run_on(rt, words, folder);
+    assert!(rt; ended.shows(printed, status), "{printed}");
 }
 
 /// The same on a folder with that image, in hexadecimal, and that text; and no file is written.
@@ -135,25 +150,24 @@ pub fn only_prints<R: Abort + AllocGlobal>(
     text: &[u8],
     printed: &str,
     status: u8,
-) -> Result<(), Fail> {
-    let mut folder = Folder::of(rt.alloc(), image, text)?;
-    prints_on(rt, words, &mut folder, printed, status)?;
+) {
+    let mut folder = Folder::of(rt, image, text);
+    prints_on(rt, words, &mut folder, printed, status);
     assert!(rt; folder.writes == 0, "{printed}");
-    Ok(())
 }
 
 /// A text that begins with the first part, has the next so many times, and ends with the last.
-pub fn with_repeated(
-    alloc: Global,
+pub fn with_repeated<R: Abort + AllocGlobal>(
+    rt: &R,
     first: &str,
     part: &str,
     count: usize,
     last: &str,
-) -> Result<String, Fail> {
-    let mut text = String::from_str(alloc, first)?;
+) -> String {
+    let mut text = String::from_str(rt.alloc(), first).expect(rt, "memory");
     for _ in 0..count {
-        text.push_str(part)?;
+        text.push_str(part).expect(rt, "memory");
     }
-    text.push_str(last)?;
-    Ok(text)
+    text.push_str(last).expect(rt, "memory");
+    text
 }

@@ -1,6 +1,5 @@
 use crate::folder::{Folder, TWO, only_prints, prints_on, with_repeated};
 use std::process::Abort;
-use std::test::Fail;
 
 /// Words behind the program's name, on an image: what they print, and the status.
 struct Row {
@@ -294,45 +293,42 @@ static SHOWN: [Row; 6] = [
 ];
 
 /// Each row prints what it should, ends so, and writes no file.
-fn passes<R: Abort + AllocGlobal>(rt: &R, rows: &[Row]) -> Result<(), Fail> {
+fn passes<R: Abort + AllocGlobal>(rt: &R, rows: &[Row]) {
     for row in rows {
-        only_prints(rt, row.words, row.image, b"", row.printed, row.status)?;
+        only_prints(rt, row.words, row.image, b"", row.printed, row.status);
     }
-    Ok(())
 }
 
 #[test]
-fn verifies(rt: HostRuntime) -> Result<(), Fail> {
-    passes(&rt, &VERDICTS)
+fn verifies(rt: HostRuntime) {
+    passes(&rt, &VERDICTS);
 }
 
 #[test]
-fn runs(rt: HostRuntime) -> Result<(), Fail> {
-    passes(&rt, &RUNS)
+fn runs(rt: HostRuntime) {
+    passes(&rt, &RUNS);
 }
 
 #[test]
-fn disassembles(rt: HostRuntime) -> Result<(), Fail> {
-    passes(&rt, &SHOWN)
+fn disassembles(rt: HostRuntime) {
+    passes(&rt, &SHOWN);
 }
 
 #[test]
-fn disassembles_a_long_text(rt: HostRuntime) -> Result<(), Fail> {
-    let alloc = rt.alloc();
+fn disassembles_a_long_text(rt: HostRuntime) {
     // 500 times `mov r0, 0`, and `exit`
     let head = "52434c31 0100 0000 01 66 01 0000 0000 f501";
-    let image = with_repeated(alloc, head, "b700000000000000", 500, "9500000000000000")?;
-    let printed = with_repeated(alloc, ".method f r 0 0\n", "mov r0, 0\n", 500, "exit\n")?;
-    only_prints(&rt, &["dis", "image"], &image, b"", &printed, 0)
+    let image = with_repeated(&rt, head, "b700000000000000", 500, "9500000000000000");
+    let printed = with_repeated(&rt, ".method f r 0 0\n", "mov r0, 0\n", 500, "exit\n");
+    only_prints(&rt, &["dis", "image"], &image, b"", &printed, 0);
 }
 
 /// Bytes behind an image, more of them than an image has.
 #[test]
-fn reads_no_more_than_an_image_has(rt: HostRuntime) -> Result<(), Fail> {
-    let image = with_repeated(rt.alloc(), TWO, "00", 1_100_000, "")?;
-    let mut folder = Folder::of(rt.alloc(), &image, b"")?;
+fn reads_no_more_than_an_image_has(rt: HostRuntime) {
+    let image = with_repeated(&rt, TWO, "00", 1_100_000, "");
+    let mut folder = Folder::of(&rt, &image, b"");
     let printed = "image refused after 1 methods: 11 Trailing\n";
-    prints_on(&rt, &["verify", "image"], &mut folder, printed, 1)?;
-    assert_eq!(rt; folder.most_read.get(), 1_050_889);
-    Ok(())
+    prints_on(&rt, &["verify", "image"], &mut folder, printed, 1);
+    assert!(rt; folder.most_read.get() == 1_050_889);
 }

@@ -1,5 +1,4 @@
 use crate::script::prints;
-use std::test::Fail;
 
 /// Node 1 alone is a group, and active.
 const ALONE: &str = "> map 1
@@ -297,9 +296,8 @@ static RUNS: [[&str; 3]; 11] = [
 ];
 
 #[test]
-fn groups_are_played(rt: HostRuntime) -> Result<(), Fail> {
+fn groups_are_played(rt: HostRuntime) {
     for parts in &RUNS {
-        prints(&rt, parts, 0)?;
+        prints(&rt, parts, 0);
     }
-    Ok(())
 }

@@ -3,7 +3,6 @@
 use crate::folder::only_prints;
 use std::alloc::Global;
 use std::process::Abort;
-use std::test::Fail;
 
 /// A file of events, and what it prints.
 #[derive(Drop)]
@@ -12,9 +11,9 @@ struct Script {
     printed: String,
 }
 
-fn push_line(text: &mut String, line: &str) -> Result<(), Fail> {
-    text.push_str(line)?;
-    Ok(text.push('\n')?)
+fn push_line<R: Abort>(rt: &R, text: &mut String, line: &str) {
+    text.push_str(line).expect(rt, "memory");
+    text.push('\n').expect(rt, "memory");
 }
 
 impl Script {
@@ -26,23 +25,22 @@ impl Script {
     }
 
     /// Adds the lines of a text.
-    fn add(&mut self, text: &str) -> Result<(), Fail> {
+    fn add<R: Abort>(&mut self, rt: &R, text: &str) {
         for line in text.lines() {
             match line.strip_prefix('>') {
-                Some(event) => push_line(&mut self.events, event)?,
-                None => push_line(&mut self.printed, line)?,
+                Some(event) => push_line(rt, &mut self.events, event),
+                None => push_line(rt, &mut self.printed, line),
             }
         }
-        Ok(())
     }
 }
 
 /// Whether `sim` prints of those texts' events what stands below them, ends so, and writes no file.
-pub fn prints<R: Abort + AllocGlobal>(rt: &R, texts: &[&str], status: u8) -> Result<(), Fail> {
+pub fn prints<R: Abort + AllocGlobal>(rt: &R, texts: &[&str], status: u8) {
     let mut script = Script::new(rt.alloc());
     for text in texts {
-        script.add(text)?;
+        script.add(rt, text);
     }
     let events = script.events.as_bytes();
-    only_prints(rt, &["sim", "text"], "", events, &script.printed, status)
+    only_prints(rt, &["sim", "text"], "", events, &script.printed, status);
 }

@@ -1,10 +1,8 @@
 use crate::folder::{Folder, TWO, run_on};
 use class_tool::Printer;
 use radoscls_program::program;
-use std::alloc::Global;
 use std::io::{self, ErrorKind, Write};
 use std::process::Abort;
-use std::test::Fail;
 
 /// Words that ask for nothing that the program does, or for help.
 static USAGES: [&[&str]; 26] = [
@@ -57,19 +55,18 @@ static USAGES: [&[&str]; 26] = [
 ];
 
 /// Whether the program prints nothing of those words, explains its use, and ends with 2.
-fn explains(alloc: Global, words: &[&str], folder: &mut Folder) -> Result<bool, Fail> {
-    let ended = run_on(alloc, words, folder)?;
-    Ok(ended.status == 2 && ended.printed.is_empty() && !ended.explained.is_empty())
+fn explains<R: Abort + AllocGlobal>(rt: &R, words: &[&str], folder: &mut Folder) -> bool {
+    let ended = run_on(rt, words, folder);
+    ended.status == 2 && ended.printed.is_empty() && !ended.explained.is_empty()
 }
 
 #[test]
-fn explains_its_use(rt: HostRuntime) -> Result<(), Fail> {
-    let mut folder = Folder::of(rt.alloc(), TWO, b"")?;
-    for words in USAGES {
-        assert!(rt; explains(rt.alloc(), words, &mut folder)?);
+fn explains_its_use(rt: HostRuntime) {
+    let mut folder = Folder::of(&rt, TWO, b"");
+    for words in &USAGES {
+        assert!(rt; explains(&rt, words, &mut folder));
     }
-    assert_eq!(rt; folder.writes, 0);
-    Ok(())
+    assert!(rt; folder.writes == 0);
 }
 
 /// A writer with room for some bytes, which can let them through or can't.
@@ -117,7 +114,7 @@ static EVENTS: [(usize, bool, u8); 5] = [
     (26, false, 1),
 ];
 
-/// Runs the program on that text, where standard output is so limited: it ends so, and standard output has failed where
+/// Whether the program ends so on that text, where standard output is so limited, and standard output has failed where
 /// the status is 1.
 fn ends_with<R: Abort + AllocGlobal>(
     rt: &R,
@@ -125,40 +122,38 @@ fn ends_with<R: Abort + AllocGlobal>(
     text: &str,
     limited: Limited,
     want: u8,
-) -> Result<(), Fail> {
-    let room = limited.room;
+) -> bool {
     let mut err = Limited {
         room: 0,
         flushes: limited.flushes,
     };
-    let mut folder = Folder::of(rt.alloc(), TWO, text.as_bytes())?;
+    let mut folder = Folder::of(rt, TWO, text.as_bytes());
     let mut out = Printer::new(limited);
     let status = program(rt.alloc(), words, &mut folder, &mut out, &mut err);
-    assert_eq!(rt; status, want, "{room}");
-    assert_eq!(rt; out.has_failed(), want == 1, "{room}");
-    Ok(())
+    status == want && out.has_failed() == (want == 1)
 }
 
 #[test]
-fn an_event_fails_where_standard_output_does(rt: HostRuntime) -> Result<(), Fail> {
+fn an_event_fails_where_standard_output_does(rt: HostRuntime) {
     let words = ["radoscls", "sim", "text"];
-    for (room, flushes, want) in EVENTS {
-        ends_with(
-            &rt,
-            &words,
-            "map 1\nmap 2\n",
-            Limited { room, flushes },
-            want,
-        )?;
+    let text = "map 1\nmap 2\n";
+    for (room, flushes, want) in &EVENTS {
+        let limited = Limited {
+            room: *room,
+            flushes: *flushes,
+        };
+        assert!(rt; ends_with(&rt, &words, text, limited, *want), "{room}");
     }
-    Ok(())
 }
 
 #[test]
-fn fails_where_standard_output_does(rt: HostRuntime) -> Result<(), Fail> {
+fn fails_where_standard_output_does(rt: HostRuntime) {
     let text = ".method f r 0 0\nexit\n";
-    for (words, room, flushes, want) in LIMITS {
-        ends_with(&rt, words, text, Limited { room, flushes }, want)?;
+    for (words, room, flushes, want) in &LIMITS {
+        let limited = Limited {
+            room: *room,
+            flushes: *flushes,
+        };
+        assert!(rt; ends_with(&rt, words, text, limited, *want), "{room}");
     }
-    Ok(())
 }

@@ -1,7 +1,6 @@
 use crate::folder::{Ended, Folder, TWO, only_prints, run_on};
-use std::alloc::Global;
 use std::fmt::Write;
-use std::test::Fail;
+use std::process::Abort;
 
 /// A class whose method `hello` answers five bytes.
 const HELLO: &str =
@@ -132,45 +131,52 @@ static ROWS: [Row; 12] = [
 ];
 
 #[test]
-fn tenants_classes_are_asked(rt: HostRuntime) -> Result<(), Fail> {
+fn tenants_classes_are_asked(rt: HostRuntime) {
     for row in &ROWS {
         let events = row.events.as_bytes();
-        only_prints(&rt, row.words, row.image, events, row.printed, row.status)?;
+        only_prints(&rt, row.words, row.image, events, row.printed, row.status);
     }
-    Ok(())
 }
 
 #[test]
-fn a_file_of_events_is_utf8(rt: HostRuntime) -> Result<(), Fail> {
+fn a_file_of_events_is_utf8(rt: HostRuntime) {
     let events = b"map 1\n# \xff\n";
-    only_prints(&rt, &["sim", "text"], TWO, events, "cannot read\n", 1)
+    only_prints(&rt, &["sim", "text"], TWO, events, "cannot read\n", 1);
 }
 
 /// The words of `sim` with so many classes of one image.
-fn line_of_classes(alloc: Global, count: usize) -> Result<String, Fail> {
-    let mut line = String::from_str(alloc, "sim")?;
+fn line_of_classes<R: Abort + AllocGlobal>(rt: &R, count: usize) -> String {
+    let mut line = String::from_str(rt.alloc(), "sim").expect(rt, "memory");
     for number in 0..count {
-        write!(line, " --class=c{number}=image")?;
+        write!(line, " --class=c{number}=image").expect(rt, "memory");
     }
-    line.push_str(" text")?;
-    Ok(line)
+    line.push_str(" text").expect(rt, "memory");
+    line
 }
 
 /// `sim` with so many classes of one image, of which the last is asked.
-fn with_classes(alloc: Global, count: usize) -> Result<Ended, Fail> {
-    let line = line_of_classes(alloc, count)?;
-    let words: Vec<&str> = line.split_whitespace().collect(alloc)?;
+fn with_classes<R: Abort + AllocGlobal>(rt: &R, count: usize) -> Ended {
+    let line = line_of_classes(rt, count);
+    let words = line.split_whitespace().collect(rt.alloc());
+    let words: Vec<&str> = words.expect(rt, "memory");
     let events = "map 1\nsee 1 1\ndeliver 1\ndeliver 2\nreq 1 1 1 a c61 hello -\n";
-    let mut folder = Folder::of(alloc, HELLO, events.as_bytes())?;
-    run_on(alloc, &words, &mut folder)
+    let mut folder = Folder::of(rt, HELLO, events.as_bytes());
+    run_on(rt, &words, &mut folder)
+}
+
+/// Whether the last event is answered with what `hello` writes.
+fn is_answered(ended: &Ended) -> bool {
+    let last = "m3 1->c1 Reply 1 0 0 68656c6c6f\n";
+    ended.status == 0 && ended.printed.ends_with(last.as_bytes())
+}
+
+/// Whether nothing is done, and the use is explained.
+fn is_explained(ended: &Ended) -> bool {
+    ended.status == 2 && ended.printed.is_empty() && !ended.explained.is_empty()
 }
 
 #[test]
-fn there_may_be_62_of_them(rt: HostRuntime) -> Result<(), Fail> {
-    let ended = with_classes(rt.alloc(), 62)?;
-    let last = "m3 1->c1 Reply 1 0 0 68656c6c6f\n";
-    assert!(rt; ended.status == 0 && ended.printed.ends_with(last.as_bytes()));
-    let ended = with_classes(rt.alloc(), 63)?;
-    assert!(rt; ended.status == 2 && ended.printed.is_empty() && !ended.explained.is_empty());
-    Ok(())
+fn there_may_be_62_of_them(rt: HostRuntime) {
+    assert!(rt; is_answered(&with_classes(&rt, 62)));
+    assert!(rt; is_explained(&with_classes(&rt, 63)));
 }

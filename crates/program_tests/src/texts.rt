@@ -1,5 +1,5 @@
 use crate::folder::{Folder, TWO, bytes_of, only_prints, prints_on};
-use std::test::Fail;
+use std::process::Abort;
 
 /// The text of the two instructions.
 const TWO_TEXT: &str = ".method f r 0 0\nmov r0, 0\nexit\n";
@@ -46,48 +46,47 @@ static FAILURES: [(&[&str], &str); 2] = [
     (&["asm", "text", "full"], "cannot write\n"),
 ];
 
+/// Whether the image of that text, in hexadecimal, is written to `out` once, and the text stays.
+fn assembles_to<R: Abort + AllocGlobal>(rt: &R, text: &str, image: &str) -> bool {
+    let mut folder = Folder::of(rt, "", text.as_bytes());
+    prints_on(rt, &ASM, &mut folder, "", 0);
+    folder.out == bytes_of(rt, image)
+        && folder.writes == 1
+        && folder.text.as_slice() == text.as_bytes()
+}
+
 #[test]
-fn assembles(rt: HostRuntime) -> Result<(), Fail> {
+fn assembles(rt: HostRuntime) {
     for (text, image) in &ASSEMBLED {
-        let mut folder = Folder::of(rt.alloc(), "", text.as_bytes())?;
-        prints_on(&rt, &ASM, &mut folder, "", 0)?;
-        assert!(rt; folder.out == bytes_of(rt.alloc(), image)?, "{text}");
-        assert!(rt;
-            folder.writes == 1 && folder.text.as_slice() == text.as_bytes(),
-            "{text}"
-        );
+        assert!(rt; assembles_to(&rt, text, image), "{text}");
     }
-    Ok(())
 }
 
 #[test]
-fn refuses_texts(rt: HostRuntime) -> Result<(), Fail> {
+fn refuses_texts(rt: HostRuntime) {
     for (text, printed) in &REFUSED {
-        only_prints(&rt, &ASM, "", text.as_bytes(), printed, 1)?;
+        only_prints(&rt, &ASM, "", text.as_bytes(), printed, 1);
     }
-    Ok(())
 }
 
 #[test]
-fn names_files_that_fail(rt: HostRuntime) -> Result<(), Fail> {
+fn names_files_that_fail(rt: HostRuntime) {
     for (words, printed) in &FAILURES {
-        only_prints(&rt, words, TWO, TWO_TEXT.as_bytes(), printed, 1)?;
+        only_prints(&rt, words, TWO, TWO_TEXT.as_bytes(), printed, 1);
     }
-    Ok(())
 }
 
 #[test]
-fn a_text_is_utf8(rt: HostRuntime) -> Result<(), Fail> {
+fn a_text_is_utf8(rt: HostRuntime) {
     let text = b".method f r 0 0\nexit ; \xff\n";
-    only_prints(&rt, &ASM, "", text, "cannot read\n", 1)
+    only_prints(&rt, &ASM, "", text, "cannot read\n", 1);
 }
 
 /// The file of the image may be that of the text.
 #[test]
-fn out_may_be_in(rt: HostRuntime) -> Result<(), Fail> {
-    let mut folder = Folder::of(rt.alloc(), "", LOOSE_TEXT.as_bytes())?;
-    prints_on(&rt, &["asm", "text", "text"], &mut folder, "", 0)?;
-    assert_eq!(rt; folder.writes, 1);
-    assert!(rt; folder.text == bytes_of(rt.alloc(), LOOSE)?);
-    Ok(())
+fn out_may_be_in(rt: HostRuntime) {
+    let mut folder = Folder::of(&rt, "", LOOSE_TEXT.as_bytes());
+    prints_on(&rt, &["asm", "text", "text"], &mut folder, "", 0);
+    assert!(rt; folder.writes == 1);
+    assert!(rt; folder.text == bytes_of(&rt, LOOSE));
 }

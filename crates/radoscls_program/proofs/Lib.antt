@@ -1,6 +1,7 @@
 mod Built
 mod Ended
 mod Entered
+mod Parsed
 mod Simulated
 mod Tenants
 mod Unasked

@@ -1,8 +1,9 @@
-ghost use Rattle.std.specs.Prelude.{◌≡◌, ◌≢◌, ◌↔◌, ◌≤◌, [], false, length, IfErr, IfNone, IfOk, IfSome, IsNone, IsSome, None, codes, map};
+ghost use Rattle.std.specs.Prelude.{◌≡◌, ◌≢◌, ◌↔◌, ◌≤◌, [], false, length, IfErr, IfNone, IfOk, IfSome, IsNone, IsSome, None, Ok, Some, codes, map};
+ghost use Rattle.clap.specs.declared.builder.command.Command.{Command as ACommand};
 ghost use Rattle.clap.specs.declared.builder.command.Command.TheViews.{out-Command};
-ghost use Rattle.clap.specs.Words.{all_of, app_of, fault_of, first_value, found_of, kind_of, rows_of, rule_of, subcommand_of, subcommand_rows_of};
+ghost use Rattle.clap.specs.Words.{AddsArg, AddsSubcommand, all_of, app_of, fault_of, first_value, found_of, kind_of, new_app, rows_of, rule_of, subcommand_of, subcommand_rows_of, with_rule};
 ghost use Rattle.sim_tool.specs.declared.asked.TheConstants.{OWN_LIMIT};
-ghost use Rattle.radoscls_program.specs.CommandLine.{Asks, AsksNoTask, AsksNothing, AsksTask, asm_line, caller_rule, class_line, class_rule, command_line, dis_line, image_line, option_rule, plain_line, required_rule, run_line, sim_line, trace_rule, verify_line};
+ghost use Rattle.radoscls_program.specs.CommandLine.{Asks, AsksNoTask, AsksNothing, AsksTask, asm_line, caller_rule, class_rule, command_line, dis_line, image_line, option_rule, plain_line, required_rule, run_line, sim_line, trace_rule, verify_line};
 ghost use Rattle.radoscls_program.specs.Arguments.{AsksBy, IsClientNumber, NamesCall, NamesFiles, NamesSim, TakesSim, is_set, number_in, texts_of};
 ghost use Rattle.radoscls_program.specs.Own.{Owns, are_own};
 ghost use Rattle.radoscls_program.specs.Program.{AreForNone};
@@ -53,44 +54,80 @@ fn caller_option<'a>(alloc: Global) -> Arg<'a>
     option(alloc, "caller", "N", "1", help).value_parser(numbers)
 }
 
+/// A subcommand that takes a file, by its place.
+fn file_command<'a>(
+    alloc: Global,
+    name: &'a str,
+    about: &'a str,
+    id: &'a str,
+    help: &'a str,
+) -> Result<Command<'a>, AllocError>
+    ensures line { IfOk result (λ c. app_of c ≡ with_rule (new_app name.entry.now) (required_rule id.entry.now)) }
+    ensures local { IfOk result (λ c. (out-Command c).has_globals ≡ false) }
+{
+    Command::new(alloc, name)
+        .about(about)
+        .arg(required(alloc, id, help))
+}
+
+/// A command with one more argument, where there is the command.
+fn with_arg<'a>(
+    command: Result<Command<'a>, AllocError>,
+    arg: Arg<'a>,
+) -> Result<Command<'a>, AllocError>
+    ensures { IfOk result (λ new. (old : ACommand) × (command.entry ≡ Ok old) × AddsArg old arg.entry new) }
+{
+    command?.arg(arg)
+}
+
+/// A command with one more subcommand, where there are both.
+fn with_subcommand<'a>(
+    command: Result<Command<'a>, AllocError>,
+    subcommand: Result<Command<'a>, AllocError>,
+) -> Result<Command<'a>, AllocError>
+    ensures { IfOk result (λ new. (old : ACommand) × (sub : ACommand) × (command.entry ≡ Ok old) × (subcommand.entry ≡ Ok sub) × AddsSubcommand old sub new) }
+{
+    let subcommand = subcommand?;
+    command?.subcommand(subcommand)
+}
+
 fn verify_command<'a>(alloc: Global) -> Result<Command<'a>, AllocError>
     ensures line { IfOk result (λ c. app_of c ≡ verify_line) }
     ensures local { IfOk result (λ c. (out-Command c).has_globals ≡ false) }
 {
-    Command::new(alloc, "verify")
-        .about("Tells whether the methods of a class image are safe")
-        .arg(required(alloc, "IN", "The file of the image"))
+    let about = "Tells whether the methods of a class image are safe";
+    file_command(alloc, "verify", about, "IN", "The file of the image")
 }
 
 fn run_command<'a>(alloc: Global) -> Result<Command<'a>, AllocError>
     ensures line { IfOk result (λ c. app_of c ≡ run_line) }
     ensures local { IfOk result (λ c. (out-Command c).has_globals ≡ false) }
 {
-    Command::new(alloc, "run")
-        .about("Runs a method of a class image beside an absent object")
-        .arg(required(alloc, "IN", "The file of the image"))?
-        .arg(required(alloc, "METHOD", "The name of the method"))?
-        .arg(option(alloc, "input", "HEX", "", "The input, in hexadecimal"))?
-        .arg(caller_option(alloc))
+    let about = "Runs a method of a class image beside an absent object";
+    let of_image = file_command(alloc, "run", about, "IN", "The file of the image");
+    let method = required(alloc, "METHOD", "The name of the method");
+    let input = option(alloc, "input", "HEX", "", "The input, in hexadecimal");
+    with_arg(
+        with_arg(with_arg(of_image, method), input),
+        caller_option(alloc),
+    )
 }
 
 fn asm_command<'a>(alloc: Global) -> Result<Command<'a>, AllocError>
     ensures line { IfOk result (λ c. app_of c ≡ asm_line) }
     ensures local { IfOk result (λ c. (out-Command c).has_globals ≡ false) }
 {
-    Command::new(alloc, "asm")
-        .about("Writes the image of a class from its text")
-        .arg(required(alloc, "IN", "The file of the text"))?
-        .arg(required(alloc, "OUT", "The file of the image"))
+    let about = "Writes the image of a class from its text";
+    let of_text = file_command(alloc, "asm", about, "IN", "The file of the text");
+    with_arg(of_text, required(alloc, "OUT", "The file of the image"))
 }
 
 fn dis_command<'a>(alloc: Global) -> Result<Command<'a>, AllocError>
     ensures line { IfOk result (λ c. app_of c ≡ dis_line) }
     ensures local { IfOk result (λ c. (out-Command c).has_globals ≡ false) }
 {
-    Command::new(alloc, "dis")
-        .about("Prints the text of a class image")
-        .arg(required(alloc, "IN", "The file of the image"))
+    let about = "Prints the text of a class image";
+    file_command(alloc, "dis", about, "IN", "The file of the image")
 }
 
 /// The option of a tenant's class, which may stand more than once.
@@ -120,17 +157,14 @@ fn sim_command<'a>(alloc: Global) -> Result<Command<'a>, AllocError>
     ensures line { IfOk result (λ c. app_of c ≡ sim_line) }
     ensures local { IfOk result (λ c. (out-Command c).has_globals ≡ false) }
 {
-    Command::new(alloc, "sim")
-        .about("Plays a group of nodes from a file of events")
-        .arg(required(alloc, "FILE", "The file of events"))?
-        .arg(class_option(alloc))?
-        .arg(trace_flag(alloc))
+    let about = "Plays a group of nodes from a file of events";
+    let of_events = file_command(alloc, "sim", about, "FILE", "The file of events");
+    with_arg(with_arg(of_events, class_option(alloc)), trace_flag(alloc))
 }
 
 /// The command without its subcommands, of which one has to be there.
 fn plain_command<'a>(alloc: Global) -> Command<'a>
-    ensures line { app_of result ≡ plain_line }
-    ensures local { (out-Command result).has_globals ≡ false }
+    ensures { app_of result ≡ plain_line }
 {
     Command::new(alloc, "radoscls")
         .about("RADOS object classes in verified BPF")
@@ -142,24 +176,22 @@ fn plain_command<'a>(alloc: Global) -> Command<'a>
 fn image_command<'a>(alloc: Global) -> Result<Command<'a>, AllocError>
     ensures { IfOk result (λ c. app_of c ≡ image_line) }
 {
-    plain_command(alloc)
-        .subcommand(verify_command(alloc)?)?
-        .subcommand(run_command(alloc)?)
-}
-
-/// The command with the subcommands of images and texts.
-fn class_command<'a>(alloc: Global) -> Result<Command<'a>, AllocError>
-    ensures { IfOk result (λ c. app_of c ≡ class_line) }
-{
-    image_command(alloc)?
-        .subcommand(asm_command(alloc)?)?
-        .subcommand(dis_command(alloc)?)
+    let plain = Ok(plain_command(alloc));
+    with_subcommand(
+        with_subcommand(plain, verify_command(alloc)),
+        run_command(alloc),
+    )
 }
 
 fn root_command<'a>(alloc: Global) -> Result<Command<'a>, AllocError>
     ensures { IfOk result (λ c. app_of c ≡ command_line) }
 {
-    class_command(alloc)?.subcommand(sim_command(alloc)?)
+    let of_images = image_command(alloc);
+    let of_texts = with_subcommand(
+        with_subcommand(of_images, asm_command(alloc)),
+        dis_command(alloc),
+    );
+    with_subcommand(of_texts, sim_command(alloc))
 }
 
 /// The client of the number that a text writes in decimal digits, behind a plus or none: 1 to 4294967295.
@@ -294,6 +326,37 @@ fn task_of<'a>(alloc: Global, matches: &ArgMatches<'a>) -> Result<Option<Task<'a
     }
 }
 
+/// The task that was found, or why there is none: the command's own error where the words ask for nothing.
+fn found_task<'a>(
+    command: &mut Command<'a>,
+    found: Result<Option<Task<'a>>, AllocError>,
+) -> Result<Task<'a>, Error>
+    ensures asked { IfOk result (λ task. found.entry ≡ Ok (Some task)) }
+    ensures unasked { IfErr result (λ e. kind_of e ≢ ErrorKind.OutOfMemory → found.entry ≡ Ok None) }
+{
+    match found? {
+        Some(task) => Ok(task),
+        None => Err(command.error(ErrorKind::ValueValidation, "no such call or class")?),
+    }
+}
+
+/// What those words ask for, by that command.
+fn parse_by<'a, S: AsStr>(
+    alloc: Global,
+    command: &mut Command<'a>,
+    words: &'a [S],
+) -> Result<Task<'a>, Error>
+    requires { app_of command.now ≡ command_line }
+    ensures asked { IfOk result (AsksTask (subcommand_of command_line (map S.text words.entry.now))) }
+    ensures faultless { IfOk result (λ _. fault_of command_line (map S.text words.entry.now) ≡ []) }
+    ensures unasked { IfErr result (λ e. kind_of e ≢ ErrorKind.OutOfMemory → AreForNone (map S.text words.entry.now)) }
+{
+    match command.try_get_matches_from_mut(words) {
+        Ok(matches) => found_task(command, task_of(alloc, &matches)),
+        Err(error) => Err(error),
+    }
+}
+
 /// What those words ask for; the first is the program's own name. An error's text is for the user,
 /// help too; its kind is `OutOfMemory` where memory ran out.
 pub fn parse<'a, S: AsStr>(alloc: Global, words: &'a [S]) -> Result<Task<'a>, Error>
@@ -302,9 +365,5 @@ pub fn parse<'a, S: AsStr>(alloc: Global, words: &'a [S]) -> Result<Task<'a>, Er
     ensures unasked { IfErr result (λ e. kind_of e ≢ ErrorKind.OutOfMemory → AreForNone (map S.text words.entry.now)) }
 {
     let mut command = root_command(alloc)?;
-    let matches = command.try_get_matches_from_mut(words)?;
-    match task_of(alloc, &matches)? {
-        Some(task) => Ok(task),
-        None => Err(command.error(ErrorKind::ValueValidation, "no such call or class")?),
-    }
+    parse_by(alloc, &mut command, words)
 }

@@ -52,28 +52,60 @@ static CALLS: [&[&str]; 12] = [
     &["radoscls", "run", "keep.img", "keep", "--caller", "0"],
 ];
 
-/// Writes so many bytes to a file, and tells whether just these are read.
-fn keeps<F: Files>(alloc: Global, files: &mut F, count: usize) -> io::Result<bool> {
+/// So many bytes.
+fn bytes_of(alloc: Global, count: usize) -> io::Result<Vec<u8>> {
     let mut bytes = Vec::new(alloc);
     for i in 0..count {
         bytes.push((i % 251) as u8)?;
     }
-    files.write("made", &bytes)?;
-    let whole = files.read(alloc, "made")?;
-    let first = files.read_first(alloc, "made", MOST)?;
-    Ok(whole == bytes && first.as_slice() == &bytes[..bytes.len().min(MOST)])
+    Ok(bytes)
+}
+
+/// Tells whether just these bytes are read of the file.
+fn reads_all<F: Reads>(alloc: Global, files: &F, bytes: &[u8]) -> io::Result<bool> {
+    let read = files.read(alloc, "made")?;
+    Ok(read.as_slice() == bytes)
+}
+
+/// Tells whether just the first of these bytes are read of the file's beginning.
+fn reads_first<F: Reads>(alloc: Global, files: &F, bytes: &[u8]) -> io::Result<bool> {
+    let read = files.read_first(alloc, "made", MOST)?;
+    Ok(read.as_slice() == &bytes[..bytes.len().min(MOST)])
+}
+
+/// Writes those bytes to a file, and tells whether just these are read.
+fn keeps<F: Files>(alloc: Global, files: &mut F, bytes: &[u8]) -> io::Result<bool> {
+    files.write("made", bytes)?;
+    let all = reads_all(alloc, files, bytes)?;
+    let first = reads_first(alloc, files, bytes)?;
+    Ok(all && first)
+}
+
+/// The same of so many bytes.
+fn keeps_count<F: Files>(alloc: Global, files: &mut F, count: usize) -> io::Result<bool> {
+    let bytes = bytes_of(alloc, count)?;
+    keeps(alloc, files, &bytes)
 }
 
 /// Tells of a long file and of the short one that takes its place.
 fn tell_of_files<R: Granted + AllocGlobal + Print>(rt: &R) -> io::Result<()> {
     let mut files = SystemFiles::new(rt);
     for count in [LONG, 2, 0] {
-        let kept = keeps(rt.alloc(), &mut files, count)?;
+        let kept = keeps_count(rt.alloc(), &mut files, count)?;
         println!(rt; "{count} bytes: {kept}")?;
     }
     let missing = files.read(rt.alloc(), "missing").is_err();
     let folder = files.read_first(rt.alloc(), ".", 1).is_err();
     println!(rt; "missing: {missing}, folder: {folder}")
+}
+
+/// Runs the program on those words: its status, and whether it explained its use.
+fn call<R: Granted + AllocGlobal, O: io::Write>(rt: &R, words: &[&str], out: &mut O) -> (u8, bool) {
+    let mut files = SystemFiles::new(rt);
+    let mut err = Vec::new(rt.alloc());
+    let mut printer = Printer::new(out);
+    let status = program(rt.alloc(), words, &mut files, &mut printer, &mut err);
+    (status, !err.is_empty())
 }
 
 /// Runs the program on each of the words, and tells the status.
@@ -82,11 +114,7 @@ fn tell_of_calls<R: Granted + AllocGlobal + Print, O: io::Write>(
     out: &mut O,
 ) -> io::Result<()> {
     for words in CALLS {
-        let mut files = SystemFiles::new(rt);
-        let mut err = Vec::new(rt.alloc());
-        let mut printer = Printer::new(&mut *out);
-        let status = program(rt.alloc(), words, &mut files, &mut printer, &mut err);
-        let explained = !err.is_empty();
+        let (status, explained) = call(rt, words, out);
         println!(rt; "status {status}, explained: {explained}")?;
     }
     Ok(())
