@@ -2,13 +2,15 @@
 
 ghost use mathlib.Core.List.{IsPrefix};
 
+use super::checks::{Check, check_group};
+use super::log::code_at;
 use super::printed::prints;
-use super::requests::{client, list, number};
+use super::requests::{list, name_of, request_for};
 use super::words::next;
 use builtin_classes::{BuiltInFailure, LOCK, OBJ, load_all, load_lock, load_obj};
 use interp::{ClassTable, Outcome, call};
-use object_store::{Object, ObjectName};
-use pg_log::{Classes, Group, GroupWork, Request, with_group};
+use object_store::Object;
+use pg_log::{Classes, Group, Request};
 use std::alloc::Global;
 use std::process::Abort;
 use verifier::{VerifiedClass, VerifiedMethod};
@@ -190,14 +192,10 @@ fn line_of(line: &str) -> Line<'_> {
 /// A request for a method of a built-in class.
 fn request_of<R: Abort>(rt: &R, alloc: Global, line: Line<'_>, value: u32) -> Request {
     let who = line.client.parse::<u32>().expect(rt, "a client");
-    Request::new(
-        client(rt, who),
-        number(rt, value),
-        ObjectName::new(alloc, line.object).expect(rt, "memory"),
-        usize::from(line.class == "obj"),
-        String::from_str(alloc, line.method).expect(rt, "memory"),
-        bytes_of(rt, alloc, line.input),
-    )
+    let class = usize::from(line.class == "obj");
+    let input = bytes_of(rt, alloc, line.input);
+    let object = name_of(rt, alloc, line.object);
+    request_for(rt, alloc, object, (who, value), class, line.method, &input)
 }
 
 /// The place at which a line's request is appended.
@@ -216,14 +214,6 @@ fn appended<C: Classes, R: Abort>(
         .ok()
 }
 
-/// The code of the reply at a place.
-fn code_at<C: Classes>(group: &Group<C>, place: usize) -> Option<i64> {
-    match group.reply_at(place) {
-        None => None,
-        Some((code, _)) => Some(code),
-    }
-}
-
 /// Whether the output of the reply at a place is that one.
 fn has_output<C: Classes>(group: &Group<C>, place: usize, want: &[u8]) -> bool {
     match group.reply_at(place) {
@@ -232,35 +222,43 @@ fn has_output<C: Classes>(group: &Group<C>, place: usize, want: &[u8]) -> bool {
     }
 }
 
+/// Whether the reply at a place has the code and the output that a line wants.
+fn is_reply<C: Classes, R: Abort>(
+    rt: &R,
+    alloc: Global,
+    group: &Group<C>,
+    place: usize,
+    line: Line<'_>,
+) -> bool {
+    let code = line.code.parse::<i64>().ok();
+    let output = bytes_of(rt, alloc, line.output);
+    code.is_some() && code_at(group, place) == code && has_output(group, place, &output)
+}
+
 /// Appends the request of each line of a text, numbered from 1 on, and compares its reply.
 #[derive(Drop)]
-struct Replies<'a, R> {
-    rt: &'a R,
-    alloc: Global,
+struct Replies<'a> {
     text: &'a str,
 }
 
-impl<R: Abort> GroupWork for Replies<'_, R> {
-    type Output = ();
-
-    ghost gives = { λ _ _ _ _. Unit {0} };
-
-    fn work<C: Classes>(self, table: &ClassTable, mut group: Group<C>) {
-        let rt = self.rt;
+impl Check for Replies<'_> {
+    fn check<C: Classes, R: Abort>(
+        &self,
+        rt: &R,
+        alloc: Global,
+        table: &ClassTable,
+        group: &mut Group<C>,
+    ) {
         let mut number = 0u32;
         for line in self.text.lines() {
             let line = line_of(line);
             let place = number as usize;
             number = number.wrapping_add(1);
-            let found = appended(rt, self.alloc, table, &mut group, line, number);
-            assert!(rt; found == Some(place), "line {number}");
-            let code = line.code.parse::<i64>().ok();
+            let found = appended(rt, alloc, table, group, line, number);
             assert!(rt;
-                code.is_some() && code_at(&group, place) == code,
+                found == Some(place) && is_reply(rt, alloc, group, place, line),
                 "line {number}"
             );
-            let output = bytes_of(rt, self.alloc, line.output);
-            assert!(rt; has_output(&group, place, &output), "line {number}");
         }
     }
 }
@@ -277,7 +275,7 @@ fn table<R: Abort>(rt: &R, alloc: Global) -> ClassTable {
 /// Checks the lines of a text through a group, at places from 0 on.
 fn check<R: Abort>(rt: &R, alloc: Global, text: &str) {
     let table = table(rt, alloc);
-    with_group(alloc, &table, Replies { rt, alloc, text });
+    check_group(rt, alloc, &table, Replies { text });
 }
 
 #[test]
@@ -317,35 +315,40 @@ fn replayed<C: Classes, R: Abort>(rt: &R, alloc: Global, table: &ClassTable) -> 
     Group::<C>::replay(alloc, table, &old).expect(rt, "memory")
 }
 
-/// What the adoption of the new list answers.
-fn adopted<C: Classes, R: Abort>(
+/// Whether the group adopts the new list behind its first entry, and the lock stays its owner's.
+fn keeps_lock<C: Classes, R: Abort>(
     rt: &R,
     alloc: Global,
     table: &ClassTable,
     group: &mut Group<C>,
-) -> Option<usize>
+) -> bool
     requires { IsPrefix table.now C.classes }
 {
-    group.adopt(table, &list(rt, alloc, NEW)).ok()
+    let common = group.adopt(table, &list(rt, alloc, NEW)).ok();
+    common == Some(1) && group.len() == 2 && code_at(group, 1) == Some(-16)
+}
+
+/// Adopts the new list in place of the old one.
+fn adopt_new<C: Classes, R: Abort>(rt: &R, alloc: Global, table: &ClassTable)
+    requires { IsPrefix table.now C.classes }
+{
+    let mut group: Group<C> = replayed(rt, alloc, table);
+    assert!(rt; keeps_lock(rt, alloc, table, &mut group));
 }
 
 /// Makes the old list a group's log, and that group adopts the new one.
 #[derive(Drop)]
-struct Adopts<'a, R> {
-    rt: &'a R,
-    alloc: Global,
-}
+struct Adopts;
 
-impl<R: Abort> GroupWork for Adopts<'_, R> {
-    type Output = ();
-
-    ghost gives = { λ _ _ _ _. Unit {0} };
-
-    fn work<C: Classes>(self, table: &ClassTable, _group: Group<C>) {
-        let mut group: Group<C> = replayed(self.rt, self.alloc, table);
-        let common = adopted(self.rt, self.alloc, table, &mut group);
-        assert!(self.rt; common == Some(1) && group.len() == 2);
-        assert!(self.rt; code_at(&group, 1) == Some(-16));
+impl Check for Adopts {
+    fn check<C: Classes, R: Abort>(
+        &self,
+        rt: &R,
+        alloc: Global,
+        table: &ClassTable,
+        _group: &mut Group<C>,
+    ) {
+        adopt_new::<C, R>(rt, alloc, table);
     }
 }
 
@@ -354,7 +357,7 @@ impl<R: Abort> GroupWork for Adopts<'_, R> {
 fn a_lock_stands_after_an_adoption(rt: HostRuntime) {
     let alloc = rt.alloc();
     let table = table(&rt, alloc);
-    with_group(alloc, &table, Adopts { rt: &rt, alloc });
+    check_group(&rt, alloc, &table, Adopts);
 }
 
 /// Whether an object has one xattr and nothing else.
@@ -390,16 +393,33 @@ fn code_and_steps<R: Abort>(
     (outcome.code, outcome.steps)
 }
 
+/// Whether the lock was taken, in 20 steps.
+fn takes_lock(outcome: &Outcome) -> bool {
+    outcome.code == 0
+        && outcome.steps == 20
+        && outcome.output.is_empty()
+        && has_one_xattr(outcome.change.after.as_ref())
+}
+
+/// Whether another is refused the lock in 16 steps, and the owner has it still in 15.
+fn is_kept<R: Abort>(
+    rt: &R,
+    alloc: Global,
+    class: &VerifiedClass,
+    object: Option<&Object>,
+) -> bool {
+    let other = code_and_steps(rt, alloc, class, object, 2);
+    let owner = code_and_steps(rt, alloc, class, object, 1);
+    other == (-16, 16) && owner == (0, 15)
+}
+
 #[test]
 fn counts_steps_of_locks(rt: HostRuntime) {
     let alloc = rt.alloc();
     let class = load_lock(alloc).expect(&rt, "a class");
     let first = locked(&rt, alloc, &class, None, 1);
-    assert!(rt; first.code == 0 && first.steps == 20 && first.output.is_empty());
     let object = first.change.after.as_ref();
-    assert!(rt; has_one_xattr(object));
-    assert!(rt; code_and_steps(&rt, alloc, &class, object, 2) == (-16, 16));
-    assert!(rt; code_and_steps(&rt, alloc, &class, object, 1) == (0, 15));
+    assert!(rt; takes_lock(&first) && is_kept(&rt, alloc, &class, object));
 }
 
 /// A method's name, whether it may write, its caps, and its instructions, as its class's text declares them.
@@ -448,13 +468,15 @@ fn loads_each_class(rt: HostRuntime) {
     assert!(rt; are_both(&classes));
 }
 
+/// Whether the text of each class begins with its first method.
+fn are_texts() -> bool {
+    LOCK.starts_with(".method lock rw 0 0\n") && OBJ.starts_with(".method getxattr r 64 4096\n")
+}
+
 #[test]
 fn loads_one_class(rt: HostRuntime) {
     let obj = load_obj(rt.alloc()).expect(&rt, "a class");
-    assert!(rt; declares(&obj, &OBJ_METHODS));
-    assert!(rt;
-        LOCK.starts_with(".method lock rw 0 0\n") && OBJ.starts_with(".method getxattr r 64 4096\n")
-    );
+    assert!(rt; declares(&obj, &OBJ_METHODS) && are_texts());
 }
 
 #[test]

@@ -60,10 +60,15 @@ fn steps<R: Abort>(rt: &R, alloc: Global) -> Vec<Step> {
     steps
 }
 
+/// The drawing of those steps.
+fn drawn<R: Abort>(rt: &R, alloc: Global) -> String {
+    let letters = letters(rt, alloc);
+    let steps = steps(rt, alloc);
+    draw(alloc, &letters, &steps).expect(rt, "memory")
+}
+
 #[test]
 fn a_run(rt: HostRuntime) {
-    let letters = letters(&rt, rt.alloc());
-    let steps = steps(&rt, rt.alloc());
-    let text = draw(rt.alloc(), &letters, &steps).expect(&rt, "memory");
-    assert_eq!(rt; text.as_str(), DRAWN);
+    let text = drawn(&rt, rt.alloc());
+    assert!(rt; text.as_str() == DRAWN, "{text}");
 }

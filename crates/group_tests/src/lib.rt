@@ -5,6 +5,8 @@
 #[cfg(test)]
 mod builtin;
 #[cfg(test)]
+mod checks;
+#[cfg(test)]
 mod classes;
 #[cfg(test)]
 mod drawings;

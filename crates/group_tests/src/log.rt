@@ -11,8 +11,8 @@ use super::requests::{client, number, request};
 use interp::ClassTable;
 use object_store::Object;
 use pg_log::{
-    Classes, ClientId, Group, LogError, RequestNumber, adopting, classes_added, folds, legal_lists,
-    objects_within_limits, pairs, refusals, replies, undoing,
+    Classes, ClientId, Group, LogError, Request, RequestNumber, adopting, classes_added, folds,
+    legal_lists, objects_within_limits, pairs, refusals, replies, undoing,
 };
 use std::alloc::Global;
 use std::process::Abort;
@@ -68,9 +68,16 @@ fn see<C: Classes, R: Abort>(rt: &R, group: &Group<C>, (who, value, place, code)
     let (found, answered, output) = group
         .reply_of(client(rt, who), number(rt, value))
         .expect(rt, "a reply");
-    assert!(rt; found == place && answered == code && output.is_empty());
-    let (answered, _) = group.reply_at(place).expect(rt, "a reply");
-    assert!(rt; answered == code);
+    let is_logged = found == place && answered == code && output.is_empty();
+    assert!(rt; is_logged && code_at(group, place) == Some(code));
+}
+
+/// The code of the reply at a place.
+pub(super) fn code_at<C: Classes>(group: &Group<C>, place: usize) -> Option<i64> {
+    match group.reply_at(place) {
+        None => None,
+        Some((code, _)) => Some(code),
+    }
 }
 
 #[test]
@@ -87,12 +94,28 @@ fn parts_of_a_request(rt: HostRuntime) {
     assert!(rt; one.input() == b"ab".as_slice());
 }
 
+/// A request with that input.
+fn request_with<R: Abort>(rt: &R, alloc: Global, input: &[u8]) -> Request {
+    request(rt, alloc, (3, 4), 5, "f", input)
+}
+
+/// Whether a request is its copy.
+fn is_copied<R: Abort>(rt: &R, alloc: Global) -> bool {
+    let one = request_with(rt, alloc, b"ab");
+    let copy = one.copy(alloc).expect(rt, "memory");
+    one.is(&copy)
+}
+
+/// Whether requests are equal that differ in the last byte of their inputs.
+fn are_equal<R: Abort>(rt: &R, alloc: Global) -> bool {
+    let one = request_with(rt, alloc, b"ab");
+    let other = request_with(rt, alloc, b"ac");
+    one.is(&other)
+}
+
 #[test]
 fn equal_requests(rt: HostRuntime) {
-    let one = request(&rt, rt.alloc(), (3, 4), 5, "f", b"ab");
-    let copy = one.copy(rt.alloc()).expect(&rt, "memory");
-    let other = request(&rt, rt.alloc(), (3, 4), 5, "f", b"ac");
-    assert!(rt; one.is(&copy) && !one.is(&other));
+    assert!(rt; is_copied(&rt, rt.alloc()) && !are_equal(&rt, rt.alloc()));
 }
 
 #[test]

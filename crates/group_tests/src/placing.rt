@@ -109,13 +109,8 @@ fn acting_sets(rt: HostRuntime) {
             groups: 64,
         };
         let found = acting(rt.alloc(), &map, group).expect(&rt, "an acting set");
-        assert!(rt;
-            found
-                .iter()
-                .map(|node| node.get())
-                .eq(wanted.iter().copied()),
-            "of group {group}"
-        );
+        let wanted = nodes(&rt, rt.alloc(), wanted);
+        assert!(rt; found.as_slice() == wanted.as_slice(), "of group {group}");
     }
 }
 

@@ -16,20 +16,38 @@ pub(super) fn number<R: Abort>(rt: &R, value: u32) -> RequestNumber {
     RequestNumber::new(value).expect(rt, "a number")
 }
 
+pub(super) fn name_of<R: Abort>(rt: &R, alloc: Global, text: &str) -> ObjectName {
+    ObjectName::new(alloc, text).expect(rt, "memory")
+}
+
+/// The name `object`.
 pub(super) fn name<R: Abort>(rt: &R, alloc: Global) -> ObjectName {
-    ObjectName::new(alloc, "object").expect(rt, "memory")
+    name_of(rt, alloc, "object")
 }
 
 /// A request for the object `object`.
 pub(super) fn request<R: Abort>(
     rt: &R,
     alloc: Global,
-    (who, value): Pair,
+    pair: Pair,
     class: usize,
     method: &str,
     input: &[u8],
 ) -> Request {
     let object = name(rt, alloc);
+    request_for(rt, alloc, object, pair, class, method, input)
+}
+
+/// A request for that object.
+pub(super) fn request_for<R: Abort>(
+    rt: &R,
+    alloc: Global,
+    object: ObjectName,
+    (who, value): Pair,
+    class: usize,
+    method: &str,
+    input: &[u8],
+) -> Request {
     let method = String::from_str(alloc, method).expect(rt, "memory");
     let input = Vec::from_slice(alloc, input).expect(rt, "memory");
     Request::new(

@@ -5,13 +5,13 @@ use Rattle.std.proofs.lemmas.List.{map-set, get_or-map, get_or-set_same, set-get
 use Rattle.std.proofs.Math.ListN.{get_or-map as get_or-map'}
 use Rattle.std.proofs.lemmas.List.Elements.{All-get_or, All-set}
 use Rattle.std.proofs.lemmas.Result.{MatchResult-weaker}
-use Rattle.std.proofs.lemmas.Option.{slice_get_within}
+use Rattle.std.proofs.lemmas.Option.{slice_get_within, get_or_from_slice_get}
 use Rattle.std.proofs.Math.Seq.{map-set_same, lt-length-set}
 use Rattle.crossbeam_queue.specs.Fifo.{Held}
 use Rattle.atomic_table.specs.Seated.{TableId}
 use Rattle.op_shards.specs.declared.rule.Place.{Place}
 use Rattle.op_shards.specs.declared.rule.Ranked.{Ranked}
-use Rattle.op_shards.specs.Order.{place_at, sender, taker, of, AreFirstOf, IsHere, IsNextAfter, KeptWith, WasKept}
+use Rattle.op_shards.specs.Order.{place_at, sender, taker, of, IsPartOf, AreFirstOf, IsHere, IsNextAfter, KeptWith, WasKept}
 use Rattle.op_shards.specs.Passes.{Spot, spot_of, Queues, queues_of, spots_from, spots, shard_of, Sent, Got, Sender, Taker, ranked, parts_of, at_shard, with_one, after_submit, after_take, SenderWasKept, SenderWasKeptAt, TakerWasKept, TakerWasKeptAt}
 
 -- where the queue at an index stands
@@ -78,6 +78,14 @@ MatchOption-weaker (Some x) m f g = g x m
 pub in_range : {A : Type 0} (n : A → TableId) (lanes : List A) (queues : List TableId) (k : ℕ) (q : TableId) → map n lanes ≡ queues → slice_get queues k ≡ Some q → k < length lanes
 in_range n lanes queues k q is has = let e = ap length is in omega (arith, slice_get_within queues k q has, length-map lanes n, e)
 
+-- and the queue that it is of
+pub queue_at : {A : Type 0} (n : A → TableId) (lanes : List A) (queues : List TableId) (k : ℕ) (q : TableId) (x : A) → map n lanes ≡ queues → slice_get queues k ≡ Some q → x ≡ get_or lanes k x → n x ≡ q
+queue_at n lanes queues k q x is has at = ap n at ∙ sym (get_or-map' n lanes k x) ∙ ap (λ l. get_or l k (n x)) is ∙ get_or_from_slice_get queues k q (n x) has
+
+-- what all lanes have, the lane at an index has
+pub one_of_all : {A B : Type 0} (f : A → B) (b : B) (lanes : List A) (k : ℕ) (x : A) → k < length lanes → x ≡ get_or lanes k x → All (λ l. f l ≡ b) lanes → f x ≡ b
+one_of_all f b lanes k x lt at all = ap f at ∙ All-get_or (λ l. f l ≡ b) lanes k x lt all
+
 module _ {T : Type 0} where
   abbrev pub send_view : ℕ → ℕ → ℕ → List (Sent T) → Sender T
   send_view s t p lanes = record { queues = queues_of (map (λ l. l.spot.queue) lanes) s t; sender = p; accepted = map (λ l. l.accepted) lanes }
@@ -126,7 +134,7 @@ module _ {T : Type 0} (group : T → ℕ) where
       (λ o. (o ≡ op) × (send_view s t p (set lanes k y) ≡ v) × SenderWasKeptAt group n v k)
   sends s t p lanes k x y n op r lt at placed all spot same answer v is =
       let acc : Sent T → List (Ranked T) = λ l. l.accepted in
-      let mine : x.sender ≡ p = ap (λ (l : Sent T). l.sender) at ∙ All-get_or (λ (l : Sent T). l.sender ≡ p) lanes k x lt all in
+      let mine = one_of_all (λ (l : Sent T). l.sender) p lanes k x lt at all in
       let old : x.accepted ≡ at_shard (map acc lanes) k = at_old acc lanes k x lt at in
       let place = send_place s t lanes k x lt at placed in
       let queues = queues_same (λ (l : Sent T). l.spot) s t lanes k x y lt at spot in
@@ -149,7 +157,7 @@ module _ {T : Type 0} (group : T → ℕ) where
       let old : x.taken ≡ at_shard (map acc lanes) k = at_old acc lanes k x lt at in
       let place = take_place s t lanes k x lt at placed in
       let queues = queues_same (λ (l : Got T). l.spot) s t lanes k x y lt at spot in
-      let mine : x.parts ≡ parts_of lanes = ap (λ (l : Got T). l.parts) at ∙ All-get_or (λ (l : Got T). l.parts ≡ parts_of lanes) lanes k x lt all in
+      let mine = one_of_all (λ (l : Got T). l.parts) (parts_of lanes) lanes k x lt at all in
       let parts = parts_still lanes k x y at same in
       subst (λ (w : Taker T). MatchOption r ((take_view s t (set lanes k y) ≡ w) × TakerWasKeptAt group 0 w k) (λ z. (take_view s t (set lanes k y) ≡ after_take w k z) × IsHere group (shard_of w.queues k) z × IsNextAfter (at_shard w.taken k) z × TakerWasKept group (take_view s t (set lanes k y)) k)) is
       (MatchOption-weaker r answer
@@ -174,14 +182,24 @@ pub length_by : {A C B : Type 0} (f : A → B) (g : C → B) (xs : List A) (ys :
 length_by f g xs ys e = sym (length-map xs f) ∙ ap length e ∙ length-map ys g
 
 -- what the ends learned of a shard, of the passes
+pub part_of_lanes : {T : Type 0} (s t p : ℕ) (mine : List (Sent T)) (s' t' : ℕ) (theirs : List (Got T)) (k : ℕ) (x : Sent T) (z : Got T) → k < length mine → k < length theirs → x ≡ get_or mine k x → z ≡ get_or theirs k z
+    → All (λ (l : Sent T). l.sender ≡ p) mine → IsPartOf (of x.sender z.taken) x.accepted
+    → (v : Sender T) (u : Taker T) → send_view s t p mine ≡ v → take_view s' t' theirs ≡ u
+    → IsPartOf (of v.sender (at_shard u.taken k)) (at_shard v.accepted k)
+part_of_lanes {T} s t p mine s' t' theirs k x z lt gt at here senders learned v u is is' =
+    let who = one_of_all (λ (l : Sent T). l.sender) p mine k x lt at senders ∙ ap (λ (w : Sender T). w.sender) is in
+    let accepted = at_old (λ (l : Sent T). l.accepted) mine k x lt at ∙ ap (λ (w : Sender T). at_shard w.accepted k) is in
+    let taken = at_old (λ (l : Got T). l.taken) theirs k z gt here ∙ ap (λ (w : Taker T). at_shard w.taken k) is' in
+    subst (λ (q : ℕ × List (Ranked T) × List (Ranked T)). IsPartOf (of q.0 q.1) q.2) (λ i. (who i, taken i, accepted i)) learned
+
 pub first_of_lanes : {T : Type 0} (s t p : ℕ) (mine : List (Sent T)) (s' t' : ℕ) (theirs : List (Got T)) (k : ℕ) (x : Sent T) (z : Got T) → k < length mine → k < length theirs → x ≡ get_or mine k x → z ≡ get_or theirs k z
     → SendInPlace s t mine → All (λ (l : Sent T). l.sender ≡ p) mine → All (λ (l : Got T). l.parts ≡ parts_of theirs) theirs
     → (z.parts ≡ x.spot.place.takers → AreFirstOf (of x.sender z.taken) x.accepted)
     → (v : Sender T) (u : Taker T) → send_view s t p mine ≡ v → take_view s' t' theirs ≡ u → u.queues ≡ v.queues → u.takers ≡ u.queues.takers
     → AreFirstOf (of v.sender (at_shard u.taken k)) (at_shard v.accepted k)
 first_of_lanes {T} s t p mine s' t' theirs k x z lt gt at here placed senders parts learned v u is is' same whole =
-    let own : x.sender ≡ p = ap (λ (l : Sent T). l.sender) at ∙ All-get_or (λ (l : Sent T). l.sender ≡ p) mine k x lt senders in
-    let part : z.parts ≡ parts_of theirs = ap (λ (l : Got T). l.parts) here ∙ All-get_or (λ (l : Got T). l.parts ≡ parts_of theirs) theirs k z gt parts in
+    let own = one_of_all (λ (l : Sent T). l.sender) p mine k x lt at senders in
+    let part = one_of_all (λ (l : Got T). l.parts) (parts_of theirs) theirs k z gt here parts in
     let takers = ap (λ q. q.takers) (send_place s t mine k x lt at placed) in
     let all : parts_of theirs ≡ t = ap (λ (w : Taker T). w.takers) is' ∙ whole ∙ ap (λ (q : Queues). q.takers) same ∙ sym (ap (λ (w : Sender T). w.queues.takers) is) in
     let accepted = at_old (λ (l : Sent T). l.accepted) mine k x lt at ∙ ap (λ (w : Sender T). at_shard w.accepted k) is in

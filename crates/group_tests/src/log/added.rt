@@ -1,31 +1,45 @@
 ghost use Rattle.std.specs.Prelude.{◌≡◌};
+ghost use mathlib.Core.List.{IsPrefix};
 
+use super::super::checks::{Check, Checks};
 use super::super::classes::class;
 use super::super::requests::request_of;
 use super::{SUCCEED, see, table};
 use interp::ClassTable;
-use pg_log::{Classes, Group, GroupWork, LogError, go_on};
+use pg_log::{Classes, Group, LogError, go_on};
 use std::alloc::Global;
 use std::marker::Brand;
 use std::process::Abort;
 use verifier::VerifiedClass;
 
-/// Goes on with a group whose first request was client 1's first.
-#[derive(Drop)]
-struct Rest<'a, R> {
-    rt: &'a R,
+/// Appends a request of class 3, which is answered so.
+fn append_second<C: Classes, R: Abort>(
+    rt: &R,
     alloc: Global,
+    table: &ClassTable,
+    group: &mut Group<C>,
+    answer: Result<usize, LogError>,
+)
+    requires { IsPrefix table.now C.classes }
+{
+    let second = request_of(rt, alloc, "1 2 3 f");
+    assert!(rt; group.append(table, second) == answer);
 }
 
-impl<R: Abort> GroupWork for Rest<'_, R> {
-    type Output = ();
+/// Goes on with a group whose first request was client 1's first.
+#[derive(Drop)]
+struct Rest;
 
-    ghost gives = { λ _ _ _ _. Unit {0} };
-
-    fn work<C: Classes>(self, table: &ClassTable, mut group: Group<C>) {
-        let second = request_of(self.rt, self.alloc, "1 2 3 f");
-        assert!(self.rt; group.append(table, second) == Ok(1));
-        see(self.rt, &group, (1, 1, 0, 3));
+impl Check for Rest {
+    fn check<C: Classes, R: Abort>(
+        &self,
+        rt: &R,
+        alloc: Global,
+        table: &ClassTable,
+        group: &mut Group<C>,
+    ) {
+        append_second(rt, alloc, table, group, Ok(1));
+        see(rt, group, (1, 1, 0, 3));
     }
 }
 
@@ -36,10 +50,17 @@ fn adds<C: Classes, R: Abort>(rt: &R, alloc: Global, mut table: ClassTable, clas
     let mut group = Group::<C>::new(alloc);
     let first = request_of(rt, alloc, "1 1 2 f abc");
     assert!(rt; group.append(&table, first) == Ok(0));
-    let second = request_of(rt, alloc, "1 2 3 f");
-    assert!(rt; group.append(&table, second) == Err(LogError::NoClass));
+    append_second(rt, alloc, &table, &mut group, Err(LogError::NoClass));
     let _ = table.add(class).expect(rt, "memory");
-    go_on(&table, group, Rest { rt, alloc });
+    go_on(
+        &table,
+        group,
+        Checks {
+            rt,
+            alloc,
+            check: Rest,
+        },
+    );
 }
 
 /// A class added between two appends can be named by the second.

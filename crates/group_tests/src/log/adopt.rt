@@ -1,7 +1,10 @@
+ghost use mathlib.Core.List.{IsPrefix};
+
+use super::super::checks::{Check, check_group};
 use super::super::requests::{list, name};
 use super::{is_object, table};
 use interp::ClassTable;
-use pg_log::{Classes, Group, GroupWork, LogError, with_group};
+use pg_log::{Classes, Group, LogError};
 use std::alloc::Global;
 use std::process::Abort;
 
@@ -40,27 +43,55 @@ const ROWS: [Row; 7] = [
     ),
 ];
 
-/// Adopts the list of a row.
-#[derive(Drop)]
-struct Adopts<'a, R> {
-    rt: &'a R,
-    alloc: Global,
-    row: Row,
+/// The group of the log before.
+fn replayed<C: Classes, R: Abort>(rt: &R, alloc: Global, table: &ClassTable) -> Group<C>
+    requires { IsPrefix table.now C.classes }
+{
+    let old = list(rt, alloc, OLD);
+    Group::<C>::replay(alloc, table, &old).expect(rt, "memory")
 }
 
-impl<R: Abort> GroupWork for Adopts<'_, R> {
-    type Output = ();
+/// The group of the log before adopts the list of a row.
+fn adopt<C: Classes, R: Abort>(rt: &R, alloc: Global, table: &ClassTable, row: Row)
+    requires { IsPrefix table.now C.classes }
+{
+    let mut group: Group<C> = replayed(rt, alloc, table);
+    see(rt, alloc, table, &mut group, row);
+}
 
-    ghost gives = { λ _ _ _ _. Unit {0} };
+/// The group adopts the list of a row.
+fn see<C: Classes, R: Abort>(
+    rt: &R,
+    alloc: Global,
+    table: &ClassTable,
+    group: &mut Group<C>,
+    row: Row,
+)
+    requires { IsPrefix table.now C.classes }
+{
+    let (text, answer, len, object) = row;
+    let new = list(rt, alloc, text);
+    assert!(rt; group.adopt(table, &new) == answer && group.len() == len);
+    assert!(rt; is_object(group.object(&name(rt, alloc)), object));
+}
 
-    fn work<C: Classes>(self, table: &ClassTable, _group: Group<C>) {
-        let (rt, alloc) = (self.rt, self.alloc);
-        let (text, answer, len, object) = self.row;
-        let old = list(rt, alloc, OLD);
-        let new = list(rt, alloc, text);
-        let mut group = Group::<C>::replay(alloc, table, &old).expect(rt, "memory");
-        assert!(rt; group.adopt(table, &new) == answer && group.len() == len);
-        assert!(rt; is_object(group.object(&name(rt, alloc)), object));
+/// Adopts the list of each row.
+#[derive(Drop)]
+struct Adopts<'a> {
+    rows: &'a [Row],
+}
+
+impl Check for Adopts<'_> {
+    fn check<C: Classes, R: Abort>(
+        &self,
+        rt: &R,
+        alloc: Global,
+        table: &ClassTable,
+        _group: &mut Group<C>,
+    ) {
+        for row in self.rows {
+            adopt::<C, R>(rt, alloc, table, *row);
+        }
     }
 }
 
@@ -68,15 +99,5 @@ impl<R: Abort> GroupWork for Adopts<'_, R> {
 fn lists_adopted(rt: HostRuntime) {
     let alloc = rt.alloc();
     let table = table(&rt, alloc);
-    for row in ROWS {
-        with_group(
-            alloc,
-            &table,
-            Adopts {
-                rt: &rt,
-                alloc,
-                row,
-            },
-        );
-    }
+    check_group(&rt, alloc, &table, Adopts { rows: &ROWS });
 }

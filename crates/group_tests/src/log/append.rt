@@ -1,39 +1,44 @@
+use super::super::checks::{Check, check_group};
 use super::super::requests::{name, request_of};
 use super::{Logged, is_object, see, table};
 use interp::ClassTable;
-use pg_log::{Classes, Group, GroupWork, LogError, with_group};
+use pg_log::{Classes, Group, LogError};
 use std::alloc::Global;
 use std::process::Abort;
 
 /// A request, and what its append answers.
 type Row = (&'static str, Result<usize, LogError>);
 
+/// The log has those requests, and no others.
+fn see_logged<C: Classes, R: Abort>(rt: &R, group: &Group<C>, logged: &[Logged]) {
+    assert!(rt; group.len() == logged.len());
+    for logged in logged {
+        see(rt, group, *logged);
+    }
+}
+
 /// Appends each row, and then looks for the logged requests and for the object.
 #[derive(Drop)]
-struct Appends<'a, R> {
-    rt: &'a R,
-    alloc: Global,
+struct Appends<'a> {
     rows: &'a [Row],
     logged: &'a [Logged],
     object: Option<&'a str>,
 }
 
-impl<R: Abort> GroupWork for Appends<'_, R> {
-    type Output = ();
-
-    ghost gives = { λ _ _ _ _. Unit {0} };
-
-    fn work<C: Classes>(self, table: &ClassTable, mut group: Group<C>) {
-        let rt = self.rt;
+impl Check for Appends<'_> {
+    fn check<C: Classes, R: Abort>(
+        &self,
+        rt: &R,
+        alloc: Global,
+        table: &ClassTable,
+        group: &mut Group<C>,
+    ) {
         for (line, answer) in self.rows {
-            let request = request_of(rt, self.alloc, line);
+            let request = request_of(rt, alloc, line);
             assert!(rt; group.append(table, request) == *answer);
         }
-        assert!(rt; group.len() == self.logged.len());
-        for logged in self.logged {
-            see(rt, &group, *logged);
-        }
-        assert!(rt; is_object(group.object(&name(rt, self.alloc)), self.object));
+        see_logged(rt, group, self.logged);
+        assert!(rt; is_object(group.object(&name(rt, alloc)), self.object));
     }
 }
 
@@ -63,26 +68,22 @@ const LOGGED: [Logged; 4] = [
 #[test]
 fn places_and_refusals(rt: HostRuntime) {
     let table = table(&rt, rt.alloc());
-    let work = Appends {
-        rt: &rt,
-        alloc: rt.alloc(),
+    let check = Appends {
         rows: &ROWS,
         logged: &LOGGED,
         object: Some("abc"),
     };
-    with_group(rt.alloc(), &table, work);
+    check_group(&rt, rt.alloc(), &table, check);
 }
 
 /// A call that wrote and failed stands in the log, and its object is absent.
 #[test]
 fn failed_write(rt: HostRuntime) {
     let table = table(&rt, rt.alloc());
-    let work = Appends {
-        rt: &rt,
-        alloc: rt.alloc(),
+    let check = Appends {
         rows: &[("1 1 1 f abc", Ok(0))],
         logged: &[(1, 1, 0, -5)],
         object: None,
     };
-    with_group(rt.alloc(), &table, work);
+    check_group(&rt, rt.alloc(), &table, check);
 }

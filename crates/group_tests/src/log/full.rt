@@ -1,10 +1,11 @@
 ghost use mathlib.Core.List.{IsPrefix};
 
+use super::super::checks::{Check, check_group};
 use super::super::classes::{class, table_of};
 use super::super::requests::request;
 use super::SUCCEED;
 use interp::ClassTable;
-use pg_log::{Classes, Group, GroupWork, LogError, Request, with_group};
+use pg_log::{Classes, Group, LogError, Request};
 use std::alloc::Global;
 use std::process::Abort;
 
@@ -27,63 +28,112 @@ fn full_list<R: Abort>(rt: &R, alloc: Global, last: u32) -> Vec<Request> {
     list
 }
 
+/// What client 1's request of that number is answered.
+fn answer<C: Classes, R: Abort>(
+    rt: &R,
+    alloc: Global,
+    table: &ClassTable,
+    group: &mut Group<C>,
+    number: u32,
+) -> Result<usize, LogError>
+    requires { IsPrefix table.now C.classes }
+{
+    let request = request(rt, alloc, (1, number), 0, "f", b"");
+    group.append(table, request)
+}
+
 /// The log is full: it takes no request, and still gives the place of a logged pair.
 fn see_full<C: Classes, R: Abort>(rt: &R, alloc: Global, table: &ClassTable, group: &mut Group<C>)
     requires { IsPrefix table.now C.classes }
 {
     assert!(rt; group.len() == 65_536);
-    let next = request(rt, alloc, (1, 65_537), 0, "f", b"");
-    assert!(rt; group.append(table, next) == Err(LogError::LogFull));
-    let again = request(rt, alloc, (1, 30_000), 0, "f", b"");
-    assert!(rt; group.append(table, again) == Ok(29_999));
+    let next = answer(rt, alloc, table, group, 65_537);
+    let again = answer(rt, alloc, table, group, 30_000);
+    assert!(rt; next == Err(LogError::LogFull) && again == Ok(29_999));
+}
+
+/// Appends copies of those requests.
+fn append<C: Classes, R: Abort>(
+    rt: &R,
+    alloc: Global,
+    table: &ClassTable,
+    group: &mut Group<C>,
+    list: &[Request],
+)
+    requires { IsPrefix table.now C.classes }
+{
+    for request in list {
+        let request = request.copy(alloc).expect(rt, "memory");
+        let _ = group.append(table, request).expect(rt, "room");
+    }
+}
+
+/// A copy of the group is full.
+fn see_copied<C: Classes, R: Abort>(rt: &R, alloc: Global, table: &ClassTable, group: &Group<C>)
+    requires { IsPrefix table.now C.classes }
+{
+    let mut copy = group.copy(alloc).expect(rt, "memory");
+    see_full(rt, alloc, table, &mut copy);
+}
+
+/// The group of that list is full.
+fn see_replayed<C: Classes, R: Abort>(rt: &R, alloc: Global, table: &ClassTable, list: &[Request])
+    requires { IsPrefix table.now C.classes }
+{
+    let mut group = Group::<C>::replay(alloc, table, list).expect(rt, "memory");
+    see_full(rt, alloc, table, &mut group);
 }
 
 /// Fills a group by `append`, by `replay`, and by `copy`.
 #[derive(Drop)]
-struct Full<'a, R> {
-    rt: &'a R,
-    alloc: Global,
+struct Full;
+
+impl Check for Full {
+    fn check<C: Classes, R: Abort>(
+        &self,
+        rt: &R,
+        alloc: Global,
+        table: &ClassTable,
+        group: &mut Group<C>,
+    ) {
+        let list = full_list(rt, alloc, 1);
+        append(rt, alloc, table, group, &list);
+        see_copied(rt, alloc, table, group);
+        see_full(rt, alloc, table, group);
+        see_replayed::<C, R>(rt, alloc, table, &list);
+    }
 }
 
-impl<R: Abort> GroupWork for Full<'_, R> {
-    type Output = ();
-
-    ghost gives = { λ _ _ _ _. Unit {0} };
-
-    fn work<C: Classes>(self, table: &ClassTable, mut group: Group<C>) {
-        let (rt, alloc) = (self.rt, self.alloc);
-        let list = full_list(rt, alloc, 1);
-        for request in &list {
-            let request = request.copy(alloc).expect(rt, "memory");
-            let _ = group.append(table, request).expect(rt, "room");
-        }
-        let mut copy = group.copy(alloc).expect(rt, "memory");
-        see_full(rt, alloc, table, &mut copy);
-        see_full(rt, alloc, table, &mut group);
-        let mut again = Group::<C>::replay(alloc, table, &list).expect(rt, "memory");
-        see_full(rt, alloc, table, &mut again);
-    }
+/// The group adopts a full list, whose last request is of that client, and keeps so many entries.
+fn adopt<C: Classes, R: Abort>(
+    rt: &R,
+    alloc: Global,
+    table: &ClassTable,
+    group: &mut Group<C>,
+    last: u32,
+    common: usize,
+)
+    requires { IsPrefix table.now C.classes }
+{
+    let list = full_list(rt, alloc, last);
+    assert!(rt; group.adopt(table, &list) == Ok(common));
 }
 
 /// Adopts a full list that differs in its last request.
 #[derive(Drop)]
-struct Adopts<'a, R> {
-    rt: &'a R,
-    alloc: Global,
-}
+struct Adopts;
 
-impl<R: Abort> GroupWork for Adopts<'_, R> {
-    type Output = ();
-
-    ghost gives = { λ _ _ _ _. Unit {0} };
-
-    fn work<C: Classes>(self, table: &ClassTable, mut group: Group<C>) {
-        let (rt, alloc) = (self.rt, self.alloc);
-        let _ = group
-            .adopt(table, &full_list(rt, alloc, 2))
-            .expect(rt, "memory");
-        let common = group.adopt(table, &full_list(rt, alloc, 3));
-        assert!(rt; common == Ok(65_535) && group.len() == 65_536);
+impl Check for Adopts {
+    fn check<C: Classes, R: Abort>(
+        &self,
+        rt: &R,
+        alloc: Global,
+        table: &ClassTable,
+        group: &mut Group<C>,
+    ) {
+        adopt(rt, alloc, table, group, 2, 0);
+        adopt(rt, alloc, table, group, 3, 65_535);
+        assert!(rt; group.len() == 65_536);
     }
 }
 
@@ -96,12 +146,12 @@ fn succeeding<R: Abort>(rt: &R, alloc: Global) -> ClassTable {
 fn full_log(rt: HostRuntime) {
     let alloc = rt.alloc();
     let table = succeeding(&rt, alloc);
-    with_group(alloc, &table, Full { rt: &rt, alloc });
+    check_group(&rt, alloc, &table, Full);
 }
 
 #[test]
 fn full_list_adopted(rt: HostRuntime) {
     let alloc = rt.alloc();
     let table = succeeding(&rt, alloc);
-    with_group(alloc, &table, Adopts { rt: &rt, alloc });
+    check_group(&rt, alloc, &table, Adopts);
 }

@@ -1,7 +1,10 @@
+ghost use mathlib.Core.List.{IsPrefix};
+
+use super::super::checks::{Check, check_group};
 use super::super::requests::{list, name};
 use super::{Logged, is_object, see, table};
 use interp::ClassTable;
-use pg_log::{Classes, Group, GroupWork, LogError, with_group};
+use pg_log::{Classes, Group, LogError};
 use std::alloc::Global;
 use std::process::Abort;
 
@@ -18,25 +21,39 @@ const TWICE: &str = "1 5 2 f abc
 1 6 1 f xyz
 1 6 1 f xyz";
 
-/// Replays the list, and copies what it makes. The list with a pair twice can't be run.
-#[derive(Drop)]
-struct Replays<'a, R> {
-    rt: &'a R,
-    alloc: Global,
+/// Replays the list, and copies what it makes.
+fn replay_once<C: Classes, R: Abort>(rt: &R, alloc: Global, table: &ClassTable)
+    requires { IsPrefix table.now C.classes }
+{
+    let list = list(rt, alloc, LIST);
+    let group = Group::<C>::replay(alloc, table, &list).expect(rt, "memory");
+    compare(rt, alloc, &group);
+    compare_copy(rt, alloc, &group);
 }
 
-impl<R: Abort> GroupWork for Replays<'_, R> {
-    type Output = ();
+/// The list with a pair twice can't be run.
+fn replay_twice<C: Classes, R: Abort>(rt: &R, alloc: Global, table: &ClassTable)
+    requires { IsPrefix table.now C.classes }
+{
+    let list = list(rt, alloc, TWICE);
+    let error = Group::<C>::replay(alloc, table, &list).err();
+    assert!(rt; error == Some(LogError::StaleNumber));
+}
 
-    ghost gives = { λ _ _ _ _. Unit {0} };
+/// Replays the list, and copies what it makes. The list with a pair twice can't be run.
+#[derive(Drop)]
+struct Replays;
 
-    fn work<C: Classes>(self, table: &ClassTable, _group: Group<C>) {
-        let (rt, alloc) = (self.rt, self.alloc);
-        let group = Group::<C>::replay(alloc, table, &list(rt, alloc, LIST)).expect(rt, "memory");
-        compare(rt, alloc, &group);
-        compare(rt, alloc, &group.copy(alloc).expect(rt, "memory"));
-        let error = Group::<C>::replay(alloc, table, &list(rt, alloc, TWICE)).err();
-        assert!(rt; error == Some(LogError::StaleNumber));
+impl Check for Replays {
+    fn check<C: Classes, R: Abort>(
+        &self,
+        rt: &R,
+        alloc: Global,
+        table: &ClassTable,
+        _group: &mut Group<C>,
+    ) {
+        replay_once::<C, R>(rt, alloc, table);
+        replay_twice::<C, R>(rt, alloc, table);
     }
 }
 
@@ -49,9 +66,15 @@ fn compare<C: Classes, R: Abort>(rt: &R, alloc: Global, group: &Group<C>) {
     assert!(rt; is_object(group.object(&name(rt, alloc)), Some("abc")));
 }
 
+/// A copy of the group is that of the list.
+fn compare_copy<C: Classes, R: Abort>(rt: &R, alloc: Global, group: &Group<C>) {
+    let copy = group.copy(alloc).expect(rt, "memory");
+    compare(rt, alloc, &copy);
+}
+
 #[test]
 fn replay_is_appending(rt: HostRuntime) {
     let alloc = rt.alloc();
     let table = table(&rt, alloc);
-    with_group(alloc, &table, Replays { rt: &rt, alloc });
+    check_group(&rt, alloc, &table, Replays);
 }

@@ -1,3 +1,6 @@
+ghost use mathlib.Core.List.{IsPrefix};
+
+use super::super::checks::{Check, check_group};
 use super::super::classes::table_of;
 use super::super::requests::{add, list, name};
 use super::super::words::next;
@@ -5,7 +8,7 @@ use super::has_data;
 use bpf_asm::assemble_class;
 use interp::ClassTable;
 use object_store::Object;
-use pg_log::{Classes, Group, GroupWork, with_group};
+use pg_log::{Classes, Group};
 use std::alloc::Global;
 use std::process::Abort;
 use verifier::verify;
@@ -101,27 +104,39 @@ fn is_value(value: Option<&[u8]>, want: &str) -> bool {
     }
 }
 
-/// Adopts the list of each row in place of the log before.
-#[derive(Drop)]
-struct Undoes<'a, R> {
-    rt: &'a R,
+/// Adopts the log before, and then the list of a row.
+fn undo<C: Classes, R: Abort>(
+    rt: &R,
     alloc: Global,
+    table: &ClassTable,
+    group: &mut Group<C>,
+    row: Row,
+)
+    requires { IsPrefix table.now C.classes }
+{
+    let (stay, calls, want) = row;
+    let mut requests = list(rt, alloc, OLD);
+    let _ = group.adopt(table, &requests).expect(rt, "memory");
+    requests.truncate(stay);
+    add(rt, alloc, &mut requests, calls);
+    assert!(rt; group.adopt(table, &requests) == Ok(stay));
+    assert!(rt; holds(group.object(&name(rt, alloc)), want));
 }
 
-impl<R: Abort> GroupWork for Undoes<'_, R> {
-    type Output = ();
+/// Adopts the list of each row in place of the log before.
+#[derive(Drop)]
+struct Undoes;
 
-    ghost gives = { λ _ _ _ _. Unit {0} };
-
-    fn work<C: Classes>(self, table: &ClassTable, mut group: Group<C>) {
-        let (rt, alloc) = (self.rt, self.alloc);
-        for (stay, calls, want) in ROWS {
-            let mut requests = list(rt, alloc, OLD);
-            let _ = group.adopt(table, &requests).expect(rt, "memory");
-            requests.truncate(stay);
-            add(rt, alloc, &mut requests, calls);
-            assert!(rt; group.adopt(table, &requests) == Ok(stay));
-            assert!(rt; holds(group.object(&name(rt, alloc)), want));
+impl Check for Undoes {
+    fn check<C: Classes, R: Abort>(
+        &self,
+        rt: &R,
+        alloc: Global,
+        table: &ClassTable,
+        group: &mut Group<C>,
+    ) {
+        for row in ROWS {
+            undo(rt, alloc, table, group, row);
         }
     }
 }
@@ -132,5 +147,5 @@ fn changes_are_undone(rt: HostRuntime) {
     let image = assemble_class(alloc, TEXT).expect(&rt, "a class");
     let class = verify(alloc, &image).expect(&rt, "a safe class");
     let table = table_of(&rt, alloc, class);
-    with_group(alloc, &table, Undoes { rt: &rt, alloc });
+    check_group(&rt, alloc, &table, Undoes);
 }

@@ -1,6 +1,7 @@
 //! Drives nodes and their monitor by hand, a step at a time.
 ghost use Rattle.std.specs.Prelude.{◌≡◌};
 
+use super::super::checks::{Check, check_group};
 use super::super::requests::request;
 use super::super::words::{next, next_number};
 use super::lines::{copy, line, shown};
@@ -8,7 +9,7 @@ use super::table::table;
 use group_world::{Epoch, Event, GroupMap, Kind, Message, Packet, Party};
 use interp::ClassTable;
 use peering::{GroupNode, Monitor};
-use pg_log::{Classes, Group, GroupWork, with_group};
+use pg_log::{Classes, Group};
 use placement::NodeId;
 use std::alloc::Global;
 use std::process::Abort;
@@ -217,13 +218,9 @@ impl<C: Classes> World<C> {
 
     /// Whether the next line that was printed is this one.
     fn is_next(&mut self, text: &str) -> bool {
-        match self.lines.get(self.wanted) {
-            Some(line) => {
-                self.wanted = self.wanted.saturating_add(1);
-                line.as_str() == text
-            }
-            None => false,
-        }
+        let at = self.wanted;
+        self.wanted = at.saturating_add(1);
+        is_line(&self.lines, at, text)
     }
 
     /// Whether no line was printed but those that were wanted. They are forgotten.
@@ -248,29 +245,43 @@ impl<C: Classes> World<C> {
             }
         }
     }
+
+    /// All lines of a run.
+    fn run<R: Abort>(&mut self, rt: &R, table: &ClassTable, lines: &str)
+        requires { table.now ≡ C.classes }
+    {
+        for line in lines.lines() {
+            self.go(rt, table, line);
+        }
+        assert!(rt; self.is_done());
+    }
+}
+
+/// Whether the line at a place is that text.
+fn is_line(lines: &[String], at: usize, text: &str) -> bool {
+    match lines.get(at) {
+        None => false,
+        Some(line) => line.as_str() == text,
+    }
 }
 
 /// Goes through runs, one after another.
 #[derive(Drop)]
-struct Runs<'a, R> {
-    rt: &'a R,
-    alloc: Global,
+struct Runs<'a> {
     parts: &'a [&'a str],
 }
 
-impl<R: Abort> GroupWork for Runs<'_, R> {
-    type Output = ();
-
-    ghost gives = { λ _ _ _ _. Unit {0} };
-
-    fn work<C: Classes>(self, table: &ClassTable, _group: Group<C>) {
-        let rt = self.rt;
-        let mut world: World<C> = World::new(rt, self.alloc);
+impl Check for Runs<'_> {
+    fn check<C: Classes, R: Abort>(
+        &self,
+        rt: &R,
+        alloc: Global,
+        table: &ClassTable,
+        _group: &mut Group<C>,
+    ) {
+        let mut world: World<C> = World::new(rt, alloc);
         for part in self.parts {
-            for line in part.lines() {
-                world.go(rt, table, line);
-            }
-            assert!(rt; world.is_done());
+            world.run(rt, table, part);
         }
     }
 }
@@ -278,5 +289,5 @@ impl<R: Abort> GroupWork for Runs<'_, R> {
 /// Each step prints its lines.
 pub(super) fn go_through<R: Abort>(rt: &R, alloc: Global, parts: &[&str]) {
     let table = table(rt, alloc);
-    with_group(alloc, &table, Runs { rt, alloc, parts });
+    check_group(rt, alloc, &table, Runs { parts });
 }

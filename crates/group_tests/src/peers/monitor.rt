@@ -32,11 +32,15 @@ fn greatest_acting_list(rt: HostRuntime) {
     assert!(rt; map.epoch().get() == 1 && map.acting() == acting.as_slice());
 }
 
+/// Whether the monitor refuses to activate an interval that isn't its newest.
+fn is_not_newest(monitor: &mut Monitor, interval: u32) -> bool {
+    monitor.activate(Epoch::new(interval)) == Err(MonitorError::NotNewest)
+}
+
 #[test]
 fn activation_before_any_map(rt: HostRuntime) {
     let mut monitor = Monitor::new(rt.alloc());
-    assert!(rt; monitor.activate(Epoch::new(0)) == Err(MonitorError::NotNewest));
-    assert!(rt; monitor.activate(Epoch::new(1)) == Err(MonitorError::NotNewest));
+    assert!(rt; is_not_newest(&mut monitor, 0) && is_not_newest(&mut monitor, 1));
 }
 
 #[test]

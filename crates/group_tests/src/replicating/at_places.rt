@@ -1,7 +1,8 @@
+use super::super::checks::{Check, check_group};
 use super::super::log::table;
 use super::super::requests::{Pair, request};
 use interp::ClassTable;
-use pg_log::{Classes, Group, GroupWork, LogError, with_group};
+use pg_log::{Classes, Group, LogError};
 use replication::{Rep, append_at};
 use std::alloc::Global;
 use std::process::Abort;
@@ -21,28 +22,27 @@ const ROWS: [Row; 7] = [
     (0, (2, 1), Ok(Some(2))),
 ];
 
+/// The request of each row comes in turn.
 #[derive(Drop)]
-struct Places<'a, R> {
-    rt: &'a R,
-    alloc: Global,
-}
+struct Places;
 
-impl<R: Abort> GroupWork for Places<'_, R> {
-    type Output = ();
-
-    ghost gives = { λ _ _ _ _. Unit {0} };
-
-    fn work<C: Classes>(self, table: &ClassTable, mut group: Group<C>) {
+impl Check for Places {
+    fn check<C: Classes, R: Abort>(
+        &self,
+        rt: &R,
+        alloc: Global,
+        table: &ClassTable,
+        group: &mut Group<C>,
+    ) {
         for (place, pair, answer) in ROWS {
             let rep = Rep {
                 epoch: 1,
                 place,
-                request: request(self.rt, self.alloc, pair, 0, "f", b""),
+                request: request(rt, alloc, pair, 0, "f", b""),
             };
-            let found = append_at(&mut group, table, &rep);
-            assert!(self.rt; found == answer);
+            assert!(rt; append_at(group, table, &rep) == answer);
         }
-        assert!(self.rt; group.len() == 2);
+        assert!(rt; group.len() == 2);
     }
 }
 
@@ -50,5 +50,5 @@ impl<R: Abort> GroupWork for Places<'_, R> {
 fn requests_at_their_places(rt: HostRuntime) {
     let alloc = rt.alloc();
     let table = table(&rt, alloc);
-    with_group(alloc, &table, Places { rt: &rt, alloc });
+    check_group(&rt, alloc, &table, Places);
 }

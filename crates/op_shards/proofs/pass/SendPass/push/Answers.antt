@@ -1,9 +1,23 @@
-use Rattle.std.proofs.Common.{◌≡◌, ◌%◌, length, List, ap, sym, subst, ◌∙◌}
-use Rattle.std.proofs.lemmas.List.Elements.{All-get_or, All-set}
+use Rattle.std.proofs.Common.{◌≡◌, ◌%◌, length, List, ap, sym, subst, ◌∙◌, arith}
+use Rattle.std.proofs.lemmas.List.Elements.{All-set}
 use Rattle.atomic_table.specs.Seated.{TableId}
 use Rattle.op_shards.specs.declared.rule.Place.{Place}
-use Rattle.op_shards.proofs.Lanes.{in_range, send_place, send_place_still, sends}
+use Rattle.op_shards.proofs.Lanes.{in_range, queue_at, one_of_all, send_place, send_place_still, sends}
 use Rattle.op_shards.proofs.pass.SendPass.push.Goals as goal
+
+pub index_mut-lane-requires : goal.index_mut-lane-requires
+index_mut-lane-requires g c =
+    let lt = in_range (λ l. l.spot.queue) c.self.inside.lanes.items _ c.args.shard _ (ap (λ s. s.queues.names) c.self.view_is) c.requires.queue in
+    omega (arith, lt)
+
+pub push-requires-clause-queue : goal.push-requires-clause-queue
+push-requires-clause-queue g c = queue_at (λ l. l.spot.queue) c.self.inside.lanes.items _ c.args.shard _ c.index_mut-lane.result.now (ap (λ s. s.queues.names) c.self.view_is) c.requires.queue c.index_mut-lane.ensures.value
+
+pub push-requires-clause-number : goal.push-requires-clause-number
+push-requires-clause-number g c =
+    let lanes = c.self.inside.lanes.items in
+    let lt = in_range (λ l. l.spot.queue) lanes _ c.args.shard _ (ap (λ s. s.queues.names) c.self.view_is) c.requires.queue in
+    one_of_all (λ l. l.sender) c.self.inside.sender lanes c.args.shard c.index_mut-lane.result.now lt c.index_mut-lane.ensures.value c.self.invariant.1
 
 pub push-requires-clause-here : goal.push-requires-clause-here
 push-requires-clause-here g c =
@@ -24,7 +38,7 @@ invariant_of-self g c =
     let p = c.self.inside.sender in
     let x = lane.result.now in
     let lt = in_range (λ l. l.spot.queue) lanes _ k _ (ap (λ s. s.queues.names) c.self.view_is) c.requires.queue in
-    let own : x.sender ≡ p = ap (λ l. l.sender) lane.ensures.value ∙ All-get_or (λ l. l.sender ≡ p) lanes k x lt c.self.invariant.1 in (
+    let own : x.sender ≡ p = one_of_all (λ l. l.sender) p lanes k x lt lane.ensures.value c.self.invariant.1 in (
       send_place_still c.self.inside.senders c.self.inside.takers lanes k x c.push.new.self lt lane.ensures.value told.lane.0 c.self.invariant.0,
       All-set (λ l. l.sender ≡ p) lanes k c.push.new.self (told.lane.1 ∙ own) c.self.invariant.1,
     )

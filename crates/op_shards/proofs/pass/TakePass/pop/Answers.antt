@@ -1,6 +1,21 @@
-use Rattle.std.proofs.Common.{ap}
-use Rattle.op_shards.proofs.Lanes.{in_range, take_place_still, all_parts_still, takes_one}
+use Rattle.std.proofs.Common.{ℕ, ◌<◌, ap, sym, subst, arith}
+use Rattle.op_shards.specs.Passes.{parts_of}
+use Rattle.op_shards.proofs.Lanes.{in_range, queue_at, one_of_all, take_place_still, all_parts_still, takes_one}
 use Rattle.op_shards.proofs.pass.TakePass.pop.Goals as goal
+
+pub index_mut-lane-requires : goal.index_mut-lane-requires
+index_mut-lane-requires g c =
+    let lt = in_range (λ l. l.spot.queue) c.self.inside.lanes.items _ c.args.shard _ (ap (λ s. s.queues.names) c.self.view_is) c.requires in
+    omega (arith, lt)
+
+pub pop-requires-clause-queue : goal.pop-requires-clause-queue
+pop-requires-clause-queue g c = queue_at (λ l. l.spot.queue) c.self.inside.lanes.items _ c.args.shard _ c.index_mut-lane.result.now (ap (λ s. s.queues.names) c.self.view_is) c.requires c.index_mut-lane.ensures.value
+
+pub pop-requires-clause-part : goal.pop-requires-clause-part
+pop-requires-clause-part g c =
+    let lanes = c.self.inside.lanes.items in
+    let lt = in_range (λ l. l.spot.queue) lanes _ c.args.shard _ (ap (λ s. s.queues.names) c.self.view_is) c.requires in
+    subst (λ (n : ℕ). 0 < n) (sym (one_of_all (λ l. l.parts) (parts_of lanes) lanes c.args.shard c.index_mut-lane.result.now lt c.index_mut-lane.ensures.value c.self.invariant.2)) c.self.invariant.1
 
 pub invariant_of-self : goal.invariant_of-self
 invariant_of-self g c =
