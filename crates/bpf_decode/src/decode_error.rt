@@ -92,8 +92,7 @@ impl fmt::Display for DecodeError {
     ghost output = { λ e. Some (text_of e) };
 
     fn fmt<W: fmt::Write>(&self, f: &mut fmt::Formatter<W>) -> fmt::Result {
-        let (number, name) = self.row();
-        write!(f, "{number} {name}")
+        write!(f, "{} {}", self.number(), self.name())
     }
 }
 
