@@ -1,7 +1,8 @@
-use Rattle.std.proofs.Common.{rules}
+use Rattle.std.proofs.Common.{arith, rules}
 use Rattle.sim_trace.proofs.Marks.{delivered_in}
 use Rattle.sim_trace.proofs.delivered.delivered.Goals as goal
 
 pub returns-clause-value : goal.returns-clause-value
 returns-clause-value c =
-    delivered_in c.args.letters.now c.args.steps.now _ c.note_all.new.come _ (search rules) (search rules) (search rules)
+    delivered_in c.args.letters.now c.args.steps.now _ c.note_all.new.come _ (search rules) c.in_ok-come.ensures.len
+    (λ k lt. c.note_all.ensures k (omega (arith, c.deref_mut.ensures.len, c.in_ok-come.ensures.len)))
