@@ -92,17 +92,33 @@ fn a_fresh_token_sees_three_commits(rt: HostRuntime) {
     assert!(rt; found_late(&board, &mut writer, &mut seen, &request, 3) == 3);
 }
 
+/// Whether each row has its own count, once the first row's writer committed twice and the second row's five times.
+fn have_own_counts(
+    board: &Board,
+    first: &mut Writer,
+    second: &mut Writer,
+    seen: &mut Seen,
+    request: &Request,
+) -> bool
+    requires first { first.old.board ≡ board.now }
+    requires second { second.old.board ≡ board.now }
+    requires fresh { (first.old.list ≡ []) × (second.old.list ≡ []) }
+    requires seen { seen.old.board ≡ board.now }
+    requires rows { 1 < board.now.words }
+{
+    commit_many(board, second, request, 5);
+    commit_many(board, first, request, 2);
+    let counts = (board.look(seen, 0), board.look(seen, 1));
+    first.row() == 0 && second.row() == 1 && counts.0 == 2 && counts.1 == 5
+}
+
 #[test]
 fn neighbouring_rows_have_counts_of_their_own(rt: HostRuntime) {
     let (board, mut writers, mut seen) = Board::new(rt.alloc(), 2).expect(&rt, "memory");
     let mut second = writers.pop().expect(&rt, "a writer");
     let mut first = writers.pop().expect(&rt, "a writer");
-    assert!(rt; first.row() == 0 && second.row() == 1);
     let request = request(&rt, rt.alloc());
-    commit_many(&board, &mut second, &request, 5);
-    commit_many(&board, &mut first, &request, 2);
-    assert!(rt; board.look(&mut seen, 0) == 2);
-    assert!(rt; board.look(&mut seen, 1) == 5);
+    assert!(rt; have_own_counts(&board, &mut first, &mut second, &mut seen, &request));
 }
 
 /// What is found in the first row by a token that heard of it over another one's note.
@@ -140,6 +156,6 @@ fn notes_are_carried_between_threads(rt: HostRuntime) {
             ensures { result.0.board ≡ board }
         { watch(&board, late) },
     );
-    assert!(rt; rising);
-    assert!(rt; heard(&board, &mut writer, note, &mut late, &mut seen) == MANY);
+    let heard = heard(&board, &mut writer, note, &mut late, &mut seen);
+    assert!(rt; rising && heard == MANY);
 }

@@ -18,7 +18,6 @@ use std::alloc::Global;
 use std::marker::Brand;
 use std::process::Abort;
 use std::sync::{Barrier, Mutex, Wait};
-use std::test::Fail;
 use std::thread::{Threads, map_indices};
 
 /// How many threads append. Each is a client: 1, 2 and so on.
@@ -170,6 +169,15 @@ fn is_held_by_first(entries: &[Entry]) -> bool {
     true
 }
 
+/// Checks that each client's requests stand in their order, 800 in all, and which client got the lock.
+fn see<R: Abort>(rt: &R, entries: &[Entry]) {
+    assert!(rt; entries.len() == 800);
+    for client in 1..=THREADS {
+        assert!(rt; rising(entries, client) == Some(EACH), "client {client}");
+    }
+    assert!(rt; is_held_by_first(entries));
+}
+
 /// Checks what all threads together make.
 fn check<C: Classes + Send + Sync, R: Threads + Wait + Abort + Sync>(
     rt: &R,
@@ -179,19 +187,14 @@ fn check<C: Classes + Send + Sync, R: Threads + Wait + Abort + Sync>(
     requires { IsPrefix table.now C.classes }
 {
     let group = appended::<C, R>(rt, alloc, table);
-    let entries = group.entries();
-    assert_eq!(rt; entries.len(), 800);
-    for client in 1..=THREADS {
-        assert_eq!(rt; rising(entries, client), Some(EACH), "client {client}");
-    }
-    assert!(rt; is_held_by_first(entries));
+    see(rt, group.entries());
 }
 
 #[test]
-fn eight_threads_append_under_a_lock(rt: HostRuntime) -> Result<(), Fail> {
+fn eight_threads_append_under_a_lock(rt: HostRuntime) {
     let alloc = rt.alloc();
+    let lock = load_lock(alloc).expect(&rt, "a class");
     let mut table = ClassTable::new(alloc);
-    table.add(load_lock(alloc)?)?;
+    let _ = table.add(lock).expect(&rt, "room");
     check::<Brand, HostRuntime>(&rt, alloc, &table);
-    Ok(())
 }
