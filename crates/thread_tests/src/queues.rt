@@ -3,7 +3,7 @@
 ghost use Rattle.std.specs.Prelude.{◌≡◌, ◌<◌, length};
 
 use op_shards::{Op, OpShards, SendPass, TakePass};
-use std::alloc::{AllocError, Global};
+use std::alloc::Global;
 use std::process::Abort;
 use std::sync::Wait;
 use std::sync::atomic::{AtomicU64, Ordering};
@@ -60,16 +60,30 @@ fn send_all<R: Wait>(rt: &R, shards: &OpShards<Job, R>, mut pass: SendPass<Job>,
 }
 
 /// Takes of each shard in turn, until all takers together have taken all. Answers what it took, in its order.
-fn take_all<R: Wait>(
+fn take_all<R: Wait + Abort>(
     rt: &R,
     alloc: Global,
     shards: &OpShards<Job, R>,
     mut pass: TakePass<Job>,
     taken: &AtomicU64,
-) -> Result<Vec<Job>, AllocError>
+) -> Vec<Job>
     requires { pass.queues ≡ shards.now.queues }
 {
     let mut jobs = Vec::new(alloc);
+    take_into(rt, shards, &mut pass, taken, &mut jobs);
+    jobs
+}
+
+/// Puts what it takes behind the operations that there are.
+fn take_into<R: Wait + Abort>(
+    rt: &R,
+    shards: &OpShards<Job, R>,
+    pass: &mut TakePass<Job>,
+    taken: &AtomicU64,
+    jobs: &mut Vec<Job>,
+)
+    requires { pass.old.queues ≡ shards.now.queues }
+{
     let mut shard = 0;
     for _ in rt.forever() {
         if taken.load(Ordering::SeqCst) >= 4 * EACH as u64 {
@@ -78,16 +92,15 @@ fn take_all<R: Wait>(
         if shard >= shards.count() {
             shard = 0;
         }
-        match shards.take(&mut pass, shard) {
+        match shards.take(pass, shard) {
             Some(job) => {
                 taken.fetch_add(1, Ordering::SeqCst);
-                jobs.push(job)?;
+                jobs.push(job).expect(rt, "memory");
             }
             None => yield_now(),
         }
         shard += 1;
     }
-    Ok(jobs)
 }
 
 fn send_two<R: Threads + Wait + Sync>(
@@ -107,27 +120,26 @@ fn send_two<R: Threads + Wait + Sync>(
     );
 }
 
-fn take_two<R: Threads + Wait + Sync>(
+fn take_two<R: Threads + Wait + Abort + Sync>(
     rt: &R,
     alloc: Global,
     shards: &OpShards<Job, R>,
     first: TakePass<Job>,
     second: TakePass<Job>,
     taken: &AtomicU64,
-) -> Result<(Vec<Job>, Vec<Job>), AllocError>
+) -> (Vec<Job>, Vec<Job>)
     requires first { first.queues ≡ shards.now.queues }
     requires second { second.queues ≡ shards.now.queues }
 {
-    let (one, two) = join(
+    join(
         rt,
         || take_all(rt, alloc, shards, first, taken),
         || take_all(rt, alloc, shards, second, taken),
-    );
-    Ok((one?, two?))
+    )
 }
 
 /// Four senders and two takers, beside a third.
-fn run_most<R: Threads + Wait + Sync>(
+fn run_most<R: Threads + Wait + Abort + Sync>(
     rt: &R,
     alloc: Global,
     shards: &OpShards<Job, R>,
@@ -138,7 +150,7 @@ fn run_most<R: Threads + Wait + Sync>(
     first: TakePass<Job>,
     second: TakePass<Job>,
     taken: &AtomicU64,
-) -> Result<(Vec<Job>, Vec<Job>), AllocError>
+) -> (Vec<Job>, Vec<Job>)
     requires a { a.queues ≡ shards.now.queues }
     requires b { b.queues ≡ shards.now.queues }
     requires c { c.queues ≡ shards.now.queues }
@@ -154,7 +166,7 @@ fn run_most<R: Threads + Wait + Sync>(
             requires c { c.queues ≡ shards.now.queues }
             requires d { d.queues ≡ shards.now.queues }
         { send_four(rt, shards, a, b, c, d) },
-        || -> Result<(Vec<Job>, Vec<Job>), AllocError>
+        || -> (Vec<Job>, Vec<Job>)
             requires first { first.queues ≡ shards.now.queues }
             requires second { second.queues ≡ shards.now.queues }
         { take_two(rt, alloc, shards, first, second, taken) },
@@ -273,13 +285,11 @@ fn each_once_and_in_order(rt: HostRuntime) {
     let second = takes.pop().expect(&rt, "a taker");
     let first = takes.pop().expect(&rt, "a taker");
     let taken = AtomicU64::new(0);
-    let (most, last) = join(
+    let ((one, two), three) = join(
         &rt,
         || run_most(&rt, alloc, &shards, a, b, c, d, first, second, &taken),
         || take_all(&rt, alloc, &shards, third, &taken),
     );
-    let (one, two) = most.expect(&rt, "memory");
-    let three = last.expect(&rt, "memory");
     assert!(rt; is_complete(&rt, alloc, &one, &two, &three));
 }
 
@@ -322,24 +332,31 @@ fn taken_of<R: Wait>(
     }
 }
 
+/// Whether the second of two operations of one shard comes back, and one of the other shard doesn't.
+fn gives_back_nine<R: Wait>(shards: &OpShards<Job, R>, send: &mut SendPass<Job>) -> bool
+    requires { send.old.queues ≡ shards.now.queues }
+{
+    let first = is_accepted(shards, send, 7);
+    let back = given_back(shards, send, 9);
+    let other = is_accepted(shards, send, 8);
+    first && back == Some(9) && other
+}
+
 #[test]
 fn a_full_queue_gives_back(rt: HostRuntime) {
     let (shards, mut sends, _takes) = OpShards::new(rt.alloc(), rt, 2, 1, 1, 1).expect(
         &rt, "memory",
     );
     let mut send = sends.pop().expect(&rt, "a sender");
-    let first = is_accepted(&shards, &mut send, 7);
-    let back = given_back(&shards, &mut send, 9);
-    let other = is_accepted(&shards, &mut send, 8);
-    assert!(rt; first && back == Some(9) && other);
+    assert!(rt; gives_back_nine(&shards, &mut send));
 }
 
-/// What is taken of the shards 0, 1 and 1 of two, once an operation of group 7 was sent.
-fn takes_of_seven<R: Wait>(
+/// Whether an operation of group 7 that was sent is taken once of shard 1 of two, and not of shard 0.
+fn takes_seven_once<R: Wait>(
     shards: &OpShards<Job, R>,
     send: &mut SendPass<Job>,
     take: &mut TakePass<Job>,
-) -> [Option<usize>; 3]
+) -> bool
     requires send { send.old.queues ≡ shards.now.queues }
     requires take { take.old.queues ≡ shards.now.queues }
     requires shards { 1 < length shards.now.queues.names }
@@ -347,7 +364,8 @@ fn takes_of_seven<R: Wait>(
     let _ = is_accepted(shards, send, 7);
     let before = taken_of(shards, take, 0);
     let seven = taken_of(shards, take, 1);
-    [before, seven, taken_of(shards, take, 1)]
+    let behind = taken_of(shards, take, 1);
+    before.is_none() && seven == Some(7) && behind.is_none()
 }
 
 #[test]
@@ -357,17 +375,16 @@ fn an_empty_queue_gives_none(rt: HostRuntime) {
     );
     let mut send = sends.pop().expect(&rt, "a sender");
     let mut take = takes.pop().expect(&rt, "a taker");
-    assert!(rt; takes_of_seven(&shards, &mut send, &mut take) == [None, Some(7), None]);
+    assert!(rt; takes_seven_once(&shards, &mut send, &mut take));
 }
 
-/// What two takers take, the first before and the second after they are put together, once operations of groups 1 and 2
-/// were sent.
-fn takes_together<R: Wait>(
+/// Whether two takers take operations of groups 1 and 2 that were sent, one before and one after they are put together.
+fn take_one_each<R: Wait>(
     shards: &OpShards<Job, R>,
     send: &mut SendPass<Job>,
     take: &mut TakePass<Job>,
     other: TakePass<Job>,
-) -> [Option<usize>; 2]
+) -> bool
     requires send { send.old.queues ≡ shards.now.queues }
     requires take { take.old.queues ≡ shards.now.queues }
     requires other { other.queues ≡ shards.now.queues }
@@ -379,7 +396,8 @@ fn takes_together<R: Wait>(
     let first = taken_of(shards, &mut other, 0);
     shards.gather(take, other);
     shards.compare(send, take, 0);
-    [first, taken_of(shards, take, 0)]
+    let second = taken_of(shards, take, 0);
+    first == Some(1) && second == Some(2) && shards.count() == 1
 }
 
 #[test]
@@ -390,6 +408,5 @@ fn takers_put_together(rt: HostRuntime) {
     let mut send = sends.pop().expect(&rt, "a sender");
     let other = takes.pop().expect(&rt, "a taker");
     let mut take = takes.pop().expect(&rt, "a taker");
-    let taken = takes_together(&shards, &mut send, &mut take, other);
-    assert!(rt; taken == [Some(1), Some(2)] && shards.count() == 1);
+    assert!(rt; take_one_each(&shards, &mut send, &mut take, other));
 }
