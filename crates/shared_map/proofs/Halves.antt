@@ -145,13 +145,6 @@ module _ {V : Type 0} where
   pub sorted-put : (k : List ℕ) (v : V) (es : Entries V) → IsTrue (sorted es) → IsTrue (sorted (put (slice_cmp nat_cmp) k v es))
   sorted-put k v es h = from_T _ (is_sorted-put (slice_cmp nat_cmp) nat_list_cmp_total k v es (to_T _ h))
 
-  -- a branch with one side made anew
-  pub put-left : (k : List ℕ) (v : V) (l : Entries V) (e : Pair V) (r new : Entries V) → order k e.0 ≡ Less → new ≡ put (slice_cmp nat_cmp) k v l → new ++ e ∷ r ≡ put (slice_cmp nat_cmp) k v (l ++ e ∷ r)
-  put-left k v l e r new p is = ap (λ x. x ++ e ∷ r) is ∙ sym (put-less k v l e r p)
-
-  pub put-right : (k : List ℕ) (v : V) (l : Entries V) (e : Pair V) (r new : Entries V) → IsTrue (sorted (l ++ e ∷ r)) → order k e.0 ≡ Greater → new ≡ put (slice_cmp nat_cmp) k v r → l ++ e ∷ new ≡ put (slice_cmp nat_cmp) k v (l ++ e ∷ r)
-  put-right k v l e r new h p is = ap (λ x. l ++ e ∷ x) is ∙ sym (put-greater k v l e r h p)
-
   -- ---- find
   find-none : (k : List ℕ) (t : Entries V) → AllAfter k t → find (slice_cmp nat_cmp) k t ≡ None
   find-none k [] h = refl
@@ -239,16 +232,6 @@ module _ {V : Type 0} where
       ∙ ap (λ t. t ++ without k (e ∷ r)) (without-before k l (before-greater k l e r h p))
       ∙ ap (λ o. l ++ cond (not (is_eq o)) (e ∷ without k r) (without k r)) p
 
-  -- a branch with one side made anew
-  pub without-left : (k : List ℕ) (l : Entries V) (e : Pair V) (r new : Entries V) → IsTrue (sorted (l ++ e ∷ r)) → order k e.0 ≡ Less → new ≡ without k l → new ++ e ∷ r ≡ without k (l ++ e ∷ r)
-  without-left k l e r new h p is = ap (λ x. x ++ e ∷ r) is ∙ sym (without-less k l e r h p)
-
-  pub without-right : (k : List ℕ) (l : Entries V) (e : Pair V) (r new : Entries V) → IsTrue (sorted (l ++ e ∷ r)) → order k e.0 ≡ Greater → new ≡ without k r → l ++ e ∷ new ≡ without k (l ++ e ∷ r)
-  without-right k l e r new h p is = ap (λ x. l ++ e ∷ x) is ∙ sym (without-greater k l e r h p)
-
-  pub without-middle : (k : List ℕ) (l : Entries V) (e : Pair V) (r new : Entries V) → IsTrue (sorted (l ++ e ∷ r)) → order k e.0 ≡ Equal → new ≡ r → l ++ new ≡ without k (l ++ e ∷ r)
-  without-middle k l e r new h p is = ap (λ x. l ++ x) is ∙ sym (without-equal k l e r h p)
-
   pub sorted-without : (k : List ℕ) (es : Entries V) → IsTrue (sorted es) → IsTrue (sorted (without k es))
   sorted-without k es h = from_T _ (is_sorted-where_key (slice_cmp nat_cmp) (λ q. not (eq_by_cmp (slice_cmp nat_cmp) k q)) es (to_T _ h))
 
@@ -264,12 +247,6 @@ module _ {V : Type 0} where
   pub turned : (x : Entries V) (e : Pair V) (y : Entries V) (f : Pair V) (z : Entries V) → (x ++ e ∷ y) ++ f ∷ z ≡ x ++ e ∷ (y ++ f ∷ z)
   turned x e y f z = append_assoc x (e ∷ y) (f ∷ z)
 
-  pub turned_inside : (x : Entries V) (e : Pair V) (y : Entries V) (d : Pair V) (z : Entries V) (f : Pair V) (w : Entries V) → (x ++ e ∷ y) ++ d ∷ (z ++ f ∷ w) ≡ x ++ e ∷ ((y ++ d ∷ z) ++ f ∷ w)
-  turned_inside x e y d z f w = turned x e y d (z ++ f ∷ w) ∙ ap (λ l. x ++ e ∷ l) (sym (turned y d z f w))
-
-  pub turned_twice : (x : Entries V) (e : Pair V) (y : Entries V) (d : Pair V) (z : Entries V) (f : Pair V) (w : Entries V) → (x ++ e ∷ y) ++ d ∷ (z ++ f ∷ w) ≡ (x ++ e ∷ (y ++ d ∷ z)) ++ f ∷ w
-  turned_twice x e y d z f w = turned_inside x e y d z f w ∙ sym (turned x e (y ++ d ∷ z) f w)
-
   pub sorted-turned : (x : Entries V) (e : Pair V) (y : Entries V) (f : Pair V) (z : Entries V) → IsTrue (sorted ((x ++ e ∷ y) ++ f ∷ z)) → IsTrue (sorted (x ++ e ∷ (y ++ f ∷ z)))
   sorted-turned x e y f z h = subst (λ es. IsTrue (sorted es)) (turned x e y f z) h
 
@@ -284,13 +261,6 @@ module _ {V : Type 0} where
 
   pub high_part : (x : Entries V) (e : Pair V) (y : Entries V) (f : Pair V) (z : Entries V) → IsTrue (sorted ((x ++ e ∷ y) ++ f ∷ z)) → IsTrue (sorted (y ++ f ∷ z))
   high_part x e y f z h = sorted-past x e (y ++ f ∷ z) (sorted-turned x e y f z h)
-
-  -- what is equal to a map with a key set, or without one, is sorted
-  pub sorted-as_put : (k : List ℕ) (v : V) (es new : Entries V) → IsTrue (sorted es) → new ≡ put (slice_cmp nat_cmp) k v es → IsTrue (sorted new)
-  sorted-as_put k v es new h is = subst (λ x. IsTrue (sorted x)) (sym is) (sorted-put k v es h)
-
-  pub sorted-as_without : (k : List ℕ) (es new : Entries V) → IsTrue (sorted es) → new ≡ without k es → IsTrue (sorted new)
-  sorted-as_without k es new h is = subst (λ x. IsTrue (sorted x)) (sym is) (sorted-without k es h)
 
   pub sorted-along : (a b : Entries V) → a ≡ b → IsTrue (sorted a) → IsTrue (sorted b)
   sorted-along a b e h = subst (λ es. IsTrue (sorted es)) e h

@@ -1,8 +1,6 @@
 ghost use Rattle.std.specs.Prelude.{◌≡◌, ◌+◌, OnOk, OnErr, IfOk, cond, is_some};
 ghost use Rattle.std.specs.Option.{option_copied};
 ghost use Rattle.std.specs.FinMap as fin;
-ghost use Rattle.std.specs.Arc.{arc_value};
-ghost use Rattle.shared_map.specs.Tree.{pair};
 ghost use Rattle.shared_map.specs.Entries.{key_above};
 
 use crate::tree::{Entry, Tree};
@@ -70,17 +68,11 @@ impl<V: Drop> SharedMap<V> {
         ensures ok { OnOk result (self.new ≡ fin.insert self.old key.now value) }
         ensures err { OnErr result (self.new ≡ self.old) }
     {
-        let entry = Entry::new(alloc, key, value)?;
-        self.put(alloc, &entry)
-    }
-
-    /// Puts an entry in, in place of the one of its key.
-    fn put(&mut self, alloc: Global, entry: &Arc<Entry<V>>) -> Result<(), AllocError>
-        ensures ok { OnOk result (self.new ≡ fin.insert self.old (pair (arc_value entry.now)).0 (pair (arc_value entry.now)).1) }
-        ensures err { OnErr result (self.new ≡ self.old) }
-    {
-        let len = self.len_with(entry.key.as_slice())?;
-        self.tree = self.tree.set(alloc, entry)?;
+        let len = self.len_with(key)?;
+        let key = Vec::from_slice(alloc, key)?;
+        self.tree = self
+            .tree
+            .set(alloc, Arc::new(alloc, Entry { key, value })?)?;
         self.len = len;
         Ok(())
     }

@@ -19,17 +19,6 @@ pub(crate) struct Entry<V> {
     pub(crate) value: V,
 }
 
-impl<V: Drop> Entry<V> {
-    /// A key with this value.
-    pub(crate) fn new(alloc: Global, key: &[u8], value: V) -> Result<Arc<Entry<V>>, AllocError>
-        ensures key { IfOk result (λ e. (pair (arc_value e)).0 ≡ key.now) }
-        ensures value { IfOk result (λ e. (pair (arc_value e)).1 ≡ value) }
-    {
-        let key = Vec::from_slice(alloc, key)?;
-        Ok(Arc::new(alloc, Entry { key, value })?)
-    }
-}
-
 /// A search tree whose nodes never change. Contracts see its entries in order.
 #[cycle(tree)]
 #[derive(Drop)]
@@ -136,22 +125,22 @@ impl<V: Drop> Tree<V> {
     }
 
     /// The tree with a value at a key. At an error nothing was made.
-    pub(crate) fn set(&self, alloc: Global, new: &Arc<Entry<V>>) -> Result<Tree<V>, AllocError>
-        ensures { IfOk result (λ t. t ≡ put (slice_cmp nat_cmp) (pair (arc_value new.now)).0 (pair (arc_value new.now)).1 self.now) }
+    pub(crate) fn set(&self, alloc: Global, new: Arc<Entry<V>>) -> Result<Tree<V>, AllocError>
+        ensures { IfOk result (λ t. t ≡ put (slice_cmp nat_cmp) (pair (arc_value new)).0 (pair (arc_value new)).1 self.now) }
     {
         match &self.root {
-            Link::Leaf => single(alloc, new),
-            Link::Fork(fork) => {
-                let b: &Branch<V> = fork;
-                match new.key.as_slice().cmp(b.entry.key.as_slice()) {
+            Link::Leaf => joined(alloc, Tree::new(), new, Tree::new()),
+            Link::Fork(b) => {
+                let entry: &Entry<V> = &b.entry;
+                match new.key.as_slice().cmp(entry.key.as_slice()) {
                     Ordering::Less => {
                         let left = b.left.set(alloc, new)?;
-                        balanced(alloc, &left, &b.entry, &b.right)
+                        balanced(alloc, left, Arc::try_clone(&b.entry)?, b.right.copy()?)
                     }
-                    Ordering::Equal => joined(alloc, &b.left, new, &b.right),
+                    Ordering::Equal => joined(alloc, b.left.copy()?, new, b.right.copy()?),
                     Ordering::Greater => {
                         let right = b.right.set(alloc, new)?;
-                        balanced(alloc, &b.left, &b.entry, &right)
+                        balanced(alloc, b.left.copy()?, Arc::try_clone(&b.entry)?, right)
                     }
                 }
             }
@@ -164,15 +153,13 @@ impl<V: Drop> Tree<V> {
     {
         match &self.root {
             Link::Leaf => Ok(None),
-            Link::Fork(fork) => {
-                let b: &Branch<V> = fork;
-                match b.left.split_first(alloc)? {
-                    None => split(Arc::try_clone(&b.entry)?, b.right.copy()),
-                    Some((first, left)) => {
-                        split(first, balanced(alloc, &left, &b.entry, &b.right))
-                    }
+            Link::Fork(b) => match b.left.split_first(alloc)? {
+                None => Ok(Some((Arc::try_clone(&b.entry)?, b.right.copy()?))),
+                Some((first, left)) => {
+                    let rest = balanced(alloc, left, Arc::try_clone(&b.entry)?, b.right.copy()?)?;
+                    Ok(Some((first, rest)))
                 }
-            }
+            },
         }
     }
 
@@ -182,20 +169,20 @@ impl<V: Drop> Tree<V> {
     {
         match &self.root {
             Link::Leaf => Ok(Tree::new()),
-            Link::Fork(fork) => {
-                let b: &Branch<V> = fork;
-                match key.cmp(b.entry.key.as_slice()) {
+            Link::Fork(b) => {
+                let entry: &Entry<V> = &b.entry;
+                match key.cmp(entry.key.as_slice()) {
                     Ordering::Less => {
                         let left = b.left.remove(alloc, key)?;
-                        balanced(alloc, &left, &b.entry, &b.right)
+                        balanced(alloc, left, Arc::try_clone(&b.entry)?, b.right.copy()?)
                     }
                     Ordering::Equal => match b.right.split_first(alloc)? {
                         None => b.left.copy(),
-                        Some((first, right)) => balanced(alloc, &b.left, &first, &right),
+                        Some((first, right)) => balanced(alloc, b.left.copy()?, first, right),
                     },
                     Ordering::Greater => {
                         let right = b.right.remove(alloc, key)?;
-                        balanced(alloc, &b.left, &b.entry, &right)
+                        balanced(alloc, b.left.copy()?, Arc::try_clone(&b.entry)?, right)
                     }
                 }
             }
@@ -203,25 +190,8 @@ impl<V: Drop> Tree<V> {
     }
 }
 
-/// An entry beside the tree that was made of those after it.
-fn split<V: Drop>(
-    first: Arc<Entry<V>>,
-    rest: Result<Tree<V>, AllocError>,
-) -> Result<Option<(Arc<Entry<V>>, Tree<V>)>, AllocError>
-    ensures { (es : Entries V) → IfOk rest (λ t. es ≡ pair (arc_value first) ∷ t) → IfOk result (IsSplit es) }
-{
-    Ok(Some((first, rest?)))
-}
-
-/// The tree of one entry.
-fn single<V: Drop>(alloc: Global, entry: &Arc<Entry<V>>) -> Result<Tree<V>, AllocError>
-    ensures { IfOk result (λ t. t ≡ pair (arc_value entry.now) ∷ []) }
-{
-    rooted(alloc, Tree::new(), Arc::try_clone(entry)?, Tree::new())
-}
-
-/// The tree of a branch that has these parts.
-fn rooted<V: Drop>(
+/// The tree of a branch.
+fn joined<V: Drop>(
     alloc: Global,
     left: Tree<V>,
     entry: Arc<Entry<V>>,
@@ -246,7 +216,7 @@ fn rooted<V: Drop>(
 }
 
 /// The tree of a branch that shares its parts with others.
-fn joined<V: Drop>(
+fn sharing<V: Drop>(
     alloc: Global,
     left: &Tree<V>,
     entry: &Arc<Entry<V>>,
@@ -255,24 +225,24 @@ fn joined<V: Drop>(
     requires { IsTrue (sorted (left.now ++ pair (arc_value entry.now) ∷ right.now)) }
     ensures { IfOk result (λ t. t ≡ left.now ++ pair (arc_value entry.now) ∷ right.now) }
 {
-    rooted(alloc, left.copy()?, Arc::try_clone(entry)?, right.copy()?)
+    joined(alloc, left.copy()?, Arc::try_clone(entry)?, right.copy()?)
 }
 
 /// The tree of a branch, turned where one side is two higher than the other.
 fn balanced<V: Drop>(
     alloc: Global,
-    left: &Tree<V>,
-    entry: &Arc<Entry<V>>,
-    right: &Tree<V>,
+    left: Tree<V>,
+    entry: Arc<Entry<V>>,
+    right: Tree<V>,
 ) -> Result<Tree<V>, AllocError>
-    requires { IsTrue (sorted (left.now ++ pair (arc_value entry.now) ∷ right.now)) }
-    ensures { IfOk result (λ t. t ≡ left.now ++ pair (arc_value entry.now) ∷ right.now) }
+    requires { IsTrue (sorted (left ++ pair (arc_value entry) ∷ right)) }
+    ensures { IfOk result (λ t. t ≡ left ++ pair (arc_value entry) ∷ right) }
 {
     let (high_left, high_right) = (left.height(), right.height());
     if high_left > high_right.saturating_add(1) {
-        lean_left(alloc, left, entry, right)
+        lean_left(alloc, &left, entry, right)
     } else if high_right > high_left.saturating_add(1) {
-        lean_right(alloc, left, entry, right)
+        lean_right(alloc, left, entry, &right)
     } else {
         joined(alloc, left, entry, right)
     }
@@ -282,55 +252,29 @@ fn balanced<V: Drop>(
 fn lean_left<V: Drop>(
     alloc: Global,
     left: &Tree<V>,
-    entry: &Arc<Entry<V>>,
-    right: &Tree<V>,
+    entry: Arc<Entry<V>>,
+    right: Tree<V>,
 ) -> Result<Tree<V>, AllocError>
-    requires { IsTrue (sorted (left.now ++ pair (arc_value entry.now) ∷ right.now)) }
-    ensures { IfOk result (λ t. t ≡ left.now ++ pair (arc_value entry.now) ∷ right.now) }
+    requires { IsTrue (sorted (left.now ++ pair (arc_value entry) ∷ right)) }
+    ensures { IfOk result (λ t. t ≡ left.now ++ pair (arc_value entry) ∷ right) }
 {
     match &left.root {
-        Link::Leaf => joined(alloc, left, entry, right),
+        Link::Leaf => joined(alloc, Tree::new(), entry, right),
         Link::Fork(outer) => {
-            if outer.left.height() < outer.right.height() {
-                rotated_left_right(alloc, outer, entry, right)
-            } else {
-                rotated_right(alloc, outer, entry, right)
+            if outer.left.height() < outer.right.height()
+                && let Link::Fork(inner) = &outer.right.root
+            {
+                let low = sharing(alloc, &outer.left, &outer.entry, &inner.left)?;
+                let high = joined(alloc, inner.right.copy()?, entry, right)?;
+                return joined(alloc, low, Arc::try_clone(&inner.entry)?, high);
             }
-        }
-    }
-}
-
-/// The right rotation: the left branch comes to the top.
-fn rotated_right<V: Drop>(
-    alloc: Global,
-    left: &Branch<V>,
-    entry: &Arc<Entry<V>>,
-    right: &Tree<V>,
-) -> Result<Tree<V>, AllocError>
-    requires { IsTrue (sorted ((left.now.left ++ pair (arc_value left.now.entry) ∷ left.now.right) ++ pair (arc_value entry.now) ∷ right.now)) }
-    ensures { IfOk result (λ t. t ≡ (left.now.left ++ pair (arc_value left.now.entry) ∷ left.now.right) ++ pair (arc_value entry.now) ∷ right.now) }
-{
-    let high = joined(alloc, &left.right, entry, right)?;
-    joined(alloc, &left.left, &left.entry, &high)
-}
-
-/// The double rotation: the right side of the left branch comes to the top.
-fn rotated_left_right<V: Drop>(
-    alloc: Global,
-    left: &Branch<V>,
-    entry: &Arc<Entry<V>>,
-    right: &Tree<V>,
-) -> Result<Tree<V>, AllocError>
-    requires { IsTrue (sorted ((left.now.left ++ pair (arc_value left.now.entry) ∷ left.now.right) ++ pair (arc_value entry.now) ∷ right.now)) }
-    ensures { IfOk result (λ t. t ≡ (left.now.left ++ pair (arc_value left.now.entry) ∷ left.now.right) ++ pair (arc_value entry.now) ∷ right.now) }
-{
-    match &left.right.root {
-        Link::Leaf => rotated_right(alloc, left, entry, right),
-        Link::Fork(fork) => {
-            let inner: &Branch<V> = fork;
-            let low = joined(alloc, &left.left, &left.entry, &inner.left)?;
-            let high = joined(alloc, &inner.right, entry, right)?;
-            joined(alloc, &low, &inner.entry, &high)
+            let high = joined(alloc, outer.right.copy()?, entry, right)?;
+            joined(
+                alloc,
+                outer.left.copy()?,
+                Arc::try_clone(&outer.entry)?,
+                high,
+            )
         }
     }
 }
@@ -338,56 +282,30 @@ fn rotated_left_right<V: Drop>(
 /// The same, where the right side is two higher.
 fn lean_right<V: Drop>(
     alloc: Global,
-    left: &Tree<V>,
-    entry: &Arc<Entry<V>>,
+    left: Tree<V>,
+    entry: Arc<Entry<V>>,
     right: &Tree<V>,
 ) -> Result<Tree<V>, AllocError>
-    requires { IsTrue (sorted (left.now ++ pair (arc_value entry.now) ∷ right.now)) }
-    ensures { IfOk result (λ t. t ≡ left.now ++ pair (arc_value entry.now) ∷ right.now) }
+    requires { IsTrue (sorted (left ++ pair (arc_value entry) ∷ right.now)) }
+    ensures { IfOk result (λ t. t ≡ left ++ pair (arc_value entry) ∷ right.now) }
 {
     match &right.root {
-        Link::Leaf => joined(alloc, left, entry, right),
+        Link::Leaf => joined(alloc, left, entry, Tree::new()),
         Link::Fork(outer) => {
-            if outer.right.height() < outer.left.height() {
-                rotated_right_left(alloc, left, entry, outer)
-            } else {
-                rotated_left(alloc, left, entry, outer)
+            if outer.right.height() < outer.left.height()
+                && let Link::Fork(inner) = &outer.left.root
+            {
+                let low = joined(alloc, left, entry, inner.left.copy()?)?;
+                let high = sharing(alloc, &inner.right, &outer.entry, &outer.right)?;
+                return joined(alloc, low, Arc::try_clone(&inner.entry)?, high);
             }
-        }
-    }
-}
-
-/// The left rotation: the right branch comes to the top.
-fn rotated_left<V: Drop>(
-    alloc: Global,
-    left: &Tree<V>,
-    entry: &Arc<Entry<V>>,
-    right: &Branch<V>,
-) -> Result<Tree<V>, AllocError>
-    requires { IsTrue (sorted (left.now ++ pair (arc_value entry.now) ∷ (right.now.left ++ pair (arc_value right.now.entry) ∷ right.now.right))) }
-    ensures { IfOk result (λ t. t ≡ left.now ++ pair (arc_value entry.now) ∷ (right.now.left ++ pair (arc_value right.now.entry) ∷ right.now.right)) }
-{
-    let low = joined(alloc, left, entry, &right.left)?;
-    joined(alloc, &low, &right.entry, &right.right)
-}
-
-/// The double rotation: the left side of the right branch comes to the top.
-fn rotated_right_left<V: Drop>(
-    alloc: Global,
-    left: &Tree<V>,
-    entry: &Arc<Entry<V>>,
-    right: &Branch<V>,
-) -> Result<Tree<V>, AllocError>
-    requires { IsTrue (sorted (left.now ++ pair (arc_value entry.now) ∷ (right.now.left ++ pair (arc_value right.now.entry) ∷ right.now.right))) }
-    ensures { IfOk result (λ t. t ≡ left.now ++ pair (arc_value entry.now) ∷ (right.now.left ++ pair (arc_value right.now.entry) ∷ right.now.right)) }
-{
-    match &right.left.root {
-        Link::Leaf => rotated_left(alloc, left, entry, right),
-        Link::Fork(fork) => {
-            let inner: &Branch<V> = fork;
-            let low = joined(alloc, left, entry, &inner.left)?;
-            let high = joined(alloc, &inner.right, &right.entry, &right.right)?;
-            joined(alloc, &low, &inner.entry, &high)
+            let low = joined(alloc, left, entry, outer.left.copy()?)?;
+            joined(
+                alloc,
+                low,
+                Arc::try_clone(&outer.entry)?,
+                outer.right.copy()?,
+            )
         }
     }
 }

@@ -8,94 +8,106 @@ use Rattle.std.proofs.lemmas.Result.{IfOk-weaker}
 use Rattle.shared_map.specs.Entries.{sorted, without}
 use Rattle.shared_map.specs.Tree.{pair, listed, IsSplit}
 use Rattle.shared_map.specs.declared.tree.Branch.{Branch}
-use Rattle.shared_map.specs.declared.tree.Entry.{Entry}
-use Rattle.shared_map.proofs.Halves.{without-left, without-middle, without-right, sorted-as_without, sorted-along}
+use Rattle.shared_map.proofs.Halves.{without-less, without-equal, without-greater, sorted-without, sorted-along, same_parts}
 use Rattle.shared_map.proofs.tree.Tree.+remove.Goals as goal
 
 pub balanced-requires : goal.balanced-requires
 balanced-requires g t c =
-    let b = c.deref-b.result.now in
+    let b = arc_value c.in-Fork.b in
     let e = pair (arc_value b.entry) in
-    let shape = ap listed c.in-Fork.is ∙ ap (λ (d : Branch g.row.V.Denot). d.left ++ pair (arc_value d.entry) ∷ d.right) (sym c.deref-b.ensures) in
-    let h : IsTrue (sorted (b.left ++ e ∷ b.right)) = sorted-along _ _ shape c.self.invariant in
     let k = c.args.key.now in
-    let its : c.as_slice.result.now ≡ e.0 = c.as_slice.ensures.value ∙ ap (λ (x : Entry g.row.V.Denot). x.key.items) c.deref.ensures in
-    let o : slice_cmp nat_cmp k e.0 ≡ Less = sym (c.cmp.ensures ∙ ap (slice_cmp nat_cmp k) its) ∙ c.in-Less.is in
-    sorted-as_without k (b.left ++ e ∷ b.right) _ h (without-left k b.left e b.right _ h o c.in_ok-left-in-Less.ensures)
+    let h : IsTrue (sorted (b.left ++ e ∷ b.right)) = subst (λ n. IsTrue (sorted (listed n))) c.in-Fork.is c.self.invariant in
+    let o : slice_cmp nat_cmp k e.0 ≡ Less = cc in
+    let same = same_parts _ _ _ _ _ _
+    (c.in_ok-left-in-Less.ensures ∙ ap (λ (d : Branch g.row.V.Denot). without k d.left) c.deref-in-Less.ensures)
+    (ap pair (c.in_ok-try_clone-in-Less.ensures ∙ ap (λ (d : Branch g.row.V.Denot). arc_value d.entry) c.deref-in-Less-2.ensures))
+    (c.in_ok-copy-in-Less.ensures ∙ ap (λ (d : Branch g.row.V.Denot). d.right) c.deref-in-Less-3.ensures) in
+    sorted-along _ _ (without-less k b.left e b.right h o ∙ sym same) (sorted-without k (b.left ++ e ∷ b.right) h)
 
-pub returns-in_ok-left-in-Less : goal.returns-in_ok-left-in-Less
-returns-in_ok-left-in-Less g t c =
-    let b = c.deref-b.result.now in
+pub returns-in_ok-copy-in-Less : goal.returns-in_ok-copy-in-Less
+returns-in_ok-copy-in-Less g t c =
+    let b = arc_value c.in-Fork.b in
     let e = pair (arc_value b.entry) in
-    let shape = ap listed c.in-Fork.is ∙ ap (λ (d : Branch g.row.V.Denot). d.left ++ pair (arc_value d.entry) ∷ d.right) (sym c.deref-b.ensures) in
-    let h : IsTrue (sorted (b.left ++ e ∷ b.right)) = sorted-along _ _ shape c.self.invariant in
     let k = c.args.key.now in
-    let its : c.as_slice.result.now ≡ e.0 = c.as_slice.ensures.value ∙ ap (λ (x : Entry g.row.V.Denot). x.key.items) c.deref.ensures in
-    let o : slice_cmp nat_cmp k e.0 ≡ Less = sym (c.cmp.ensures ∙ ap (slice_cmp nat_cmp k) its) ∙ c.in-Less.is in
+    let h : IsTrue (sorted (b.left ++ e ∷ b.right)) = subst (λ n. IsTrue (sorted (listed n))) c.in-Fork.is c.self.invariant in
+    let o : slice_cmp nat_cmp k e.0 ≡ Less = cc in
+    let same = same_parts _ _ _ _ _ _
+    (c.in_ok-left-in-Less.ensures ∙ ap (λ (d : Branch g.row.V.Denot). without k d.left) c.deref-in-Less.ensures)
+    (ap pair (c.in_ok-try_clone-in-Less.ensures ∙ ap (λ (d : Branch g.row.V.Denot). arc_value d.entry) c.deref-in-Less-2.ensures))
+    (c.in_ok-copy-in-Less.ensures ∙ ap (λ (d : Branch g.row.V.Denot). d.right) c.deref-in-Less-3.ensures) in
     IfOk-weaker c.balanced.result _ _
-    (λ t' is. is ∙ without-left k b.left e b.right _ h o c.in_ok-left-in-Less.ensures ∙ ap (without k) (sym (sym c.self.view_is ∙ shape)))
+    (λ t' is. is ∙ same ∙ sym (without-less k b.left e b.right h o) ∙ ap (without k) (sym (sym c.self.view_is ∙ ap listed c.in-Fork.is)))
     c.balanced.ensures
 
 pub balanced-requires-in-Greater : goal.balanced-requires-in-Greater
 balanced-requires-in-Greater g t c =
-    let b = c.deref-b.result.now in
+    let b = arc_value c.in-Fork.b in
     let e = pair (arc_value b.entry) in
-    let shape = ap listed c.in-Fork.is ∙ ap (λ (d : Branch g.row.V.Denot). d.left ++ pair (arc_value d.entry) ∷ d.right) (sym c.deref-b.ensures) in
-    let h : IsTrue (sorted (b.left ++ e ∷ b.right)) = sorted-along _ _ shape c.self.invariant in
     let k = c.args.key.now in
-    let its : c.as_slice.result.now ≡ e.0 = c.as_slice.ensures.value ∙ ap (λ (x : Entry g.row.V.Denot). x.key.items) c.deref.ensures in
-    let o : slice_cmp nat_cmp k e.0 ≡ Greater = sym (c.cmp.ensures ∙ ap (slice_cmp nat_cmp k) its) ∙ c.in-Greater.is in
-    sorted-as_without k (b.left ++ e ∷ b.right) _ h (without-right k b.left e b.right _ h o c.in_ok-right-in-Greater.ensures)
+    let h : IsTrue (sorted (b.left ++ e ∷ b.right)) = subst (λ n. IsTrue (sorted (listed n))) c.in-Fork.is c.self.invariant in
+    let o : slice_cmp nat_cmp k e.0 ≡ Greater = cc in
+    let same = same_parts _ _ _ _ _ _
+    (c.in_ok-copy-in-Greater.ensures ∙ ap (λ (d : Branch g.row.V.Denot). d.left) c.deref-in-Greater-2.ensures)
+    (ap pair (c.in_ok-try_clone-in-Greater.ensures ∙ ap (λ (d : Branch g.row.V.Denot). arc_value d.entry) c.deref-in-Greater-3.ensures))
+    (c.in_ok-right-in-Greater.ensures ∙ ap (λ (d : Branch g.row.V.Denot). without k d.right) c.deref-in-Greater.ensures) in
+    sorted-along _ _ (without-greater k b.left e b.right h o ∙ sym same) (sorted-without k (b.left ++ e ∷ b.right) h)
 
-pub returns-in_ok-right-in-Greater : goal.returns-in_ok-right-in-Greater
-returns-in_ok-right-in-Greater g t c =
-    let b = c.deref-b.result.now in
+pub returns-in_ok-try_clone-in-Greater : goal.returns-in_ok-try_clone-in-Greater
+returns-in_ok-try_clone-in-Greater g t c =
+    let b = arc_value c.in-Fork.b in
     let e = pair (arc_value b.entry) in
-    let shape = ap listed c.in-Fork.is ∙ ap (λ (d : Branch g.row.V.Denot). d.left ++ pair (arc_value d.entry) ∷ d.right) (sym c.deref-b.ensures) in
-    let h : IsTrue (sorted (b.left ++ e ∷ b.right)) = sorted-along _ _ shape c.self.invariant in
     let k = c.args.key.now in
-    let its : c.as_slice.result.now ≡ e.0 = c.as_slice.ensures.value ∙ ap (λ (x : Entry g.row.V.Denot). x.key.items) c.deref.ensures in
-    let o : slice_cmp nat_cmp k e.0 ≡ Greater = sym (c.cmp.ensures ∙ ap (slice_cmp nat_cmp k) its) ∙ c.in-Greater.is in
-    IfOk-weaker c.balanced-in-Greater.result _ _
-    (λ t' is. is ∙ without-right k b.left e b.right _ h o c.in_ok-right-in-Greater.ensures ∙ ap (without k) (sym (sym c.self.view_is ∙ shape)))
-    c.balanced-in-Greater.ensures
+    let h : IsTrue (sorted (b.left ++ e ∷ b.right)) = subst (λ n. IsTrue (sorted (listed n))) c.in-Fork.is c.self.invariant in
+    let o : slice_cmp nat_cmp k e.0 ≡ Greater = cc in
+    let same = same_parts _ _ _ _ _ _
+    (c.in_ok-copy-in-Greater.ensures ∙ ap (λ (d : Branch g.row.V.Denot). d.left) c.deref-in-Greater-2.ensures)
+    (ap pair (c.in_ok-try_clone-in-Greater.ensures ∙ ap (λ (d : Branch g.row.V.Denot). arc_value d.entry) c.deref-in-Greater-3.ensures))
+    (c.in_ok-right-in-Greater.ensures ∙ ap (λ (d : Branch g.row.V.Denot). without k d.right) c.deref-in-Greater.ensures) in
+    IfOk-weaker c.balanced-in-Greater-2.result _ _
+    (λ t' is. is ∙ same ∙ sym (without-greater k b.left e b.right h o) ∙ ap (without k) (sym (sym c.self.view_is ∙ ap listed c.in-Fork.is)))
+    c.balanced-in-Greater-2.ensures
 
 pub balanced-requires-in-Some : goal.balanced-requires-in-Some
 balanced-requires-in-Some g t c =
-    let b = c.deref-b.result.now in
+    let b = arc_value c.in-Fork.b in
     let e = pair (arc_value b.entry) in
-    let shape = ap listed c.in-Fork.is ∙ ap (λ (d : Branch g.row.V.Denot). d.left ++ pair (arc_value d.entry) ∷ d.right) (sym c.deref-b.ensures) in
-    let h : IsTrue (sorted (b.left ++ e ∷ b.right)) = sorted-along _ _ shape c.self.invariant in
     let k = c.args.key.now in
-    let its : c.as_slice.result.now ≡ e.0 = c.as_slice.ensures.value ∙ ap (λ (x : Entry g.row.V.Denot). x.key.items) c.deref.ensures in
-    let o : slice_cmp nat_cmp k e.0 ≡ Equal = sym (c.cmp.ensures ∙ ap (slice_cmp nat_cmp k) its) ∙ c.in-Equal.is in
-    let rest : b.right ≡ pair (arc_value c.in-Some.first) ∷ c.in-Some.right = subst (IsSplit b.right) c.in-Some.is c.in_ok-split_first-in-Equal.ensures in
-    sorted-as_without k (b.left ++ e ∷ b.right) _ h (without-middle k b.left e b.right _ h o (sym rest))
+    let h : IsTrue (sorted (b.left ++ e ∷ b.right)) = subst (λ n. IsTrue (sorted (listed n))) c.in-Fork.is c.self.invariant in
+    let o : slice_cmp nat_cmp k e.0 ≡ Equal = cc in
+    let rest : b.right ≡ pair (arc_value c.in-Some.first) ∷ c.in-Some.right =
+    ap (λ (d : Branch g.row.V.Denot). d.right) (sym c.deref-in-Equal.ensures) ∙ subst (IsSplit c.deref-in-Equal.result.now.right) c.in-Some.is c.in_ok-split_first-in-Equal.ensures in
+    let same : c.in_ok-copy-in-Some.field-0 ++ pair (arc_value c.in-Some.first) ∷ c.in-Some.right ≡ b.left ++ b.right =
+    ap (λ l. l ++ pair (arc_value c.in-Some.first) ∷ c.in-Some.right) (c.in_ok-copy-in-Some.ensures ∙ ap (λ (d : Branch g.row.V.Denot). d.left) c.deref-in-Some.ensures)
+    ∙ ap (λ r. b.left ++ r) (sym rest) in
+    sorted-along _ _ (without-equal k b.left e b.right h o ∙ sym same) (sorted-without k (b.left ++ e ∷ b.right) h)
 
-pub returns-in-Some : goal.returns-in-Some
-returns-in-Some g t c =
-    let b = c.deref-b.result.now in
+pub returns-in_ok-copy-in-Some : goal.returns-in_ok-copy-in-Some
+returns-in_ok-copy-in-Some g t c =
+    let b = arc_value c.in-Fork.b in
     let e = pair (arc_value b.entry) in
-    let shape = ap listed c.in-Fork.is ∙ ap (λ (d : Branch g.row.V.Denot). d.left ++ pair (arc_value d.entry) ∷ d.right) (sym c.deref-b.ensures) in
-    let h : IsTrue (sorted (b.left ++ e ∷ b.right)) = sorted-along _ _ shape c.self.invariant in
     let k = c.args.key.now in
-    let its : c.as_slice.result.now ≡ e.0 = c.as_slice.ensures.value ∙ ap (λ (x : Entry g.row.V.Denot). x.key.items) c.deref.ensures in
-    let o : slice_cmp nat_cmp k e.0 ≡ Equal = sym (c.cmp.ensures ∙ ap (slice_cmp nat_cmp k) its) ∙ c.in-Equal.is in
-    let rest : b.right ≡ pair (arc_value c.in-Some.first) ∷ c.in-Some.right = subst (IsSplit b.right) c.in-Some.is c.in_ok-split_first-in-Equal.ensures in
+    let h : IsTrue (sorted (b.left ++ e ∷ b.right)) = subst (λ n. IsTrue (sorted (listed n))) c.in-Fork.is c.self.invariant in
+    let o : slice_cmp nat_cmp k e.0 ≡ Equal = cc in
+    let rest : b.right ≡ pair (arc_value c.in-Some.first) ∷ c.in-Some.right =
+    ap (λ (d : Branch g.row.V.Denot). d.right) (sym c.deref-in-Equal.ensures) ∙ subst (IsSplit c.deref-in-Equal.result.now.right) c.in-Some.is c.in_ok-split_first-in-Equal.ensures in
+    let same : c.in_ok-copy-in-Some.field-0 ++ pair (arc_value c.in-Some.first) ∷ c.in-Some.right ≡ b.left ++ b.right =
+    ap (λ l. l ++ pair (arc_value c.in-Some.first) ∷ c.in-Some.right) (c.in_ok-copy-in-Some.ensures ∙ ap (λ (d : Branch g.row.V.Denot). d.left) c.deref-in-Some.ensures)
+    ∙ ap (λ r. b.left ++ r) (sym rest) in
     IfOk-weaker c.balanced-in-Some.result _ _
-    (λ t' is. is ∙ without-middle k b.left e b.right _ h o (sym rest) ∙ ap (without k) (sym (sym c.self.view_is ∙ shape)))
+    (λ t' is. is ∙ same ∙ sym (without-equal k b.left e b.right h o) ∙ ap (without k) (sym (sym c.self.view_is ∙ ap listed c.in-Fork.is)))
     c.balanced-in-Some.ensures
 
 pub returns-in-None : goal.returns-in-None
 returns-in-None g t c =
-    let b = c.deref-b.result.now in
+    let b = arc_value c.in-Fork.b in
     let e = pair (arc_value b.entry) in
-    let shape = ap listed c.in-Fork.is ∙ ap (λ (d : Branch g.row.V.Denot). d.left ++ pair (arc_value d.entry) ∷ d.right) (sym c.deref-b.ensures) in
-    let h : IsTrue (sorted (b.left ++ e ∷ b.right)) = sorted-along _ _ shape c.self.invariant in
     let k = c.args.key.now in
-    let its : c.as_slice.result.now ≡ e.0 = c.as_slice.ensures.value ∙ ap (λ (x : Entry g.row.V.Denot). x.key.items) c.deref.ensures in
-    let o : slice_cmp nat_cmp k e.0 ≡ Equal = sym (c.cmp.ensures ∙ ap (slice_cmp nat_cmp k) its) ∙ c.in-Equal.is in
-    let rest : b.right ≡ [] = subst (IsSplit b.right) c.in-None.is c.in_ok-split_first-in-Equal.ensures in
-    IfOk-weaker c.copy.result _ _
-    (λ t' is. is ∙ sym (append-nil b.left) ∙ without-middle k b.left e b.right _ h o (sym rest) ∙ ap (without k) (sym (sym c.self.view_is ∙ shape)))
-    c.copy.ensures
+    let h : IsTrue (sorted (b.left ++ e ∷ b.right)) = subst (λ n. IsTrue (sorted (listed n))) c.in-Fork.is c.self.invariant in
+    let o : slice_cmp nat_cmp k e.0 ≡ Equal = cc in
+    let rest : b.right ≡ [] =
+    ap (λ (d : Branch g.row.V.Denot). d.right) (sym c.deref-in-Equal.ensures) ∙ subst (IsSplit c.deref-in-Equal.result.now.right) c.in-None.is c.in_ok-split_first-in-Equal.ensures in
+    IfOk-weaker c.copy-in-None.result _ _
+    (λ t' is. is ∙ ap (λ (d : Branch g.row.V.Denot). d.left) c.deref-in-None.ensures
+    ∙ sym (without-equal k b.left e b.right h o ∙ ap (λ r. b.left ++ r) rest ∙ append-nil b.left)
+    ∙ ap (without k) (sym (sym c.self.view_is ∙ ap listed c.in-Fork.is)))
+    c.copy-in-None.ensures
