@@ -1,4 +1,4 @@
-ghost use Rattle.std.specs.Prelude.{◌≡◌, ◌≤◌, ◌<◌, ◌^◌, ◌+◌, ◌⊎◌, ◌≤ℤ◌, IfOk, MatchResult, length, is_some, take, count_by};
+ghost use Rattle.std.specs.Prelude.{◌≡◌, ◌≤◌, ◌<◌, ◌^◌, ◌+◌, ◌-ℤ◌, ◌⊎◌, ◌≤ℤ◌, pos, IfOk, MatchResult, length, is_some, take, count_by};
 ghost use Rattle.std.specs.Option.{ForSome};
 ghost use Rattle.bpf_decode.specs.Instruction.{slot_count, slot_total};
 ghost use Rattle.std.specs.List.{list_any};
@@ -48,6 +48,14 @@ fn distance_within(low: i128, high: i128, distance: i128) -> Result<i128, AsmFau
     }
 }
 
+/// The distance from the slot after a jump to a slot.
+fn distance(slot: usize, at: usize) -> i128
+    requires { slot ≤ SLOT_LIMIT }
+    ensures { result ≡ pos at -ℤ pos (slot + 1) }
+{
+    at as i128 - (slot + 1) as i128
+}
+
 /// The distance from the slot after a jump to a target.
 fn resolved(
     low: i128,
@@ -65,7 +73,7 @@ fn resolved(
         Target::Slots(slots) => distance_within(low, high, i128::from(*slots)),
         Target::Label(name) => match labels.slot(name.as_bytes()) {
             None => Err(AsmFault::Label),
-            Some(at) => distance_within(low, high, at as i128 - (slot + 1) as i128),
+            Some(at) => distance_within(low, high, distance(slot, at)),
         },
     }
 }
