@@ -1,5 +1,6 @@
 //! Tests alone, of the program on words, files and writers: what it prints of images and texts of classes, of groups played
-//! from files of events, and of words that ask for nothing; and how it ends where standard output fails.
+//! from files of events, and of words that ask for nothing; and how it ends where standard output fails. Of the lines of a
+//! file of events also what each says.
 #![tactic(auto)]
 
 #[cfg(test)]
@@ -10,6 +11,8 @@ mod drawings;
 mod folder;
 #[cfg(test)]
 mod images;
+#[cfg(test)]
+mod lines;
 #[cfg(test)]
 mod runs;
 #[cfg(test)]

@@ -3,7 +3,7 @@ use Rattle.std.proofs.Common.{◌≡◌, ◌<◌, ◌≤◌, ℕ, zero, suc, Lis
 use Rattle.std.specs.Io.KnownBytes.{Appends}
 use Rattle.std.specs.Prelude.{OnOk, IsOk, Result, Ok, Err, is_err}
 use Rattle.pg_log.specs.Log.{Classes}
-use Rattle.sim.specs.Lines.{line_of}
+use Rattle.sim_lines.specs.Lines.{line_of}
 use Rattle.sim.specs.Output.{bad_line}
 use Rattle.sim.specs.Run.{Printed, before_rest, go_on, run_from, run_lines, Grew, Prints, Stops, IsLine}
 use Rattle.sim.specs.Step.{SimWorld, Happened, opening, step}

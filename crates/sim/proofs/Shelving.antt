@@ -10,7 +10,8 @@ use Rattle.group_world.specs.declared.message.Packet.{Packet}
 use Rattle.sim.specs.declared.kept.Kept.{Kept}
 use Rattle.sim.specs.declared.kept.Kept.TheVariants.{Whole, Short}
 use Rattle.sim.specs.Shelves.{AreShelved, first_equal, is_equal_to, numbers_on, shelf, shelf_of}
-use Rattle.sim.specs.Step.{is_kept_as, is_same_kind, number_from, number_of, numbered}
+use Rattle.sim_lines.specs.Lines.{numbered}
+use Rattle.sim.specs.Step.{is_kept_as, is_same_kind, number_from, number_of}
 
 -- empty shelves
 abbrev pub fresh : ℕ → List (List ℕ)

@@ -4,7 +4,7 @@ use Rattle.std.specs.Io.KnownBytes.{Appends}
 use Rattle.pg_log.specs.Log.{Classes}
 use Rattle.sim.specs.declared.file.Ending.{Ending}
 use Rattle.sim.specs.declared.file.Ending.TheVariants.{Done, Bad, NoMemory, Unprinted}
-use Rattle.sim.specs.Lines.{line_of, lines_of}
+use Rattle.sim_lines.specs.Lines.{line_of, lines_of}
 use Rattle.sim.specs.Output.{bad_line}
 use Rattle.sim.specs.Step.{SimWorld, Happened, opening, step}
 

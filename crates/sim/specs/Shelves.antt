@@ -5,7 +5,8 @@ use Rattle.group_world.specs.declared.message.Kind.TheVariants.{Query, Install, 
 use Rattle.group_world.specs.declared.message.Packet.{Packet}
 use Rattle.sim.specs.declared.kept.Kept.{Kept}
 use Rattle.sim.specs.declared.kept.Kept.TheVariants.{Whole, Short}
-use Rattle.sim.specs.Step.{is_kept_as, numbered}
+use Rattle.sim_lines.specs.Lines.{numbered}
+use Rattle.sim.specs.Step.{is_kept_as}
 
 -- the shelf of a message: by its interval or, of a request, by its place; the last is for those that are never sent again
 abbrev pub shelf : Kind → ℕ

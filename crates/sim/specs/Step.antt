@@ -1,6 +1,6 @@
 -- The nodes, the monitor and the messages of a file, and what a line makes of them. What a node does at an event is
 -- group_world's `local_step`, what it sends again its `unanswered`, and the monitor is its monitor.
-use Rattle.std.specs.Prelude.{◌≡◌, Result, Ok, Err, ℕ, zero, suc, ◌-◌, ◌==◌, ◌&&◌, nat_lt, Bool, true, false, List, [], ◌∷◌, ◌++◌, length, map, Option, Some, None, if◌then◌else◌, slice_get, slice_set, slice_index_or, replicate, codes}
+use Rattle.std.specs.Prelude.{◌≡◌, Result, Ok, Err, ℕ, zero, suc, ◌==◌, ◌&&◌, nat_lt, Bool, true, false, List, [], ◌∷◌, ◌++◌, length, map, Option, Some, None, if◌then◌else◌, slice_get, slice_set, slice_index_or, replicate, codes}
 use Rattle.std.specs.Option.{option_map}
 use Rattle.pg_log.specs.Requests.{ClientRequest}
 use Rattle.pg_log.specs.Log.{Classes}
@@ -23,8 +23,9 @@ use Rattle.group_world.specs.declared.message.Packet.{Packet}
 use Rattle.group_world.specs.declared.event.Event.{Event}
 use Rattle.group_world.specs.declared.event.Event.TheVariants.{Request as ARequest, Map as AMap, Message as AMessage}
 use Rattle.peering.specs.Numbered.{NumberedNode, IsDone}
-use Rattle.sim.specs.declared.line.Line.{Line}
-use Rattle.sim.specs.declared.line.Line.TheVariants as lines
+use Rattle.sim_lines.specs.Lines.{numbered}
+use Rattle.sim_lines.specs.declared.line.Line.{Line}
+use Rattle.sim_lines.specs.declared.line.Line.TheVariants as lines
 use Rattle.sim.specs.declared.kept.Kept.{Kept}
 use Rattle.sim.specs.declared.kept.Kept.TheVariants.{Whole, Short}
 use Rattle.sim.specs.declared.kept.ShortLog.{ShortLog}
@@ -56,10 +57,6 @@ pub record Happened : Type 0 where
 -- the world is as before
 abbrev pub prints : SimWorld → List ℕ → Option Happened
 prints w text = Some (record { world = w; printed = text })
-
--- maps and messages are numbered from 1
-abbrev pub numbered : {A : Type 0} → List A → ℕ → Option A
-numbered xs number = if number == 0 then None else slice_get xs (number - 1)
 
 -- MESSAGES AS THEY ARE KEPT. Of the list that a Log carries, what its receiver has committed isn't kept: when it is
 -- delivered, it is taken from the receiver's own list.

@@ -2,19 +2,21 @@
 ghost use Rattle.std.specs.Prelude.{◌≡◌, Some, IfOk, string_bytes, codes};
 ghost use Rattle.group_world.specs.Monitor.{activation_refusal};
 ghost use Rattle.group_world.specs.World.{activated_for};
-ghost use Rattle.sim.specs.Step.{numbered, at_monitor, deliver, deliver_to, activated, tells, nth_node, whole_log, list_told, come, comes_as, coming, unless_stopped, happened_of};
+ghost use Rattle.sim_lines.specs.Lines.{numbered};
+ghost use Rattle.sim.specs.Step.{at_monitor, deliver, deliver_to, activated, tells, nth_node, whole_log, list_told, come, comes_as, coming, unless_stopped, happened_of};
 
 use crate::copies::{copy_message, requests_of};
 use crate::kept::{Kept, ShortLog};
 use crate::print::{message_line, refused_line};
 use crate::sent::next_number;
-use crate::world::{World, numbered};
+use crate::world::World;
 use group_world::{Epoch, Event, Kind, Message, Packet, Party, Requests};
 use interp::ClassTable;
 use peering::GroupNode;
 use pg_log::{Classes, Request};
 use placement::NodeId;
 use replication::{UnpackError, unpack_log};
+use sim_lines::numbered;
 use std::alloc::{AllocError, Global};
 
 /// What a message comes as.
@@ -100,7 +102,7 @@ impl<C: Classes> World<C> {
         ensures { IfOk result (λ t. happened_of string_bytes self.new t ≡ at_monitor self.old message.now.sender message.now.kind) }
     {
         match &message.kind {
-            Kind::AskActivate(interval) => Ok(Some(self.activate(message.sender, *interval)?)),
+            Kind::AskActivate(interval) => self.activate(message.sender, *interval).map(Some),
             _ => self.says("nothing\n"),
         }
     }
@@ -126,13 +128,10 @@ impl<C: Classes> World<C> {
     fn lost_at(&self, node: NodeId) -> Result<Option<String>, AllocError>
         ensures { IfOk result (λ t. happened_of string_bytes self.now t ≡ unless_stopped self.now node (record { world = self.now; printed = codes "nothing\n" })) }
     {
-        if !self.is_node(node) {
-            return Ok(None);
+        if self.runs(node) {
+            return self.says("nothing\n");
         }
-        if self.is_stopped(node) {
-            return self.says("stopped\n");
-        }
-        self.says("nothing\n")
+        self.stands(node)
     }
 
     /// A list at a node, or that it was lost.
@@ -156,7 +155,7 @@ impl<C: Classes> World<C> {
         ensures { IfOk result (λ c. c ≡ coming self.now (numbered self.now.sent number)) }
     {
         match numbered(self.sent.items(), number) {
-            Some(kept) => Ok(Some(comes_as(self.alloc, &self.nodes, kept)?)),
+            Some(kept) => comes_as(self.alloc, &self.nodes, kept).map(Some),
             None => Ok(None),
         }
     }

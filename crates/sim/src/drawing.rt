@@ -2,14 +2,13 @@
 ghost use Rattle.std.specs.Prelude.{◌≡◌, IfOk, string_bytes};
 
 use crate::kept::Kept;
-use crate::line::{Line, read_line};
 use crate::print::{bad_line, kind_text, with_two};
-use crate::words::lines;
 use crate::world::World;
 use group_world::Party;
 use interp::ClassTable;
 use pg_log::Classes;
 use placement::NodeId;
+use sim_lines::{Line, lines, read_line};
 use sim_trace::{Lane, Letter, Step, What, draw};
 use std::alloc::{AllocError, Global};
 use std::marker::Brand;

@@ -1,15 +1,14 @@
 ghost use Rattle.std.specs.Prelude.{◌≡◌, IfOk, map, string_bytes};
-ghost use Rattle.sim.specs.Lines.{line_of, lines_of};
+ghost use Rattle.sim_lines.specs.Lines.{line_of, lines_of};
 ghost use Rattle.sim.specs.Run.{EndsBy, IsLine};
 ghost use Rattle.sim.specs.Step.{opening, step};
 
-use crate::line::read_line;
 use crate::print::bad_line;
-use crate::words::lines;
 use crate::world::World;
 use class_tool::Output;
 use interp::ClassTable;
 use pg_log::Classes;
+use sim_lines::{lines, read_line};
 use std::alloc::{AllocError, Global};
 use std::marker::Brand;
 

@@ -1,8 +1,10 @@
-ghost use Rattle.std.specs.Prelude.{◌≡◌, ◌++◌, IfOk, OnOk, map, slice_get};
+ghost use Rattle.std.specs.Prelude.{◌≡◌, ◌++◌, suc, length, IfOk, OnOk, map, slice_get, string_bytes};
+ghost use Rattle.sim.specs.Output.{sent_text};
 ghost use Rattle.sim.specs.Step.{committed_of, kept, kept_for};
 
-use crate::sent::Sent;
-use group_world::{Epoch, Kind, Message, Packet, Party, Requests};
+use crate::print::sent_text;
+use crate::sent::{Sent, next_number};
+use group_world::{Epoch, Kind, Message, Messages, Packet, Party, Requests};
 use peering::GroupNode;
 use pg_log::Classes;
 use placement::NodeId;
@@ -91,7 +93,7 @@ fn keep<C: Classes>(
 }
 
 /// Keeps messages behind those that were sent before.
-pub(crate) fn keep_all<C: Classes>(
+fn keep_all<C: Classes>(
     alloc: Global,
     nodes: &[GroupNode<C>],
     packets: Vec<Packet>,
@@ -104,4 +106,20 @@ pub(crate) fn keep_all<C: Classes>(
         sent.push(keep(alloc, nodes, packet)?)?;
     }
     Ok(())
+}
+
+/// Keeps what a node sent behind what was sent before, and gives what is printed of it.
+pub(crate) fn keep_sent<C: Classes>(
+    alloc: Global,
+    nodes: &[GroupNode<C>],
+    packets: Messages,
+    sent: &mut Sent,
+) -> Result<String, AllocError>
+    ensures kept { OnOk result (sent.new ≡ sent.old ++ map (kept nodes.now) packets) }
+    ensures text { IfOk result (λ t. string_bytes t ≡ sent_text (suc (length sent.old)) packets) }
+{
+    let number = next_number(sent.len())?;
+    let text = sent_text(alloc, number, packets.items())?;
+    keep_all(alloc, nodes, packets.into_items(), sent)?;
+    Ok(text)
 }

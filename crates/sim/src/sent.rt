@@ -1,12 +1,13 @@
 //! The messages that were sent.
 ghost use Rattle.std.specs.Prelude.{◌≡◌, ◌≤◌, ◌<◌, ◌++◌, ◌∷◌, [], length, suc, IfOk, OnOk, OnErr, slice_index_or, slice_set};
 ghost use Rattle.sim.specs.Shelves.{AreShelved, first_equal, is_equal_to, shelf, shelf_of};
-ghost use Rattle.sim.specs.Step.{number_of, numbered};
+ghost use Rattle.sim_lines.specs.Lines.{numbered};
+ghost use Rattle.sim.specs.Step.{number_of};
 
 use crate::kept::Kept;
 use crate::same::is_kept_as;
-use crate::world::numbered;
 use group_world::{Kind, Packet};
+use sim_lines::numbered;
 use std::alloc::{AllocError, Global};
 use std::marker::Model;
 

@@ -1,18 +1,19 @@
-ghost use Rattle.std.specs.Prelude.{◌≡◌, ◌≤◌, ◌-◌, IfOk, IsTrue, string_bytes, option_copied};
+ghost use Rattle.std.specs.Prelude.{◌≡◌, ◌&&◌, not, IfOk, IsTrue, IsFalse, string_bytes};
 ghost use Rattle.group_world.specs.Monitor.{map_refusal};
 ghost use Rattle.group_world.specs.Rules.{local_step};
-ghost use Rattle.sim.specs.Step.{opening, fresh_nodes, step, numbered, is_node, is_stopped, see, show, at_node, made_map, set_stopped, sends_again, unless_stopped, handled, happened_of, prints, IsTaken};
+ghost use Rattle.sim_lines.specs.Lines.{numbered};
+ghost use Rattle.sim.specs.Step.{Happened, opening, fresh_nodes, step, is_node, is_stopped, see, show, at_node, made_map, set_stopped, sends_again, unless_stopped, handled, happened_of, prints, IsTaken};
 
-use crate::kept::keep_all;
-use crate::line::Line;
-use crate::print::{again_text, map_line, node_line, refused_line, sent_text};
+use crate::kept::keep_sent;
+use crate::print::{again_text, map_line, node_line, refused_line};
 use crate::same::numbers_of;
-use crate::sent::{Sent, next_number};
+use crate::sent::Sent;
 use group_world::{Event, GroupMap, HandleError, Messages, MonitorError};
 use interp::ClassTable;
 use peering::{GroupNode, Monitor};
 use pg_log::Classes;
 use placement::NodeId;
+use sim_lines::{Line, numbered};
 use std::alloc::{AllocError, Global};
 use std::marker::Model;
 
@@ -55,24 +56,6 @@ fn fresh_nodes<C: Classes>(alloc: Global) -> Result<Vec<GroupNode<C>>, AllocErro
     Ok(nodes)
 }
 
-/// The one of that number, counted from 1.
-pub(crate) fn numbered<T>(items: &[T], number: u64) -> Option<&T>
-    ensures { option_copied result ≡ numbered items.now number }
-{
-    if number == 0 {
-        return None;
-    }
-    items.get(place_of(number))
-}
-
-/// The place of the one of that number, from 0.
-fn place_of(number: u64) -> usize
-    requires { 1 ≤ number }
-    ensures { result ≡ number - 1 }
-{
-    (number - 1) as usize
-}
-
 impl<C: Classes> World<C> {
     /// Nodes that have learned nothing, no map and no message. It fails for want of memory alone.
     pub fn new(alloc: Global) -> Result<World<C>, AllocError>
@@ -108,11 +91,29 @@ impl<C: Classes> World<C> {
         }
     }
 
+    /// Whether it is there and isn't stopped.
+    pub(crate) fn runs(&self, node: NodeId) -> bool
+        ensures { result ≡ (is_node self.now node && not (is_stopped self.now node)) }
+    {
+        self.is_node(node) && !self.is_stopped(node)
+    }
+
+    /// What comes to a node that is stopped or isn't there: nothing happens, whatever it is.
+    pub(crate) fn stands(&self, node: NodeId) -> Result<Option<String>, AllocError>
+        requires { IsFalse (is_node self.now node && not (is_stopped self.now node)) }
+        ensures { (h : Happened) → IfOk result (λ t. happened_of string_bytes self.now t ≡ unless_stopped self.now node h) }
+    {
+        if !self.is_node(node) {
+            return Ok(None);
+        }
+        self.says("stopped\n")
+    }
+
     /// A text that is no message.
     pub(crate) fn says(&self, text: &str) -> Result<Option<String>, AllocError>
         ensures { IfOk result (λ t. happened_of string_bytes self.now t ≡ prints self.now text.now) }
     {
-        Ok(Some(String::from_str(self.alloc, text)?))
+        String::from_str(self.alloc, text).map(Some)
     }
 }
 
@@ -146,14 +147,8 @@ impl<C: Classes> World<C> {
         requires known { IsTrue (is_node self.old node) }
         ensures { IfOk result (λ t. record { world = self.new; printed = string_bytes t } ≡ handled table.now self.old node event) }
     {
-        let number = next_number(self.sent.len())?;
         match take_event(table, &mut self.nodes[node.get() as usize], event)? {
-            Ok(sent) => {
-                let text = sent_text(self.alloc, number, sent.items())?;
-                let sent = sent.into_items();
-                keep_all(self.alloc, &self.nodes, sent, &mut self.sent)?;
-                Ok(text)
-            }
+            Ok(sent) => keep_sent(self.alloc, &self.nodes, sent, &mut self.sent),
             Err(error) => refused_line(self.alloc, error),
         }
     }
@@ -168,13 +163,10 @@ impl<C: Classes> World<C> {
         requires { table.now ≡ C.classes }
         ensures { IfOk result (λ t. happened_of string_bytes self.new t ≡ at_node table.now self.old node event) }
     {
-        if !self.is_node(node) {
-            return Ok(None);
+        if self.runs(node) {
+            return self.handle(table, node, event).map(Some);
         }
-        if self.is_stopped(node) {
-            return self.says("stopped\n");
-        }
-        Ok(Some(self.handle(table, node, event)?))
+        self.stands(node)
     }
 
     /// The monitor makes a map.
@@ -250,13 +242,10 @@ impl<C: Classes> World<C> {
     fn resend(&self, node: NodeId) -> Result<Option<String>, AllocError>
         ensures { IfOk result (λ t. happened_of string_bytes self.now t ≡ unless_stopped self.now node (sends_again self.now node)) }
     {
-        if !self.is_node(node) {
-            return Ok(None);
+        if self.runs(node) {
+            return self.again(node).map(Some);
         }
-        if self.is_stopped(node) {
-            return self.says("stopped\n");
-        }
-        Ok(Some(self.again(node)?))
+        self.stands(node)
     }
 
     /// What a line comes to, and what is printed of it; nothing where it is bad. It fails for want of memory alone, and
@@ -268,7 +257,7 @@ impl<C: Classes> World<C> {
     {
         match line {
             Line::Empty => self.says(""),
-            Line::Map(acting) => Ok(Some(self.make_map(acting.items())?)),
+            Line::Map(acting) => self.make_map(acting.items()).map(Some),
             Line::See(node, epoch) => self.see(table, node, epoch),
             Line::Ask(node, request) => self.at_node(table, node, Event::Request(request)),
             Line::Deliver(number) => self.deliver(table, number),

@@ -4,7 +4,7 @@ use Rattle.class_tool.specs.Assembly.{TextFails}
 use Rattle.class_tool.specs.Files.{Disk, Holds}
 use Rattle.class_tool.specs.declared.failure.Failure.{Failure}
 use Rattle.pg_log.specs.Log.{Classes}
-use Rattle.sim.specs.Lines.{lines_of}
+use Rattle.sim_lines.specs.Lines.{lines_of}
 use Rattle.sim.specs.Run.{EndsBy, Grew}
 use Rattle.sim.specs.declared.file.Ending.{Ending}
 use Rattle.sim.specs.declared.file.Ending.TheVariants.{Done, Bad, NoMemory, Unprinted}

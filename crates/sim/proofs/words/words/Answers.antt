@@ -1,6 +1,0 @@
-use Rattle.sim.proofs.Grown.{words_more}
-use Rattle.sim.proofs.words.words.Goals as goal
-
-pub loop-piece-preserved : goal.loop-piece-preserved
-loop-piece-preserved c =
-    words_more _ c.loop-piece.piece-index _ _ _ _ c.loop-piece-test.true c.in_ok-push_words_in.ensures c.loop-piece.invariant

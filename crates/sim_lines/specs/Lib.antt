@@ -1,0 +1,2 @@
+-- A reader must believe Lines.
+pub mod Lines

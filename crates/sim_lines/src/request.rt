@@ -1,0 +1,176 @@
+//! Requests as a line's words write them.
+ghost use Rattle.std.specs.Prelude.{◌≡◌, IfOk, map};
+ghost use Rattle.sim_lines.specs.Lines.{ask_at, asks, class_of, ids_in, object_in, input_in, request_of, object_of, client_of};
+
+use crate::line::Line;
+use crate::number::{id_in, number_in};
+use hex::FromHexError;
+use object_store::{ObjectName, StoreError};
+use pg_log::{ClientId, Request, RequestNumber};
+use placement::NodeId;
+use std::alloc::{AllocError, Global};
+use std::marker::Model;
+
+/// The id that no class has.
+const NO_CLASS: usize = 64;
+
+/// The id of the class of that name: its place among the names.
+fn class_of(names: &[&str], word: &str) -> usize
+    ensures { result ≡ class_of 0 (map (λ n. n.now) names.now) word.now }
+{
+    let mut id = 0;
+    for name in names {
+        if *name == word {
+            return id;
+        }
+        id += 1;
+    }
+    NO_CLASS
+}
+
+/// An object's name.
+fn object_in(alloc: Global, word: &str) -> Result<Option<ObjectName>, AllocError>
+    ensures { IfOk result (λ o. o ≡ object_in word.now) }
+{
+    match ObjectName::new(alloc, word) {
+        Ok(name) => Ok(Some(name)),
+        Err(StoreError::Range) => Ok(None),
+        Err(_) => Err(AllocError),
+    }
+}
+
+/// A list of bytes, as a line has it.
+#[derive(Drop)]
+struct Input {
+    bytes: Vec<u8>,
+}
+
+impl Model for Input {
+    ghost use Rattle.std.specs.Prelude.{List, ℕ};
+
+    ghost Value = { List ℕ };
+
+    ghost view = { λ i. i.bytes.items };
+}
+
+impl Input {
+    fn new(bytes: Vec<u8>) -> Input
+        ensures { result ≡ bytes.items }
+    {
+        Input { bytes }
+    }
+
+    fn into_bytes(self) -> Vec<u8>
+        ensures { result.items ≡ self }
+    {
+        self.bytes
+    }
+}
+
+/// An input: pairs of hexadecimal digits, or `-` for none.
+fn input_in(alloc: Global, word: &str) -> Result<Option<Input>, AllocError>
+    ensures { IfOk result (λ i. i ≡ input_in word.now) }
+{
+    if word == "-" {
+        return Ok(Some(Input::new(Vec::new(alloc))));
+    }
+    match hex::decode(alloc, word) {
+        Ok(bytes) => Ok(Some(Input::new(bytes))),
+        Err(FromHexError::OutOfMemory) => Err(AllocError),
+        Err(_) => Ok(None),
+    }
+}
+
+/// A client and a request's number.
+fn ids_in(client: &str, number: &str) -> Option<(ClientId, RequestNumber)>
+    ensures { result ≡ ids_in client.now number.now }
+{
+    let client = ClientId::new(id_in(client)?)?;
+    let number = RequestNumber::new(id_in(number)?)?;
+    Some((client, number))
+}
+
+/// A request, by its client, number, object and class, and the words that are left: its method and input.
+fn request_of(
+    alloc: Global,
+    client: ClientId,
+    number: RequestNumber,
+    object: ObjectName,
+    class: usize,
+    args: &[&str],
+) -> Result<Option<Request>, AllocError>
+    ensures { IfOk result (λ r. r ≡ request_of client number object class (map (λ w. w.now) args.now)) }
+{
+    match args {
+        [method, input] => match input_in(alloc, *input)? {
+            Some(input) => {
+                let method = String::from_str(alloc, *method)?;
+                let bytes = input.into_bytes();
+                Ok(Some(Request::new(client, number, object, class, method, bytes)))
+            }
+            None => Ok(None),
+        },
+        _ => Ok(None),
+    }
+}
+
+/// A request, by its client and number, and the words that are left: its object and class, and so on.
+fn object_of(
+    alloc: Global,
+    names: &[&str],
+    client: ClientId,
+    number: RequestNumber,
+    args: &[&str],
+) -> Result<Option<Request>, AllocError>
+    ensures { IfOk result (λ r. r ≡ object_of (map (λ n. n.now) names.now) client number (map (λ w. w.now) args.now)) }
+{
+    match args {
+        [object, class, rest @ ..] => match object_in(alloc, *object)? {
+            Some(object) => {
+                let class = class_of(names, *class);
+                request_of(alloc, client, number, object, class, rest)
+            }
+            None => Ok(None),
+        },
+        _ => Ok(None),
+    }
+}
+
+/// A request, by its words.
+fn client_of(alloc: Global, names: &[&str], args: &[&str]) -> Result<Option<Request>, AllocError>
+    ensures { IfOk result (λ r. r ≡ client_of (map (λ n. n.now) names.now) (map (λ w. w.now) args.now)) }
+{
+    match args {
+        [client, number, rest @ ..] => match ids_in(*client, *number) {
+            Some((client, number)) => object_of(alloc, names, client, number, rest),
+            None => Ok(None),
+        },
+        _ => Ok(None),
+    }
+}
+
+/// The line of a request that comes to a node.
+fn ask_at(node: Option<u64>, request: Option<Request>) -> Line
+    ensures { result ≡ ask_at node request }
+{
+    match node {
+        Some(node) => match request {
+            Some(request) => Line::Ask(NodeId::new(node), request),
+            None => Line::Bad,
+        },
+        None => Line::Bad,
+    }
+}
+
+/// What `req` says with these words.
+pub(crate) fn asks(alloc: Global, names: &[&str], args: &[&str]) -> Result<Line, AllocError>
+    ensures { IfOk result (λ l. l ≡ asks (map (λ n. n.now) names.now) (map (λ w. w.now) args.now)) }
+{
+    match args {
+        [node, rest @ ..] => {
+            let request = client_of(alloc, names, rest)?;
+            Ok(ask_at(number_in(*node), request))
+        }
+        [] => Ok(Line::Bad),
+    }
+}
