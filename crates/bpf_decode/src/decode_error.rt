@@ -36,39 +36,44 @@ pub enum DecodeError {
 }
 
 impl DecodeError {
-    /// The table of refusals: number and name.
-    fn row(self) -> (u8, &'static str)
-        ensures number { result.0 ≡ number_of self }
-        ensures name { result.1.now ≡ name_of self }
-    {
-        match self {
-            DecodeError::Truncated => (1, "Truncated"),
-            DecodeError::Magic => (2, "Magic"),
-            DecodeError::Opcode(_) => (3, "Opcode"),
-            DecodeError::Register(_) => (4, "Register"),
-            DecodeError::NonzeroField(_) => (5, "NonzeroField"),
-            DecodeError::WideHalf(_) => (6, "WideHalf"),
-            DecodeError::Name => (7, "Name"),
-            DecodeError::Order => (8, "Order"),
-            DecodeError::Flags => (9, "Flags"),
-            DecodeError::Limit => (10, "Limit"),
-            DecodeError::Trailing => (11, "Trailing"),
-            DecodeError::NoMemory => (12, "NoMemory"),
-        }
-    }
-
     /// Its number, 1 to 12.
     pub fn number(self) -> u8
         ensures { result ≡ number_of self }
     {
-        self.row().0
+        match self {
+            DecodeError::Truncated => 1,
+            DecodeError::Magic => 2,
+            DecodeError::Opcode(_) => 3,
+            DecodeError::Register(_) => 4,
+            DecodeError::NonzeroField(_) => 5,
+            DecodeError::WideHalf(_) => 6,
+            DecodeError::Name => 7,
+            DecodeError::Order => 8,
+            DecodeError::Flags => 9,
+            DecodeError::Limit => 10,
+            DecodeError::Trailing => 11,
+            DecodeError::NoMemory => 12,
+        }
     }
 
     /// Its name.
     pub fn name(self) -> &'static str
         ensures { result.now ≡ name_of self }
     {
-        self.row().1
+        match self {
+            DecodeError::Truncated => "Truncated",
+            DecodeError::Magic => "Magic",
+            DecodeError::Opcode(_) => "Opcode",
+            DecodeError::Register(_) => "Register",
+            DecodeError::NonzeroField(_) => "NonzeroField",
+            DecodeError::WideHalf(_) => "WideHalf",
+            DecodeError::Name => "Name",
+            DecodeError::Order => "Order",
+            DecodeError::Flags => "Flags",
+            DecodeError::Limit => "Limit",
+            DecodeError::Trailing => "Trailing",
+            DecodeError::NoMemory => "NoMemory",
+        }
     }
 
     /// The slot that it names, counted within the code that was read; `None` for those that name none.
