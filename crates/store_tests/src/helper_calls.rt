@@ -1,6 +1,5 @@
 mod calls;
 mod data;
 mod limits;
-mod names;
 mod ranges;
 mod signatures;

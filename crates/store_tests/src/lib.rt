@@ -8,6 +8,8 @@ mod maps;
 #[cfg(test)]
 mod objects;
 #[cfg(test)]
+mod pair;
+#[cfg(test)]
 mod staging;
 #[cfg(test)]
 mod words;

@@ -3,10 +3,10 @@ use std::alloc::Global;
 use std::process::Abort;
 
 /// Keys and values, not in order.
-const ENTRIES: [(&[u8], u8); 5] = [(b"ab", 1), (b"b", 2), (b"", 3), (b"a", 4), (b"abc", 5)];
+static ENTRIES: [(&[u8], u8); 5] = [(b"ab", 1), (b"b", 2), (b"", 3), (b"a", 4), (b"abc", 5)];
 
 /// Some bytes, the value of that key, and the least key above them.
-const READS: [(&[u8], Option<u8>, Option<&[u8]>); 8] = [
+static READS: [(&[u8], Option<u8>, Option<&[u8]>); 8] = [
     (b"", Some(3), Some(b"a")),
     (b"a", Some(4), Some(b"ab")),
     (b"aa", None, Some(b"ab")),
@@ -19,8 +19,8 @@ const READS: [(&[u8], Option<u8>, Option<&[u8]>); 8] = [
 
 fn few<R: Abort>(rt: &R, alloc: Global) -> SharedMap<u8> {
     let mut map = SharedMap::new();
-    for (key, value) in ENTRIES {
-        map.set(alloc, key, value).expect(rt, "memory");
+    for (key, value) in &ENTRIES {
+        map.set(alloc, *key, *value).expect(rt, "memory");
     }
     map
 }
@@ -35,12 +35,22 @@ fn is_read(map: &SharedMap<u8>, key: &[u8], value: Option<u8>, above: Option<&[u
     map.get(key).copied() == value && map.key_above(key) == above
 }
 
+/// How many rows come before the first that is read otherwise.
+fn right_reads(map: &SharedMap<u8>) -> usize {
+    let mut count = 0usize;
+    for (key, value, above) in &READS {
+        if !is_read(map, *key, *value, *above) {
+            break;
+        }
+        count = count.saturating_add(1);
+    }
+    count
+}
+
 #[test]
 fn reads(rt: HostRuntime) {
     let map = few(&rt, rt.alloc());
-    for (key, value, above) in READS {
-        assert!(rt; is_read(&map, key, value, above));
-    }
+    assert!(rt; right_reads(&map) == 8);
     assert!(rt; map.len() == 5);
 }
 
@@ -51,13 +61,18 @@ fn an_old_key_gets_a_new_value(rt: HostRuntime) {
     assert!(rt; is(&map, Some(9), 5));
 }
 
+/// Whether a copy stays as it is where a key is removed.
+fn copy_stays<R: Abort>(rt: &R, alloc: Global, map: &mut SharedMap<u8>) -> bool {
+    let copy = map.copy().expect(rt, "memory");
+    map.remove(alloc, b"ab").expect(rt, "memory");
+    map.remove(alloc, b"none").expect(rt, "memory");
+    is(&copy, Some(1), 5) && is(map, None, 4)
+}
+
 #[test]
 fn a_copy_stays_as_it_is(rt: HostRuntime) {
     let mut map = few(&rt, rt.alloc());
-    let copy = map.copy().expect(&rt, "memory");
-    map.remove(rt.alloc(), b"ab").expect(&rt, "memory");
-    map.remove(rt.alloc(), b"none").expect(&rt, "memory");
-    assert!(rt; is(&map, None, 4) && is(&copy, Some(1), 5));
+    assert!(rt; copy_stays(&rt, rt.alloc(), &mut map));
 }
 
 /// How many keys the high maps have.
@@ -81,22 +96,26 @@ fn is_low(map: &SharedMap<u16>, key: [u8; 2]) -> bool {
     map.height() <= LOW && map.len() == 1024 && map.get(&key).copied() == Some(1023)
 }
 
-#[test]
-fn rising_keys_stay_low(rt: HostRuntime) {
-    assert!(rt; is_low(&many(&rt, rt.alloc(), 0), [3, 255]));
-}
+/// Rising and falling keys: the mask, and the last one set.
+static ORDERS: [(u16, [u8; 2]); 2] = [(0, [3, 255]), (MANY - 1, [0, 0])];
 
 #[test]
-fn falling_keys_stay_low(rt: HostRuntime) {
-    assert!(rt; is_low(&many(&rt, rt.alloc(), MANY - 1), [0, 0]));
+fn maps_stay_low(rt: HostRuntime) {
+    for (mask, last) in &ORDERS {
+        assert!(rt; is_low(&many(&rt, rt.alloc(), *mask), *last));
+    }
+}
+
+/// Removes all numbers but the last eight. Whether the tree is low then.
+fn is_low_when_cut<R: Abort>(rt: &R, alloc: Global, map: &mut SharedMap<u16>) -> bool {
+    for n in 0..MANY - 8 {
+        map.remove(alloc, &n.to_be_bytes()).expect(rt, "memory");
+    }
+    map.len() == 8 && map.height() <= 5
 }
 
 #[test]
 fn removals_keep_it_low(rt: HostRuntime) {
     let mut map = many(&rt, rt.alloc(), 0);
-    for n in 0..MANY - 8 {
-        map.remove(rt.alloc(), &n.to_be_bytes())
-            .expect(&rt, "memory");
-    }
-    assert!(rt; map.len() == 8 && map.height() <= 5);
+    assert!(rt; is_low_when_cut(&rt, rt.alloc(), &mut map));
 }

@@ -1,5 +1,6 @@
 ghost use Rattle.std.specs.Prelude.{◌≡◌};
 
+use crate::pair::{Pair, is, is_empty, is_long, two_names};
 use crate::words::numbered;
 use object_store::{DATA_LIMIT, KEY_LIMIT, Object, ObjectName, Objects, StoreError, XATTR_LIMIT};
 use std::alloc::Global;
@@ -18,26 +19,28 @@ fn reads(object: Option<&Object>, at: u64, want: [u8; 4]) -> bool {
     }
 }
 
-fn length(object: Option<&Object>) -> Option<usize> {
-    match object {
-        None => None,
-        Some(object) => Some(object.len()),
-    }
+/// The change that makes a new object: of full size, or with four bytes at 4,094.
+fn made<R: Abort>(rt: &R, alloc: Global, full: bool) -> Change {
+    let mut staged = Staged::over(None);
+    let done = if full {
+        fill(alloc, &mut staged)
+    } else {
+        staged.write(alloc, 4_094, b"abcd")
+    };
+    done.expect(rt, "memory");
+    staged.finish().expect(rt, "memory")
 }
 
-/// The change that writes four bytes at 4,094 into a new object.
-fn written<R: Abort>(rt: &R, alloc: Global) -> Change {
-    let mut staged = Staged::over(None);
-    staged.write(alloc, 4_094, b"abcd").expect(rt, "memory");
-    staged.finish().expect(rt, "memory")
+/// Whether an object was made that has zeros before its bytes.
+fn has_gap(change: &Change) -> bool {
+    let object = change.after.as_ref();
+    let made = change.before.is_none() && is_long(object, 4_098);
+    made && reads(object, 4_094, *b"abcd") && reads(object, 0, [0; 4])
 }
 
 #[test]
 fn a_gap_is_zero(rt: HostRuntime) {
-    let change = written(&rt, rt.alloc());
-    let object = change.after.as_ref();
-    assert!(rt; change.before.is_none() && length(object) == Some(4_098));
-    assert!(rt; reads(object, 4_094, *b"abcd") && reads(object, 0, [0; 4]));
+    assert!(rt; has_gap(&made(&rt, rt.alloc(), false)));
 }
 
 // What a cut took away is not seen again, and the object that was staged has it still.
@@ -45,14 +48,18 @@ fn reads_zeros<R: Abort>(rt: &R, alloc: Global, object: Option<&Object>) -> bool
     let mut staged = Staged::over(object);
     staged.truncate(alloc, 4_095).expect(rt, "memory");
     staged.truncate(alloc, 4_098).expect(rt, "memory");
-    reads(staged.object(), 4_094, *b"a\0\0\0")
+    reads(staged.object(), 4_094, [b'a', 0, 0, 0])
+}
+
+/// Whether a cut is forgotten, and the object of the change stays.
+fn forgets<R: Abort>(rt: &R, alloc: Global, change: &Change) -> bool {
+    let object = change.after.as_ref();
+    reads_zeros(rt, alloc, object) && reads(object, 4_094, *b"abcd")
 }
 
 #[test]
 fn a_cut_is_forgotten(rt: HostRuntime) {
-    let change = written(&rt, rt.alloc());
-    assert!(rt; reads_zeros(&rt, rt.alloc(), change.after.as_ref()));
-    assert!(rt; reads(change.after.as_ref(), 4_094, *b"abcd"));
+    assert!(rt; forgets(&rt, rt.alloc(), &made(&rt, rt.alloc(), false)));
 }
 
 /// What a call does to its object.
@@ -66,9 +73,12 @@ enum Step {
     RemoveKey,
     Remove,
     Renew,
+    MakeOne,
+    MakeOther,
 }
 
-const STEPS: [Step; 8] = [
+/// The steps on an object that is there.
+static STEPS: [Step; 8] = [
     Step::Write,
     Step::Truncate,
     Step::SetXattr,
@@ -99,6 +109,8 @@ fn take(alloc: Global, staged: &mut Staged, step: Step) -> Result<(), StoreError
             staged.create();
             Ok(())
         }
+        Step::MakeOne => stage(alloc, staged, b"abcd", b"value"),
+        Step::MakeOther => stage(alloc, staged, b"efgh", b"other"),
     }
 }
 
@@ -119,60 +131,28 @@ fn step_on<R: Abort>(
 
 /// Whether an object has these data, this value of the xattr `n` and of the key `k`.
 fn holds(object: Option<&Object>, data: [u8; 4], value: &[u8]) -> bool {
-    let sized = length(object) == Some(4) && reads(object, 0, data);
+    let sized = is_long(object, 4) && reads(object, 0, data);
     match object {
         None => false,
-        Some(object) => {
-            sized && object.xattr(b"n") == Some(value) && object.key(b"k") == Some(value)
-        }
+        Some(object) => sized && is(object.xattr(b"n"), value) && is(object.key(b"k"), value),
     }
 }
 
-/// Stages data, an xattr and a key.
+/// Stages data, an xattr and a key. What is refused is missing in the object.
 fn stage(alloc: Global, staged: &mut Staged, data: &[u8], value: &[u8]) -> Result<(), StoreError>
     ensures { staged.new.before ≡ staged.old.before }
 {
-    staged.write(alloc, 0, data)?;
-    staged.set_xattr(alloc, b"n", value)?;
+    let _ = staged.write(alloc, 0, data);
+    let _ = staged.set_xattr(alloc, b"n", value);
     staged.set_key(alloc, b"k", value)
 }
 
-/// Makes an object with data, an xattr and a key.
-fn add<R: Abort>(
-    rt: &R,
-    alloc: Global,
-    objects: &mut Objects,
-    name: &ObjectName,
-    data: &[u8],
-    value: &[u8],
-) {
-    let mut staged = Staged::over(objects.get(name));
-    stage(alloc, &mut staged, data, value).expect(rt, "memory");
-    let change = staged.finish().expect(rt, "memory");
-    apply(alloc, objects, name, &change).expect(rt, "memory");
-}
-
 /// Two objects, of which the first one is changed.
-#[derive(Drop)]
-struct Pair {
-    objects: Objects,
-    one: ObjectName,
-    other: ObjectName,
-}
-
 fn two_objects<R: Abort>(rt: &R, alloc: Global) -> Pair {
-    let mut pair = Pair {
-        objects: Objects::new(),
-        one: name(rt, alloc, "a"),
-        other: name(rt, alloc, "b"),
-    };
-    add(rt, alloc, &mut pair.objects, &pair.one, b"abcd", b"value");
-    add(rt, alloc, &mut pair.objects, &pair.other, b"efgh", b"other");
+    let mut pair = two_names(rt, alloc);
+    step_on(rt, alloc, &mut pair.objects, &pair.one, Step::MakeOne);
+    step_on(rt, alloc, &mut pair.objects, &pair.other, Step::MakeOther);
     pair
-}
-
-fn name<R: Abort>(rt: &R, alloc: Global, text: &str) -> ObjectName {
-    ObjectName::new(alloc, text).expect(rt, "a name")
 }
 
 /// Whether both objects are as they were made.
@@ -190,12 +170,22 @@ fn undoes<R: Abort>(rt: &R, alloc: Global, pair: &mut Pair, step: Step) -> bool 
     changed && is_as_made(pair)
 }
 
+/// How many steps come before the first that isn't undone.
+fn undone<R: Abort>(rt: &R, alloc: Global, pair: &mut Pair) -> usize {
+    let mut count = 0usize;
+    for step in &STEPS {
+        if !undoes(rt, alloc, pair, *step) {
+            break;
+        }
+        count = count.saturating_add(1);
+    }
+    count
+}
+
 #[test]
 fn undo_restores_what_was(rt: HostRuntime) {
     let mut pair = two_objects(&rt, rt.alloc());
-    for step in STEPS {
-        assert!(rt; undoes(&rt, rt.alloc(), &mut pair, step));
-    }
+    assert!(rt; undone(&rt, rt.alloc(), &mut pair) == 8);
 }
 
 /// A copy of the change that creates an object.
@@ -204,23 +194,23 @@ fn creation<R: Abort>(rt: &R, alloc: Global, objects: &mut Objects, name: &Objec
     change.copy().expect(rt, "memory")
 }
 
-/// Whether undoing a copy of the change that creates an object makes it absent again.
-fn undoes_creation<R: Abort>(
-    rt: &R,
-    alloc: Global,
-    objects: &mut Objects,
-    name: &ObjectName,
-) -> bool {
-    let change = creation(rt, alloc, objects, name);
-    let created = length(objects.get(name)) == Some(4);
-    undo(alloc, objects, name, &change).expect(rt, "memory");
-    created && objects.get(name).is_none() && objects.len() == 0
+/// Creates the first object and undoes a copy of that change. Whether the object was there in between.
+fn undoes_creation<R: Abort>(rt: &R, alloc: Global, pair: &mut Pair) -> bool {
+    let change = creation(rt, alloc, &mut pair.objects, &pair.one);
+    let created = is_long(pair.objects.get(&pair.one), 4);
+    undo(alloc, &mut pair.objects, &pair.one, &change).expect(rt, "memory");
+    created
+}
+
+/// Whether the undone creation leaves nothing.
+fn leaves_nothing<R: Abort>(rt: &R, alloc: Global, pair: &mut Pair) -> bool {
+    undoes_creation(rt, alloc, pair) && is_empty(pair)
 }
 
 #[test]
 fn undo_makes_it_absent(rt: HostRuntime) {
-    let name = name(&rt, rt.alloc(), "a");
-    assert!(rt; undoes_creation(&rt, rt.alloc(), &mut Objects::new(), &name));
+    let mut pair = two_names(&rt, rt.alloc());
+    assert!(rt; leaves_nothing(&rt, rt.alloc(), &mut pair));
 }
 
 /// Sets the key of a number, and while an object may have more xattrs, the xattr too.
@@ -232,21 +222,16 @@ fn set_both(alloc: Global, staged: &mut Staged, n: u16, value: &[u8]) -> Result<
     staged.set_key(alloc, &name, value)
 }
 
-/// Sets keys and xattrs, as many as an object may have, with the longest names and values.
+/// Sets keys and xattrs, as many as an object may have, with the longest names and values, and writes the last byte.
 fn fill(alloc: Global, staged: &mut Staged) -> Result<(), StoreError> {
     for n in 0..KEY_LIMIT as u16 {
         set_both(alloc, staged, n, &[0x5a; 4096])?;
     }
-    Ok(())
+    staged.write(alloc, DATA_LIMIT as u64 - 1, b"z")
 }
 
 #[test]
 fn an_object_of_full_size(rt: HostRuntime) {
-    let mut staged = Staged::over(None);
-    fill(rt.alloc(), &mut staged).expect(&rt, "memory");
-    staged
-        .write(rt.alloc(), DATA_LIMIT as u64 - 1, b"z")
-        .expect(&rt, "memory");
-    let change = staged.finish().expect(&rt, "memory");
-    assert!(rt; length(change.after.as_ref()) == Some(65_536));
+    let change = made(&rt, rt.alloc(), true);
+    assert!(rt; is_long(change.after.as_ref(), 65_536));
 }

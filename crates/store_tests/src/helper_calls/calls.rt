@@ -31,32 +31,39 @@ fn line_of(line: &str) -> Line<'_> {
     }
 }
 
-/// What a call that looks something up answers; none of another call.
-fn looks_up<'a>(staged: &'a Staged, line: Line<'_>) -> Option<Answer<'a>> {
-    let (name, room) = (bytes(line.first), number(line.second));
-    match line.helper {
-        "stat" => Some(Answer {
-            number: stat(staged),
-            bytes: &[],
-        }),
-        "getxattr" => Some(xattr_value(staged, name, room)),
-        "map_get" => Some(map_value(staged, name, room)),
-        "map_next" => Some(key_above(staged, name, room)),
-        _ => None,
-    }
+/// Whether an answer is the line's.
+fn is_right(answer: Answer<'_>, line: Line<'_>) -> bool {
+    answer.number == number(line.answer) && answer.bytes == bytes(line.copied)
 }
 
-/// What a call that sets a value answers; none of another call.
-fn sets(alloc: Global, staged: &mut Staged, line: Line<'_>) -> Result<Option<u64>, NoMemory> {
+/// Whether a call that looks something up answers so; none of another call.
+fn looks_up(staged: &Staged, line: Line<'_>) -> Option<bool> {
+    let (name, room) = (bytes(line.first), number(line.second));
+    let answer = match line.helper {
+        "read" => return Some(reads(staged, line)),
+        "stat" => Answer {
+            number: stat(staged),
+            bytes: &[],
+        },
+        "getxattr" => xattr_value(staged, name, room),
+        "map_get" => map_value(staged, name, room),
+        "map_next" => key_above(staged, name, room),
+        _ => return None,
+    };
+    Some(is_right(answer, line))
+}
+
+/// What a call that sets a value answers; of another call what `changes` answers.
+fn sets(alloc: Global, staged: &mut Staged, line: Line<'_>) -> Result<u64, NoMemory> {
     let (name, value) = (bytes(line.first), bytes(line.second));
     if value.len() > VALUE_LIMIT {
-        return Ok(None);
+        return Ok(1);
     }
     match line.helper {
-        "write" => Ok(Some(write(alloc, staged, number(line.first), value)?)),
-        "setxattr" => Ok(Some(setxattr(alloc, staged, name, value)?)),
-        "map_set" => Ok(Some(map_set(alloc, staged, name, value)?)),
-        _ => Ok(None),
+        "write" => write(alloc, staged, number(line.first), value),
+        "setxattr" => setxattr(alloc, staged, name, value),
+        "map_set" => map_set(alloc, staged, name, value),
+        _ => changes(alloc, staged, line),
     }
 }
 
@@ -75,42 +82,40 @@ fn changes(alloc: Global, staged: &mut Staged, line: Line<'_>) -> Result<u64, No
 /// Whether `read` answers and copies so, and copies no other byte. The room has at most 14 bytes.
 fn reads(staged: &Staged, line: Line<'_>) -> bool {
     let (at, len, copied) = (number(line.first), number(line.second), bytes(line.copied));
-    let mut memory = [0xee; 16];
-    if len > 14 {
+    if len > 14 || copied.len() > 14 {
         return false;
     }
+    let mut want = [0xee; 16];
+    want[2..][..copied.len()].copy_from_slice(copied);
+    let mut memory = [0xee; 16];
     let answer = read(staged, at, &mut memory, Span { at: 2, len });
-    let rest = memory.iter().skip(2 + copied.len()).all(|b| *b == 0xee);
-    answer == number(line.answer) && memory[2..].starts_with(copied) && rest
+    answer == number(line.answer) && memory == want
+}
+
+/// Whether a change answers that number.
+pub fn is_answer(answer: Result<u64, NoMemory>, want: u64) -> bool {
+    match answer {
+        Ok(answer) => answer == want,
+        Err(NoMemory) => false,
+    }
 }
 
 /// Whether a call gives the line's answer and bytes.
-fn answers(alloc: Global, staged: &mut Staged, line: Line<'_>) -> Result<bool, NoMemory> {
-    if line.helper == "read" {
-        return Ok(reads(staged, line));
+fn answers(alloc: Global, staged: &mut Staged, line: Line<'_>) -> bool {
+    match looks_up(staged, line) {
+        Some(right) => right,
+        None => is_answer(sets(alloc, staged, line), number(line.answer)),
     }
-    let want = number(line.answer);
-    if let Some(answer) = looks_up(staged, line) {
-        return Ok(answer.number == want && answer.bytes == bytes(line.copied));
-    }
-    if let Some(answer) = sets(alloc, staged, line)? {
-        return Ok(answer == want);
-    }
-    Ok(changes(alloc, staged, line)? == want)
 }
 
-/// How many of the calls of these lines, made one after the other, come before the first that answers otherwise. An
-/// empty line isn't counted.
-pub fn right_answers(alloc: Global, staged: &mut Staged, text: &str) -> Result<usize, NoMemory> {
+/// How many of the calls of these lines, made one after the other, come before the first that answers otherwise.
+pub fn right_answers(alloc: Global, staged: &mut Staged, text: &str) -> usize {
     let mut count = 0usize;
     for line in text.lines() {
-        if line.is_empty() {
-            continue;
-        }
-        if !answers(alloc, staged, line_of(line))? {
-            return Ok(count);
+        if !answers(alloc, staged, line_of(line)) {
+            break;
         }
         count = count.saturating_add(1);
     }
-    Ok(count)
+    count
 }

@@ -1,11 +1,9 @@
 use super::calls::right_answers;
-use object_store::Object;
 use std::alloc::Global;
 use txn::Staged;
 
 /// Beside an absent object; each leaves it absent.
-const ABSENT: &str = "
-stat - - -2
+const ABSENT: &str = "stat - - -2
 read 0 4 -2
 write 65537 - -27
 write 65536 a -27
@@ -29,19 +27,17 @@ stat - - -2
 ";
 
 /// Each of these creates an absent object.
-const CREATES: [&str; 6] = [
-    "write 0 - 0",
-    "write 65536 - 0",
-    "setxattr n - 0",
-    "map_set k - 0",
-    "create 0 - 0",
-    "create 1 - 0",
-];
+const CREATES: &str = "write 0 - 0
+write 65536 - 0
+setxattr n - 0
+map_set k - 0
+create 0 - 0
+create 1 - 0
+";
 
 /// One after the other, beside an object that is absent at first: what was cut off is not seen again, nor what a removed
 /// object had, in a new one of the same call.
-const DATA: &str = "
-create 1 - 0
+const DATA: &str = "create 1 - 0
 create 1 - -17
 create 18446744073709551615 - -17
 create 0 - 0
@@ -72,34 +68,89 @@ stat - - 0
 read 4094 4 0
 ";
 
-/// Whether the staged object is absent.
-fn is_absent(staged: &Staged) -> bool {
-    let object: Option<&Object> = staged.object();
-    object.is_none()
+/// An xattr is no key of the omap.
+const XATTRS: &str = "create 0 - 0
+getxattr n 9 -61
+rmxattr n - -61
+setxattr n value 0
+getxattr n 5 5 value
+getxattr n 4 -34
+getxattr n 9 5 value
+getxattr N 9 -61
+setxattr n - 0
+getxattr n 0 0
+getxattr @65 9 -22
+setxattr @64 w 0
+getxattr @64 9 1 w
+map_get n 9 -61
+rmxattr - - -22
+rmxattr @65 - -22
+rmxattr n - 0
+getxattr n 9 -61
+getxattr @64 9 1 w
+";
+
+/// A value; the next key from the beginning, between keys, at one, past the last; a key before a longer one, which a byte
+/// too little has no room for.
+const OMAP: &str = "map_set d four 0
+map_set b two 0
+map_get d 4 4 four
+map_get d 3 -34
+map_get c 9 -61
+map_get - 9 -22
+getxattr d 9 -61
+map_next - 9 1 b
+map_next a 9 1 b
+map_next b 9 1 d
+map_next bb 9 1 d
+map_next d 9 -61
+map_next @64 9 1 b
+map_next @65 9 -22
+map_set dd - 0
+map_next d 2 2 dd
+map_next d 1 -34
+map_rm c - -61
+map_rm @65 - -22
+map_rm b - 0
+map_next - 9 1 d
+remove - - 0
+map_next - 9 -2
+";
+
+/// Lines, how many answer so, and whether the object is there after them.
+static TEXTS: [(&str, usize, bool); 4] = [
+    (ABSENT, 21, false),
+    (DATA, 29, true),
+    (XATTRS, 19, true),
+    (OMAP, 23, false),
+];
+
+/// Whether so many calls beside an absent object answer so, and whether the object is there then.
+fn passes(alloc: Global, text: &str, count: usize, there: bool) -> bool {
+    let mut staged = Staged::over(None);
+    let right = right_answers(alloc, &mut staged, text);
+    right == count && staged.object().is_some() == there
 }
 
 #[test]
-fn an_absent_object_is_refused(rt: HostRuntime) {
-    let mut staged = Staged::over(None);
-    assert!(rt; right_answers(rt.alloc(), &mut staged, ABSENT) == Ok(21));
-    assert!(rt; is_absent(&staged));
+fn texts(rt: HostRuntime) {
+    for (text, count, there) in &TEXTS {
+        assert!(rt; passes(rt.alloc(), *text, *count, *there));
+    }
 }
 
-/// Whether a line creates the object.
-fn is_created(alloc: Global, line: &str) -> bool {
-    let mut staged = Staged::over(None);
-    right_answers(alloc, &mut staged, line) == Ok(1) && !is_absent(&staged)
+/// How many of the lines create an absent object.
+fn creating(alloc: Global, text: &str) -> usize {
+    let mut count = 0usize;
+    for line in text.lines() {
+        if passes(alloc, line, 1, true) {
+            count = count.saturating_add(1);
+        }
+    }
+    count
 }
 
 #[test]
 fn an_object_is_created(rt: HostRuntime) {
-    for line in CREATES {
-        assert!(rt; is_created(rt.alloc(), line));
-    }
-}
-
-#[test]
-fn data_is_written_and_read(rt: HostRuntime) {
-    let mut staged = Staged::over(None);
-    assert!(rt; right_answers(rt.alloc(), &mut staged, DATA) == Ok(29));
+    assert!(rt; creating(rt.alloc(), CREATES) == 6);
 }

@@ -1,34 +1,28 @@
-use super::calls::right_answers;
+use super::calls::{is_answer, right_answers};
 use crate::words::numbered;
 use helpers::{map_set, setxattr};
 use std::alloc::Global;
-use txn::{NoMemory, Staged};
+use txn::Staged;
 
-/// Sets that many keys with values of 4,096 bytes; false where one is refused.
-fn fills_omap(alloc: Global, staged: &mut Staged, count: u16) -> Result<bool, NoMemory> {
-    let value = [0x5a; 4096];
+/// Whether so many keys, or else xattrs, with values of 4,096 bytes may be set.
+fn fills(alloc: Global, staged: &mut Staged, keys: bool, count: u16) -> bool {
     for n in 0..count {
-        if map_set(alloc, staged, &numbered(n), &value)? != 0 {
-            return Ok(false);
+        let name = numbered(n);
+        let answer = if keys {
+            map_set(alloc, staged, &name, &[0x5a; 4096])
+        } else {
+            setxattr(alloc, staged, &name, &[0x5a; 4096])
+        };
+        if !is_answer(answer, 0) {
+            return false;
         }
     }
-    Ok(true)
-}
-
-/// The same of xattrs.
-fn fills_xattrs(alloc: Global, staged: &mut Staged, count: u16) -> Result<bool, NoMemory> {
-    let value = [0x5a; 4096];
-    for n in 0..count {
-        if setxattr(alloc, staged, &numbered(n), &value)? != 0 {
-            return Ok(false);
-        }
-    }
-    Ok(true)
+    true
 }
 
 /// Beside 32 xattrs. What is refused changes no value, and one that is there may be set anew.
-const FULL_XATTRS: &str = "
-setxattr kkkkkkkkkkkkkkkkkkkkkkkkkkkkkkkkkkkkkkkkkkkkkkkkkkkkkkkkkkkkkkBA v -28
+const FULL_XATTRS: &str =
+    "setxattr kkkkkkkkkkkkkkkkkkkkkkkkkkkkkkkkkkkkkkkkkkkkkkkkkkkkkkkkkkkkkkBA v -28
 getxattr kkkkkkkkkkkkkkkkkkkkkkkkkkkkkkkkkkkkkkkkkkkkkkkkkkkkkkkkkkkkkkBA 9 -61
 getxattr kkkkkkkkkkkkkkkkkkkkkkkkkkkkkkkkkkkkkkkkkkkkkkkkkkkkkkkkkkkkkkA` 9 -34
 getxattr kkkkkkkkkkkkkkkkkkkkkkkkkkkkkkkkkkkkkkkkkkkkkkkkkkkkkkkkkkkkkkA` 4095 -34
@@ -37,8 +31,8 @@ getxattr kkkkkkkkkkkkkkkkkkkkkkkkkkkkkkkkkkkkkkkkkkkkkkkkkkkkkkkkkkkkkkA` 9 3 ne
 ";
 
 /// Beside 1,024 keys.
-const FULL_OMAP: &str = "
-map_set kkkkkkkkkkkkkkkkkkkkkkkkkkkkkkkkkkkkkkkkkkkkkkkkkkkkkkkkkkkkkkaA v -28
+const FULL_OMAP: &str =
+    "map_set kkkkkkkkkkkkkkkkkkkkkkkkkkkkkkkkkkkkkkkkkkkkkkkkkkkkkkkkkkkkkkaA v -28
 map_get kkkkkkkkkkkkkkkkkkkkkkkkkkkkkkkkkkkkkkkkkkkkkkkkkkkkkkkkkkkkkkaA 9 -61
 map_set kkkkkkkkkkkkkkkkkkkkkkkkkkkkkkkkkkkkkkkkkkkkkkkkkkkkkkkkkkkkkkAA new 0
 map_get kkkkkkkkkkkkkkkkkkkkkkkkkkkkkkkkkkkkkkkkkkkkkkkkkkkkkkkkkkkkkkAA 9 3 new
@@ -48,16 +42,22 @@ map_set kkkkkkkkkkkkkkkkkkkkkkkkkkkkkkkkkkkkkkkkkkkkkkkkkkkkkkkkkkkkkkaA v 0
 map_next kkkkkkkkkkkkkkkkkkkkkkkkkkkkkkkkkkkkkkkkkkkkkkkkkkkkkkkkkkkkkk`` 64 64 kkkkkkkkkkkkkkkkkkkkkkkkkkkkkkkkkkkkkkkkkkkkkkkkkkkkkkkkkkkkkkaA
 ";
 
-#[test]
-fn xattrs_have_a_limit(rt: HostRuntime) {
+/// Whether it is keys, how many there may be, and lines beside them, all of which answer so.
+static LIMITS: [(bool, u16, &str, usize); 2] = [
+    (false, 32, FULL_XATTRS, 6),
+    (true, 1024, FULL_OMAP, 8),
+];
+
+/// Whether so many may be set, and so many of the lines answer so then.
+fn passes(alloc: Global, keys: bool, count: u16, text: &str, right: usize) -> bool {
     let mut staged = Staged::over(None);
-    assert!(rt; fills_xattrs(rt.alloc(), &mut staged, 32) == Ok(true));
-    assert!(rt; right_answers(rt.alloc(), &mut staged, FULL_XATTRS) == Ok(6));
+    let filled = fills(alloc, &mut staged, keys, count);
+    filled && right_answers(alloc, &mut staged, text) == right
 }
 
 #[test]
-fn keys_have_a_limit(rt: HostRuntime) {
-    let mut staged = Staged::over(None);
-    assert!(rt; fills_omap(rt.alloc(), &mut staged, 1024) == Ok(true));
-    assert!(rt; right_answers(rt.alloc(), &mut staged, FULL_OMAP) == Ok(8));
+fn names_have_a_limit(rt: HostRuntime) {
+    for (keys, count, text, right) in &LIMITS {
+        assert!(rt; passes(rt.alloc(), *keys, *count, *text, *right));
+    }
 }

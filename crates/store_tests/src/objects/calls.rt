@@ -1,5 +1,6 @@
 //! Calls one after another on the object of one name, with answers computed by hand.
 
+use crate::pair::{Pair, two_names};
 use crate::words::{bytes, next, number};
 use object_store::{ObjectName, Objects, StoreError};
 use std::alloc::Global;
@@ -9,8 +10,7 @@ const LONG_VALUE: &[u8] = &[7; 4097];
 
 /// A line is a call, what it is given first and second, and its answer: a refusal's name, the length for `stat`, four bytes
 /// for `read`, which had ones before, or else a value, a key or nothing. `@4097` is a value of so many bytes.
-const ROWS: &str = "
-stat - - Absent
+const ROWS: &str = "stat - - Absent
 read 0 - Absent
 truncate 0 - Absent
 truncate 65537 - TooBig
@@ -143,36 +143,21 @@ fn change(
     }
 }
 
-/// Reads a value or a key; none of another call.
-fn looked_up<'a>(
-    objects: &'a Objects,
-    name: &ObjectName,
-    line: Line<'_>,
-) -> Option<Result<&'a [u8], StoreError>> {
-    let key = bytes(line.first);
-    match line.call {
-        "getxattr" => Some(objects.get_xattr(name, key)),
-        "getkey" => Some(objects.get_key(name, key)),
-        "nextkey" => Some(objects.next_key(name, key)),
-        _ => None,
-    }
-}
-
 /// Whether a read of four bytes answers so, and leaves the buffer where it is refused.
 fn reads(objects: &Objects, name: &ObjectName, line: Line<'_>) -> bool {
     let mut buffer = [1; 4];
     let found = objects.read(name, number(line.first), &mut buffer);
     match found {
-        Ok(_) => refusal(line.answer).is_none() && buffer.as_slice() == bytes(line.answer),
-        Err(error) => refusal(line.answer) == Some(error) && buffer == [1; 4],
+        Ok(_) => is_found(Ok(&buffer), line.answer),
+        Err(error) => buffer == [1; 4] && is_found(Err(error), line.answer),
     }
 }
 
 /// Whether the length of the data is so.
-fn has_length(objects: &Objects, name: &ObjectName, line: Line<'_>) -> bool {
-    match objects.stat(name) {
-        Ok(len) => refusal(line.answer).is_none() && len as u64 == number(line.answer),
-        Err(error) => refusal(line.answer) == Some(error),
+fn has_length(found: Result<usize, StoreError>, answer: &str) -> bool {
+    match found {
+        Ok(len) => refusal(answer).is_none() && len as u64 == number(answer),
+        Err(error) => refusal(answer) == Some(error),
     }
 }
 
@@ -184,29 +169,33 @@ fn is_found(found: Result<&[u8], StoreError>, answer: &str) -> bool {
     }
 }
 
-/// Whether the call answers so.
-fn answers(alloc: Global, objects: &mut Objects, name: &ObjectName, line: Line<'_>) -> bool {
-    if line.call == "stat" {
-        return has_length(objects, name, line);
+/// Whether a call that looks something up answers so; none of another call.
+fn looks_up(objects: &Objects, name: &ObjectName, line: Line<'_>) -> Option<bool> {
+    let (key, answer) = (bytes(line.first), line.answer);
+    match line.call {
+        "stat" => Some(has_length(objects.stat(name), answer)),
+        "read" => Some(reads(objects, name, line)),
+        "getxattr" => Some(is_found(objects.get_xattr(name, key), answer)),
+        "getkey" => Some(is_found(objects.get_key(name, key), answer)),
+        "nextkey" => Some(is_found(objects.next_key(name, key), answer)),
+        _ => None,
     }
-    if line.call == "read" {
-        return reads(objects, name, line);
-    }
-    if let Some(found) = looked_up(objects, name, line) {
-        return is_found(found, line.answer);
-    }
-    change(alloc, objects, name, line).err() == refusal(line.answer)
 }
 
-/// How many lines come before the first that is answered otherwise. An empty one isn't counted.
-fn right_answers(alloc: Global, objects: &mut Objects, name: &ObjectName, text: &str) -> usize {
+/// Whether the call answers so.
+fn answers(alloc: Global, objects: &mut Objects, name: &ObjectName, line: Line<'_>) -> bool {
+    match looks_up(objects, name, line) {
+        Some(right) => right,
+        None => change(alloc, objects, name, line).err() == refusal(line.answer),
+    }
+}
+
+/// How many lines come before the first that is answered otherwise.
+fn right_answers(alloc: Global, pair: &mut Pair, text: &str) -> usize {
     let mut count = 0usize;
     for line in text.lines() {
-        if line.is_empty() {
-            continue;
-        }
-        if !answers(alloc, objects, name, line_of(line)) {
-            return count;
+        if !answers(alloc, &mut pair.objects, &pair.one, line_of(line)) {
+            break;
         }
         count = count.saturating_add(1);
     }
@@ -215,7 +204,7 @@ fn right_answers(alloc: Global, objects: &mut Objects, name: &ObjectName, text: 
 
 #[test]
 fn rows(rt: HostRuntime) {
-    let name = ObjectName::new(rt.alloc(), "o").expect(&rt, "memory");
-    let count = right_answers(rt.alloc(), &mut Objects::new(), &name, ROWS);
+    let mut pair = two_names(&rt, rt.alloc());
+    let count = right_answers(rt.alloc(), &mut pair, ROWS);
     assert!(rt; count == 71, "{count} right answers");
 }

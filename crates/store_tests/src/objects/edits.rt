@@ -6,8 +6,7 @@ use std::str::SplitWhitespace;
 
 /// A line is what edits of data `0123456789` answer, the length afterwards, a place, the bytes there, and then the edits: `w`
 /// with a place and a text, or `t` with a length.
-const ROWS: &str = "
-ok 10 0 0123456789
+const ROWS: &str = "ok 10 0 0123456789
 ok 10 0 01ab456789 w 2 ab
 ok 12 7 78abc w 9 abc
 ok 13 8 89\0\0z w 12 z
@@ -29,22 +28,26 @@ fn write_of<R: Abort>(rt: &R, alloc: Global, words: &mut SplitWhitespace<'_>) ->
     Edit::Write { at, text }
 }
 
-/// The edit that the next words name, where they name one.
-fn edit_of<R: Abort>(rt: &R, alloc: Global, words: &mut SplitWhitespace<'_>) -> Option<Edit> {
-    match next(words) {
-        "w" => Some(write_of(rt, alloc, words)),
-        "t" => Some(Edit::Truncate(number(next(words)))),
-        _ => None,
-    }
+/// Adds the edit that the next words name, where they name one.
+fn add_edit<R: Abort>(
+    rt: &R,
+    alloc: Global,
+    words: &mut SplitWhitespace<'_>,
+    edits: &mut Vec<Edit>,
+) {
+    let edit = match next(words) {
+        "w" => write_of(rt, alloc, words),
+        "t" => Edit::Truncate(number(next(words))),
+        _ => return,
+    };
+    edits.push(edit).expect(rt, "memory");
 }
 
 /// The edits that the rest of a line names.
 fn edits_of<R: Abort>(rt: &R, alloc: Global, words: &mut SplitWhitespace<'_>) -> Vec<Edit> {
     let mut edits = Vec::new(alloc);
     for _ in 0..4 {
-        if let Some(edit) = edit_of(rt, alloc, words) {
-            edits.push(edit).expect(rt, "memory");
-        }
+        add_edit(rt, alloc, words, &mut edits);
     }
     edits
 }
@@ -91,24 +94,18 @@ fn passes_in_extents<R: Abort>(rt: &R, alloc: Global, line: &str) -> bool {
     passes(rt, alloc, &mut data, line)
 }
 
-#[test]
-fn flat(rt: HostRuntime) {
+/// How many lines pass with both kinds of data.
+fn right_lines<R: Abort>(rt: &R, alloc: Global, text: &str) -> usize {
     let mut count = 0usize;
-    for line in ROWS.lines() {
-        if !line.is_empty() && passes_flat(&rt, rt.alloc(), line) {
+    for line in text.lines() {
+        if passes_flat(rt, alloc, line) && passes_in_extents(rt, alloc, line) {
             count = count.saturating_add(1);
         }
     }
-    assert!(rt; count == 13);
+    count
 }
 
 #[test]
-fn extents(rt: HostRuntime) {
-    let mut count = 0usize;
-    for line in ROWS.lines() {
-        if !line.is_empty() && passes_in_extents(&rt, rt.alloc(), line) {
-            count = count.saturating_add(1);
-        }
-    }
-    assert!(rt; count == 13);
+fn rows(rt: HostRuntime) {
+    assert!(rt; right_lines(&rt, rt.alloc(), ROWS) == 13);
 }

@@ -13,7 +13,7 @@ fn sevens<R: Abort>(rt: &R, alloc: Global, len: usize) -> ExtentData {
 }
 
 /// A length, and how many extents data of that length has.
-const COUNTS: [(usize, usize); 4] = [(1, 1), (4096, 1), (4097, 2), (65_536, 16)];
+static COUNTS: [(usize, usize); 4] = [(1, 1), (4096, 1), (4097, 2), (65_536, 16)];
 
 /// How many extents data of that length has once it is written to; none where one is too long.
 fn extents_of<R: Abort>(rt: &R, alloc: Global, len: usize) -> usize {
@@ -31,8 +31,8 @@ fn count_of(data: &ExtentData) -> usize {
 
 #[test]
 fn extents_are_at_most_4096_bytes(rt: HostRuntime) {
-    for (len, count) in COUNTS {
-        assert!(rt; extents_of(&rt, rt.alloc(), len) == count);
+    for (len, count) in &COUNTS {
+        assert!(rt; extents_of(&rt, rt.alloc(), *len) == *count);
     }
 }
 

@@ -1,5 +1,6 @@
 //! Each call at its limits, with memory enough.
 
+use crate::pair::is;
 use crate::words::numbered;
 use object_store::{Object, StoreError, calls};
 use std::alloc::Global;
@@ -37,14 +38,6 @@ fn full<R: Abort>(rt: &R, alloc: Global) -> Object {
 fn full_copy<R: Abort>(rt: &R, alloc: Global) -> Object {
     let object = full(rt, alloc);
     object.copy().expect(rt, "memory")
-}
-
-/// Whether a value is there, and is this one.
-fn is(found: Option<&[u8]>, value: &[u8]) -> bool {
-    match found {
-        None => false,
-        Some(found) => found == value,
-    }
 }
 
 /// Whether the object has all that, with this value of a name.

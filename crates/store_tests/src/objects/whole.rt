@@ -1,57 +1,51 @@
-use object_store::{Object, ObjectName, Objects};
+use crate::pair::{Pair, is_empty, is_long, two_names};
+use object_store::Object;
 use std::alloc::Global;
 use std::process::Abort;
 
-fn name<R: Abort>(rt: &R, alloc: Global, text: &str) -> ObjectName {
-    ObjectName::new(alloc, text).expect(rt, "a name")
+/// An object of three bytes under the first name.
+fn sample<R: Abort>(rt: &R, alloc: Global) -> Pair {
+    let mut pair = two_names(rt, alloc);
+    let done = pair.objects.write(alloc, &pair.one, 1, b"ab");
+    done.expect(rt, "memory");
+    pair
 }
 
-/// An object of three bytes under that name.
-fn sample<R: Abort>(rt: &R, alloc: Global, name: &ObjectName) -> Objects {
-    let mut objects = Objects::new();
-    objects.write(alloc, name, 1, b"ab").expect(rt, "memory");
-    objects
-}
-
-/// The length of an object's data.
-fn len_of(objects: &Objects, name: &ObjectName) -> Option<usize> {
-    Some(objects.get(name)?.len())
-}
-
-/// Puts the object of the first name under the second, and takes it away from the first.
-fn moves<R: Abort>(
-    rt: &R,
-    alloc: Global,
-    objects: &mut Objects,
-    from: &ObjectName,
-    to: &ObjectName,
-) {
-    let object = objects
-        .get(from)
-        .expect(rt, "an object")
-        .copy()
-        .expect(rt, "memory");
-    objects.store(alloc, to, Some(&object)).expect(rt, "memory");
-    objects.store(alloc, from, None).expect(rt, "memory");
+/// Whether a copy has the object yet when it is removed.
+fn copy_stays<R: Abort>(rt: &R, alloc: Global, pair: &mut Pair) -> bool {
+    let copy = pair.objects.copy().expect(rt, "memory");
+    pair.objects.remove(alloc, &pair.one).expect(rt, "memory");
+    is_long(copy.get(&pair.one), 3)
 }
 
 #[test]
 fn a_copy_stays_as_it_is(rt: HostRuntime) {
-    let name = name(&rt, rt.alloc(), "a");
-    let mut objects = sample(&rt, rt.alloc(), &name);
-    let copy = objects.copy().expect(&rt, "memory");
-    objects.remove(rt.alloc(), &name).expect(&rt, "memory");
-    assert!(rt; len_of(&copy, &name) == Some(3) && objects.len() == 0);
+    let mut pair = sample(&rt, rt.alloc());
+    assert!(rt; copy_stays(&rt, rt.alloc(), &mut pair));
+    assert!(rt; is_empty(&pair));
+}
+
+/// Puts the object of the first name under the second, and takes it away from the first. Whether it has moved then.
+fn moves<R: Abort>(rt: &R, alloc: Global, pair: &mut Pair) -> bool {
+    let object = pair.objects.get(&pair.one).expect(rt, "an object");
+    let object = object.copy().expect(rt, "memory");
+    let done = pair.objects.store(alloc, &pair.other, Some(&object));
+    done.expect(rt, "memory");
+    let done = pair.objects.store(alloc, &pair.one, None);
+    done.expect(rt, "memory");
+    pair.objects.get(&pair.one).is_none() && is_long(pair.objects.get(&pair.other), 3)
+}
+
+/// Whether an empty object comes under the first name.
+fn takes_empty<R: Abort>(rt: &R, alloc: Global, pair: &mut Pair) -> bool {
+    let done = pair.objects.put(alloc, &pair.one, Object::new());
+    done.expect(rt, "memory");
+    is_long(pair.objects.get(&pair.one), 0) && pair.objects.len() == 2
 }
 
 #[test]
 fn stored_objects(rt: HostRuntime) {
-    let (a, b) = (name(&rt, rt.alloc(), "a"), name(&rt, rt.alloc(), "b"));
-    let mut objects = sample(&rt, rt.alloc(), &a);
-    moves(&rt, rt.alloc(), &mut objects, &a, &b);
-    assert!(rt; len_of(&objects, &a) == None && len_of(&objects, &b) == Some(3));
-    objects
-        .put(rt.alloc(), &a, Object::new())
-        .expect(&rt, "memory");
-    assert!(rt; len_of(&objects, &a) == Some(0) && objects.len() == 2);
+    let mut pair = sample(&rt, rt.alloc());
+    assert!(rt; moves(&rt, rt.alloc(), &mut pair));
+    assert!(rt; takes_empty(&rt, rt.alloc(), &mut pair));
 }
