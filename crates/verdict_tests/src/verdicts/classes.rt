@@ -1,22 +1,19 @@
 //! Whole classes: which method is refused, what a verified one keeps, and every byte of an image.
 
-use super::method;
+use super::{are_judged, class};
 use bpf_decode::{ClassImage, Method, encode, read_image};
 use bpf_machine::{Caps, Ending, Layout, flat_run, is_layout};
 use std::alloc::Global;
-use std::process::Abort;
-use std::test::Fail;
-use verifier::{Op, Refusal, Rule, VerifiedMethod, one_table, verify};
+use verifier::{Op, Refusal, Rule, SlotOp, VerifiedClass, VerifiedMethod, one_table, verify};
 
-const EXIT: u64 = 0x9500000000000000;
+/// Three methods, of which the first is safe.
+const THREE: &str = "1 0 0: b700000000000000 9500000000000000 | mov r0, 0; exit
+1 0 0: 0500000000000000 9500000000000000 | ja +0; exit
+1 0 0: 9500000000000000 | exit";
 
-const MOV_R0_0: u64 = 0xb700000000000000;
-
-const LDDW_R0_7: u64 = 0x1800000007000000;
-
-const HALF: u64 = 0;
-
-const JA_0: u64 = 0x0500000000000000;
+/// A method of flags 2, in_cap 3 and out_cap 4.
+const WRITER: &str =
+    "2 3 4: 0500000000000000 1800000007000000 0000000000000000 9500000000000000 | ja +0; lddw r0, 7; exit";
 
 /// A method `f` of flags 1 and no input and output: `mov r0, 0`, `exit`.
 const IMAGE: [u8; 33] = [
@@ -43,55 +40,51 @@ static RULES: [(Rule, &str); 16] = [
     (Rule::NoMemory, "16 NoMemory"),
 ];
 
-#[test]
-fn names_rules(rt: HostRuntime) -> Result<(), Fail> {
-    for (rule, text) in &RULES {
-        let printed = rule.to_string(rt.alloc())?;
-        assert!(rt; printed.as_str() == *text, "{text}");
+/// Whether a rule prints so.
+fn is_named(alloc: Global, rule: Rule, text: &str) -> bool {
+    match rule.to_string(alloc) {
+        Ok(printed) => printed.as_str() == text,
+        Err(_) => false,
     }
-    Ok(())
 }
 
 #[test]
-fn prints_refusals(rt: HostRuntime) -> Result<(), Fail> {
+fn names_rules(rt: HostRuntime) {
+    for (rule, text) in &RULES {
+        assert!(rt; is_named(rt.alloc(), *rule, text), "{text}");
+    }
+}
+
+/// Whether a refusal prints so.
+fn is_printed(alloc: Global, refusal: &Refusal, text: &str) -> bool {
+    match refusal.to_string(alloc) {
+        Ok(printed) => printed.as_str() == text,
+        Err(_) => false,
+    }
+}
+
+#[test]
+fn prints_refusals(rt: HostRuntime) {
     let refusal = Refusal {
         method: 0,
         slot: 12,
         rule: Rule::UnsetRead,
     };
-    let printed = refusal.to_string(rt.alloc())?;
-    assert!(rt; printed.as_str() == "refused method 0 slot 12: 5 UnsetRead");
-    Ok(())
-}
-
-/// A class of three methods, of which the first is safe.
-fn three(alloc: Global) -> Result<ClassImage, Fail> {
-    let mut methods = Vec::new(alloc);
-    methods.push(method(alloc, "f", &[MOV_R0_0, EXIT], 1, 0, 0)?)?;
-    methods.push(method(alloc, "g", &[JA_0, EXIT], 1, 0, 0)?)?;
-    methods.push(method(alloc, "h", &[EXIT], 1, 0, 0)?)?;
-    Ok(ClassImage::new(methods)?)
+    assert!(rt;
+        is_printed(
+            rt.alloc(),
+            &refusal,
+            "refused method 0 slot 12: 5 UnsetRead"
+        )
+    );
 }
 
 #[test]
-fn finds_the_first_method(rt: HostRuntime) -> Result<(), Fail> {
-    let want = Refusal {
-        method: 1,
-        slot: 1,
-        rule: Rule::UnsetRead,
-    };
-    assert_eq!(rt; verify(rt.alloc(), &three(rt.alloc())?).err(), Some(want));
-    Ok(())
+fn finds_the_first_method(rt: HostRuntime) {
+    assert!(rt; are_judged(rt.alloc(), THREE, 1, "1:5"));
 }
 
-/// A class of one method `f`, which has flags 2, in_cap 3 and out_cap 4.
-fn image(alloc: Global) -> Result<ClassImage, Fail> {
-    let mut methods = Vec::new(alloc);
-    methods.push(method(alloc, "f", &[JA_0, LDDW_R0_7, HALF, EXIT], 2, 3, 4)?)?;
-    Ok(ClassImage::new(methods)?)
-}
-
-/// Whether a method has the image's name, caps and number of instructions.
+/// Whether a method has the writer's name, caps and number of instructions.
 fn is_declared(found: &VerifiedMethod) -> bool {
     let caps = Caps {
         in_cap: 3,
@@ -99,15 +92,6 @@ fn is_declared(found: &VerifiedMethod) -> bool {
         writes: true,
     };
     found.name() == "f" && found.count() == 3 && found.caps() == caps
-}
-
-#[test]
-fn keeps_what_is_declared(rt: HostRuntime) -> Result<(), Fail> {
-    one_table();
-    let class = verify(rt.alloc(), &image(rt.alloc())?)?;
-    assert!(rt; class.method("f").is_some_and(is_declared));
-    assert!(rt; class.method("g").is_none());
-    Ok(())
 }
 
 /// Which of the method's four slots holds that operation, from 1 on.
@@ -121,81 +105,120 @@ fn place_of(op: Op) -> usize {
     }
 }
 
-#[test]
-fn keeps_what_a_run_takes(rt: HostRuntime) -> Result<(), Fail> {
-    let class = verify(rt.alloc(), &image(rt.alloc())?)?;
-    let found = class.methods().first().ok_or("no method")?;
-    for (slot, place) in found.ops().iter().zip(1usize..) {
-        assert_eq!(rt; place_of(slot.op()), place);
+/// Whether operations are those of the writer's four slots.
+fn are_writers(ops: &[SlotOp]) -> bool {
+    match ops {
+        [jump, wide, half, exit] => {
+            place_of(jump.op()) == 1
+                && place_of(wide.op()) == 2
+                && place_of(half.op()) == 3
+                && place_of(exit.op()) == 4
+        }
+        _ => false,
     }
-    assert_eq!(rt; found.ops().len(), 4);
-    Ok(())
 }
 
-/// Runs a method on the flat machine with that input: it comes to its exit.
-fn exits<R: Abort>(
-    rt: &R,
-    alloc: Global,
-    method: &Method,
-    caps: &Caps,
-    input: &[u8],
-) -> Result<(), Fail> {
+/// Whether a class has one method, which is found by its name and is the writer.
+fn keeps(class: &VerifiedClass) -> bool {
+    match (class.methods(), class.method("f"), class.method("g")) {
+        ([first], Some(found), None) => is_declared(found) && are_writers(first.ops()),
+        _ => false,
+    }
+}
+
+/// Whether a class is accepted with the writer as its method.
+fn keeps_writer(alloc: Global, class: &ClassImage) -> bool {
+    match verify(alloc, class) {
+        Ok(class) => keeps(&class),
+        Err(_) => false,
+    }
+}
+
+#[test]
+fn keeps_what_is_declared(rt: HostRuntime) {
+    one_table();
+    let kept = match class(rt.alloc(), WRITER) {
+        Some(class) => keeps_writer(rt.alloc(), &class),
+        None => false,
+    };
+    assert!(rt; kept);
+}
+
+/// Whether a run on the flat machine with that input comes to its exit within so many steps.
+fn ends(alloc: Global, caps: &Caps, code: &[u8], input: &[u8], limit: usize) -> bool {
     let layout = Layout {
         input: 0x1000,
         output: 0x4000,
         stack: 0x8000,
     };
-    assert!(rt; is_layout(caps, &layout));
-    assert!(rt; caps.in_cap <= 4096 && caps.out_cap <= 4096);
-    let code = encode(alloc, method.instructions())?;
-    assert!(rt; input.len() <= usize::from(caps.in_cap));
-    let limit = method.instructions().len();
-    match flat_run(alloc, caps, &code, &layout, None, 1, input, limit)? {
-        Ending::Ended { .. } => Ok(()),
-        Ending::Stuck => Err("stuck")?,
-        Ending::Unfinished => Err("unfinished")?,
+    if caps.in_cap > 4096 || caps.out_cap > 4096 || input.len() > usize::from(caps.in_cap) {
+        return false;
+    }
+    if !is_layout(caps, &layout) {
+        return false;
+    }
+    match flat_run(alloc, caps, code, &layout, None, 1, input, limit) {
+        Ok(ending) => matches!(ending, Ending::Ended { .. }),
+        Err(_) => false,
     }
 }
 
-/// Runs a method on no input, and on the longest.
-fn exits_on_inputs<R: Abort>(
-    rt: &R,
-    alloc: Global,
-    method: &Method,
-    caps: &Caps,
-) -> Result<(), Fail> {
-    exits(rt, alloc, method, caps, &[])?;
-    let input = vec![in alloc; 0xff; usize::from(caps.in_cap)]?;
-    exits(rt, alloc, method, caps, &input)
+/// Whether a method with that input comes to its exit.
+fn exits(alloc: Global, method: &Method, caps: &Caps, input: &[u8]) -> bool {
+    let instructions = method.instructions();
+    match encode(alloc, instructions) {
+        Ok(code) => ends(alloc, caps, &code, input, instructions.len()),
+        Err(_) => false,
+    }
 }
 
-/// Where the bytes are an image of a class that is accepted, runs its methods; whether they are.
-fn exits_if_accepted<R: Abort>(rt: &R, alloc: Global, bytes: &[u8]) -> Result<bool, Fail> {
-    let Ok(image) = read_image(alloc, bytes) else {
-        return Ok(false);
-    };
-    let Ok(class) = verify(alloc, &image) else {
-        return Ok(false);
-    };
+/// Whether a method comes to its exit on no input, and on the longest.
+fn exits_on_inputs(alloc: Global, method: &Method, caps: &Caps) -> bool {
+    let most = [0xffu8; 4096];
+    match most.get(..usize::from(caps.in_cap)) {
+        Some(input) => exits(alloc, method, caps, &[]) && exits(alloc, method, caps, input),
+        None => false,
+    }
+}
+
+/// Whether the methods of a class that was accepted come to their exits.
+fn all_exit(alloc: Global, class: &VerifiedClass, image: &ClassImage) -> bool {
+    let mut all = true;
     for (verified, method) in class.methods().iter().zip(image.methods()) {
-        exits_on_inputs(rt, alloc, method, &verified.caps())?;
+        all = all && exits_on_inputs(alloc, method, &verified.caps());
     }
-    Ok(true)
+    all
+}
+
+/// Whether the methods of a class come to their exits; None of one that isn't accepted.
+fn exits_if_verified(alloc: Global, image: &ClassImage) -> Option<bool> {
+    match verify(alloc, image) {
+        Ok(class) => Some(all_exit(alloc, &class, image)),
+        Err(_) => None,
+    }
+}
+
+/// Whether the methods of an image come to their exits; None of bytes that are no image of a class that is accepted.
+fn exits_if_accepted(alloc: Global, bytes: &[u8]) -> Option<bool> {
+    match read_image(alloc, bytes) {
+        Ok(image) => exits_if_verified(alloc, &image),
+        Err(_) => None,
+    }
 }
 
 #[test]
-fn runs_what_it_accepts(rt: HostRuntime) -> Result<(), Fail> {
+fn runs_what_it_accepts(rt: HostRuntime) {
     let mut accepted = 0usize;
     for place in 0..IMAGE.len() {
         for byte in 0..=255u8 {
             let mut bytes = IMAGE;
             bytes[place] = byte;
-            if exits_if_accepted(&rt, rt.alloc(), &bytes)? {
+            if let Some(exits) = exits_if_accepted(rt.alloc(), &bytes) {
+                assert!(rt; exits);
                 accepted = accepted.wrapping_add(1);
             }
         }
     }
     // the image as it stands, 33 times, and others
     assert!(rt; accepted > 33);
-    Ok(())
 }
