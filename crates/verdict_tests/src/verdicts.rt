@@ -76,11 +76,16 @@ fn declared(text: &str) -> (u8, u16, u16) {
 
 /// The method of a row: flags, in_cap, out_cap and a colon, the slots, a bar, and the method in words.
 fn method_of(alloc: Global, name: &str, row: &str) -> Option<Method> {
-    let (numbers, behind) = row.split_once(": ")?;
-    let (slots, _) = behind.split_once(" | ")?;
+    let Some((told, _)) = row.split_once('|') else {
+        return None;
+    };
+    let Some((numbers, slots)) = told.split_once(':') else {
+        return None;
+    };
     let (flags, in_cap, out_cap) = declared(numbers);
-    let mut code = [0u8; CODE_ROOM];
-    method(alloc, name, bytes(slots, &mut code), flags, in_cap, out_cap)
+    let mut buffer = [0u8; CODE_ROOM];
+    let code = bytes(slots, &mut buffer);
+    method(alloc, name, code, flags, in_cap, out_cap)
 }
 
 /// Puts a method behind others; whether it could be.
@@ -91,19 +96,10 @@ fn put(methods: &mut Vec<Method>, method: Option<Method>) -> bool {
     }
 }
 
-/// Puts methods that are told one a row behind others, by the names `f`, `g` and `h`; whether all could be.
-fn put_all(alloc: Global, methods: &mut Vec<Method>, rows: &str) -> bool {
-    let mut all = true;
-    for (name, row) in ["f", "g", "h"].iter().zip(rows.lines()) {
-        all = all && put(methods, method_of(alloc, name, row));
-    }
-    all
-}
-
-/// A class of at most three methods, one a row.
-fn class(alloc: Global, rows: &str) -> Option<ClassImage> {
+/// A class of one method `f`, which a row tells.
+fn class(alloc: Global, row: &str) -> Option<ClassImage> {
     let mut methods = Vec::new(alloc);
-    if !put_all(alloc, &mut methods, rows) {
+    if !put(&mut methods, method_of(alloc, "f", row)) {
         return None;
     }
     ClassImage::new(methods).ok()
@@ -129,33 +125,33 @@ fn is_judged(alloc: Global, class: &ClassImage, method: usize, told: &str) -> bo
     }
 }
 
-/// Whether `verify` says so of a class of at most three methods, one a row.
-fn are_judged(alloc: Global, rows: &str, method: usize, told: &str) -> bool {
-    match class(alloc, rows) {
+/// Whether `verify` says so of a class of one method, which a row tells.
+fn is_row_judged(alloc: Global, row: &str, told: &str) -> bool {
+    match class(alloc, row) {
         None => false,
-        Some(class) => is_judged(alloc, &class, method, told),
+        Some(class) => is_judged(alloc, &class, 0, told),
     }
 }
 
 /// Checks rows, one a line: a verdict (`ok`, or the slot and the rule's number), a method, a bar, and the method in
-/// words. A line whose first character is `#` says of what the rows behind it are. Gives the number of rows.
-fn check<R: Abort>(rt: &R, alloc: Global, rows: &str) -> usize {
+/// words. A line whose first character is `#` says of what the rows behind it are. There are so many rows.
+fn check<R: Abort>(rt: &R, alloc: Global, rows: &str, wanted: usize) {
     let mut count = 0usize;
     for row in rows.lines() {
         if !row.starts_with('#') {
             let (told, method) = row.split_once(' ').unwrap_or((row, ""));
-            assert!(rt; are_judged(alloc, method, 0, told), "{row}");
+            assert!(rt; is_row_judged(alloc, method, told), "{row}");
             count = count.wrapping_add(1);
         }
     }
-    count
+    assert!(rt; count == wanted);
 }
 
 #[test]
 fn judges_rows(rt: HostRuntime) {
-    assert!(rt; check(&rt, rt.alloc(), methods::METHODS) == 46);
-    assert!(rt; check(&rt, rt.alloc(), arithmetic::ARITHMETIC) == 60);
-    assert!(rt; check(&rt, rt.alloc(), branches::BRANCHES) == 23);
-    assert!(rt; check(&rt, rt.alloc(), ranges::RANGES) == 50);
-    assert!(rt; check(&rt, rt.alloc(), calls::CALLS) == 71);
+    check(&rt, rt.alloc(), methods::METHODS, 46);
+    check(&rt, rt.alloc(), arithmetic::ARITHMETIC, 60);
+    check(&rt, rt.alloc(), branches::BRANCHES, 23);
+    check(&rt, rt.alloc(), ranges::RANGES, 50);
+    check(&rt, rt.alloc(), calls::CALLS, 71);
 }

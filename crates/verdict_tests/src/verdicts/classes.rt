@@ -1,15 +1,17 @@
 //! Whole classes: which method is refused, what a verified one keeps, and every byte of an image.
 
-use super::{are_judged, class};
+use super::{class, is_judged, method_of, put};
 use bpf_decode::{ClassImage, Method, encode, read_image};
 use bpf_machine::{Caps, Ending, Layout, flat_run, is_layout};
 use std::alloc::Global;
 use verifier::{Op, Refusal, Rule, SlotOp, VerifiedClass, VerifiedMethod, one_table, verify};
 
-/// Three methods, of which the first is safe.
-const THREE: &str = "1 0 0: b700000000000000 9500000000000000 | mov r0, 0; exit
-1 0 0: 0500000000000000 9500000000000000 | ja +0; exit
-1 0 0: 9500000000000000 | exit";
+/// A safe method, and two that aren't.
+const SAFE: &str = "1 0 0: b700000000000000 9500000000000000 | mov r0, 0; exit";
+
+const JUMP_AND_EXIT: &str = "1 0 0: 0500000000000000 9500000000000000 | ja +0; exit";
+
+const EXIT_ALONE: &str = "1 0 0: 9500000000000000 | exit";
 
 /// A method of flags 2, in_cap 3 and out_cap 4.
 const WRITER: &str =
@@ -79,9 +81,29 @@ fn prints_refusals(rt: HostRuntime) {
     );
 }
 
+/// Puts three methods, of which the first is safe; whether all could be.
+fn put_three(alloc: Global, methods: &mut Vec<Method>) -> bool {
+    put(methods, method_of(alloc, "f", SAFE))
+        && put(methods, method_of(alloc, "g", JUMP_AND_EXIT))
+        && put(methods, method_of(alloc, "h", EXIT_ALONE))
+}
+
+/// A class of three methods, of which the first is safe.
+fn three(alloc: Global) -> Option<ClassImage> {
+    let mut methods = Vec::new(alloc);
+    if !put_three(alloc, &mut methods) {
+        return None;
+    }
+    ClassImage::new(methods).ok()
+}
+
 #[test]
 fn finds_the_first_method(rt: HostRuntime) {
-    assert!(rt; are_judged(rt.alloc(), THREE, 1, "1:5"));
+    let found = match three(rt.alloc()) {
+        Some(class) => is_judged(rt.alloc(), &class, 1, "1:5"),
+        None => false,
+    };
+    assert!(rt; found);
 }
 
 /// Whether a method has the writer's name, caps and number of instructions.
@@ -181,24 +203,23 @@ fn exits_on_inputs(alloc: Global, method: &Method, caps: &Caps) -> bool {
     }
 }
 
-/// Whether the methods of a class that was accepted come to their exits.
-fn all_exit(alloc: Global, class: &VerifiedClass, image: &ClassImage) -> bool {
-    let mut all = true;
-    for (verified, method) in class.methods().iter().zip(image.methods()) {
-        all = all && exits_on_inputs(alloc, method, &verified.caps());
+/// Whether a class that was accepted has one method, which comes to its exit.
+fn its_method_exits(alloc: Global, class: &VerifiedClass, image: &ClassImage) -> bool {
+    match (class.methods(), image.methods()) {
+        ([verified], [method]) => exits_on_inputs(alloc, method, &verified.caps()),
+        _ => false,
     }
-    all
 }
 
-/// Whether the methods of a class come to their exits; None of one that isn't accepted.
+/// Whether the one method of a class comes to its exit; None of a class that isn't accepted.
 fn exits_if_verified(alloc: Global, image: &ClassImage) -> Option<bool> {
     match verify(alloc, image) {
-        Ok(class) => Some(all_exit(alloc, &class, image)),
+        Ok(class) => Some(its_method_exits(alloc, &class, image)),
         Err(_) => None,
     }
 }
 
-/// Whether the methods of an image come to their exits; None of bytes that are no image of a class that is accepted.
+/// Whether the one method of an image comes to its exit; None of bytes that are no image of a class that is accepted.
 fn exits_if_accepted(alloc: Global, bytes: &[u8]) -> Option<bool> {
     match read_image(alloc, bytes) {
         Ok(image) => exits_if_verified(alloc, &image),
