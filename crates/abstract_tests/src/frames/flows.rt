@@ -2,7 +2,7 @@
 
 use super::{entry, has, load, register, tells};
 use abstract_num::{any, constant};
-use abstract_regs::{Edges, Kind};
+use abstract_regs::{Edges, Frame, Kind};
 use bpf_decode::{Arithmetic, Bits, Comparison, Insn, Operand, Region, Register, Width};
 use std::process::Abort;
 
@@ -51,9 +51,11 @@ fn jumps_to(edges: Edges, slot: usize) -> bool {
 #[test]
 fn loads_bytes(rt: HostRuntime) {
     let insn = load(&rt, Width::Byte, 4);
+    let loaded = register(&rt, 4);
     let mut frame = entry();
-    assert!(rt; falls(frame.flow(&insn, 0)));
-    assert!(rt; tells(frame.operand(Operand::Register(register(&rt, 4))), 255, 256));
+    assert!(rt;
+        falls(frame.flow(&insn, 0)) && tells(frame.operand(Operand::Register(loaded)), 255, 256)
+    );
 }
 
 #[test]
@@ -61,19 +63,27 @@ fn moves_pointers(rt: HostRuntime) {
     let first = add(register(&rt, 3), Operand::Immediate(7));
     let second = add(register(&rt, 2), Operand::Register(register(&rt, 3)));
     let mut frame = entry();
-    assert!(rt; falls(frame.flow(&first, 0)));
-    assert!(rt; has(&frame, 3, Kind::Ptr(Region::Output, constant(7))));
-    assert!(rt; falls(frame.flow(&second, 1)));
-    assert!(rt; frame.kind(2).is_ptr());
+    assert!(rt;
+        falls(frame.flow(&first, 0))
+            && has(&frame, 3, Kind::Ptr(Region::Output, constant(7)))
+            && falls(frame.flow(&second, 1))
+            && frame.kind(2).is_ptr()
+    );
+}
+
+/// Whether a helper's result is known, and its arguments aren't.
+fn is_forgotten(frame: &Frame) -> bool {
+    has(frame, 0, Kind::Num(any()))
+        && frame.kind(1).is_unset()
+        && frame.kind(2).is_unset()
+        && frame.kind(3).is_unset()
+        && frame.kind(10).is_ptr()
 }
 
 #[test]
 fn forgets_at_a_call(rt: HostRuntime) {
     let mut frame = entry();
-    assert!(rt; falls(frame.flow(&Insn::Call { helper: 1 }, 0)));
-    assert!(rt; has(&frame, 0, Kind::Num(any())));
-    assert!(rt; frame.kind(1).is_unset() && frame.kind(2).is_unset() && frame.kind(3).is_unset());
-    assert!(rt; frame.kind(10).is_ptr());
+    assert!(rt; falls(frame.flow(&Insn::Call { helper: 1 }, 0)) && is_forgotten(&frame));
 }
 
 #[test]
@@ -95,23 +105,19 @@ fn is_above_3(edges: Edges) -> bool {
 fn refines_both_edges(rt: HostRuntime) {
     let insn = jump(&rt, Comparison::Greater, Operand::Immediate(3));
     let mut frame = entry();
-    assert!(rt; is_above_3(frame.flow(&insn, 2)));
-    assert!(rt; tells(frame.kind(2), 3, 4));
+    assert!(rt; is_above_3(frame.flow(&insn, 2)) && tells(frame.kind(2), 3, 4));
 }
 
-/// Of a length of at most 16.
-#[test]
-fn falls_past_a_dead_edge(rt: HostRuntime) {
-    let insn = jump(&rt, Comparison::Greater, Operand::Immediate(16));
-    let mut frame = entry();
-    assert!(rt; falls(frame.flow(&insn, 0)));
+/// Where a jump by the length, of at most 16, and that number goes.
+fn edges(rt: &impl Abort, comparison: Comparison, number: i32) -> Edges {
+    let insn = jump(rt, comparison, Operand::Immediate(number));
+    entry().flow(&insn, 0)
 }
 
 #[test]
-fn jumps_where_it_cannot_fall(rt: HostRuntime) {
-    let insn = jump(&rt, Comparison::LessEqual, Operand::Immediate(16));
-    let mut frame = entry();
-    assert!(rt; jumps_to(frame.flow(&insn, 0), 6));
+fn goes_past_a_dead_edge(rt: HostRuntime) {
+    assert!(rt; falls(edges(&rt, Comparison::Greater, 16)));
+    assert!(rt; jumps_to(edges(&rt, Comparison::LessEqual, 16), 6));
 }
 
 /// Whether the frame along the taken edge knows the length as the entry does.
@@ -126,8 +132,7 @@ fn keeps_the_length(edges: Edges) -> bool {
 fn tells_nothing(rt: &impl Abort, comparison: Comparison) {
     let insn = jump(rt, comparison, Operand::Register(register(rt, 2)));
     let mut frame = entry();
-    assert!(rt; keeps_the_length(frame.flow(&insn, 0)));
-    assert!(rt; has(&frame, 2, entry().kind(2)));
+    assert!(rt; keeps_the_length(frame.flow(&insn, 0)) && has(&frame, 2, entry().kind(2)));
 }
 
 #[test]
@@ -140,6 +145,8 @@ fn tells_nothing_of_itself(rt: HostRuntime) {
 #[test]
 fn leaves_at_exit(rt: HostRuntime) {
     let mut frame = entry().copy();
-    assert!(rt; leaves(frame.flow(&Insn::Exit, 0)));
-    assert!(rt; frame.operand(Operand::Immediate(-1)) == Kind::Num(constant(u64::MAX)));
+    assert!(rt;
+        leaves(frame.flow(&Insn::Exit, 0))
+            && frame.operand(Operand::Immediate(-1)) == Kind::Num(constant(u64::MAX))
+    );
 }

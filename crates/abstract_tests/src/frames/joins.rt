@@ -15,8 +15,7 @@ fn joins_numbers(rt: HostRuntime) {
     let low = Kind::Num(constant(0));
     let high = Kind::Num(constant(3));
     let both = Kind::Num(abstract_num::join(constant(0), constant(3)));
-    assert!(rt; joins_to(low, high, both));
-    assert!(rt; joins_to(high, low, both));
+    assert!(rt; joins_to(low, high, both) && joins_to(high, low, both));
 }
 
 #[test]
@@ -33,8 +32,7 @@ fn forgets_what_differs(rt: HostRuntime) {
     let pointer = Kind::Ptr(Region::Input, constant(0));
     let other = Kind::Ptr(Region::Output, constant(0));
     for (x, y) in [(number, pointer), (pointer, other), (Kind::Unset, number)] {
-        assert!(rt; x.join(y).is_unset());
-        assert!(rt; y.join(x).is_unset());
+        assert!(rt; x.join(y).is_unset() && y.join(x).is_unset());
     }
 }
 
@@ -43,6 +41,5 @@ fn forgets_what_differs(rt: HostRuntime) {
 fn joins_frames(rt: HostRuntime) {
     let mut frame = Frame::entry(4, 512);
     frame.join(&entry());
-    assert!(rt; has(&frame, 2, entry().kind(2)));
-    assert!(rt; has(&frame, 10, entry().kind(10)));
+    assert!(rt; has(&frame, 2, entry().kind(2)) && has(&frame, 10, entry().kind(10)));
 }

@@ -8,9 +8,11 @@ use bpf_decode::Region;
 #[test]
 fn begins_with_the_entry(rt: HostRuntime) {
     let frame = entry();
-    assert!(rt; has(&frame, 1, Kind::Ptr(Region::Input, constant(0))));
-    assert!(rt; has(&frame, 3, Kind::Ptr(Region::Output, constant(0))));
-    assert!(rt; has(&frame, 10, Kind::Ptr(Region::Stack, constant(512))));
+    assert!(rt;
+        has(&frame, 1, Kind::Ptr(Region::Input, constant(0)))
+            && has(&frame, 3, Kind::Ptr(Region::Output, constant(0)))
+            && has(&frame, 10, Kind::Ptr(Region::Stack, constant(512)))
+    );
 }
 
 #[test]
@@ -30,8 +32,14 @@ fn knows_nothing_of_the_others(rt: HostRuntime) {
 fn tells_kinds_apart(rt: HostRuntime) {
     let number = Kind::Num(byte());
     let pointer = Kind::Ptr(Region::Stack, byte());
-    assert!(rt; number.is_num() && !number.is_ptr() && !number.is_unset());
-    assert!(rt; !pointer.is_num() && pointer.is_ptr() && !pointer.is_unset());
+    assert!(rt;
+        number.is_num()
+            && !number.is_ptr()
+            && !number.is_unset()
+            && !pointer.is_num()
+            && pointer.is_ptr()
+            && !pointer.is_unset()
+    );
 }
 
 /// Offset 0 to 255, a distance, a number of bytes, and the least length in which they fit.
@@ -40,8 +48,10 @@ const ACCESSES: [(u64, u64, u64); 4] = [(0, 1, 256), (8, 4, 267), (0, 8, 263), (
 #[test]
 fn bounds_accesses(rt: HostRuntime) {
     for (distance, bytes, least) in ACCESSES {
-        assert!(rt; access_fits(byte(), distance, bytes, least));
-        assert!(rt; !access_fits(byte(), distance, bytes, least.wrapping_sub(1)));
+        assert!(rt;
+            access_fits(byte(), distance, bytes, least)
+                && !access_fits(byte(), distance, bytes, least.wrapping_sub(1))
+        );
     }
 }
 
@@ -49,9 +59,11 @@ fn bounds_accesses(rt: HostRuntime) {
 #[test]
 fn bounds_accesses_below(rt: HostRuntime) {
     let less = 8u64.wrapping_neg();
-    assert!(rt; access_fits(between(8, 255), less, 8, 255));
-    assert!(rt; !access_fits(between(8, 255), less, 8, 254));
-    assert!(rt; !access_fits(byte(), less, 8, 4096));
+    assert!(rt;
+        access_fits(between(8, 255), less, 8, 255)
+            && !access_fits(between(8, 255), less, 8, 254)
+            && !access_fits(byte(), less, 8, 4096)
+    );
 }
 
 #[test]
@@ -59,7 +71,9 @@ fn bounds_ranges(rt: HostRuntime) {
     join_laws();
     holding_laws();
     keeping_laws();
-    assert!(rt; range_fits(byte(), between(0, 4), 259));
-    assert!(rt; !range_fits(byte(), between(0, 4), 258));
-    assert!(rt; range_fits(constant(16), constant(0), 16));
+    assert!(rt;
+        range_fits(byte(), between(0, 4), 259)
+            && !range_fits(byte(), between(0, 4), 258)
+            && range_fits(constant(16), constant(0), 16)
+    );
 }

@@ -39,24 +39,26 @@ fn tightened(rt: HostRuntime) {
 #[test]
 fn joined(rt: HostRuntime) {
     let both = join(constant(1), constant(4));
-    assert!(rt; is(both, (1, 4, 1, 4, 0, 5)));
-    assert!(rt; is(join(constant(ALL), constant(0)), (0, ALL, -1, 0, 0, ALL)));
     assert!(rt;
-        is_below(constant(4), both) && !is_below(both, constant(4)) && is_below(both, any())
+        is(both, (1, 4, 1, 4, 0, 5))
+            && is(join(constant(ALL), constant(0)), (0, ALL, -1, 0, 0, ALL))
+            && is_below(constant(4), both)
+            && !is_below(both, constant(4))
+            && is_below(both, any())
     );
 }
 
 #[test]
 fn ranges(rt: HostRuntime) {
-    assert!(rt; is(between(0, 8), (0, 8, 0, 8, 0, ALL)));
-    assert!(rt; is(between(3, 3), (3, 3, 3, 3, 3, 0)));
-    assert!(rt; is(signed_between(-8, -5), (ALL - 7, ALL - 4, -8, -5, 0, ALL)));
-    assert!(rt; is(loaded(Width::Double), (0, ALL, MIN, MAX, 0, ALL)));
     assert!(rt;
-        is(
-            loaded_signed(SignedWidth::Byte),
-            (0, ALL, -128, 127, 0, ALL)
-        )
+        is(between(0, 8), (0, 8, 0, 8, 0, ALL))
+            && is(between(3, 3), (3, 3, 3, 3, 3, 0))
+            && is(signed_between(-8, -5), (ALL - 7, ALL - 4, -8, -5, 0, ALL))
+            && is(loaded(Width::Double), (0, ALL, MIN, MAX, 0, ALL))
+            && is(
+                loaded_signed(SignedWidth::Byte),
+                (0, ALL, -128, 127, 0, ALL)
+            )
     );
 }
 
@@ -67,11 +69,14 @@ fn constant_is(x: Number, want: Option<u64>) -> bool {
 #[test]
 fn readings(rt: HostRuntime) {
     let x = between(2, 9);
-    assert!(rt; highest(&x) == 9);
-    assert!(rt; holds(&x, 2) && !holds(&x, 10));
-    assert!(rt; !holds(&constant(4), 5));
-    assert!(rt; constant_is(x, None));
-    assert!(rt; constant_is(constant(6), Some(6)));
+    assert!(rt;
+        highest(&x) == 9
+            && holds(&x, 2)
+            && !holds(&x, 10)
+            && !holds(&constant(4), 5)
+            && constant_is(x, None)
+            && constant_is(constant(6), Some(6))
+    );
 }
 
 /// A number is constant where its unsigned range is, whatever its other parts say.
@@ -80,11 +85,11 @@ fn constant_by_the_range(rt: HostRuntime) {
     let Some(x) = number((5, 5, MIN, MAX, 0, ALL)) else {
         return;
     };
-    assert!(rt; constant_is(x, Some(5)));
     assert!(rt;
-        gives(
-            arithmetic(Bits::Bits64, Arithmetic::Add, x, constant(1)),
-            Some((6, 6, 6, 6, 6, 0))
-        )
+        constant_is(x, Some(5))
+            && gives(
+                arithmetic(Bits::Bits64, Arithmetic::Add, x, constant(1)),
+                Some((6, 6, 6, 6, 6, 0))
+            )
     );
 }

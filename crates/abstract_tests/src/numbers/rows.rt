@@ -1,7 +1,9 @@
 //! Rows of the transfer table, by hand.
 
 use super::{ALL, ANY, LOW, MAX, MIN, Six, TOP, gives, number};
-use abstract_num::{arithmetic, between, constant, copied, negative, ordered, sign_extended};
+use abstract_num::{
+    Number, arithmetic, between, constant, copied, negative, ordered, sign_extended,
+};
 use bpf_decode::{Arithmetic, Bits, ByteOrder, EndWidth, SignedMove};
 use std::process::Abort;
 
@@ -286,82 +288,84 @@ fn known_parts(rt: HostRuntime) {
     }
 }
 
-#[test]
-fn copies(rt: HostRuntime) {
-    let x = between(1, LOW + 1);
-    assert!(rt;
-        gives(
-            copied(Bits::Bits64, x),
-            Some((1, LOW + 1, 1, 0x1_0000_0000, 0, ALL))
-        )
-    );
-    assert!(rt;
-        gives(
-            copied(Bits::Bits32, x),
-            Some((0, LOW, 0, 0xffff_ffff, 0, LOW))
-        )
-    );
-    assert!(rt;
-        gives(
-            negative(Bits::Bits64, constant(1)),
-            Some((ALL, ALL, -1, -1, ALL, 0))
-        )
-    );
-    assert!(rt;
-        gives(
-            negative(Bits::Bits32, constant(1)),
-            Some((LOW, LOW, 0xffff_ffff, 0xffff_ffff, LOW, 0))
-        )
-    );
+/// An operation on one number.
+enum Change {
+    Copied(Bits),
+    Negative(Bits),
+    Extended(SignedMove),
+    Ordered(ByteOrder, EndWidth),
+}
+
+/// An operation on a range, or on a constant where the ends are one, and what it gives.
+type One = (Change, (u64, u64), Six);
+
+/// Any number of 32 bits.
+const ANY_LOW: Six = (0, LOW, 0, 0xffff_ffff, 0, LOW);
+
+const LAST_LOW: Six = (LOW, LOW, 0xffff_ffff, 0xffff_ffff, LOW, 0);
+
+const LAST: Six = (ALL, ALL, -1, -1, ALL, 0);
+
+const CHANGES: [One; 12] = [
+    (
+        Change::Copied(Bits::Bits64),
+        (1, LOW + 1),
+        (1, LOW + 1, 1, 0x1_0000_0000, 0, ALL),
+    ),
+    (Change::Copied(Bits::Bits32), (1, LOW + 1), ANY_LOW),
+    (Change::Negative(Bits::Bits64), (1, 1), LAST),
+    (Change::Negative(Bits::Bits32), (1, 1), LAST_LOW),
+    (
+        Change::Negative(Bits::Bits64),
+        (0, 1),
+        (0, ALL, -1, 0, 0, ALL),
+    ),
+    (Change::Negative(Bits::Bits32), (0, 1), ANY_LOW),
+    (Change::Extended(SignedMove::Byte64), (0x1ff, 0x1ff), LAST),
+    (
+        Change::Extended(SignedMove::Byte32),
+        (0x1ff, 0x1ff),
+        LAST_LOW,
+    ),
+    (Change::Extended(SignedMove::Half64), (1, 2), ANY),
+    (Change::Extended(SignedMove::Half32), (1, 2), ANY_LOW),
+    (
+        Change::Ordered(ByteOrder::ToBig, EndWidth::End16),
+        (0x1_0203, 0x1_0203),
+        (0x302, 0x302, 0x302, 0x302, 0x302, 0),
+    ),
+    (
+        Change::Ordered(ByteOrder::ToLittle, EndWidth::End16),
+        (1, 2),
+        ANY,
+    ),
+];
+
+/// What an operation gives of a number.
+fn changed(change: &Change, x: Number) -> Option<Number> {
+    match change {
+        Change::Copied(bits) => copied(*bits, x),
+        Change::Negative(bits) => negative(*bits, x),
+        Change::Extended(extension) => sign_extended(*extension, x),
+        Change::Ordered(order, width) => ordered(*order, *width, x),
+    }
+}
+
+/// Whether the row is what the operation gives.
+fn changes_so(row: &One) -> bool {
+    let (change, (low, high), want) = row;
+    if low == high {
+        gives(changed(change, constant(*low)), Some(*want))
+    } else if low < high {
+        gives(changed(change, between(*low, *high)), Some(*want))
+    } else {
+        false
+    }
 }
 
 #[test]
-fn negatives(rt: HostRuntime) {
-    let halves = Some((0, LOW, 0, 0xffff_ffff, 0, LOW));
-    assert!(rt;
-        gives(
-            negative(Bits::Bits64, between(0, 1)),
-            Some((0, ALL, -1, 0, 0, ALL))
-        )
-    );
-    assert!(rt; gives(negative(Bits::Bits32, between(0, 1)), halves));
-}
-
-#[test]
-fn extensions(rt: HostRuntime) {
-    assert!(rt;
-        gives(
-            sign_extended(SignedMove::Byte64, constant(0x1ff)),
-            Some((ALL, ALL, -1, -1, ALL, 0))
-        )
-    );
-    assert!(rt;
-        gives(
-            sign_extended(SignedMove::Byte32, constant(0x1ff)),
-            Some((LOW, LOW, 0xffff_ffff, 0xffff_ffff, LOW, 0))
-        )
-    );
-    assert!(rt; gives(sign_extended(SignedMove::Half64, between(1, 2)), Some(ANY)));
-    assert!(rt;
-        gives(
-            sign_extended(SignedMove::Half32, between(1, 2)),
-            Some((0, LOW, 0, 0xffff_ffff, 0, LOW))
-        )
-    );
-}
-
-#[test]
-fn orders(rt: HostRuntime) {
-    assert!(rt;
-        gives(
-            ordered(ByteOrder::ToBig, EndWidth::End16, constant(0x1_0203)),
-            Some((0x302, 0x302, 0x302, 0x302, 0x302, 0))
-        )
-    );
-    assert!(rt;
-        gives(
-            ordered(ByteOrder::ToLittle, EndWidth::End16, between(1, 2)),
-            Some(ANY)
-        )
-    );
+fn changes(rt: HostRuntime) {
+    for (i, row) in CHANGES.iter().enumerate() {
+        assert!(rt; changes_so(row), "row {i}");
+    }
 }
