@@ -1,5 +1,5 @@
 -- An Install, once the move is known.
-use Rattle.std.proofs.Common.{◌≡◌, ℕ, ◌≤◌, ◌&&◌, ◌||◌, eqb, nat_lt, length, arith, Bool, true, false, cond, List, [], ◌∷◌, ◌++◌, Option, Some, None, ap, sym, ◌∙◌, refl, subst}
+use Rattle.std.proofs.Common.{◌≡◌, ℕ, ◌≤◌, ◌&&◌, ◌||◌, eqb, nat_lt, length, arith, Bool, true, false, cond, List, [], ◌∷◌, ◌++◌, Option, Some, None, Result, Ok, Err, IfOk, ap, sym, ◌∙◌, refl, subst}
 use Rattle.std.specs.Option.{unwrap_or}
 use Rattle.std.proofs.lemmas.Bool.{false≢true}
 use Rattle.std.proofs.lemmas.Bool.Decides.{nat_tests}
@@ -13,15 +13,16 @@ use Rattle.pg_log.specs.Adopting.{IsCommonBeginning, rest_refusal, RestRefuses, 
 use Rattle.pg_log.specs.Laws.{AdoptingIsReplaying}
 use Rattle.pg_log.specs.Log.{Legal}
 use Rattle.group_world.specs.Maps.{GroupMap, is_primary}
-use Rattle.group_world.specs.Node.{NodeState, Outcome, nothing, and_sends, to_all, is_waiting, is_installed}
+use Rattle.group_world.specs.Node.{NodeState, Outcome, nothing, and_sends, to_all, packet, is_waiting, is_installed}
 use Rattle.group_world.specs.Rules.{is_usable, says_installed, install_after, arrive, move_to, lead, adopt, at_map, would_forget}
 use Rattle.group_world.specs.declared.status.Status.{Status}
 use Rattle.group_world.specs.declared.status.Status.TheVariants.{Out, Waiting, Installed, Asking, Installing, Active}
 use Rattle.group_world.specs.declared.party.Party.{Party}
-use Rattle.group_world.specs.declared.message.Kind.TheVariants.{Query}
+use Rattle.group_world.specs.declared.message.Kind.TheVariants.{Query, Log as LogOf}
 use Rattle.group_world.specs.declared.message.Packet.{Packet}
 use Rattle.group_world.specs.declared.handle_error.HandleError.{HandleError}
-use Rattle.peering.specs.Arriving.{after_move, log_after, install_first, install_again, is_memory}
+use Rattle.peering.specs.Arriving.{after_move, interval_after, log_after, install_first, install_again, with_log, is_memory}
+use Rattle.peering.specs.Numbered.{NumberedNode}
 
 pub waits : (st : Status) → is_waiting st ≡ true → st ≡ Waiting
 waits Waiting h = refl
@@ -137,3 +138,27 @@ waiting_within s status h l =
 pub or_false : (a b : Bool) → (a || b) ≡ false → b ≡ false
 or_false true b h = absurd (false≢true (sym h))
 or_false false b h = h
+
+interval_is : (s : NodeState) (m : GroupMap) (status : Option Status) (joined : List ℕ) → (after_move s m status joined).interval ≡ interval_after s m status
+interval_is s m None joined = refl
+interval_is s m (Some st) joined = refl
+
+-- the list that goes to the asker is that of the node once it has moved
+pub answer_is : (n : ℕ) (s : NodeState) (asker : Party) (m : GroupMap) (status : Option Status) (joined : List ℕ) (before sent : List Packet) (o : Outcome) →
+    after_move s m status joined ≡ o.node → before ≡ o.sent → sent ≡ before ++ packet n asker (LogOf (interval_after s m status) (log_after s status)) ∷ [] →
+    sent ≡ o.sent ++ packet n asker (LogOf o.node.interval o.node.log) ∷ []
+answer_is n s asker m status joined before sent o a b q =
+    let p = sym (interval_is s m status joined) ∙ ap (λ x. x.interval) a in
+    let l = sym (log_is s m status joined) ∙ ap (λ x. x.log) a in
+    q ∙ (λ i. b i ++ packet n asker (LogOf (p i) (l i)) ∷ [])
+
+pub and_true : (a b : Bool) → b ≡ true → a ≡ (a && b)
+and_true true b h = sym h
+and_true false b h = refl
+
+-- a node whose log has become a list, or hasn't
+pub with_taken : (r : Result Bool HandleError) (v n : NumberedNode) (list log : List ClientRequest) → v ≡ n →
+    IfOk r (λ b. log ≡ cond b list v.state.log) → IfOk r (λ b. with_log v log ≡ cond b (with_log n list) n)
+with_taken (Err e) v n list log p h = h
+with_taken (Ok true) v n list log p h = λ i. with_log (p i) (h i)
+with_taken (Ok false) v n list log p h = ap (with_log v) h ∙ p

@@ -5,3 +5,4 @@ pub mod Following
 pub mod Keeping
 pub mod Installing
 pub mod Growing
+pub mod Statuses

@@ -1,5 +1,5 @@
 -- Equal lists of numbers, and equal requests.
-use Rattle.std.proofs.Common.{◌≡◌, ◌≢◌, ◌<◌, ◌≤◌, ℕ, suc, zero, Bool, true, false, ◌&&◌, List, [], ◌∷◌, length, eqb, ap, sym, ◌∙◌, refl, arith, drop, take, get_or}
+use Rattle.std.proofs.Common.{◌≡◌, ◌≢◌, ◌<◌, ◌≤◌, ℕ, suc, zero, Bool, true, false, ◌&&◌, List, [], ◌∷◌, ◌++◌, length, eqb, ap, sym, ◌∙◌, refl, arith, drop, take, get_or}
 use Rattle.std.specs.Bool.{IsTrue}
 use Rattle.std.proofs.lemmas.Bool.{eq-eqb, eqb-true, and_parts, and_from, false≢true}
 use Rattle.pg_log.specs.declared.entry.Entry.{Entry}
@@ -16,6 +16,10 @@ not_same_length (x ∷ xs) [] h = refl
 not_same_length (x ∷ xs) (y ∷ ys) h =
     let r : false ≡ is_same_list xs ys = not_same_length xs ys (λ e. h (ap suc e)) in
     grind (arith, r)
+
+pub requests_end : (es : List Entry) (e : Entry) → requests_of (es ++ e ∷ []) ≡ requests_of es ++ e.request ∷ []
+requests_end [] e = refl
+requests_end (x ∷ es) e = ap (λ rs. x.request ∷ rs) (requests_end es e)
 
 pub drop_requests : (k : ℕ) (es : List Entry) → requests_of (drop k es) ≡ drop k (requests_of es)
 drop_requests zero es = refl

@@ -15,7 +15,7 @@ use Rattle.group_world.specs.declared.status.Status.{Status}
 use Rattle.group_world.specs.declared.status.Status.TheVariants.{Installed}
 use Rattle.group_world.specs.declared.party.Party.{Party}
 use Rattle.group_world.specs.declared.party.Party.TheVariants.{Monitor as TheMonitor}
-use Rattle.group_world.specs.declared.message.Kind.TheVariants.{Install, Installed as InstalledIn, AskActivate, Rep}
+use Rattle.group_world.specs.declared.message.Kind.TheVariants.{Log as LogOf, Install, Installed as InstalledIn, AskActivate, Rep}
 use Rattle.group_world.specs.declared.message.Packet.{Packet}
 
 -- the log after a move: a primary that is installing at once has adopted the empty list
@@ -36,6 +36,11 @@ IsArrival n s m status joined sent = (after_move s m status joined ≡ (arrive n
 -- the same, where the node leads the map
 abbrev pub IsLeading : ℕ → NodeState → GroupMap → Option Status → List ℕ → List Packet → Type 0
 IsLeading n s m status joined sent = (after_move s m status joined ≡ (lead n s m).node) × (sent ≡ (lead n s m).sent)
+
+-- the same of a Query: its list goes to the asker
+abbrev pub IsAnswering : ℕ → NodeState → Party → GroupMap → Option Status → List ℕ → List Packet → Type 0
+IsAnswering n s asker m status joined sent =
+    (after_move s m status joined ≡ (arrive n s m).node) × (sent ≡ (arrive n s m).sent ++ packet n asker (LogOf (arrive n s m).node.interval (arrive n s m).node.log) ∷ [])
 
 -- the interval after a move
 abbrev pub interval_after : NodeState → GroupMap → Option Status → ℕ

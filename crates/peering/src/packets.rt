@@ -80,13 +80,32 @@ pub(crate) fn install_to_missing(
 {
     let mut sent = Vec::new(alloc);
     for node in nodes {
-        if !(is_among(joined, *node) || *node == number) {
-            let list = Requests::new(copy_requests(alloc, list)?);
-            let kind = Kind::Install(map.copy(alloc)?, list);
-            send(&mut sent, packet(number, Party::Node(*node), kind))?;
+        if is_among(joined, *node) {
+            continue;
         }
+        if *node == number {
+            continue;
+        }
+        send_install(alloc, number, *node, map, list, &mut sent)?;
     }
     Ok(sent)
+}
+
+/// Sends an Install to a node.
+fn send_install(
+    alloc: Global,
+    number: NodeId,
+    node: NodeId,
+    map: &GroupMap,
+    list: &[Request],
+    sent: &mut Vec<Packet>,
+) -> Result<(), HandleError>
+    ensures ok { OnOk result (sent.new.items ≡ sent.old.items ++ packet number (Party.Node node) (Kind.Install map.now list.now) ∷ []) }
+    ensures err { IfErr result (λ e. e ≡ HandleError.NoMemory) }
+{
+    let list = Requests::new(copy_requests(alloc, list)?);
+    let kind = Kind::Install(map.copy(alloc)?, list);
+    send(sent, packet(number, Party::Node(node), kind))
 }
 
 /// The same Rep to each of these nodes but the sender.
@@ -103,10 +122,10 @@ pub(crate) fn rep_to_others(
 {
     let mut sent = Vec::new(alloc);
     for node in nodes {
-        if *node != number {
-            let kind = Kind::Rep(interval, place, copy_request(alloc, request)?);
-            send(&mut sent, packet(number, Party::Node(*node), kind))?;
+        if *node == number {
+            continue;
         }
+        send_rep(alloc, number, *node, interval, place, request, &mut sent)?;
     }
     Ok(sent)
 }

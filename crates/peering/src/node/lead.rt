@@ -64,10 +64,7 @@ impl<C: Classes> GroupNode<C> {
         if !self.keeps_committed(list) {
             return Ok(false);
         }
-        if become_list(table, &mut self.group, self.committed, list)? {
-            return Ok(true);
-        }
-        Ok(false)
+        become_list(table, &mut self.group, self.committed, list)
     }
 
     /// Whether a list begins with the committed list.

@@ -5,7 +5,7 @@ ghost use Rattle.pg_log.specs.Log.{Legal};
 ghost use Rattle.group_world.specs.Node.{is_waiting, packet};
 ghost use Rattle.group_world.specs.Rules.{arrive, would_forget, ignores, learn_map, answer_query, install};
 ghost use Rattle.peering.specs.Numbered.{IsDone};
-ghost use Rattle.peering.specs.Arriving.{after_move, IsArrival, IsLeading, log_after, interval_after, adopted_sent, install_first, install_again};
+ghost use Rattle.peering.specs.Arriving.{after_move, IsArrival, IsAnswering, IsLeading, log_after, interval_after, adopted_sent, install_first, install_again};
 
 use crate::compare::{is_among, leads};
 use crate::copies::copy_log;
@@ -53,10 +53,21 @@ impl<C: Classes> GroupNode<C> {
         if self.ignores(&map) {
             return Ok(Vec::new(self.alloc));
         }
-        let mut arrival = self.arrival(&map)?;
-        self.send_log(asker, &map, arrival.status, &mut arrival.sent)?;
+        let arrival = self.answering(asker, &map)?;
         self.move_to(map, arrival.status, arrival.joined);
         Ok(arrival.sent)
+    }
+
+    /// What it is to do at the map of a Query that it doesn't ignore.
+    fn answering(&self, asker: Party, map: &GroupMap) -> Result<Arrival, HandleError>
+        requires { would_forget self.now.number self.now.state map.now ≡ false }
+        ensures ok { IfOk result (λ a. IsAnswering self.now.number self.now.state asker map.now a.status a.joined.items a.sent.items) }
+        ensures within { IfOk result (λ a. self.now.state.committed ≤ length (log_after self.now.state a.status)) }
+        ensures err { IfErr result (λ e. e ≡ HandleError.NoMemory) }
+    {
+        let mut arrival = self.arrival(map)?;
+        self.send_log(asker, map, arrival.status, &mut arrival.sent)?;
+        Ok(arrival)
     }
 
     /// Sends its list after a move.

@@ -1,5 +1,5 @@
-use Rattle.std.proofs.Common.{◌≡◌, ℕ, ◌+◌, ◌<◌, ◌++◌, ◌∷◌, [], List, length, drop, get_or, ap, sym, ◌∙◌, append_assoc, arith, add-one}
-use Rattle.std.proofs.lemmas.List.{drop_more}
+use Rattle.std.proofs.Common.{◌≡◌, ℕ, ◌+◌, ◌<◌, ◌≤◌, ◌++◌, ◌∷◌, [], List, length, drop, get_or, ap, sym, ◌∙◌, append_assoc, arith, add-one}
+use Rattle.std.proofs.lemmas.List.{drop_more, drop_all, append-nil}
 use Rattle.pg_log.specs.declared.entry.Entry.{Entry}
 use Rattle.pg_log.specs.Entries.{requests_of}
 use Rattle.group_world.specs.Node.{packet}
@@ -24,3 +24,11 @@ loop-place-preserved c =
     ap (λ (w : List Entry). reps_from n m i k (requests_of w)) (drop_more es k e within)
     ∙ ap (λ j. packet n (ANode m) (Rep i k (get_or es k e).request) ∷ reps_from n m i j (requests_of (drop (k + 1) es))) (sym (add-one k)) in
     ap (λ x. x ++ t) c.in_ok-send_rep.ensures.ok ∙ append_assoc c.loop-place.sent.items (p ∷ []) t ∙ ap (λ x. c.loop-place.sent.items ++ x) (sym step) ∙ c.loop-place.invariant
+
+pub returns-clause-ok : goal.returns-clause-ok
+returns-clause-ok c =
+    let k : ℕ = c.loop-place.place in
+    let es : List Entry = c.args.entries.now in
+    let done : length es ≤ k = omega arith in
+    sym (append-nil c.loop-place.sent.items)
+    ∙ ap (λ (w : List Entry). c.loop-place.sent.items ++ reps_from c.args.number c.args.node c.args.interval k (requests_of w)) (sym (drop_all k es done)) ∙ c.loop-place.invariant

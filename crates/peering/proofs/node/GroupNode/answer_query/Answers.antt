@@ -1,9 +1,22 @@
-use Rattle.std.proofs.Common.{◌∙◌, sym, nat_lt}
-use Rattle.group_world.specs.Rules.{would_forget}
+use Rattle.std.proofs.Common.{◌∙◌, ap, sym, refl, subst, cond, nat_lt}
+use Rattle.group_world.specs.Node.{Outcome, nothing, and_sends, packet}
+use Rattle.group_world.specs.declared.message.Kind.TheVariants.{Log as LogOf}
+use Rattle.group_world.specs.Rules.{arrive, would_forget}
+use Rattle.peering.specs.Numbered.{IsDone}
 use Rattle.peering.proofs.Installing.{or_false}
 use Rattle.peering.proofs.node.GroupNode.answer_query.Goals as goal
 
-pub arrival-requires : goal.arrival-requires
-arrival-requires g c =
+pub returns-clause-done : goal.returns-clause-done
+returns-clause-done g c =
+    let n = c.args.self.now in
+    let a = c.in_ok-arrival.arrival in
+    let e = c.in_ok-arrival.ensures.ok in
+    let o : Outcome = arrive n.number n.state c.args.map in
+    let answers = ap (λ b. cond b (nothing n.state) (and_sends o (packet n.number c.args.asker (LogOf o.node.interval o.node.log)))) (sym c.ignores.ensures ∙ c.if-ignores.false) in
+    let P : Outcome → Type 0 = λ w. IsDone n c.move_to.new.self a.sent.items w in
+    subst P (sym answers) (record { number = c.move_to.ensures.number; state = c.move_to.ensures.state ∙ e.0; sent = e.1; unrefused = refl })
+
+pub answering-requires : goal.answering-requires
+answering-requires g c =
     let n = c.args.self.now in
     or_false (nat_lt c.args.map.interval n.state.interval) (would_forget n.number n.state c.args.map) (sym c.ignores.ensures ∙ c.if-ignores.false)
