@@ -1,4 +1,4 @@
-use Rattle.std.proofs.Common.{◌≡◌, ◌≤◌, ◌∷◌, [], ◌++◌, ap, sym, ◌∙◌, length, take, arith}
+use Rattle.std.proofs.Common.{◌≤◌, ◌∷◌, [], ◌++◌, ap, sym, ◌∙◌, length, take, arith}
 use Rattle.std.proofs.lemmas.List.{take_more, take_all, get_or_read}
 use Rattle.pg_log.specs.Entries.{requests_of}
 use Rattle.peering.proofs.Lists.{requests_end}
