@@ -4,63 +4,35 @@
 mod measure;
 
 use crate::measure::{Times, measured};
-use anyhow::Result;
+use anyhow::{Error, Result};
 use std::alloc::Global;
 use std::time::Clock;
-use std::{env, fmt, io};
-
-/// A time of so many nanoseconds, which prints as microseconds with one digit.
-#[derive(Clone, Copy)]
-struct Micros {
-    nanos: u128,
-}
-
-impl fmt::Display for Micros {
-    fn fmt<W: fmt::Write>(&self, f: &mut fmt::Formatter<W>) -> fmt::Result {
-        let whole = self.nanos / 1000;
-        let rest = self.nanos % 1000 / 100;
-        write!(f, "{whole:>10}.{rest}")
-    }
-}
+use std::{env, io};
 
 fn main(rt: HostRuntime) -> Result<()> {
-    let words: Vec<String> = env::args(&rt)?.collect(rt.alloc())?;
-    let timed = words.len() == 1;
-    report(rt.alloc(), &rt, timed, &mut rt.stdout())
+    let timed = env::args(&rt)?.len() == 1;
+    let clock = if timed { Some(&rt) } else { None };
+    report(rt.alloc(), clock, &mut rt.stdout())
 }
 
-/// Prints a line for the replay and one for the adoption, with their times where they are taken: any word on the command
+/// Prints a line for the replay and one for the adoption, with their times where there is a clock: any word on the command
 /// line leaves them out.
-fn report<C: Clock, O: io::Write>(
-    alloc: Global,
-    clock: &C,
-    timed: bool,
-    out: &mut O,
-) -> Result<()> {
-    let times = if timed {
-        Some(measured(alloc, clock)?)
-    } else {
-        None
-    };
-    for (name, nanos) in lines(times) {
-        write!(out, "{name:<32}")?;
-        if let Some(nanos) = nanos {
-            write!(out, "{} us", Micros { nanos })?;
-        }
-        writeln!(out)?;
+fn report<C: Clock, O: io::Write>(alloc: Global, clock: Option<&C>, out: &mut O) -> Result<()> {
+    let (replay, adopt) = names();
+    match clock {
+        None => writeln!(out, "{replay:<32}\n{adopt:<32}").map_err(Error::from),
+        Some(clock) => print(&measured(alloc, clock)?, out),
     }
-    out.flush()?;
-    Ok(())
 }
 
-/// What was measured, and what the table calls it.
-fn lines(times: Option<Times>) -> [(&'static str, Option<u128>); 2] {
-    let (replay, adopt) = match times {
-        Some(times) => (Some(times.replay), Some(times.adopt)),
-        None => (None, None),
-    };
-    [
-        ("replay 65536 entries", replay),
-        ("adopt, the last entry differs", adopt),
-    ]
+/// Prints the lines with their times.
+fn print<O: io::Write>(times: &Times, out: &mut O) -> Result<()> {
+    let (replay, adopt) = names();
+    let (first, second) = (times.replay, times.adopt);
+    writeln!(out, "{replay:<32}{first} us\n{adopt:<32}{second} us").map_err(Error::from)
+}
+
+/// What the lines are called.
+fn names() -> (&'static str, &'static str) {
+    ("replay 65536 entries", "adopt, the last entry differs")
 }

@@ -6,6 +6,7 @@ use interp::ClassTable;
 use object_store::ObjectName;
 use pg_log::{Classes, ClientId, Group, GroupWork, Request, RequestNumber, with_group};
 use std::alloc::Global;
+use std::fmt;
 use std::time::{Clock, Instant};
 
 /// The requests of a full log.
@@ -14,46 +15,66 @@ const REQUESTS: u32 = 65_536;
 /// How often each time is taken, of which the least counts.
 const RUNS: usize = 20;
 
-/// The least nanoseconds of a replay, and of an adoption.
+/// A time of so many nanoseconds, which prints as microseconds with one digit.
+#[derive(Clone, Copy)]
+pub struct Micros {
+    nanos: u128,
+}
+
+impl fmt::Display for Micros {
+    fn fmt<W: fmt::Write>(&self, f: &mut fmt::Formatter<W>) -> fmt::Result {
+        let whole = self.nanos / 1000;
+        let rest = self.nanos % 1000 / 100;
+        write!(f, "{whole:>10}.{rest}")
+    }
+}
+
+/// The least times of a replay, and of an adoption.
 #[derive(Clone, Copy)]
 pub struct Times {
-    pub replay: u128,
-    pub adopt: u128,
+    pub replay: Micros,
+    pub adopt: Micros,
 }
 
 /// Takes the times, of a full log whose client takes a lock and gives it back in turn.
 pub fn measured<C: Clock>(alloc: Global, clock: &C) -> Result<Times> {
     let mut table = ClassTable::new(alloc);
     table.add(load_lock(alloc)?)?;
+    times_of(alloc, clock, &table)
+}
+
+/// The same, with the table of the class.
+fn times_of<C: Clock>(alloc: Global, clock: &C, table: &ClassTable) -> Result<Times> {
+    let one = list(alloc, 1)?;
+    let two = list(alloc, 2)?;
     let work = Measures {
         clock,
         alloc,
-        first: list(alloc, 1)?,
-        second: list(alloc, 2)?,
+        first: &one,
+        second: &two,
     };
-    with_group(alloc, &table, work)
+    with_group(alloc, table, work)
 }
 
 /// A full list of requests of client 1, the last one of another's.
 fn list(alloc: Global, last: u32) -> Result<Vec<Request>> {
+    let first = ClientId::new(1).context("a client")?;
+    let last = ClientId::new(last).context("a client")?;
     let mut list = Vec::new(alloc);
-    for number in 1..REQUESTS {
-        list.push(request(alloc, 1, number)?)?;
+    for before in 0..REQUESTS {
+        let number = before + 1;
+        let client = if number < REQUESTS { first } else { last };
+        list.push(request(alloc, client, number)?)?;
     }
-    list.push(request(alloc, last, REQUESTS)?)?;
     Ok(list)
 }
 
-fn request(alloc: Global, client: u32, number: u32) -> Result<Request> {
+fn request(alloc: Global, client: ClientId, number: u32) -> Result<Request> {
     let method = if number % 2 == 1 { "lock" } else { "unlock" };
-    Ok(Request::new(
-        ClientId::new(client).context("a client")?,
-        RequestNumber::new(number).context("a number")?,
-        ObjectName::new(alloc, "object")?,
-        0,
-        String::from_str(alloc, method)?,
-        Vec::new(alloc),
-    ))
+    let number = RequestNumber::new(number).context("a number")?;
+    let object = ObjectName::new(alloc, "object")?;
+    let method = String::from_str(alloc, method)?;
+    Ok(Request::new(client, number, object, 0, method, Vec::new(alloc)))
 }
 
 /// The nanoseconds of one replay of a list, and of one adoption of the other.
@@ -62,7 +83,7 @@ fn once<C: Classes, T: Clock>(
     alloc: Global,
     table: &ClassTable,
     lists: (&[Request], &[Request]),
-) -> Result<Times>
+) -> Result<(u128, u128)>
     requires { IsPrefix table.now C.classes }
 {
     let start = Instant::now(clock)?;
@@ -77,14 +98,34 @@ fn then_adopt<C: Classes, T: Clock>(
     group: &mut Group<C>,
     start: Instant,
     list: &[Request],
-) -> Result<Times>
+) -> Result<(u128, u128)>
     requires { IsPrefix table.now C.classes }
 {
     let replay = start.elapsed(clock)?.as_nanos();
     let start = Instant::now(clock)?;
     let _ = group.adopt(table, list)?;
     let adopt = start.elapsed(clock)?.as_nanos();
-    Ok(Times { replay, adopt })
+    Ok((replay, adopt))
+}
+
+/// The least of so many runs.
+fn least<C: Classes, T: Clock>(
+    clock: &T,
+    alloc: Global,
+    table: &ClassTable,
+    lists: (&[Request], &[Request]),
+) -> Result<Times>
+    requires { IsPrefix table.now C.classes }
+{
+    let mut least = (u128::MAX, u128::MAX);
+    for _ in 0..RUNS {
+        let (replay, adopt) = once::<C, T>(clock, alloc, table, lists)?;
+        least = (least.0.min(replay), least.1.min(adopt));
+    }
+    Ok(Times {
+        replay: Micros { nanos: least.0 },
+        adopt: Micros { nanos: least.1 },
+    })
 }
 
 /// Replays one list, and adopts the other, again and again.
@@ -92,8 +133,8 @@ fn then_adopt<C: Classes, T: Clock>(
 struct Measures<'a, T> {
     clock: &'a T,
     alloc: Global,
-    first: Vec<Request>,
-    second: Vec<Request>,
+    first: &'a [Request],
+    second: &'a [Request],
 }
 
 impl<T: Clock> GroupWork for Measures<'_, T> {
@@ -103,16 +144,6 @@ impl<T: Clock> GroupWork for Measures<'_, T> {
 
     fn work<C: Classes>(self, table: &ClassTable, group: Group<C>) -> Result<Times> {
         let _ = group;
-        let lists = (self.first.as_slice(), self.second.as_slice());
-        let mut least = Times {
-            replay: u128::MAX,
-            adopt: u128::MAX,
-        };
-        for _ in 0..RUNS {
-            let times = once::<C, T>(self.clock, self.alloc, table, lists)?;
-            least.replay = least.replay.min(times.replay);
-            least.adopt = least.adopt.min(times.adopt);
-        }
-        Ok(least)
+        least::<C, T>(self.clock, self.alloc, table, (self.first, self.second))
     }
 }

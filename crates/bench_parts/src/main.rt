@@ -6,6 +6,7 @@
 mod objects;
 mod reads;
 mod texts;
+mod timing;
 
 use anyhow::Result;
 use std::alloc::Global;
@@ -13,20 +14,14 @@ use std::time::Clock;
 use std::{env, io};
 
 fn main(rt: HostRuntime) -> Result<()> {
-    let words: Vec<String> = env::args(&rt)?.collect(rt.alloc())?;
-    report(rt.alloc(), &rt, words.len() == 1, &mut rt.stdout())
+    let timed = env::args(&rt)?.len() == 1;
+    let clock = if timed { Some(&rt) } else { None };
+    report(rt.alloc(), clock, &mut rt.stdout())
 }
 
-/// Prints the tables, an empty line between two.
-fn report<C: Clock, O: io::Write>(
-    alloc: Global,
-    clock: &C,
-    timed: bool,
-    out: &mut O,
-) -> Result<()> {
-    texts::report(alloc, clock, timed, out)?;
-    writeln!(out)?;
-    objects::report(alloc, clock, timed, out)?;
-    writeln!(out)?;
-    reads::report(alloc, clock, timed, out)
+/// Prints the tables, an empty line between two, with the times that a clock gives.
+fn report<C: Clock, O: io::Write>(alloc: Global, clock: Option<&C>, out: &mut O) -> Result<()> {
+    texts::report(alloc, clock, out)?;
+    objects::report(alloc, clock, out)?;
+    reads::report(alloc, clock, out)
 }

@@ -2,25 +2,11 @@
 
 mod measure;
 
-use anyhow::Result;
+use anyhow::{Error, Result};
 use measure::{Subject, time};
 use std::alloc::Global;
+use std::io;
 use std::time::Clock;
-use std::{fmt, io};
-
-/// A time of so many picoseconds, which prints as nanoseconds with two digits.
-#[derive(Clone, Copy)]
-struct Nanos {
-    picos: u64,
-}
-
-impl fmt::Display for Nanos {
-    fn fmt<W: fmt::Write>(&self, f: &mut fmt::Formatter<W>) -> fmt::Result {
-        let whole = self.picos / 1000;
-        let rest = self.picos % 1000 / 10;
-        write!(f, "{whole:>8}.{rest:02}")
-    }
-}
 
 /// What is measured, and what the table calls it.
 const SUBJECTS: [(Subject, &str); 7] = [
@@ -33,21 +19,22 @@ const SUBJECTS: [(Subject, &str); 7] = [
     (Subject::Read { len: 65_536 }, "read 64 bytes of 64 KiB"),
 ];
 
-/// Prints a line for each subject, with its time where it is timed.
-pub fn report<C: Clock, O: io::Write>(
+/// Prints a line for each subject, with its time where there is a clock, and an empty line.
+pub fn report<C: Clock, O: io::Write>(alloc: Global, clock: Option<&C>, out: &mut O) -> Result<()> {
+    for (subject, name) in &SUBJECTS {
+        line(alloc, clock, *subject, name, out)?;
+    }
+    writeln!(out).map_err(Error::from)
+}
+
+/// Prints a line.
+fn line<C: Clock, O: io::Write>(
     alloc: Global,
-    clock: &C,
-    timed: bool,
+    clock: Option<&C>,
+    subject: Subject,
+    name: &str,
     out: &mut O,
 ) -> Result<()> {
-    for (subject, name) in &SUBJECTS {
-        write!(out, "{name:<28}")?;
-        if timed {
-            let picos = time(alloc, clock, *subject)?;
-            write!(out, "{} ns", Nanos { picos })?;
-        }
-        writeln!(out)?;
-    }
-    out.flush()?;
-    Ok(())
+    let time = time(alloc, clock, subject)?;
+    writeln!(out, "{name:<28}{time}").map_err(Error::from)
 }

@@ -3,48 +3,50 @@
 mod measure;
 mod subject;
 
-use anyhow::Result;
-use measure::least_nanos;
+use crate::timing::time_of;
+use anyhow::{Error, Result};
+use measure::{RUNS, Reads};
 use object_store::Object;
 use std::alloc::Global;
 use std::io;
 use std::time::Clock;
 use subject::{Reading, full_object};
 
-/// Prints a line for each call beside each object, with its time where that is taken.
-pub fn report<C: Clock, O: io::Write>(
-    alloc: Global,
-    clock: &C,
-    timed: bool,
-    out: &mut O,
-) -> Result<()> {
+/// The calls, and whether each has an object beside it.
+const LINES: [(Reading, bool); 4] = [
+    (Reading::Stat, false),
+    (Reading::Stat, true),
+    (Reading::MapGet, false),
+    (Reading::MapGet, true),
+];
+
+/// Prints a line for each call beside each object, with its time where there is a clock.
+pub fn report<C: Clock, O: io::Write>(alloc: Global, clock: Option<&C>, out: &mut O) -> Result<()> {
     let full = full_object(alloc)?;
-    writeln!(
-        out,
-        "call      object  answer{}",
-        if timed { "  ns" } else { "" }
-    )?;
-    for reading in [Reading::Stat, Reading::MapGet] {
-        line(clock, timed, reading, None, out)?;
-        line(clock, timed, reading, Some(&full), out)?;
+    lines(clock, &full, out)
+}
+
+/// Prints the heading, and the lines.
+fn lines<C: Clock, O: io::Write>(clock: Option<&C>, full: &Object, out: &mut O) -> Result<()> {
+    let heading = if clock.is_some() { "  ns" } else { "" };
+    writeln!(out, "call      object  answer{heading}")?;
+    for (reading, beside) in &LINES {
+        let object = if *beside { Some(full) } else { None };
+        line(clock, *reading, object, out)?;
     }
-    out.flush()?;
     Ok(())
 }
 
 /// Prints a line.
 fn line<C: Clock, O: io::Write>(
-    clock: &C,
-    timed: bool,
+    clock: Option<&C>,
     reading: Reading,
     object: Option<&Object>,
     out: &mut O,
 ) -> Result<()> {
+    let name = reading.name();
     let beside = if object.is_some() { "full" } else { "none" };
     let answer = reading.call(object)?.cast_signed();
-    write!(out, "{:<9} {beside:<6} {answer:>7}", reading.name())?;
-    if timed {
-        write!(out, "  {}", least_nanos(clock, reading, object)?)?;
-    }
-    Ok(writeln!(out)?)
+    let time = time_of(clock, &Reads { reading, object }, RUNS)?;
+    writeln!(out, "{name:<9} {beside:<6} {answer:>7}{time}").map_err(Error::from)
 }

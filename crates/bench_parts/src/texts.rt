@@ -1,10 +1,11 @@
 //! What a text of many labels costs to assemble.
 
-use anyhow::Result;
+use crate::timing::{Time, Work, time_of};
+use anyhow::{Error, Result};
 use bpf_asm::assemble;
-use std::alloc::Global;
+use std::alloc::{AllocError, Global};
 use std::io;
-use std::time::{Clock, Instant};
+use std::time::Clock;
 
 /// How many labels stand behind the jumps.
 const LABELS: [u32; 3] = [4095, 20_000, 80_000];
@@ -15,49 +16,75 @@ const JUMPS: u32 = 4095;
 /// How often each text is assembled, of which the least time counts.
 const RUNS: usize = 5;
 
-/// Prints a line for each number of labels, with its time where it is timed.
-pub fn report<C: Clock, O: io::Write>(
-    alloc: Global,
-    clock: &C,
-    timed: bool,
-    out: &mut O,
-) -> Result<()> {
-    for labels in LABELS {
-        let text = text_of(alloc, labels)?;
-        let slots = assemble(alloc, text.as_str())?.len();
-        write!(out, "{labels:>6} labels, {slots} slots")?;
-        if timed {
-            let micros = time(alloc, clock, text.as_str())?;
-            write!(out, "{micros:>9} us")?;
-        }
-        writeln!(out)?;
+/// Prints a line for each number of labels, with its time where there is a clock, and an empty line.
+pub fn report<C: Clock, O: io::Write>(alloc: Global, clock: Option<&C>, out: &mut O) -> Result<()> {
+    for labels in &LABELS {
+        line(alloc, clock, *labels, out)?;
     }
-    out.flush()?;
-    Ok(())
+    writeln!(out).map_err(Error::from)
 }
 
-/// The least microseconds that it took to assemble the text.
-fn time<C: Clock>(alloc: Global, clock: &C, text: &str) -> Result<u128> {
-    let mut least = u128::MAX;
-    for _ in 0..RUNS {
-        let start = Instant::now(clock)?;
-        let _ = assemble(alloc, text)?;
-        least = least.min(start.elapsed(clock)?.as_micros());
+/// Prints a line.
+fn line<C: Clock, O: io::Write>(
+    alloc: Global,
+    clock: Option<&C>,
+    labels: u32,
+    out: &mut O,
+) -> Result<()> {
+    let text = text_of(alloc, labels)?;
+    print(clock, &Assembly { alloc, text: &text }, labels, out)
+}
+
+/// Prints the line of a text with so many labels.
+fn print<C: Clock, O: io::Write>(
+    clock: Option<&C>,
+    assembly: &Assembly<'_>,
+    labels: u32,
+    out: &mut O,
+) -> Result<()> {
+    let slots = assembly.slots()?;
+    let time = time_of(clock, assembly, RUNS)?;
+    writeln!(out, "{labels:>6} labels, {slots} slots{time}").map_err(Error::from)
+}
+
+/// A text that is assembled.
+#[derive(Clone, Copy)]
+struct Assembly<'a> {
+    alloc: Global,
+    text: &'a str,
+}
+
+impl Assembly<'_> {
+    /// The slots of its code.
+    fn slots(&self) -> Result<usize> {
+        Ok(assemble(self.alloc, self.text)?.len())
     }
-    Ok(least)
+}
+
+impl Work for Assembly<'_> {
+    fn work(&self) -> Result<()> {
+        let _ = assemble(self.alloc, self.text)?;
+        Ok(())
+    }
+
+    fn time(nanos: u128) -> Time {
+        Time::Micros(nanos / 1000)
+    }
 }
 
 /// Jumps, then labels, then an exit.
-fn text_of(alloc: Global, labels: u32) -> Result<String> {
+fn text_of(alloc: Global, labels: u32) -> Result<String, AllocError> {
     let mut text = String::new(alloc);
+    write_text(&mut text, labels)?;
+    Ok(text)
+}
+
+fn write_text(text: &mut String, labels: u32) -> Result<(), AllocError> {
     for n in 0..JUMPS {
-        let line = format!(in alloc; "ja l{n}\n")?;
-        text.push_str(line.as_str())?;
+        writeln!(text, "ja l{n}")?;
     }
     for n in 0..labels {
-        let line = format!(in alloc; "l{n}:\n")?;
-        text.push_str(line.as_str())?;
+        writeln!(text, "l{n}:")?;
     }
-    text.push_str("exit\n")?;
-    Ok(text)
+    text.push_str("exit\n")
 }

@@ -1,12 +1,14 @@
 ghost use Rattle.std.specs.Prelude.{◌≡◌, ◌-◌, ◌^◌, ◌≤◌, min};
+ghost use mathlib.Core.List.{IsPrefix};
 ghost use Rattle.bench_table.specs.Measure.{picos_each};
 
-use crate::subject::Subject;
+use crate::subject::{Beside, Subject};
 use crate::workload::{Ready, steps};
 use anyhow::{Context, Result};
+use bpf_decode::ClassImage;
 use interp::ClassTable;
 use object_store::ObjectName;
-use pg_log::{Classes, ClientId, Group, GroupWork, Request, RequestNumber, with_group};
+use pg_log::{Classes, ClientId, Group, GroupWork, LogError, Request, RequestNumber, with_group};
 use std::alloc::Global;
 use std::time::{Clock, Instant};
 use verifier::{VerifiedClass, verify};
@@ -55,18 +57,65 @@ impl Least {
     }
 }
 
-/// The least picoseconds that a call of a method took, of so many runs.
-pub fn time_call<C: Clock>(alloc: Global, clock: &C, ready: &Ready, runs: usize) -> Result<u64> {
-    let calls = UNITS / ready.steps.max(1) + 1;
+/// What is timed.
+trait Work {
+    /// Does it so often.
+    fn run(&self, alloc: Global, count: usize) -> Result<()>;
+}
+
+/// A call of the class's method.
+impl Work for VerifiedClass {
+    fn run(&self, alloc: Global, count: usize) -> Result<()> {
+        for _ in 0..count {
+            let _ = steps(alloc, self)?;
+        }
+        Ok(())
+    }
+}
+
+/// A pass of `verify`.
+impl Work for ClassImage {
+    fn run(&self, alloc: Global, count: usize) -> Result<()> {
+        for _ in 0..count {
+            let _ = verify(alloc, self)?;
+        }
+        Ok(())
+    }
+}
+
+/// A call beside the object.
+impl Work for Beside {
+    fn run(&self, alloc: Global, count: usize) -> Result<()> {
+        for _ in 0..count {
+            let _ = self.call(alloc)?;
+        }
+        Ok(())
+    }
+}
+
+/// The least picoseconds that each of so many took, of so many runs.
+fn least_picos<C: Clock, W: Work>(
+    alloc: Global,
+    clock: &C,
+    work: &W,
+    count: usize,
+    runs: usize,
+) -> Result<u64>
+    requires { 1 ≤ count }
+{
     let mut least = Least::new();
     for _ in 0..runs {
         let start = Instant::now(clock)?;
-        for _ in 0..calls {
-            let _ = steps(alloc, &ready.class)?;
-        }
-        least.note(start.elapsed(clock)?.as_nanos(), calls);
+        work.run(alloc, count)?;
+        least.note(start.elapsed(clock)?.as_nanos(), count);
     }
     Ok(least.picos)
+}
+
+/// The least picoseconds that a call of a method took, of so many runs.
+pub fn time_call<C: Clock>(alloc: Global, clock: &C, ready: &Ready, runs: usize) -> Result<u64> {
+    let calls = UNITS / ready.steps.max(1) + 1;
+    least_picos(alloc, clock, &ready.class, calls, runs)
 }
 
 /// The least picoseconds that a call beside an object took, of so many runs.
@@ -77,29 +126,13 @@ pub fn time_beside<C: Clock>(
     runs: usize,
 ) -> Result<u64> {
     let beside = subject.ready(alloc)?;
-    let mut least = Least::new();
-    for _ in 0..runs {
-        let start = Instant::now(clock)?;
-        for _ in 0..CALLS {
-            let _ = beside.call(alloc)?;
-        }
-        least.note(start.elapsed(clock)?.as_nanos(), CALLS);
-    }
-    Ok(least.picos)
+    least_picos(alloc, clock, &beside, CALLS, runs)
 }
 
 /// The least picoseconds that `verify` took of a method's class, of so many runs.
 pub fn time_verify<C: Clock>(alloc: Global, clock: &C, ready: &Ready, runs: usize) -> Result<u64> {
     let passes = UNITS / ready.instructions.max(1) / 10 + 1;
-    let mut least = Least::new();
-    for _ in 0..runs {
-        let start = Instant::now(clock)?;
-        for _ in 0..passes {
-            let _ = verify(alloc, &ready.image)?;
-        }
-        least.note(start.elapsed(clock)?.as_nanos(), passes);
-    }
-    Ok(least.picos)
+    least_picos(alloc, clock, &ready.image, passes, runs)
 }
 
 /// The least picoseconds that an `append` to a group took that has so many entries, of so many runs: of requests of one
@@ -128,10 +161,11 @@ pub fn time_append<C: Clock>(
 
 /// So many requests for the method `f` of a class, numbered from 1 on, the last first.
 fn requests(alloc: Global, class: usize, count: u32) -> Result<Vec<Request>> {
+    let client = ClientId::new(1).context("a client")?;
     let mut requests = Vec::new(alloc);
     for number in 0..count {
         requests.push(Request::new(
-            ClientId::new(1).context("a client")?,
+            client,
             RequestNumber::new(count - number).context("a number")?,
             ObjectName::new(alloc, "o")?,
             class,
@@ -156,17 +190,40 @@ impl<T: Clock> GroupWork for Appends<'_, T> {
     ghost gives = { λ _ _ _ _. Unit {0} };
 
     fn work<C: Classes>(mut self, table: &ClassTable, mut group: Group<C>) -> Result<u128> {
-        for _ in 0..self.behind {
-            if let Some(request) = self.requests.pop() {
-                let _ = group.append(table, request)?;
-            }
-        }
-        let start = Instant::now(self.clock)?;
-        for _ in 0..REQUESTS {
-            if let Some(request) = self.requests.pop() {
-                let _ = group.append(table, request)?;
-            }
-        }
-        Ok(start.elapsed(self.clock)?.as_nanos())
+        let (clock, behind) = (self.clock, self.behind);
+        timed::<C, T>(clock, table, &mut group, &mut self.requests, behind)
     }
+}
+
+/// Appends so many requests, and gives the nanoseconds that those behind them took.
+fn timed<C: Classes, T: Clock>(
+    clock: &T,
+    table: &ClassTable,
+    group: &mut Group<C>,
+    requests: &mut Vec<Request>,
+    behind: u32,
+) -> Result<u128>
+    requires { IsPrefix table.now C.classes }
+{
+    append::<C>(table, group, requests, behind)?;
+    let start = Instant::now(clock)?;
+    append::<C>(table, group, requests, REQUESTS)?;
+    Ok(start.elapsed(clock)?.as_nanos())
+}
+
+/// Appends so many requests, from the end of a list.
+fn append<C: Classes>(
+    table: &ClassTable,
+    group: &mut Group<C>,
+    requests: &mut Vec<Request>,
+    count: u32,
+) -> Result<(), LogError>
+    requires { IsPrefix table.now C.classes }
+{
+    for _ in 0..count {
+        if let Some(request) = requests.pop() {
+            let _ = group.append(table, request)?;
+        }
+    }
+    Ok(())
 }

@@ -51,6 +51,9 @@ const READ: [u8; 56] = [
     0x95, 0x00, 0, 0, 0, 0, 0, 0,
 ];
 
+/// A value of the most bytes.
+const VALUE: [u8; 4096] = [0x5a; 4096];
+
 /// What every call is given: the byte, or a key and its value.
 const INPUT: [u8; 16] = *b"a key...a value.";
 
@@ -81,16 +84,12 @@ impl Subject {
     /// The object that it is beside.
     fn object(self, alloc: Global) -> Result<Option<Object>, StoreError> {
         match self {
-            Subject::WriteShort => Ok(Some(of_length(alloc, 1024)?)),
-            Subject::WriteLong => Ok(Some(of_length(alloc, DATA_LIMIT)?)),
-            Subject::SetFew => Ok(Some(with_keys(alloc, of_length(alloc, 0)?, 1)?)),
-            Subject::SetMany => Ok(Some(with_keys(
-                alloc,
-                of_length(alloc, 0)?,
-                KEY_LIMIT as u16 - 1,
-            )?)),
+            Subject::WriteShort => of_length(alloc, 1024).map(Some),
+            Subject::WriteLong => of_length(alloc, DATA_LIMIT).map(Some),
+            Subject::SetFew => with_keys(alloc, 0, 1).map(Some),
+            Subject::SetMany => with_keys(alloc, 0, KEY_LIMIT as u16 - 1).map(Some),
             Subject::ReadNone => Ok(None),
-            Subject::ReadFull => Ok(Some(full(alloc)?)),
+            Subject::ReadFull => full(alloc).map(Some),
         }
     }
 
@@ -124,22 +123,20 @@ fn of_length(alloc: Global, len: usize) -> Result<Object, StoreError> {
     calls::write(alloc, None, 0, &data)
 }
 
-/// An object with so many keys more, of two bytes with values of 4,096.
-fn with_keys(alloc: Global, object: Object, count: u16) -> Result<Object, StoreError> {
-    let value = [0x5a; 4096];
-    let mut object = object;
+/// An object of so many bytes of data, with so many keys of two bytes with values of 4,096.
+fn with_keys(alloc: Global, len: usize, count: u16) -> Result<Object, StoreError> {
+    let mut object = of_length(alloc, len)?;
     for n in 0..count {
-        object = calls::set_key(alloc, Some(&object), &n.to_be_bytes(), &value)?;
+        object = calls::set_key(alloc, Some(&object), &n.to_be_bytes(), &VALUE)?;
     }
     Ok(object)
 }
 
 /// An object at all limits.
 fn full(alloc: Global) -> Result<Object, StoreError> {
-    let value = [0x5a; 4096];
-    let mut object = with_keys(alloc, of_length(alloc, DATA_LIMIT)?, KEY_LIMIT as u16)?;
+    let mut object = with_keys(alloc, DATA_LIMIT, KEY_LIMIT as u16)?;
     for n in 0..XATTR_LIMIT as u16 {
-        object = calls::set_xattr(alloc, Some(&object), &n.to_be_bytes(), &value)?;
+        object = calls::set_xattr(alloc, Some(&object), &n.to_be_bytes(), &VALUE)?;
     }
     Ok(object)
 }

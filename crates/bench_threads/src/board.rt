@@ -1,6 +1,6 @@
 ghost use Rattle.std.specs.Prelude.{◌≡◌, ◌<◌, ◌≤◌, [], length};
 
-use anyhow::{Context, Result};
+use anyhow::{Context, Error, Result};
 use bench_table::{Figure, Mode};
 use commit_board::{Board, Seen, Writer};
 use object_store::ObjectName;
@@ -17,16 +17,54 @@ const LOOKS: usize = 100_000;
 /// One writer commits.
 pub fn commits<C: Clock>(clock: &C, alloc: Global, mode: Mode) -> Result<Figure> {
     let request = request(alloc)?;
+    commit_runs(clock, alloc, mode, &request)
+}
+
+fn commit_runs<C: Clock>(
+    clock: &C,
+    alloc: Global,
+    mode: Mode,
+    request: &Request,
+) -> Result<Figure> {
     let mut figure = Figure::new(mode);
     for _ in 0..mode.runs() {
-        let (board, mut writers, mut seen) = Board::new(alloc, 1)?;
-        let mut writer = writers.pop().context("a writer")?;
-        let start = Instant::now(clock)?;
-        commit_all(&board, &mut writer, &request);
-        let count = board.look(&mut seen, 0) as usize;
-        figure.note(clock, start, count)?;
+        commit_run(clock, alloc, request, &mut figure)?;
     }
     Ok(figure)
+}
+
+/// A run on a board of its own.
+fn commit_run<C: Clock>(
+    clock: &C,
+    alloc: Global,
+    request: &Request,
+    figure: &mut Figure,
+) -> Result<()> {
+    let (board, mut writers, mut seen) = Board::new(alloc, 1)?;
+    let Some(mut writer) = writers.pop() else {
+        return Err(Error::msg("a writer"));
+    };
+    time_commits(clock, &board, &mut writer, &mut seen, request, figure)
+}
+
+/// Times a run.
+fn time_commits<C: Clock>(
+    clock: &C,
+    board: &Board,
+    writer: &mut Writer,
+    seen: &mut Seen,
+    request: &Request,
+    figure: &mut Figure,
+) -> Result<()>
+    requires writer { writer.old.board ≡ board.now }
+    requires new { writer.old.list ≡ [] }
+    requires seen { seen.old.board ≡ board.now }
+    requires row { 0 < board.now.words }
+{
+    let start = Instant::now(clock)?;
+    commit_all(board, writer, request);
+    let count = board.look(seen, 0) as usize;
+    figure.note(clock, start, count)
 }
 
 fn commit_all(board: &Board, writer: &mut Writer, request: &Request)
@@ -41,9 +79,16 @@ fn commit_all(board: &Board, writer: &mut Writer, request: &Request)
 /// One token looks at a row.
 pub fn looks<C: Clock>(clock: &C, alloc: Global, mode: Mode) -> Result<Figure> {
     let request = request(alloc)?;
+    look_after(clock, alloc, mode, &request)
+}
+
+/// The same, after a commit.
+fn look_after<C: Clock>(clock: &C, alloc: Global, mode: Mode, request: &Request) -> Result<Figure> {
     let (board, mut writers, mut seen) = Board::new(alloc, 1)?;
-    let mut writer = writers.pop().context("a writer")?;
-    board.commit(&mut writer, &request);
+    let Some(mut writer) = writers.pop() else {
+        return Err(Error::msg("a writer"));
+    };
+    board.commit(&mut writer, request);
     look_runs(clock, &board, &mut seen, mode)
 }
 
@@ -54,11 +99,24 @@ fn look_runs<C: Clock>(clock: &C, board: &Board, seen: &mut Seen, mode: Mode) ->
     let mut figure = Figure::new(mode);
     for _ in 0..mode.runs() {
         let mut late = board.fresh(seen);
-        let start = Instant::now(clock)?;
-        let count = look_often(board, &mut late);
-        figure.note(clock, start, count)?;
+        time_looks(clock, board, &mut late, &mut figure)?;
     }
     Ok(figure)
+}
+
+/// Times a run.
+fn time_looks<C: Clock>(
+    clock: &C,
+    board: &Board,
+    seen: &mut Seen,
+    figure: &mut Figure,
+) -> Result<()>
+    requires board { seen.old.board ≡ board.now }
+    requires row { 0 < board.now.words }
+{
+    let start = Instant::now(clock)?;
+    let count = look_often(board, seen);
+    figure.note(clock, start, count)
 }
 
 /// The sum of what the looks find.

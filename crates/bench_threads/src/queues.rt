@@ -1,6 +1,6 @@
 ghost use Rattle.std.specs.Prelude.{◌≡◌, ◌<◌, length};
 
-use anyhow::{Context, Result};
+use anyhow::{Error, Result};
 use bench_table::{Figure, Mode};
 use op_shards::{Op, OpShards, SendPass, TakePass};
 use std::alloc::Global;
@@ -33,14 +33,42 @@ pub fn pairs_in_one_thread<R: Wait + Clock + Copy + Drop>(
 ) -> Result<Figure> {
     let mut figure = Figure::new(mode);
     for _ in 0..mode.runs() {
-        let (shards, mut sends, mut takes) = OpShards::new(alloc, rt, 1, 64, 1, 1)?;
-        let send = sends.pop().context("a sender")?;
-        let take = takes.pop().context("a taker")?;
-        let start = Instant::now(&rt)?;
-        let taken = pairs(&shards, send, take);
-        figure.note(&rt, start, taken)?;
+        one_thread(rt, alloc, &mut figure)?;
     }
     Ok(figure)
+}
+
+/// A run of one thread.
+fn one_thread<R: Wait + Clock + Copy + Drop>(
+    rt: R,
+    alloc: Global,
+    figure: &mut Figure,
+) -> Result<()> {
+    let (shards, mut sends, mut takes) = OpShards::new(alloc, rt, 1, 64, 1, 1)?;
+    let Some(send) = sends.pop() else {
+        return Err(Error::msg("a sender"));
+    };
+    let Some(take) = takes.pop() else {
+        return Err(Error::msg("a taker"));
+    };
+    time_one(&rt, &shards, send, take, figure)
+}
+
+/// Times a run of one thread.
+fn time_one<R: Wait + Clock>(
+    rt: &R,
+    shards: &OpShards<Asked, R>,
+    send: SendPass<Asked>,
+    take: TakePass<Asked>,
+    figure: &mut Figure,
+) -> Result<()>
+    requires send { send.queues ≡ shards.now.queues }
+    requires take { take.queues ≡ shards.now.queues }
+    requires shard { 0 < length shards.now.queues.names }
+{
+    let start = Instant::now(rt)?;
+    let taken = pairs(shards, send, take);
+    figure.note(rt, start, taken)
 }
 
 fn pairs<R: Wait>(
@@ -70,27 +98,74 @@ pub fn pairs_in_four_threads<R: Threads + Wait + Clock + Copy + Sync + Drop>(
 ) -> Result<Figure> {
     let mut figure = Figure::new(mode);
     for _ in 0..mode.runs() {
-        let (shards, mut sends, mut takes) = OpShards::new(alloc, rt, 2, 64, 2, 2)?;
-        let one = sends.pop().context("a sender")?;
-        let two = sends.pop().context("a sender")?;
-        let first = takes.pop().context("a taker")?;
-        let second = takes.pop().context("a taker")?;
-        let start = Instant::now(&rt)?;
-        let ((), taken) = join(
-            &rt,
-            ||
-                requires one { one.queues ≡ shards.queues }
-                requires two { two.queues ≡ shards.queues }
-            { send_two(&rt, &shards, one, two) },
-            || -> usize
-                requires first { first.queues ≡ shards.queues }
-                requires second { second.queues ≡ shards.queues }
-                requires shards { length shards.queues.names ≡ 2 }
-            { take_two(&rt, &shards, first, second) },
-        );
-        figure.note(&rt, start, taken)?;
+        four_threads(rt, alloc, &mut figure)?;
     }
     Ok(figure)
+}
+
+/// A run of four threads.
+fn four_threads<R: Threads + Wait + Clock + Copy + Sync + Drop>(
+    rt: R,
+    alloc: Global,
+    figure: &mut Figure,
+) -> Result<()> {
+    let (shards, mut sends, mut takes) = OpShards::new(alloc, rt, 2, 64, 2, 2)?;
+    let (Some(one), Some(two)) = (sends.pop(), sends.pop()) else {
+        return Err(Error::msg("a sender"));
+    };
+    let (Some(first), Some(second)) = (takes.pop(), takes.pop()) else {
+        return Err(Error::msg("a taker"));
+    };
+    time_four(&rt, &shards, (one, two), (first, second), figure)
+}
+
+/// Times a run of four threads.
+fn time_four<R: Threads + Wait + Clock + Sync>(
+    rt: &R,
+    shards: &OpShards<Asked, R>,
+    sends: (SendPass<Asked>, SendPass<Asked>),
+    takes: (TakePass<Asked>, TakePass<Asked>),
+    figure: &mut Figure,
+) -> Result<()>
+    requires one { sends.0.queues ≡ shards.now.queues }
+    requires two { sends.1.queues ≡ shards.now.queues }
+    requires first { takes.0.queues ≡ shards.now.queues }
+    requires second { takes.1.queues ≡ shards.now.queues }
+    requires shards { length shards.now.queues.names ≡ 2 }
+{
+    let start = Instant::now(rt)?;
+    let taken = four(rt, shards, sends, takes);
+    figure.note(rt, start, taken)
+}
+
+/// Sends and takes at once.
+fn four<R: Threads + Wait + Sync>(
+    rt: &R,
+    shards: &OpShards<Asked, R>,
+    sends: (SendPass<Asked>, SendPass<Asked>),
+    takes: (TakePass<Asked>, TakePass<Asked>),
+) -> usize
+    requires one { sends.0.queues ≡ shards.now.queues }
+    requires two { sends.1.queues ≡ shards.now.queues }
+    requires first { takes.0.queues ≡ shards.now.queues }
+    requires second { takes.1.queues ≡ shards.now.queues }
+    requires shards { length shards.now.queues.names ≡ 2 }
+{
+    let (one, two) = sends;
+    let (first, second) = takes;
+    let ((), taken) = join(
+        rt,
+        ||
+            requires one { one.queues ≡ shards.now.queues }
+            requires two { two.queues ≡ shards.now.queues }
+        { send_two(rt, shards, one, two) },
+        || -> usize
+            requires first { first.queues ≡ shards.now.queues }
+            requires second { second.queues ≡ shards.now.queues }
+            requires shards { length shards.now.queues.names ≡ 2 }
+        { take_two(rt, shards, first, second) },
+    );
+    taken
 }
 
 fn send_two<R: Threads + Wait + Sync>(

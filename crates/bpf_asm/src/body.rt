@@ -1,7 +1,6 @@
-ghost use Rattle.std.specs.Prelude.{◌≡◌, ◌≤◌, ◌<◌, ◌^◌, ◌+◌, ◌-ℤ◌, ◌⊎◌, ◌≤ℤ◌, pos, IfOk, MatchResult, length, is_some, take, count_by};
+ghost use Rattle.std.specs.Prelude.{◌≡◌, ◌≤◌, ◌<◌, ◌^◌, ◌+◌, ◌-ℤ◌, ◌⊎◌, ◌≤ℤ◌, pos, [], IfOk, OnOk, MatchResult, length, is_some, take, count_by};
 ghost use Rattle.std.specs.Option.{ForSome};
 ghost use Rattle.bpf_decode.specs.Instruction.{slot_count, slot_total};
-ghost use Rattle.std.specs.List.{list_any};
 ghost use Rattle.bpf_asm.specs.Fault.{no_memory};
 ghost use Rattle.bpf_asm.specs.Bodies.{draft_slots, line_slots, distance_within, resolved, near, far, finished, instruction_at, line_at, body, is_instruction, has_instruction};
 
@@ -83,7 +82,10 @@ fn near(labels: &Labels, slot: usize, target: &Target) -> Result<i16, AsmFault>
     requires { slot ≤ SLOT_LIMIT }
     ensures { result ≡ near labels.now slot target.now }
 {
-    Ok(resolved(-32768, 32767, labels, slot, target)? as i16)
+    match resolved(-32768, 32767, labels, slot, target) {
+        Ok(distance) => Ok(distance as i16),
+        Err(fault) => Err(fault),
+    }
 }
 
 /// Where a jump by an immediate goes.
@@ -91,7 +93,10 @@ fn far(labels: &Labels, slot: usize, target: &Target) -> Result<i32, AsmFault>
     requires { slot ≤ SLOT_LIMIT }
     ensures { result ≡ far labels.now slot target.now }
 {
-    Ok(resolved(-2147483648, 2147483647, labels, slot, target)? as i32)
+    match resolved(-2147483648, 2147483647, labels, slot, target) {
+        Ok(distance) => Ok(distance as i32),
+        Err(fault) => Err(fault),
+    }
 }
 
 /// The instruction at a slot.
@@ -101,22 +106,28 @@ fn finished(labels: &Labels, slot: usize, draft: &Draft) -> Result<Insn, AsmFaul
 {
     match draft {
         Draft::Plain(insn) => Ok(*insn),
-        Draft::Jump(target) => Ok(Insn::Jump {
-            offset: near(labels, slot, target)?,
-        }),
-        Draft::JumpLong(target) => Ok(Insn::JumpLong {
-            distance: far(labels, slot, target)?,
-        }),
-        Draft::Branch(bits, comparison, dst, source, target) => Ok(Insn::Branch {
-            bits: *bits,
-            comparison: *comparison,
-            dst: *dst,
-            source: *source,
-            offset: near(labels, slot, target)?,
-        }),
-        Draft::CallLocal(target) => Ok(Insn::CallLocal {
-            distance: far(labels, slot, target)?,
-        }),
+        Draft::Jump(target) => match near(labels, slot, target) {
+            Ok(offset) => Ok(Insn::Jump { offset }),
+            Err(fault) => Err(fault),
+        },
+        Draft::JumpLong(target) => match far(labels, slot, target) {
+            Ok(distance) => Ok(Insn::JumpLong { distance }),
+            Err(fault) => Err(fault),
+        },
+        Draft::Branch(bits, comparison, dst, source, target) => match near(labels, slot, target) {
+            Ok(offset) => Ok(Insn::Branch {
+                bits: *bits,
+                comparison: *comparison,
+                dst: *dst,
+                source: *source,
+                offset,
+            }),
+            Err(fault) => Err(fault),
+        },
+        Draft::CallLocal(target) => match far(labels, slot, target) {
+            Ok(distance) => Ok(Insn::CallLocal { distance }),
+            Err(fault) => Err(fault),
+        },
     }
 }
 
@@ -135,7 +146,10 @@ fn instruction_at(
             if slot + draft_slots(draft) > SLOT_LIMIT {
                 return Err(AsmFault::Range);
             }
-            Ok(Some(finished(labels, slot, line)?))
+            match finished(labels, slot, line) {
+                Ok(insn) => Ok(Some(insn)),
+                Err(fault) => Err(fault),
+            }
         }
     }
 }
@@ -165,24 +179,26 @@ fn line_at(
     }
 }
 
-/// A method's instructions, whose first line has that number; or the first line that is refused, and its least fault.
+/// Puts the instructions of a method's lines, of which those are the labels and whose first has that number, into an
+/// empty list.
 #[tactic(auto, unfolding(crate::specs::Bodies::body_from))]
-pub(crate) fn read_body(
-    alloc: Global,
+fn push_body(
+    labels: &Labels,
     first: usize,
     lines: &[Statement],
-) -> Result<Vec<Insn>, AsmError>
-    requires { first + length lines.now < 2 ^ 64 }
-    ensures read { MatchResult result (λ v. body first lines.now ≡ Ok v.items) (λ e. (e ≡ no_memory) ⊎ (body first lines.now ≡ Err e)) }
-    ensures slots { IfOk result (λ v. slot_total v.items ≤ SLOT_LIMIT) }
-    ensures some { IfOk result (λ v. count_by is_instruction lines.now ≤ slot_total v.items) }
+    insns: &mut Vec<Insn>,
+) -> Result<(), AsmError>
+    requires room { first + length lines.now < 2 ^ 64 }
+    requires same { labels.now ≡ lines.now }
+    requires empty { insns.old.items ≡ [] }
+    ensures read { MatchResult result (λ _. body first lines.now ≡ Ok insns.new.items) (λ e. (e ≡ no_memory) ⊎ (body first lines.now ≡ Err e)) }
+    ensures slots { OnOk result (slot_total insns.new.items ≤ SLOT_LIMIT) }
+    ensures some { OnOk result (count_by is_instruction lines.now ≤ slot_total insns.new.items) }
 {
-    let labels = Labels::of(alloc, lines)?;
-    let mut insns = Vec::new(alloc);
     let mut slot = 0;
     let mut index = 0;
     while index < lines.len() {
-        match line_at(&labels, index, slot, &lines[index]) {
+        match line_at(labels, index, slot, &lines[index]) {
             Err(fault) => {
                 return Err(AsmError {
                     line: first + index,
@@ -197,7 +213,26 @@ pub(crate) fn read_body(
         }
         index += 1;
     }
-    Ok(insns)
+    Ok(())
+}
+
+/// A method's instructions, whose first line has that number; or the first line that is refused, and its least fault.
+pub(crate) fn read_body(
+    alloc: Global,
+    first: usize,
+    lines: &[Statement],
+) -> Result<Vec<Insn>, AsmError>
+    requires { first + length lines.now < 2 ^ 64 }
+    ensures read { MatchResult result (λ v. body first lines.now ≡ Ok v.items) (λ e. (e ≡ no_memory) ⊎ (body first lines.now ≡ Err e)) }
+    ensures slots { IfOk result (λ v. slot_total v.items ≤ SLOT_LIMIT) }
+    ensures some { IfOk result (λ v. count_by is_instruction lines.now ≤ slot_total v.items) }
+{
+    let labels = Labels::of(alloc, lines)?;
+    let mut insns = Vec::new(alloc);
+    match push_body(&labels, first, lines, &mut insns) {
+        Ok(()) => Ok(insns),
+        Err(error) => Err(error),
+    }
 }
 
 /// Whether a line is an instruction's.

@@ -115,9 +115,12 @@ fn bare_class_fault(lines: &[Statement]) -> AsmFault
     ensures { result ≡ bare_class_fault lines.now }
 {
     match lines {
-        [Statement::Label(_), ..] => AsmFault::Word,
-        [Statement::Directive(Err(fault)), ..] => fault.least(AsmFault::Range),
-        _ => AsmFault::Range,
+        [] => AsmFault::Range,
+        [first, ..] => match first {
+            Statement::Label(_) => AsmFault::Word,
+            Statement::Directive(Err(fault)) => fault.least(AsmFault::Range),
+            _ => AsmFault::Range,
+        },
     }
 }
 

@@ -1,4 +1,4 @@
-ghost use Rattle.std.specs.Prelude.{◌≡◌, IfOk, IsFalse, length};
+ghost use Rattle.std.specs.Prelude.{◌≡◌, IsFalse};
 ghost use Rattle.bpf_asm.specs.Operands.{filled, of_one, of_two, of_three, register_of, immediate_of, unsigned_of, source_of, memory_of, near_target_of, far_target_of};
 ghost use Rattle.bpf_asm.specs.Drafts.{draft, call_of, instruction_of, has_target};
 ghost use Rattle.bpf_asm.specs.Texts.{lone, pair, triple};
@@ -11,16 +11,15 @@ use crate::operand::{
 use crate::target::Target;
 use crate::text::{after_word, first_word, lone, pair, triple};
 use bpf_decode::{Bits, Comparison, Insn, Operand, Register, SignedWidth, Width};
-use std::alloc::{AllocError, Global};
 
 /// An instruction as its line has it: where a jump goes may be a label.
 #[derive(Drop)]
-pub(crate) enum Draft {
+pub(crate) enum Draft<'a> {
     Plain(Insn),
-    Jump(Target),
-    JumpLong(Target),
-    Branch(Bits, Comparison, Register, Operand, Target),
-    CallLocal(Target),
+    Jump(Target<'a>),
+    JumpLong(Target<'a>),
+    Branch(Bits, Comparison, Register, Operand, Target<'a>),
+    CallLocal(Target<'a>),
 }
 
 /// One register.
@@ -94,57 +93,51 @@ fn memory_and_register(rest: &[u8]) -> Result<((Register, i16), Register), AsmFa
 }
 
 /// The target of a jump by an offset.
-fn one_near(alloc: Global, rest: &[u8]) -> Result<Result<Target, AsmFault>, AllocError>
-    ensures { IfOk result (λ t. t ≡ of_one near_target_of (lone rest.now)) }
+fn one_near(rest: &[u8]) -> Result<Target, AsmFault>
+    ensures { result ≡ of_one near_target_of (lone rest.now) }
 {
     match lone(rest) {
-        Some(a) => near_target(alloc, a),
-        None => Ok(Err(AsmFault::Operand)),
+        Some(a) => near_target(a),
+        None => Err(AsmFault::Operand),
     }
 }
 
 /// The target of a jump by an immediate.
-fn one_far(alloc: Global, rest: &[u8]) -> Result<Result<Target, AsmFault>, AllocError>
-    ensures { IfOk result (λ t. t ≡ of_one far_target_of (lone rest.now)) }
+fn one_far(rest: &[u8]) -> Result<Target, AsmFault>
+    ensures { result ≡ of_one far_target_of (lone rest.now) }
 {
     match lone(rest) {
-        Some(a) => far_target(alloc, a),
-        None => Ok(Err(AsmFault::Operand)),
+        Some(a) => far_target(a),
+        None => Err(AsmFault::Operand),
     }
 }
 
 /// What a conditional jump compares, and where it goes.
-fn branch_operands(
-    alloc: Global,
-    rest: &[u8],
-) -> Result<Result<(Register, (Operand, Target)), AsmFault>, AllocError>
-    ensures { IfOk result (λ p. p ≡ of_three register_of source_of near_target_of (triple rest.now)) }
+fn branch_operands(rest: &[u8]) -> Result<(Register, (Operand, Target)), AsmFault>
+    ensures { result ≡ of_three register_of source_of near_target_of (triple rest.now) }
 {
     match triple(rest) {
-        Some((a, b, c)) => {
-            let target = near_target(alloc, c)?;
-            Ok(both(register(a), both(source(b), target)))
-        }
-        None => Ok(Err(AsmFault::Operand)),
+        Some((a, b, c)) => both(register(a), both(source(b), near_target(c))),
+        None => Err(AsmFault::Operand),
     }
 }
 
 /// What a call's operand says.
 #[tactic(auto, unfolding(crate::specs::Drafts::call_of))]
-fn call(alloc: Global, text: &[u8]) -> Result<Result<Draft, AsmFault>, AllocError>
-    ensures { IfOk result (λ d. d ≡ call_of text.now) }
+fn call(text: &[u8]) -> Result<Draft, AsmFault>
+    ensures { result ≡ call_of text.now }
 {
     if first_word(text) == b"local".as_slice() {
-        return match far_target(alloc, after_word(text))? {
-            Ok(target) => Ok(Ok(Draft::CallLocal(target))),
-            Err(fault) => Ok(Err(fault)),
+        return match far_target(after_word(text)) {
+            Ok(target) => Ok(Draft::CallLocal(target)),
+            Err(fault) => Err(fault),
         };
     }
     match unsigned(text, 4294967295) {
-        Ok(helper) => Ok(Ok(Draft::Plain(Insn::Call {
+        Ok(helper) => Ok(Draft::Plain(Insn::Call {
             helper: helper as u32,
-        }))),
-        Err(fault) => Ok(Err(fault)),
+        })),
+        Err(fault) => Err(fault),
     }
 }
 
@@ -152,52 +145,60 @@ fn call(alloc: Global, text: &[u8]) -> Result<Result<Draft, AsmFault>, AllocErro
 fn load(width: Width, rest: &[u8]) -> Result<Insn, AsmFault>
     ensures { filled Draft.Plain result ≡ draft (Form.Load width) rest.now }
 {
-    let (dst, (base, offset)) = register_and_memory(rest)?;
-    Ok(Insn::Load {
-        width,
-        dst,
-        base,
-        offset,
-    })
+    match register_and_memory(rest) {
+        Ok((dst, (base, offset))) => Ok(Insn::Load {
+            width,
+            dst,
+            base,
+            offset,
+        }),
+        Err(fault) => Err(fault),
+    }
 }
 
 /// A load with sign extension.
 fn load_signed(width: SignedWidth, rest: &[u8]) -> Result<Insn, AsmFault>
     ensures { filled Draft.Plain result ≡ draft (Form.LoadSigned width) rest.now }
 {
-    let (dst, (base, offset)) = register_and_memory(rest)?;
-    Ok(Insn::LoadSigned {
-        width,
-        dst,
-        base,
-        offset,
-    })
+    match register_and_memory(rest) {
+        Ok((dst, (base, offset))) => Ok(Insn::LoadSigned {
+            width,
+            dst,
+            base,
+            offset,
+        }),
+        Err(fault) => Err(fault),
+    }
 }
 
 /// A store of a number.
 fn store_number(width: Width, rest: &[u8]) -> Result<Insn, AsmFault>
     ensures { filled Draft.Plain result ≡ draft (Form.StoreNumber width) rest.now }
 {
-    let ((base, offset), imm) = memory_and_number(rest)?;
-    Ok(Insn::Store {
-        width,
-        base,
-        offset,
-        source: Operand::Immediate(imm),
-    })
+    match memory_and_number(rest) {
+        Ok(((base, offset), imm)) => Ok(Insn::Store {
+            width,
+            base,
+            offset,
+            source: Operand::Immediate(imm),
+        }),
+        Err(fault) => Err(fault),
+    }
 }
 
 /// A store of a register.
 fn store_register(width: Width, rest: &[u8]) -> Result<Insn, AsmFault>
     ensures { filled Draft.Plain result ≡ draft (Form.StoreRegister width) rest.now }
 {
-    let ((base, offset), src) = memory_and_register(rest)?;
-    Ok(Insn::Store {
-        width,
-        base,
-        offset,
-        source: Operand::Register(src),
-    })
+    match memory_and_register(rest) {
+        Ok(((base, offset), src)) => Ok(Insn::Store {
+            width,
+            base,
+            offset,
+            source: Operand::Register(src),
+        }),
+        Err(fault) => Err(fault),
+    }
 }
 
 /// A form without a target, with its operands.
@@ -206,40 +207,39 @@ fn plain(form: Form, rest: &[u8]) -> Result<Insn, AsmFault>
     ensures { filled Draft.Plain result ≡ draft form rest.now }
 {
     match form {
-        Form::Alu(bits, operation) => {
-            let (dst, source) = register_and_source(rest)?;
-            Ok(Insn::Alu {
+        Form::Alu(bits, operation) => match register_and_source(rest) {
+            Ok((dst, source)) => Ok(Insn::Alu {
                 bits,
                 operation,
                 dst,
                 source,
-            })
-        }
-        Form::Neg(bits) => Ok(Insn::Neg {
-            bits,
-            dst: one_register(rest)?,
-        }),
-        Form::Mov(bits) => {
-            let (dst, source) = register_and_source(rest)?;
-            Ok(Insn::Mov { bits, dst, source })
-        }
-        Form::MovSigned(extension) => {
-            let (dst, src) = two_registers(rest)?;
-            Ok(Insn::MovSigned {
+            }),
+            Err(fault) => Err(fault),
+        },
+        Form::Neg(bits) => match one_register(rest) {
+            Ok(dst) => Ok(Insn::Neg { bits, dst }),
+            Err(fault) => Err(fault),
+        },
+        Form::Mov(bits) => match register_and_source(rest) {
+            Ok((dst, source)) => Ok(Insn::Mov { bits, dst, source }),
+            Err(fault) => Err(fault),
+        },
+        Form::MovSigned(extension) => match two_registers(rest) {
+            Ok((dst, src)) => Ok(Insn::MovSigned {
                 extension,
                 dst,
                 src,
-            })
-        }
-        Form::End(order, width) => Ok(Insn::End {
-            order,
-            width,
-            dst: one_register(rest)?,
-        }),
-        Form::LoadWide => {
-            let (dst, value) = register_and_wide(rest)?;
-            Ok(Insn::LoadWide { dst, value })
-        }
+            }),
+            Err(fault) => Err(fault),
+        },
+        Form::End(order, width) => match one_register(rest) {
+            Ok(dst) => Ok(Insn::End { order, width, dst }),
+            Err(fault) => Err(fault),
+        },
+        Form::LoadWide => match register_and_wide(rest) {
+            Ok((dst, value)) => Ok(Insn::LoadWide { dst, value }),
+            Err(fault) => Err(fault),
+        },
         Form::Load(width) => load(width, rest),
         Form::LoadSigned(width) => load_signed(width, rest),
         Form::StoreNumber(width) => store_number(width, rest),
@@ -255,36 +255,41 @@ fn plain(form: Form, rest: &[u8]) -> Result<Insn, AsmFault>
     }
 }
 
-/// A form with its operands. Want of memory apart, an error is the line's.
-fn with_operands(
-    alloc: Global,
-    form: Form,
-    rest: &[u8],
-) -> Result<Result<Draft, AsmFault>, AllocError>
-    ensures { IfOk result (λ d. d ≡ draft form rest.now) }
+/// A form with its operands.
+fn with_operands(form: Form, rest: &[u8]) -> Result<Draft, AsmFault>
+    ensures { result ≡ draft form rest.now }
 {
     match form {
-        Form::Jump => Ok(one_near(alloc, rest)?.map(Draft::Jump)),
-        Form::JumpLong => Ok(one_far(alloc, rest)?.map(Draft::JumpLong)),
-        Form::Branch(bits, comparison) => Ok(match branch_operands(alloc, rest)? {
+        Form::Jump => match one_near(rest) {
+            Ok(target) => Ok(Draft::Jump(target)),
+            Err(fault) => Err(fault),
+        },
+        Form::JumpLong => match one_far(rest) {
+            Ok(target) => Ok(Draft::JumpLong(target)),
+            Err(fault) => Err(fault),
+        },
+        Form::Branch(bits, comparison) => match branch_operands(rest) {
             Ok((dst, (source, target))) => Ok(Draft::Branch(bits, comparison, dst, source, target)),
             Err(fault) => Err(fault),
-        }),
-        Form::Call => match lone(rest) {
-            Some(a) => call(alloc, a),
-            None => Ok(Err(AsmFault::Operand)),
         },
-        _ => Ok(plain(form, rest).map(Draft::Plain)),
+        Form::Call => match lone(rest) {
+            Some(a) => call(a),
+            None => Err(AsmFault::Operand),
+        },
+        _ => match plain(form, rest) {
+            Ok(insn) => Ok(Draft::Plain(insn)),
+            Err(fault) => Err(fault),
+        },
     }
 }
 
 /// An instruction's line.
 #[tactic(auto, unfolding(crate::specs::Drafts::instruction_of))]
-pub(crate) fn instruction(alloc: Global, text: &[u8]) -> Result<Result<Draft, AsmFault>, AllocError>
-    ensures { IfOk result (λ d. d ≡ instruction_of text.now) }
+pub(crate) fn instruction(text: &[u8]) -> Result<Draft, AsmFault>
+    ensures { result ≡ instruction_of text.now }
 {
     match Form::of(first_word(text)) {
-        Some(form) => with_operands(alloc, form, after_word(text)),
-        None => Ok(Err(AsmFault::Word)),
+        Some(form) => with_operands(form, after_word(text)),
+        None => Err(AsmFault::Word),
     }
 }

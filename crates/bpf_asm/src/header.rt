@@ -5,14 +5,14 @@ use std::marker::Model;
 
 /// What a `.method` line says of its method. Contracts see a `MethodHeader`, whose name and numbers are within the limits.
 #[derive(Drop)]
-pub(crate) struct Header {
-    name: Name,
+pub(crate) struct Header<'a> {
+    name: Name<'a>,
     flags: u8,
     in_cap: u16,
     out_cap: u16,
 }
 
-impl Model for Header {
+impl<'a> Model for Header<'a> {
     ghost use Rattle.std.specs.Prelude.{IsTrue};
     ghost use Rattle.bpf_asm.specs.Headers.{MethodHeader, is_header};
 
@@ -23,14 +23,14 @@ impl Model for Header {
     ghost invariant = { λ h. IsTrue (is_header (record { name = h.name; flags = h.flags; in_cap = h.in_cap; out_cap = h.out_cap })) };
 }
 
-impl Header {
+impl<'a> Header<'a> {
     ghost use Rattle.std.specs.Prelude.{◌≡◌, IsTrue};
     ghost use Rattle.bpf_asm.specs.Headers.{is_header};
 
     /// A header within the limits.
-    pub(crate) fn new(name: Name, flags: u8, in_cap: u16, out_cap: u16) -> Header
+    pub(crate) fn new(name: Name<'a>, flags: u8, in_cap: u16, out_cap: u16) -> Header<'a>
         requires { IsTrue (is_header (record { name = name; flags = flags; in_cap = in_cap; out_cap = out_cap })) }
-        ensures { result ≡ record { name = name; flags = flags; in_cap = in_cap; out_cap = out_cap } }
+        ensures { result ≡ record { name = name.entry; flags = flags; in_cap = in_cap; out_cap = out_cap } }
     {
         Header {
             name,

@@ -10,12 +10,12 @@ use std::marker::Model;
 /// The labels of a method's lines by name: the slot and the line at which each stands first. Contracts see the lines.
 /// It costs a logarithm of the number of labels for each label, and for each question.
 #[derive(Drop)]
-pub(crate) struct Labels<'a> {
-    lines: &'a [Statement],
-    first: BTreeMap<&'a [u8], (usize, usize)>,
+pub(crate) struct Labels<'a, 't> {
+    lines: &'a [Statement<'t>],
+    first: BTreeMap<&'t [u8], (usize, usize)>,
 }
 
-impl<'a> Model for Labels<'a> {
+impl<'a, 't> Model for Labels<'a, 't> {
     ghost use Rattle.std.specs.Prelude.{List};
     ghost use Rattle.bpf_asm.specs.declared.statement.Statement.{Statement as Line};
     ghost use Rattle.bpf_asm.specs.Places.{AreLabels};
@@ -27,12 +27,15 @@ impl<'a> Model for Labels<'a> {
     ghost invariant = { λ l. AreLabels l.first l.lines.now };
 }
 
-impl<'a> Labels<'a> {
+impl<'a, 't> Labels<'a, 't> {
     ghost use Rattle.std.specs.Prelude.{◌≡◌, IfOk, is_some, take};
     ghost use Rattle.bpf_asm.specs.Bodies.{slot_of_label};
 
     /// Those of the lines.
-    pub(crate) fn of(alloc: Global, lines: &'a [Statement]) -> Result<Labels<'a>, AllocError>
+    pub(crate) fn of(
+        alloc: Global,
+        lines: &'a [Statement<'t>],
+    ) -> Result<Labels<'a, 't>, AllocError>
         ensures { IfOk result (λ l. l ≡ lines.now) }
     {
         let first = first_of(alloc, lines)?;
@@ -75,10 +78,10 @@ fn note<'a>(
 }
 
 /// The slot and the line of each label's first line.
-fn first_of<'a>(
+fn first_of<'t>(
     alloc: Global,
-    lines: &'a [Statement],
-) -> Result<BTreeMap<&'a [u8], (usize, usize)>, AllocError>
+    lines: &[Statement<'t>],
+) -> Result<BTreeMap<&'t [u8], (usize, usize)>, AllocError>
     ensures { IfOk result (λ m. AreLabels m lines.now) }
 {
     let mut first = BTreeMap::new(alloc);

@@ -1,5 +1,4 @@
-ghost use Rattle.std.specs.Prelude.{◌≡◌, ◌≤◌, ◌<◌, ◌^◌, pos, Some, None, if◌then◌else◌, nat_le, FitsSigned};
-ghost use Rattle.std.specs.Int.{w32, w16};
+ghost use Rattle.std.specs.Prelude.{◌≡◌, ◌≤◌, ◌<◌, ◌^◌, Some};
 ghost use Rattle.std.specs.Char.{digit_value, is_digit};
 ghost use Rattle.std.specs.List.{list_all};
 ghost use Rattle.std.specs.Str.Parse.{digits_value};
@@ -132,12 +131,13 @@ fn within(text: &[u8], most: u64) -> Result<u64, AsmFault>
 fn minus(text: &[u8], below: u64) -> Result<Number, AsmFault>
     ensures { result ≡ minus_within below text.now }
 {
-    match within(text, below)? {
-        0 => Err(AsmFault::Operand),
-        magnitude => Ok(Number {
+    match within(text, below) {
+        Ok(0) => Err(AsmFault::Operand),
+        Ok(magnitude) => Ok(Number {
             negative: true,
             magnitude,
         }),
+        Err(fault) => Err(fault),
     }
 }
 
@@ -146,11 +146,13 @@ fn minus(text: &[u8], below: u64) -> Result<Number, AsmFault>
 fn plus(text: &[u8], above: u64) -> Result<Number, AsmFault>
     ensures { result ≡ plus_within above text.now }
 {
-    let magnitude = within(text, above)?;
-    Ok(Number {
-        negative: false,
-        magnitude,
-    })
+    match within(text, above) {
+        Ok(magnitude) => Ok(Number {
+            negative: false,
+            magnitude,
+        }),
+        Err(fault) => Err(fault),
+    }
 }
 
 /// A number from minus `below` to `above`, with `-` before a negative one alone.

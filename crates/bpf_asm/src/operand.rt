@@ -1,13 +1,12 @@
-ghost use Rattle.std.specs.Prelude.{◌≡◌, ◌≤◌, ◌<◌, ◌^◌, IfOk, length};
+ghost use Rattle.std.specs.Prelude.{◌≡◌, ◌≤◌, ◌<◌, IfOk, length};
 ghost use Rattle.std.specs.List.{position_or_len};
 ghost use Rattle.bpf_asm.specs.Operands.{least, both, register_of, immediate_of, offset_of, distance_of, unsigned_of, source_of, is_sign, offset_or_zero, place_within, memory_of, near_target_of, far_target_of};
 
 use crate::fault::AsmFault;
 use crate::number::{decimal_within, plain, signed};
 use crate::target::{Name, Target};
-use crate::text::is_label_name;
+use crate::text::{is_label_name, place_of_either};
 use bpf_decode::{Operand, Register};
-use std::alloc::{AllocError, Global};
 
 /// Two readings of one line: of two faults the least.
 pub(crate) fn both<A: Drop, B: Drop>(
@@ -16,11 +15,15 @@ pub(crate) fn both<A: Drop, B: Drop>(
 ) -> Result<(A, B), AsmFault>
     ensures { result ≡ both a b }
 {
-    match (a, b) {
-        (Ok(a), Ok(b)) => Ok((a, b)),
-        (Ok(_), Err(fault)) => Err(fault),
-        (Err(fault), Ok(_)) => Err(fault),
-        (Err(f), Err(g)) => Err(f.least(g)),
+    match a {
+        Ok(a) => match b {
+            Ok(b) => Ok((a, b)),
+            Err(fault) => Err(fault),
+        },
+        Err(f) => match b {
+            Ok(_) => Err(f),
+            Err(g) => Err(f.least(g)),
+        },
     }
 }
 
@@ -30,10 +33,10 @@ pub(crate) fn register(text: &[u8]) -> Result<Register, AsmFault>
     ensures { result ≡ register_of text.now }
 {
     match text {
-        [b'r', digits @ ..] => {
-            let number = decimal_within(digits, 10)?;
-            Register::new(number as u8).ok_or(AsmFault::Range)
-        }
+        [b'r', digits @ ..] => match decimal_within(digits, 10) {
+            Ok(number) => Register::new(number as u8).ok_or(AsmFault::Range),
+            Err(fault) => Err(fault),
+        },
         _ => Err(AsmFault::Operand),
     }
 }
@@ -43,7 +46,10 @@ pub(crate) fn register(text: &[u8]) -> Result<Register, AsmFault>
 pub(crate) fn immediate(text: &[u8]) -> Result<i32, AsmFault>
     ensures { result ≡ immediate_of text.now }
 {
-    Ok(plain(text, 2147483648, 2147483647)?.to_i32())
+    match plain(text, 2147483648, 2147483647) {
+        Ok(number) => Ok(number.to_i32()),
+        Err(fault) => Err(fault),
+    }
 }
 
 /// An offset of 16 bits.
@@ -51,7 +57,10 @@ pub(crate) fn immediate(text: &[u8]) -> Result<i32, AsmFault>
 fn offset(text: &[u8]) -> Result<i16, AsmFault>
     ensures { result ≡ offset_of text.now }
 {
-    Ok(signed(text, 32768, 32767)?.to_i16())
+    match signed(text, 32768, 32767) {
+        Ok(number) => Ok(number.to_i16()),
+        Err(fault) => Err(fault),
+    }
 }
 
 /// A distance of 32 bits.
@@ -59,7 +68,10 @@ fn offset(text: &[u8]) -> Result<i16, AsmFault>
 fn distance(text: &[u8]) -> Result<i32, AsmFault>
     ensures { result ≡ distance_of text.now }
 {
-    Ok(signed(text, 2147483648, 2147483647)?.to_i32())
+    match signed(text, 2147483648, 2147483647) {
+        Ok(number) => Ok(number.to_i32()),
+        Err(fault) => Err(fault),
+    }
 }
 
 /// A number from 0 to `most`.
@@ -68,7 +80,10 @@ pub(crate) fn unsigned(text: &[u8], most: u64) -> Result<u64, AsmFault>
     ensures read { result ≡ unsigned_of most text.now }
     ensures within { IfOk result (λ n. n ≤ most) }
 {
-    Ok(plain(text, 0, most)?.magnitude)
+    match plain(text, 0, most) {
+        Ok(number) => Ok(number.magnitude),
+        Err(fault) => Err(fault),
+    }
 }
 
 /// A register or an immediate.
@@ -77,8 +92,14 @@ pub(crate) fn source(text: &[u8]) -> Result<Operand, AsmFault>
     ensures { result ≡ source_of text.now }
 {
     match text {
-        [b'r', ..] => Ok(Operand::Register(register(text)?)),
-        _ => Ok(Operand::Immediate(immediate(text)?)),
+        [b'r', ..] => match register(text) {
+            Ok(src) => Ok(Operand::Register(src)),
+            Err(fault) => Err(fault),
+        },
+        _ => match immediate(text) {
+            Ok(imm) => Ok(Operand::Immediate(imm)),
+            Err(fault) => Err(fault),
+        },
     }
 }
 
@@ -94,9 +115,7 @@ fn place_of_sign(text: &[u8]) -> usize
     ensures place { result ≡ position_or_len is_sign text.now }
     ensures bound { result ≤ length text.now }
 {
-    text.iter()
-        .position(|b| *b == b'+' || *b == b'-')
-        .unwrap_or(text.len())
+    place_of_either(text, b'+', b'-')
 }
 
 /// What stands in brackets.
@@ -121,31 +140,28 @@ pub(crate) fn memory(text: &[u8]) -> Result<(Register, i16), AsmFault>
 
 /// Where a jump by an offset goes.
 #[tactic(auto, unfolding(crate::specs::Operands::near_target_of))]
-pub(crate) fn near_target(
-    alloc: Global,
-    text: &[u8],
-) -> Result<Result<Target, AsmFault>, AllocError>
-    ensures { IfOk result (λ t. t ≡ near_target_of text.now) }
+pub(crate) fn near_target(text: &[u8]) -> Result<Target, AsmFault>
+    ensures { result ≡ near_target_of text.now }
 {
     if is_label_name(text) {
-        return Ok(Ok(Target::Label(Name::new(alloc, text)?)));
+        return Ok(Target::Label(Name::new(text)));
     }
     match offset(text) {
-        Ok(slots) => Ok(Ok(Target::Slots(i32::from(slots)))),
-        Err(fault) => Ok(Err(fault)),
+        Ok(slots) => Ok(Target::Slots(i32::from(slots))),
+        Err(fault) => Err(fault),
     }
 }
 
 /// Where a jump by an immediate goes.
 #[tactic(auto, unfolding(crate::specs::Operands::far_target_of))]
-pub(crate) fn far_target(alloc: Global, text: &[u8]) -> Result<Result<Target, AsmFault>, AllocError>
-    ensures { IfOk result (λ t. t ≡ far_target_of text.now) }
+pub(crate) fn far_target(text: &[u8]) -> Result<Target, AsmFault>
+    ensures { result ≡ far_target_of text.now }
 {
     if is_label_name(text) {
-        return Ok(Ok(Target::Label(Name::new(alloc, text)?)));
+        return Ok(Target::Label(Name::new(text)));
     }
     match distance(text) {
-        Ok(slots) => Ok(Ok(Target::Slots(slots))),
-        Err(fault) => Ok(Err(fault)),
+        Ok(slots) => Ok(Target::Slots(slots)),
+        Err(fault) => Err(fault),
     }
 }

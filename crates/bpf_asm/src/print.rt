@@ -1,6 +1,6 @@
-ghost use Rattle.std.specs.Prelude.{◌≡◌, ◌++◌, ◌<◌, ◌^◌, OnOk, string_bytes, codes};
+ghost use Rattle.std.specs.Prelude.{◌≡◌, ◌++◌, ◌<◌, OnOk, string_bytes, codes};
 ghost use Rattle.bpf_asm.specs.Canonical.{register_text, source_text, offset_text, memory_text, hex_digits, wide_text, line_of, canonical_text, with_one, with_two, with_three, flags_text, directive_line, class_text};
-ghost use Rattle.std.specs.Fmt.{decimal};
+ghost use Rattle.bpf_asm.specs.Printing.{item_text};
 ghost use Rattle.bpf_asm.specs.Words.{word_of};
 
 use crate::form::Form;
@@ -56,6 +56,46 @@ fn push_hex(out: &mut String, count: usize, n: u64) -> Result<(), AllocError>
     out.push(char::from(letter))
 }
 
+/// A number of 64 bits: 16 digits to base 16.
+fn push_wide(out: &mut String, value: u64) -> Result<(), AllocError>
+    ensures { OnOk result (string_bytes out.new ≡ string_bytes out.old ++ wide_text value) }
+{
+    out.push_str("0x")?;
+    push_hex(out, 16, value)
+}
+
+/// A local call's distance.
+fn push_local(out: &mut String, distance: i32) -> Result<(), AllocError>
+    ensures { OnOk result (string_bytes out.new ≡ string_bytes out.old ++ codes "local " ++ offset_text distance) }
+{
+    out.push_str("local ")?;
+    push_offset(out, distance)
+}
+
+/// An operand as its line has it. A register that comes first is handed over by itself.
+#[derive(Clone, Copy)]
+pub(crate) enum Item {
+    Source(Operand),
+    Memory(Register, i16),
+    Wide(u64),
+    Offset(i32),
+    Local(i32),
+    Helper(u32),
+}
+
+fn push_item(out: &mut String, item: Item) -> Result<(), AllocError>
+    ensures { OnOk result (string_bytes out.new ≡ string_bytes out.old ++ item_text item) }
+{
+    match item {
+        Item::Source(source) => push_source(out, source),
+        Item::Memory(base, offset) => push_memory(out, base, offset),
+        Item::Wide(value) => push_wide(out, value),
+        Item::Offset(offset) => push_offset(out, offset),
+        Item::Local(distance) => push_local(out, distance),
+        Item::Helper(helper) => write!(out, "{helper}"),
+    }
+}
+
 /// A form's word and a space.
 fn push_word(out: &mut String, form: Form) -> Result<(), AllocError>
     ensures { OnOk result (string_bytes out.new ≡ string_bytes out.old ++ word_of form ++ codes " ") }
@@ -64,10 +104,20 @@ fn push_word(out: &mut String, form: Form) -> Result<(), AllocError>
     out.push_str(" ")
 }
 
-fn push_comma(out: &mut String) -> Result<(), AllocError>
-    ensures { OnOk result (string_bytes out.new ≡ string_bytes out.old ++ codes ", ") }
+/// A further operand.
+fn push_next(out: &mut String, item: Item) -> Result<(), AllocError>
+    ensures { OnOk result (string_bytes out.new ≡ string_bytes out.old ++ codes ", " ++ item_text item) }
 {
-    out.push_str(", ")
+    out.push_str(", ")?;
+    push_item(out, item)
+}
+
+/// A word and an operand.
+fn push_lone(out: &mut String, form: Form, item: Item) -> Result<(), AllocError>
+    ensures { OnOk result (string_bytes out.new ≡ string_bytes out.old ++ with_one (word_of form) (item_text item)) }
+{
+    push_word(out, form)?;
+    push_item(out, item)
 }
 
 /// A word and a register.
@@ -78,79 +128,26 @@ fn push_one(out: &mut String, form: Form, dst: Register) -> Result<(), AllocErro
     push_register(out, dst)
 }
 
-/// A word, a register and a source.
-fn push_two(out: &mut String, form: Form, dst: Register, source: Operand) -> Result<(), AllocError>
-    ensures { OnOk result (string_bytes out.new ≡ string_bytes out.old ++ with_two (word_of form) (register_text dst) (source_text source)) }
+/// A word, a register and an operand.
+fn push_two(out: &mut String, form: Form, dst: Register, item: Item) -> Result<(), AllocError>
+    ensures { OnOk result (string_bytes out.new ≡ string_bytes out.old ++ with_two (word_of form) (register_text dst) (item_text item)) }
 {
     push_one(out, form, dst)?;
-    push_comma(out)?;
-    push_source(out, source)
+    push_next(out, item)
 }
 
-/// A wide load.
-fn push_wide(out: &mut String, dst: Register, value: u64) -> Result<(), AllocError>
-    ensures { OnOk result (string_bytes out.new ≡ string_bytes out.old ++ with_two (word_of Form.LoadWide) (register_text dst) (wide_text value)) }
-{
-    push_one(out, Form::LoadWide, dst)?;
-    push_comma(out)?;
-    out.push_str("0x")?;
-    push_hex(out, 16, value)
-}
-
-/// A load's word, register and place.
-fn push_load(
+/// A word and two registers.
+fn push_registers(
     out: &mut String,
     form: Form,
     dst: Register,
-    base: Register,
-    offset: i16,
+    src: Register,
 ) -> Result<(), AllocError>
-    ensures { OnOk result (string_bytes out.new ≡ string_bytes out.old ++ with_two (word_of form) (register_text dst) (memory_text base offset)) }
+    ensures { OnOk result (string_bytes out.new ≡ string_bytes out.old ++ with_two (word_of form) (register_text dst) (register_text src)) }
 {
     push_one(out, form, dst)?;
-    push_comma(out)?;
-    push_memory(out, base, offset)
-}
-
-/// A store's word, place and source.
-fn push_store(
-    out: &mut String,
-    form: Form,
-    base: Register,
-    offset: i16,
-    source: Operand,
-) -> Result<(), AllocError>
-    ensures { OnOk result (string_bytes out.new ≡ string_bytes out.old ++ with_two (word_of form) (memory_text base offset) (source_text source)) }
-{
-    push_word(out, form)?;
-    push_memory(out, base, offset)?;
-    push_comma(out)?;
-    push_source(out, source)
-}
-
-/// A jump's word and distance.
-fn push_jump(out: &mut String, form: Form, distance: i32) -> Result<(), AllocError>
-    ensures { OnOk result (string_bytes out.new ≡ string_bytes out.old ++ with_one (word_of form) (offset_text distance)) }
-{
-    push_word(out, form)?;
-    push_offset(out, distance)
-}
-
-/// A local call's word and distance.
-fn push_local(out: &mut String, distance: i32) -> Result<(), AllocError>
-    ensures { OnOk result (string_bytes out.new ≡ string_bytes out.old ++ with_one (word_of Form.Call) (codes "local " ++ offset_text distance)) }
-{
-    push_word(out, Form::Call)?;
-    out.push_str("local ")?;
-    push_offset(out, distance)
-}
-
-/// A helper's call.
-fn push_call(out: &mut String, helper: u32) -> Result<(), AllocError>
-    ensures { OnOk result (string_bytes out.new ≡ string_bytes out.old ++ with_one (word_of Form.Call) (decimal helper)) }
-{
-    push_word(out, Form::Call)?;
-    write!(out, "{helper}")
+    out.push_str(", ")?;
+    push_register(out, src)
 }
 
 /// A conditional jump.
@@ -163,9 +160,22 @@ fn push_branch(
 ) -> Result<(), AllocError>
     ensures { OnOk result (string_bytes out.new ≡ string_bytes out.old ++ with_three (word_of form) (register_text dst) (source_text source) (offset_text offset)) }
 {
-    push_two(out, form, dst, source)?;
-    push_comma(out)?;
-    push_offset(out, i32::from(offset))
+    push_two(out, form, dst, Item::Source(source))?;
+    push_next(out, Item::Offset(i32::from(offset)))
+}
+
+/// A store's word, place and source.
+fn push_store(
+    out: &mut String,
+    form: Form,
+    base: Register,
+    offset: i16,
+    source: Operand,
+) -> Result<(), AllocError>
+    ensures { OnOk result (string_bytes out.new ≡ string_bytes out.old ++ with_two (word_of form) (memory_text base offset) (source_text source)) }
+{
+    push_lone(out, form, Item::Memory(base, offset))?;
+    push_next(out, Item::Source(source))
 }
 
 /// An instruction's line, without its end.
@@ -178,28 +188,35 @@ fn push_insn(out: &mut String, insn: Insn) -> Result<(), AllocError>
             operation,
             dst,
             source,
-        } => push_two(out, Form::Alu(bits, operation), dst, source),
+        } => push_two(out, Form::Alu(bits, operation), dst, Item::Source(source)),
         Insn::Neg { bits, dst } => push_one(out, Form::Neg(bits), dst),
-        Insn::Mov { bits, dst, source } => push_two(out, Form::Mov(bits), dst, source),
+        Insn::Mov { bits, dst, source } => {
+            push_two(out, Form::Mov(bits), dst, Item::Source(source))
+        }
         Insn::MovSigned {
             extension,
             dst,
             src,
-        } => push_two(out, Form::MovSigned(extension), dst, Operand::Register(src)),
+        } => push_registers(out, Form::MovSigned(extension), dst, src),
         Insn::End { order, width, dst } => push_one(out, Form::End(order, width), dst),
-        Insn::LoadWide { dst, value } => push_wide(out, dst, value),
+        Insn::LoadWide { dst, value } => push_two(out, Form::LoadWide, dst, Item::Wide(value)),
         Insn::Load {
             width,
             dst,
             base,
             offset,
-        } => push_load(out, Form::Load(width), dst, base, offset),
+        } => push_two(out, Form::Load(width), dst, Item::Memory(base, offset)),
         Insn::LoadSigned {
             width,
             dst,
             base,
             offset,
-        } => push_load(out, Form::LoadSigned(width), dst, base, offset),
+        } => push_two(
+            out,
+            Form::LoadSigned(width),
+            dst,
+            Item::Memory(base, offset),
+        ),
         Insn::Store {
             width,
             base,
@@ -212,8 +229,8 @@ fn push_insn(out: &mut String, insn: Insn) -> Result<(), AllocError>
             };
             push_store(out, form, base, offset, source)
         }
-        Insn::Jump { offset } => push_jump(out, Form::Jump, i32::from(offset)),
-        Insn::JumpLong { distance } => push_jump(out, Form::JumpLong, distance),
+        Insn::Jump { offset } => push_lone(out, Form::Jump, Item::Offset(i32::from(offset))),
+        Insn::JumpLong { distance } => push_lone(out, Form::JumpLong, Item::Offset(distance)),
         Insn::Branch {
             bits,
             comparison,
@@ -221,8 +238,8 @@ fn push_insn(out: &mut String, insn: Insn) -> Result<(), AllocError>
             source,
             offset,
         } => push_branch(out, Form::Branch(bits, comparison), dst, source, offset),
-        Insn::Call { helper } => push_call(out, helper),
-        Insn::CallLocal { distance } => push_local(out, distance),
+        Insn::Call { helper } => push_lone(out, Form::Call, Item::Helper(helper)),
+        Insn::CallLocal { distance } => push_lone(out, Form::Call, Item::Local(distance)),
         Insn::Exit => out.push_str(Form::Exit.word()),
     }
 }

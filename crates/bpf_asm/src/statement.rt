@@ -16,11 +16,11 @@ use std::alloc::{AllocError, Global};
 
 /// What a line says, or its fault.
 #[derive(Drop)]
-pub(crate) enum Statement {
+pub(crate) enum Statement<'a> {
     Empty,
-    Label(Name),
-    Directive(Result<Header, AsmFault>),
-    Instruction(Result<Draft, AsmFault>),
+    Label(Name<'a>),
+    Directive(Result<Header<'a>, AsmFault>),
+    Instruction(Result<Draft<'a>, AsmFault>),
 }
 
 /// Flags: 1 reads, 2 writes, 3 both.
@@ -45,31 +45,29 @@ fn capacity(text: &[u8]) -> Result<u16, AsmFault>
     ensures read { result ≡ unsigned_of CAPACITY_LIMIT text.now }
     ensures within { IfOk result (λ n. n ≤ CAPACITY_LIMIT) }
 {
-    Ok(unsigned(text, u64::from(CAPACITY_LIMIT))? as u16)
+    match unsigned(text, u64::from(CAPACITY_LIMIT)) {
+        Ok(number) => Ok(number as u16),
+        Err(fault) => Err(fault),
+    }
 }
 
 /// What stands behind `.method`.
 #[tactic(auto, unfolding(crate::specs::Statements::header_of))]
-fn read_header(alloc: Global, text: &[u8]) -> Result<Result<Header, AsmFault>, AllocError>
-    ensures { IfOk result (λ h. h ≡ header_of text.now) }
+fn read_header(text: &[u8]) -> Result<Header, AsmFault>
+    ensures { result ≡ header_of text.now }
 {
     let name = first_word(text);
     let rest = after_word(text);
     let Some(flags) = flags(first_word(rest)) else {
-        return Ok(Err(AsmFault::Operand));
+        return Err(AsmFault::Operand);
     };
     if !is_method_name(name) {
-        return Ok(Err(AsmFault::Operand));
+        return Err(AsmFault::Operand);
     }
     let caps = after_word(rest);
     match both(capacity(first_word(caps)), capacity(after_word(caps))) {
-        Ok((in_cap, out_cap)) => Ok(Ok(Header::new(
-            Name::new(alloc, name)?,
-            flags,
-            in_cap,
-            out_cap,
-        ))),
-        Err(fault) => Ok(Err(fault)),
+        Ok((in_cap, out_cap)) => Ok(Header::new(Name::new(name), flags, in_cap, out_cap)),
+        Err(fault) => Err(fault),
     }
 }
 
@@ -86,19 +84,19 @@ fn label_name(text: &[u8]) -> Option<&[u8]>
 
 /// What a line says whose content that is.
 #[tactic(auto, unfolding(crate::specs::Statements::statement_of))]
-fn read_line(alloc: Global, text: &[u8]) -> Result<Statement, AllocError>
-    ensures { IfOk result (λ s. s ≡ statement_of text.now) }
+fn read_line(text: &[u8]) -> Statement
+    ensures { result ≡ statement_of text.now }
 {
     if text.is_empty() {
-        return Ok(Statement::Empty);
+        return Statement::Empty;
     }
     if let Some(name) = label_name(text) {
-        return Ok(Statement::Label(Name::new(alloc, name)?));
+        return Statement::Label(Name::new(name));
     }
     if first_word(text) == b".method".as_slice() {
-        return Ok(Statement::Directive(read_header(alloc, after_word(text))?));
+        return Statement::Directive(read_header(after_word(text)));
     }
-    Ok(Statement::Instruction(instruction(alloc, text)?))
+    Statement::Instruction(instruction(text))
 }
 
 /// The lines of a text.
@@ -109,12 +107,12 @@ fn lines(alloc: Global, text: &str) -> Result<Vec<&str>, AllocError>
 }
 
 /// What each of the lines says.
-fn read_lines(alloc: Global, lines: &[&str]) -> Result<Vec<Statement>, AllocError>
+fn read_lines<'a>(alloc: Global, lines: &[&'a str]) -> Result<Vec<Statement<'a>>, AllocError>
     ensures { IfOk result (λ v. v.items ≡ map (λ l. statement_of (content l.now)) lines.now) }
 {
     let mut all = Vec::new(alloc);
     for line in lines {
-        all.push(read_line(alloc, content(line.as_bytes()))?)?;
+        all.push(read_line(content(line.as_bytes())))?;
     }
     Ok(all)
 }
@@ -125,5 +123,5 @@ pub(crate) fn statements(alloc: Global, text: &str) -> Result<Vec<Statement>, Al
     ensures { IfOk result (λ v. v.items ≡ statements_of text.now) }
 {
     let lines = lines(alloc, text)?;
-    Ok(read_lines(alloc, &lines)?)
+    read_lines(alloc, &lines)
 }

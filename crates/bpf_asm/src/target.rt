@@ -1,45 +1,42 @@
 ghost use Rattle.std.specs.Prelude.{◌≡◌};
 
-use std::alloc::{AllocError, Global};
 use std::marker::Model;
 
-/// The name of a label or of a method. Contracts see its bytes.
+/// The name of a label or of a method, as it stands in the text. Contracts see its bytes.
 #[derive(Drop)]
-pub(crate) struct Name {
-    bytes: Vec<u8>,
+pub(crate) struct Name<'a> {
+    bytes: &'a [u8],
 }
 
-impl Model for Name {
+impl<'a> Model for Name<'a> {
     ghost use Rattle.std.specs.Prelude.{List, ℕ};
 
     ghost Value = { List ℕ };
 
-    ghost view = { λ n. n.bytes.items };
+    ghost view = { λ n. n.bytes.now };
 }
 
-impl Name {
-    ghost use Rattle.std.specs.Prelude.{◌≡◌, IfOk};
+impl<'a> Name<'a> {
+    ghost use Rattle.std.specs.Prelude.{◌≡◌};
 
     /// A name of those bytes.
-    pub(crate) fn new(alloc: Global, bytes: &[u8]) -> Result<Name, AllocError>
-        ensures { IfOk result (λ n. n ≡ bytes.now) }
+    pub(crate) fn new(bytes: &'a [u8]) -> Name<'a>
+        ensures { result ≡ bytes.now }
     {
-        Ok(Name {
-            bytes: Vec::from_slice(alloc, bytes)?,
-        })
+        Name { bytes }
     }
 
     /// Its bytes.
-    pub(crate) fn as_bytes(&self) -> &[u8]
+    pub(crate) fn as_bytes(&self) -> &'a [u8]
         ensures { result.now ≡ self.now }
     {
-        &self.bytes
+        self.bytes
     }
 }
 
 /// Where a jump goes: a number of slots from the slot after it, or a label.
 #[derive(Drop)]
-pub(crate) enum Target {
+pub(crate) enum Target<'a> {
     Slots(i32),
-    Label(Name),
+    Label(Name<'a>),
 }

@@ -1,4 +1,4 @@
-ghost use Rattle.std.specs.Prelude.{◌≡◌, ◌+◌, ◌==◌, ◌||◌, ◌≤◌, not, length};
+ghost use Rattle.std.specs.Prelude.{◌≡◌, ◌+◌, ◌==◌, ◌||◌, ◌≤◌, length};
 ghost use Rattle.std.specs.List.{position_or_len};
 ghost use Rattle.std.specs.Option.{option_map};
 ghost use Rattle.bpf_asm.specs.Texts.{is_blank, trim_start, trim_end, trim, content, first_word, after_word, cut, lone, pair, triple, is_label_name};
@@ -56,12 +56,22 @@ fn place_of(text: &[u8], byte: u8) -> usize
     text.iter().position(|b| *b == byte).unwrap_or(text.len())
 }
 
+/// Where one of two bytes stands first, or the length.
+pub(crate) fn place_of_either(text: &[u8], one: u8, other: u8) -> usize
+    ensures place { result ≡ position_or_len (λ c. c == one || c == other) text.now }
+    ensures bound { result ≤ length text.now }
+{
+    text.iter()
+        .position(|b| *b == one || *b == other)
+        .unwrap_or(text.len())
+}
+
 /// Where a blank stands first, or the length.
 fn place_of_blank(text: &[u8]) -> usize
     ensures place { result ≡ position_or_len is_blank text.now }
     ensures bound { result ≤ length text.now }
 {
-    text.iter().position(|b| is_blank(*b)).unwrap_or(text.len())
+    place_of_either(text, b' ', b'\t')
 }
 
 /// What stands on a line, without its comment.
@@ -117,9 +127,13 @@ pub(crate) fn lone(text: &[u8]) -> Option<&[u8]>
 pub(crate) fn pair(text: &[u8]) -> Option<(&[u8], &[u8])>
     ensures { option_map (λ p. (p.0.now, p.1.now)) result ≡ pair text.now }
 {
-    let (first, rest) = cut(text)?;
-    let second = lone(rest)?;
-    Some((trim(first), second))
+    match cut(text) {
+        Some((first, rest)) => match lone(rest) {
+            Some(second) => Some((trim(first), second)),
+            None => None,
+        },
+        None => None,
+    }
 }
 
 /// Three operands.
@@ -127,9 +141,13 @@ pub(crate) fn pair(text: &[u8]) -> Option<(&[u8], &[u8])>
 pub(crate) fn triple(text: &[u8]) -> Option<(&[u8], &[u8], &[u8])>
     ensures { option_map (λ p. (p.0.now, p.1.now, p.2.now)) result ≡ triple text.now }
 {
-    let (first, rest) = cut(text)?;
-    let (second, third) = pair(rest)?;
-    Some((trim(first), second, third))
+    match cut(text) {
+        Some((first, rest)) => match pair(rest) {
+            Some((second, third)) => Some((trim(first), second, third)),
+            None => None,
+        },
+        None => None,
+    }
 }
 
 /// Whether it may name a label.

@@ -1,6 +1,6 @@
 //! Class images as bytes: reading, and the one spelling.
 
-ghost use Rattle.std.specs.Prelude.{◌≡◌, ◌≤◌, ◌++◌, List, [], length, take, string_bytes, IsTrue, IfOk, IfErr, OnOk};
+ghost use Rattle.std.specs.Prelude.{◌≡◌, ◌++◌, List, [], length, string_bytes, IsTrue, IfOk, IfErr, OnOk};
 ghost use Rattle.std.specs.List.{flat_map};
 ghost use Rattle.bpf_decode.specs.Class.{ClassMethod, IsMethod, IsClass, IsImage, method_bytes, image_bytes};
 ghost use Rattle.byteorder.specs.Endian.{little_bytes};

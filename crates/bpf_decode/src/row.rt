@@ -1,4 +1,4 @@
-ghost use Rattle.std.specs.Prelude.{◌≡◌, ◌≤◌, ◌<◌, ◌^◌, ◌/◌, ◌%◌};
+ghost use Rattle.std.specs.Prelude.{◌≡◌, ◌<◌, ◌/◌, ◌%◌};
 ghost use Rattle.bpf_decode.specs.Table.{opcode, row_of, alu_row, branch_row, other_row, fields_allowed, high_half, instruction};
 
 use crate::access::{SignedWidth, Width};

@@ -1,5 +1,5 @@
 -- What a built-in class is to its text, and why one can't be had.
-use Rattle.std.specs.Prelude.{◌≡◌, ⊤, ℕ, List, [], ◌∷◌, ◌⊎◌, None, Some, Err, codes}
+use Rattle.std.specs.Prelude.{◌≡◌, ⊤, ℕ, List, [], ◌∷◌, None, Some, Err, codes}
 use Rattle.std.specs.List.{AllByRecursion}
 use Rattle.bpf_decode.specs.Class.{ClassMethod}
 use Rattle.bpf_asm.specs.Classes.{read_class_text}

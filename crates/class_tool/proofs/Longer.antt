@@ -1,6 +1,6 @@
 -- What the beginning of a file says as an image, the whole file says.
-use Rattle.std.proofs.Common.{◌≡◌, ℕ, ◌+◌, List, Option, Some, None, Err, take, sym, ap, subst, ◌∙◌, inl, inr}
-use Rattle.std.specs.Prelude.{◌↔◌, ◌⊎◌}
+use Rattle.std.proofs.Common.{◌≡◌, ℕ, List, Option, Some, None, Err, take, sym, ap, subst, ◌∙◌}
+use Rattle.std.specs.Prelude.{◌↔◌}
 use Rattle.bpf_decode.specs.Class.{ClassMethod, IsImage}
 use Rattle.bpf_decode.specs.ImageReading.{image_of}
 use Rattle.bpf_decode.specs.declared.image_error.ImageError.{ImageError}

@@ -1,5 +1,5 @@
 -- Why a text has no image, and why a call is refused.
-use Rattle.std.proofs.Common.{◌≡◌, ◌⊎◌, ◌<◌, inl, inr, refl, sym, ◌∙◌, ap, ℕ, List, [], ◌∷◌, Option, Some, None, Err, Ok, length, true, false, nat_lt, if◌then◌else◌}
+use Rattle.std.proofs.Common.{◌≡◌, ◌⊎◌, inl, inr, ℕ, List, Err}
 use Rattle.bpf_decode.specs.Class.{ClassMethod}
 use Rattle.bpf_asm.specs.declared.fault.AsmError.{AsmError}
 use Rattle.bpf_asm.specs.Classes.{read_class_text}

@@ -1,5 +1,5 @@
 -- What a call that was made and logged tells of the files.
-use Rattle.std.proofs.Common.{◌≡◌, inl, inr, ℕ, List, Option, None, Result, Ok, Err, SFits}
+use Rattle.std.proofs.Common.{◌≡◌, inr, ℕ, List, Option, None, Result, Ok, Err, SFits}
 use Rattle.std.specs.Prelude.{IfErr, IfOk}
 use Rattle.std.specs.Int.{w64}
 use Rattle.hex.specs.Hex.{decode_of}

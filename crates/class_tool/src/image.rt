@@ -1,4 +1,4 @@
-ghost use Rattle.std.specs.Prelude.{◌≡◌, IfOk, IfErr};
+ghost use Rattle.std.specs.Prelude.{IfOk, IfErr};
 ghost use Rattle.class_tool.specs.Image.{IsImageIn, IsSafeIn, ReadFails, LoadFails};
 
 use crate::failure::Failure;

@@ -1,18 +1,14 @@
 //! The built-in classes: every method on its answers, through a group and by `call`.
-
-ghost use mathlib.Core.List.{IsPrefix};
-
-use super::checks::{Check, check_group};
-use super::log::code_at;
+use super::checks::see;
 use super::printed::prints;
-use super::requests::{list, name_of, request_for};
-use super::words::next;
+use super::script::go_through;
+use super::words::{is_number, next};
 use builtin_classes::{BuiltInFailure, LOCK, OBJ, load_all, load_lock, load_obj};
 use interp::{ClassTable, Outcome, call};
 use object_store::Object;
-use pg_log::{Classes, Group, Request};
 use std::alloc::Global;
 use std::process::Abort;
+use std::str::SplitWhitespace;
 use verifier::{VerifiedClass, VerifiedMethod};
 
 /// An owner, another, and nobody. A row is a request (client, object, class, method and input), a bar, and its reply
@@ -134,135 +130,6 @@ const FULL: &str = "1 a obj setxattr 0110 | 0 -
 1 a lock lock - | -28 -
 1 a lock unlock - | -61 -";
 
-/// So many zero bytes behind those that there are.
-fn put_zeros<R: Abort>(rt: &R, bytes: &mut Vec<u8>, count: &str) {
-    for _ in 0..count.parse::<u16>().expect(rt, "a count") {
-        bytes.push(0).expect(rt, "memory");
-    }
-}
-
-/// Puts what a part of a word says behind the bytes that there are.
-fn put_part<R: Abort>(rt: &R, alloc: Global, bytes: &mut Vec<u8>, part: &str) {
-    let (digits, zeros) = part.split_once('*').unwrap_or((part, "0"));
-    let decoded = hex::decode(alloc, digits).expect(rt, "digits");
-    bytes.extend_from_slice(&decoded).expect(rt, "memory");
-    put_zeros(rt, bytes, zeros);
-}
-
-/// The bytes of a word: hexadecimal digits, `*N` for N zero bytes, and digits behind a comma; or `-`.
-fn bytes_of<R: Abort>(rt: &R, alloc: Global, word: &str) -> Vec<u8> {
-    let mut bytes = Vec::new(alloc);
-    for part in word.trim_matches('-').split(',') {
-        put_part(rt, alloc, &mut bytes, part);
-    }
-    bytes
-}
-
-/// What a line asks for and what it wants, by its words.
-#[derive(Clone, Copy)]
-struct Line<'a> {
-    client: &'a str,
-    object: &'a str,
-    class: &'a str,
-    method: &'a str,
-    input: &'a str,
-    code: &'a str,
-    output: &'a str,
-}
-
-fn line_of(line: &str) -> Line<'_> {
-    let mut words = line.split_whitespace();
-    let client = next(&mut words);
-    let object = next(&mut words);
-    let class = next(&mut words);
-    let method = next(&mut words);
-    let input = next(&mut words);
-    let _bar = next(&mut words);
-    Line {
-        client,
-        object,
-        class,
-        method,
-        input,
-        code: next(&mut words),
-        output: next(&mut words),
-    }
-}
-
-/// A request for a method of a built-in class.
-fn request_of<R: Abort>(rt: &R, alloc: Global, line: Line<'_>, value: u32) -> Request {
-    let who = line.client.parse::<u32>().expect(rt, "a client");
-    let class = usize::from(line.class == "obj");
-    let input = bytes_of(rt, alloc, line.input);
-    let object = name_of(rt, alloc, line.object);
-    request_for(rt, alloc, object, (who, value), class, line.method, &input)
-}
-
-/// The place at which a line's request is appended.
-fn appended<C: Classes, R: Abort>(
-    rt: &R,
-    alloc: Global,
-    table: &ClassTable,
-    group: &mut Group<C>,
-    line: Line<'_>,
-    number: u32,
-) -> Option<usize>
-    requires { IsPrefix table.now C.classes }
-{
-    group
-        .append(table, request_of(rt, alloc, line, number))
-        .ok()
-}
-
-/// Whether the output of the reply at a place is that one.
-fn has_output<C: Classes>(group: &Group<C>, place: usize, want: &[u8]) -> bool {
-    match group.reply_at(place) {
-        None => false,
-        Some((_, output)) => output == want,
-    }
-}
-
-/// Whether the reply at a place has the code and the output that a line wants.
-fn is_reply<C: Classes, R: Abort>(
-    rt: &R,
-    alloc: Global,
-    group: &Group<C>,
-    place: usize,
-    line: Line<'_>,
-) -> bool {
-    let code = line.code.parse::<i64>().ok();
-    let output = bytes_of(rt, alloc, line.output);
-    code.is_some() && code_at(group, place) == code && has_output(group, place, &output)
-}
-
-/// Appends the request of each line of a text, numbered from 1 on, and compares its reply.
-#[derive(Drop)]
-struct Replies<'a> {
-    text: &'a str,
-}
-
-impl Check for Replies<'_> {
-    fn check<C: Classes, R: Abort>(
-        &self,
-        rt: &R,
-        alloc: Global,
-        table: &ClassTable,
-        group: &mut Group<C>,
-    ) {
-        let mut number = 0u32;
-        for line in self.text.lines() {
-            let line = line_of(line);
-            let place = number as usize;
-            number = number.wrapping_add(1);
-            let found = appended(rt, alloc, table, group, line, number);
-            assert!(rt;
-                found == Some(place) && is_reply(rt, alloc, group, place, line),
-                "line {number}"
-            );
-        }
-    }
-}
-
 /// The table of both classes.
 fn table<R: Abort>(rt: &R, alloc: Global) -> ClassTable {
     let mut table = ClassTable::new(alloc);
@@ -275,7 +142,7 @@ fn table<R: Abort>(rt: &R, alloc: Global) -> ClassTable {
 /// Checks the lines of a text through a group, at places from 0 on.
 fn check<R: Abort>(rt: &R, alloc: Global, text: &str) {
     let table = table(rt, alloc);
-    check_group(rt, alloc, &table, Replies { text });
+    go_through(rt, alloc, &table, OLD, text);
 }
 
 #[test]
@@ -299,65 +166,19 @@ fn fills_an_object(rt: HostRuntime) {
     check(&rt, rt.alloc(), FULL);
 }
 
-/// The owner's second lock and its unlock in between, and a list without them.
-const OLD: &str = "1 1 0 lock
-1 2 0 unlock
-1 3 0 lock";
+/// The owner's second lock and its unlock in between.
+const OLD: &str = "1 1 0 lock; 1 2 0 unlock; 1 3 0 lock";
 
-const NEW: &str = "1 1 0 lock
-2 1 0 lock";
-
-/// The group whose log is the old list.
-fn replayed<C: Classes, R: Abort>(rt: &R, alloc: Global, table: &ClassTable) -> Group<C>
-    requires { IsPrefix table.now C.classes }
-{
-    let old = list(rt, alloc, OLD);
-    Group::<C>::replay(alloc, table, &old).expect(rt, "memory")
-}
-
-/// Whether the group adopts the new list behind its first entry, and the lock stays its owner's.
-fn keeps_lock<C: Classes, R: Abort>(
-    rt: &R,
-    alloc: Global,
-    table: &ClassTable,
-    group: &mut Group<C>,
-) -> bool
-    requires { IsPrefix table.now C.classes }
-{
-    let common = group.adopt(table, &list(rt, alloc, NEW)).ok();
-    common == Some(1) && group.len() == 2 && code_at(group, 1) == Some(-16)
-}
-
-/// Adopts the new list in place of the old one.
-fn adopt_new<C: Classes, R: Abort>(rt: &R, alloc: Global, table: &ClassTable)
-    requires { IsPrefix table.now C.classes }
-{
-    let mut group: Group<C> = replayed(rt, alloc, table);
-    assert!(rt; keeps_lock(rt, alloc, table, &mut group));
-}
-
-/// Makes the old list a group's log, and that group adopts the new one.
-#[derive(Drop)]
-struct Adopts;
-
-impl Check for Adopts {
-    fn check<C: Classes, R: Abort>(
-        &self,
-        rt: &R,
-        alloc: Global,
-        table: &ClassTable,
-        _group: &mut Group<C>,
-    ) {
-        adopt_new::<C, R>(rt, alloc, table);
-    }
-}
+/// A list without them is adopted behind the first entry, and the lock stays its owner's.
+const ADOPTED: &str = "replay 3 | 3
+adopt 1; 2 1 0 lock | 1
+length | 2
+code 1 | -16";
 
 /// What was done in between is undone: the lock is the owner's still.
 #[test]
 fn a_lock_stands_after_an_adoption(rt: HostRuntime) {
-    let alloc = rt.alloc();
-    let table = table(&rt, alloc);
-    check_group(&rt, alloc, &table, Adopts);
+    check(&rt, rt.alloc(), ADOPTED);
 }
 
 /// Whether an object has one xattr and nothing else.
@@ -381,24 +202,31 @@ fn locked<R: Abort>(
     call(alloc, class, "lock", object, client, &[]).expect(rt, "an answer")
 }
 
-/// Its code and its steps.
-fn code_and_steps<R: Abort>(
-    rt: &R,
-    alloc: Global,
-    class: &VerifiedClass,
-    object: Option<&Object>,
-    client: u32,
-) -> (i64, usize) {
-    let outcome = locked(rt, alloc, class, object, client);
-    (outcome.code, outcome.steps)
-}
-
 /// Whether the lock was taken, in 20 steps.
 fn takes_lock(outcome: &Outcome) -> bool {
     outcome.code == 0
         && outcome.steps == 20
         && outcome.output.is_empty()
         && has_one_xattr(outcome.change.after.as_ref())
+}
+
+/// Whether an answer has that code, after so many steps.
+fn is_answer(outcome: &Outcome, code: i64, steps: usize) -> bool {
+    outcome.code == code && outcome.steps == steps
+}
+
+/// Whether a client's call of `lock` is answered so.
+fn answers<R: Abort>(
+    rt: &R,
+    alloc: Global,
+    class: &VerifiedClass,
+    object: Option<&Object>,
+    client: u32,
+    code: i64,
+    steps: usize,
+) -> bool {
+    let outcome = locked(rt, alloc, class, object, client);
+    is_answer(&outcome, code, steps)
 }
 
 /// Whether another is refused the lock in 16 steps, and the owner has it still in 15.
@@ -408,56 +236,66 @@ fn is_kept<R: Abort>(
     class: &VerifiedClass,
     object: Option<&Object>,
 ) -> bool {
-    let other = code_and_steps(rt, alloc, class, object, 2);
-    let owner = code_and_steps(rt, alloc, class, object, 1);
-    other == (-16, 16) && owner == (0, 15)
+    answers(rt, alloc, class, object, 2, -16, 16) && answers(rt, alloc, class, object, 1, 0, 15)
+}
+
+/// Whether the lock is taken, and then refused and kept.
+fn is_lock<R: Abort>(rt: &R, alloc: Global, class: &VerifiedClass) -> bool {
+    let first = locked(rt, alloc, class, None, 1);
+    takes_lock(&first) && is_kept(rt, alloc, class, first.change.after.as_ref())
 }
 
 #[test]
 fn counts_steps_of_locks(rt: HostRuntime) {
-    let alloc = rt.alloc();
-    let class = load_lock(alloc).expect(&rt, "a class");
-    let first = locked(&rt, alloc, &class, None, 1);
-    let object = first.change.after.as_ref();
-    assert!(rt; takes_lock(&first) && is_kept(&rt, alloc, &class, object));
+    let class = load_lock(rt.alloc()).expect(&rt, "a class");
+    see(&rt, is_lock(&rt, rt.alloc(), &class), "a lock");
 }
 
-/// A method's name, whether it may write, its caps, and its instructions, as its class's text declares them.
-type Declared = (&'static str, bool, u16, u16, usize);
+/// The methods as a class's text declares them, each with the number of its instructions.
+const LOCK_METHODS: &str = "lock rw 0 0 25
+unlock rw 0 0 19";
 
-const LOCK_METHODS: [Declared; 2] = [("lock", true, 0, 0, 25), ("unlock", true, 0, 0, 19)];
+const OBJ_METHODS: &str = "getxattr r 64 4096 8
+read r 16 4096 15
+remove rw 0 0 2
+setxattr rw 4096 0 18
+stat r 0 0 2
+write rw 4096 0 10";
 
-const OBJ_METHODS: [Declared; 6] = [
-    ("getxattr", false, 64, 4096, 8),
-    ("read", false, 16, 4096, 15),
-    ("remove", true, 0, 0, 2),
-    ("setxattr", true, 4096, 0, 18),
-    ("stat", false, 0, 0, 2),
-    ("write", true, 4096, 0, 10),
-];
-
-fn is_declared(method: &VerifiedMethod, (name, writes, in_cap, out_cap, count): Declared) -> bool {
+/// Whether a method is as the words declare it.
+fn is_method(method: &VerifiedMethod, words: &mut SplitWhitespace<'_>) -> bool {
     let caps = method.caps();
-    method.name() == name
-        && caps.writes == writes
-        && caps.in_cap == in_cap
-        && caps.out_cap == out_cap
-        && method.count() == count
+    next(words) == method.name()
+        && (next(words) == "rw") == caps.writes
+        && is_number(next(words), u64::from(caps.in_cap))
+        && is_number(next(words), u64::from(caps.out_cap))
+        && is_number(next(words), method.count() as u64)
+}
+
+/// Whether a method is as a line declares it.
+fn is_declared(method: &VerifiedMethod, line: &str) -> bool {
+    let mut words = line.split_whitespace();
+    is_method(method, &mut words)
 }
 
 /// Whether a class has those methods and no more.
-fn declares(class: &VerifiedClass, rows: &[Declared]) -> bool {
-    let mut all = class.methods().len() == rows.len();
-    for (method, row) in class.methods().iter().zip(rows) {
-        all = all && is_declared(method, *row);
+fn declares(class: &VerifiedClass, text: &str) -> bool {
+    let mut methods = class.methods().iter();
+    for line in text.lines() {
+        match methods.next() {
+            None => return false,
+            Some(method) => if !is_declared(method, line) {
+                return false;
+            }
+        }
     }
-    all
+    methods.next().is_none()
 }
 
 /// Whether these are both classes, in their order.
 fn are_both(classes: &[VerifiedClass]) -> bool {
     match classes {
-        [lock, obj] => declares(lock, &LOCK_METHODS) && declares(obj, &OBJ_METHODS),
+        [lock, obj] => declares(lock, LOCK_METHODS) && declares(obj, OBJ_METHODS),
         _ => false,
     }
 }
@@ -465,7 +303,7 @@ fn are_both(classes: &[VerifiedClass]) -> bool {
 #[test]
 fn loads_each_class(rt: HostRuntime) {
     let classes = load_all(rt.alloc()).expect(&rt, "classes");
-    assert!(rt; are_both(&classes));
+    see(&rt, are_both(&classes), "both classes");
 }
 
 /// Whether the text of each class begins with its first method.
@@ -476,7 +314,7 @@ fn are_texts() -> bool {
 #[test]
 fn loads_one_class(rt: HostRuntime) {
     let obj = load_obj(rt.alloc()).expect(&rt, "a class");
-    assert!(rt; declares(&obj, &OBJ_METHODS) && are_texts());
+    see(&rt, declares(&obj, OBJ_METHODS) && are_texts(), "one class");
 }
 
 #[test]

@@ -1,5 +1,6 @@
 //! Drawings of runs, by hand.
 
+use super::checks::see;
 use sim_trace::{Lane, Letter, Step, What, draw};
 use std::alloc::Global;
 use std::process::Abort;
@@ -9,25 +10,6 @@ const NODE_1: Lane = Lane::Node(1);
 const NODE_2: Lane = Lane::Node(2);
 
 const CLIENT: Lane = Lane::Client(1);
-
-/// Messages.
-const SENT: [(Lane, Lane, &str); 5] = [
-    (NODE_1, NODE_2, "Rep 1 0"),
-    (NODE_2, NODE_1, "Ack 1 1"),
-    (NODE_1, CLIENT, "Reply 7 0 0 -"),
-    (NODE_2, NODE_2, "Query 2"),
-    (NODE_2, Lane::Monitor, "AskActivate 2"),
-];
-
-/// What happened, what is said of it, how many messages it sent.
-const STEPS: [(What, &str, usize); 6] = [
-    (What::Asked(CLIENT, NODE_1), "req 1 1 7 a lock lock -", 1),
-    (What::Arrived(1), "", 1),
-    (What::Arrived(1), "", 0),
-    (What::Arrived(2), "", 1),
-    (What::At(NODE_2), "see 2 2", 2),
-    (What::Bounced(4), ": stopped", 0),
-];
 
 /// A reply that is never delivered reaches its client; m5 is lost; m4 comes to a stopped node; m1 comes twice.
 const DRAWN: &str = "\
@@ -42,21 +24,60 @@ c1          1           2           mon         event
 |           |           |  x--m4    |           Query 2: stopped
 ";
 
+/// A message is sent.
+fn send<R: Abort>(
+    rt: &R,
+    alloc: Global,
+    letters: &mut Vec<Letter>,
+    from: Lane,
+    to: Lane,
+    text: &str,
+) {
+    let text = String::from_str(alloc, text).expect(rt, "memory");
+    letters.push(Letter { from, to, text }).expect(rt, "memory");
+}
+
+/// The messages.
 fn letters<R: Abort>(rt: &R, alloc: Global) -> Vec<Letter> {
     let mut letters = Vec::new(alloc);
-    for (from, to, text) in SENT {
-        let text = String::from_str(alloc, text).expect(rt, "memory");
-        letters.push(Letter { from, to, text }).expect(rt, "memory");
-    }
+    send(rt, alloc, &mut letters, NODE_1, NODE_2, "Rep 1 0");
+    send(rt, alloc, &mut letters, NODE_2, NODE_1, "Ack 1 1");
+    send(rt, alloc, &mut letters, NODE_1, CLIENT, "Reply 7 0 0 -");
+    send(rt, alloc, &mut letters, NODE_2, NODE_2, "Query 2");
+    send(
+        rt,
+        alloc,
+        &mut letters,
+        NODE_2,
+        Lane::Monitor,
+        "AskActivate 2",
+    );
     letters
 }
 
+/// What happened, what is said of it, and how many messages it sent.
+fn step<R: Abort>(
+    rt: &R,
+    alloc: Global,
+    steps: &mut Vec<Step>,
+    what: What,
+    text: &str,
+    sent: usize,
+) {
+    let text = String::from_str(alloc, text).expect(rt, "memory");
+    steps.push(Step { what, text, sent }).expect(rt, "memory");
+}
+
+/// The steps.
 fn steps<R: Abort>(rt: &R, alloc: Global) -> Vec<Step> {
     let mut steps = Vec::new(alloc);
-    for (what, text, sent) in STEPS {
-        let text = String::from_str(alloc, text).expect(rt, "memory");
-        steps.push(Step { what, text, sent }).expect(rt, "memory");
-    }
+    let asked = What::Asked(CLIENT, NODE_1);
+    step(rt, alloc, &mut steps, asked, "req 1 1 7 a lock lock -", 1);
+    step(rt, alloc, &mut steps, What::Arrived(1), "", 1);
+    step(rt, alloc, &mut steps, What::Arrived(1), "", 0);
+    step(rt, alloc, &mut steps, What::Arrived(2), "", 1);
+    step(rt, alloc, &mut steps, What::At(NODE_2), "see 2 2", 2);
+    step(rt, alloc, &mut steps, What::Bounced(4), ": stopped", 0);
     steps
 }
 
@@ -70,5 +91,5 @@ fn drawn<R: Abort>(rt: &R, alloc: Global) -> String {
 #[test]
 fn a_run(rt: HostRuntime) {
     let text = drawn(&rt, rt.alloc());
-    assert!(rt; text.as_str() == DRAWN, "{text}");
+    see(&rt, text.as_str() == DRAWN, text.as_str());
 }

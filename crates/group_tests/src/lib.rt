@@ -5,11 +5,17 @@
 #[cfg(test)]
 mod builtin;
 #[cfg(test)]
+mod calls;
+#[cfg(test)]
 mod checks;
 #[cfg(test)]
 mod classes;
 #[cfg(test)]
+mod contents;
+#[cfg(test)]
 mod drawings;
+#[cfg(test)]
+mod lists;
 #[cfg(test)]
 mod log;
 #[cfg(test)]
@@ -24,6 +30,10 @@ mod printed;
 mod replicating;
 #[cfg(test)]
 mod requests;
+#[cfg(test)]
+mod script;
+#[cfg(test)]
+mod verb;
 #[cfg(test)]
 mod words;
 #[cfg(test)]

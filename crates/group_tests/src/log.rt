@@ -5,14 +5,15 @@ mod full;
 mod replay;
 mod undone;
 
+use super::checks::see;
 use super::classes::class;
 use super::printed::prints;
 use super::requests::{client, number, request};
+use super::script::go_through;
 use interp::ClassTable;
-use object_store::Object;
 use pg_log::{
-    Classes, ClientId, Group, LogError, Request, RequestNumber, adopting, classes_added, folds,
-    legal_lists, objects_within_limits, pairs, refusals, replies, undoing,
+    ClientId, LogError, Request, RequestNumber, adopting, classes_added, folds, legal_lists,
+    objects_within_limits, pairs, refusals, replies, undoing,
 };
 use std::alloc::Global;
 use std::process::Abort;
@@ -32,52 +33,25 @@ const WRITE: [u8; 40] = [
     0, 0, 0, 3, 0, 0, 0, 0x95, 0, 0, 0, 0, 0, 0, 0,
 ];
 
-/// Client and number of a logged request, its place and its code.
-type Logged = (u32, u32, usize, i64);
+/// Puts a class of one method behind those that there are.
+fn add<R: Abort>(rt: &R, alloc: Global, table: &mut ClassTable, flags: u8, code: &[u8]) {
+    let class = class(rt, alloc, flags, 3, code);
+    let _ = table.add(class).expect(rt, "room");
+}
 
 /// Class 0 succeeds, class 1 writes and fails, class 2 writes.
 pub(super) fn table<R: Abort>(rt: &R, alloc: Global) -> ClassTable {
     let mut table = ClassTable::new(alloc);
-    let _ = table
-        .add(class(rt, alloc, 1, 3, &SUCCEED))
-        .expect(rt, "room");
-    let _ = table
-        .add(class(rt, alloc, 2, 3, &WRITE_THEN_FAIL))
-        .expect(rt, "room");
-    let _ = table.add(class(rt, alloc, 2, 3, &WRITE)).expect(rt, "room");
+    add(rt, alloc, &mut table, 1, &SUCCEED);
+    add(rt, alloc, &mut table, 2, &WRITE_THEN_FAIL);
+    add(rt, alloc, &mut table, 2, &WRITE);
     table
 }
 
-/// Whether the object has those bytes, at most eight, or is absent.
-fn is_object(object: Option<&Object>, want: Option<&str>) -> bool {
-    match object {
-        None => want.is_none(),
-        Some(object) => want.is_some_and(|text| has_data(object, text.as_bytes())),
-    }
-}
-
-/// Whether the object's data is those bytes, at most eight.
-fn has_data(object: &Object, want: &[u8]) -> bool {
-    let mut buffer = [0; 9];
-    let count = object.read(0, &mut buffer);
-    buffer.get(..count) == Some(want)
-}
-
-/// The request of that client and number has that place and code, and no output.
-fn see<C: Classes, R: Abort>(rt: &R, group: &Group<C>, (who, value, place, code): Logged) {
-    let (found, answered, output) = group
-        .reply_of(client(rt, who), number(rt, value))
-        .expect(rt, "a reply");
-    let is_logged = found == place && answered == code && output.is_empty();
-    assert!(rt; is_logged && code_at(group, place) == Some(code));
-}
-
-/// The code of the reply at a place.
-pub(super) fn code_at<C: Classes>(group: &Group<C>, place: usize) -> Option<i64> {
-    match group.reply_at(place) {
-        None => None,
-        Some((code, _)) => Some(code),
-    }
+/// Does the lines of a text with a group of those classes.
+pub(super) fn check<R: Abort>(rt: &R, alloc: Global, first: &str, text: &str) {
+    let table = table(rt, alloc);
+    go_through(rt, alloc, &table, first, text);
 }
 
 #[test]
@@ -86,36 +60,45 @@ fn numbers_begin_at_one(rt: HostRuntime) {
     assert!(rt; client(&rt, u32::MAX).get() == 4_294_967_295 && number(&rt, 1).get() == 1);
 }
 
-#[test]
-fn parts_of_a_request(rt: HostRuntime) {
-    let one = request(&rt, rt.alloc(), (3, 4), 5, "f", b"ab");
-    assert!(rt; one.client().get() == 3 && one.number().get() == 4 && one.class() == 5);
-    assert!(rt; one.object().text() == "object" && one.method() == "f");
-    assert!(rt; one.input() == b"ab".as_slice());
-}
-
 /// A request with that input.
 fn request_with<R: Abort>(rt: &R, alloc: Global, input: &[u8]) -> Request {
     request(rt, alloc, (3, 4), 5, "f", input)
 }
 
+/// Whether its parts are those that it was made of.
+fn has_parts(one: &Request) -> bool {
+    one.client().get() == 3
+        && one.number().get() == 4
+        && one.object().text() == "object"
+        && one.class() == 5
+        && one.method() == "f"
+        && one.input() == b"ab".as_slice()
+}
+
+#[test]
+fn parts_of_a_request(rt: HostRuntime) {
+    let one = request_with(&rt, rt.alloc(), b"ab");
+    see(&rt, has_parts(&one), "parts");
+}
+
 /// Whether a request is its copy.
-fn is_copied<R: Abort>(rt: &R, alloc: Global) -> bool {
-    let one = request_with(rt, alloc, b"ab");
+fn is_copied<R: Abort>(rt: &R, alloc: Global, one: &Request) -> bool {
     let copy = one.copy(alloc).expect(rt, "memory");
     one.is(&copy)
 }
 
-/// Whether requests are equal that differ in the last byte of their inputs.
-fn are_equal<R: Abort>(rt: &R, alloc: Global) -> bool {
-    let one = request_with(rt, alloc, b"ab");
-    let other = request_with(rt, alloc, b"ac");
+/// Whether a request is that of the same parts with that input.
+fn is_with<R: Abort>(rt: &R, alloc: Global, one: &Request, input: &[u8]) -> bool {
+    let other = request_with(rt, alloc, input);
     one.is(&other)
 }
 
+/// A request is its copy, and isn't one that differs in the last byte of its input.
 #[test]
 fn equal_requests(rt: HostRuntime) {
-    assert!(rt; is_copied(&rt, rt.alloc()) && !are_equal(&rt, rt.alloc()));
+    let one = request_with(&rt, rt.alloc(), b"ab");
+    see(&rt, is_copied(&rt, rt.alloc(), &one), "a copy");
+    see(&rt, !is_with(&rt, rt.alloc(), &one, b"ac"), "another input");
 }
 
 #[test]

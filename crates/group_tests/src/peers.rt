@@ -1,5 +1,7 @@
+mod copies;
 mod driver;
 mod lines;
+mod mail;
 mod monitor;
 mod runs;
 mod table;

@@ -1,13 +1,13 @@
-use super::nodes::nodes;
-use super::printed::prints;
+use super::checks::see;
+use super::nodes::{are_nodes, nodes};
+use super::printed::are_printed;
+use super::words::{halves, next_long, next_number};
 use placement::{
     ClusterMap, GROUP_LIMIT, NodeId, PlacementError, acting, group_of, ranking, score,
 };
 use std::alloc::Global;
 use std::process::Abort;
-
-/// The published values of FNV-1a with 64 bits, modulo 64.
-const NAMES: [(&str, u64); 3] = [("", 0x25), ("a", 12), ("foobar", 0x28)];
+use std::str::SplitWhitespace;
 
 /// A group, a node, and the score: what SplitMix64 gives at the state that both numbers make. The third to fifth are the
 /// generator's first outputs from the seed 0.
@@ -19,75 +19,43 @@ const SCORES: [(u64, u64, u64); 5] = [
     (0xdaa6_6d2c_7ddf, 0x743f, 0x06c4_5d18_8009_454f),
 ];
 
-/// A group, the nodes that are up (a bit for each), the replicas, and the acting set.
-const ACTING: [(u64, u64, usize, &[u64]); 9] = [
-    (0, 0b11111, 3, &[2, 4, 1]),
-    (1, 0b11111, 3, &[2, 0, 4]),
-    (2, 0b11111, 2, &[4, 1]),
-    (12, 0b11111, 3, &[4, 3, 2]),
-    (12, 0b01111, 3, &[3, 2, 1]),
-    (63, 0b11111, 1, &[3]),
-    (0, 0b01001, 3, &[3, 0]),
-    (0, 0b00001, 3, &[0]),
-    (5, 0xffff, 3, &[6, 10, 5]),
-];
+/// A group, replicas, groups and epoch; the nodes that are up; and the acting set. Those that are up stand in falling
+/// order, so that the order comes from the scores.
+const ACTING: &str = "0 3 64 1 | 4 3 2 1 0 | 2 4 1
+1 3 64 1 | 4 3 2 1 0 | 2 0 4
+2 2 64 1 | 4 3 2 1 0 | 4 1
+12 3 64 1 | 4 3 2 1 0 | 4 3 2
+12 3 64 1 | 3 2 1 0 | 3 2 1
+63 1 64 1 | 4 3 2 1 0 | 3
+0 3 64 1 | 3 0 | 3 0
+0 3 64 1 | 0 | 0
+5 3 64 1 | 15 14 13 12 11 10 9 8 7 6 5 4 3 2 1 0 | 6 10 5";
 
-/// Epoch, up nodes, replicas, groups and the group that is asked for.
-type Refused = (u64, &'static [u64], usize, u64, u64);
+/// Each is one number away from a map that is right, on both sides of its range where it has two; then no node is up, and
+/// every number is outside its range; and then every number is its range's last.
+const LIMITS: &str = "0 3 64 0 | 0 1 | Limit
+0 3 64 4294967296 | 0 1 | Limit
+0 3 64 1 | 0 16 | Limit
+0 3 64 1 | 0 18446744073709551615 | Limit
+0 3 64 1 | 3 1 3 | Limit
+0 0 64 1 | 0 1 | Limit
+0 4 64 1 | 0 1 | Limit
+0 3 0 1 | 0 1 | Limit
+0 3 63 1 | 0 1 | Limit
+0 3 128 1 | 0 1 | Limit
+64 3 64 1 | 0 1 | Limit
+0 0 0 0 | | NoneUp
+63 3 64 4294967295 | 15 | 15";
 
-/// Each is one number away from a map that is right, on both sides of its range where it has two.
-const LIMITS: [Refused; 11] = [
-    (0, &[0, 1], 3, 64, 0),
-    (1 << 32, &[0, 1], 3, 64, 0),
-    (1, &[0, 16], 3, 64, 0),
-    (1, &[0, u64::MAX], 3, 64, 0),
-    (1, &[3, 1, 3], 3, 64, 0),
-    (1, &[0, 1], 0, 64, 0),
-    (1, &[0, 1], 4, 64, 0),
-    (1, &[0, 1], 3, 0, 0),
-    (1, &[0, 1], 3, 63, 0),
-    (1, &[0, 1], 3, 128, 0),
-    (1, &[0, 1], 3, 64, 64),
-];
-
-fn map_of<R: Abort>(
-    rt: &R,
-    alloc: Global,
-    (epoch, up, replicas, groups, _): Refused,
-) -> ClusterMap {
-    ClusterMap {
-        epoch,
-        up: nodes(rt, alloc, up),
-        replicas,
-        groups,
-    }
+/// Whether a name's group is that one, of 64 groups.
+fn is_group(name: &str, group: u64) -> bool {
+    group_of(name.as_bytes(), 64) == group
 }
 
-/// How many nodes act, or the refusal.
-fn count<R: Abort>(rt: &R, alloc: Global, row: Refused) -> Result<usize, PlacementError> {
-    let map = map_of(rt, alloc, row);
-    match acting(alloc, &map, row.4) {
-        Ok(nodes) => Ok(nodes.len()),
-        Err(error) => Err(error),
-    }
-}
-
-/// The nodes of the bits that are set, in falling order, so that the order comes from the scores.
-fn nodes_of<R: Abort>(rt: &R, alloc: Global, bits: u64) -> Vec<NodeId> {
-    let mut up = Vec::new(alloc);
-    for node in (0..16u64).rev() {
-        if bits >> node & 1 == 1 {
-            up.push(NodeId::new(node)).expect(rt, "memory");
-        }
-    }
-    up
-}
-
+/// The published values of FNV-1a with 64 bits, modulo 64 and less.
 #[test]
 fn names(rt: HostRuntime) {
-    for (name, group) in NAMES {
-        assert!(rt; group_of(name.as_bytes(), 64) == group, "of {name}");
-    }
+    assert!(rt; is_group("", 0x25) && is_group("a", 12) && is_group("foobar", 0x28));
     assert!(rt; group_of(b"a", 8) == 4 && group_of(b"a", 1) == 0);
 }
 
@@ -98,42 +66,76 @@ fn scores(rt: HostRuntime) {
     }
 }
 
+/// The map of a line, whose words are behind the group.
+fn map_of<R: Abort>(
+    rt: &R,
+    alloc: Global,
+    words: &mut SplitWhitespace<'_>,
+    up: &str,
+) -> ClusterMap {
+    let replicas = next_number(rt, words) as usize;
+    let groups = next_long(rt, words);
+    ClusterMap {
+        epoch: next_long(rt, words),
+        up: nodes(rt, alloc, up),
+        replicas,
+        groups,
+    }
+}
+
+fn name_of(error: PlacementError) -> &'static str {
+    match error {
+        PlacementError::NoneUp => "NoneUp",
+        PlacementError::Limit => "Limit",
+        PlacementError::NoMemory => "NoMemory",
+    }
+}
+
+/// Whether the acting set is of those nodes, or refused by that name.
+fn are_acting(alloc: Global, map: &ClusterMap, group: u64, wanted: &str) -> bool {
+    match acting(alloc, map, group) {
+        Ok(found) => are_nodes(&found, wanted),
+        Err(error) => name_of(error) == wanted,
+    }
+}
+
+/// Whether the acting set is as a line says.
+fn is_right<R: Abort>(rt: &R, alloc: Global, line: &str) -> bool {
+    let (numbers, rest) = halves(line, '|');
+    let (up, wanted) = halves(rest, '|');
+    let mut words = numbers.split_whitespace();
+    let group = next_long(rt, &mut words);
+    let map = map_of(rt, alloc, &mut words, up);
+    are_acting(alloc, &map, group, wanted)
+}
+
+/// Checks the lines of a text.
+fn check<R: Abort>(rt: &R, alloc: Global, text: &str) {
+    for line in text.lines() {
+        see(rt, is_right(rt, alloc, line), line);
+    }
+}
+
 #[test]
 fn acting_sets(rt: HostRuntime) {
-    for (group, bits, replicas, wanted) in ACTING {
-        let up = nodes_of(&rt, rt.alloc(), bits);
-        let map = ClusterMap {
-            epoch: 1,
-            up,
-            replicas,
-            groups: 64,
-        };
-        let found = acting(rt.alloc(), &map, group).expect(&rt, "an acting set");
-        let wanted = nodes(&rt, rt.alloc(), wanted);
-        assert!(rt; found.as_slice() == wanted.as_slice(), "of group {group}");
-    }
+    check(&rt, rt.alloc(), ACTING);
 }
 
 #[test]
 fn refusals(rt: HostRuntime) {
-    for row in LIMITS {
-        assert!(rt; count(&rt, rt.alloc(), row) == Err(PlacementError::Limit));
-    }
-    let none = count(&rt, rt.alloc(), (0, &[], 0, 0, 0));
-    assert!(rt; none == Err(PlacementError::NoneUp));
-    let last = count(&rt, rt.alloc(), ((1 << 32) - 1, &[15], 3, 64, 63));
-    assert!(rt; last == Ok(1) && GROUP_LIMIT == 64);
+    check(&rt, rt.alloc(), LIMITS);
+    assert!(rt; GROUP_LIMIT == 64);
 }
+
+const REFUSALS: [PlacementError; 3] = [
+    PlacementError::NoneUp,
+    PlacementError::Limit,
+    PlacementError::NoMemory,
+];
 
 #[test]
 fn printed(rt: HostRuntime) {
-    let refusals = [
-        (PlacementError::NoneUp, "1 NoneUp"),
-        (PlacementError::Limit, "2 Limit"),
-        (PlacementError::NoMemory, "3 NoMemory"),
-    ];
-    for (refusal, text) in refusals {
-        assert!(rt; prints(&rt, rt.alloc(), &refusal, text));
-    }
+    let text = "1 NoneUp\n2 Limit\n3 NoMemory";
+    assert!(rt; are_printed(&rt, rt.alloc(), &REFUSALS, text));
     ranking();
 }

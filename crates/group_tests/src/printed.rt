@@ -7,3 +7,19 @@ use std::process::Abort;
 pub(super) fn prints<T: Display, R: Abort>(rt: &R, alloc: Global, value: &T, text: &str) -> bool {
     value.to_string(alloc).expect(rt, "memory").as_str() == text
 }
+
+/// Whether values print as the lines of a text.
+pub(super) fn are_printed<T: Display, R: Abort>(
+    rt: &R,
+    alloc: Global,
+    values: &[T],
+    text: &str,
+) -> bool {
+    let mut lines = text.lines();
+    for value in values {
+        if !prints(rt, alloc, value, lines.next().unwrap_or("")) {
+            return false;
+        }
+    }
+    lines.next().is_none()
+}

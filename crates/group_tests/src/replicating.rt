@@ -1,33 +1,26 @@
 mod at_places;
 mod packed;
 
-use super::printed::prints;
+use super::printed::are_printed;
 use placement::NodeId;
 use replication::{Ack, UnpackError, commit_point, packed_lists};
 
-/// Acknowledged lengths of three members, and the least.
-const POINTS: [([usize; 3], usize); 4] = [
-    ([3, 3, 3], 3),
-    ([2, 5, 4], 2),
-    ([5, 4, 2], 2),
-    ([1, 0, 1], 0),
-];
-
-fn point(lengths: [usize; 3]) -> usize {
-    commit_point(&lengths)
+/// Whether the least of three members' acknowledged lengths is that one.
+fn is_least(lengths: [usize; 3], least: usize) -> bool {
+    commit_point(&lengths) == least
 }
 
 #[test]
 fn least_lengths(rt: HostRuntime) {
-    for (lengths, least) in POINTS {
-        assert!(rt; point(lengths) == least);
-    }
+    assert!(rt; is_least([3, 3, 3], 3) && is_least([2, 5, 4], 2));
+    assert!(rt; is_least([5, 4, 2], 2) && is_least([1, 0, 1], 0));
 }
+
+const REFUSALS: [UnpackError; 2] = [UnpackError::TooShort, UnpackError::NoMemory];
 
 #[test]
 fn printed_refusals(rt: HostRuntime) {
-    assert!(rt; prints(&rt, rt.alloc(), &UnpackError::TooShort, "1 TooShort"));
-    assert!(rt; prints(&rt, rt.alloc(), &UnpackError::NoMemory, "2 NoMemory"));
+    assert!(rt; are_printed(&rt, rt.alloc(), &REFUSALS, "1 TooShort\n2 NoMemory"));
 }
 
 #[test]

@@ -35,6 +35,7 @@ pub(super) fn request<R: Abort>(
     input: &[u8],
 ) -> Request {
     let object = name(rt, alloc);
+    let input = Vec::from_slice(alloc, input).expect(rt, "memory");
     request_for(rt, alloc, object, pair, class, method, input)
 }
 
@@ -46,10 +47,9 @@ pub(super) fn request_for<R: Abort>(
     (who, value): Pair,
     class: usize,
     method: &str,
-    input: &[u8],
+    input: Vec<u8>,
 ) -> Request {
     let method = String::from_str(alloc, method).expect(rt, "memory");
-    let input = Vec::from_slice(alloc, input).expect(rt, "memory");
     Request::new(
         client(rt, who),
         number(rt, value),
@@ -60,27 +60,12 @@ pub(super) fn request_for<R: Abort>(
     )
 }
 
-/// The request of a line: client, number, class, method, and its input if that isn't empty.
-pub(super) fn request_of<R: Abort>(rt: &R, alloc: Global, line: &str) -> Request {
-    let mut words = line.split_whitespace();
-    let who = next_number(rt, &mut words);
-    let value = next_number(rt, &mut words);
+/// The request of a text: client, number, class, method, and its input if that isn't empty.
+pub(super) fn request_of<R: Abort>(rt: &R, alloc: Global, text: &str) -> Request {
+    let mut words = text.split_whitespace();
+    let pair = (next_number(rt, &mut words), next_number(rt, &mut words));
     let class = next_number(rt, &mut words) as usize;
     let method = next(&mut words);
     let input = next(&mut words).as_bytes();
-    request(rt, alloc, (who, value), class, method, input)
-}
-
-/// Puts the requests of a text, a line each, behind those that there are.
-pub(super) fn add<R: Abort>(rt: &R, alloc: Global, list: &mut Vec<Request>, text: &str) {
-    for line in text.lines() {
-        list.push(request_of(rt, alloc, line)).expect(rt, "memory");
-    }
-}
-
-/// The requests of a text, a line each.
-pub(super) fn list<R: Abort>(rt: &R, alloc: Global, text: &str) -> Vec<Request> {
-    let mut list = Vec::new(alloc);
-    add(rt, alloc, &mut list, text);
-    list
+    request(rt, alloc, pair, class, method, input)
 }

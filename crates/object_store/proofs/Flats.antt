@@ -1,7 +1,7 @@
 -- Lemmas on the bytes of extents.
 use Rattle.std.proofs.Common.{◌≡◌, ℕ, max, zero, suc, ◌⊎◌, inl, inr, length-drop, ◌+◌, ◌-◌, ◌<◌, ◌≤◌, min, List, [], ◌∷◌, ◌++◌, length, take, drop, replicate, get_or, refl, ap, sym, ◌∙◌, append_assoc, arith, length-append}
 use Rattle.std.proofs.lemmas.List.{drop-drop, take_at, drop_at, length-take, length-replicate, append-nil, take-append-drop, take_more, take-append-le, drop-append-le}
-use Rattle.std.proofs.Math.Seq.{take-add, take-append-add, drop-append-add, take-nil, drop-nil}
+use Rattle.std.proofs.Math.Seq.{take-add, take-append-add, drop-append-add, take-nil}
 use Rattle.std.proofs.Math.ListN.{drop_of_length-le}
 use Rattle.std.specs.Arc.{arc_value}
 use Rattle.std.specs.declared.sync.Arc.{Arc}

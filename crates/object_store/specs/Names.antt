@@ -1,5 +1,5 @@
 -- Objects by name.
-use Rattle.std.specs.Prelude.{ℕ, List, Option, Some, None, Result, Ok, Err}
+use Rattle.std.specs.Prelude.{ℕ, List, Some, None, Result, Ok, Err}
 use Rattle.std.specs.FinMap as fin
 use Rattle.shared_map.specs.Entries.{ByteMap}
 use Rattle.object_store.specs.declared.store_error.StoreError.{StoreError}

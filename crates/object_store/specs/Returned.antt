@@ -1,5 +1,5 @@
 -- What a call returned, beside what it has to answer.
-use Rattle.std.specs.Prelude.{◌≡◌, ◌⊎◌, ℕ, Result, Ok, Err}
+use Rattle.std.specs.Prelude.{◌≡◌, ◌⊎◌, Result, Ok, Err}
 use Rattle.std.specs.Borrow.{Bor}
 use Rattle.object_store.specs.declared.store_error.StoreError.{StoreError}
 use Rattle.object_store.specs.declared.store_error.StoreError.TheVariants as store

@@ -3,7 +3,6 @@
 ghost use Rattle.std.specs.Prelude.{◌≡◌, Result, IfOk, IfErr, Ok, Err, if◌then◌else◌, nat_lt, length};
 ghost use Rattle.std.specs.Option.{option_copied};
 ghost use Rattle.object_store.specs.Object.{Content, IsName, IsValue, content_of};
-ghost use Rattle.object_store.specs.Edits.{overlaid};
 ghost use Rattle.object_store.specs.Calls as spec;
 ghost use Rattle.object_store.specs.Returned.{Gives, behind};
 

@@ -1,9 +1,7 @@
-ghost use Rattle.std.specs.Prelude.{◌≡◌, ◌+◌, ◌≤◌, [], IfOk, OnOk, OnErr, IfErr, length};
+ghost use Rattle.std.specs.Prelude.{◌≡◌, ◌+◌, ◌≤◌, [], IfOk, OnOk, OnErr, length};
 ghost use Rattle.object_store.specs.declared.limits.TheConstants.{DATA_LIMIT};
 ghost use Rattle.object_store.specs.Object.{part, spliced, resized};
-ghost use Rattle.object_store.specs.Edits.{written, truncated, overlaid};
 ghost use Rattle.object_store.specs.Extents.{flat};
-ghost use Rattle.object_store.specs.Returned.{GivesData};
 
 use crate::data::Data;
 use crate::data_error::DataError;

@@ -1,7 +1,5 @@
-ghost use Rattle.std.specs.Prelude.{◌≡◌, ◌+◌, ◌-◌, ◌<◌, ◌≤◌, ◌++◌, [], IfOk, OnOk, OnErr, IfErr, length, replicate, take, drop};
-ghost use Rattle.object_store.specs.Object.{part, spliced, resized};
-ghost use Rattle.object_store.specs.Edits.{written, truncated, overlaid};
-ghost use Rattle.object_store.specs.Returned.{GivesData};
+ghost use Rattle.std.specs.Prelude.{◌≡◌, ◌+◌, ◌-◌, ◌<◌, ◌≤◌, [], OnOk, OnErr, length};
+ghost use Rattle.object_store.specs.Object.{part, spliced};
 
 use crate::data::Data;
 use crate::data_error::DataError;

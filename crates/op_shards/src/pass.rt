@@ -1,5 +1,5 @@
 // What one sender or one taker has: an end of each queue.
-ghost use Rattle.std.specs.Prelude.{◌≡◌, ◌<◌, ◌+◌, ◌-◌, ◌%◌, [], ◌++◌, length, map, slice_get, Some, MatchOption, MatchResult, IfOk, OnOk};
+ghost use Rattle.std.specs.Prelude.{◌≡◌, ◌<◌, ◌+◌, ◌-◌, ◌%◌, length, map, slice_get, Some, MatchOption, MatchResult, IfOk, OnOk};
 ghost use Rattle.std.specs.List.{range_with_len};
 ghost use Rattle.crossbeam_queue.specs.Passes.{ruled_capacity};
 ghost use Rattle.op_shards.specs.Order.{of, IsPartOf, AreFirstOf, IsHere, IsNextAfter};

@@ -1,5 +1,8 @@
 -- A primary's log with one request more.
-use Rattle.std.proofs.Common.{◌≡◌, ℕ, ◌+◌, ◌++◌, ◌∷◌, [], List, length, length-append, max, ap, sym, ◌∙◌}
+use Rattle.std.proofs.Common.{◌≡◌, ◌≤◌, ℕ, ◌+◌, ◌++◌, ◌∷◌, [], List, length, length-append, max, ap, arith, false, sym, ◌∙◌}
+use Rattle.std.specs.Prelude.{Result, Ok, Err, IfOk, is_err}
+use Rattle.std.proofs.lemmas.Bool.{false≢true}
+use Rattle.pg_log.specs.declared.log_error.LogError.{LogError}
 use Rattle.pg_log.specs.Requests.{ClientRequest}
 use Rattle.pg_log.specs.Log.{Classes}
 use Rattle.group_world.specs.Node.{NodeState}
@@ -18,3 +21,13 @@ grown_is classes n k s r acked point sent e a p q =
     let t : sent ≡ sent_with classes n s r (max s.committed (least_of (length (s.log ++ r ∷ [])) (raised n (length (s.log ++ r ∷ [])) s.members.acting s.acked))) =
     q ∙ ap (sent_with classes n s r) o in
     λ i. grown s r (b i) (o i) (t i)
+
+-- what isn't an error was kept, and the log is longer by one
+pub longer_by_one : (r : Result ℕ LogError) (log new : List ClientRequest) (q : ClientRequest) → false ≡ is_err r →
+    IfOk r (λ place. (place ≡ length log) × (new ≡ log ++ q ∷ [])) → length new ≡ length log + 1
+longer_by_one (Ok place) log new q e h = ap (λ (w : List ClientRequest). length w) h.1 ∙ length-append log (q ∷ [])
+longer_by_one (Err why) log new q e h = absurd (false≢true e)
+
+pub still_within : (point : ℕ) (r : Result ℕ LogError) (log new : List ClientRequest) (q : ClientRequest) → false ≡ is_err r →
+    IfOk r (λ place. (place ≡ length log) × (new ≡ log ++ q ∷ [])) → point ≤ length log + 1 → point ≤ length new
+still_within point r log new q e h within = let one = longer_by_one r log new q e h in omega (arith, one, within)

@@ -1,5 +1,4 @@
 pub mod Lists
-pub mod Messages
 pub mod Raising
 pub mod Following
 pub mod Keeping

@@ -1,5 +1,5 @@
 -- Equal lists of numbers, and equal requests.
-use Rattle.std.proofs.Common.{◌≡◌, ◌≢◌, ◌<◌, ◌≤◌, ℕ, suc, zero, Bool, true, false, ◌&&◌, List, [], ◌∷◌, ◌++◌, length, eqb, ap, sym, ◌∙◌, refl, arith, drop, take, get_or}
+use Rattle.std.proofs.Common.{◌≡◌, ◌≢◌, ◌<◌, ◌≤◌, ℕ, suc, zero, Bool, true, false, ◌&&◌, List, [], ◌∷◌, length, eqb, ap, sym, ◌∙◌, refl, arith, drop, take}
 use Rattle.std.specs.Bool.{IsTrue}
 use Rattle.std.proofs.lemmas.Bool.{eq-eqb, eqb-true, and_parts, and_from, false≢true}
 use Rattle.pg_log.specs.declared.entry.Entry.{Entry}
@@ -7,19 +7,6 @@ use Rattle.pg_log.specs.Entries.{requests_of}
 use Rattle.pg_log.specs.Requests.{ClientRequest}
 use Rattle.group_world.specs.Maps.{is_same_list}
 use Rattle.group_world.specs.Rules.{is_same_request, begins}
-
--- lists of different lengths are different
-pub not_same_length : (xs ys : List ℕ) → length xs ≢ length ys → false ≡ is_same_list xs ys
-not_same_length [] [] h = absurd (h refl)
-not_same_length [] (y ∷ ys) h = refl
-not_same_length (x ∷ xs) [] h = refl
-not_same_length (x ∷ xs) (y ∷ ys) h =
-    let r : false ≡ is_same_list xs ys = not_same_length xs ys (λ e. h (ap suc e)) in
-    grind (arith, r)
-
-pub requests_end : (es : List Entry) (e : Entry) → requests_of (es ++ e ∷ []) ≡ requests_of es ++ e.request ∷ []
-requests_end [] e = refl
-requests_end (x ∷ es) e = ap (λ rs. x.request ∷ rs) (requests_end es e)
 
 pub drop_requests : (k : ℕ) (es : List Entry) → requests_of (drop k es) ≡ drop k (requests_of es)
 drop_requests zero es = refl
@@ -88,11 +75,6 @@ pub take_requests : (k : ℕ) (es : List Entry) → requests_of (take k es) ≡ 
 take_requests zero es = refl
 take_requests (suc k) [] = refl
 take_requests (suc k) (e ∷ es) = ap (λ rs. e.request ∷ rs) (take_requests k es)
-
-pub get_request : (es : List Entry) (k : ℕ) (e : Entry) (d : ClientRequest) → k < length es → (get_or es k e).request ≡ get_or (requests_of es) k d
-get_request [] k e d h = absurd (omega arith)
-get_request (x ∷ es) zero e d h = refl
-get_request (x ∷ es) (suc k) e d h = get_request es k e d (omega arith)
 
 -- a list that begins so is as long
 pub begins_within : (xs ys : List ClientRequest) → begins xs ys ≡ true → length xs ≤ length ys

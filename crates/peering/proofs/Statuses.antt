@@ -1,7 +1,7 @@
 -- A primary that asks, with the list that it adopts, and a member that refuses a Rep.
-use Rattle.std.proofs.Common.{◌≡◌, ℕ, Bool, true, false, not, ◌&&◌, cond, eqb, nat_lt, length, is_none, arith, List, ◌++◌, ◌∷◌, [], ap, sym, ◌∙◌, refl}
+use Rattle.std.proofs.Common.{◌≡◌, ◌≢◌, ◌<◌, ◌≤◌, ℕ, Bool, true, false, not, ◌&&◌, cond, eqb, nat_lt, length, is_none, arith, List, ◌++◌, ◌∷◌, [], ap, sym, ◌∙◌, refl}
 use denote.Enum.Bare.{sameb}
-use Rattle.std.proofs.lemmas.Bool.{false≢true}
+use Rattle.std.proofs.lemmas.Bool.{eq-eqb, false≢true}
 use Rattle.std.proofs.lemmas.Bool.Decides.{nat_tests}
 use Rattle.pg_log.specs.Requests.{ClientRequest}
 use Rattle.pg_log.specs.Log.{Classes}
@@ -9,13 +9,22 @@ use Rattle.pg_log.specs.Refusals.{refusal}
 use Rattle.group_world.specs.contracts.status.Status.{the_type}
 use Rattle.group_world.specs.declared.status.Status.{Status}
 use Rattle.group_world.specs.declared.status.Status.TheVariants.{Out, Waiting, Installed, Asking, Installing, Active}
-use Rattle.group_world.specs.Node.{NodeState, Outcome, nothing, is_asking, is_installed}
-use Rattle.group_world.specs.Rules.{is_usable, adopt, adopt_log, and_acks, replicate}
+use Rattle.group_world.specs.Node.{NodeState, Outcome, nothing, is_active, is_asking, is_installed, is_installing}
+use Rattle.group_world.specs.Rules.{acknowledge, activate, each_at, is_usable, adopt, adopt_log, and_acks, commit, raised, replicate}
 use Rattle.group_world.specs.declared.party.Party.{Party}
+use Rattle.group_world.specs.declared.party.Party.TheVariants.{Node as ANode}
 
 pub not_false : (b : Bool) → false ≡ not b → b ≡ true
 not_false true h = refl
 not_false false h = absurd (false≢true h)
+
+pub not_true : (b : Bool) → true ≡ not b → b ≡ false
+not_true true h = absurd (false≢true (sym h))
+not_true false h = refl
+
+pub not_second : (a b : Bool) → b ≡ false → (a && b) ≡ false
+not_second true b h = h
+not_second false b h = refl
 
 pub asking_is : (st : Status) → sameb the_type st Asking ≡ is_asking st
 asking_is Out = refl
@@ -24,6 +33,14 @@ asking_is Installed = refl
 asking_is Asking = refl
 asking_is Installing = refl
 asking_is Active = refl
+
+pub active_is : (st : Status) → sameb the_type st Active ≡ is_active st
+active_is Out = refl
+active_is Waiting = refl
+active_is Installed = refl
+active_is Asking = refl
+active_is Installing = refl
+active_is Active = refl
 
 pub adopts : (classes : Classes) (n : ℕ) (s : NodeState) (interval : ℕ) (list : List ClientRequest) → eqb interval s.interval ≡ true → is_asking s.status ≡ true → is_usable classes s list ≡ true →
     adopt n s list ≡ adopt_log classes n s interval list
@@ -58,3 +75,91 @@ replicates_not classes n s sender interval place r l u =
     let last : Bool = eqb place (length s.log) in
     sym (ap (λ x. cond at (cond x (and_acks n sender s) (cond (last && is_none (refusal classes s.log r)) longer (nothing s))) (nothing s)) l
     ∙ ap (λ x. cond at (cond (last && x) longer (nothing s)) (nothing s)) u ∙ inside_not at last longer (nothing s))
+
+-- an active primary raises the member's length and then the commit point
+pub acknowledges : (classes : Classes) (n m : ℕ) (s : NodeState) (sender : Party) (interval k : ℕ) → sender ≡ ANode m → eqb interval s.interval ≡ true → is_active s.status ≡ true →
+    commit classes n (record s { acked = raised m k s.members.acting s.acked }) ≡ acknowledge classes n s sender interval k
+acknowledges classes n m s sender interval k e a b =
+    let raise : Outcome = commit classes n (record s { acked = raised m k s.members.acting s.acked }) in
+    sym (ap (λ p. acknowledge classes n s p interval k) e ∙ ap (λ x. cond (x && is_active s.status) raise (nothing s)) a ∙ ap (λ x. cond x raise (nothing s)) b)
+
+-- and nothing else happens
+pub acknowledges_not : (classes : Classes) (n m : ℕ) (s : NodeState) (sender : Party) (interval k : ℕ) → sender ≡ ANode m → (eqb interval s.interval && is_active s.status) ≡ false →
+    nothing s ≡ acknowledge classes n s sender interval k
+acknowledges_not classes n m s sender interval k e a =
+    let raise : Outcome = commit classes n (record s { acked = raised m k s.members.acting s.acked }) in
+    sym (ap (λ p. acknowledge classes n s p interval k) e ∙ ap (λ x. cond x raise (nothing s)) a)
+
+pub inside : (a b : ℕ) → a ≤ b → a ≢ b → nat_lt a b ≡ true
+inside a b h e = grind (arith, nat_tests)
+
+pub below : (a b : ℕ) → a < b → nat_lt a b ≡ true
+below a b h = grind (arith, nat_tests)
+
+pub same_number : (a b : ℕ) → a ≡ b → eqb a b ≡ true
+same_number a b h = eq-eqb a b h
+
+-- a place that is logged is acknowledged
+pub replicates_logged : (classes : Classes) (n : ℕ) (s : NodeState) (sender : Party) (interval place : ℕ) (r : ClientRequest) → eqb interval s.interval ≡ true → is_installed s.status ≡ true →
+    nat_lt place (length s.log) ≡ true → and_acks n sender s ≡ replicate classes n s sender interval place r
+replicates_logged classes n s sender interval place r a b l =
+    let next : Outcome = cond (eqb place (length s.log) && is_none (refusal classes s.log r)) (and_acks n sender (record s { log = s.log ++ r ∷ [] })) (nothing s) in
+    sym (ap (λ x. cond (x && is_installed s.status) (cond (nat_lt place (length s.log)) (and_acks n sender s) next) (nothing s)) a
+    ∙ ap (λ x. cond x (cond (nat_lt place (length s.log)) (and_acks n sender s) next) (nothing s)) b
+    ∙ ap (λ x. cond x (and_acks n sender s) next) l)
+
+-- and so is the next, where its request may follow
+pub replicates_next : (classes : Classes) (n : ℕ) (s : NodeState) (sender : Party) (interval place : ℕ) (r : ClientRequest) → eqb interval s.interval ≡ true → is_installed s.status ≡ true →
+    place ≡ length s.log → is_none (refusal classes s.log r) ≡ true → and_acks n sender (record s { log = s.log ++ r ∷ [] }) ≡ replicate classes n s sender interval place r
+replicates_next classes n s sender interval place r a b l u =
+    let longer : Outcome = and_acks n sender (record s { log = s.log ++ r ∷ [] }) in
+    let next : Outcome = cond (eqb place (length s.log) && is_none (refusal classes s.log r)) longer (nothing s) in
+    sym (ap (λ x. cond (x && is_installed s.status) (cond (nat_lt place (length s.log)) (and_acks n sender s) next) (nothing s)) a
+    ∙ ap (λ x. cond x (cond (nat_lt place (length s.log)) (and_acks n sender s) next) (nothing s)) b
+    ∙ ap (λ x. cond x (and_acks n sender s) next) (at_end place (length s.log) l)
+    ∙ ap (λ x. cond (x && is_none (refusal classes s.log r)) longer (nothing s)) (same_number place (length s.log) l)
+    ∙ ap (λ x. cond x longer (nothing s)) u)
+
+-- elsewhere nothing happens
+pub replicates_nowhere : (classes : Classes) (n : ℕ) (s : NodeState) (sender : Party) (interval place : ℕ) (r : ClientRequest) → (eqb interval s.interval && is_installed s.status) ≡ false →
+    nothing s ≡ replicate classes n s sender interval place r
+replicates_nowhere classes n s sender interval place r a =
+    let next : Outcome = cond (eqb place (length s.log) && is_none (refusal classes s.log r)) (and_acks n sender (record s { log = s.log ++ r ∷ [] })) (nothing s) in
+    sym (ap (λ x. cond x (cond (nat_lt place (length s.log)) (and_acks n sender s) next) (nothing s)) a)
+
+pub replicates_past : (classes : Classes) (n : ℕ) (s : NodeState) (sender : Party) (interval place : ℕ) (r : ClientRequest) → length s.log < place →
+    nothing s ≡ replicate classes n s sender interval place r
+replicates_past classes n s sender interval place r h =
+    let last : nat_lt place (length s.log) ≡ false = grind (arith, nat_tests) in
+    let other : eqb place (length s.log) ≡ false = grind (arith, nat_tests) in
+    let longer : Outcome = and_acks n sender (record s { log = s.log ++ r ∷ [] }) in
+    let at : Bool = eqb interval s.interval && is_installed s.status in
+    sym (ap (λ x. cond at (cond x (and_acks n sender s) (cond (eqb place (length s.log) && is_none (refusal classes s.log r)) longer (nothing s))) (nothing s)) last
+    ∙ ap (λ x. cond at (cond (x && is_none (refusal classes s.log r)) longer (nothing s)) (nothing s)) other ∙ inside_not at false longer (nothing s))
+
+pub installed_is : (st : Status) → sameb the_type st Installed ≡ is_installed st
+installed_is Out = refl
+installed_is Waiting = refl
+installed_is Installed = refl
+installed_is Asking = refl
+installed_is Installing = refl
+installed_is Active = refl
+
+pub installing_is : (st : Status) → sameb the_type st Installing ≡ is_installing st
+installing_is Out = refl
+installing_is Waiting = refl
+installing_is Installed = refl
+installing_is Asking = refl
+installing_is Installing = refl
+installing_is Active = refl
+
+-- an installing primary becomes active
+pub activates : (s : NodeState) (interval : ℕ) → eqb interval s.interval ≡ true → is_installing s.status ≡ true →
+    nothing (record s { status = Active; committed = length s.log; acked = each_at s.members.acting (length s.log) }) ≡ activate s interval
+activates s interval a b =
+    let active : Outcome = nothing (record s { status = Active; committed = length s.log; acked = each_at s.members.acting (length s.log) }) in
+    sym (ap (λ x. cond (x && is_installing s.status) active (nothing s)) a ∙ ap (λ x. cond x active (nothing s)) b)
+
+pub activates_not : (s : NodeState) (interval : ℕ) → (eqb interval s.interval && is_installing s.status) ≡ false → nothing s ≡ activate s interval
+activates_not s interval a =
+    sym (ap (λ x. cond x (nothing (record s { status = Active; committed = length s.log; acked = each_at s.members.acting (length s.log) })) (nothing s)) a)

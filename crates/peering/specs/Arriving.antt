@@ -3,10 +3,8 @@ use Rattle.std.specs.Prelude.{◌≡◌, ℕ, List, [], ◌∷◌, ◌++◌, len
 use Rattle.pg_log.specs.Requests.{ClientRequest}
 use Rattle.pg_log.specs.declared.log_error.LogError.{LogError}
 use Rattle.pg_log.specs.declared.log_error.LogError.TheVariants.{NoMemory}
-use Rattle.pg_log.specs.Log.{Classes, Legal, reply_at}
-use Rattle.std.specs.Int.{w64, cast_unsigned}
-use Rattle.pg_log.specs.declared.entry.Entry.{Entry}
-use Rattle.group_world.specs.Maps.{GroupMap, all_among}
+use Rattle.pg_log.specs.Log.{Classes}
+use Rattle.group_world.specs.Maps.{GroupMap}
 use Rattle.group_world.specs.Node.{NodeState, Outcome, nothing, fresh, is_installing, is_installed, packet, to_others}
 use Rattle.peering.specs.Numbered.{NumberedNode}
 use Rattle.group_world.specs.Unanswered.{reps_from}
@@ -14,8 +12,7 @@ use Rattle.group_world.specs.Rules.{arrive, lead, is_usable, replies_from}
 use Rattle.group_world.specs.declared.status.Status.{Status}
 use Rattle.group_world.specs.declared.status.Status.TheVariants.{Installed}
 use Rattle.group_world.specs.declared.party.Party.{Party}
-use Rattle.group_world.specs.declared.party.Party.TheVariants.{Monitor as TheMonitor}
-use Rattle.group_world.specs.declared.message.Kind.TheVariants.{Log as LogOf, Install, Installed as InstalledIn, AskActivate, Rep}
+use Rattle.group_world.specs.declared.message.Kind.TheVariants.{Log as LogOf, Installed as InstalledIn, Rep}
 use Rattle.group_world.specs.declared.message.Packet.{Packet}
 
 -- the log after a move: a primary that is installing at once has adopted the empty list
@@ -47,21 +44,9 @@ abbrev pub interval_after : NodeState → GroupMap → Option Status → ℕ
 interval_after s m None = s.interval
 interval_after s m (Some status) = m.interval
 
--- what the primary sends on adopting a list
-abbrev pub asked_if : ℕ → ℕ → Bool → List Packet
-asked_if n interval all = if all then packet n TheMonitor (AskActivate interval) ∷ [] else []
-
-abbrev pub adopted_sent : ℕ → ℕ → GroupMap → List ClientRequest → List Packet
-adopted_sent n interval m list = to_others n m.acting (Install m list) ++ asked_if n interval (all_among m.acting (n ∷ []))
-
 -- the node with another log
 abbrev pub with_log : NumberedNode → List ClientRequest → NumberedNode
 with_log node list = record { number = node.number; state = record (node.state) { log = list } }
-
--- An entry that may follow a list is legal there, and its reply is that of its place.
-pub record IsNextReply (classes : Classes) (log : List ClientRequest) (e : Entry) : Type 0 where
-  pub legal : Legal classes (log ++ e.request ∷ [])
-  pub reply : reply_at classes (log ++ e.request ∷ []) (length log) ≡ Some (record { code = cast_unsigned w64 e.code; output = e.output.items })
 
 -- what an active primary sends of one request more, where it commits up to a place
 abbrev pub sent_with : Classes → ℕ → NodeState → ClientRequest → ℕ → List Packet

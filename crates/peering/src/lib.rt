@@ -3,12 +3,8 @@
 //! (`local_step`, `unanswered`, `next_map`), so that the theorem, `agreement`, speaks of them.
 #![tactic(auto)]
 
-mod compare;
-mod copies;
 mod monitor;
 mod node;
-mod packets;
-mod replies;
 
 pub use group_world::{agreement, nothing_is_cut};
 pub use monitor::Monitor;

@@ -2,8 +2,8 @@ ghost use Rattle.std.specs.Prelude.{◌≡◌, ◌⊎◌, ◌<◌, ◌-◌, ◌^
 ghost use Rattle.group_world.specs.Maps.{no_map};
 ghost use Rattle.group_world.specs.Monitor.{no_maps, map_refusal, next_map, with_map, activation_refusal, with_activated};
 
-use crate::compare::{are_same, is_acting};
 use group_world::{Epoch, GroupMap, MonitorError};
+use peering_messages::{are_same, is_acting};
 use placement::NodeId;
 use std::alloc::{AllocError, Global};
 use std::marker::Model;

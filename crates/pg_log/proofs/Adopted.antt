@@ -1,5 +1,5 @@
 -- The common beginning of a log and a list, and a log that is cut back to it.
-use Rattle.std.proofs.Common.{◌≡◌, ℕ, zero, suc, ◌+◌, ◌-◌, ◌<◌, ◌≤◌, ◌⊎◌, List, [], ◌∷◌, ◌++◌, length, take, drop, Some, None, refl, ap, sym, ◌∙◌, arith, subst, inl, inr, ⊎_elim, append_assoc, append-nil, Result, Ok, Err, OnOk, IfErr}
+use Rattle.std.proofs.Common.{◌≡◌, ℕ, zero, suc, ◌+◌, ◌-◌, ◌<◌, ◌≤◌, ◌⊎◌, List, [], ◌∷◌, ◌++◌, length, take, drop, Some, None, refl, ap, sym, ◌∙◌, arith, length-append, subst, inl, inr, ⊎_elim, append_assoc, append-nil, Result, Ok, Err, OnOk, IfErr}
 use Rattle.std.specs.List.{slice_get}
 use Rattle.std.specs.FinMap as fin
 use Rattle.std.proofs.lemmas.Option.{same_Some, slice_get_within}
@@ -189,6 +189,20 @@ undone_more classes es objects k e h at is =
 
 pub prefix_on : (xs ys zs : List Entry) → IsPrefix xs ys → IsPrefix ys zs → IsPrefix xs zs
 prefix_on xs ys zs p q = (p.0 ++ q.0, sym (append_assoc xs p.0 q.0) ∙ ap (λ (w : List Entry). w ++ q.0) p.1 ∙ q.1)
+
+pub prefix_long : (xs ys : List Entry) → IsPrefix xs ys → length xs ≤ length ys
+prefix_long xs ys p =
+    let e : length (xs ++ p.0) ≡ length ys = ap (λ (w : List Entry). length w) p.1 in
+    let s = length-append xs p.0 in omega (arith, e, s)
+
+-- as many entries as requests
+length_requests : (es : List Entry) → length (requests_of es) ≡ length es
+length_requests [] = refl
+length_requests (e ∷ es) = ap suc (length_requests es)
+
+pub entries_long : (es : List Entry) (log : List ClientRequest) (k : ℕ) → requests_of es ≡ log → k ≤ length log → k ≤ length es
+entries_long es log k e h =
+    let s : length log ≡ length es = sym (ap (λ (w : List ClientRequest). length w) e) ∙ length_requests es in omega (arith, h, s)
 
 -- an entry was added, or the list stayed
 pub prefix_added : (r : Result (Unit {0}) LogError) (xs ys : List Entry) (e : Entry) → OnOk r (ys ≡ xs ++ e ∷ []) → IfErr r (λ w. (w ≡ NoMemory) × (ys ≡ xs)) → IsPrefix xs ys

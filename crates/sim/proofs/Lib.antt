@@ -1,4 +1,1 @@
-pub mod Grown
-pub mod Equal
 pub mod Reaching
-mod Shelving

@@ -4,9 +4,8 @@ use Rattle.std.specs.Io.KnownBytes.{Appends}
 use Rattle.std.specs.Prelude.{OnOk, IsOk, Result, Ok, Err, is_err}
 use Rattle.pg_log.specs.Log.{Classes}
 use Rattle.sim_lines.specs.Lines.{line_of}
-use Rattle.sim.specs.Output.{bad_line}
-use Rattle.sim.specs.Run.{Printed, before_rest, go_on, run_from, run_lines, Grew, Prints, Stops, IsLine}
-use Rattle.sim.specs.Step.{SimWorld, Happened, opening, step}
+use Rattle.sim.specs.Run.{bad_line, Printed, before_rest, go_on, run_from, run_lines, Grew, Prints, Stops, IsLine}
+use Rattle.sim_world.specs.Step.{SimWorld, Happened, opening, step}
 
 -- these lines lead to a world, and that text is printed
 pub record Reached (classes : Classes) (names above : List (List ℕ)) (number : ℕ) (w : SimWorld) (text : List ℕ) : Type 0 where

@@ -1,12 +1,16 @@
 -- The lines of a file, one after another, up to the first that is bad.
-use Rattle.std.specs.Prelude.{◌≡◌, ℕ, suc, ◌≤◌, List, [], ◌∷◌, ◌++◌, length, take, Bool, true, false, Option, Some, None}
+use Rattle.std.specs.Prelude.{◌≡◌, ℕ, suc, ◌≤◌, List, [], ◌∷◌, ◌++◌, length, take, Bool, true, false, Option, Some, None, codes}
+use Rattle.std.specs.Fmt.{decimal}
 use Rattle.std.specs.Io.KnownBytes.{Appends}
 use Rattle.pg_log.specs.Log.{Classes}
 use Rattle.sim.specs.declared.file.Ending.{Ending}
 use Rattle.sim.specs.declared.file.Ending.TheVariants.{Done, Bad, NoMemory, Unprinted}
 use Rattle.sim_lines.specs.Lines.{line_of, lines_of}
-use Rattle.sim.specs.Output.{bad_line}
-use Rattle.sim.specs.Step.{SimWorld, Happened, opening, step}
+use Rattle.sim_world.specs.Step.{SimWorld, Happened, opening, step}
+
+-- a line that can't be done, by its number from 1
+abbrev pub bad_line : ℕ → List ℕ
+bad_line number = codes "line " ++ decimal number ++ codes ": bad\n"
 
 -- What is printed of lines, and whether one is bad.
 pub record Printed : Type 0 where

@@ -1,15 +1,15 @@
 //! The same run as a message sequence.
-ghost use Rattle.std.specs.Prelude.{◌≡◌, IfOk, string_bytes};
+ghost use Rattle.std.specs.Prelude.{◌≡◌};
 
-use crate::kept::Kept;
-use crate::print::{bad_line, kind_text, with_two};
-use crate::world::World;
+use crate::bad_line::bad_line;
 use group_world::Party;
 use interp::ClassTable;
 use pg_log::Classes;
 use placement::NodeId;
 use sim_lines::{Line, lines, read_line};
+use sim_messages::{Kept, kind_text, with_two};
 use sim_trace::{Lane, Letter, Step, What, draw};
+use sim_world::World;
 use std::alloc::{AllocError, Global};
 use std::marker::Brand;
 
@@ -163,12 +163,12 @@ fn take_line<C: Classes>(
 ) -> Result<bool, AllocError>
     requires { table.now ≡ C.classes }
 {
-    let before = world.sent.len();
+    let before = world.sent().len();
     let line = read_line(alloc, names, text)?;
     let Some(printed) = world.take(table, line)? else {
         return Ok(true);
     };
-    let sent = world.sent.len().saturating_sub(before);
+    let sent = world.sent().len().saturating_sub(before);
     note(alloc, names, text, sent, printed.as_str(), steps)?;
     Ok(false)
 }
@@ -228,7 +228,7 @@ fn trace_from<C: Classes>(
 {
     let mut steps = Vec::new(alloc);
     let bad = take_lines(alloc, table, names, lines, world, &mut steps)?;
-    let letters = letters(alloc, world.sent.items())?;
+    let letters = letters(alloc, world.sent())?;
     drawn(alloc, &letters, &steps, bad)
 }
 

@@ -1,14 +1,14 @@
 ghost use Rattle.std.specs.Prelude.{◌≡◌, IfOk, map, string_bytes};
 ghost use Rattle.sim_lines.specs.Lines.{line_of, lines_of};
 ghost use Rattle.sim.specs.Run.{EndsBy, IsLine};
-ghost use Rattle.sim.specs.Step.{opening, step};
+ghost use Rattle.sim_world.specs.Step.{opening, step};
 
-use crate::print::bad_line;
-use crate::world::World;
+use crate::bad_line::bad_line;
 use class_tool::Output;
 use interp::ClassTable;
 use pg_log::Classes;
 use sim_lines::{lines, read_line};
+use sim_world::World;
 use std::alloc::{AllocError, Global};
 use std::marker::Brand;
 

@@ -1,5 +1,5 @@
 -- One more of what is put behind a text so many times.
-use Rattle.std.proofs.Common.{◌≡◌, ℕ, suc, ◌+◌, List, ◌++◌, Bool, false, refl, ap, add-one, codes, slice_get, slice_index_or}
+use Rattle.std.proofs.Common.{◌≡◌, ℕ, ◌+◌, List, ◌++◌, Bool, false, ap, add-one, codes, slice_get, slice_index_or}
 use Rattle.sim_trace.specs.declared.lane.Lane.{Lane}
 use Rattle.sim_trace.specs.declared.letter.Letter.{Letter}
 use Rattle.sim_trace.specs.Rows.{repeated}

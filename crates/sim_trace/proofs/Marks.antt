@@ -1,5 +1,5 @@
 -- A list of marks is the definition's.
-use Rattle.std.proofs.Common.{◌≡◌, ◌<◌, ◌≤◌, ℕ, suc, ◌+◌, List, Bool, false, length, take, drop, ◌++◌, map, slice_index_or, sym, ◌∙◌, ap, subst, zero-add, arith}
+use Rattle.std.proofs.Common.{◌≡◌, ◌<◌, ℕ, suc, ◌+◌, List, Bool, false, length, take, drop, ◌++◌, map, slice_index_or, sym, ◌∙◌, ap, subst, zero-add}
 use Rattle.std.proofs.Math.Seq.{take-append_seam}
 use Rattle.std.proofs.lemmas.List.{ext_get_or}
 use Rattle.std.proofs.lemmas.List.FromFn.{length-map-range_with_len, get_or-map-range_with_len}

@@ -1,5 +1,5 @@
 //! The picture of a line.
-ghost use Rattle.std.specs.Prelude.{◌≡◌, ◌<◌, ◌≤◌, ◌-◌, ◌++◌, length, OnOk, string_bytes, codes};
+ghost use Rattle.std.specs.Prelude.{◌≡◌, ◌<◌, ◌-◌, ◌++◌, OnOk, string_bytes};
 ghost use Rattle.sim_trace.specs.Rows.{repeated, shaft, rest, mark_row, right_head, left_head, to_right, to_left, to_itself, arrow_row};
 
 use crate::text::{push_bars, push_repeated};

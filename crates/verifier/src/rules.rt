@@ -1,4 +1,4 @@
-ghost use Rattle.std.specs.Prelude.{◌≡◌, ◌<◌, ◌^◌, length};
+ghost use Rattle.std.specs.Prelude.{◌≡◌, ◌<◌, ◌^◌};
 ghost use Rattle.verifier.specs.Rules.{begins_at, is_backward, misses, falls_off, is_local_call, reads_unset, writes_r10, computes_with_pointer, compares_pointer, stores_pointer, leaves_region, writes_read_only, calls_unknown, passes_wrong_kind, writes_in_reader, returns_pointer, operand_is_unset, rule_at, shape_rule, frame_rule};
 ghost use Rattle.abstract_regs.specs.Kind.{is_unset, is_ptr};
 ghost use Rattle.abstract_regs.specs.Frame.{kind_at};

@@ -82,9 +82,7 @@ fn readings(rt: HostRuntime) {
 /// A number is constant where its unsigned range is, whatever its other parts say.
 #[test]
 fn constant_by_the_range(rt: HostRuntime) {
-    let Some(x) = number((5, 5, MIN, MAX, 0, ALL)) else {
-        return;
-    };
+    let x = number((5, 5, MIN, MAX, 0, ALL)).expect(&rt, "a number");
     assert!(rt;
         constant_is(x, Some(5))
             && gives(

@@ -1,7 +1,8 @@
+use crate::timing::{Time, Work, time_of};
 use anyhow::Result;
-use object_store::{Object, calls};
+use object_store::{Object, StoreError, calls};
 use std::alloc::Global;
-use std::time::{Clock, Instant};
+use std::time::Clock;
 
 /// How often a subject is timed, of which the least time counts, and how many calls each time has.
 const RUNS: usize = 50;
@@ -11,7 +12,7 @@ const CALLS: u32 = 1024;
 const LONGEST_VALUE: [u8; 4096] = [7; 4096];
 
 /// What is measured.
-#[derive(Clone, Copy, Debug)]
+#[derive(Clone, Copy)]
 pub enum Subject {
     /// A copy of the largest object.
     Copy,
@@ -23,19 +24,42 @@ pub enum Subject {
     Read { len: u64 },
 }
 
-/// The least picoseconds that one call took.
-pub fn time<C: Clock>(alloc: Global, clock: &C, subject: Subject) -> Result<u64> {
-    let object = object_of(alloc, subject)?;
-    let mut least = u64::MAX;
-    for _ in 0..RUNS {
-        let start = Instant::now(clock)?;
-        for n in 0..CALLS {
-            call(alloc, &object, subject, n)?;
-        }
-        let nanos = start.elapsed(clock)?.as_nanos();
-        least = least.min(picos_each(nanos));
+/// The least time that one call took, where there is a clock.
+pub fn time<C: Clock>(alloc: Global, clock: Option<&C>, subject: Subject) -> Result<Time> {
+    if clock.is_none() {
+        return Ok(Time::None);
     }
-    Ok(least)
+    let object = object_of(alloc, subject)?;
+    time_of(
+        clock,
+        &Calls {
+            alloc,
+            object: &object,
+            subject,
+        },
+        RUNS,
+    )
+}
+
+/// The calls that a time is taken of.
+#[derive(Clone, Copy)]
+struct Calls<'a> {
+    alloc: Global,
+    object: &'a Object,
+    subject: Subject,
+}
+
+impl Work for Calls<'_> {
+    fn work(&self) -> Result<()> {
+        for n in 0..CALLS {
+            call(self.alloc, self.object, self.subject, n)?;
+        }
+        Ok(())
+    }
+
+    fn time(nanos: u128) -> Time {
+        Time::Picos(picos_each(nanos))
+    }
 }
 
 /// The picoseconds that each call took, where all took so many nanoseconds.
@@ -49,10 +73,15 @@ fn key(n: u32) -> [u8; 4] {
     n.wrapping_mul(2_654_435_761).to_be_bytes()
 }
 
-/// An object of so many bytes, and so many keys.
-fn filled(alloc: Global, len: u64, keys: u32) -> Result<Object> {
+/// An object of so many bytes.
+fn of_length(alloc: Global, len: u64) -> Result<Object, StoreError> {
     let empty = calls::create(None, true)?;
-    let mut object = calls::truncate(alloc, Some(&empty), len)?;
+    calls::truncate(alloc, Some(&empty), len)
+}
+
+/// An object of so many bytes, and so many keys.
+fn filled(alloc: Global, len: u64, keys: u32) -> Result<Object, StoreError> {
+    let mut object = of_length(alloc, len)?;
     for n in 0..keys {
         object = calls::set_key(alloc, Some(&object), &key(n), &LONGEST_VALUE)?;
     }
@@ -60,7 +89,7 @@ fn filled(alloc: Global, len: u64, keys: u32) -> Result<Object> {
 }
 
 /// The object that a subject is measured on.
-fn object_of(alloc: Global, subject: Subject) -> Result<Object> {
+fn object_of(alloc: Global, subject: Subject) -> Result<Object, StoreError> {
     match subject {
         Subject::Copy => filled(alloc, 65_536, 1024),
         Subject::Write { len } | Subject::Read { len } => filled(alloc, len, 0),

@@ -7,7 +7,7 @@ use anyhow::{Context, Result};
 use helpers::{map_set, map_value, setxattr, stat, write};
 use object_store::{DATA_LIMIT, KEY_LIMIT, Object, XATTR_LIMIT};
 use std::alloc::Global;
-use txn::Staged;
+use txn::{NoMemory, Staged};
 
 /// A call that only reads.
 #[derive(Clone, Copy)]
@@ -53,18 +53,26 @@ fn value_of(object: Option<&Object>) -> Result<u64>
     Ok(answer)
 }
 
+/// The longest value.
+const VALUE: [u8; 4096] = [0x5a; 4096];
+
 /// An object with all data, xattrs and keys that one may have, and values of the most bytes. Its keys are the numbers
 /// from 0 on, two bytes each, the high one first.
 pub fn full_object(alloc: Global) -> Result<Object> {
-    let value = [0x5a; 4096];
     let mut staged = Staged::over(None);
-    write(alloc, &mut staged, DATA_LIMIT as u64 - 1, &[0x5a])?;
+    fill(alloc, &mut staged)?;
+    staged.finish()?.after.context("an object")
+}
+
+/// Gives a staged object all of that.
+fn fill(alloc: Global, staged: &mut Staged<'_>) -> Result<(), NoMemory> {
+    write(alloc, staged, DATA_LIMIT as u64 - 1, &[0x5a])?;
     for n in 0..KEY_LIMIT as u16 {
         let key = n.to_be_bytes();
-        map_set(alloc, &mut staged, &key, &value)?;
+        map_set(alloc, staged, &key, &VALUE)?;
         if usize::from(n) < XATTR_LIMIT {
-            setxattr(alloc, &mut staged, &key, &value)?;
+            setxattr(alloc, staged, &key, &VALUE)?;
         }
     }
-    staged.finish()?.after.context("an object")
+    Ok(())
 }

@@ -1,4 +1,4 @@
-ghost use Rattle.std.specs.Prelude.{◌≡◌, ◌<◌, ◌≤◌, ◌^◌, IfOk};
+ghost use Rattle.std.specs.Prelude.{◌≡◌, ◌<◌, IfOk};
 ghost use Rattle.bpf_machine.specs.Flat.{help};
 ghost use Rattle.bpf_machine.specs.View.{layout_of};
 ghost use Rattle.bpf_machine.specs.inner.FlatState.{flat_state, with_answer, GivesState, Answers, IsSized, may_call, helped};

@@ -1,4 +1,4 @@
-ghost use Rattle.std.specs.Prelude.{◌≡◌, ◌<◌, ◌≤◌, ◌+◌, ◌^◌, ◌-◌, ℕ, Some, None, if◌then◌else◌, length, take, IfSome};
+ghost use Rattle.std.specs.Prelude.{◌≡◌, ◌<◌, ◌≤◌, ◌+◌, ◌^◌, ◌-◌, ℕ, Some, None, if◌then◌else◌, length, IfSome};
 ghost use Rattle.bpf_machine.specs.State.{le_value, le_bytes, cells, written, put, size};
 ghost use Rattle.bpf_machine.specs.Helper.{write_room};
 ghost use Rattle.bpf_machine.specs.Flat.{base, holds, find, range, load, load_signed, store, flat_after};

@@ -1,4 +1,4 @@
-ghost use Rattle.std.specs.Prelude.{◌≡◌, ◌<◌, ◌≤◌};
+ghost use Rattle.std.specs.Prelude.{◌≡◌, ◌<◌};
 ghost use Rattle.bpf_machine.specs.State.{reg, set_reg};
 ghost use Rattle.bpf_machine.specs.Helper.{answered};
 ghost use Rattle.bpf_machine.specs.inner.FlatState.{flat_state, GivesState};

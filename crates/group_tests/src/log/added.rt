@@ -1,66 +1,45 @@
 ghost use Rattle.std.specs.Prelude.{◌≡◌};
 ghost use mathlib.Core.List.{IsPrefix};
 
-use super::super::checks::{Check, Checks};
 use super::super::classes::class;
-use super::super::requests::request_of;
-use super::{SUCCEED, see, table};
+use super::super::script::{Script, go_on_with};
+use super::{SUCCEED, table};
 use interp::ClassTable;
-use pg_log::{Classes, Group, LogError, go_on};
+use pg_log::{Classes, Group, go_on};
 use std::alloc::Global;
 use std::marker::Brand;
 use std::process::Abort;
 use verifier::VerifiedClass;
 
-/// Appends a request of class 3, which is answered so.
-fn append_second<C: Classes, R: Abort>(
-    rt: &R,
-    alloc: Global,
-    table: &ClassTable,
-    group: &mut Group<C>,
-    answer: Result<usize, LogError>,
-)
-    requires { IsPrefix table.now C.classes }
+/// The second request names a class that isn't loaded.
+const BEFORE: &str = "append 1 1 2 f abc | 0
+append 1 2 3 f | NoClass";
+
+/// It is.
+const AFTER: &str = "append 1 2 3 f | 1
+reply 1 1 | 0 3";
+
+/// Goes on with a group where that class was added to its table.
+fn go_on_after<C: Classes, R: Abort>(rt: &R, alloc: Global, table: &ClassTable, group: Group<C>)
+    requires { IsPrefix C.classes table.now }
 {
-    let second = request_of(rt, alloc, "1 2 3 f");
-    assert!(rt; group.append(table, second) == answer);
+    let script = Script {
+        rt,
+        alloc,
+        first: "",
+        text: AFTER,
+    };
+    go_on(table, group, script);
 }
 
-/// Goes on with a group whose first request was client 1's first.
-#[derive(Drop)]
-struct Rest;
-
-impl Check for Rest {
-    fn check<C: Classes, R: Abort>(
-        &self,
-        rt: &R,
-        alloc: Global,
-        table: &ClassTable,
-        group: &mut Group<C>,
-    ) {
-        append_second(rt, alloc, table, group, Ok(1));
-        see(rt, group, (1, 1, 0, 3));
-    }
-}
-
-/// Appends two requests, of which the second names a class that isn't loaded; then that class is loaded.
+/// Does the lines before, and those after the class is loaded.
 fn adds<C: Classes, R: Abort>(rt: &R, alloc: Global, mut table: ClassTable, class: VerifiedClass)
     requires { table ≡ C.classes }
 {
     let mut group = Group::<C>::new(alloc);
-    let first = request_of(rt, alloc, "1 1 2 f abc");
-    assert!(rt; group.append(&table, first) == Ok(0));
-    append_second(rt, alloc, &table, &mut group, Err(LogError::NoClass));
+    go_on_with(rt, alloc, &table, &mut group, "", BEFORE);
     let _ = table.add(class).expect(rt, "memory");
-    go_on(
-        &table,
-        group,
-        Checks {
-            rt,
-            alloc,
-            check: Rest,
-        },
-    );
+    go_on_after(rt, alloc, &table, group);
 }
 
 /// A class added between two appends can be named by the second.

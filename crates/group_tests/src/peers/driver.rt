@@ -1,31 +1,107 @@
 //! Drives nodes and their monitor by hand, a step at a time.
 ghost use Rattle.std.specs.Prelude.{◌≡◌};
 
-use super::super::checks::{Check, check_group};
+use super::super::checks::see;
+use super::super::nodes::nodes;
 use super::super::requests::request;
-use super::super::words::{next, next_number};
-use super::lines::{copy, line, shown};
+use super::super::words::{halves, next, next_number, number_of};
+use super::copies::{copy, map};
+use super::lines::Told;
+use super::mail::Mail;
 use super::table::table;
 use group_world::{Epoch, Event, GroupMap, Kind, Message, Packet, Party};
 use interp::ClassTable;
 use peering::{GroupNode, Monitor};
-use pg_log::{Classes, Group};
+use pg_log::{Classes, Group, GroupWork, Request, with_group};
 use placement::NodeId;
 use std::alloc::Global;
 use std::process::Abort;
-use std::str::SplitWhitespace;
 
-/// Nodes 0 to 5, their monitor, its maps, all messages that were sent, the lines of a step, and how many of them were wanted so
-/// far.
+/// Nodes 0 to 5, their monitor, its maps, and their mail.
 #[derive(Drop)]
 struct World<C: Classes> {
     alloc: Global,
     nodes: Vec<GroupNode<C>>,
     monitor: Monitor,
     maps: Vec<GroupMap>,
-    sent: Vec<Packet>,
-    lines: Vec<String>,
-    wanted: usize,
+    mail: Mail,
+}
+
+/// A node takes an event, of which no memory is refused.
+fn take<C: Classes, R: Abort>(
+    rt: &R,
+    table: &ClassTable,
+    node: &mut GroupNode<C>,
+    event: Event,
+    mail: &mut Mail,
+)
+    requires { table.now ≡ C.classes }
+{
+    let _ = node.group().entries();
+    match node.handle(table, event) {
+        Ok(sent) => mail.send_all(rt, sent),
+        Err(error) => mail.told = Told::Refused(error),
+    }
+}
+
+/// Keeps a new map.
+fn keep<R: Abort>(rt: &R, maps: &mut Vec<GroupMap>, map: GroupMap) -> Told {
+    let told = Told::Map(map.epoch(), map.interval(), map.prev());
+    maps.push(map).expect(rt, "memory");
+    told
+}
+
+/// The monitor makes a map of those nodes.
+fn new_map<R: Abort>(
+    rt: &R,
+    monitor: &mut Monitor,
+    maps: &mut Vec<GroupMap>,
+    acting: &[NodeId],
+) -> Told {
+    match monitor.new_map(acting) {
+        Ok(map) => keep(rt, maps, map),
+        Err(error) => Told::MonitorRefused(error),
+    }
+}
+
+/// The monitor's message that it has activated an interval.
+fn activated(asker: Party, interval: Epoch) -> Packet {
+    Packet {
+        receiver: asker,
+        message: Message {
+            sender: Party::Monitor,
+            kind: Kind::Activated(interval),
+        },
+    }
+}
+
+/// The monitor is asked to activate an interval.
+fn activate<R: Abort>(
+    rt: &R,
+    monitor: &mut Monitor,
+    mail: &mut Mail,
+    asker: Party,
+    interval: Epoch,
+) {
+    match monitor.activate(interval) {
+        Ok(()) => mail.send(rt, activated(asker, interval)),
+        Err(error) => mail.told = Told::MonitorRefused(error),
+    }
+}
+
+/// The interval that a message asks to activate.
+fn asked(kind: &Kind) -> Option<Epoch> {
+    match kind {
+        Kind::AskActivate(interval) => Some(*interval),
+        _ => None,
+    }
+}
+
+/// A client's request, by its number and its method of class 0.
+fn asked_of<R: Abort>(rt: &R, alloc: Global, text: &str) -> Request {
+    let mut words = text.split_whitespace();
+    let pair = (next_number(rt, &mut words), next_number(rt, &mut words));
+    request(rt, alloc, pair, 0, next(&mut words), b"")
 }
 
 impl<C: Classes> World<C> {
@@ -40,97 +116,43 @@ impl<C: Classes> World<C> {
             nodes,
             monitor: Monitor::new(alloc),
             maps: Vec::new(alloc),
-            sent: Vec::new(alloc),
-            lines: Vec::new(alloc),
-            wanted: 0,
+            mail: Mail::new(alloc),
         }
     }
 
-    fn print<R: Abort>(&mut self, rt: &R, text: String) {
-        self.lines.push(text).expect(rt, "memory");
-    }
-
-    /// A message is sent.
-    fn send<R: Abort>(&mut self, rt: &R, packet: Packet) {
-        let number = self.sent.len();
-        let text = line(rt, self.alloc, number.saturating_add(1), &packet);
-        self.print(rt, text);
-        self.sent.push(packet).expect(rt, "memory");
-    }
-
-    /// A node takes an event, of which no memory is refused.
+    /// A node takes an event.
     fn take<R: Abort>(&mut self, rt: &R, table: &ClassTable, at: usize, event: Event)
         requires { table.now ≡ C.classes }
     {
         let node = self.nodes.get_mut(at).expect(rt, "a node");
-        let _ = node.group().entries();
-        match node.handle(table, event) {
-            Ok(sent) => {
-                for packet in sent.into_items() {
-                    self.send(rt, packet);
-                }
-            }
-            Err(error) => {
-                let text = format!(in self.alloc; "refused {error}").expect(rt, "memory");
-                self.print(rt, text);
-            }
-        }
+        take(rt, table, node, event, &mut self.mail);
     }
 
     /// The monitor makes a map of these nodes.
-    fn map<R: Abort>(&mut self, rt: &R, numbers: SplitWhitespace<'_>) {
-        let mut acting = Vec::new(self.alloc);
-        for word in numbers {
-            let node = NodeId::new(word.parse::<u64>().expect(rt, "a node"));
-            acting.push(node).expect(rt, "memory");
-        }
-        let text = match self.monitor.new_map(&acting) {
-            Ok(map) => {
-                let (epoch, interval, prev) = (
-                    map.epoch().get(),
-                    map.interval().get(),
-                    map.prev().get(),
-                );
-                self.maps.push(map).expect(rt, "memory");
-                if epoch == interval {
-                    format!(in self.alloc; "map {epoch} prev {prev}").expect(rt, "memory")
-                } else {
-                    format!(in self.alloc; "map {epoch} same {interval}").expect(rt, "memory")
-                }
-            }
-            Err(error) => format!(in self.alloc; "refused {error}").expect(rt, "memory"),
-        };
-        self.print(rt, text);
+    fn map<R: Abort>(&mut self, rt: &R, numbers: &str) {
+        let acting = nodes(rt, self.alloc, numbers);
+        self.mail.told = new_map(rt, &mut self.monitor, &mut self.maps, &acting);
     }
 
-    /// The monitor is asked to activate an interval.
-    fn ask_monitor<R: Abort>(&mut self, rt: &R, asker: Party, interval: Epoch) {
-        match self.monitor.activate(interval) {
-            Ok(()) => {
-                let message = Message {
-                    sender: Party::Monitor,
-                    kind: Kind::Activated(interval),
-                };
-                self.send(
-                    rt,
-                    Packet {
-                        receiver: asker,
-                        message,
-                    },
-                );
-            }
-            Err(error) => {
-                let text = format!(in self.alloc; "refused {error}").expect(rt, "memory");
-                self.print(rt, text);
-            }
-        }
+    /// A copy of the message of a number.
+    fn message<R: Abort>(&self, rt: &R, number: usize) -> Message {
+        let packet = self.mail.at(number).expect(rt, "a message");
+        copy(rt, self.alloc, &packet.message)
     }
 
-    /// The monitor takes a message.
-    fn tell_monitor<R: Abort>(&mut self, rt: &R, sender: Party, kind: Kind) {
-        if let Kind::AskActivate(interval) = kind {
-            let interval: Epoch = interval;
-            self.ask_monitor(rt, sender, interval);
+    /// A message to a node is delivered.
+    fn to_node<R: Abort>(&mut self, rt: &R, table: &ClassTable, number: usize, node: NodeId)
+        requires { table.now ≡ C.classes }
+    {
+        let at = usize::try_from(node.get()).expect(rt, "a node");
+        let message = self.message(rt, number);
+        self.take(rt, table, at, Event::Message(message));
+    }
+
+    /// A message to the monitor is delivered.
+    fn to_monitor<R: Abort>(&mut self, rt: &R, asker: Party, interval: Option<Epoch>) {
+        if let Some(interval) = interval {
+            activate(rt, &mut self.monitor, &mut self.mail, asker, interval);
         }
     }
 
@@ -138,18 +160,11 @@ impl<C: Classes> World<C> {
     fn deliver<R: Abort>(&mut self, rt: &R, table: &ClassTable, number: usize)
         requires { table.now ≡ C.classes }
     {
-        let packet = self
-            .sent
-            .get(number.saturating_sub(1))
-            .expect(rt, "a message");
-        let receiver = packet.receiver;
-        let message = copy(rt, self.alloc, &packet.message);
-        match receiver {
-            Party::Node(node) => {
-                let at = usize::try_from(node.get()).expect(rt, "a node");
-                self.take(rt, table, at, Event::Message(message));
-            }
-            Party::Monitor => self.tell_monitor(rt, message.sender, message.kind),
+        let packet = self.mail.at(number).expect(rt, "a message");
+        let (sender, interval) = (packet.message.sender, asked(&packet.message.kind));
+        match packet.receiver {
+            Party::Node(node) => self.to_node(rt, table, number, node),
+            Party::Monitor => self.to_monitor(rt, sender, interval),
             Party::Client(_) => {}
         }
     }
@@ -158,90 +173,70 @@ impl<C: Classes> World<C> {
     fn resend<R: Abort>(&mut self, rt: &R, at: usize) {
         let node = self.nodes.get(at).expect(rt, "a node");
         let again = node.resend().expect(rt, "memory");
-        for packet in again.items() {
-            let text = line(rt, self.alloc, 0, packet);
-            self.print(rt, text);
-        }
+        self.mail.send_again(rt, again);
     }
 
     /// A node sees the map of an epoch.
     fn see<R: Abort>(&mut self, rt: &R, table: &ClassTable, at: usize, epoch: usize)
         requires { table.now ≡ C.classes }
     {
-        let map = self.maps.get(epoch.saturating_sub(1)).expect(rt, "a map");
-        let map = map.copy(self.alloc).expect(rt, "memory");
-        self.take(rt, table, at, Event::Map(map));
+        let seen = self.maps.get(epoch.saturating_sub(1)).expect(rt, "a map");
+        let seen = map(rt, self.alloc, seen);
+        self.take(rt, table, at, Event::Map(seen));
     }
 
     /// A node gets a request of a client, by number and method of class 0.
-    fn ask<R: Abort>(
-        &mut self,
-        rt: &R,
-        table: &ClassTable,
-        at: usize,
-        mut words: SplitWhitespace<'_>,
-    )
+    fn ask<R: Abort>(&mut self, rt: &R, table: &ClassTable, at: usize, asked: &str)
         requires { table.now ≡ C.classes }
     {
-        let pair = (next_number(rt, &mut words), next_number(rt, &mut words));
-        let request = request(rt, self.alloc, pair, 0, next(&mut words), b"");
+        let request = asked_of(rt, self.alloc, asked);
         self.take(rt, table, at, Event::Request(request));
     }
 
     /// A node is shown.
     fn show<R: Abort>(&mut self, rt: &R, at: usize) {
         let node = self.nodes.get(at).expect(rt, "a node");
-        let text = shown(rt, self.alloc, node);
-        self.print(rt, text);
+        self.mail.told = Told::Node(node.epoch(), node.status(), node.len(), node.committed());
     }
 
-    /// What a line says happens.
-    fn step<R: Abort>(&mut self, rt: &R, table: &ClassTable, line: &str)
+    /// What a line says happens to a node, or to a message.
+    fn happen<R: Abort>(&mut self, rt: &R, table: &ClassTable, what: &str, said: &str)
         requires { table.now ≡ C.classes }
     {
-        let mut words = line.split_whitespace();
-        let what = next(&mut words);
-        if what == "map" {
-            self.map(rt, words);
-            return;
-        }
-        let at = next_number(rt, &mut words) as usize;
+        let (at, rest) = halves(said, ' ');
+        let at = number_of(rt, at) as usize;
         match what {
-            "see" => self.see(rt, table, at, next_number(rt, &mut words) as usize),
-            "ask" => self.ask(rt, table, at, words),
+            "see" => self.see(rt, table, at, number_of(rt, rest) as usize),
+            "ask" => self.ask(rt, table, at, rest),
             "deliver" => self.deliver(rt, table, at),
             "show" => self.show(rt, at),
             "resend" => self.resend(rt, at),
-            _ => assert!(rt; false, "{line}"),
+            _ => see(rt, false, what),
         }
     }
 
-    /// Whether the next line that was printed is this one.
-    fn is_next(&mut self, text: &str) -> bool {
-        let at = self.wanted;
-        self.wanted = at.saturating_add(1);
-        is_line(&self.lines, at, text)
+    /// What a line says happens. Nothing does at an empty one.
+    fn step<R: Abort>(&mut self, rt: &R, table: &ClassTable, line: &str)
+        requires { table.now ≡ C.classes }
+    {
+        let (what, said) = halves(line, ' ');
+        match what {
+            "" => {}
+            "map" => self.map(rt, said),
+            _ => self.happen(rt, table, what, said),
+        }
     }
 
-    /// Whether no line was printed but those that were wanted. They are forgotten.
-    fn is_done(&mut self) -> bool {
-        let is_done = self.lines.len() == self.wanted;
-        self.lines.clear();
-        self.wanted = 0;
-        is_done
-    }
-
-    /// A line of a run: what happens, or with two spaces before it what that prints.
-    fn go<R: Abort>(&mut self, rt: &R, table: &ClassTable, line: &str)
+    /// Whether a line of a run is right: what happens, or with two spaces before it what that sends or tells.
+    fn go<R: Abort>(&mut self, rt: &R, table: &ClassTable, line: &str) -> bool
         requires { table.now ≡ C.classes }
     {
         match line.strip_prefix("  ") {
-            Some(text) => assert!(rt; self.is_next(text), "{text}"),
+            Some(text) => self.mail.is_next(text),
             None => {
-                assert!(rt; self.is_done(), "before {line}");
-                if !line.is_empty() {
-                    self.step(rt, table, line);
-                }
+                let is_done = self.mail.is_done();
+                self.step(rt, table, line);
+                is_done
             }
         }
     }
@@ -251,43 +246,43 @@ impl<C: Classes> World<C> {
         requires { table.now ≡ C.classes }
     {
         for line in lines.lines() {
-            self.go(rt, table, line);
+            let is_right = self.go(rt, table, line);
+            see(rt, is_right, line);
         }
-        assert!(rt; self.is_done());
-    }
-}
-
-/// Whether the line at a place is that text.
-fn is_line(lines: &[String], at: usize, text: &str) -> bool {
-    match lines.get(at) {
-        None => false,
-        Some(line) => line.as_str() == text,
+        see(rt, self.mail.is_done(), "the end");
     }
 }
 
 /// Goes through runs, one after another.
-#[derive(Drop)]
-struct Runs<'a> {
-    parts: &'a [&'a str],
-}
-
-impl Check for Runs<'_> {
-    fn check<C: Classes, R: Abort>(
-        &self,
-        rt: &R,
-        alloc: Global,
-        table: &ClassTable,
-        _group: &mut Group<C>,
-    ) {
-        let mut world: World<C> = World::new(rt, alloc);
-        for part in self.parts {
-            world.run(rt, table, part);
-        }
+fn run_all<C: Classes, R: Abort>(rt: &R, alloc: Global, table: &ClassTable, parts: &[&str])
+    requires { table.now ≡ C.classes }
+{
+    let mut world: World<C> = World::new(rt, alloc);
+    for part in parts {
+        world.run(rt, table, part);
     }
 }
 
-/// Each step prints its lines.
+/// Runs, for which no group is needed but those of the nodes.
+#[derive(Drop)]
+struct Runs<'a, R> {
+    rt: &'a R,
+    alloc: Global,
+    parts: &'a [&'a str],
+}
+
+impl<R: Abort> GroupWork for Runs<'_, R> {
+    type Output = ();
+
+    ghost gives = { λ _ _ _ _. Unit {0} };
+
+    fn work<C: Classes>(self, table: &ClassTable, _group: Group<C>) {
+        run_all::<C, R>(self.rt, self.alloc, table, self.parts);
+    }
+}
+
+/// Each step sends and tells what its lines say.
 pub(super) fn go_through<R: Abort>(rt: &R, alloc: Global, parts: &[&str]) {
     let table = table(rt, alloc);
-    check_group(rt, alloc, &table, Runs { parts });
+    with_group(alloc, &table, Runs { rt, alloc, parts });
 }

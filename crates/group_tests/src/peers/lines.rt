@@ -1,72 +1,96 @@
-//! Messages and nodes as text, and copies of messages.
-use group_world::{Answer, Kind, Message, Packet, Party, Requests, Status};
-use peering::GroupNode;
-use pg_log::Classes;
-use std::alloc::Global;
-use std::process::Abort;
+//! Lines of a run: whether a message, or what a step tells, is as a line says.
+use super::super::words::{is_code, is_number, next};
+use group_world::{Answer, Epoch, HandleError, Kind, MonitorError, Packet, Party, Status};
+use pg_log::RequestNumber;
+use std::str::SplitWhitespace;
 
-/// Who it is: a node's number, `mon`, or a client as `c1`.
-fn party<R: Abort>(rt: &R, alloc: Global, party: Party) -> String {
-    match party {
-        Party::Node(node) => format!(in alloc; "{}", node.get()).expect(rt, "memory"),
-        Party::Monitor => String::from_str(alloc, "mon").expect(rt, "memory"),
-        Party::Client(client) => format!(in alloc; "c{}", client.get()).expect(rt, "memory"),
-    }
+/// What a step tells beside its messages.
+#[derive(Clone, Copy)]
+pub(super) enum Told {
+    Nothing,
+    /// A node's refusal.
+    Refused(HandleError),
+    /// The monitor's refusal.
+    MonitorRefused(MonitorError),
+    /// A map: its epoch, its interval, and the one before.
+    Map(Epoch, Epoch, Epoch),
+    /// A node: its epoch, its status, and how many entries it has and how many are committed.
+    Node(Epoch, Status, usize, usize),
 }
 
-/// A kind with its interval and perhaps a number.
-fn says<R: Abort>(
-    rt: &R,
-    alloc: Global,
-    name: &str,
-    interval: u32,
-    number: Option<usize>,
-) -> String {
-    match number {
-        None => format!(in alloc; "{name} {interval}").expect(rt, "memory"),
-        Some(number) => format!(in alloc; "{name} {interval} {number}").expect(rt, "memory"),
-    }
+/// Whether the next two words are that label and that number.
+fn says(words: &mut SplitWhitespace<'_>, label: &str, number: u64) -> bool {
+    next(words) == label && is_number(next(words), number)
 }
 
-/// What a message says.
-fn kind<R: Abort>(rt: &R, alloc: Global, kind: &Kind) -> String {
+/// Whether the next two words are that label and that epoch.
+fn says_epoch(words: &mut SplitWhitespace<'_>, label: &str, epoch: Epoch) -> bool {
+    says(words, label, u64::from(epoch.get()))
+}
+
+/// Whether the next words are that label, that epoch and that number.
+fn says_both(words: &mut SplitWhitespace<'_>, label: &str, epoch: Epoch, number: usize) -> bool {
+    says_epoch(words, label, epoch) && is_number(next(words), number as u64)
+}
+
+fn says_reply(
+    words: &mut SplitWhitespace<'_>,
+    number: RequestNumber,
+    place: usize,
+    answer: &Answer,
+) -> bool {
+    says(words, "Reply", u64::from(number.get()))
+        && is_number(next(words), place as u64)
+        && is_code(next(words), answer.code())
+}
+
+/// Whether the words say that message.
+fn is_kind(words: &mut SplitWhitespace<'_>, kind: &Kind) -> bool {
     match kind {
-        Kind::Query(map) => says(rt, alloc, "Query", map.interval().get(), None),
-        Kind::Log(interval, list) => says(
-            rt,
-            alloc,
-            "Log",
-            interval.get(),
-            Some(list.items().len()),
-        ),
+        Kind::Query(map) => says_epoch(words, "Query", map.interval()),
+        Kind::Log(interval, list) => says_both(words, "Log", *interval, list.items().len()),
         Kind::Install(map, list) => {
-            says(
-                rt,
-                alloc,
-                "Install",
-                map.interval().get(),
-                Some(list.items().len()),
-            )
+            says_both(words, "Install", map.interval(), list.items().len())
         }
-        Kind::Installed(interval) => says(rt, alloc, "Installed", interval.get(), None),
-        Kind::AskActivate(interval) => says(rt, alloc, "AskActivate", interval.get(), None),
-        Kind::Activated(interval) => says(rt, alloc, "Activated", interval.get(), None),
-        Kind::Rep(interval, place, _) => says(rt, alloc, "Rep", interval.get(), Some(*place)),
-        Kind::Ack(interval, length) => says(rt, alloc, "Ack", interval.get(), Some(*length)),
-        Kind::Reply(_, number, place, answer) => {
-            format!(in alloc; "Reply {} {place} {}", number.get(), answer.code()).expect(
-                rt, "memory",
-            )
-        }
+        Kind::Installed(interval) => says_epoch(words, "Installed", *interval),
+        Kind::AskActivate(interval) => says_epoch(words, "AskActivate", *interval),
+        Kind::Activated(interval) => says_epoch(words, "Activated", *interval),
+        Kind::Rep(interval, place, _) => says_both(words, "Rep", *interval, *place),
+        Kind::Ack(interval, length) => says_both(words, "Ack", *interval, *length),
+        Kind::Reply(_, number, place, answer) => says_reply(words, *number, *place, answer),
     }
 }
 
-/// A message with its number among all that were sent.
-pub(super) fn line<R: Abort>(rt: &R, alloc: Global, number: usize, sent: &Packet) -> String {
-    let from = party(rt, alloc, sent.message.sender);
-    let to = party(rt, alloc, sent.receiver);
-    let says = kind(rt, alloc, &sent.message.kind);
-    format!(in alloc; "m{number} {from}->{to} {says}").expect(rt, "memory")
+/// Whether a word is that letter and that number.
+fn is_lettered(word: &str, letter: char, number: u64) -> bool {
+    match word.strip_prefix(letter) {
+        None => false,
+        Some(digits) => is_number(digits, number),
+    }
+}
+
+/// Whether a word says who it is: a node's number, `mon`, or a client as `c1`.
+fn is_party(word: &str, party: Party) -> bool {
+    match party {
+        Party::Node(node) => is_number(word, node.get()),
+        Party::Monitor => word == "mon",
+        Party::Client(client) => is_lettered(word, 'c', u64::from(client.get())),
+    }
+}
+
+/// Whether a word says from whom to whom it goes.
+fn is_way(word: &str, from: Party, to: Party) -> bool {
+    match word.split_once("->") {
+        None => false,
+        Some((sender, receiver)) => is_party(sender, from) && is_party(receiver, to),
+    }
+}
+
+/// Whether the words say that message, and its number among all that were sent.
+pub(super) fn is_sent(words: &mut SplitWhitespace<'_>, number: usize, sent: &Packet) -> bool {
+    is_lettered(next(words), 'm', number as u64)
+        && is_way(next(words), sent.message.sender, sent.receiver)
+        && is_kind(words, &sent.message.kind)
 }
 
 fn name_of(status: Status) -> &'static str {
@@ -80,51 +104,39 @@ fn name_of(status: Status) -> &'static str {
     }
 }
 
-/// A node.
-pub(super) fn shown<C: Classes, R: Abort>(rt: &R, alloc: Global, node: &GroupNode<C>) -> String {
-    let status = name_of(node.status());
-    let epoch = node.epoch().get();
-    let (length, committed) = (node.len(), node.committed());
-    format!(in alloc; "epoch {epoch} {status} length {length} committed {committed}").expect(
-        rt, "memory",
-    )
-}
-
-fn list<R: Abort>(rt: &R, alloc: Global, list: &Requests) -> Requests {
-    let mut items = Vec::new(alloc);
-    for request in list.items() {
-        items
-            .push(request.copy(alloc).expect(rt, "memory"))
-            .expect(rt, "memory");
+/// Whether the words say that map's interval, if it began before, or else the one before it.
+fn is_interval(
+    words: &mut SplitWhitespace<'_>,
+    epoch: Epoch,
+    interval: Epoch,
+    prev: Epoch,
+) -> bool {
+    if epoch.get() == interval.get() {
+        says_epoch(words, "prev", prev)
+    } else {
+        says_epoch(words, "same", interval)
     }
-    Requests::new(items)
 }
 
-/// An equal message.
-pub(super) fn copy<R: Abort>(rt: &R, alloc: Global, message: &Message) -> Message {
-    let kind = match &message.kind {
-        Kind::Query(map) => Kind::Query(map.copy(alloc).expect(rt, "memory")),
-        Kind::Log(interval, requests) => Kind::Log(*interval, list(rt, alloc, requests)),
-        Kind::Install(map, requests) => {
-            Kind::Install(
-                map.copy(alloc).expect(rt, "memory"),
-                list(rt, alloc, requests),
-            )
+/// Whether the words say that refusal.
+fn is_refusal(words: &mut SplitWhitespace<'_>, number: u8, name: &str) -> bool {
+    says(words, "refused", u64::from(number)) && next(words) == name
+}
+
+/// Whether the words say what a step tells.
+pub(super) fn is_told(words: &mut SplitWhitespace<'_>, told: Told) -> bool {
+    match told {
+        Told::Nothing => false,
+        Told::Refused(error) => is_refusal(words, error.number(), error.name()),
+        Told::MonitorRefused(error) => is_refusal(words, error.number(), error.name()),
+        Told::Map(epoch, interval, prev) => {
+            says_epoch(words, "map", epoch) && is_interval(words, epoch, interval, prev)
         }
-        Kind::Installed(interval) => Kind::Installed(*interval),
-        Kind::AskActivate(interval) => Kind::AskActivate(*interval),
-        Kind::Activated(interval) => Kind::Activated(*interval),
-        Kind::Rep(interval, place, request) => {
-            Kind::Rep(*interval, *place, request.copy(alloc).expect(rt, "memory"))
+        Told::Node(epoch, status, length, committed) => {
+            says_epoch(words, "epoch", epoch)
+                && next(words) == name_of(status)
+                && says(words, "length", length as u64)
+                && says(words, "committed", committed as u64)
         }
-        Kind::Ack(interval, length) => Kind::Ack(*interval, *length),
-        Kind::Reply(client, number, place, answer) => {
-            let output = Vec::from_slice(alloc, answer.output()).expect(rt, "memory");
-            Kind::Reply(*client, *number, *place, Answer::new(answer.code(), output))
-        }
-    };
-    Message {
-        sender: message.sender,
-        kind,
     }
 }

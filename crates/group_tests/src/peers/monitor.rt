@@ -1,53 +1,102 @@
 //! The monitor's refusals, and copies.
+use super::super::checks::see;
 use super::super::nodes::nodes;
 use group_world::{Epoch, MonitorError};
 use peering::Monitor;
+use placement::NodeId;
 use std::alloc::Global;
 use std::process::Abort;
 
-/// Acting lists that no map has.
-const BAD: [&[u64]; 5] = [&[], &[1, 2, 3, 4], &[1, 2, 1], &[16], &[3, 3]];
+/// Acting lists that no map has, the first of them empty.
+const BAD: &str = "
+1 2 3 4
+1 2 1
+16
+3 3";
 
-/// Epoch and interval of the monitor's next map, of node 1 alone.
-fn next_map<R: Abort>(rt: &R, alloc: Global, monitor: &mut Monitor) -> (u32, u32) {
-    let map = monitor.new_map(&nodes(rt, alloc, &[1])).expect(rt, "a map");
-    (map.epoch().get(), map.interval().get())
+/// Whether the monitor's next map is of those nodes, and has that epoch and that interval.
+fn is_made(monitor: &mut Monitor, acting: &[NodeId], epoch: u32, interval: u32) -> bool {
+    match monitor.new_map(acting) {
+        Err(_) => false,
+        Ok(map) => {
+            map.epoch().get() == epoch && map.interval().get() == interval && map.acting() == acting
+        }
+    }
+}
+
+/// Whether the monitor's next map is of the nodes of a text, and has that epoch and that interval.
+fn makes<R: Abort>(
+    rt: &R,
+    alloc: Global,
+    monitor: &mut Monitor,
+    numbers: &str,
+    epoch: u32,
+    interval: u32,
+) -> bool {
+    let acting = nodes(rt, alloc, numbers);
+    is_made(monitor, &acting, epoch, interval)
+}
+
+/// Whether the monitor refuses to make a map of the nodes of a text.
+fn is_bad<R: Abort>(rt: &R, alloc: Global, monitor: &mut Monitor, numbers: &str) -> bool {
+    let acting = nodes(rt, alloc, numbers);
+    match monitor.new_map(&acting) {
+        Ok(_) => false,
+        Err(error) => error == MonitorError::BadActing,
+    }
 }
 
 #[test]
 fn bad_acting_lists(rt: HostRuntime) {
     let mut monitor = Monitor::new(rt.alloc());
-    for numbers in BAD {
-        let acting = nodes(&rt, rt.alloc(), numbers);
-        let refusal = monitor.new_map(&acting).err();
-        assert!(rt; refusal == Some(MonitorError::BadActing));
+    let mut count = 0u32;
+    for numbers in BAD.lines() {
+        see(&rt, is_bad(&rt, rt.alloc(), &mut monitor, numbers), numbers);
+        count = count.wrapping_add(1);
     }
+    see(&rt, count == 5, "all lines");
 }
 
 #[test]
 fn greatest_acting_list(rt: HostRuntime) {
     let mut monitor = Monitor::new(rt.alloc());
-    let acting = nodes(&rt, rt.alloc(), &[15, 0, 14]);
-    let map = monitor.new_map(&acting).expect(&rt, "a map");
-    assert!(rt; map.epoch().get() == 1 && map.acting() == acting.as_slice());
+    see(
+        &rt,
+        makes(&rt, rt.alloc(), &mut monitor, "15 0 14", 1, 1),
+        "a map",
+    );
+}
+
+/// What the monitor answers when it is asked to activate an interval.
+fn activates(monitor: &mut Monitor, interval: u32) -> Option<MonitorError> {
+    monitor.activate(Epoch::new(interval)).err()
 }
 
 /// Whether the monitor refuses to activate an interval that isn't its newest.
 fn is_not_newest(monitor: &mut Monitor, interval: u32) -> bool {
-    monitor.activate(Epoch::new(interval)) == Err(MonitorError::NotNewest)
+    activates(monitor, interval) == Some(MonitorError::NotNewest)
 }
 
 #[test]
 fn activation_before_any_map(rt: HostRuntime) {
     let mut monitor = Monitor::new(rt.alloc());
-    assert!(rt; is_not_newest(&mut monitor, 0) && is_not_newest(&mut monitor, 1));
+    see(&rt, is_not_newest(&mut monitor, 0), "0");
+    see(&rt, is_not_newest(&mut monitor, 1), "1");
+}
+
+/// Whether a copy goes on where the monitor made a map of node 1.
+fn is_copied<R: Abort>(rt: &R, alloc: Global, monitor: &Monitor) -> bool {
+    let mut copy = monitor.copy(alloc).expect(rt, "memory");
+    activates(&mut copy, 1).is_none() && makes(rt, alloc, &mut copy, "1", 2, 1)
 }
 
 #[test]
 fn copies(rt: HostRuntime) {
     let mut monitor = Monitor::new(rt.alloc());
-    let _ = next_map(&rt, rt.alloc(), &mut monitor);
-    let mut copy = monitor.copy(rt.alloc()).expect(&rt, "memory");
-    assert!(rt; copy.activate(Epoch::new(1)) == Ok(()));
-    assert!(rt; next_map(&rt, rt.alloc(), &mut copy) == (2, 1));
+    let is_made = makes(&rt, rt.alloc(), &mut monitor, "1", 1, 1);
+    see(
+        &rt,
+        is_made && is_copied(&rt, rt.alloc(), &monitor),
+        "a copy",
+    );
 }

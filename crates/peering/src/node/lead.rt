@@ -1,5 +1,5 @@
 //! A primary before it is active: it adopts a list, notes who has installed it, and becomes active.
-ghost use Rattle.std.specs.Prelude.{◌≡◌, ◌++◌, ◌∷◌, [], take, length, IfOk, IfErr, OnErr, if◌then◌else◌, ◌&&◌, ◌==◌, not, is_none, true, ◌≤◌};
+ghost use Rattle.std.specs.Prelude.{◌≡◌, length, IfOk, IfErr, OnErr, if◌then◌else◌, ◌&&◌, ◌==◌, not, is_none, true, ◌≤◌};
 ghost use mathlib.Core.List.{IsPrefix};
 ghost use Rattle.placement.specs.Placement.{has};
 ghost use Rattle.pg_log.specs.Log.{Legal};
@@ -10,12 +10,11 @@ ghost use Rattle.group_world.specs.Rules.{adopt_log, note_installed, activate, e
 ghost use Rattle.peering.specs.Numbered.{IsDone};
 ghost use Rattle.peering.specs.Arriving.{with_log, is_memory};
 
-use crate::compare::{are_among, is_among};
 use crate::node::GroupNode;
 use crate::node::moves::installing;
-use crate::packets::packet;
 use group_world::{Epoch, HandleError, Kind, Packet, Party, Status};
 use interp::ClassTable;
+use peering_messages::{are_among, is_among, packet};
 use pg_log::{Classes, Entry, Group, LogError, Request, adopting};
 use placement::NodeId;
 use std::alloc::Global;

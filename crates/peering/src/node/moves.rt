@@ -3,16 +3,15 @@ ghost use Rattle.std.specs.Prelude.{◌≡◌, ◌≤◌, ◌++◌, ◌∷◌, [
 ghost use mathlib.Core.List.{IsPrefix};
 ghost use Rattle.pg_log.specs.Log.{Legal};
 ghost use Rattle.group_world.specs.Node.{is_waiting, packet};
-ghost use Rattle.group_world.specs.Rules.{arrive, would_forget, ignores, learn_map, answer_query, install};
+ghost use Rattle.group_world.specs.Rules.{would_forget, ignores, learn_map, answer_query, install};
 ghost use Rattle.peering.specs.Numbered.{IsDone};
-ghost use Rattle.peering.specs.Arriving.{after_move, IsArrival, IsAnswering, IsLeading, log_after, interval_after, adopted_sent, install_first, install_again};
+ghost use Rattle.peering_messages.specs.Sending.{adopted_sent};
+ghost use Rattle.peering.specs.Arriving.{after_move, IsArrival, IsAnswering, IsLeading, log_after, interval_after, install_first, install_again};
 
-use crate::compare::{is_among, leads};
-use crate::copies::copy_log;
 use crate::node::GroupNode;
-use crate::packets::{adoption, packet, query_to_all, send};
 use group_world::{Epoch, GroupMap, HandleError, Kind, Packet, Party, Requests, Status};
 use interp::ClassTable;
+use peering_messages::{adoption, copy_log, is_among, leads, packet, query_to_all, send};
 use pg_log::{Classes, Group, LogError, Request};
 use placement::NodeId;
 use std::alloc::Global;

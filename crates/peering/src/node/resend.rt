@@ -4,11 +4,9 @@ ghost use Rattle.pg_log.specs.Entries.{requests_of};
 ghost use Rattle.group_world.specs.Unanswered.{unanswered, unanswered_in, reps_unacked};
 ghost use Rattle.peering.specs.Arriving.{at_interval, reps_for};
 
-use crate::compare::are_among;
-use crate::copies::copy_log;
 use crate::node::GroupNode;
-use crate::packets::{ask_if, install_to_missing, query_to_all, reps_to};
 use group_world::{Epoch, HandleError, Messages, Packet, Place, Status};
+use peering_messages::{are_among, ask_if, copy_log, install_to_missing, query_to_all, reps_to};
 use pg_log::{Classes, Entry};
 use placement::NodeId;
 use std::alloc::Global;

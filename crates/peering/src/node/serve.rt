@@ -7,14 +7,15 @@ ghost use Rattle.pg_log.specs.Refusals.{place_of, refusal};
 ghost use Rattle.group_world.specs.Rules.{request as request_step, request_at, append_new, replicate, acknowledge, least_of, raised};
 ghost use Rattle.pg_log.specs.Entries.{IsNextEntry};
 ghost use Rattle.peering.specs.Numbered.{IsDone, IsRefusal};
-ghost use Rattle.peering.specs.Arriving.{IsNextReply, sent_with, grown, with_log};
+ghost use Rattle.peering_messages.specs.Sending.{IsNextReply};
+ghost use Rattle.peering.specs.Arriving.{sent_with, grown, with_log};
 
-use crate::copies::refusal_of;
 use crate::node::GroupNode;
-use crate::packets::{packet, rep_to_others, send};
-use crate::replies::{replies, replies_with, reply, same_reply};
 use group_world::{Epoch, HandleError, Kind, Packet, Party, Place, Status};
 use interp::ClassTable;
+use peering_messages::{
+    packet, refusal_of, rep_to_others, replies, replies_with, reply, same_reply, send,
+};
 use pg_log::{Classes, Entry, LogError, Request, classes_added, legal_lists, refusals};
 use placement::NodeId;
 use replication::commit_point;

@@ -1,8 +1,7 @@
-ghost use Rattle.std.specs.Prelude.{◌≡◌, ◌<◌, ◌≤◌, ◌+◌, ◌∷◌, ◌++◌, ◌⊎◌, [], List, Some, None, IfOk, IfErr, OnOk, OnErr, Ok, Err, length, take, drop, vec_capacity};
+ghost use Rattle.std.specs.Prelude.{◌≡◌, ◌<◌, ◌≤◌, ◌+◌, ◌∷◌, ◌++◌, ◌⊎◌, [], Some, None, IfOk, IfErr, OnOk, OnErr, Ok, Err, length, take, vec_capacity};
 ghost use Rattle.std.specs.FinMap as fin;
 ghost use mathlib.Core.List.{IsPrefix};
-ghost use Rattle.pg_log.specs.Log.{Legal, fold};
-ghost use Rattle.pg_log.specs.Requests.{ClientRequest};
+ghost use Rattle.pg_log.specs.Log.{fold};
 ghost use Rattle.pg_log.specs.Refusals.{refusal, first_refusal, SomeCanRun, Refuses};
 ghost use Rattle.pg_log.specs.Adopting.{IsCommonBeginning, rest_refusal, RestRefuses, AdoptRefuses};
 ghost use Rattle.pg_log.specs.Places.{ArePlaces, HasRoom, RoomStays};

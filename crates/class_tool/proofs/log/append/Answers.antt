@@ -1,9 +1,8 @@
-use Rattle.std.proofs.Common.{◌≡◌, ◌⊎◌, ◌++◌, ◌∷◌, [], ◌∙◌, ap, sym, subst, Err, List, ℕ}
+use Rattle.std.proofs.Common.{◌≡◌, ◌⊎◌, ◌++◌, ◌∷◌, [], ◌∙◌, ap, subst, Err, List}
 use Rattle.bpf_decode.specs.Class.{ClassMethod}
 use Rattle.pg_log.specs.Refusals.{append_answer}
 use Rattle.pg_log.specs.Requests.{ClientRequest}
 use Rattle.pg_log.specs.declared.log_error.LogError.TheVariants.{NoMemory}
-use Rattle.class_tool.specs.Log.{first_request}
 use Rattle.class_tool.proofs.Called.{call_refused}
 use Rattle.class_tool.proofs.log.append.Goals as goal
 

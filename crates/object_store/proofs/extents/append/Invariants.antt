@@ -1,4 +1,4 @@
-use Rattle.std.proofs.Common.{◌≡◌, ◌≤◌, ◌++◌, length, take}
+use Rattle.std.proofs.Common.{◌≡◌, ◌++◌, length, take}
 use Rattle.object_store.specs.Extents.{flat, cut}
 use Rattle.object_store.proofs.extents.append.Given as goal
 

@@ -1,5 +1,5 @@
-use Rattle.std.proofs.Common.{◌≡◌, ◌≤◌, ◌++◌, length, take}
-use Rattle.object_store.specs.Extents.{flat, cut}
+use Rattle.std.proofs.Common.{◌≡◌, ◌++◌, length}
+use Rattle.object_store.specs.Extents.{flat}
 use Rattle.object_store.proofs.extents.push_cut.Given as goal
 
 abbrev pub invariant-loop-rest : goal.invariant-loop-rest

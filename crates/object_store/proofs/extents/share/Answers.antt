@@ -1,10 +1,8 @@
-use Rattle.std.proofs.Common.{◌≡◌, ℕ, ◌+◌, ◌-◌, ◌<◌, ◌≤◌, ◌^◌, min, List, [], ◌∷◌, ◌++◌, length, take, drop, get_or, refl, ap, sym, ◌∙◌, append_assoc, arith, vec_len}
+use Rattle.std.proofs.Common.{ℕ, ◌+◌, ◌-◌, ◌++◌, take, ap, sym, ◌∙◌, append_assoc}
 use Rattle.std.specs.Arc.{arc_value}
-use Rattle.std.specs.declared.sync.Arc.{Arc}
 use Rattle.std.specs.declared.vec.Vec.{Vec}
-use Rattle.std.proofs.lemmas.List.{append-nil, take-append-drop}
-use Rattle.object_store.specs.Extents.{flat, cut}
-use Rattle.object_store.proofs.Flats.{flat-append, flat-push, flat-more, length-flat-more, flat-more-fits, cut-append, cut-min}
+use Rattle.object_store.specs.Extents.{flat}
+use Rattle.object_store.proofs.Flats.{flat-push, flat-more}
 use Rattle.object_store.proofs.extents.share.Goals as goal
 
 pub loop-part-preserved : goal.loop-part-preserved

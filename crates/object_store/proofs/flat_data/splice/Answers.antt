@@ -1,4 +1,4 @@
-use Rattle.std.proofs.Common.{◌≡◌, ap, ◌∙◌, arith, length, take, drop, ◌++◌, ◌+◌}
+use Rattle.std.proofs.Common.{ap, ◌∙◌, arith, length, take, drop, ◌++◌, ◌+◌}
 use Rattle.std.proofs.lemmas.List.{take_at}
 use Rattle.object_store.proofs.Splice.{splices}
 use Rattle.object_store.proofs.flat_data.splice.Goals as goal

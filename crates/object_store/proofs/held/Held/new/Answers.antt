@@ -1,8 +1,8 @@
-use Rattle.std.proofs.Common.{◌≡◌, ◌≤◌, sym, subst, length}
+use Rattle.std.proofs.Common.{◌≤◌, sym, subst, length}
 use Rattle.object_store.specs.declared.limits.TheConstants.{DATA_LIMIT, XATTR_LIMIT, KEY_LIMIT}
 use Rattle.object_store.specs.Object.{AreBytes}
 use Rattle.object_store.proofs.Within.{none_within}
-use Rattle.std.proofs.Common.{List, ℕ, arith, ap, ◌∙◌, []}
+use Rattle.std.proofs.Common.{List, ℕ, arith}
 use Rattle.object_store.specs.Object.{AreWithin}
 use Rattle.object_store.proofs.held.Held.new.Goals as goal
 

@@ -1,6 +1,5 @@
-use Rattle.std.proofs.Common.{◌≡◌, ◌≤◌, sym, subst, length}
-use Rattle.object_store.specs.declared.limits.TheConstants.{DATA_LIMIT, XATTR_LIMIT, KEY_LIMIT}
-use Rattle.object_store.specs.Object.{AreBytes}
+use Rattle.std.proofs.Common.{length}
+use Rattle.object_store.specs.declared.limits.TheConstants.{KEY_LIMIT}
 use Rattle.object_store.proofs.Within.{after_set}
 use Rattle.object_store.proofs.held.Held.set_key.Goals as goal
 

@@ -1,9 +1,9 @@
-use Rattle.std.proofs.Common.{◌≡◌, ◌≤◌, sym, subst, length}
-use Rattle.object_store.specs.declared.limits.TheConstants.{DATA_LIMIT, XATTR_LIMIT, KEY_LIMIT}
+use Rattle.std.proofs.Common.{◌≤◌, sym, subst, length}
+use Rattle.object_store.specs.declared.limits.TheConstants.{DATA_LIMIT}
 use Rattle.object_store.specs.Object.{AreBytes}
 use Rattle.object_store.proofs.Bytes.{are_resized}
 use Rattle.object_store.proofs.Flats.{length_resized}
-use Rattle.std.proofs.Common.{List, ℕ, ap, ◌∙◌}
+use Rattle.std.proofs.Common.{ap, ◌∙◌}
 use Rattle.object_store.proofs.held.Held.truncate.Goals as goal
 
 pub invariant_of-self-2 : goal.invariant_of-self-2

@@ -1,5 +1,5 @@
-use Rattle.std.proofs.Common.{◌≡◌, ◌≤◌, sym, subst, length}
-use Rattle.object_store.specs.declared.limits.TheConstants.{DATA_LIMIT, XATTR_LIMIT, KEY_LIMIT}
+use Rattle.std.proofs.Common.{◌≤◌, sym, subst, length}
+use Rattle.object_store.specs.declared.limits.TheConstants.{DATA_LIMIT}
 use Rattle.object_store.specs.Object.{AreBytes}
 use Rattle.object_store.proofs.Bytes.{are_spliced, spliced_short, each_below}
 use Rattle.std.proofs.Common.{List, ℕ, arith}

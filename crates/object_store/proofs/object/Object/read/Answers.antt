@@ -1,4 +1,4 @@
-use Rattle.std.proofs.Common.{◌≡◌, ℕ, List, [], length, take, refl, ap, sym, ◌∙◌}
+use Rattle.std.proofs.Common.{◌≡◌, ℕ, [], length, take, ap, sym, ◌∙◌}
 use Rattle.std.proofs.Math.Seq.{take-nil, drop-nil}
 use Rattle.object_store.specs.Object.{Content, nothing, part}
 use Rattle.object_store.specs.Edits.{overlaid}

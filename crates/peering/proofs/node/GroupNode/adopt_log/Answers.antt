@@ -2,7 +2,8 @@ use Rattle.std.proofs.Common.{◌≡◌, eqb, true, false, [], ◌∷◌, ap, sy
 use Rattle.group_world.specs.Node.{is_asking}
 use Rattle.group_world.specs.Rules.{is_usable}
 use Rattle.group_world.specs.declared.status.Status.TheVariants.{Installing}
-use Rattle.peering.specs.Arriving.{with_log, adopted_sent}
+use Rattle.peering_messages.specs.Sending.{adopted_sent}
+use Rattle.peering.specs.Arriving.{with_log}
 use Rattle.peering.proofs.Statuses.{not_false, asking_is, adopts, adopts_not}
 use Rattle.peering.proofs.node.GroupNode.adopt_log.Goals as goal
 

@@ -1,7 +1,7 @@
 use Rattle.std.proofs.Common.{◌≡◌, List, ap, sym, refl, subst}
 use Rattle.pg_log.specs.Requests.{ClientRequest}
 use Rattle.pg_log.specs.Log.{Legal}
-use Rattle.peering.specs.Arriving.{IsNextReply}
+use Rattle.peering_messages.specs.Sending.{IsNextReply}
 use Rattle.peering.proofs.Following.{next_reply}
 use Rattle.peering.proofs.node.GroupNode.next.Goals as goal
 

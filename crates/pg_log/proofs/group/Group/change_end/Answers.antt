@@ -1,10 +1,11 @@
-use Rattle.std.proofs.Common.{◌≡◌, ◌∙◌, ap, sym, subst, refl, List, ◌++◌, take, drop}
-use Rattle.std.proofs.lemmas.List.{take-append-drop}
+use Rattle.std.proofs.Common.{◌≡◌, ◌∙◌, ap, sym, subst, refl, List, ◌++◌, take, drop, length, arith}
+use Rattle.std.proofs.lemmas.List.{length-take-le, take-append-drop}
 use Rattle.pg_log.specs.Requests.{ClientRequest}
 use Rattle.pg_log.specs.Places.{ArePlaces, HasRoom}
-use Rattle.pg_log.specs.Entries.{requests_of}
+use Rattle.pg_log.specs.Entries.{Keeps, requests_of}
+use Rattle.pg_log.specs.declared.entry.Entry.{Entry}
 use Rattle.pg_log.proofs.Kept.{keeps_same}
-use Rattle.pg_log.proofs.Adopted.{requests_of-take, requests_of-drop, keeps_beginning, cut_again, cut_entries}
+use Rattle.pg_log.proofs.Adopted.{requests_of-take, requests_of-drop, keeps_beginning, cut_again, cut_entries, prefix_long}
 use Rattle.pg_log.proofs.Room.{own_room, room_later}
 use Rattle.pg_log.proofs.group.Group.change_end.Goals as goal
 
@@ -40,3 +41,20 @@ returns-clause-kept g c =
     let P : List ClientRequest → Type 0 = ArePlaces c.put_back.new.places in
     keeps_same g.C.Classes.classes es c.put_back.new.entries.items c.args.objects.now c.args.objects.now c.args.places.now c.put_back.new.places c.requires.kept back refl
     (subst P same c.put_back.ensures.places)
+
+pub returns-clause-refused : goal.returns-clause-refused
+returns-clause-refused g c =
+    c.put_back.ensures.entries
+    ∙ cut_entries c.args.entries.now.items c.split_off.new.self.items c.extend.new.entries.items c.in_ok-tail.tail.items c.args.at c.requires.within.1
+    c.in_ok-tail.ensures.items c.in_ok-tail.ensures.tail c.extend.ensures.begun
+
+pub returns-in-Ok-clause-kept : goal.returns-in-Ok-clause-kept
+returns-in-Ok-clause-kept g c = subst (λ o. Keeps g.C.Classes.classes c.extend.new.entries.items o c.extend.new.places) (sym c.swap.ensures.x_after) c.extend.ensures.kept
+
+pub put_back-requires-clause-fits : goal.put_back-requires-clause-fits
+put_back-requires-clause-fits g c =
+    let k = c.args.at in
+    let es = c.args.entries.now.items in
+    let cut : length c.split_off.new.self.items ≡ k = ap (λ (w : List Entry). length w) c.in_ok-tail.ensures.items ∙ length-take-le k es c.requires.within.1 in
+    let longer = prefix_long c.split_off.new.self.items c.extend.new.entries.items c.extend.ensures.begun in
+    omega (arith, cut, longer)

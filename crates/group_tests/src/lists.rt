@@ -1,0 +1,56 @@
+//! Lists of requests from a text.
+use super::requests::{request, request_of};
+use super::words::{halves, number_of};
+use pg_log::Request;
+use std::alloc::Global;
+use std::process::Abort;
+
+/// The longest input.
+const LONG: [u8; 4096] = [7; 4096];
+
+/// As many requests as a log holds, of client 1 but the last, from number 1 on. Each 1,024th has the longest input.
+fn full_list<R: Abort>(rt: &R, alloc: Global, last: u32) -> Vec<Request> {
+    let mut list = Vec::new(alloc);
+    for value in 1..=65_536 {
+        let who = if value == 65_536 { last } else { 1 };
+        let input = if value % 1_024 == 0 {
+            LONG.as_slice()
+        } else {
+            b"".as_slice()
+        };
+        let request = request(rt, alloc, (who, value), 0, "f", input);
+        list.push(request).expect(rt, "memory");
+    }
+    list
+}
+
+/// Puts the first requests of a text behind those that there are. A semicolon stands between two.
+fn add<R: Abort>(rt: &R, alloc: Global, list: &mut Vec<Request>, text: &str, most: usize) {
+    for part in text.split_terminator(';').take(most) {
+        list.push(request_of(rt, alloc, part)).expect(rt, "memory");
+    }
+}
+
+/// The requests of a text.
+pub(super) fn list<R: Abort>(rt: &R, alloc: Global, text: &str) -> Vec<Request> {
+    let mut list = Vec::new(alloc);
+    add(rt, alloc, &mut list, text, usize::MAX);
+    list
+}
+
+/// So many of the first requests, and those that follow them.
+fn beginning_with<R: Abort>(rt: &R, alloc: Global, first: &str, text: &str) -> Vec<Request> {
+    let (count, rest) = halves(text, ';');
+    let mut list = Vec::new(alloc);
+    add(rt, alloc, &mut list, first, number_of(rt, count) as usize);
+    add(rt, alloc, &mut list, rest, usize::MAX);
+    list
+}
+
+/// So many of the first requests, and those that follow them, or a full list.
+pub(super) fn list_of<R: Abort>(rt: &R, alloc: Global, first: &str, text: &str) -> Vec<Request> {
+    match text.strip_prefix("full ") {
+        Some(last) => full_list(rt, alloc, number_of(rt, last)),
+        None => beginning_with(rt, alloc, first, text),
+    }
+}

@@ -1,5 +1,0 @@
-use Rattle.peering.proofs.Lists.{not_same_length}
-use Rattle.peering.proofs.compare.are_same.Goals as goal
-
-pub returns-then-nodes-others : goal.returns-then-nodes-others
-returns-then-nodes-others c = not_same_length c.args.nodes.now c.args.others.now c.if-nodes-others.true

@@ -1,9 +1,0 @@
-use Rattle.std.proofs.Common.{◌≡◌, ◌++◌, drop}
-use Rattle.pg_log.specs.Entries.{requests_of}
-use Rattle.group_world.specs.Unanswered.{reps_from}
-use Rattle.peering.proofs.packets.reps_to.Given as goal
-
-abbrev pub invariant-loop-place : goal.invariant-loop-place
-invariant-loop-place l =
-    l.sent.items ++ reps_from l.number l.node l.interval l.place (requests_of (drop l.place l.entries))
-    ≡ l.initial.sent.items ++ reps_from l.number l.node l.interval l.from (requests_of (drop l.from l.entries))

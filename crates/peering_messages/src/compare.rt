@@ -1,0 +1,76 @@
+//! Tests of lists of nodes.
+ghost use Rattle.std.specs.Prelude.{◌≡◌};
+ghost use Rattle.placement.specs.Placement.{has, are_nodes};
+ghost use Rattle.group_world.specs.Monitor.{is_acting};
+ghost use Rattle.group_world.specs.Maps.{all_among, is_same_list, is_first};
+
+use placement::{NODE_LIMIT, NodeId, REPLICA_LIMIT};
+
+/// Whether the node is among these.
+pub fn is_among(nodes: &[NodeId], node: NodeId) -> bool
+    ensures { result ≡ has node nodes.now }
+{
+    for other in nodes {
+        if node == *other {
+            return true;
+        }
+    }
+    false
+}
+
+/// Whether each of the first nodes is among the second.
+pub fn are_among(nodes: &[NodeId], others: &[NodeId]) -> bool
+    ensures { result ≡ all_among nodes.now others.now }
+{
+    for node in nodes {
+        if !is_among(others, *node) {
+            return false;
+        }
+    }
+    true
+}
+
+/// Whether the node is the first.
+pub fn leads(nodes: &[NodeId], node: NodeId) -> bool
+    ensures { result ≡ is_first node nodes.now }
+{
+    match nodes {
+        [first, ..] => node == *first,
+        [] => false,
+    }
+}
+
+/// Whether the lists are equal.
+pub fn are_same(nodes: &[NodeId], others: &[NodeId]) -> bool
+    ensures { result ≡ is_same_list nodes.now others.now }
+{
+    if nodes.len() != others.len() {
+        return false;
+    }
+    for place in 0..nodes.len() {
+        if nodes[place] != others[place] {
+            return false;
+        }
+    }
+    true
+}
+
+/// Whether these are numbers of nodes, none twice.
+pub fn are_nodes(nodes: &[NodeId]) -> bool
+    ensures { result ≡ are_nodes nodes.now }
+{
+    for place in 0..nodes.len() {
+        let node = nodes[place];
+        if node.get() >= NODE_LIMIT || is_among(&nodes[place + 1..], node) {
+            return false;
+        }
+    }
+    true
+}
+
+/// Whether the list may act: it has one to three nodes, none twice.
+pub fn is_acting(nodes: &[NodeId]) -> bool
+    ensures { result ≡ is_acting nodes.now }
+{
+    0 < nodes.len() && nodes.len() <= REPLICA_LIMIT && are_nodes(nodes)
+}

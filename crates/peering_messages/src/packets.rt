@@ -1,0 +1,203 @@
+//! The messages of a node.
+ghost use Rattle.std.specs.Prelude.{◌≡◌, ◌∷◌, ◌++◌, [], drop, IfOk, IfErr, OnOk};
+ghost use Rattle.pg_log.specs.Entries.{requests_of};
+ghost use Rattle.group_world.specs.Node.{packet, to_all, to_others};
+ghost use Rattle.group_world.specs.Unanswered.{to_missing, reps_from};
+ghost use Rattle.peering_messages.specs.Sending.{adopted_sent, asked_if};
+
+use crate::compare::{are_among, is_among};
+use crate::copies::{copy_request, copy_requests};
+use group_world::{Epoch, GroupMap, HandleError, Kind, Message, Packet, Party, Place, Requests};
+use pg_log::{Entry, Request};
+use placement::NodeId;
+use std::alloc::Global;
+
+/// A message of a node.
+pub fn packet(number: NodeId, receiver: Party, kind: Kind) -> Packet
+    ensures { result ≡ packet number receiver kind }
+{
+    Packet {
+        receiver,
+        message: Message {
+            sender: Party::Node(number),
+            kind,
+        },
+    }
+}
+
+/// Adds a message to those that are sent.
+pub fn send(sent: &mut Vec<Packet>, packet: Packet) -> Result<(), HandleError>
+    ensures ok { OnOk result (sent.new.items ≡ sent.old.items ++ packet ∷ []) }
+    ensures err { IfErr result (λ e. e ≡ HandleError.NoMemory) }
+{
+    sent.push(packet)?;
+    Ok(())
+}
+
+/// A Query to each of these nodes.
+pub fn query_to_all(
+    alloc: Global,
+    number: NodeId,
+    nodes: &[NodeId],
+    map: &GroupMap,
+) -> Result<Vec<Packet>, HandleError>
+    ensures ok { IfOk result (λ v. v.items ≡ to_all number nodes.now (Kind.Query map.now)) }
+    ensures err { IfErr result (λ e. e ≡ HandleError.NoMemory) }
+{
+    let mut sent = Vec::new(alloc);
+    for node in nodes {
+        send_query(alloc, number, *node, map, &mut sent)?;
+    }
+    Ok(sent)
+}
+
+/// Sends a Query to a node.
+fn send_query(
+    alloc: Global,
+    number: NodeId,
+    node: NodeId,
+    map: &GroupMap,
+    sent: &mut Vec<Packet>,
+) -> Result<(), HandleError>
+    ensures ok { OnOk result (sent.new.items ≡ sent.old.items ++ packet number (Party.Node node) (Kind.Query map.now) ∷ []) }
+    ensures err { IfErr result (λ e. e ≡ HandleError.NoMemory) }
+{
+    let kind = Kind::Query(map.copy(alloc)?);
+    send(sent, packet(number, Party::Node(node), kind))
+}
+
+/// An Install to each of these nodes that isn't the sender and hasn't joined.
+pub fn install_to_missing(
+    alloc: Global,
+    number: NodeId,
+    joined: &[NodeId],
+    nodes: &[NodeId],
+    map: &GroupMap,
+    list: &[Request],
+) -> Result<Vec<Packet>, HandleError>
+    ensures ok { IfOk result (λ v. v.items ≡ to_missing number joined.now nodes.now (Kind.Install map.now list.now)) }
+    ensures err { IfErr result (λ e. e ≡ HandleError.NoMemory) }
+{
+    let mut sent = Vec::new(alloc);
+    for node in nodes {
+        if is_among(joined, *node) {
+            continue;
+        }
+        if *node == number {
+            continue;
+        }
+        send_install(alloc, number, *node, map, list, &mut sent)?;
+    }
+    Ok(sent)
+}
+
+/// Sends an Install to a node.
+fn send_install(
+    alloc: Global,
+    number: NodeId,
+    node: NodeId,
+    map: &GroupMap,
+    list: &[Request],
+    sent: &mut Vec<Packet>,
+) -> Result<(), HandleError>
+    ensures ok { OnOk result (sent.new.items ≡ sent.old.items ++ packet number (Party.Node node) (Kind.Install map.now list.now) ∷ []) }
+    ensures err { IfErr result (λ e. e ≡ HandleError.NoMemory) }
+{
+    let list = Requests::new(copy_requests(alloc, list)?);
+    let kind = Kind::Install(map.copy(alloc)?, list);
+    send(sent, packet(number, Party::Node(node), kind))
+}
+
+/// The same Rep to each of these nodes but the sender.
+pub fn rep_to_others(
+    alloc: Global,
+    number: NodeId,
+    nodes: &[NodeId],
+    interval: Epoch,
+    place: Place,
+    request: &Request,
+) -> Result<Vec<Packet>, HandleError>
+    ensures ok { IfOk result (λ v. v.items ≡ to_others number nodes.now (Kind.Rep interval place request.now)) }
+    ensures err { IfErr result (λ e. e ≡ HandleError.NoMemory) }
+{
+    let mut sent = Vec::new(alloc);
+    for node in nodes {
+        if *node == number {
+            continue;
+        }
+        send_rep(alloc, number, *node, interval, place, request, &mut sent)?;
+    }
+    Ok(sent)
+}
+
+/// Sends a Rep to a node.
+fn send_rep(
+    alloc: Global,
+    number: NodeId,
+    node: NodeId,
+    interval: Epoch,
+    place: Place,
+    request: &Request,
+    sent: &mut Vec<Packet>,
+) -> Result<(), HandleError>
+    ensures ok { OnOk result (sent.new.items ≡ sent.old.items ++ packet number (Party.Node node) (Kind.Rep interval place request.now) ∷ []) }
+    ensures err { IfErr result (λ e. e ≡ HandleError.NoMemory) }
+{
+    let kind = Kind::Rep(interval, place, copy_request(alloc, request)?);
+    send(sent, packet(number, Party::Node(node), kind))
+}
+
+/// A Rep to one node of each of these entries, which stand in the log from a place on.
+pub fn reps_to(
+    alloc: Global,
+    number: NodeId,
+    node: NodeId,
+    interval: Epoch,
+    from: Place,
+    entries: &[Entry],
+    sent: &mut Vec<Packet>,
+) -> Result<(), HandleError>
+    ensures ok { OnOk result (sent.new.items ≡ sent.old.items ++ reps_from number node interval from (requests_of (drop from entries.now))) }
+    ensures err { IfErr result (λ e. e ≡ HandleError.NoMemory) }
+{
+    for place in from..entries.len() {
+        let request = &entries[place].request;
+        send_rep(alloc, number, node, interval, place, request, sent)?;
+    }
+    Ok(())
+}
+
+/// What the primary sends on adopting a list: Install to the others, and where it acts alone AskActivate to the monitor.
+#[tactic(auto, using(crate::proofs::Messages::to_missing_none))]
+pub fn adoption(
+    alloc: Global,
+    number: NodeId,
+    interval: Epoch,
+    members: &GroupMap,
+    list: &[Request],
+) -> Result<Vec<Packet>, HandleError>
+    ensures ok { IfOk result (λ v. v.items ≡ adopted_sent number interval members.now list.now) }
+    ensures err { IfErr result (λ e. e ≡ HandleError.NoMemory) }
+{
+    let acting = members.acting();
+    let mut sent = install_to_missing(alloc, number, &[], acting, members, list)?;
+    ask_if(number, interval, are_among(acting, &[number]), &mut sent)?;
+    Ok(sent)
+}
+
+/// Asks the monitor to activate the interval, where all have installed.
+pub fn ask_if(
+    number: NodeId,
+    interval: Epoch,
+    all: bool,
+    sent: &mut Vec<Packet>,
+) -> Result<(), HandleError>
+    ensures ok { OnOk result (sent.new.items ≡ sent.old.items ++ asked_if number interval all) }
+    ensures err { IfErr result (λ e. e ≡ HandleError.NoMemory) }
+{
+    if all {
+        let kind = Kind::AskActivate(interval);
+        send(sent, packet(number, Party::Monitor, kind))?;
+    }
+    Ok(())
+}

@@ -1,5 +1,0 @@
-use Rattle.sim.proofs.Equal.{same_request}
-use Rattle.sim.proofs.same.is_same_request.Goals as goal
-
-pub returns : goal.returns
-returns c = same_request c.is.result c.args.request.now c.args.other.now c.is.ensures.0 c.is.ensures.1
