@@ -35,8 +35,8 @@ returns-clause-done g c =
       number = ap (λ z. z.number) c.self.view_is;
       state = (λ i. record ((c.self.view_is i).state) { committed = point i; acked = acked i }) ∙ ap (λ o. o.node) h;
       sent = c.in_ok-sent.ensures.ok
-      ∙ ap (λ z. replies_from c.args.table.now z.number z.state.log z.state.committed (drop z.state.committed (take c.max-point.result z.state.log))) c.self.view_is
-      ∙ ap (λ j. replies_from c.args.table.now n.number s.log s.committed (drop s.committed (take j s.log))) point ∙ ap (λ o. o.sent) h;
+          ∙ ap (λ z. replies_from c.args.table.now z.number z.state.log z.state.committed (drop z.state.committed (take c.max-point.result z.state.log))) c.self.view_is
+          ∙ ap (λ j. replies_from c.args.table.now n.number s.log s.committed (drop s.committed (take j s.log))) point ∙ ap (λ o. o.sent) h;
       unrefused = ap (λ o. o.refusal) (sym h);
     }
 

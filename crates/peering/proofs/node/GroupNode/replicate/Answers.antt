@@ -39,13 +39,17 @@ returns-clause-done g c =
     elim c.else-place-length.branch [
       | else-place-length-via-then-place-length+in_ok-follow+else-not-branch w ↦
           let kept : z ≡ with_log n (s.log ++ r ∷ []) = w.self-is ∙ w.in_ok-follow.ensures.kept ∙ ap (λ b. cond b (with_log n (s.log ++ r ∷ [])) n) w.if-not-branch.false in
-          let free : is_none (refusal c.args.table.now s.log r) ≡ true = sym w.in_ok-follow.ensures.may ∙ w.if-not-branch.false in
-          (ap (λ v. v.number) kept, ap (λ v. and_acks n.number c.args.sender v.state) kept
-          ∙ replicates_next c.args.table.now n.number s c.args.sender c.args.interval c.args.place r same installed (w.if-place-length.true ∙ long) free)
+          let free : is_none (refusal c.args.table.now s.log r) ≡ true = sym w.in_ok-follow.ensures.may ∙ w.if-not-branch.false in (
+            ap (λ v. v.number) kept,
+            ap (λ v. and_acks n.number c.args.sender v.state) kept
+                ∙ replicates_next c.args.table.now n.number s c.args.sender c.args.interval c.args.place r same installed (w.if-place-length.true ∙ long) free,
+          )
       | else-place-length-via-else-place-length w ↦
-          let within : nat_lt c.args.place (length s.log) ≡ true = inside c.args.place (length s.log) (omega arith) (λ e. w.if-place-length.false (e ∙ sym long)) in
-          (ap (λ v. v.number) w.self-is, ap (λ v. and_acks n.number c.args.sender v.state) w.self-is
-          ∙ replicates_logged c.args.table.now n.number s c.args.sender c.args.interval c.args.place r same installed within)
+          let within : nat_lt c.args.place (length s.log) ≡ true = inside c.args.place (length s.log) (omega arith) (λ e. w.if-place-length.false (e ∙ sym long)) in (
+            ap (λ v. v.number) w.self-is,
+            ap (λ v. and_acks n.number c.args.sender v.state) w.self-is
+                ∙ replicates_logged c.args.table.now n.number s c.args.sender c.args.interval c.args.place r same installed within,
+          )
     ] in
     let said : c.packet.result ≡ says_ack n.number c.args.sender z.state =
     c.packet.ensures ∙ ap (λ j. packet c.self-2.inside.number c.args.sender (Ack c.self-2.inside.interval j)) c.len.ensures.value
