@@ -1,5 +1,5 @@
 //! Tests alone, of groups: which nodes act, the log and its requests, the built-in classes through a group, the world's
-//! types, requests at their places, nodes and their monitor, drawings of runs.
+//! types, requests at their places, drawings of runs.
 #![tactic(auto)]
 
 #[cfg(test)]
@@ -20,8 +20,6 @@ mod lists;
 mod log;
 #[cfg(test)]
 mod nodes;
-#[cfg(test)]
-mod peers;
 #[cfg(test)]
 mod placing;
 #[cfg(test)]

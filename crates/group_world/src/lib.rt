@@ -5,6 +5,7 @@
 #![tactic(auto)]
 
 mod answer;
+mod copies;
 mod epoch;
 mod event;
 mod group_map;

@@ -1,9 +1,13 @@
+ghost use Rattle.std.specs.Prelude.{◌≡◌, IfOk};
+
 use crate::answer::Answer;
+use crate::copies::copy_kind;
 use crate::epoch::Epoch;
 use crate::group_map::GroupMap;
 use crate::party::Party;
 use crate::requests::Requests;
 use pg_log::{ClientId, Request, RequestNumber};
+use std::alloc::{AllocError, Global};
 
 /// A place in a log, from 0 on, as `pg_log` counts them.
 pub type Place = usize;
@@ -38,6 +42,18 @@ pub struct Message {
     pub sender: Party,
     /// What it says.
     pub kind: Kind,
+}
+
+impl Message {
+    /// An equal message.
+    pub fn copy(&self, alloc: Global) -> Result<Message, AllocError>
+        ensures { IfOk result (λ m. m ≡ self.now) }
+    {
+        Ok(Message {
+            sender: self.sender,
+            kind: copy_kind(alloc, &self.kind)?,
+        })
+    }
 }
 
 /// A message on its way.

@@ -1,9 +1,11 @@
-//! Tests of lists of nodes.
+//! Tests of lists of nodes, and of requests.
 ghost use Rattle.std.specs.Prelude.{◌≡◌};
 ghost use Rattle.placement.specs.Placement.{has, are_nodes};
 ghost use Rattle.group_world.specs.Monitor.{is_acting};
 ghost use Rattle.group_world.specs.Maps.{all_among, is_same_list, is_first};
+ghost use Rattle.group_world.specs.Rules.{is_same_request};
 
+use pg_log::Request;
 use placement::{NODE_LIMIT, NodeId, REPLICA_LIMIT};
 
 /// Whether the node is among these.
@@ -73,4 +75,11 @@ pub fn is_acting(nodes: &[NodeId]) -> bool
     ensures { result ≡ is_acting nodes.now }
 {
     0 < nodes.len() && nodes.len() <= REPLICA_LIMIT && are_nodes(nodes)
+}
+
+/// Whether the requests are equal.
+pub fn is_same_request(request: &Request, other: &Request) -> bool
+    ensures { result ≡ is_same_request request.now other.now }
+{
+    request.is(other)
 }

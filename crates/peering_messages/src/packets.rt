@@ -1,5 +1,5 @@
 //! The messages of a node.
-ghost use Rattle.std.specs.Prelude.{◌≡◌, ◌∷◌, ◌++◌, [], drop, IfOk, IfErr, OnOk};
+ghost use Rattle.std.specs.Prelude.{◌≡◌, ◌∷◌, ◌++◌, [], drop, IfOk, IfErr, OnOk, OnErr};
 ghost use Rattle.pg_log.specs.Entries.{requests_of};
 ghost use Rattle.group_world.specs.Node.{packet, to_all, to_others};
 ghost use Rattle.group_world.specs.Unanswered.{to_missing, reps_from};
@@ -25,10 +25,11 @@ pub fn packet(number: NodeId, receiver: Party, kind: Kind) -> Packet
     }
 }
 
-/// Adds a message to those that are sent.
+/// Adds a message to those that are sent. Where memory is refused they are as they were.
 pub fn send(sent: &mut Vec<Packet>, packet: Packet) -> Result<(), HandleError>
     ensures ok { OnOk result (sent.new.items ≡ sent.old.items ++ packet ∷ []) }
     ensures err { IfErr result (λ e. e ≡ HandleError.NoMemory) }
+    ensures kept { OnErr result (sent.new.items ≡ sent.old.items) }
 {
     sent.push(packet)?;
     Ok(())

@@ -1,45 +1,23 @@
 //! Whether two messages are equal: of the kinds that are sent again.
 ghost use Rattle.std.specs.Prelude.{◌≡◌, map, IfOk};
-ghost use Rattle.group_world.specs.Maps.{is_same_list};
-ghost use Rattle.group_world.specs.Rules.{is_same_request};
 ghost use Rattle.sim_messages.specs.Same.{is_same_map, are_same_requests, is_same_kind, is_same_party, is_same_packet, is_kept_as, number_of};
 
 use crate::kept::Kept;
 use crate::sent::Sent;
 use group_world::{Epoch, GroupMap, Kind, Packet, Party, Place, Requests};
+use peering_messages::{are_same, is_same_request};
 use pg_log::{ClientId, Request};
 use placement::NodeId;
 use std::alloc::{AllocError, Global};
-
-/// Whether the lists are equal.
-fn are_same_nodes(nodes: &[NodeId], others: &[NodeId]) -> bool
-    ensures { result ≡ is_same_list nodes.now others.now }
-{
-    if nodes.len() != others.len() {
-        return false;
-    }
-    for place in 0..nodes.len() {
-        if nodes[place] != others[place] {
-            return false;
-        }
-    }
-    true
-}
 
 fn is_same_map(map: &GroupMap, other: &GroupMap) -> bool
     ensures { result ≡ is_same_map map.now other.now }
 {
     map.epoch() == other.epoch()
         && map.interval() == other.interval()
-        && are_same_nodes(map.acting(), other.acting())
+        && are_same(map.acting(), other.acting())
         && map.prev() == other.prev()
-        && are_same_nodes(map.prev_acting(), other.prev_acting())
-}
-
-fn is_same_request(request: &Request, other: &Request) -> bool
-    ensures { result ≡ is_same_request request.now other.now }
-{
-    request.is(other)
+        && are_same(map.prev_acting(), other.prev_acting())
 }
 
 fn are_same_requests(list: &[Request], other: &[Request]) -> bool

@@ -10,11 +10,12 @@ use crate::world::World;
 use group_world::{Epoch, Event, Kind, Message, Packet, Party, Requests};
 use interp::ClassTable;
 use peering::GroupNode;
+use peering_messages::copy_log;
 use pg_log::{Classes, Request};
 use placement::NodeId;
 use replication::{UnpackError, unpack_log};
 use sim_lines::numbered;
-use sim_messages::{Kept, ShortLog, copy_message, message_line, next_number, requests_of};
+use sim_messages::{Kept, ShortLog, message_line, next_number};
 use std::alloc::{AllocError, Global};
 
 /// What a message comes as.
@@ -89,7 +90,10 @@ fn log_of<C: Classes>(
     ensures { IfOk result (λ v. v.items ≡ (nth_node nodes.now node).state.log) }
 {
     match nodes.get(node.get() as usize) {
-        Some(node) => requests_of(alloc, node.group().entries()),
+        Some(node) => match copy_log(alloc, node.group().entries()) {
+            Ok(list) => Ok(list),
+            Err(_) => Err(AllocError),
+        },
         None => Ok(Vec::new(alloc)),
     }
 }
@@ -207,7 +211,7 @@ fn comes_as<C: Classes>(
 {
     match kept {
         Kept::Whole(packet) => {
-            let message = copy_message(alloc, &packet.message)?;
+            let message = packet.message.copy(alloc)?;
             Ok(Coming::Told(packet.receiver, message))
         }
         Kept::Short(short) => {

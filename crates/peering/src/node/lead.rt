@@ -6,7 +6,7 @@ ghost use Rattle.pg_log.specs.Log.{Legal};
 ghost use Rattle.pg_log.specs.Entries.{requests_of};
 ghost use Rattle.pg_log.specs.Refusals.{first_refusal};
 ghost use Rattle.group_world.specs.Node.{committed_list, is_installing};
-ghost use Rattle.group_world.specs.Rules.{adopt_log, note_installed, activate, each_at, is_usable, is_same_request, begins};
+ghost use Rattle.group_world.specs.Rules.{adopt_log, note_installed, activate, each_at, is_usable, begins};
 ghost use Rattle.peering.specs.Numbered.{IsDone};
 ghost use Rattle.peering.specs.Arriving.{with_log, is_memory};
 
@@ -14,7 +14,7 @@ use crate::node::GroupNode;
 use crate::node::moves::installing;
 use group_world::{Epoch, HandleError, Kind, Packet, Party, Status};
 use interp::ClassTable;
-use peering_messages::{are_among, is_among, packet};
+use peering_messages::{are_among, is_among, is_same_request, packet};
 use pg_log::{Classes, Entry, Group, LogError, Request, adopting};
 use placement::NodeId;
 use std::alloc::Global;
@@ -187,16 +187,9 @@ fn begins_with(entries: &[Entry], list: &[Request]) -> bool
         return false;
     }
     for place in 0..entries.len() {
-        if !are_same(&entries[place].request, &list[place]) {
+        if !is_same_request(&entries[place].request, &list[place]) {
             return false;
         }
     }
     true
-}
-
-/// Whether the requests are equal.
-fn are_same(one: &Request, other: &Request) -> bool
-    ensures { result ≡ is_same_request one.now other.now }
-{
-    one.is(other)
 }

@@ -1,5 +1,5 @@
 //! Lines of a run: whether a message, or what a step tells, is as a line says.
-use super::super::words::{is_code, is_number, next};
+use super::words::{is_code, is_number, next};
 use group_world::{Answer, Epoch, HandleError, Kind, MonitorError, Packet, Party, Status};
 use pg_log::RequestNumber;
 use std::str::SplitWhitespace;

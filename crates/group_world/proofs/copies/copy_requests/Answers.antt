@@ -1,6 +1,6 @@
 use Rattle.std.proofs.Common.{◌∷◌, [], ◌++◌, ◌∙◌, ap}
-use Rattle.sim_messages.proofs.Grown.{requests_more}
-use Rattle.sim_messages.proofs.copies.copy_requests.Goals as goal
+use Rattle.group_world.proofs.Lists.{requests_more}
+use Rattle.group_world.proofs.copies.copy_requests.Goals as goal
 
 pub loop-request-preserved : goal.loop-request-preserved
 loop-request-preserved c =

@@ -1,9 +1,12 @@
-//! Copies of messages: one that is delivered stays to be delivered again.
+//! Copies of messages.
 ghost use Rattle.std.specs.Prelude.{◌≡◌, IfOk};
-ghost use Rattle.pg_log.specs.Entries.{requests_of};
 
-use group_world::{Answer, Epoch, GroupMap, Kind, Message, Place, Requests};
-use pg_log::{ClientId, Entry, Request, RequestNumber};
+use crate::answer::Answer;
+use crate::epoch::Epoch;
+use crate::group_map::GroupMap;
+use crate::message::{Kind, Place};
+use crate::requests::Requests;
+use pg_log::{ClientId, Request, RequestNumber};
 use std::alloc::{AllocError, Global};
 
 /// An equal request.
@@ -25,17 +28,6 @@ fn copy_requests(alloc: Global, list: &[Request]) -> Result<Requests, AllocError
         items.push(copy_request(alloc, request)?)?;
     }
     Ok(Requests::new(items))
-}
-
-/// The requests of a log.
-pub fn requests_of(alloc: Global, entries: &[Entry]) -> Result<Vec<Request>, AllocError>
-    ensures { IfOk result (λ v. v.items ≡ requests_of entries.now) }
-{
-    let mut items = Vec::new(alloc);
-    for entry in entries {
-        items.push(copy_request(alloc, &entry.request)?)?;
-    }
-    Ok(items)
 }
 
 /// An equal answer.
@@ -94,7 +86,7 @@ fn copy_reply(
 }
 
 /// What an equal message says.
-fn copy_kind(alloc: Global, kind: &Kind) -> Result<Kind, AllocError>
+pub(crate) fn copy_kind(alloc: Global, kind: &Kind) -> Result<Kind, AllocError>
     ensures { IfOk result (λ k. k ≡ kind.now) }
 {
     match kind {
@@ -110,14 +102,4 @@ fn copy_kind(alloc: Global, kind: &Kind) -> Result<Kind, AllocError>
             copy_reply(alloc, *client, *number, *place, answer)
         }
     }
-}
-
-/// An equal message.
-pub fn copy_message(alloc: Global, message: &Message) -> Result<Message, AllocError>
-    ensures { IfOk result (λ m. m ≡ message.now) }
-{
-    Ok(Message {
-        sender: message.sender,
-        kind: copy_kind(alloc, &message.kind)?,
-    })
 }

@@ -1,18 +1,17 @@
 //! Drives nodes and their monitor by hand, a step at a time.
 ghost use Rattle.std.specs.Prelude.{◌≡◌};
 
-use super::super::checks::see;
-use super::super::nodes::nodes;
-use super::super::requests::request;
-use super::super::words::{halves, next, next_number, number_of};
-use super::copies::{copy, map};
+use super::checks::see;
 use super::lines::Told;
 use super::mail::Mail;
+use super::nodes::nodes;
 use super::table::table;
+use super::words::{halves, next, next_number, number_of};
 use group_world::{Epoch, Event, GroupMap, Kind, Message, Packet, Party};
 use interp::ClassTable;
+use object_store::ObjectName;
 use peering::{GroupNode, Monitor};
-use pg_log::{Classes, Group, GroupWork, Request, with_group};
+use pg_log::{Classes, ClientId, Group, GroupWork, Request, RequestNumber, with_group};
 use placement::NodeId;
 use std::alloc::Global;
 use std::process::Abort;
@@ -100,8 +99,11 @@ fn asked(kind: &Kind) -> Option<Epoch> {
 /// A client's request, by its number and its method of class 0.
 fn asked_of<R: Abort>(rt: &R, alloc: Global, text: &str) -> Request {
     let mut words = text.split_whitespace();
-    let pair = (next_number(rt, &mut words), next_number(rt, &mut words));
-    request(rt, alloc, pair, 0, next(&mut words), b"")
+    let client = ClientId::new(next_number(rt, &mut words)).expect(rt, "a client");
+    let number = RequestNumber::new(next_number(rt, &mut words)).expect(rt, "a number");
+    let object = ObjectName::new(alloc, "object").expect(rt, "memory");
+    let method = String::from_str(alloc, next(&mut words)).expect(rt, "memory");
+    Request::new(client, number, object, 0, method, Vec::new(alloc))
 }
 
 impl<C: Classes> World<C> {
@@ -137,7 +139,7 @@ impl<C: Classes> World<C> {
     /// A copy of the message of a number.
     fn message<R: Abort>(&self, rt: &R, number: usize) -> Message {
         let packet = self.mail.at(number).expect(rt, "a message");
-        copy(rt, self.alloc, &packet.message)
+        packet.message.copy(self.alloc).expect(rt, "memory")
     }
 
     /// A message to a node is delivered.
@@ -181,7 +183,7 @@ impl<C: Classes> World<C> {
         requires { table.now ≡ C.classes }
     {
         let seen = self.maps.get(epoch.saturating_sub(1)).expect(rt, "a map");
-        let seen = map(rt, self.alloc, seen);
+        let seen = seen.copy(self.alloc).expect(rt, "memory");
         self.take(rt, table, at, Event::Map(seen));
     }
 

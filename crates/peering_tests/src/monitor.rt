@@ -1,6 +1,6 @@
 //! The monitor's refusals, and copies.
-use super::super::checks::see;
-use super::super::nodes::nodes;
+use super::checks::see;
+use super::nodes::nodes;
 use group_world::{Epoch, MonitorError};
 use peering::Monitor;
 use placement::NodeId;

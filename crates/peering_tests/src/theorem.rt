@@ -1,11 +1,3 @@
-mod copies;
-mod driver;
-mod lines;
-mod mail;
-mod monitor;
-mod runs;
-mod table;
-
 use peering::agreement;
 
 #[test]

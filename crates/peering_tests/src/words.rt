@@ -1,0 +1,34 @@
+//! The words of a line.
+use std::process::Abort;
+use std::str::SplitWhitespace;
+
+/// The next word, or an empty one behind the last.
+pub(super) fn next<'a>(words: &mut SplitWhitespace<'a>) -> &'a str {
+    words.next().unwrap_or("")
+}
+
+/// The number that a word says.
+pub(super) fn number_of<R: Abort>(rt: &R, word: &str) -> u32 {
+    word.parse::<u32>().expect(rt, "a number")
+}
+
+/// The number that the next word says.
+pub(super) fn next_number<R: Abort>(rt: &R, words: &mut SplitWhitespace<'_>) -> u32 {
+    number_of(rt, next(words))
+}
+
+/// Whether a word says that number.
+pub(super) fn is_number(word: &str, number: u64) -> bool {
+    word.parse::<u64>().ok() == Some(number)
+}
+
+/// Whether a word says that code.
+pub(super) fn is_code(word: &str, code: i64) -> bool {
+    word.parse::<i64>().ok() == Some(code)
+}
+
+/// What stands before a mark, and what stands behind it.
+pub(super) fn halves(text: &str, mark: char) -> (&str, &str) {
+    let (before, behind) = text.split_once(mark).unwrap_or((text, ""));
+    (before.trim(), behind.trim())
+}
