@@ -3,8 +3,10 @@ pub mod Regions
 pub mod Agreement
 pub mod Access
 pub mod Steps
+pub mod Turning
 pub mod Calm
 pub mod Effects
+pub mod Helped
 pub mod Bytes
 pub mod Runs
 pub mod Answered

@@ -1,15 +1,16 @@
-ghost use Rattle.std.specs.Prelude.{◌≡◌, IfOk, unwrap_or};
+ghost use Rattle.std.specs.Prelude.{◌≡◌, IfOk};
 ghost use Rattle.helpers.specs.Table.{row};
-ghost use Rattle.helpers.specs.View.{IsWithin, bytes_in, filled};
+ghost use Rattle.helpers.specs.View.{IsWithin, bytes_in};
 ghost use Rattle.bpf_machine.specs.Flat.{help};
 ghost use Rattle.bpf_machine.specs.Safe.{first_layout};
-ghost use Rattle.interp.specs.Asked.{CanAsk, effect_on, room_at};
+ghost use Rattle.interp.specs.Asked.{CanAsk, HasAnswered};
 ghost use Rattle.interp.specs.Run.{CanDo, Does};
 
+use crate::registers::Registers;
 use crate::run::Run;
 use helpers::{Helper, Span};
 use std::alloc::Global;
-use txn::NoMemory;
+use txn::{NoMemory, Staged};
 
 /// The bytes of a range. One of no bytes has no place: its address may be any number then.
 fn bytes_at(memory: &[u8], span: Span) -> &[u8]
@@ -22,22 +23,24 @@ fn bytes_at(memory: &[u8], span: Span) -> &[u8]
     &memory[span.at as usize..(span.at + span.len) as usize]
 }
 
-/// Does what a helper does, on the newest object and the memory, and gives its answer. Names and values are read out of
-/// the memory, and so is what is copied into it.
-fn answer(alloc: Global, helper: Helper, run: &mut Run, memory: &mut [u8]) -> Result<u64, NoMemory>
-    requires { CanAsk run.old.registers memory.old (row helper).takes.arguments 1 }
-    ensures answer { IfOk result (λ n. n ≡ (effect_on helper run.old memory.old).answer) }
-    ensures memory { IfOk result (λ _. memory.new ≡ filled memory.old (room_at run.old.registers (row helper).takes.arguments 1) (effect_on helper run.old memory.old).bytes) }
-    ensures object { IfOk result (λ _. run.new.staged.after ≡ (effect_on helper run.old memory.old).object) }
-    ensures before { IfOk result (λ _. run.new.staged.before ≡ run.old.staged.before) }
-    ensures out_len { IfOk result (λ _. run.new.out_len ≡ unwrap_or (effect_on helper run.old memory.old).out_len run.old.out_len) }
-    ensures rest { IfOk result (λ _. run.new ≡ record run.old { staged = run.new.staged; out_len = run.new.out_len }) }
+/// Does what a helper does, on the newest object, the output's length and the memory, and gives its answer. Names and
+/// values are read out of the memory, and so is what is copied into it.
+fn answer(
+    alloc: Global,
+    helper: Helper,
+    registers: &Registers,
+    caller: u32,
+    staged: &mut Staged,
+    out_len: &mut usize,
+    memory: &mut [u8],
+) -> Result<u64, NoMemory>
+    requires { CanAsk registers.now memory.old (row helper).takes.arguments 1 }
+    ensures { IfOk result (λ n. HasAnswered helper caller registers.now memory.old staged.old out_len.old memory.new staged.new out_len.new n) }
 {
-    let number = run.registers.number();
-    let first = run.registers.span(1);
-    let behind = run.registers.span(2);
-    let second = run.registers.span(3);
-    let staged = &mut run.staged;
+    let number = registers.number();
+    let first = registers.span(1);
+    let behind = registers.span(2);
+    let second = registers.span(3);
     match helper {
         Helper::Stat => Ok(helpers::stat(staged)),
         Helper::Read => Ok(helpers::read(staged, number, memory, behind)),
@@ -61,9 +64,9 @@ fn answer(alloc: Global, helper: Helper, run: &mut Run, memory: &mut [u8]) -> Re
         ),
         Helper::MapRm => helpers::map_rm(alloc, staged, bytes_at(memory, first)),
         Helper::MapNext => Ok(helpers::map_next(staged, memory, first, second)),
-        Helper::OutLen => Ok(helpers::out_len(&mut run.out_len, number)),
+        Helper::OutLen => Ok(helpers::out_len(out_len, number)),
         Helper::Create => Ok(helpers::create(staged, number)),
-        Helper::Caller => Ok(helpers::caller(run.caller)),
+        Helper::Caller => Ok(helpers::caller(caller)),
     }
 }
 
@@ -76,7 +79,15 @@ pub fn ask(alloc: Global, run: &mut Run, memory: &mut [u8], id: u32) -> Result<(
 {
     match Helper::of(id) {
         Some(helper) => {
-            let answer = answer(alloc, helper, run, memory)?;
+            let answer = answer(
+                alloc,
+                helper,
+                &run.registers,
+                run.caller,
+                &mut run.staged,
+                &mut run.out_len,
+                memory,
+            )?;
             run.registers.set_answer(answer);
             Ok(())
         }

@@ -262,9 +262,16 @@ module _ {V : Type 0} where
   pub high_part : (x : Entries V) (e : Pair V) (y : Entries V) (f : Pair V) (z : Entries V) → IsTrue (sorted ((x ++ e ∷ y) ++ f ∷ z)) → IsTrue (sorted (y ++ f ∷ z))
   high_part x e y f z h = sorted-past x e (y ++ f ∷ z) (sorted-turned x e y f z h)
 
+  -- what is turned twice: (x ++ e ∷ (y ++ f ∷ z)) ++ g ∷ u, and x ++ e ∷ ((y ++ f ∷ z) ++ g ∷ u), is (x ++ e ∷ y) ++ f ∷ (z ++ g ∷ u)
+  pub twice_right : (x : Entries V) (e : Pair V) (y : Entries V) (f : Pair V) (z : Entries V) (g : Pair V) (u : Entries V) → x ++ e ∷ ((y ++ f ∷ z) ++ g ∷ u) ≡ (x ++ e ∷ y) ++ f ∷ (z ++ g ∷ u)
+  twice_right x e y f z g u = ap (λ t. x ++ e ∷ t) (turned y f z g u) ∙ sym (turned x e y f (z ++ g ∷ u))
+
+  pub twice_left : (x : Entries V) (e : Pair V) (y : Entries V) (f : Pair V) (z : Entries V) (g : Pair V) (u : Entries V) → (x ++ e ∷ (y ++ f ∷ z)) ++ g ∷ u ≡ (x ++ e ∷ y) ++ f ∷ (z ++ g ∷ u)
+  twice_left x e y f z g u = turned x e (y ++ f ∷ z) g u ∙ twice_right x e y f z g u
+
   pub sorted-along : (a b : Entries V) → a ≡ b → IsTrue (sorted a) → IsTrue (sorted b)
   sorted-along a b e h = subst (λ es. IsTrue (sorted es)) e h
 
   -- equal parts make an equal whole
   pub same_parts : (x x' : Entries V) (e e' : Pair V) (y y' : Entries V) → x ≡ x' → e ≡ e' → y ≡ y' → x ++ e ∷ y ≡ x' ++ e' ∷ y'
-  same_parts x x' e e' y y' p q r = cc
+  same_parts x x' e e' y y' p q r = ap (λ t. t ++ e ∷ y) p ∙ ap (λ d. x' ++ d ∷ y) q ∙ ap (λ t. x' ++ e' ∷ t) r

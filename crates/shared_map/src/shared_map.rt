@@ -3,10 +3,9 @@ ghost use Rattle.std.specs.Option.{option_copied};
 ghost use Rattle.std.specs.FinMap as fin;
 ghost use Rattle.shared_map.specs.Entries.{key_above};
 
-use crate::tree::{Entry, Tree};
+use crate::tree::Tree;
 use std::alloc::{AllocError, Global};
 use std::marker::Model;
-use std::sync::Arc;
 
 /// A map from bytes to values, in the order of the bytes. Its copies share what they have in common. Contracts see the finite map.
 #[derive(Drop)]
@@ -69,10 +68,7 @@ impl<V: Drop> SharedMap<V> {
         ensures err { OnErr result (self.new ≡ self.old) }
     {
         let len = self.len_with(key)?;
-        let key = Vec::from_slice(alloc, key)?;
-        self.tree = self
-            .tree
-            .set(alloc, Arc::new(alloc, Entry { key, value })?)?;
+        self.tree = self.tree.set_at(alloc, key, value)?;
         self.len = len;
         Ok(())
     }

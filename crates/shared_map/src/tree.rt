@@ -94,7 +94,8 @@ impl<V: Drop> Tree<V> {
     {
         match &self.root {
             Link::Leaf => None,
-            Link::Fork(b) => {
+            Link::Fork(fork) => {
+                let b: &Branch<V> = fork;
                 let entry: &Entry<V> = &b.entry;
                 match key.cmp(entry.key.as_slice()) {
                     Ordering::Less => b.left.get(key),
@@ -111,7 +112,8 @@ impl<V: Drop> Tree<V> {
     {
         match &self.root {
             Link::Leaf => None,
-            Link::Fork(b) => {
+            Link::Fork(fork) => {
+                let b: &Branch<V> = fork;
                 let entry: &Entry<V> = &b.entry;
                 match key.cmp(entry.key.as_slice()) {
                     Ordering::Less => match b.left.above(key) {
@@ -124,24 +126,27 @@ impl<V: Drop> Tree<V> {
         }
     }
 
-    /// The tree with a value at a key. At an error nothing was made.
-    pub(crate) fn set(&self, alloc: Global, new: Arc<Entry<V>>) -> Result<Tree<V>, AllocError>
+    /// The tree with a value at a key, of which it keeps a copy.
+    pub(crate) fn set_at(&self, alloc: Global, key: &[u8], value: V) -> Result<Tree<V>, AllocError>
+        ensures { IfOk result (λ t. t ≡ put (slice_cmp nat_cmp) key.now value self.now) }
+    {
+        let key = Vec::from_slice(alloc, key)?;
+        self.set(alloc, Arc::new(alloc, Entry { key, value })?)
+    }
+
+    /// The tree with an entry. At an error nothing was made.
+    fn set(&self, alloc: Global, new: Arc<Entry<V>>) -> Result<Tree<V>, AllocError>
         ensures { IfOk result (λ t. t ≡ put (slice_cmp nat_cmp) (pair (arc_value new)).0 (pair (arc_value new)).1 self.now) }
     {
         match &self.root {
             Link::Leaf => joined(alloc, Tree::new(), new, Tree::new()),
-            Link::Fork(b) => {
+            Link::Fork(fork) => {
+                let b: &Branch<V> = fork;
                 let entry: &Entry<V> = &b.entry;
                 match new.key.as_slice().cmp(entry.key.as_slice()) {
-                    Ordering::Less => {
-                        let left = b.left.set(alloc, new)?;
-                        balanced(alloc, left, Arc::try_clone(&b.entry)?, b.right.copy()?)
-                    }
-                    Ordering::Equal => joined(alloc, b.left.copy()?, new, b.right.copy()?),
-                    Ordering::Greater => {
-                        let right = b.right.set(alloc, new)?;
-                        balanced(alloc, b.left.copy()?, Arc::try_clone(&b.entry)?, right)
-                    }
+                    Ordering::Less => with_left(alloc, b.left.set(alloc, new)?, b),
+                    Ordering::Equal => sharing_sides(alloc, &b.left, new, &b.right),
+                    Ordering::Greater => with_right(alloc, b, b.right.set(alloc, new)?),
                 }
             }
         }
@@ -153,13 +158,13 @@ impl<V: Drop> Tree<V> {
     {
         match &self.root {
             Link::Leaf => Ok(None),
-            Link::Fork(b) => match b.left.split_first(alloc)? {
-                None => Ok(Some((Arc::try_clone(&b.entry)?, b.right.copy()?))),
-                Some((first, left)) => {
-                    let rest = balanced(alloc, left, Arc::try_clone(&b.entry)?, b.right.copy()?)?;
-                    Ok(Some((first, rest)))
+            Link::Fork(fork) => {
+                let b: &Branch<V> = fork;
+                match b.left.split_first(alloc)? {
+                    None => Ok(Some((Arc::try_clone(&b.entry)?, b.right.copy()?))),
+                    Some((first, left)) => Ok(Some((first, with_left(alloc, left, b)?))),
                 }
-            },
+            }
         }
     }
 
@@ -169,21 +174,13 @@ impl<V: Drop> Tree<V> {
     {
         match &self.root {
             Link::Leaf => Ok(Tree::new()),
-            Link::Fork(b) => {
+            Link::Fork(fork) => {
+                let b: &Branch<V> = fork;
                 let entry: &Entry<V> = &b.entry;
                 match key.cmp(entry.key.as_slice()) {
-                    Ordering::Less => {
-                        let left = b.left.remove(alloc, key)?;
-                        balanced(alloc, left, Arc::try_clone(&b.entry)?, b.right.copy()?)
-                    }
-                    Ordering::Equal => match b.right.split_first(alloc)? {
-                        None => b.left.copy(),
-                        Some((first, right)) => balanced(alloc, b.left.copy()?, first, right),
-                    },
-                    Ordering::Greater => {
-                        let right = b.right.remove(alloc, key)?;
-                        balanced(alloc, b.left.copy()?, Arc::try_clone(&b.entry)?, right)
-                    }
+                    Ordering::Less => with_left(alloc, b.left.remove(alloc, key)?, b),
+                    Ordering::Equal => without_entry(alloc, b),
+                    Ordering::Greater => with_right(alloc, b, b.right.remove(alloc, key)?),
                 }
             }
         }
@@ -215,7 +212,59 @@ fn joined<V: Drop>(
     })
 }
 
-/// The tree of a branch that shares its parts with others.
+/// The same, sharing the left side.
+fn sharing_left<V: Drop>(
+    alloc: Global,
+    left: &Tree<V>,
+    entry: Arc<Entry<V>>,
+    right: Tree<V>,
+) -> Result<Tree<V>, AllocError>
+    requires { IsTrue (sorted (left.now ++ pair (arc_value entry) ∷ right)) }
+    ensures { IfOk result (λ t. t ≡ left.now ++ pair (arc_value entry) ∷ right) }
+{
+    joined(alloc, left.copy()?, entry, right)
+}
+
+/// The same, sharing the right side.
+fn sharing_right<V: Drop>(
+    alloc: Global,
+    left: Tree<V>,
+    entry: Arc<Entry<V>>,
+    right: &Tree<V>,
+) -> Result<Tree<V>, AllocError>
+    requires { IsTrue (sorted (left ++ pair (arc_value entry) ∷ right.now)) }
+    ensures { IfOk result (λ t. t ≡ left ++ pair (arc_value entry) ∷ right.now) }
+{
+    joined(alloc, left, entry, right.copy()?)
+}
+
+/// The same, sharing both sides.
+fn sharing_sides<V: Drop>(
+    alloc: Global,
+    left: &Tree<V>,
+    entry: Arc<Entry<V>>,
+    right: &Tree<V>,
+) -> Result<Tree<V>, AllocError>
+    requires { IsTrue (sorted (left.now ++ pair (arc_value entry) ∷ right.now)) }
+    ensures { IfOk result (λ t. t ≡ left.now ++ pair (arc_value entry) ∷ right.now) }
+{
+    sharing_left(alloc, left, entry, right.copy()?)
+}
+
+/// The same, sharing the entry.
+fn sharing_entry<V: Drop>(
+    alloc: Global,
+    left: Tree<V>,
+    entry: &Arc<Entry<V>>,
+    right: Tree<V>,
+) -> Result<Tree<V>, AllocError>
+    requires { IsTrue (sorted (left ++ pair (arc_value entry.now) ∷ right)) }
+    ensures { IfOk result (λ t. t ≡ left ++ pair (arc_value entry.now) ∷ right) }
+{
+    joined(alloc, left, Arc::try_clone(entry)?, right)
+}
+
+/// The same, sharing all three.
 fn sharing<V: Drop>(
     alloc: Global,
     left: &Tree<V>,
@@ -225,7 +274,47 @@ fn sharing<V: Drop>(
     requires { IsTrue (sorted (left.now ++ pair (arc_value entry.now) ∷ right.now)) }
     ensures { IfOk result (λ t. t ≡ left.now ++ pair (arc_value entry.now) ∷ right.now) }
 {
-    joined(alloc, left.copy()?, Arc::try_clone(entry)?, right.copy()?)
+    sharing_sides(alloc, left, Arc::try_clone(entry)?, right)
+}
+
+/// The tree of a branch with another left side.
+fn with_left<V: Drop>(alloc: Global, left: Tree<V>, b: &Branch<V>) -> Result<Tree<V>, AllocError>
+    requires { IsTrue (sorted (left ++ pair (arc_value b.now.entry) ∷ b.now.right)) }
+    ensures { IfOk result (λ t. t ≡ left ++ pair (arc_value b.now.entry) ∷ b.now.right) }
+{
+    balanced(alloc, left, Arc::try_clone(&b.entry)?, b.right.copy()?)
+}
+
+/// The tree of a branch with another right side.
+fn with_right<V: Drop>(alloc: Global, b: &Branch<V>, right: Tree<V>) -> Result<Tree<V>, AllocError>
+    requires { IsTrue (sorted (b.now.left ++ pair (arc_value b.now.entry) ∷ right)) }
+    ensures { IfOk result (λ t. t ≡ b.now.left ++ pair (arc_value b.now.entry) ∷ right) }
+{
+    balanced_beside(alloc, &b.left, Arc::try_clone(&b.entry)?, right)
+}
+
+/// The tree of a branch without its entry.
+fn without_entry<V: Drop>(alloc: Global, b: &Branch<V>) -> Result<Tree<V>, AllocError>
+    requires { IsTrue (sorted (b.now.left ++ b.now.right)) }
+    ensures { IfOk result (λ t. t ≡ b.now.left ++ b.now.right) }
+{
+    match b.right.split_first(alloc)? {
+        None => b.left.copy(),
+        Some((first, right)) => balanced_beside(alloc, &b.left, first, right),
+    }
+}
+
+/// What `balanced` makes, sharing the left side.
+fn balanced_beside<V: Drop>(
+    alloc: Global,
+    left: &Tree<V>,
+    entry: Arc<Entry<V>>,
+    right: Tree<V>,
+) -> Result<Tree<V>, AllocError>
+    requires { IsTrue (sorted (left.now ++ pair (arc_value entry) ∷ right)) }
+    ensures { IfOk result (λ t. t ≡ left.now ++ pair (arc_value entry) ∷ right) }
+{
+    balanced(alloc, left.copy()?, entry, right)
 }
 
 /// The tree of a branch, turned where one side is two higher than the other.
@@ -248,7 +337,7 @@ fn balanced<V: Drop>(
     }
 }
 
-/// The same, where the left side is two higher.
+/// What `balanced` makes where the left side is two higher.
 fn lean_left<V: Drop>(
     alloc: Global,
     left: &Tree<V>,
@@ -260,26 +349,49 @@ fn lean_left<V: Drop>(
 {
     match &left.root {
         Link::Leaf => joined(alloc, Tree::new(), entry, right),
-        Link::Fork(outer) => {
+        Link::Fork(fork) => {
+            let outer: &Branch<V> = fork;
             if outer.left.height() < outer.right.height()
                 && let Link::Fork(inner) = &outer.right.root
             {
-                let low = sharing(alloc, &outer.left, &outer.entry, &inner.left)?;
-                let high = joined(alloc, inner.right.copy()?, entry, right)?;
-                return joined(alloc, low, Arc::try_clone(&inner.entry)?, high);
+                return twice_left(alloc, outer, inner, entry, right);
             }
-            let high = joined(alloc, outer.right.copy()?, entry, right)?;
-            joined(
-                alloc,
-                outer.left.copy()?,
-                Arc::try_clone(&outer.entry)?,
-                high,
-            )
+            once_left(alloc, outer, entry, right)
         }
     }
 }
 
-/// The same, where the right side is two higher.
+/// The left branch comes up.
+fn once_left<V: Drop>(
+    alloc: Global,
+    outer: &Branch<V>,
+    entry: Arc<Entry<V>>,
+    right: Tree<V>,
+) -> Result<Tree<V>, AllocError>
+    requires { IsTrue (sorted ((outer.now.left ++ pair (arc_value outer.now.entry) ∷ outer.now.right) ++ pair (arc_value entry) ∷ right)) }
+    ensures { IfOk result (λ t. t ≡ (outer.now.left ++ pair (arc_value outer.now.entry) ∷ outer.now.right) ++ pair (arc_value entry) ∷ right) }
+{
+    let high = sharing_left(alloc, &outer.right, entry, right)?;
+    sharing_left(alloc, &outer.left, Arc::try_clone(&outer.entry)?, high)
+}
+
+/// The right branch of the left one comes up.
+fn twice_left<V: Drop>(
+    alloc: Global,
+    outer: &Branch<V>,
+    inner: &Branch<V>,
+    entry: Arc<Entry<V>>,
+    right: Tree<V>,
+) -> Result<Tree<V>, AllocError>
+    requires { IsTrue (sorted ((outer.now.left ++ pair (arc_value outer.now.entry) ∷ (inner.now.left ++ pair (arc_value inner.now.entry) ∷ inner.now.right)) ++ pair (arc_value entry) ∷ right)) }
+    ensures { IfOk result (λ t. t ≡ (outer.now.left ++ pair (arc_value outer.now.entry) ∷ (inner.now.left ++ pair (arc_value inner.now.entry) ∷ inner.now.right)) ++ pair (arc_value entry) ∷ right) }
+{
+    let high = sharing_left(alloc, &inner.right, entry, right)?;
+    let low = sharing(alloc, &outer.left, &outer.entry, &inner.left)?;
+    sharing_entry(alloc, low, &inner.entry, high)
+}
+
+/// What `balanced` makes where the right side is two higher.
 fn lean_right<V: Drop>(
     alloc: Global,
     left: Tree<V>,
@@ -291,21 +403,44 @@ fn lean_right<V: Drop>(
 {
     match &right.root {
         Link::Leaf => joined(alloc, left, entry, Tree::new()),
-        Link::Fork(outer) => {
+        Link::Fork(fork) => {
+            let outer: &Branch<V> = fork;
             if outer.right.height() < outer.left.height()
                 && let Link::Fork(inner) = &outer.left.root
             {
-                let low = joined(alloc, left, entry, inner.left.copy()?)?;
-                let high = sharing(alloc, &inner.right, &outer.entry, &outer.right)?;
-                return joined(alloc, low, Arc::try_clone(&inner.entry)?, high);
+                return twice_right(alloc, left, entry, inner, outer);
             }
-            let low = joined(alloc, left, entry, outer.left.copy()?)?;
-            joined(
-                alloc,
-                low,
-                Arc::try_clone(&outer.entry)?,
-                outer.right.copy()?,
-            )
+            once_right(alloc, left, entry, outer)
         }
     }
+}
+
+/// The right branch comes up.
+fn once_right<V: Drop>(
+    alloc: Global,
+    left: Tree<V>,
+    entry: Arc<Entry<V>>,
+    outer: &Branch<V>,
+) -> Result<Tree<V>, AllocError>
+    requires { IsTrue (sorted (left ++ pair (arc_value entry) ∷ (outer.now.left ++ pair (arc_value outer.now.entry) ∷ outer.now.right))) }
+    ensures { IfOk result (λ t. t ≡ left ++ pair (arc_value entry) ∷ (outer.now.left ++ pair (arc_value outer.now.entry) ∷ outer.now.right)) }
+{
+    let low = sharing_right(alloc, left, entry, &outer.left)?;
+    sharing_right(alloc, low, Arc::try_clone(&outer.entry)?, &outer.right)
+}
+
+/// The left branch of the right one comes up.
+fn twice_right<V: Drop>(
+    alloc: Global,
+    left: Tree<V>,
+    entry: Arc<Entry<V>>,
+    inner: &Branch<V>,
+    outer: &Branch<V>,
+) -> Result<Tree<V>, AllocError>
+    requires { IsTrue (sorted (left ++ pair (arc_value entry) ∷ ((inner.now.left ++ pair (arc_value inner.now.entry) ∷ inner.now.right) ++ pair (arc_value outer.now.entry) ∷ outer.now.right))) }
+    ensures { IfOk result (λ t. t ≡ left ++ pair (arc_value entry) ∷ ((inner.now.left ++ pair (arc_value inner.now.entry) ∷ inner.now.right) ++ pair (arc_value outer.now.entry) ∷ outer.now.right)) }
+{
+    let low = sharing_right(alloc, left, entry, &inner.left)?;
+    let high = sharing(alloc, &inner.right, &outer.entry, &outer.right)?;
+    sharing_entry(alloc, low, &inner.entry, high)
 }

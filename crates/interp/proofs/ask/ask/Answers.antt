@@ -1,4 +1,4 @@
-use Rattle.std.proofs.Common.{◌≡◌, ◌∙◌, sym, subst, ap, Some, List, ℕ}
+use Rattle.std.proofs.Common.{◌≡◌, ◌∙◌, sym, subst, refl, Some, List, ℕ}
 use Rattle.helpers.specs.declared.helper.Helper.{Helper}
 use Rattle.helpers.specs.Table.{helper_of, row}
 use Rattle.interp.specs.declared.run.Run.{Run}
@@ -24,12 +24,8 @@ returns c =
     let run = c.args.run.now in
     let bytes = c.args.memory.now in
     let a = c.in_ok-answer-in-Some.ensures in
-    let after = c.answer.new.run in
-    let answer = c.in_ok-answer-in-Some.answer in
+    let after : Run = record run { staged = c.answer.new.staged; out_len = c.answer.new.out_len } in
     let found : helper_of c.args.id ≡ Some c.in-Some.helper = sym c.of.ensures ∙ c.in-Some.is in
     let N : List ℕ → Type 0 = λ l. Does run.caps run.staged.before run bytes (record after { registers = l }) c.answer.new.memory (help run.caps (first_layout run.caps) c.args.id) in
     subst N (sym c.set_answer.ensures)
-    (does run.caps run.staged.before run bytes c.args.id answer c.in-Some.helper after c.answer.new.memory found a.answer a.memory a.object a.before a.out_len
-    (ap (λ (r : Run). r.caps) a.rest)
-    (ap (λ (r : Run). r.registers) a.rest)
-    (ap (λ (r : Run). r.caller) a.rest))
+    (does run.caps run.staged.before run bytes c.args.id c.in_ok-answer-in-Some.answer c.in-Some.helper after c.answer.new.memory found a.answer a.memory a.object a.before a.out_len refl refl refl)

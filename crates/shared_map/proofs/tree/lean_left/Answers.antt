@@ -1,41 +1,20 @@
-use Rattle.std.proofs.Common.{◌≡◌, ◌∷◌, ◌++◌, ap, sym, ◌∙◌}
+use Rattle.std.proofs.Common.{◌∷◌, ◌++◌, ap, sym, ◌∙◌}
 use Rattle.std.specs.Arc.{arc_value}
 use Rattle.shared_map.specs.Tree.{pair, listed}
 use Rattle.shared_map.specs.declared.tree.Branch.{Branch}
-use Rattle.shared_map.proofs.Halves.{low_part, high_part, sorted-along, same_parts}
+use Rattle.shared_map.proofs.Halves.{sorted-along}
 use Rattle.shared_map.proofs.tree.lean_left.Goals as goal
 
-pub sharing-requires : goal.sharing-requires
-sharing-requires g c =
-    let o = arc_value c.in-Fork.outer in
-    let i = arc_value c.in-Fork-root.inner in
-    let right : o.right ≡ i.left ++ pair (arc_value i.entry) ∷ i.right = ap (λ (d : Branch g.row.V.Denot). d.right) (sym c.deref-in-Fork-2.ensures) ∙ ap (λ (d : Branch g.row.V.Denot). d.right) (sym c.behind-outer.view_is) ∙ ap listed c.in-Fork-root.is in
-    let h = sorted-along _ (o.left ++ pair (arc_value o.entry) ∷ (i.left ++ pair (arc_value i.entry) ∷ i.right)) (ap listed c.in-Fork.is ∙ ap (λ r. o.left ++ pair (arc_value o.entry) ∷ r) right) c.left.invariant in
-    sorted-along _ _
-    (sym (same_parts _ _ _ _ _ _
-    (ap (λ (d : Branch g.row.V.Denot). d.left) c.deref-in-Fork-3.ensures)
-    (ap (λ (d : Branch g.row.V.Denot). pair (arc_value d.entry)) c.deref-in-Fork-4.ensures)
-    (ap (λ (d : Branch g.row.V.Denot). d.left) c.deref-in-Fork-5.ensures)))
-    (low_part o.left (pair (arc_value o.entry)) i.left (pair (arc_value i.entry)) i.right h)
-
-pub joined-requires-in-Fork : goal.joined-requires-in-Fork
-joined-requires-in-Fork g c =
-    let o = arc_value c.in-Fork.outer in
-    let i = arc_value c.in-Fork-root.inner in
+pub twice_left-requires : goal.twice_left-requires
+twice_left-requires g c =
     let e = pair (arc_value c.args.entry) in
-    let right : o.right ≡ i.left ++ pair (arc_value i.entry) ∷ i.right = ap (λ (d : Branch g.row.V.Denot). d.right) (sym c.deref-in-Fork-2.ensures) ∙ ap (λ (d : Branch g.row.V.Denot). d.right) (sym c.behind-outer.view_is) ∙ ap listed c.in-Fork-root.is in
-    let h = sorted-along _ ((o.left ++ pair (arc_value o.entry) ∷ (i.left ++ pair (arc_value i.entry) ∷ i.right)) ++ e ∷ c.args.right)
-    (ap (λ l. l ++ e ∷ c.args.right) (sym c.left.view_is ∙ ap listed c.in-Fork.is ∙ ap (λ r. o.left ++ pair (arc_value o.entry) ∷ r) right)) c.requires in
-    sorted-along _ _
-    (ap (λ r. r ++ e ∷ c.args.right) (sym (c.in_ok-copy-in-Fork.ensures ∙ ap (λ (d : Branch g.row.V.Denot). d.right) c.deref-in-Fork-6.ensures)))
-    (high_part i.left (pair (arc_value i.entry)) i.right e c.args.right (high_part o.left (pair (arc_value o.entry)) (i.left ++ pair (arc_value i.entry) ∷ i.right) e c.args.right h))
+    let o = c.deref-outer.result.now in
+    let inner = ap (λ (d : Branch g.row.V.Denot). d.right) (sym c.outer.view_is) ∙ ap listed c.in-Fork-root.is ∙ ap (λ (d : Branch g.row.V.Denot). d.left ++ pair (arc_value d.entry) ∷ d.right) (sym c.deref.ensures) in
+    let outer = sym c.left.view_is ∙ ap listed c.in-Fork.is ∙ ap (λ (d : Branch g.row.V.Denot). d.left ++ pair (arc_value d.entry) ∷ d.right) (sym c.deref-outer.ensures) in
+    sorted-along _ _ (ap (λ l. l ++ e ∷ c.args.right) (outer ∙ ap (λ r. o.left ++ pair (arc_value o.entry) ∷ r) inner)) c.requires
 
-pub joined-requires-in-Fork-3 : goal.joined-requires-in-Fork-3
-joined-requires-in-Fork-3 g c =
-    let o = arc_value c.in-Fork.outer in
+pub once_left-requires : goal.once_left-requires
+once_left-requires g c =
     let e = pair (arc_value c.args.entry) in
-    let h = sorted-along _ ((o.left ++ pair (arc_value o.entry) ∷ o.right) ++ e ∷ c.args.right)
-    (ap (λ l. l ++ e ∷ c.args.right) (sym c.left.view_is ∙ ap listed c.in-Fork.is)) c.requires in
-    sorted-along _ _
-    (ap (λ r. r ++ e ∷ c.args.right) (sym (c.in_ok-copy-in-Fork-2.ensures ∙ ap (λ (d : Branch g.row.V.Denot). d.right) c.deref-in-Fork-8.ensures)))
-    (high_part o.left (pair (arc_value o.entry)) o.right e c.args.right h)
+    let outer = sym c.left.view_is ∙ ap listed c.in-Fork.is ∙ ap (λ (d : Branch g.row.V.Denot). d.left ++ pair (arc_value d.entry) ∷ d.right) (sym c.deref-outer.ensures) in
+    sorted-along _ _ (ap (λ l. l ++ e ∷ c.args.right) outer) c.requires

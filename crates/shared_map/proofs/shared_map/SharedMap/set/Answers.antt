@@ -5,7 +5,6 @@ use Rattle.std.proofs.lemmas.Cmp.{nat_list_cmp_total}
 use Rattle.std.specs.FinMap as fin
 use Rattle.std.specs.FinMap.{put}
 use Rattle.shared_map.specs.Entries.{sorted}
-use Rattle.shared_map.specs.declared.tree.Entry.{Entry}
 use Rattle.shared_map.proofs.Halves.{sorted-put}
 use Rattle.shared_map.proofs.Maps.{map_of, len-map, put-map}
 use Rattle.shared_map.proofs.shared_map.SharedMap.set.Goals as goal
@@ -15,10 +14,7 @@ invariant_of-self g c =
     let es = c.self.inside.tree in
     let k = c.args.key.now in
     let v = c.args.value in
-    let n : c.in_ok-self-inside.field-0 ≡ put (slice_cmp nat_cmp) k v es =
-    c.in_ok-self-inside.ensures
-    ∙ ap (λ (x : Entry g.row.V.Denot). put (slice_cmp nat_cmp) x.key.items x.value es) c.in_ok-new.ensures.ok
-    ∙ ap (λ q. put (slice_cmp nat_cmp) q v es) c.in_ok-key.ensures.items in
+    let n : c.in_ok-self-inside.field-0 ≡ put (slice_cmp nat_cmp) k v es = c.in_ok-self-inside.ensures in
     let m : c.in_ok-len.len ≡ length (put (slice_cmp nat_cmp) k v es) =
     c.in_ok-len.ensures
     ∙ sym (fin.len-insert nat_list_cmp_total c.args.self.now k v)
@@ -32,8 +28,5 @@ returns-clause-ok g c =
     let es = c.self.inside.tree in
     let k = c.args.key.now in
     let v = c.args.value in
-    let n : c.in_ok-self-inside.field-0 ≡ put (slice_cmp nat_cmp) k v es =
-    c.in_ok-self-inside.ensures
-    ∙ ap (λ (x : Entry g.row.V.Denot). put (slice_cmp nat_cmp) x.key.items x.value es) c.in_ok-new.ensures.ok
-    ∙ ap (λ q. put (slice_cmp nat_cmp) q v es) c.in_ok-key.ensures.items in
+    let n : c.in_ok-self-inside.field-0 ≡ put (slice_cmp nat_cmp) k v es = c.in_ok-self-inside.ensures in
     ap map_of n ∙ put-map es k v c.self.invariant.1 ∙ ap (λ m. fin.insert m k v) c.self.view_is

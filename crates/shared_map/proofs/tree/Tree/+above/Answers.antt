@@ -1,42 +1,47 @@
-use Rattle.std.proofs.Common.{◌≡◌, Some, None, ◌∷◌, ◌++◌, IsTrue, subst, ap, sym, ◌∙◌}
+use Rattle.std.proofs.Common.{◌≡◌, Some, None, ◌∷◌, ◌++◌, ap, sym, ◌∙◌}
 use Rattle.std.specs.Arc.{arc_value}
 use Rattle.std.specs.Ordering.{nat_cmp}
 use Rattle.std.specs.Cmp.Lexicographic.{slice_cmp}
 use Rattle.std.specs.declared.cmp.Ordering.TheVariants.{Less}
 use Rattle.std.specs.Option.{option_copied}
-use Rattle.shared_map.specs.Entries.{sorted, least_above}
+use Rattle.shared_map.specs.Entries.{least_above}
 use Rattle.shared_map.specs.Tree.{pair, listed}
 use Rattle.shared_map.specs.declared.tree.Branch.{Branch}
 use Rattle.shared_map.specs.declared.tree.Entry.{Entry}
-use Rattle.shared_map.proofs.Halves.{or_else, above-less, above-not_less}
+use Rattle.shared_map.proofs.Halves.{or_else, above-less, above-not_less, sorted-along}
 use Rattle.shared_map.proofs.tree.Tree.+above.Goals as goal
 
 pub returns-in-Some : goal.returns-in-Some
 returns-in-Some g t c =
-    let b = arc_value c.in-Fork.b in
-    let o : slice_cmp nat_cmp c.args.key.now (pair (arc_value b.entry)).0 ≡ Less = cc in
-    let f : least_above c.args.key.now b.left ≡ Some c.in-Some.found.now =
-    sym (c.above.ensures ∙ ap (λ (d : Branch g.row.V.Denot). least_above c.args.key.now d.left) c.deref-in-Less.ensures) ∙ ap option_copied c.in-Some.is in
-    let e = above-less c.args.key.now b.left (pair (arc_value b.entry)) b.right o ∙ ap (λ w. or_else w (Some (pair (arc_value b.entry)).0)) f in
-    let s = sym c.self.view_is ∙ ap listed c.in-Fork.is in
-    sym (ap (least_above c.args.key.now) s ∙ e)
+    let b = c.deref-b.result.now in
+    let e = pair (arc_value b.entry) in
+    let k = c.args.key.now in
+    let whole = ap listed c.in-Fork.is ∙ ap (λ (d : Branch g.row.V.Denot). d.left ++ pair (arc_value d.entry) ∷ d.right) (sym c.deref-b.ensures) in
+    let there = c.as_slice.ensures.value ∙ ap (λ (x : Entry g.row.V.Denot). x.key.items) c.deref-entry.ensures in
+    let o : slice_cmp nat_cmp k e.0 ≡ Less = sym (ap (slice_cmp nat_cmp k) there) ∙ sym c.cmp.ensures ∙ c.in-Less.is in
+    let f : least_above k b.left ≡ Some c.in-Some.found.now = sym c.above.ensures ∙ ap option_copied c.in-Some.is in
+    sym (ap (least_above k) (sym c.self.view_is ∙ whole) ∙ above-less k b.left e b.right o ∙ ap (λ w. or_else w (Some e.0)) f)
 
 pub returns-in-None : goal.returns-in-None
 returns-in-None g t c =
-    let b = arc_value c.in-Fork.b in
-    let o : slice_cmp nat_cmp c.args.key.now (pair (arc_value b.entry)).0 ≡ Less = cc in
-    let f : least_above c.args.key.now b.left ≡ None =
-    sym (c.above.ensures ∙ ap (λ (d : Branch g.row.V.Denot). least_above c.args.key.now d.left) c.deref-in-Less.ensures) ∙ ap option_copied c.in-None.is in
-    let e = above-less c.args.key.now b.left (pair (arc_value b.entry)) b.right o ∙ ap (λ w. or_else w (Some (pair (arc_value b.entry)).0)) f in
-    let s = sym c.self.view_is ∙ ap listed c.in-Fork.is in
-    let k = c.as_slice-in-None.ensures.value ∙ ap (λ (x : Entry g.row.V.Denot). x.key.items) (c.deref-entry.ensures ∙ ap (λ (d : Branch g.row.V.Denot). arc_value d.entry) c.deref.ensures) in
-    ap (λ q. Some q) k ∙ sym (ap (least_above c.args.key.now) s ∙ e)
+    let b = c.deref-b.result.now in
+    let e = pair (arc_value b.entry) in
+    let k = c.args.key.now in
+    let whole = ap listed c.in-Fork.is ∙ ap (λ (d : Branch g.row.V.Denot). d.left ++ pair (arc_value d.entry) ∷ d.right) (sym c.deref-b.ensures) in
+    let there = c.as_slice.ensures.value ∙ ap (λ (x : Entry g.row.V.Denot). x.key.items) c.deref-entry.ensures in
+    let o : slice_cmp nat_cmp k e.0 ≡ Less = sym (ap (slice_cmp nat_cmp k) there) ∙ sym c.cmp.ensures ∙ c.in-Less.is in
+    let f : least_above k b.left ≡ None = sym c.above.ensures ∙ ap option_copied c.in-None.is in
+    ap (λ q. Some q) (c.as_slice-in-None.ensures.value ∙ ap (λ (x : Entry g.row.V.Denot). x.key.items) c.deref-entry.ensures)
+    ∙ sym (ap (least_above k) (sym c.self.view_is ∙ whole) ∙ above-less k b.left e b.right o ∙ ap (λ w. or_else w (Some e.0)) f)
 
 pub returns-in_default : goal.returns-in_default
 returns-in_default g t c =
-    let b = arc_value c.in-Fork.b in
-    let h : IsTrue (sorted (b.left ++ pair (arc_value b.entry) ∷ b.right)) = subst (λ n. IsTrue (sorted (listed n))) c.in-Fork.is c.self.invariant in
-    let o : slice_cmp nat_cmp c.args.key.now (pair (arc_value b.entry)).0 ≡ c.cmp.result = cc in
-    let e = above-not_less c.args.key.now b.left (pair (arc_value b.entry)) b.right h (λ l. c.in_default.not-Less (sym o ∙ l)) in
-    let s = sym c.self.view_is ∙ ap listed c.in-Fork.is in
-    cc
+    let b = c.deref-b.result.now in
+    let e = pair (arc_value b.entry) in
+    let k = c.args.key.now in
+    let whole = ap listed c.in-Fork.is ∙ ap (λ (d : Branch g.row.V.Denot). d.left ++ pair (arc_value d.entry) ∷ d.right) (sym c.deref-b.ensures) in
+    let h = sorted-along _ (b.left ++ e ∷ b.right) whole c.self.invariant in
+    let there = c.as_slice.ensures.value ∙ ap (λ (x : Entry g.row.V.Denot). x.key.items) c.deref-entry.ensures in
+    let o : slice_cmp nat_cmp k e.0 ≡ c.cmp.result = sym (ap (slice_cmp nat_cmp k) there) ∙ sym c.cmp.ensures in
+    c.above-in_default.ensures
+    ∙ sym (ap (least_above k) (sym c.self.view_is ∙ whole) ∙ above-not_less k b.left e b.right h (λ l. c.in_default.not-Less (sym o ∙ l)))
