@@ -5,26 +5,23 @@ use Rattle.class_tool.specs.Files.{Disk, Holds}
 use Rattle.class_tool.specs.declared.failure.Failure.{Failure}
 use Rattle.pg_log.specs.Log.{Classes}
 use Rattle.sim_lines.specs.Lines.{lines_of}
-use Rattle.sim.specs.Run.{EndsBy, Grew}
+use Rattle.sim.specs.Drawing.{Course, Shows, course}
+use Rattle.sim.specs.Run.{EndsBy}
 use Rattle.sim.specs.declared.file.Ending.{Ending}
 use Rattle.sim.specs.declared.file.Ending.TheVariants.{Done, Bad, NoMemory, Unprinted}
 use Rattle.sim_tool.specs.Classes.{AreClasses, ClassesFail, names_of}
 use Rattle.sim_tool.specs.declared.asked.Simulation.{Simulation}
 
--- some text was printed, and no write or flush failed
-abbrev pub IsShown : Option (List ℕ) → Option (List ℕ) → Bool → Bool → Type 0
-IsShown old new failed fails = (text : List ℕ) × Grew old new failed fails text
+-- Of a drawing: it was printed whole, with no bad line or one, or nothing was for want of memory, or a write or a flush failed.
+abbrev pub IsDrawn : Course → Option (List ℕ) → Option (List ℕ) → Bool → Bool → Ending → Type 0
+IsDrawn run old new failed fails Done = Shows run false old new failed fails
+IsDrawn run old new failed fails Bad = Shows run true old new failed fails
+IsDrawn run old new failed fails NoMemory = (new ≡ old) × (fails ≡ failed)
+IsDrawn run old new failed fails Unprinted = fails ≡ true
 
--- Of a drawing: it was printed whole, or nothing was for want of memory, or a write or a flush failed.
-abbrev pub IsDrawn : Option (List ℕ) → Option (List ℕ) → Bool → Bool → Ending → Type 0
-IsDrawn old new failed fails Done = IsShown old new failed fails
-IsDrawn old new failed fails Bad = IsShown old new failed fails
-IsDrawn old new failed fails NoMemory = (new ≡ old) × (fails ≡ failed)
-IsDrawn old new failed fails Unprinted = fails ≡ true
-
--- A text was played: its lines were done and printed as they are defined to be, or it was drawn.
+-- A text was played: its lines were done and printed as they are defined to be, or their run was drawn.
 abbrev pub Plays : Bool → Classes → List (List ℕ) → List ℕ → Option (List ℕ) → Option (List ℕ) → Bool → Bool → Ending → Type 0
-Plays true classes names text old new failed fails ending = IsDrawn old new failed fails ending
+Plays true classes names text old new failed fails ending = IsDrawn (course classes names (lines_of text)) old new failed fails ending
 Plays false classes names text old new failed fails ending = EndsBy classes names (lines_of text) old new failed fails ending
 
 -- WHAT A SIMULATION IS: with the built-in classes and those of the tenants' files, the text that the file of events holds

@@ -1,4 +1,6 @@
 ghost use Rattle.std.specs.Prelude.{map};
+ghost use Rattle.sim.specs.Drawing.{course};
+ghost use Rattle.sim_lines.specs.Lines.{lines_of};
 ghost use Rattle.sim_tool.specs.Simulating.{IsDrawn, Plays};
 
 use class_tool::Output;
@@ -14,7 +16,7 @@ fn draw<O: Output>(
     text: &str,
     out: &mut O,
 ) -> Ending
-    ensures { IsDrawn (O.printed out.old) (O.printed out.new) (O.failed out.old) (O.failed out.new) result }
+    ensures { IsDrawn (course table.now (map (λ n. n.now) names.now) (lines_of text.now)) (O.printed out.old) (O.printed out.new) (O.failed out.old) (O.failed out.new) result }
 {
     let Ok(traced) = trace(alloc, table, names, text) else {
         return Ending::NoMemory;

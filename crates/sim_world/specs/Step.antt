@@ -1,6 +1,6 @@
 -- The nodes, the monitor and the messages of a file, and what a line makes of them. What a node does at an event is
 -- group_world's `local_step`, what it sends again its `unanswered`, and the monitor is its monitor.
-use Rattle.std.specs.Prelude.{◌≡◌, Result, Ok, Err, ℕ, zero, suc, nat_lt, Bool, true, false, List, [], ◌∷◌, ◌++◌, length, map, Option, Some, None, if◌then◌else◌, slice_get, slice_set, slice_index_or, replicate, codes}
+use Rattle.std.specs.Prelude.{◌≡◌, ⊤, Result, Ok, Err, ℕ, zero, suc, nat_lt, Bool, true, false, List, [], ◌∷◌, ◌++◌, length, map, Option, Some, None, if◌then◌else◌, slice_get, slice_set, slice_index_or, replicate, codes}
 use Rattle.std.specs.Option.{option_map}
 use Rattle.pg_log.specs.Requests.{ClientRequest}
 use Rattle.pg_log.specs.Log.{Classes}
@@ -205,3 +205,9 @@ IsTaken old new (Err why) o = (new ≡ old) × (o.refusal ≡ Some why)
 -- what came of a line, by the world after it and the text that was made
 abbrev pub happened_of : {S : Type 0} → (S → List ℕ) → SimWorld → Option S → Option Happened
 happened_of bytes w text = option_map (λ t. record { world = w; printed = bytes t }) text
+
+-- a bad line leaves all as it was
+abbrev pub OnBad : {S E : Type 0} → Result (Option S) E → Type 0 → Type 0
+OnBad (Ok None) p = p
+OnBad (Ok (Some text)) p = ⊤
+OnBad (Err error) p = ⊤

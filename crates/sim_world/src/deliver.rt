@@ -3,7 +3,7 @@ ghost use Rattle.std.specs.Prelude.{◌≡◌, Some, IfOk, string_bytes, codes};
 ghost use Rattle.group_world.specs.Monitor.{activation_refusal};
 ghost use Rattle.group_world.specs.World.{activated_for};
 ghost use Rattle.sim_lines.specs.Lines.{numbered};
-ghost use Rattle.sim_world.specs.Step.{at_monitor, deliver, deliver_to, activated, tells, nth_node, whole_log, list_told, come, comes_as, coming, unless_stopped, happened_of};
+ghost use Rattle.sim_world.specs.Step.{at_monitor, deliver, deliver_to, activated, tells, nth_node, whole_log, list_told, come, comes_as, coming, unless_stopped, happened_of, OnBad};
 
 use crate::print::refused_line;
 use crate::world::World;
@@ -101,7 +101,8 @@ fn log_of<C: Classes>(
 impl<C: Classes> World<C> {
     /// The monitor takes a message.
     fn at_monitor(&mut self, message: &Message) -> Result<Option<String>, AllocError>
-        ensures { IfOk result (λ t. happened_of string_bytes self.new t ≡ at_monitor self.old message.now.sender message.now.kind) }
+        ensures happened { IfOk result (λ t. happened_of string_bytes self.new t ≡ at_monitor self.old message.now.sender message.now.kind) }
+        ensures bad { OnBad result (self.new ≡ self.old) }
     {
         match &message.kind {
             Kind::AskActivate(interval) => self.activate(message.sender, *interval).map(Some),
@@ -117,7 +118,8 @@ impl<C: Classes> World<C> {
         message: Message,
     ) -> Result<Option<String>, AllocError>
         requires { table.now ≡ C.classes }
-        ensures { IfOk result (λ t. happened_of string_bytes self.new t ≡ deliver_to table.now self.old receiver message) }
+        ensures happened { IfOk result (λ t. happened_of string_bytes self.new t ≡ deliver_to table.now self.old receiver message) }
+        ensures bad { OnBad result (self.new ≡ self.old) }
     {
         match receiver {
             Party::Node(node) => self.at_node(table, node, Event::Message(message)),
@@ -144,7 +146,8 @@ impl<C: Classes> World<C> {
         message: Option<Message>,
     ) -> Result<Option<String>, AllocError>
         requires { table.now ≡ C.classes }
-        ensures { IfOk result (λ t. happened_of string_bytes self.new t ≡ unless_stopped self.old node (list_told table.now self.old node message)) }
+        ensures happened { IfOk result (λ t. happened_of string_bytes self.new t ≡ unless_stopped self.old node (list_told table.now self.old node message)) }
+        ensures bad { OnBad result (self.new ≡ self.old) }
     {
         match message {
             Some(message) => self.at_node(table, node, Event::Message(message)),
@@ -165,7 +168,8 @@ impl<C: Classes> World<C> {
     /// A message comes.
     fn come(&mut self, table: &ClassTable, coming: Coming) -> Result<Option<String>, AllocError>
         requires { table.now ≡ C.classes }
-        ensures { IfOk result (λ t. happened_of string_bytes self.new t ≡ come table.now self.old (Some coming)) }
+        ensures happened { IfOk result (λ t. happened_of string_bytes self.new t ≡ come table.now self.old (Some coming)) }
+        ensures bad { OnBad result (self.new ≡ self.old) }
     {
         match coming {
             Coming::Told(receiver, message) => self.deliver_to(table, receiver, message),
@@ -180,7 +184,8 @@ impl<C: Classes> World<C> {
         number: u64,
     ) -> Result<Option<String>, AllocError>
         requires { table.now ≡ C.classes }
-        ensures { IfOk result (λ t. happened_of string_bytes self.new t ≡ deliver table.now self.old number) }
+        ensures happened { IfOk result (λ t. happened_of string_bytes self.new t ≡ deliver table.now self.old number) }
+        ensures bad { OnBad result (self.new ≡ self.old) }
     {
         match self.coming(number)? {
             Some(coming) => self.come(table, coming),

@@ -2,7 +2,7 @@ ghost use Rattle.std.specs.Prelude.{◌≡◌, ◌&&◌, not, IfOk, IsTrue, IsFa
 ghost use Rattle.group_world.specs.Monitor.{map_refusal};
 ghost use Rattle.group_world.specs.Rules.{local_step};
 ghost use Rattle.sim_lines.specs.Lines.{numbered};
-ghost use Rattle.sim_world.specs.Step.{Happened, opening, fresh_nodes, step, is_node, is_stopped, see, show, at_node, made_map, set_stopped, sends_again, unless_stopped, handled, happened_of, prints, IsTaken};
+ghost use Rattle.sim_world.specs.Step.{Happened, opening, fresh_nodes, step, is_node, is_stopped, see, show, at_node, made_map, set_stopped, sends_again, unless_stopped, handled, happened_of, prints, IsTaken, OnBad};
 
 use crate::keeping::keep_sent;
 use crate::print::{map_line, node_line, refused_line};
@@ -167,7 +167,8 @@ impl<C: Classes> World<C> {
         event: Event,
     ) -> Result<Option<String>, AllocError>
         requires { table.now ≡ C.classes }
-        ensures { IfOk result (λ t. happened_of string_bytes self.new t ≡ at_node table.now self.old node event) }
+        ensures happened { IfOk result (λ t. happened_of string_bytes self.new t ≡ at_node table.now self.old node event) }
+        ensures bad { OnBad result (self.new ≡ self.old) }
     {
         if self.runs(node) {
             return self.handle(table, node, event).map(Some);
@@ -198,7 +199,8 @@ impl<C: Classes> World<C> {
         epoch: u64,
     ) -> Result<Option<String>, AllocError>
         requires { table.now ≡ C.classes }
-        ensures { IfOk result (λ t. happened_of string_bytes self.new t ≡ see table.now self.old node (numbered self.old.maps epoch)) }
+        ensures happened { IfOk result (λ t. happened_of string_bytes self.new t ≡ see table.now self.old node (numbered self.old.maps epoch)) }
+        ensures bad { OnBad result (self.new ≡ self.old) }
     {
         match numbered(&self.maps, epoch) {
             Some(map) => {
@@ -221,7 +223,8 @@ impl<C: Classes> World<C> {
 
     /// A node stops, or goes on.
     fn set_stopped(&mut self, node: NodeId, stopped: bool) -> Result<Option<String>, AllocError>
-        ensures { IfOk result (λ t. happened_of string_bytes self.new t ≡ set_stopped self.old node stopped) }
+        ensures happened { IfOk result (λ t. happened_of string_bytes self.new t ≡ set_stopped self.old node stopped) }
+        ensures bad { OnBad result (self.new ≡ self.old) }
     {
         if !self.is_node(node) {
             return Ok(None);
@@ -254,12 +257,13 @@ impl<C: Classes> World<C> {
         self.stands(node)
     }
 
-    /// What a line comes to, and what is printed of it; nothing where it is bad. It fails for want of memory alone, and
-    /// is then of no further use. Each line costs what its event costs at the node, and a copy of the message that it
-    /// delivers.
+    /// What a line comes to, and what is printed of it; nothing where it is bad, and all is then as before. It fails for
+    /// want of memory alone, and is then of no further use. Each line costs what its event costs at the node, and a copy
+    /// of the message that it delivers.
     pub fn take(&mut self, table: &ClassTable, line: Line) -> Result<Option<String>, AllocError>
         requires { table.now ≡ C.classes }
-        ensures { IfOk result (λ t. happened_of string_bytes self.new t ≡ step table.now self.old line) }
+        ensures happened { IfOk result (λ t. happened_of string_bytes self.new t ≡ step table.now self.old line) }
+        ensures bad { OnBad result (self.new ≡ self.old) }
     {
         match line {
             Line::Empty => self.says(""),
