@@ -7,8 +7,8 @@ use Rattle.pg_log.specs.Log.{Classes}
 use Rattle.sim_lines.specs.Lines.{lines_of}
 use Rattle.sim.specs.Drawing.{Course, Shows, course}
 use Rattle.sim.specs.Run.{EndsBy}
-use Rattle.sim.specs.declared.file.Ending.{Ending}
-use Rattle.sim.specs.declared.file.Ending.TheVariants.{Done, Bad, NoMemory, Unprinted}
+pub use Rattle.sim.specs.declared.file.Ending.{Ending}
+pub use Rattle.sim.specs.declared.file.Ending.TheVariants.{Done, Bad, NoMemory, Unprinted}
 use Rattle.sim_tool.specs.Classes.{AreClasses, ClassesFail, names_of}
 use Rattle.sim_tool.specs.declared.asked.Simulation.{Simulation}
 

@@ -9,4 +9,5 @@ mod play;
 mod tool;
 
 pub use asked::{OWN_LIMIT, OwnClass, Simulation};
+pub use sim::Ending;
 pub use tool::simulate;
