@@ -1,68 +1,75 @@
 mod class_texts;
 mod limits;
 
+use super::decoding::{are_read, are_written, is_printed, mov, register_of};
 use bpf_asm::{
     AsmError, AsmFault, assemble, assemble_class, disassemble, disassemble_class, one_class_text,
     one_reading, one_text,
 };
 use bpf_decode::{
-    Arithmetic, Bits, ByteOrder, Comparison, EndWidth, Insn, Operand, Register, SignedMove,
-    SignedWidth, Width, decode, encode,
+    Arithmetic, Bits, ByteOrder, ClassImage, Comparison, EndWidth, Insn, Operand, Register,
+    SignedMove, SignedWidth, Width, encode,
 };
 use class_texts::{
     LOCK, LOCK_PLAIN, ONE_METHOD, ONE_METHOD_PLAIN, OTHERS, TWO_METHODS, TWO_METHODS_PLAIN,
 };
-use std::alloc::{AllocError, Global};
+use std::alloc::Global;
 use std::process::Abort;
 
-fn register(rt: &impl Abort, number: u8) -> Register {
-    Register::new(number).expect(rt, "a register")
+/// Whether the instructions' bytes are read as the same instructions.
+fn are_read_again(alloc: Global, insns: &[Insn]) -> bool {
+    match encode(alloc, insns) {
+        Ok(bytes) => are_read(alloc, &bytes, insns),
+        Err(_) => false,
+    }
 }
 
-/// The text of a row, where `/` stands for the end of a line.
-fn lines_of<R: Abort>(rt: &R, alloc: Global, row: &str) -> String {
-    row.replace(alloc, '/', "\n").expect(rt, "memory")
+/// Whether that text was printed.
+fn is_text(printed: Result<String, AsmError>, text: &str) -> bool {
+    match printed {
+        Ok(printed) => printed.as_str() == text,
+        Err(_) => false,
+    }
 }
 
-/// The instructions that are read of the instructions' bytes.
-fn read_again(rt: &impl Abort, alloc: Global, insns: &[Insn]) -> Vec<Insn> {
-    let bytes = encode(alloc, insns).expect(rt, "memory");
-    decode(alloc, &bytes).expect(rt, "instructions")
+/// Whether the text is assembled, and the bytes that it gives are read and printed as `canonical`.
+fn is_read(alloc: Global, text: &str, canonical: &str) -> bool {
+    match assemble(alloc, text) {
+        Ok(insns) => {
+            are_read_again(alloc, &insns) && is_text(disassemble(alloc, &insns), canonical)
+        }
+        Err(_) => false,
+    }
 }
 
-/// The instructions' bytes are read as the same instructions.
-fn is_read_again(rt: &impl Abort, alloc: Global, insns: &[Insn]) {
-    let again = read_again(rt, alloc, insns);
-    assert!(rt; are(&again, insns));
+/// The refusal of the text, as a class or as a method's instructions.
+fn refusal(alloc: Global, text: &str, of_class: bool) -> Option<AsmError> {
+    if of_class {
+        assemble_class(alloc, text).err()
+    } else {
+        assemble(alloc, text).err()
+    }
 }
 
-fn are(found: &[Insn], wanted: &[Insn]) -> bool {
-    found == wanted
+/// How many instructions the text is.
+fn count_of(alloc: Global, text: &str) -> Result<usize, AsmError> {
+    Ok(assemble(alloc, text)?.len())
 }
 
-/// What is printed of the instructions of the text, whose bytes are read as the same ones.
-fn printed_again(rt: &impl Abort, alloc: Global, text: &str) -> String {
-    let insns = assemble(alloc, text).expect(rt, "instructions");
-    is_read_again(rt, alloc, &insns);
-    disassemble(alloc, &insns).expect(rt, "memory")
+/// Whether the text's instructions have those bytes.
+fn has_bytes(alloc: Global, text: &str, bytes: &[u8]) -> bool {
+    match assemble(alloc, text) {
+        Ok(insns) => are_written(alloc, &insns, bytes),
+        Err(_) => false,
+    }
 }
 
-/// The text is assembled, and the bytes that it gives are read and printed as `canonical`.
-fn reads(rt: &impl Abort, alloc: Global, text: &str, canonical: &str) {
-    let printed = printed_again(rt, alloc, text);
-    assert!(rt; printed.as_str() == canonical);
-}
-
-/// The text is refused so.
-fn refuses(rt: &impl Abort, alloc: Global, text: &str, line: usize, fault: AsmFault) {
-    let error = assemble(alloc, text).err();
-    assert!(rt; error == Some(AsmError { line, fault }), "{text}");
-}
-
-/// The bytes of the text's instructions.
-fn bytes_of(rt: &impl Abort, alloc: Global, text: &str) -> Vec<u8> {
-    let insns = assemble(alloc, text).expect(rt, "instructions");
-    encode(alloc, &insns).expect(rt, "memory")
+/// Whether the text is assembled as those instructions.
+fn is_assembled(alloc: Global, text: &str, wanted: &[Insn]) -> bool {
+    match assemble(alloc, text) {
+        Ok(insns) => insns.as_slice() == wanted,
+        Err(_) => false,
+    }
 }
 
 /// The bytes of a load and of a comparison.
@@ -72,39 +79,42 @@ const TWO: [u8; 16] = [
 
 #[test]
 fn bytes_of_lines(rt: HostRuntime) {
-    let bytes = bytes_of(&rt, rt.alloc(), "ldxw r0, [r1+4]\njgt r2, 15, +3\n");
-    assert!(rt; bytes.as_slice() == TWO.as_slice());
+    assert!(rt; has_bytes(rt.alloc(), "ldxw r0, [r1+4]\njgt r2, 15, +3\n", &TWO));
+}
+
+/// Writes a text behind a text.
+fn put(rt: &impl Abort, text: &mut String, behind: &str) {
+    text.push_str(behind).expect(rt, "memory");
 }
 
 /// Writes a word with an ending and an operand.
-fn put_line(text: &mut String, word: &str, ending: &str, operand: &str) -> Result<(), AllocError> {
-    text.push_str(word)?;
-    text.push_str(ending)?;
-    text.push_str(operand)
+fn put_line(rt: &impl Abort, text: &mut String, word: &str, ending: &str, operand: &str) {
+    put(rt, text, word);
+    put(rt, text, ending);
+    put(rt, text, operand);
 }
 
 /// Writes a word with each of the operands, without and with `32`.
-fn put_lines(text: &mut String, word: &str, operands: &[&str]) -> Result<(), AllocError> {
+fn put_lines(rt: &impl Abort, text: &mut String, word: &str, operands: &[&str]) {
     for operand in operands {
-        put_line(text, word, "", operand)?;
-        put_line(text, word, "32", operand)?;
+        put_line(rt, text, word, "", operand);
+        put_line(rt, text, word, "32", operand);
     }
-    Ok(())
 }
 
 /// Each word with each of the operands, without and with `32`, a line each.
 fn lines(rt: &impl Abort, alloc: Global, words: &[&str], operands: &[&str]) -> String {
     let mut text = String::new(alloc);
     for word in words {
-        put_lines(&mut text, word, operands).expect(rt, "memory");
+        put_lines(rt, &mut text, word, operands);
     }
     text
 }
 
-/// Those lines are read and printed as they are.
-fn reads_lines(rt: &impl Abort, alloc: Global, words: &[&str], operands: &[&str]) {
+/// Whether those lines are read and printed as they are.
+fn are_lines_read(rt: &impl Abort, alloc: Global, words: &[&str], operands: &[&str]) -> bool {
     let text = lines(rt, alloc, words, operands);
-    reads(rt, alloc, text.as_str(), text.as_str());
+    is_read(alloc, &text, &text)
 }
 
 /// Words of arithmetic and of conditional jumps, each also with `32`.
@@ -119,14 +129,15 @@ const COMPARISONS: [&str; 11] = [
 
 #[test]
 fn every_form(rt: HostRuntime) {
-    reads_lines(&rt, rt.alloc(), &ARITHMETIC, &[" r1, r2\n", " r10, -5\n"]);
-    reads(&rt, rt.alloc(), OTHERS, OTHERS);
+    let operands = [" r1, r2\n", " r10, -5\n"];
+    assert!(rt; are_lines_read(&rt, rt.alloc(), &ARITHMETIC, &operands));
+    assert!(rt; is_read(rt.alloc(), OTHERS, OTHERS));
 }
 
 #[test]
 fn every_branch(rt: HostRuntime) {
     let operands = [" r2, 15, +3\n", " r2, r3, -32768\n"];
-    reads_lines(&rt, rt.alloc(), &COMPARISONS, &operands);
+    assert!(rt; are_lines_read(&rt, rt.alloc(), &COMPARISONS, &operands));
 }
 
 /// Instructions of several forms, as text.
@@ -198,9 +209,9 @@ fn several(r0: Register, r1: Register, r2: Register) -> [Insn; 11] {
 
 #[test]
 fn instructions_of_lines(rt: HostRuntime) {
-    let wanted = several(register(&rt, 0), register(&rt, 1), register(&rt, 2));
-    let insns = assemble(rt.alloc(), SEVERAL).expect(&rt, "instructions");
-    assert!(rt; are(&insns, &wanted));
+    let (r0, r1) = (register_of(&rt, 0), register_of(&rt, 1));
+    let wanted = several(r0, r1, register_of(&rt, 2));
+    assert!(rt; is_assembled(rt.alloc(), SEVERAL, &wanted));
 }
 
 /// Texts and their canonical texts, with `/` for the end of a line.
@@ -221,22 +232,9 @@ r1:/call  local\tr1 => call local -1/
 ja32 +0x10 => ja32 +16/
 ";
 
-/// The row's text is read, and printed as its canonical one.
-fn reads_row<R: Abort>(rt: &R, alloc: Global, row: &str) {
-    let (text, canonical) = row.split_once(" => ").expect(rt, "a row");
-    let canonical = lines_of(rt, alloc, canonical);
-    let text = lines_of(rt, alloc, text);
-    reads(rt, alloc, text.as_str(), canonical.as_str());
-}
-
 #[test]
 fn also_read(rt: HostRuntime) {
-    let mut count = 0usize;
-    for row in ALSO_READ.lines() {
-        reads_row(&rt, rt.alloc(), row);
-        count = count.saturating_add(1);
-    }
-    assert!(rt; count == 15);
+    are_right(&rt, rt.alloc(), ALSO_READ, false, 15);
 }
 
 /// The line, the fault and the text, with `/` for the end of a line.
@@ -285,61 +283,92 @@ const REFUSED: &str = "1 Range
 2 Operand mov r0, 1/mov r0/foo
 ";
 
+/// The faults of the rows.
+const FAULTS: [(&str, AsmFault); 4] = [
+    ("Word", AsmFault::Word),
+    ("Operand", AsmFault::Operand),
+    ("Range", AsmFault::Range),
+    ("Label", AsmFault::Label),
+];
+
+/// The fault of that name.
 fn fault_of(name: &str) -> AsmFault {
-    match name {
-        "Word" => AsmFault::Word,
-        "Operand" => AsmFault::Operand,
-        "Range" => AsmFault::Range,
-        "Label" => AsmFault::Label,
-        _ => AsmFault::NoMemory,
+    for (its_name, fault) in &FAULTS {
+        if *its_name == name {
+            return *fault;
+        }
     }
+    AsmFault::NoMemory
+}
+
+/// What stands in the row before and behind its first space.
+fn cut<'a>(rt: &impl Abort, row: &'a str) -> (&'a str, &'a str) {
+    row.split_once(" ").expect(rt, "a space")
 }
 
 /// A fault, its line, and the text that has it.
-fn row_of<R: Abort>(rt: &R, alloc: Global, row: &str) -> (AsmError, String) {
-    let (line, rest) = row.split_once(" ").expect(rt, "a line");
-    let (fault, text) = rest.split_once(" ").expect(rt, "a fault");
+fn row_of<'a>(rt: &impl Abort, row: &'a str) -> (AsmError, &'a str) {
+    let (line, rest) = cut(rt, row);
+    let (fault, text) = cut(rt, rest);
     let line = line.parse::<usize>().expect(rt, "a number");
     let fault = fault_of(fault);
-    (AsmError { line, fault }, lines_of(rt, alloc, text))
+    (AsmError { line, fault }, text)
+}
+
+/// Whether the row's text is refused so.
+fn is_row_refused(rt: &impl Abort, alloc: Global, row: &str, of_class: bool) -> bool {
+    let (error, text) = row_of(rt, row);
+    refusal(alloc, text, of_class) == Some(error)
+}
+
+/// Whether the row's text is read as what stands behind ` => `, or else refused as stands before it.
+fn is_row_right(rt: &impl Abort, alloc: Global, row: &str, of_class: bool) -> bool {
+    match row.split_once(" => ") {
+        Some((text, canonical)) => is_read(alloc, text, canonical),
+        None => is_row_refused(rt, alloc, row, of_class),
+    }
+}
+
+/// The same of a row with `/` for the end of a line.
+fn is_right<R: Abort>(rt: &R, alloc: Global, row: &str, of_class: bool) -> bool {
+    let row = row.replace(alloc, '/', "\n").expect(rt, "memory");
+    is_row_right(rt, alloc, &row, of_class)
+}
+
+/// So many rows there are, and each is right.
+fn are_right(rt: &impl Abort, alloc: Global, rows: &str, of_class: bool, wanted: usize) {
+    let mut count = 0usize;
+    for row in rows.lines() {
+        assert!(rt; is_right(rt, alloc, row, of_class), "{row}");
+        count = count.saturating_add(1);
+    }
+    assert!(rt; count == wanted);
 }
 
 #[test]
 fn refused(rt: HostRuntime) {
-    let mut count = 0usize;
-    for row in REFUSED.lines() {
-        let (error, text) = row_of(&rt, rt.alloc(), row);
-        assert!(rt;
-            assemble(rt.alloc(), text.as_str()).err() == Some(error),
-            "{row}"
-        );
-        count = count.saturating_add(1);
-    }
-    assert!(rt; count == 43);
+    are_right(&rt, rt.alloc(), REFUSED, false, 43);
 }
 
-/// 2,048 wide loads, which are 4,096 slots, and the lines behind them.
-fn wide_loads(rt: &impl Abort, alloc: Global, behind: &str) -> String {
-    let mut text = "lddw r1, 5\n".repeat(alloc, 2048).expect(rt, "memory");
-    text.push_str(behind).expect(rt, "memory");
+/// A line so many times, and the lines behind it.
+fn repeated(rt: &impl Abort, alloc: Global, line: &str, count: usize, behind: &str) -> String {
+    let mut text = line.repeat(alloc, count).expect(rt, "memory");
+    put(rt, &mut text, behind);
     text
 }
 
-/// How many instructions the text is.
-fn count_of(rt: &impl Abort, alloc: Global, text: &str) -> usize {
-    assemble(alloc, text).expect(rt, "instructions").len()
-}
-
+/// 2,048 wide loads are 4,096 slots.
 #[test]
 fn slots(rt: HostRuntime) {
-    let wide = wide_loads(&rt, rt.alloc(), "");
-    assert!(rt; count_of(&rt, rt.alloc(), wide.as_str()) == 2048);
+    let text = repeated(&rt, rt.alloc(), "lddw r1, 5\n", 2048, "");
+    assert!(rt; count_of(rt.alloc(), &text) == Ok(2048));
 }
 
 #[test]
 fn a_slot_too_many(rt: HostRuntime) {
-    let text = wide_loads(&rt, rt.alloc(), "exit\n");
-    refuses(&rt, rt.alloc(), text.as_str(), 2049, AsmFault::Range);
+    let text = repeated(&rt, rt.alloc(), "lddw r1, 5\n", 2048, "exit\n");
+    let (line, fault) = (2049, AsmFault::Range);
+    assert!(rt; refusal(rt.alloc(), &text, false) == Some(AsmError { line, fault }));
 }
 
 /// The laws are called: they do nothing.
@@ -352,49 +381,53 @@ fn laws(_rt: HostRuntime) {
 
 #[test]
 fn prints(rt: HostRuntime) {
-    let line = 4;
-    let fault = AsmFault::Operand;
-    let text = AsmError { line, fault }
-        .to_string(rt.alloc())
-        .expect(&rt, "memory");
-    assert!(rt; text.as_str() == "line 4: 2 Operand");
+    let (line, fault) = (4, AsmFault::Operand);
+    assert!(rt; is_printed(rt.alloc(), &AsmError { line, fault }, "line 4: 2 Operand"));
     assert!(rt; AsmFault::NoMemory.number() == 5);
-}
-
-/// What is printed of `mov r0, 0` and `exit`.
-fn printed_pair(rt: &impl Abort, alloc: Global) -> String {
-    let mov = Insn::Mov {
-        bits: Bits::Bits64,
-        dst: register(rt, 0),
-        source: Operand::Immediate(0),
-    };
-    disassemble(alloc, &[mov, Insn::Exit]).expect(rt, "memory")
 }
 
 #[test]
 fn prints_instructions(rt: HostRuntime) {
-    let text = printed_pair(&rt, rt.alloc());
-    assert!(rt; text.as_str() == "mov r0, 0\nexit\n");
+    let insns = [mov(register_of(&rt, 0), Operand::Immediate(0)), Insn::Exit];
+    let printed = disassemble(rt.alloc(), &insns);
+    assert!(rt; is_text(printed, "mov r0, 0\nexit\n"));
 }
 
-/// What is printed of the class of the text.
-fn printed_class<R: Abort>(rt: &R, alloc: Global, text: &str) -> String {
-    let class = assemble_class(alloc, text).expect(rt, "a class");
-    disassemble_class(alloc, &class).expect(rt, "memory")
+/// Whether the class is printed as that text.
+fn is_class_printed(alloc: Global, class: &ClassImage, text: &str) -> Result<bool, AsmError> {
+    Ok(disassemble_class(alloc, class)?.as_str() == text)
 }
 
-/// The class's text is read, and printed as `canonical`.
-fn reads_class<R: Abort>(rt: &R, alloc: Global, text: &str, canonical: &str) {
-    let printed = printed_class(rt, alloc, text);
-    assert!(rt; printed.as_str() == canonical, "{text}");
+/// Whether the class of the text is printed as `canonical`.
+fn is_class_read(alloc: Global, text: &str, canonical: &str) -> Result<bool, AsmError> {
+    match assemble_class(alloc, text) {
+        Ok(class) => is_class_printed(alloc, &class, canonical),
+        Err(error) => Err(error),
+    }
 }
+
+/// Whether that was found.
+fn is_true(found: Result<bool, AsmError>) -> bool {
+    found == Ok(true)
+}
+
+/// Texts of classes, and how they are printed.
+const CLASSES: [(&str, &str); 4] = [
+    (LOCK, LOCK_PLAIN),
+    (LOCK_PLAIN, LOCK_PLAIN),
+    (ONE_METHOD, ONE_METHOD_PLAIN),
+    (TWO_METHODS, TWO_METHODS_PLAIN),
+];
 
 #[test]
 fn classes(rt: HostRuntime) {
-    reads_class(&rt, rt.alloc(), LOCK, LOCK_PLAIN);
-    reads_class(&rt, rt.alloc(), LOCK_PLAIN, LOCK_PLAIN);
-    reads_class(&rt, rt.alloc(), ONE_METHOD, ONE_METHOD_PLAIN);
-    reads_class(&rt, rt.alloc(), TWO_METHODS, TWO_METHODS_PLAIN);
+    for row in &CLASSES {
+        let (text, canonical) = *row;
+        assert!(rt;
+            is_true(is_class_read(rt.alloc(), text, canonical)),
+            "{text}"
+        );
+    }
 }
 
 /// The same of classes.
@@ -424,45 +457,26 @@ const REFUSED_CLASSES: &str = "1 Range
 
 #[test]
 fn refused_classes(rt: HostRuntime) {
-    let mut count = 0usize;
-    for row in REFUSED_CLASSES.lines() {
-        let (error, text) = row_of(&rt, rt.alloc(), row);
-        assert!(rt;
-            assemble_class(rt.alloc(), text.as_str()).err() == Some(error),
-            "{row}"
-        );
-        count = count.saturating_add(1);
-    }
-    assert!(rt; count == 22);
+    are_right(&rt, rt.alloc(), REFUSED_CLASSES, true, 22);
 }
+
+/// Memory ran out, at line 0.
+const LACK: AsmError = AsmError {
+    line: 0,
+    fault: AsmFault::NoMemory,
+};
 
 /// Right, or out of memory at line 0: what a run sees in which one allocation fails.
 #[test]
 fn memory(rt: HostRuntime) {
     let text = ".method f r 0 0\na:\nmov r0, 1\njeq r0, r1, a\nexit\n";
-    let found = match assemble_class(rt.alloc(), text) {
-        Ok(class) => disassemble_class(rt.alloc(), &class),
-        Err(error) => Err(error),
-    };
     let printed = ".method f r 0 0\nmov r0, 1\njeq r0, r1, -2\nexit\n";
-    assert!(rt; is_or_lacks(found, printed));
-}
-
-/// Whether that text was found, or memory ran out at line 0.
-fn is_or_lacks(found: Result<String, AsmError>, text: &str) -> bool {
-    let fault = AsmFault::NoMemory;
-    match found {
-        Ok(found) => found.as_str() == text,
-        Err(error) => error == AsmError { line: 0, fault },
-    }
+    let found = is_class_read(rt.alloc(), text, printed);
+    assert!(rt; found == Ok(true) || found == Err(LACK));
 }
 
 #[test]
 fn memory_of_one_method(rt: HostRuntime) {
-    let fault = AsmFault::NoMemory;
-    let right = match assemble(rt.alloc(), "ja a\nexit\na:\nexit") {
-        Ok(insns) => insns.len() == 3,
-        Err(error) => error == AsmError { line: 0, fault },
-    };
-    assert!(rt; right);
+    let found = count_of(rt.alloc(), "ja a\nexit\na:\nexit");
+    assert!(rt; found == Ok(3) || found == Err(LACK));
 }

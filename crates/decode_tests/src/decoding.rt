@@ -7,6 +7,7 @@ use bpf_decode::{
     width, write_image,
 };
 use std::alloc::Global;
+use std::fmt::Display;
 use std::process::Abort;
 
 /// One method `f`, flags 1, capacities 0, the code `mov r0, 0` and `exit`.
@@ -83,7 +84,7 @@ fn store(width: Width, base: Register, offset: i16, source: Operand) -> Insn {
     }
 }
 
-fn mov(dst: Register, source: Operand) -> Insn {
+pub(super) fn mov(dst: Register, source: Operand) -> Insn {
     Insn::Mov {
         bits: Bits::Bits64,
         dst,
@@ -91,7 +92,7 @@ fn mov(dst: Register, source: Operand) -> Insn {
     }
 }
 
-fn register_of(rt: &impl Abort, number: u8) -> Register {
+pub(super) fn register_of(rt: &impl Abort, number: u8) -> Register {
     Register::new(number).expect(rt, "a register")
 }
 
@@ -147,7 +148,7 @@ fn last_insns(rt: &impl Abort) -> [Insn; 12] {
 }
 
 /// Whether the instructions are written as those bytes.
-fn are_written(alloc: Global, insns: &[Insn], bytes: &[u8]) -> bool {
+pub(super) fn are_written(alloc: Global, insns: &[Insn], bytes: &[u8]) -> bool {
     match encode(alloc, insns) {
         Ok(code) => code.as_slice() == bytes,
         Err(_) => false,
@@ -155,7 +156,7 @@ fn are_written(alloc: Global, insns: &[Insn], bytes: &[u8]) -> bool {
 }
 
 /// Whether the bytes are read as those instructions.
-fn are_read(alloc: Global, bytes: &[u8], insns: &[Insn]) -> bool {
+pub(super) fn are_read(alloc: Global, bytes: &[u8], insns: &[Insn]) -> bool {
     match decode(alloc, bytes) {
         Ok(read) => read.as_slice() == insns,
         Err(_) => false,
@@ -209,8 +210,8 @@ fn last_instructions(rt: HostRuntime) {
 #[test]
 fn widths(rt: HostRuntime) {
     let mut slots = 0u64;
-    for insn in first_insns(&rt) {
-        slots = slots.wrapping_add(width(&insn) as u64);
+    for insn in &first_insns(&rt) {
+        slots = slots.wrapping_add(width(insn) as u64);
     }
     assert!(rt; slots == 9);
 }
@@ -278,33 +279,38 @@ fn reads_the_image(rt: HostRuntime) {
     assert!(rt; is_read);
 }
 
-/// The image is refused so.
-fn refuses(rt: &impl Abort, alloc: Global, image: &[u8], methods: usize, error: DecodeError) {
-    let found = read_image(alloc, image).err();
-    assert!(rt; found == Some(ImageError { methods, error }));
+/// Whether the image is refused so.
+fn is_refused(alloc: Global, image: &[u8], methods: usize, error: DecodeError) -> bool {
+    read_image(alloc, image).err() == Some(ImageError { methods, error })
 }
 
 #[test]
 fn refuses_images(rt: HostRuntime) {
-    for (place, value, methods, error) in REFUSED {
-        refuses(&rt, rt.alloc(), &changed(place, value), methods, error);
+    for row in &REFUSED {
+        let image = changed(row.0, row.1);
+        assert!(rt; is_refused(rt.alloc(), &image, row.2, row.3));
     }
-    refuses(&rt, rt.alloc(), &[], 0, DecodeError::Truncated);
+    assert!(rt; is_refused(rt.alloc(), &[], 0, DecodeError::Truncated));
+}
+
+/// The bytes, and others behind them.
+fn joined(rt: &impl Abort, alloc: Global, bytes: &[u8], behind: &[u8]) -> Vec<u8> {
+    let mut joined = Vec::from_slice(alloc, bytes).expect(rt, "memory");
+    joined.extend_from_slice(behind).expect(rt, "memory");
+    joined
 }
 
 #[test]
 fn refuses_longer_images(rt: HostRuntime) {
-    let mut longer = Vec::from_slice(rt.alloc(), &IMAGE).expect(&rt, "memory");
-    longer.push(0).expect(&rt, "memory");
-    refuses(&rt, rt.alloc(), &longer, 1, DecodeError::Trailing);
+    let longer = joined(&rt, rt.alloc(), &IMAGE, &[0]);
+    assert!(rt; is_refused(rt.alloc(), &longer, 1, DecodeError::Trailing));
 }
 
 /// Two methods of one name.
 #[test]
 fn refuses_equal_names(rt: HostRuntime) {
-    let mut twice = Vec::from_slice(rt.alloc(), &changed(4, 2)).expect(&rt, "memory");
-    twice.extend_from_slice(&IMAGE[8..]).expect(&rt, "memory");
-    refuses(&rt, rt.alloc(), &twice, 1, DecodeError::Order);
+    let twice = joined(&rt, rt.alloc(), &changed(4, 2), &IMAGE[8..]);
+    assert!(rt; is_refused(rt.alloc(), &twice, 1, DecodeError::Order));
 }
 
 /// Whether the class's image is that one.
@@ -315,11 +321,11 @@ fn is_written_as(alloc: Global, class: &ClassImage, image: &[u8]) -> bool {
     }
 }
 
-/// Whether the image is refused, or written as it was read.
-fn is_kept(alloc: Global, image: &[u8]) -> bool {
+/// Whether the image is written as it was read, or else `refused` where it is refused.
+fn is_kept(alloc: Global, image: &[u8], refused: bool) -> bool {
     match read_image(alloc, image) {
         Ok(class) => is_written_as(alloc, &class, image),
-        Err(_) => true,
+        Err(_) => refused,
     }
 }
 
@@ -327,29 +333,14 @@ fn is_kept(alloc: Global, image: &[u8]) -> bool {
 fn every_changed_byte(rt: HostRuntime) {
     for place in 0..33 {
         for value in 0..=255u8 {
-            assert!(rt; is_kept(rt.alloc(), &changed(place, value)));
+            assert!(rt; is_kept(rt.alloc(), &changed(place, value), true));
         }
     }
 }
 
-/// The image of the class that is read.
-fn written_again(rt: &impl Abort, alloc: Global, image: &[u8]) -> Vec<u8> {
-    let class = read_image(alloc, image).expect(rt, "a class");
-    write_image(alloc, &class).expect(rt, "memory")
-}
-
 #[test]
 fn writes_the_image(rt: HostRuntime) {
-    let bytes = written_again(&rt, rt.alloc(), &IMAGE);
-    assert!(rt; bytes.as_slice() == IMAGE.as_slice());
-}
-
-/// The in_caps of a class's two methods.
-fn in_caps(class: &ClassImage) -> Option<(u16, u16)> {
-    match class.methods() {
-        [first, second] => Some((first.in_cap(), second.in_cap())),
-        _ => None,
-    }
+    assert!(rt; is_kept(rt.alloc(), &IMAGE, false));
 }
 
 /// A class of two methods.
@@ -365,11 +356,26 @@ fn image_of_two(rt: &impl Abort, alloc: Global) -> Vec<u8> {
     write_image(alloc, &class).expect(rt, "memory")
 }
 
+/// Whether there are two methods of the in_caps 0 and 4,096.
+fn have_in_caps(methods: &[Method]) -> bool {
+    match methods {
+        [first, second] => first.in_cap() == 0 && second.in_cap() == 4096,
+        _ => false,
+    }
+}
+
+/// Whether the class of the image has two such methods.
+fn has_in_caps(alloc: Global, image: &[u8]) -> bool {
+    match read_image(alloc, image) {
+        Ok(class) => have_in_caps(class.methods()),
+        Err(_) => false,
+    }
+}
+
 #[test]
 fn builds_classes(rt: HostRuntime) {
     let bytes = image_of_two(&rt, rt.alloc());
-    let again = read_image(rt.alloc(), &bytes).expect(&rt, "a class");
-    assert!(rt; in_caps(&again) == Some((0, 4096)));
+    assert!(rt; has_in_caps(rt.alloc(), &bytes));
 }
 
 /// Name, flags and in_cap of a second method behind `a`, and its refusal.
@@ -397,7 +403,8 @@ fn refusal_of(
 
 #[test]
 fn refuses_methods(rt: HostRuntime) {
-    for (name, flags, in_cap, error) in SECOND {
+    for row in &SECOND {
+        let (name, flags, in_cap, error) = *row;
         let found = refusal_of(&rt, rt.alloc(), name, flags, in_cap);
         assert!(rt; found == Some(ImageError { methods: 1, error }));
     }
@@ -434,28 +441,34 @@ const PRINTED_IMAGES: [(DecodeError, &str); 2] = [
     ),
 ];
 
+/// Whether the value is printed as that text.
+pub(super) fn is_printed<T: Display>(alloc: Global, value: &T, text: &str) -> bool {
+    match value.to_string(alloc) {
+        Ok(printed) => printed.as_str() == text,
+        Err(_) => false,
+    }
+}
+
 #[test]
 fn prints_refusals(rt: HostRuntime) {
-    for (error, text) in PRINTED {
-        let printed = error.to_string(rt.alloc()).expect(&rt, "memory");
-        assert!(rt; printed.as_str() == text);
+    for row in &PRINTED {
+        assert!(rt; is_printed(rt.alloc(), &row.0, row.1));
     }
 }
 
 #[test]
 fn prints_images_refusals(rt: HostRuntime) {
     let methods = 0;
-    for (error, text) in PRINTED_IMAGES {
-        let refusal = ImageError { methods, error };
-        let printed = refusal.to_string(rt.alloc()).expect(&rt, "memory");
-        assert!(rt; printed.as_str() == text);
+    for row in &PRINTED_IMAGES {
+        let (error, text) = *row;
+        assert!(rt; is_printed(rt.alloc(), &ImageError { methods, error }, text));
     }
 }
 
 #[test]
 fn small_types(rt: HostRuntime) {
     assert!(rt; Width::Byte.bytes() == 1 && Width::Double.bytes() == 8);
-    assert!(rt; Register::new(11) == None);
+    assert!(rt; Register::new(11).is_none());
     assert!(rt; register_of(&rt, 10).number() == 10);
 }
 

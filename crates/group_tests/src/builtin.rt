@@ -210,12 +210,7 @@ fn takes_lock(outcome: &Outcome) -> bool {
         && has_one_xattr(outcome.change.after.as_ref())
 }
 
-/// Whether an answer has that code, after so many steps.
-fn is_answer(outcome: &Outcome, code: i64, steps: usize) -> bool {
-    outcome.code == code && outcome.steps == steps
-}
-
-/// Whether a client's call of `lock` is answered so.
+/// Whether a client's call of `lock` is answered with that code, after so many steps.
 fn answers<R: Abort>(
     rt: &R,
     alloc: Global,
@@ -226,7 +221,9 @@ fn answers<R: Abort>(
     steps: usize,
 ) -> bool {
     let outcome = locked(rt, alloc, class, object, client);
-    is_answer(&outcome, code, steps)
+    let is_answer = (outcome.code == code) & (outcome.steps == steps);
+    drop(outcome);
+    is_answer
 }
 
 /// Whether another is refused the lock in 16 steps, and the owner has it still in 15.
@@ -242,13 +239,16 @@ fn is_kept<R: Abort>(
 /// Whether the lock is taken, and then refused and kept.
 fn is_lock<R: Abort>(rt: &R, alloc: Global, class: &VerifiedClass) -> bool {
     let first = locked(rt, alloc, class, None, 1);
-    takes_lock(&first) && is_kept(rt, alloc, class, first.change.after.as_ref())
+    let is_lock = takes_lock(&first) & is_kept(rt, alloc, class, first.change.after.as_ref());
+    drop(first);
+    is_lock
 }
 
 #[test]
 fn counts_steps_of_locks(rt: HostRuntime) {
     let class = load_lock(rt.alloc()).expect(&rt, "a class");
     see(&rt, is_lock(&rt, rt.alloc(), &class), "a lock");
+    drop(class);
 }
 
 /// The methods as a class's text declares them, each with the number of its instructions.
@@ -280,16 +280,13 @@ fn is_declared(method: &VerifiedMethod, line: &str) -> bool {
 
 /// Whether a class has those methods and no more.
 fn declares(class: &VerifiedClass, text: &str) -> bool {
-    let mut methods = class.methods().iter();
-    for line in text.lines() {
-        match methods.next() {
-            None => return false,
-            Some(method) => if !is_declared(method, line) {
-                return false;
-            }
+    let mut lines = text.lines();
+    for method in class.methods() {
+        if !is_declared(method, lines.next().unwrap_or("")) {
+            return false;
         }
     }
-    methods.next().is_none()
+    lines.next().is_none()
 }
 
 /// Whether these are both classes, in their order.
@@ -314,7 +311,8 @@ fn are_texts() -> bool {
 #[test]
 fn loads_one_class(rt: HostRuntime) {
     let obj = load_obj(rt.alloc()).expect(&rt, "a class");
-    see(&rt, declares(&obj, OBJ_METHODS) && are_texts(), "one class");
+    see(&rt, declares(&obj, OBJ_METHODS) & are_texts(), "one class");
+    drop(obj);
 }
 
 #[test]

@@ -1,52 +1,41 @@
 //! Calls of the built-in classes through a group.
 ghost use mathlib.Core.List.{IsPrefix};
 
-use super::requests::{name_of, request_for};
-use super::script::{Line, code_at};
+use super::requests::request;
+use super::script::Line;
 use super::words::{halves, is_code, next, number_of};
 use interp::ClassTable;
 use pg_log::{Classes, Group, Request};
 use std::alloc::Global;
 use std::process::Abort;
 
-/// Puts what hexadecimal digits say behind the bytes that there are.
-fn put_digits<R: Abort>(rt: &R, alloc: Global, bytes: &mut Vec<u8>, digits: &str) {
-    let decoded = hex::decode(alloc, digits).expect(rt, "digits");
-    bytes.extend_from_slice(&decoded).expect(rt, "memory");
-}
-
-/// Puts what a part of a word says behind the bytes that there are.
-fn put_part<R: Abort>(rt: &R, alloc: Global, bytes: &mut Vec<u8>, part: &str) {
+/// The bytes before a word's comma: hexadecimal digits, and `*N` for N zero bytes.
+fn part_of<R: Abort>(rt: &R, alloc: Global, part: &str) -> Vec<u8> {
     let (digits, zeros) = part.split_once('*').unwrap_or((part, "0"));
-    put_digits(rt, alloc, bytes, digits);
+    let mut bytes = hex::decode(alloc, digits).expect(rt, "digits");
     let length = bytes.len().saturating_add(number_of(rt, zeros) as usize);
     bytes.resize(length, 0).expect(rt, "memory");
+    bytes
 }
 
 /// The bytes of a word: hexadecimal digits, `*N` for N zero bytes, and digits behind a comma; or `-`.
 fn bytes_of<R: Abort>(rt: &R, alloc: Global, word: &str) -> Vec<u8> {
-    let mut bytes = Vec::new(alloc);
-    for part in word.trim_matches('-').split(',') {
-        put_part(rt, alloc, &mut bytes, part);
-    }
+    let (part, digits) = halves(word.trim_matches('-'), ',');
+    let mut bytes = part_of(rt, alloc, part);
+    let behind = hex::decode(alloc, digits).expect(rt, "digits");
+    bytes.extend_from_slice(&behind).expect(rt, "memory");
     bytes
 }
 
 /// The request of a line.
 fn call_of<R: Abort>(rt: &R, alloc: Global, line: &Line<'_>) -> Request {
     let mut words = line.said.split_whitespace();
-    let object = name_of(rt, alloc, next(&mut words));
+    let object = next(&mut words);
     let class = usize::from(next(&mut words) == "obj");
     let method = next(&mut words);
     let input = bytes_of(rt, alloc, next(&mut words));
     let pair = (number_of(rt, line.what), line.number);
-    request_for(rt, alloc, object, pair, class, method, input)
-}
-
-/// Whether a word says those bytes.
-fn has_bytes<R: Abort>(rt: &R, alloc: Global, word: &str, found: &[u8]) -> bool {
-    let wanted = bytes_of(rt, alloc, word);
-    found == wanted.as_slice()
+    request(rt, alloc, object, pair, class, method, &input)
 }
 
 /// Whether the reply at a place has that code and that output.
@@ -60,8 +49,10 @@ fn is_reply<C: Classes, R: Abort>(
     let (code_word, output_word) = halves(wanted, ' ');
     match group.reply_at(place) {
         None => false,
-        Some((code, output)) => is_code(code_word, code)
-            && has_bytes(rt, alloc, output_word, output),
+        Some((code, output)) => {
+            let bytes = bytes_of(rt, alloc, output_word);
+            is_code(code_word, code) & (output == bytes.as_slice())
+        }
     }
 }
 

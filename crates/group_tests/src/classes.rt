@@ -5,7 +5,7 @@ use std::alloc::Global;
 use std::process::Abort;
 use verifier::{VerifiedClass, verify};
 
-pub(super) fn method<R: Abort>(
+fn method<R: Abort>(
     rt: &R,
     alloc: Global,
     name: &str,
@@ -16,12 +16,6 @@ pub(super) fn method<R: Abort>(
     let name = String::from_str(alloc, name).expect(rt, "memory");
     let insns = decode(alloc, code).expect(rt, "instructions");
     Method::new(name, flags, in_cap, 0, insns)
-}
-
-/// The class of those methods.
-pub(super) fn class_of<R: Abort>(rt: &R, alloc: Global, methods: Vec<Method>) -> VerifiedClass {
-    let image = ClassImage::new(methods).expect(rt, "a class");
-    verify(alloc, &image).expect(rt, "a safe class")
 }
 
 /// A class of one method `f`.
@@ -35,7 +29,8 @@ pub(super) fn class<R: Abort>(
     let mut methods = Vec::new(alloc);
     let method = method(rt, alloc, "f", flags, in_cap, code);
     methods.push(method).expect(rt, "memory");
-    class_of(rt, alloc, methods)
+    let image = ClassImage::new(methods).expect(rt, "a class");
+    verify(alloc, &image).expect(rt, "a safe class")
 }
 
 /// The table of one class.

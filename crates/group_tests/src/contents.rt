@@ -1,13 +1,14 @@
 //! What an object holds.
-use super::words::next;
+use super::words::halves;
 use object_store::Object;
 
 /// Whether an object has that data, at most eight bytes, and those values of its xattr `k` and of its key `k`.
-pub(super) fn is_content(object: &Object, text: &str) -> bool {
-    let mut words = text.split_whitespace();
-    has_data(object, next(&mut words).trim_matches('-').as_bytes())
-        && is_value(object.xattr(b"k"), next(&mut words))
-        && is_value(object.key(b"k"), next(&mut words))
+fn is_content(object: &Object, text: &str) -> bool {
+    let (data, values) = halves(text, ' ');
+    let (xattr, key) = halves(values, ' ');
+    has_data(object, data.trim_matches('-').as_bytes())
+        & is_value(object.xattr(b"k"), xattr)
+        & is_value(object.key(b"k"), key)
 }
 
 /// Whether the object's data is those bytes, at most eight.
@@ -19,8 +20,13 @@ fn has_data(object: &Object, want: &[u8]) -> bool {
 
 /// Whether a value is that word, or none and the word is `-`.
 fn is_value(value: Option<&[u8]>, want: &str) -> bool {
-    match value {
-        None => want == "-",
-        Some(bytes) => bytes == want.as_bytes(),
+    value.unwrap_or(b"-".as_slice()) == want.as_bytes()
+}
+
+/// Whether an object is that one, or absent.
+pub(super) fn is_object(object: Option<&Object>, text: &str) -> bool {
+    match object {
+        None => text == "absent",
+        Some(object) => is_content(object, text),
     }
 }

@@ -24,67 +24,49 @@ c1          1           2           mon         event
 |           |           |  x--m4    |           Query 2: stopped
 ";
 
-/// A message is sent.
-fn send<R: Abort>(
-    rt: &R,
-    alloc: Global,
-    letters: &mut Vec<Letter>,
-    from: Lane,
-    to: Lane,
-    text: &str,
-) {
-    let text = String::from_str(alloc, text).expect(rt, "memory");
-    letters.push(Letter { from, to, text }).expect(rt, "memory");
-}
+/// The messages that are sent.
+const LETTERS: [(Lane, Lane, &str); 5] = [
+    (NODE_1, NODE_2, "Rep 1 0"),
+    (NODE_2, NODE_1, "Ack 1 1"),
+    (NODE_1, CLIENT, "Reply 7 0 0 -"),
+    (NODE_2, NODE_2, "Query 2"),
+    (NODE_2, Lane::Monitor, "AskActivate 2"),
+];
 
-/// The messages.
-fn letters<R: Abort>(rt: &R, alloc: Global) -> Vec<Letter> {
+/// The messages of a table.
+fn letters<R: Abort>(rt: &R, alloc: Global, table: &[(Lane, Lane, &str)]) -> Vec<Letter> {
     let mut letters = Vec::new(alloc);
-    send(rt, alloc, &mut letters, NODE_1, NODE_2, "Rep 1 0");
-    send(rt, alloc, &mut letters, NODE_2, NODE_1, "Ack 1 1");
-    send(rt, alloc, &mut letters, NODE_1, CLIENT, "Reply 7 0 0 -");
-    send(rt, alloc, &mut letters, NODE_2, NODE_2, "Query 2");
-    send(
-        rt,
-        alloc,
-        &mut letters,
-        NODE_2,
-        Lane::Monitor,
-        "AskActivate 2",
-    );
+    for &(from, to, text) in table {
+        let text = String::from_str(alloc, text).expect(rt, "memory");
+        letters.push(Letter { from, to, text }).expect(rt, "memory");
+    }
     letters
 }
 
 /// What happened, what is said of it, and how many messages it sent.
-fn step<R: Abort>(
-    rt: &R,
-    alloc: Global,
-    steps: &mut Vec<Step>,
-    what: What,
-    text: &str,
-    sent: usize,
-) {
-    let text = String::from_str(alloc, text).expect(rt, "memory");
-    steps.push(Step { what, text, sent }).expect(rt, "memory");
-}
+const STEPS: [(What, &str, usize); 6] = [
+    (What::Asked(CLIENT, NODE_1), "req 1 1 7 a lock lock -", 1),
+    (What::Arrived(1), "", 1),
+    (What::Arrived(1), "", 0),
+    (What::Arrived(2), "", 1),
+    (What::At(NODE_2), "see 2 2", 2),
+    (What::Bounced(4), ": stopped", 0),
+];
 
-/// The steps.
-fn steps<R: Abort>(rt: &R, alloc: Global) -> Vec<Step> {
+/// The steps of a table.
+fn steps<R: Abort>(rt: &R, alloc: Global, table: &[(What, &str, usize)]) -> Vec<Step> {
     let mut steps = Vec::new(alloc);
-    let asked = What::Asked(CLIENT, NODE_1);
-    step(rt, alloc, &mut steps, asked, "req 1 1 7 a lock lock -", 1);
-    step(rt, alloc, &mut steps, What::Arrived(1), "", 1);
-    step(rt, alloc, &mut steps, What::Arrived(1), "", 0);
-    step(rt, alloc, &mut steps, What::Arrived(2), "", 1);
-    step(rt, alloc, &mut steps, What::At(NODE_2), "see 2 2", 2);
-    step(rt, alloc, &mut steps, What::Bounced(4), ": stopped", 0);
+    for &(what, text, sent) in table {
+        let text = String::from_str(alloc, text).expect(rt, "memory");
+        steps.push(Step { what, text, sent }).expect(rt, "memory");
+    }
     steps
 }
 
 /// The drawing of those steps.
 fn drawn<R: Abort>(rt: &R, alloc: Global) -> String {
-    let letters = letters(rt, alloc);
-    let steps = steps(rt, alloc);
+    let letters = letters(rt, alloc, &LETTERS);
+    let steps = steps(rt, alloc, &STEPS);
     draw(alloc, &letters, &steps).expect(rt, "memory")
 }
 

@@ -8,19 +8,25 @@ use std::process::Abort;
 /// The longest input.
 const LONG: [u8; 4096] = [7; 4096];
 
-/// As many requests as a log holds, of client 1 but the last, from number 1 on. Each 1,024th has the longest input.
+/// A request of a full list. Each 1,024th has the longest input.
+fn one_of_many<R: Abort>(rt: &R, alloc: Global, who: u32, value: u32) -> Request {
+    let input = if value % 1_024 == 0 {
+        LONG.as_slice()
+    } else {
+        b"".as_slice()
+    };
+    request(rt, alloc, "object", (who, value), 0, "f", input)
+}
+
+/// As many requests as a log holds, of client 1 but the last, from number 1 on.
 fn full_list<R: Abort>(rt: &R, alloc: Global, last: u32) -> Vec<Request> {
     let mut list = Vec::new(alloc);
-    for value in 1..=65_536 {
-        let who = if value == 65_536 { last } else { 1 };
-        let input = if value % 1_024 == 0 {
-            LONG.as_slice()
-        } else {
-            b"".as_slice()
-        };
-        let request = request(rt, alloc, (who, value), 0, "f", input);
-        list.push(request).expect(rt, "memory");
+    for value in 1..65_536 {
+        list.push(one_of_many(rt, alloc, 1, value))
+            .expect(rt, "memory");
     }
+    list.push(one_of_many(rt, alloc, last, 65_536))
+        .expect(rt, "memory");
     list
 }
 
@@ -38,19 +44,16 @@ pub(super) fn list<R: Abort>(rt: &R, alloc: Global, text: &str) -> Vec<Request> 
     list
 }
 
-/// So many of the first requests, and those that follow them.
-fn beginning_with<R: Abort>(rt: &R, alloc: Global, first: &str, text: &str) -> Vec<Request> {
-    let (count, rest) = halves(text, ';');
-    let mut list = Vec::new(alloc);
-    add(rt, alloc, &mut list, first, number_of(rt, count) as usize);
-    add(rt, alloc, &mut list, rest, usize::MAX);
-    list
-}
-
 /// So many of the first requests, and those that follow them, or a full list.
 pub(super) fn list_of<R: Abort>(rt: &R, alloc: Global, first: &str, text: &str) -> Vec<Request> {
     match text.strip_prefix("full ") {
         Some(last) => full_list(rt, alloc, number_of(rt, last)),
-        None => beginning_with(rt, alloc, first, text),
+        None => {
+            let (count, rest) = halves(text, ';');
+            let mut list = Vec::new(alloc);
+            add(rt, alloc, &mut list, first, number_of(rt, count) as usize);
+            add(rt, alloc, &mut list, rest, usize::MAX);
+            list
+        }
     }
 }

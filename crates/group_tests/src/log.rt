@@ -62,7 +62,7 @@ fn numbers_begin_at_one(rt: HostRuntime) {
 
 /// A request with that input.
 fn request_with<R: Abort>(rt: &R, alloc: Global, input: &[u8]) -> Request {
-    request(rt, alloc, (3, 4), 5, "f", input)
+    request(rt, alloc, "object", (3, 4), 5, "f", input)
 }
 
 /// Whether its parts are those that it was made of.
@@ -79,18 +79,23 @@ fn has_parts(one: &Request) -> bool {
 fn parts_of_a_request(rt: HostRuntime) {
     let one = request_with(&rt, rt.alloc(), b"ab");
     see(&rt, has_parts(&one), "parts");
+    drop(one);
 }
 
 /// Whether a request is its copy.
 fn is_copied<R: Abort>(rt: &R, alloc: Global, one: &Request) -> bool {
     let copy = one.copy(alloc).expect(rt, "memory");
-    one.is(&copy)
+    let is_copied = one.is(&copy);
+    drop(copy);
+    is_copied
 }
 
 /// Whether a request is that of the same parts with that input.
 fn is_with<R: Abort>(rt: &R, alloc: Global, one: &Request, input: &[u8]) -> bool {
     let other = request_with(rt, alloc, input);
-    one.is(&other)
+    let is_with = one.is(&other);
+    drop(other);
+    is_with
 }
 
 /// A request is its copy, and isn't one that differs in the last byte of its input.
@@ -99,6 +104,7 @@ fn equal_requests(rt: HostRuntime) {
     let one = request_with(&rt, rt.alloc(), b"ab");
     see(&rt, is_copied(&rt, rt.alloc(), &one), "a copy");
     see(&rt, !is_with(&rt, rt.alloc(), &one, b"ac"), "another input");
+    drop(one);
 }
 
 #[test]

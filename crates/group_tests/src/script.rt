@@ -3,16 +3,17 @@ ghost use mathlib.Core.List.{IsPrefix};
 
 use super::calls::is_called;
 use super::checks::see;
-use super::contents::is_content;
+use super::contents::is_object;
 use super::lists::list_of;
-use super::requests::{client, name, number, request_of};
+use super::requests::{client, number, request_of};
 use super::verb::{Verb, verb_of};
 use super::words::{halves, is_code, is_number, number_of};
 use interp::ClassTable;
-use object_store::Object;
+use object_store::ObjectName;
 use pg_log::{Classes, Group, GroupWork, LogError, Request, with_group};
 use replication::{Rep, append_at};
 use std::alloc::Global;
+use std::mem::replace;
 use std::process::Abort;
 
 /// The lines of a text, and the list of which they take the first requests. A line is what is done, a bar, and what that
@@ -43,6 +44,7 @@ impl<R: Abort> GroupWork for Script<'_, R> {
         go_on_with(
             self.rt, self.alloc, table, &mut group, self.first, self.text,
         );
+        drop(group);
     }
 }
 
@@ -118,14 +120,26 @@ fn is_done<C: Classes, R: Abort>(
 {
     match line.verb {
         Verb::Append => is_appended(rt, alloc, table, group, line),
-        Verb::At => is_place(place(rt, alloc, table, group, line.said), line.wanted),
+        Verb::At => is_placed(rt, alloc, table, group, line),
         Verb::Adopt | Verb::Replay | Verb::Fill => is_taken(rt, alloc, table, group, line),
-        Verb::Copy => becomes_copy(rt, alloc, group),
-        Verb::Length => is_number(line.wanted, group.len() as u64),
-        Verb::Code => has_code(rt, group, line),
-        Verb::Reply => is_logged(rt, group, line),
-        Verb::Object => has_object(rt, alloc, group, line.wanted),
+        Verb::Copy => becomes_copy(alloc, group),
         Verb::Call => is_called(rt, alloc, table, group, line),
+        _ => is_found(rt, alloc, group, line),
+    }
+}
+
+/// Whether a group has what a line finds in it.
+fn is_found<C: Classes, R: Abort>(
+    rt: &R,
+    alloc: Global,
+    group: &Group<C>,
+    line: &Line<'_>,
+) -> bool {
+    match line.verb {
+        Verb::Length => is_number(line.wanted, group.len() as u64),
+        Verb::Code => has_code(group, number_of(rt, line.said) as usize, line.wanted),
+        Verb::Reply => is_logged(rt, group, line),
+        _ => has_object(rt, alloc, group, line.wanted),
     }
 }
 
@@ -161,26 +175,27 @@ fn rep_of<R: Abort>(rt: &R, alloc: Global, text: &str) -> Rep {
     }
 }
 
-/// What is answered to a request that comes for a place.
-fn place<C: Classes, R: Abort>(
+/// Whether a request that comes for a place is answered so.
+fn is_placed<C: Classes, R: Abort>(
     rt: &R,
     alloc: Global,
     table: &ClassTable,
     group: &mut Group<C>,
-    text: &str,
-) -> Result<Option<usize>, LogError>
+    line: &Line<'_>,
+) -> bool
     requires { IsPrefix table.now C.classes }
 {
-    let rep = rep_of(rt, alloc, text);
-    append_at(group, table, &rep)
+    let rep = rep_of(rt, alloc, line.said);
+    let answer = append_at(group, table, &rep);
+    drop(rep.request);
+    is_place(answer, line.wanted)
 }
 
 /// Whether that is the answer, `none` to a request that comes too early.
 fn is_place(answer: Result<Option<usize>, LogError>, wanted: &str) -> bool {
-    match answer {
-        Ok(None) => wanted == "none",
-        Ok(Some(length)) => is_number(wanted, length as u64),
-        Err(error) => error.name() == wanted,
+    match answer.transpose() {
+        None => wanted == "none",
+        Some(answer) => is_answer(answer, wanted),
     }
 }
 
@@ -197,7 +212,7 @@ fn take<C: Classes, R: Abort>(
 {
     match verb {
         Verb::Adopt => group.adopt(table, list),
-        Verb::Replay => replay(alloc, table, group, list),
+        Verb::Replay => becomes(group, Group::<C>::replay(alloc, table, list)),
         _ => fill(rt, alloc, table, group, list),
     }
 }
@@ -214,19 +229,6 @@ fn is_taken<C: Classes, R: Abort>(
 {
     let list = list_of(rt, alloc, line.first, line.said);
     is_answer(take(rt, alloc, table, group, line.verb, &list), line.wanted)
-}
-
-/// The group becomes that of a list. It gives the log's length.
-fn replay<C: Classes>(
-    alloc: Global,
-    table: &ClassTable,
-    group: &mut Group<C>,
-    list: &[Request],
-) -> Result<usize, LogError>
-    requires { IsPrefix table.now C.classes }
-{
-    *group = Group::<C>::replay(alloc, table, list)?;
-    Ok(group.len())
 }
 
 /// Appends copies of the requests of a list. It gives the log's length.
@@ -246,25 +248,31 @@ fn fill<C: Classes, R: Abort>(
     Ok(group.len())
 }
 
-/// The group becomes its copy.
-fn becomes_copy<C: Classes, R: Abort>(rt: &R, alloc: Global, group: &mut Group<C>) -> bool {
-    *group = group.copy(alloc).expect(rt, "memory");
-    true
-}
-
-/// The code of the reply at a place.
-pub(super) fn code_at<C: Classes>(group: &Group<C>, place: usize) -> Option<i64> {
-    match group.reply_at(place) {
-        None => None,
-        Some((code, _)) => Some(code),
+/// The group becomes another, unless there is none. It gives the log's length.
+fn becomes<C: Classes>(
+    group: &mut Group<C>,
+    new: Result<Group<C>, LogError>,
+) -> Result<usize, LogError> {
+    match new {
+        Err(error) => Err(error),
+        Ok(new) => {
+            drop(replace(group, new));
+            Ok(group.len())
+        }
     }
 }
 
+/// Whether the group becomes its copy.
+fn becomes_copy<C: Classes>(alloc: Global, group: &mut Group<C>) -> bool {
+    let copy = group.copy(alloc);
+    becomes(group, copy).is_ok()
+}
+
 /// Whether the reply at a place has that code.
-fn has_code<C: Classes, R: Abort>(rt: &R, group: &Group<C>, line: &Line<'_>) -> bool {
-    match code_at(group, number_of(rt, line.said) as usize) {
+fn has_code<C: Classes>(group: &Group<C>, place: usize, wanted: &str) -> bool {
+    match group.reply_at(place) {
         None => false,
-        Some(code) => is_code(line.wanted, code),
+        Some((code, _)) => is_code(wanted, code),
     }
 }
 
@@ -275,28 +283,21 @@ fn is_logged<C: Classes, R: Abort>(rt: &R, group: &Group<C>, line: &Line<'_>) ->
     match group.reply_of(who, number(rt, number_of(rt, value))) {
         None => false,
         Some((place, code, output)) => {
-            output.is_empty()
-                && code_at(group, place) == Some(code)
-                && is_place_and_code(line.wanted, place, code)
+            output.is_empty() & is_reply(group, place, code, line.wanted)
         }
     }
 }
 
-fn is_place_and_code(wanted: &str, place: usize, code: i64) -> bool {
+/// Whether that is the place and the code, and the reply at the place has the code too.
+fn is_reply<C: Classes>(group: &Group<C>, place: usize, code: i64, wanted: &str) -> bool {
     let (place_word, code_word) = halves(wanted, ' ');
-    is_number(place_word, place as u64) && is_code(code_word, code)
+    is_number(place_word, place as u64)
+        & is_code(code_word, code)
+        & has_code(group, place, code_word)
 }
 
 /// Whether the object `object` is that one.
 fn has_object<C: Classes, R: Abort>(rt: &R, alloc: Global, group: &Group<C>, wanted: &str) -> bool {
-    let name = name(rt, alloc);
+    let name = ObjectName::new(alloc, "object").expect(rt, "memory");
     is_object(group.object(&name), wanted)
-}
-
-/// Whether an object is that one, or absent.
-fn is_object(object: Option<&Object>, wanted: &str) -> bool {
-    match object {
-        None => wanted == "absent",
-        Some(object) => is_content(object, wanted),
-    }
 }

@@ -62,13 +62,16 @@ fn has_parts(map: &GroupMap) -> bool {
 /// Whether a map's copy has those parts.
 fn is_copied<R: Abort>(rt: &R, alloc: Global, map: &GroupMap) -> bool {
     let copy = map.copy(alloc).expect(rt, "memory");
-    has_parts(&copy)
+    let is_copied = has_parts(&copy);
+    drop(copy);
+    is_copied
 }
 
 #[test]
 fn parts_of_a_map(rt: HostRuntime) {
     let map = map(&rt, rt.alloc());
     see(&rt, is_copied(&rt, rt.alloc(), &map), "a copy");
+    drop(map);
 }
 
 /// Whether it is one request, with number 7.
@@ -81,7 +84,7 @@ fn lists_of_requests(rt: HostRuntime) {
     let list = Requests::new(list(&rt, rt.alloc(), "1 7 0 lock"));
     let is_one = list.items().len() == 1;
     let items = list.into_items();
-    see(&rt, is_one && is_seventh(&items), "one request");
+    see(&rt, is_one & is_seventh(&items), "one request");
 }
 
 /// A message to the monitor.
@@ -107,7 +110,7 @@ fn lists_of_messages(rt: HostRuntime) {
     let messages = Messages::new(items);
     let is_one = messages.items().len() == 1;
     let items = messages.into_items();
-    see(&rt, is_one && is_to_monitor(&items), "one message");
+    see(&rt, is_one & is_to_monitor(&items), "one message");
 }
 
 /// Whether an answer is that code and those bytes.
@@ -120,6 +123,7 @@ fn parts_of_an_answer(rt: HostRuntime) {
     let output = Vec::from_slice(rt.alloc(), b"ab").expect(&rt, "memory");
     let answer = Answer::new(-16, output);
     see(&rt, is_answer(&answer, -16, b"ab"), "an answer");
+    drop(answer);
 }
 
 #[test]

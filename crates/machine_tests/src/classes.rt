@@ -5,6 +5,27 @@ use std::alloc::Global;
 use std::process::Abort;
 use verifier::{VerifiedClass, verify};
 
+/// A method `f` of that code.
+fn method_of(
+    rt: &impl Abort,
+    alloc: Global,
+    code: &[u8],
+    flags: u8,
+    in_cap: u16,
+    out_cap: u16,
+) -> Method {
+    let name = String::from_str(alloc, "f").expect(rt, "memory");
+    let code = decode(alloc, code).expect(rt, "code");
+    Method::new(name, flags, in_cap, out_cap, code)
+}
+
+/// The image of a class with that method.
+fn image_with(rt: &impl Abort, alloc: Global, method: Method) -> ClassImage {
+    let mut methods = Vec::with_capacity(alloc, 1).expect(rt, "memory");
+    methods.push_reserved(method);
+    ClassImage::new(methods).expect(rt, "a class")
+}
+
 /// The image of a class with one method `f` of that code.
 pub fn image_of(
     rt: &impl Abort,
@@ -14,13 +35,8 @@ pub fn image_of(
     in_cap: u16,
     out_cap: u16,
 ) -> ClassImage {
-    let name = String::from_str(alloc, "f").expect(rt, "memory");
-    let code = decode(alloc, code).expect(rt, "code");
-    let mut methods = Vec::new(alloc);
-    methods
-        .push(Method::new(name, flags, in_cap, out_cap, code))
-        .expect(rt, "memory");
-    ClassImage::new(methods).expect(rt, "a class")
+    let method = method_of(rt, alloc, code, flags, in_cap, out_cap);
+    image_with(rt, alloc, method)
 }
 
 /// That class, which is safe.

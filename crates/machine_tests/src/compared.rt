@@ -5,13 +5,15 @@ mod operands;
 mod random;
 mod rows;
 
+use crate::answers::Expected;
 use crate::classes::image_of;
 use crate::contents::same;
 use bpf_machine::{Caps, Ending, Layout, flat_run, is_layout};
-use interp::{Outcome, call};
+use interp::Outcome;
 use object_store::Object;
 use std::alloc::Global;
 use std::process::Abort;
+use txn::Change;
 use verifier::{VerifiedClass, verify};
 
 /// What the programs declare.
@@ -21,19 +23,6 @@ const CAPS: Caps = Caps {
     writes: true,
 };
 
-/// One slot: opcode, source and destination register, offset and immediate.
-fn slot(opcode: u8, registers: u8, offset: i16, imm: i32) -> [u8; 8] {
-    let [o0, o1] = offset.to_le_bytes();
-    let [i0, i1, i2, i3] = imm.to_le_bytes();
-    [opcode, registers, o0, o1, i0, i1, i2, i3]
-}
-
-/// Puts slots behind a code.
-fn put(rt: &impl Abort, code: &mut Vec<u8>, slots: &[[u8; 8]]) {
-    code.extend_from_slice(slots.as_flattened())
-        .expect(rt, "memory");
-}
-
 /// The class of that code, where it is safe.
 fn verified(rt: &impl Abort, alloc: Global, code: &[u8]) -> Option<VerifiedClass> {
     let image = image_of(rt, alloc, code, 3, CAPS.in_cap, CAPS.out_cap);
@@ -42,6 +31,25 @@ fn verified(rt: &impl Abort, alloc: Global, code: &[u8]) -> Option<VerifiedClass
 
 /// Names of xattrs that the programs use.
 const NAMES: [&[u8]; 8] = [b"n", b"nm", b"m", b"k", b"a", b"ab", b"\0", b"\0\0"];
+
+/// Whether a call answered that code and output, after so many steps.
+fn has_answered(outcome: &Outcome, code: u64, output: &[u8], steps: usize) -> bool {
+    outcome.code == code.cast_signed()
+        && outcome.steps == steps
+        && outcome.output.as_slice() == output
+}
+
+/// Whether a change is from the first object to the second.
+fn is_change(
+    rt: &impl Abort,
+    alloc: Global,
+    change: &Change,
+    before: Option<&Object>,
+    after: Option<&Object>,
+) -> bool {
+    same(rt, alloc, change.before.as_ref(), before, &NAMES)
+        && same(rt, alloc, change.after.as_ref(), after, &NAMES)
+}
 
 /// Whether a call answered as a run of the bytes ended, beside that object.
 fn is_ending(
@@ -58,12 +66,8 @@ fn is_ending(
             object: after,
             steps,
         } => {
-            let change = &outcome.change;
-            outcome.code == code.cast_signed()
-                && outcome.steps == *steps
-                && outcome.output.as_slice() == output.as_slice()
-                && same(rt, alloc, change.before.as_ref(), object, &NAMES)
-                && same(rt, alloc, change.after.as_ref(), after.as_ref(), &NAMES)
+            has_answered(outcome, *code, output, *steps)
+                && is_change(rt, alloc, &outcome.change, object, after.as_ref())
         }
         Ending::Stuck | Ending::Unfinished => false,
     }
@@ -84,30 +88,24 @@ fn ending_of(
     flat_run(alloc, &CAPS, code, &layout, object, 7, input, 100).expect(rt, "memory")
 }
 
-/// Whether a call answered as the plain run of a code ends in that layout.
-fn is_plain_run(
-    rt: &impl Abort,
-    alloc: Global,
-    outcome: &Outcome,
-    code: &[u8],
+/// The plain run of a code in a layout.
+#[derive(Clone, Copy)]
+pub struct PlainRun<'a> {
+    code: &'a [u8],
     layout: Layout,
-    object: Option<&Object>,
-    input: &[u8],
-) -> bool {
-    let ending = ending_of(rt, alloc, code, layout, object, input);
-    is_ending(rt, alloc, object, outcome, &ending)
 }
 
-/// Whether a call of a method, which has that code, answers as the plain run of the code does in that layout.
-fn agrees(
-    rt: &impl Abort,
-    alloc: Global,
-    class: &VerifiedClass,
-    code: &[u8],
-    layout: Layout,
-    object: Option<&Object>,
-    input: &[u8],
-) -> bool {
-    let outcome = call(alloc, class, "f", object, 7, input).expect(rt, "an answer");
-    is_plain_run(rt, alloc, &outcome, code, layout, object, input)
+impl Expected for PlainRun<'_> {
+    /// Whether a call answered as the plain run ends.
+    fn is_so(
+        &self,
+        rt: &impl Abort,
+        alloc: Global,
+        object: Option<&Object>,
+        input: &[u8],
+        outcome: &Outcome,
+    ) -> bool {
+        let ending = ending_of(rt, alloc, self.code, self.layout, object, input);
+        is_ending(rt, alloc, object, outcome, &ending)
+    }
 }

@@ -95,6 +95,18 @@ fn has_keys(object: &Object, keys: &[Pair]) -> bool {
     all
 }
 
+/// Whether there is an object, and it holds exactly those.
+fn holds_all(rt: &impl Abort, alloc: Global, object: Option<&Object>, contents: &Contents) -> bool {
+    match object {
+        None => false,
+        Some(object) => {
+            has_xattrs(object, contents.xattrs)
+                && has_keys(object, contents.keys)
+                && has_data(rt, alloc, object, contents.data)
+        }
+    }
+}
+
 /// Whether an object holds exactly those; none is an absent one.
 fn holds(
     rt: &impl Abort,
@@ -102,14 +114,9 @@ fn holds(
     object: Option<&Object>,
     contents: Option<Contents>,
 ) -> bool {
-    match (object, contents) {
-        (None, None) => true,
-        (Some(object), Some(contents)) => {
-            has_xattrs(object, contents.xattrs)
-                && has_keys(object, contents.keys)
-                && has_data(rt, alloc, object, contents.data)
-        }
-        _ => false,
+    match contents {
+        None => object.is_none(),
+        Some(contents) => holds_all(rt, alloc, object, &contents),
     }
 }
 

@@ -3,9 +3,13 @@
 #![tactic(auto)]
 
 #[cfg(test)]
+mod answers;
+#[cfg(test)]
 mod calls;
 #[cfg(test)]
 mod classes;
+#[cfg(test)]
+mod code;
 #[cfg(test)]
 mod compared;
 #[cfg(test)]

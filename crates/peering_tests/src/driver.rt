@@ -253,15 +253,14 @@ impl<C: Classes> World<C> {
         }
         see(rt, self.mail.is_done(), "the end");
     }
-}
 
-/// Goes through runs, one after another.
-fn run_all<C: Classes, R: Abort>(rt: &R, alloc: Global, table: &ClassTable, parts: &[&str])
-    requires { table.now ≡ C.classes }
-{
-    let mut world: World<C> = World::new(rt, alloc);
-    for part in parts {
-        world.run(rt, table, part);
+    /// Goes through runs, one after another.
+    fn run_all<R: Abort>(&mut self, rt: &R, table: &ClassTable, parts: &[&str])
+        requires { table.now ≡ C.classes }
+    {
+        for part in parts {
+            self.run(rt, table, part);
+        }
     }
 }
 
@@ -279,7 +278,8 @@ impl<R: Abort> GroupWork for Runs<'_, R> {
     ghost gives = { λ _ _ _ _. Unit {0} };
 
     fn work<C: Classes>(self, table: &ClassTable, _group: Group<C>) {
-        run_all::<C, R>(self.rt, self.alloc, table, self.parts);
+        let mut world: World<C> = World::new(self.rt, self.alloc);
+        world.run_all(self.rt, table, self.parts);
     }
 }
 

@@ -1,7 +1,6 @@
 //! Lines of a run: whether a message, or what a step tells, is as a line says.
 use super::words::{is_code, is_number, next};
-use group_world::{Answer, Epoch, HandleError, Kind, MonitorError, Packet, Party, Status};
-use pg_log::RequestNumber;
+use group_world::{Epoch, HandleError, Kind, MonitorError, Packet, Party, Status};
 use std::str::SplitWhitespace;
 
 /// What a step tells beside its messages.
@@ -28,37 +27,68 @@ fn says_epoch(words: &mut SplitWhitespace<'_>, label: &str, epoch: Epoch) -> boo
     says(words, label, u64::from(epoch.get()))
 }
 
-/// Whether the next words are that label, that epoch and that number.
-fn says_both(words: &mut SplitWhitespace<'_>, label: &str, epoch: Epoch, number: usize) -> bool {
-    says_epoch(words, label, epoch) && is_number(next(words), number as u64)
+fn label_of(kind: &Kind) -> &'static str {
+    match kind {
+        Kind::Query(_) => "Query",
+        Kind::Log(_, _) => "Log",
+        Kind::Install(_, _) => "Install",
+        Kind::Installed(_) => "Installed",
+        Kind::AskActivate(_) => "AskActivate",
+        Kind::Activated(_) => "Activated",
+        Kind::Rep(_, _, _) => "Rep",
+        Kind::Ack(_, _) => "Ack",
+        Kind::Reply(_, _, _, _) => "Reply",
+    }
 }
 
-fn says_reply(
-    words: &mut SplitWhitespace<'_>,
-    number: RequestNumber,
-    place: usize,
-    answer: &Answer,
-) -> bool {
-    says(words, "Reply", u64::from(number.get()))
-        && is_number(next(words), place as u64)
-        && is_code(next(words), answer.code())
+/// A message's interval; of a Reply, its request's number.
+fn first_of(kind: &Kind) -> u32 {
+    match kind {
+        Kind::Query(map) => map.interval().get(),
+        Kind::Log(interval, _) => interval.get(),
+        Kind::Install(map, _) => map.interval().get(),
+        Kind::Installed(interval) => interval.get(),
+        Kind::AskActivate(interval) => interval.get(),
+        Kind::Activated(interval) => interval.get(),
+        Kind::Rep(interval, _, _) => interval.get(),
+        Kind::Ack(interval, _) => interval.get(),
+        Kind::Reply(_, number, _, _) => number.get(),
+    }
+}
+
+/// A message's place or length, if it has one.
+fn second_of(kind: &Kind) -> Option<usize> {
+    match kind {
+        Kind::Log(_, list) => Some(list.items().len()),
+        Kind::Install(_, list) => Some(list.items().len()),
+        Kind::Rep(_, place, _) => Some(*place),
+        Kind::Ack(_, length) => Some(*length),
+        Kind::Reply(_, _, place, _) => Some(*place),
+        _ => None,
+    }
+}
+
+/// Whether the next word is that number, if there is one.
+fn is_second(words: &mut SplitWhitespace<'_>, number: Option<usize>) -> bool {
+    match number {
+        Some(number) => is_number(next(words), number as u64),
+        None => true,
+    }
+}
+
+/// Whether the next word is a Reply's code; true of other messages.
+fn is_answer(words: &mut SplitWhitespace<'_>, kind: &Kind) -> bool {
+    match kind {
+        Kind::Reply(_, _, _, answer) => is_code(next(words), answer.code()),
+        _ => true,
+    }
 }
 
 /// Whether the words say that message.
 fn is_kind(words: &mut SplitWhitespace<'_>, kind: &Kind) -> bool {
-    match kind {
-        Kind::Query(map) => says_epoch(words, "Query", map.interval()),
-        Kind::Log(interval, list) => says_both(words, "Log", *interval, list.items().len()),
-        Kind::Install(map, list) => {
-            says_both(words, "Install", map.interval(), list.items().len())
-        }
-        Kind::Installed(interval) => says_epoch(words, "Installed", *interval),
-        Kind::AskActivate(interval) => says_epoch(words, "AskActivate", *interval),
-        Kind::Activated(interval) => says_epoch(words, "Activated", *interval),
-        Kind::Rep(interval, place, _) => says_both(words, "Rep", *interval, *place),
-        Kind::Ack(interval, length) => says_both(words, "Ack", *interval, *length),
-        Kind::Reply(_, number, place, answer) => says_reply(words, *number, *place, answer),
-    }
+    says(words, label_of(kind), u64::from(first_of(kind)))
+        && is_second(words, second_of(kind))
+        && is_answer(words, kind)
 }
 
 /// Whether a word is that letter and that number.
@@ -123,6 +153,18 @@ fn is_refusal(words: &mut SplitWhitespace<'_>, number: u8, name: &str) -> bool {
     says(words, "refused", u64::from(number)) && next(words) == name
 }
 
+/// Whether the words say that status of a node, and how many entries it has and how many are committed.
+fn is_node(
+    words: &mut SplitWhitespace<'_>,
+    status: Status,
+    length: usize,
+    committed: usize,
+) -> bool {
+    next(words) == name_of(status)
+        && says(words, "length", length as u64)
+        && says(words, "committed", committed as u64)
+}
+
 /// Whether the words say what a step tells.
 pub(super) fn is_told(words: &mut SplitWhitespace<'_>, told: Told) -> bool {
     match told {
@@ -133,10 +175,7 @@ pub(super) fn is_told(words: &mut SplitWhitespace<'_>, told: Told) -> bool {
             says_epoch(words, "map", epoch) && is_interval(words, epoch, interval, prev)
         }
         Told::Node(epoch, status, length, committed) => {
-            says_epoch(words, "epoch", epoch)
-                && next(words) == name_of(status)
-                && says(words, "length", length as u64)
-                && says(words, "committed", committed as u64)
+            says_epoch(words, "epoch", epoch) && is_node(words, status, length, committed)
         }
     }
 }

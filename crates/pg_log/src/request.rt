@@ -8,7 +8,6 @@ use std::alloc::Global;
 use std::marker::Model;
 
 /// A client's request: a method of a class, to be run beside an object. Contracts see its parts.
-#[derive(Drop)]
 pub struct Request {
     client: ClientId,
     number: RequestNumber,
@@ -16,6 +15,23 @@ pub struct Request {
     class: usize,
     method: String,
     input: Vec<u8>,
+}
+
+// Written out, so that a crate that drops a request calls this, and proves nothing of its parts once more.
+impl Drop for Request {
+    fn drop(self) {
+        let Request {
+            client: _,
+            number: _,
+            object,
+            class: _,
+            method,
+            input,
+        } = self;
+        drop(object);
+        drop(method);
+        drop(input);
+    }
 }
 
 impl Model for Request {

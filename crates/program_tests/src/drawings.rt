@@ -1,4 +1,4 @@
-use crate::folder::only_prints;
+use crate::folder::{Row, all_print};
 
 /// An acknowledgement that is lost, of examples/lost_ack.sim.
 const LOST_ACK: &str = "# Nodes 1, 2 and 3 become a group.
@@ -47,22 +47,22 @@ c1          1           2           3           mon         event
 |           *           |           |           |           show 1: node 1 epoch 1 active length 1 committed 1
 ";
 
-/// Files of events, the words behind `sim`, what is printed and the status.
-struct Row {
-    events: &'static str,
-    printed: &'static str,
-    status: u8,
-}
+const TRACE: [&str; 3] = ["sim", "--trace", "text"];
 
+/// Files of events, what is printed and the status.
 static ROWS: [Row; 3] = [
     Row {
-        events: LOST_ACK,
+        words: &TRACE,
+        image: "",
+        text: LOST_ACK,
         printed: DRAWN,
         status: 0,
     },
     // the lines above a bad one are drawn
     Row {
-        events: "map 1\nsee 1 1\nhalt\n",
+        words: &TRACE,
+        image: "",
+        text: "map 1\nsee 1 1\nhalt\n",
         printed: "\
 1           mon         event
 |           *           map 1: map 1 prev 0
@@ -74,7 +74,9 @@ line 3: bad
     },
     // nothing happens
     Row {
-        events: "",
+        words: &TRACE,
+        image: "",
+        text: "",
         printed: "event\n",
         status: 0,
     },
@@ -82,9 +84,5 @@ line 3: bad
 
 #[test]
 fn a_run_is_drawn(rt: HostRuntime) {
-    for row in &ROWS {
-        let words = ["sim", "--trace", "text"];
-        let events = row.events.as_bytes();
-        only_prints(&rt, &words, "", events, row.printed, row.status);
-    }
+    all_print(&rt, &ROWS);
 }

@@ -43,25 +43,32 @@ impl Folder {
         }
     }
 
-    fn file(&self, name: &str) -> io::Result<&[u8]> {
+    fn file(&self, name: &str) -> Option<&Vec<u8>> {
         match name {
-            "image" | "its=image" => Ok(&self.image),
-            "text" => Ok(&self.text),
-            "out" => Ok(&self.out),
-            _ => Err(io::Error::from(ErrorKind::NotFound)),
+            "image" | "its=image" => Some(&self.image),
+            "text" => Some(&self.text),
+            "out" => Some(&self.out),
+            _ => None,
+        }
+    }
+
+    /// The first bytes of a file, so many at most.
+    fn first_of(&self, alloc: Global, name: &str, most: usize) -> io::Result<Vec<u8>> {
+        match self.file(name) {
+            None => Err(io::Error::from(ErrorKind::NotFound)),
+            Some(file) => Ok(Vec::from_slice(alloc, &file[..file.len().min(most)])?),
         }
     }
 }
 
 impl Reads for Folder {
     fn read(&self, alloc: Global, name: &str) -> io::Result<Vec<u8>> {
-        Ok(Vec::from_slice(alloc, self.file(name)?)?)
+        self.first_of(alloc, name, usize::MAX)
     }
 
     fn read_first(&self, alloc: Global, name: &str, most: usize) -> io::Result<Vec<u8>> {
         self.most_read.set(most);
-        let file = self.file(name)?;
-        Ok(Vec::from_slice(alloc, &file[..file.len().min(most)])?)
+        self.first_of(alloc, name, most)
     }
 }
 
@@ -101,6 +108,16 @@ impl Ended {
             && self.printed.as_slice() == printed.as_bytes()
             && self.explained.is_empty()
     }
+
+    /// Whether nothing was printed, the use was explained, and the status is 2.
+    pub fn explains(&self) -> bool {
+        self.status == 2 && self.printed.is_empty() && !self.explained.is_empty()
+    }
+}
+
+/// Asserts what is so of a row, which the text tells apart from others.
+pub fn holds<R: Abort>(rt: &R, is_so: bool, row: &str) {
+    assert!(rt; is_so, "{row}");
 }
 
 /// The program's name, and those words behind it.
@@ -138,8 +155,8 @@ pub fn prints_on<R: Abort + AllocGlobal>(
     printed: &str,
     status: u8,
 ) {
-    let ended = run_on(rt, words, folder);
-    assert!(rt; ended.shows(printed, status), "{printed}");
+    let shows = run_on(rt, words, folder).shows(printed, status);
+    holds(rt, shows, printed);
 }
 
 /// The same on a folder with that image, in hexadecimal, and that text; and no file is written.
@@ -153,7 +170,24 @@ pub fn only_prints<R: Abort + AllocGlobal>(
 ) {
     let mut folder = Folder::of(rt, image, text);
     prints_on(rt, words, &mut folder, printed, status);
-    assert!(rt; folder.writes == 0, "{printed}");
+    holds(rt, folder.writes == 0, printed);
+}
+
+/// Words behind the program's name, on a folder with that image and that text: what they print, and the status.
+pub struct Row {
+    pub words: &'static [&'static str],
+    pub image: &'static str,
+    pub text: &'static str,
+    pub printed: &'static str,
+    pub status: u8,
+}
+
+/// Each row prints what it should, ends so, and writes no file.
+pub fn all_print<R: Abort + AllocGlobal>(rt: &R, rows: &[Row]) {
+    for row in rows {
+        let text = row.text.as_bytes();
+        only_prints(rt, row.words, row.image, text, row.printed, row.status);
+    }
 }
 
 /// A text that begins with the first part, has the next so many times, and ends with the last.

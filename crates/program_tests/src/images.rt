@@ -1,13 +1,5 @@
-use crate::folder::{Folder, TWO, only_prints, prints_on, with_repeated};
+use crate::folder::{Folder, Row, TWO, all_print, only_prints, prints_on, with_repeated};
 use std::process::Abort;
-
-/// Words behind the program's name, on an image: what they print, and the status.
-struct Row {
-    words: &'static [&'static str],
-    image: &'static str,
-    printed: &'static str,
-    status: u8,
-}
 
 /// Writes its three bytes of input to the object, and fails: `mov r2, r1`, `mov r1, 0`, `mov r3, 3`, `call 3`,
 /// `mov r0, -5`, `exit`.
@@ -26,6 +18,7 @@ static VERDICTS: [Row; 14] = [
     Row {
         words: &["verify", "image"],
         image: TWO,
+        text: "",
         printed: "f ok 2\n",
         status: 0,
     },
@@ -33,6 +26,7 @@ static VERDICTS: [Row; 14] = [
     Row {
         words: &["verify", "image"],
         image: "",
+        text: "",
         printed: "image refused after 0 methods: 1 Truncated\n",
         status: 1,
     },
@@ -40,6 +34,7 @@ static VERDICTS: [Row; 14] = [
     Row {
         words: &["verify", "image"],
         image: "52434c31 0100 0000 01 66 01 0000 0000 0200 b700000000000000 9500000000000000 00",
+        text: "",
         printed: "image refused after 1 methods: 11 Trailing\n",
         status: 1,
     },
@@ -48,6 +43,7 @@ static VERDICTS: [Row; 14] = [
         words: &["verify", "image"],
         image: "52434c31 0100 0000 01 66 01 0000 0000 0500 b700000000000000 b700000000000000 b700000000000000 \
         ff00000000000000 9500000000000000",
+        text: "",
         printed: "image refused after 0 methods, slot 3: 3 Opcode\n",
         status: 1,
     },
@@ -55,6 +51,7 @@ static VERDICTS: [Row; 14] = [
     Row {
         words: &["verify", "image"],
         image: "52434c31 0100 0000 01 66 01 0000 0000 0100 9500000000000000",
+        text: "",
         printed: "refused method 0 slot 0: 5 UnsetRead\n",
         status: 1,
     },
@@ -62,6 +59,7 @@ static VERDICTS: [Row; 14] = [
     Row {
         words: &["verify", "image"],
         image: "52434c31 0100 0000 01 66 01 0000 0000 0200 0500ffff00000000 9500000000000000",
+        text: "",
         printed: "refused method 0 slot 0: 1 Backward\n",
         status: 1,
     },
@@ -70,6 +68,7 @@ static VERDICTS: [Row; 14] = [
         words: &["verify", "image"],
         image: "52434c31 0100 0000 01 66 01 0000 0000 0400 0500010000000000 1800000000000000 0000000000000000 \
         9500000000000000",
+        text: "",
         printed: "refused method 0 slot 0: 2 Target\n",
         status: 1,
     },
@@ -77,6 +76,7 @@ static VERDICTS: [Row; 14] = [
     Row {
         words: &["verify", "image"],
         image: "52434c31 0100 0000 01 66 01 0000 0000 0300 7b2a00fe00000000 b700000000000000 9500000000000000",
+        text: "",
         printed: "f ok 3\n",
         status: 0,
     },
@@ -84,6 +84,7 @@ static VERDICTS: [Row; 14] = [
     Row {
         words: &["verify", "image"],
         image: "52434c31 0100 0000 01 66 01 0000 0000 0300 7b2af8fd00000000 b700000000000000 9500000000000000",
+        text: "",
         printed: "refused method 0 slot 0: 10 Bounds\n",
         status: 1,
     },
@@ -91,6 +92,7 @@ static VERDICTS: [Row; 14] = [
     Row {
         words: &["verify", "image"],
         image: "52434c31 0100 0000 01 66 01 0000 0000 0300 7b2afcff00000000 b700000000000000 9500000000000000",
+        text: "",
         printed: "refused method 0 slot 0: 10 Bounds\n",
         status: 1,
     },
@@ -98,6 +100,7 @@ static VERDICTS: [Row; 14] = [
     Row {
         words: &["verify", "image"],
         image: "52434c31 0100 0000 01 66 01 0000 0000 0200 bf10000000000000 9500000000000000",
+        text: "",
         printed: "refused method 0 slot 1: 15 ReturnsPointer\n",
         status: 1,
     },
@@ -105,6 +108,7 @@ static VERDICTS: [Row; 14] = [
     Row {
         words: &["verify", "other"],
         image: TWO,
+        text: "",
         printed: "cannot read\n",
         status: 1,
     },
@@ -112,6 +116,7 @@ static VERDICTS: [Row; 14] = [
     Row {
         words: &["verify", "image"],
         image: TWO_METHODS,
+        text: "",
         printed: "e ok 2\nf ok 3\n",
         status: 0,
     },
@@ -120,6 +125,7 @@ static VERDICTS: [Row; 14] = [
         words: &["verify", "image"],
         image: "52434c31 0200 0000 01 65 01 0000 0000 0200 b700000000000000 9500000000000000 \
         01 66 01 0000 0000 0300 b700000000000000 bf10000000000000 9500000000000000",
+        text: "",
         printed: "refused method 1 slot 2: 15 ReturnsPointer\n",
         status: 1,
     },
@@ -131,6 +137,7 @@ static RUNS: [Row; 15] = [
     Row {
         words: &["run", "image", "f"],
         image: TWO,
+        text: "",
         printed: "code 0\noutput -\nsteps 2\nobject absent\n",
         status: 0,
     },
@@ -138,6 +145,7 @@ static RUNS: [Row; 15] = [
     Row {
         words: &["run", "image", "f", "--caller", "4294967295", "--input", ""],
         image: TWO,
+        text: "",
         printed: "code 0\noutput -\nsteps 2\nobject absent\n",
         status: 0,
     },
@@ -145,6 +153,7 @@ static RUNS: [Row; 15] = [
     Row {
         words: &["run", "image", "f", "--input", "616263"],
         image: WRITE_AND_FAIL,
+        text: "",
         printed: "code -5\noutput -\nsteps 6\nobject absent\n",
         status: 0,
     },
@@ -152,6 +161,7 @@ static RUNS: [Row; 15] = [
     Row {
         words: &["run", "image", "f", "--input", "0g"],
         image: "",
+        text: "",
         printed: "image refused after 0 methods: 1 Truncated\n",
         status: 1,
     },
@@ -159,6 +169,7 @@ static RUNS: [Row; 15] = [
     Row {
         words: &["run", "image", "f", "--input", "0g"],
         image: "52434c31 0100 0000 01 66 01 0000 0000 0100 9500000000000000",
+        text: "",
         printed: "refused method 0 slot 0: 5 UnsetRead\n",
         status: 1,
     },
@@ -166,6 +177,7 @@ static RUNS: [Row; 15] = [
     Row {
         words: &["run", "image", "g", "--input", "0g"],
         image: TWO,
+        text: "",
         printed: "input is not hex\n",
         status: 1,
     },
@@ -173,6 +185,7 @@ static RUNS: [Row; 15] = [
     Row {
         words: &["run", "image", "f", "--input", "616"],
         image: WRITE_AND_FAIL,
+        text: "",
         printed: "input is not hex\n",
         status: 1,
     },
@@ -180,6 +193,7 @@ static RUNS: [Row; 15] = [
     Row {
         words: &["run", "image", "g"],
         image: TWO,
+        text: "",
         printed: "call refused: 1 NoMethod\n",
         status: 1,
     },
@@ -187,6 +201,7 @@ static RUNS: [Row; 15] = [
     Row {
         words: &["run", "image", "f", "--input", "00"],
         image: TWO,
+        text: "",
         printed: "call refused: 2 InputTooLong\n",
         status: 1,
     },
@@ -194,6 +209,7 @@ static RUNS: [Row; 15] = [
     Row {
         words: &["run", "other", "f"],
         image: TWO,
+        text: "",
         printed: "cannot read\n",
         status: 1,
     },
@@ -202,6 +218,7 @@ static RUNS: [Row; 15] = [
         words: &["run", "image", "hello"],
         image: "52434c31 0100 0000 05 68656c6c6f 01 0000 0500 0500 6203000068656c6c 720304006f000000 \
         b701000005000000 850000000d000000 9500000000000000",
+        text: "",
         printed: "code 0\noutput 68656c6c6f\nsteps 5\nobject absent\n",
         status: 0,
     },
@@ -212,6 +229,7 @@ static RUNS: [Row; 15] = [
         b701000000000000 b703000004000000 8500000003000000 b701000000000000 bf62000000000000 \
         b703000004000000 8500000002000000 bf07000000000000 b701000004000000 850000000d000000 \
         bf70000000000000 9500000000000000",
+        text: "",
         printed: "code 4\noutput 726f6f74\nsteps 14\nobject 4 0 0\n",
         status: 0,
     },
@@ -224,6 +242,7 @@ static RUNS: [Row; 15] = [
         bfa1000000000000 07010000fcffffff b702000004000000 bfa3000000000000 07030000f0ffffff \
         b704000008000000 8500000007000000 9500000000000000 79a1f0ff00000000 b700000000000000 \
         1d61010000000000 b7000000f0ffffff 9500000000000000",
+        text: "",
         printed: "code 0\noutput -\nsteps 20\nobject 0 1 0\n",
         status: 0,
     },
@@ -236,6 +255,7 @@ static RUNS: [Row; 15] = [
         bf63000000000000 b704000004000000 850000000a000000 bf61000000000000 b702000002000000 \
         bf63000000000000 b704000004000000 850000000a000000 bf61000000000000 b702000003000000 \
         bf63000000000000 b704000000000000 850000000a000000 9500000000000000",
+        text: "",
         printed: "code 0\noutput -\nsteps 26\nobject 5 1 3\n",
         status: 0,
     },
@@ -243,6 +263,7 @@ static RUNS: [Row; 15] = [
     Row {
         words: &["run", "image", "f"],
         image: TWO_METHODS,
+        text: "",
         printed: "code 0\noutput -\nsteps 3\nobject absent\n",
         status: 0,
     },
@@ -253,6 +274,7 @@ static SHOWN: [Row; 6] = [
     Row {
         words: &["dis", "image"],
         image: TWO,
+        text: "",
         printed: ".method f r 0 0\nmov r0, 0\nexit\n",
         status: 0,
     },
@@ -260,6 +282,7 @@ static SHOWN: [Row; 6] = [
     Row {
         words: &["dis", "image"],
         image: TWO_METHODS,
+        text: "",
         printed: ".method e r 0 0\nlddw r0, 0x0000000000000001\nexit\n\
         .method f r 0 0\nmov r0, 0\nmov r0, 0\nexit\n",
         status: 0,
@@ -268,12 +291,14 @@ static SHOWN: [Row; 6] = [
     Row {
         words: &["dis", "image"],
         image: "52434c31 0100 0000 01 66 01 0000 0000 0100 9500000000000000",
+        text: "",
         printed: ".method f r 0 0\nexit\n",
         status: 0,
     },
     Row {
         words: &["dis", "image"],
         image: "",
+        text: "",
         printed: "image refused after 0 methods: 1 Truncated\n",
         status: 1,
     },
@@ -281,37 +306,32 @@ static SHOWN: [Row; 6] = [
     Row {
         words: &["dis", "image"],
         image: "52434c31 0100 0000 01 66 01 0000 0000 0200 b700000000000000 ff00000000000000",
+        text: "",
         printed: "image refused after 0 methods, slot 1: 3 Opcode\n",
         status: 1,
     },
     Row {
         words: &["dis", "other"],
         image: TWO,
+        text: "",
         printed: "cannot read\n",
         status: 1,
     },
 ];
 
-/// Each row prints what it should, ends so, and writes no file.
-fn passes<R: Abort + AllocGlobal>(rt: &R, rows: &[Row]) {
-    for row in rows {
-        only_prints(rt, row.words, row.image, b"", row.printed, row.status);
-    }
-}
-
 #[test]
 fn verifies(rt: HostRuntime) {
-    passes(&rt, &VERDICTS);
+    all_print(&rt, &VERDICTS);
 }
 
 #[test]
 fn runs(rt: HostRuntime) {
-    passes(&rt, &RUNS);
+    all_print(&rt, &RUNS);
 }
 
 #[test]
 fn disassembles(rt: HostRuntime) {
-    passes(&rt, &SHOWN);
+    all_print(&rt, &SHOWN);
 }
 
 #[test]
@@ -323,12 +343,17 @@ fn disassembles_a_long_text(rt: HostRuntime) {
     only_prints(&rt, &["dis", "image"], &image, b"", &printed, 0);
 }
 
+/// How many bytes are asked for of an image that has bytes behind its end.
+fn most_read<R: Abort + AllocGlobal>(rt: &R, image: &str) -> usize {
+    let mut folder = Folder::of(rt, image, b"");
+    let printed = "image refused after 1 methods: 11 Trailing\n";
+    prints_on(rt, &["verify", "image"], &mut folder, printed, 1);
+    folder.most_read.get()
+}
+
 /// Bytes behind an image, more of them than an image has.
 #[test]
 fn reads_no_more_than_an_image_has(rt: HostRuntime) {
     let image = with_repeated(&rt, TWO, "00", 1_100_000, "");
-    let mut folder = Folder::of(&rt, &image, b"");
-    let printed = "image refused after 1 methods: 11 Trailing\n";
-    prints_on(&rt, &["verify", "image"], &mut folder, printed, 1);
-    assert!(rt; folder.most_read.get() == 1_050_889);
+    assert!(rt; most_read(&rt, &image) == 1_050_889);
 }

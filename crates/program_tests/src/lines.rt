@@ -1,4 +1,5 @@
 //! Lines of a file of events, as they are read.
+use crate::folder::holds;
 use pg_log::Request;
 use placement::NodeId;
 use sim_lines::{Line, lines, numbered, read_line};
@@ -61,7 +62,7 @@ fn is_said(said: &Line, line: (u8, u64)) -> bool {
 fn lines_say(rt: HostRuntime) {
     for (text, letter, number) in &LINES {
         let said = read_line(rt.alloc(), &["lock", "obj"], text).expect(&rt, "memory");
-        assert!(rt; is_said(&said, (*letter, *number)), "{text}");
+        holds(&rt, is_said(&said, (*letter, *number)), text);
     }
 }
 
@@ -71,10 +72,20 @@ fn lines_stand_between_line_feeds(rt: HostRuntime) {
     assert!(rt; text.len() == 3 && text[0] == "show 1" && text[2] == "");
 }
 
+/// Numbers, and which of 7 and 8 has each: 0 for none.
+static NUMBERED: [(u64, u8); 5] = [(0, 0), (3, 0), (1, 7), (2, 8), (u64::MAX, 0)];
+
+/// Whether of 7 and 8 that one has the number, and none where it is 0.
+fn has(number: u64, want: u8) -> bool {
+    match numbered(&[7u8, 8], number) {
+        None => want == 0,
+        Some(found) => *found == want,
+    }
+}
+
 #[test]
 fn numbers_begin_with_1(rt: HostRuntime) {
-    let all = [7, 8];
-    assert!(rt; numbered(&all, 0).is_none() && numbered(&all, 3).is_none());
-    assert!(rt; numbered(&all, 1) == Some(&7) && numbered(&all, 2) == Some(&8));
-    assert!(rt; numbered(&all, u64::MAX).is_none());
+    for (number, want) in &NUMBERED {
+        assert!(rt; has(*number, *want));
+    }
 }

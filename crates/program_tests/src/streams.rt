@@ -54,19 +54,17 @@ static USAGES: [&[&str]; 26] = [
     ],
 ];
 
-/// Whether the program prints nothing of those words, explains its use, and ends with 2.
-fn explains<R: Abort + AllocGlobal>(rt: &R, words: &[&str], folder: &mut Folder) -> bool {
-    let ended = run_on(rt, words, folder);
-    ended.status == 2 && ended.printed.is_empty() && !ended.explained.is_empty()
+/// Whether the program prints nothing of those words, explains its use, ends with 2, and writes no file.
+fn explains<R: Abort + AllocGlobal>(rt: &R, words: &[&str]) -> bool {
+    let mut folder = Folder::of(rt, TWO, b"");
+    run_on(rt, words, &mut folder).explains() && folder.writes == 0
 }
 
 #[test]
 fn explains_its_use(rt: HostRuntime) {
-    let mut folder = Folder::of(&rt, TWO, b"");
     for words in &USAGES {
-        assert!(rt; explains(&rt, words, &mut folder));
+        assert!(rt; explains(&rt, words));
     }
-    assert!(rt; folder.writes == 0);
 }
 
 /// A writer with room for some bytes, which can let them through or can't.
@@ -94,9 +92,11 @@ impl Write for Limited {
     }
 }
 
-/// Words behind the program's name, the room of standard output, whether it flushes, and the status. `f ok 2` and the
-/// line feed are seven bytes.
-static LIMITS: [(&[&str], usize, bool, u8); 6] = [
+/// The program's name and words behind it, the room of standard output, whether it flushes, and the status.
+type Row = (&'static [&'static str], usize, bool, u8);
+
+/// `f ok 2` and the line feed are seven bytes.
+static LIMITS: [Row; 6] = [
     (&["radoscls", "verify", "image"], 0, true, 1),
     (&["radoscls", "verify", "image"], 6, true, 1),
     (&["radoscls", "verify", "image"], 7, true, 0),
@@ -105,55 +105,41 @@ static LIMITS: [(&[&str], usize, bool, u8); 6] = [
     (&["radoscls"], 0, true, 2),
 ];
 
-/// The room of standard output, whether it flushes, and the status, for two events of which each prints 13 bytes.
-static EVENTS: [(usize, bool, u8); 5] = [
-    (12, true, 1),
-    (13, true, 1),
-    (25, true, 1),
-    (26, true, 0),
-    (26, false, 1),
+const SIM: &[&str] = &["radoscls", "sim", "text"];
+
+/// Two events of which each prints 13 bytes.
+static EVENTS: [Row; 5] = [
+    (SIM, 12, true, 1),
+    (SIM, 13, true, 1),
+    (SIM, 25, true, 1),
+    (SIM, 26, true, 0),
+    (SIM, 26, false, 1),
 ];
 
-/// Whether the program ends so on that text, where standard output is so limited, and standard output has failed where
-/// the status is 1.
-fn ends_with<R: Abort + AllocGlobal>(
-    rt: &R,
-    words: &[&str],
-    text: &str,
-    limited: Limited,
-    want: u8,
-) -> bool {
-    let mut err = Limited {
-        room: 0,
-        flushes: limited.flushes,
-    };
+/// Whether the program ends as a row tells on that text, where standard output is so limited, and standard output has
+/// failed where the status is 1.
+fn ends_with<R: Abort + AllocGlobal>(rt: &R, text: &str, row: Row) -> bool {
+    let (words, room, flushes, want) = row;
+    let mut err = Limited { room: 0, flushes };
     let mut folder = Folder::of(rt, TWO, text.as_bytes());
-    let mut out = Printer::new(limited);
+    let mut out = Printer::new(Limited { room, flushes });
     let status = program(rt.alloc(), words, &mut folder, &mut out, &mut err);
     status == want && out.has_failed() == (want == 1)
 }
 
-#[test]
-fn an_event_fails_where_standard_output_does(rt: HostRuntime) {
-    let words = ["radoscls", "sim", "text"];
-    let text = "map 1\nmap 2\n";
-    for (room, flushes, want) in &EVENTS {
-        let limited = Limited {
-            room: *room,
-            flushes: *flushes,
-        };
-        assert!(rt; ends_with(&rt, &words, text, limited, *want), "{room}");
+/// Each row ends as it tells.
+fn all_end<R: Abort + AllocGlobal>(rt: &R, text: &str, rows: &[Row]) {
+    for row in rows {
+        assert!(rt; ends_with(rt, text, *row), "{}", row.1);
     }
 }
 
 #[test]
+fn an_event_fails_where_standard_output_does(rt: HostRuntime) {
+    all_end(&rt, "map 1\nmap 2\n", &EVENTS);
+}
+
+#[test]
 fn fails_where_standard_output_does(rt: HostRuntime) {
-    let text = ".method f r 0 0\nexit\n";
-    for (words, room, flushes, want) in &LIMITS {
-        let limited = Limited {
-            room: *room,
-            flushes: *flushes,
-        };
-        assert!(rt; ends_with(&rt, words, text, limited, *want), "{room}");
-    }
+    all_end(&rt, ".method f r 0 0\nexit\n", &LIMITS);
 }

@@ -1,4 +1,4 @@
-use crate::folder::{Ended, Folder, TWO, only_prints, run_on};
+use crate::folder::{Ended, Folder, Row, TWO, all_print, only_prints, run_on};
 use std::fmt::Write;
 use std::process::Abort;
 
@@ -8,14 +8,6 @@ const HELLO: &str =
     b701000005000000 850000000d000000 9500000000000000";
 
 /// Words of `sim`, an image, the events, what is printed, and the status.
-struct Row {
-    words: &'static [&'static str],
-    image: &'static str,
-    events: &'static str,
-    printed: &'static str,
-    status: u8,
-}
-
 static ROWS: [Row; 12] = [
     // two classes are asked by their words, and the built-in ones as without them
     Row {
@@ -27,7 +19,7 @@ static ROWS: [Row; 12] = [
             "text",
         ],
         image: HELLO,
-        events: "map 1\nsee 1 1\ndeliver 1\ndeliver 2\nreq 1 1 1 a hi hello -\nreq 1 1 2 a obj2 hello -\n\
+        text: "map 1\nsee 1 1\ndeliver 1\ndeliver 2\nreq 1 1 1 a hi hello -\nreq 1 1 2 a obj2 hello -\n\
         req 1 1 3 a lock lock -\nreq 1 1 4 a obj stat -\nreq 1 1 5 a lo hello -\nreq 1 1 5 a hi f -\n",
         printed: "map 1 prev 0\nm1 1->mon AskActivate 1\nm2 mon->1 Activated 1\nnothing\n\
         m3 1->c1 Reply 1 0 0 68656c6c6f\nm4 1->c1 Reply 2 1 0 68656c6c6f\nm5 1->c1 Reply 3 2 0 -\n\
@@ -38,7 +30,7 @@ static ROWS: [Row; 12] = [
     Row {
         words: &["sim", "text", "--class", "#\u{e4}-=image"],
         image: HELLO,
-        events: "map 1\nsee 1 1\ndeliver 1\ndeliver 2\nreq 1 1 1 a #\u{e4}- hello -\n",
+        text: "map 1\nsee 1 1\ndeliver 1\ndeliver 2\nreq 1 1 1 a #\u{e4}- hello -\n",
         printed: "map 1 prev 0\nm1 1->mon AskActivate 1\nm2 mon->1 Activated 1\nnothing\n\
         m3 1->c1 Reply 1 0 0 68656c6c6f\n",
         status: 0,
@@ -47,7 +39,7 @@ static ROWS: [Row; 12] = [
     Row {
         words: &["sim", "text"],
         image: HELLO,
-        events: "map 1\nsee 1 1\ndeliver 1\ndeliver 2\nreq 1 1 1 a hi hello -\n",
+        text: "map 1\nsee 1 1\ndeliver 1\ndeliver 2\nreq 1 1 1 a hi hello -\n",
         printed: "map 1 prev 0\nm1 1->mon AskActivate 1\nm2 mon->1 Activated 1\nnothing\nrefused 5 NoClass\n",
         status: 0,
     },
@@ -55,28 +47,28 @@ static ROWS: [Row; 12] = [
     Row {
         words: &["sim", "--class", "hi=missing", "text"],
         image: HELLO,
-        events: "map 1\n",
+        text: "map 1\n",
         printed: "cannot read\n",
         status: 1,
     },
     Row {
         words: &["sim", "--class", "hi=", "text"],
         image: HELLO,
-        events: "map 1\n",
+        text: "map 1\n",
         printed: "cannot read\n",
         status: 1,
     },
     Row {
         words: &["sim", "--class", "hi=image", "text"],
         image: "",
-        events: "map 1\n",
+        text: "map 1\n",
         printed: "image refused after 0 methods: 1 Truncated\n",
         status: 1,
     },
     Row {
         words: &["sim", "--class", "hi=image", "text"],
         image: "52434c31 0100 0000 01 66 01 0000 0000 0100 9500000000000000",
-        events: "map 1\n",
+        text: "map 1\n",
         printed: "refused method 0 slot 0: 5 UnsetRead\n",
         status: 1,
     },
@@ -93,7 +85,7 @@ static ROWS: [Row; 12] = [
             "text",
         ],
         image: HELLO,
-        events: "map 1\n",
+        text: "map 1\n",
         printed: "image refused after 0 methods: 2 Magic\n",
         status: 1,
     },
@@ -101,21 +93,21 @@ static ROWS: [Row; 12] = [
     Row {
         words: &["sim", "--class", "b=out", "missing"],
         image: HELLO,
-        events: "",
+        text: "",
         printed: "image refused after 0 methods: 2 Magic\n",
         status: 1,
     },
     Row {
         words: &["sim", "missing"],
         image: HELLO,
-        events: "",
+        text: "",
         printed: "cannot read\n",
         status: 1,
     },
     Row {
         words: &["sim", "--trace", "missing"],
         image: HELLO,
-        events: "",
+        text: "",
         printed: "cannot read\n",
         status: 1,
     },
@@ -123,7 +115,7 @@ static ROWS: [Row; 12] = [
     Row {
         words: &["sim", "--trace", "--class", "hi=image", "text"],
         image: HELLO,
-        events: "req 1 1 1 a hi hello -\n",
+        text: "req 1 1 1 a hi hello -\n",
         printed: "c1          1           event\n\
         |--req----->|           req 1 1 1 a hi hello -: refused 1 NotPrimary\n",
         status: 0,
@@ -132,10 +124,7 @@ static ROWS: [Row; 12] = [
 
 #[test]
 fn tenants_classes_are_asked(rt: HostRuntime) {
-    for row in &ROWS {
-        let events = row.events.as_bytes();
-        only_prints(&rt, row.words, row.image, events, row.printed, row.status);
-    }
+    all_print(&rt, &ROWS);
 }
 
 #[test]
@@ -170,13 +159,8 @@ fn is_answered(ended: &Ended) -> bool {
     ended.status == 0 && ended.printed.ends_with(last.as_bytes())
 }
 
-/// Whether nothing is done, and the use is explained.
-fn is_explained(ended: &Ended) -> bool {
-    ended.status == 2 && ended.printed.is_empty() && !ended.explained.is_empty()
-}
-
 #[test]
 fn there_may_be_62_of_them(rt: HostRuntime) {
     assert!(rt; is_answered(&with_classes(&rt, 62)));
-    assert!(rt; is_explained(&with_classes(&rt, 63)));
+    assert!(rt; with_classes(&rt, 63).explains());
 }

@@ -1,4 +1,4 @@
-use crate::folder::{Folder, TWO, bytes_of, only_prints, prints_on};
+use crate::folder::{Folder, Row, TWO, all_print, bytes_of, holds, only_prints, prints_on};
 use std::process::Abort;
 
 /// The text of the two instructions.
@@ -28,52 +28,96 @@ const ASM: [&str; 3] = ["asm", "text", "out"];
 static ASSEMBLED: [(&str, &str); 3] = [(TWO_TEXT, TWO), (KEEP_TEXT, KEEP), (LOOSE_TEXT, LOOSE)];
 
 /// Texts that are refused, and their lines.
-static REFUSED: [(&str, &str); 6] = [
-    (".method f r 0 0\nfoo r1\nexit\n", "line 2: 1 Word\n"),
-    (".method f r 0 0\nmov r0\nexit\n", "line 2: 2 Operand\n"),
-    (".method f r 0 0\nmov r11, 0\nexit\n", "line 2: 3 Range\n"),
-    (
-        ".method f r 0 0\njeq r0, 0, nowhere\nexit\n",
-        "line 2: 4 Label\n",
-    ),
-    ("", "line 1: 3 Range\n"),
-    ("mov r0, 0\nexit\n", "line 1: 1 Word\n"),
+static REFUSED: [Row; 6] = [
+    Row {
+        words: &ASM,
+        image: "",
+        text: ".method f r 0 0\nfoo r1\nexit\n",
+        printed: "line 2: 1 Word\n",
+        status: 1,
+    },
+    Row {
+        words: &ASM,
+        image: "",
+        text: ".method f r 0 0\nmov r0\nexit\n",
+        printed: "line 2: 2 Operand\n",
+        status: 1,
+    },
+    Row {
+        words: &ASM,
+        image: "",
+        text: ".method f r 0 0\nmov r11, 0\nexit\n",
+        printed: "line 2: 3 Range\n",
+        status: 1,
+    },
+    Row {
+        words: &ASM,
+        image: "",
+        text: ".method f r 0 0\njeq r0, 0, nowhere\nexit\n",
+        printed: "line 2: 4 Label\n",
+        status: 1,
+    },
+    Row {
+        words: &ASM,
+        image: "",
+        text: "",
+        printed: "line 1: 3 Range\n",
+        status: 1,
+    },
+    Row {
+        words: &ASM,
+        image: "",
+        text: "mov r0, 0\nexit\n",
+        printed: "line 1: 1 Word\n",
+        status: 1,
+    },
 ];
 
 /// Words behind the program's name for which a file is not there, or takes no bytes.
-static FAILURES: [(&[&str], &str); 2] = [
-    (&["asm", "other", "out"], "cannot read\n"),
-    (&["asm", "text", "full"], "cannot write\n"),
+static FAILURES: [Row; 2] = [
+    Row {
+        words: &["asm", "other", "out"],
+        image: TWO,
+        text: TWO_TEXT,
+        printed: "cannot read\n",
+        status: 1,
+    },
+    Row {
+        words: &["asm", "text", "full"],
+        image: TWO,
+        text: TWO_TEXT,
+        printed: "cannot write\n",
+        status: 1,
+    },
 ];
+
+/// Whether a folder was written to once, and a file of it holds an image, in hexadecimal.
+fn is_written<R: Abort + AllocGlobal>(rt: &R, folder: &Folder, file: &[u8], image: &str) -> bool {
+    folder.writes == 1 && bytes_of(rt, image).as_slice() == file
+}
 
 /// Whether the image of that text, in hexadecimal, is written to `out` once, and the text stays.
 fn assembles_to<R: Abort + AllocGlobal>(rt: &R, text: &str, image: &str) -> bool {
     let mut folder = Folder::of(rt, "", text.as_bytes());
     prints_on(rt, &ASM, &mut folder, "", 0);
-    folder.out == bytes_of(rt, image)
-        && folder.writes == 1
-        && folder.text.as_slice() == text.as_bytes()
+    is_written(rt, &folder, &folder.out, image) && folder.text.as_slice() == text.as_bytes()
 }
 
 #[test]
 fn assembles(rt: HostRuntime) {
     for (text, image) in &ASSEMBLED {
-        assert!(rt; assembles_to(&rt, text, image), "{text}");
+        holds(&rt, assembles_to(&rt, text, image), text);
     }
 }
 
 #[test]
 fn refuses_texts(rt: HostRuntime) {
-    for (text, printed) in &REFUSED {
-        only_prints(&rt, &ASM, "", text.as_bytes(), printed, 1);
-    }
+    all_print(&rt, &REFUSED);
 }
 
 #[test]
 fn names_files_that_fail(rt: HostRuntime) {
-    for (words, printed) in &FAILURES {
-        only_prints(&rt, words, TWO, TWO_TEXT.as_bytes(), printed, 1);
-    }
+    all_print(&rt, &FAILURES);
 }
 
 #[test]
@@ -87,6 +131,5 @@ fn a_text_is_utf8(rt: HostRuntime) {
 fn out_may_be_in(rt: HostRuntime) {
     let mut folder = Folder::of(&rt, "", LOOSE_TEXT.as_bytes());
     prints_on(&rt, &["asm", "text", "text"], &mut folder, "", 0);
-    assert!(rt; folder.writes == 1);
-    assert!(rt; folder.text == bytes_of(&rt, LOOSE));
+    assert!(rt; is_written(&rt, &folder, &folder.text, LOOSE));
 }

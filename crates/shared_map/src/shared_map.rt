@@ -8,10 +8,17 @@ use std::alloc::{AllocError, Global};
 use std::marker::Model;
 
 /// A map from bytes to values, in the order of the bytes. Its copies share what they have in common. Contracts see the finite map.
-#[derive(Drop)]
 pub struct SharedMap<V> {
     tree: Tree<V>,
     len: usize,
+}
+
+// Written out, so that a crate that drops a map calls this, and proves nothing of the tree's own drop once more.
+impl<V: Drop> Drop for SharedMap<V> {
+    fn drop(self) {
+        let SharedMap { tree, len: _ } = self;
+        drop(tree);
+    }
 }
 
 impl<V> Model for SharedMap<V> {

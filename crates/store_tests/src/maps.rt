@@ -50,15 +50,20 @@ fn right_reads(map: &SharedMap<u8>) -> usize {
 #[test]
 fn reads(rt: HostRuntime) {
     let map = few(&rt, rt.alloc());
-    assert!(rt; right_reads(&map) == 8);
-    assert!(rt; map.len() == 5);
+    let (right, len) = (right_reads(&map), map.len());
+    drop(map);
+    assert!(rt; right == 8);
+    assert!(rt; len == 5);
 }
 
 #[test]
 fn an_old_key_gets_a_new_value(rt: HostRuntime) {
-    let mut map = few(&rt, rt.alloc());
-    map.set(rt.alloc(), b"ab", 9).expect(&rt, "memory");
-    assert!(rt; is(&map, Some(9), 5));
+    let alloc = rt.alloc();
+    let mut map = few(&rt, alloc);
+    map.set(alloc, b"ab", 9).expect(&rt, "memory");
+    let right = is(&map, Some(9), 5);
+    drop(map);
+    assert!(rt; right);
 }
 
 /// Whether a copy stays as it is where a key is removed.
@@ -66,13 +71,18 @@ fn copy_stays<R: Abort>(rt: &R, alloc: Global, map: &mut SharedMap<u8>) -> bool 
     let copy = map.copy().expect(rt, "memory");
     map.remove(alloc, b"ab").expect(rt, "memory");
     map.remove(alloc, b"none").expect(rt, "memory");
-    is(&copy, Some(1), 5) && is(map, None, 4)
+    let stays = is(&copy, Some(1), 5);
+    drop(copy);
+    stays && is(map, None, 4)
 }
 
 #[test]
 fn a_copy_stays_as_it_is(rt: HostRuntime) {
-    let mut map = few(&rt, rt.alloc());
-    assert!(rt; copy_stays(&rt, rt.alloc(), &mut map));
+    let alloc = rt.alloc();
+    let mut map = few(&rt, alloc);
+    let stays = copy_stays(&rt, alloc, &mut map);
+    drop(map);
+    assert!(rt; stays);
 }
 
 /// How many keys the high maps have.
@@ -102,7 +112,10 @@ static ORDERS: [(u16, [u8; 2]); 2] = [(0, [3, 255]), (MANY - 1, [0, 0])];
 #[test]
 fn maps_stay_low(rt: HostRuntime) {
     for (mask, last) in &ORDERS {
-        assert!(rt; is_low(&many(&rt, rt.alloc(), *mask), *last));
+        let map = many(&rt, rt.alloc(), *mask);
+        let low = is_low(&map, *last);
+        drop(map);
+        assert!(rt; low);
     }
 }
 
@@ -116,6 +129,9 @@ fn is_low_when_cut<R: Abort>(rt: &R, alloc: Global, map: &mut SharedMap<u16>) ->
 
 #[test]
 fn removals_keep_it_low(rt: HostRuntime) {
-    let mut map = many(&rt, rt.alloc(), 0);
-    assert!(rt; is_low_when_cut(&rt, rt.alloc(), &mut map));
+    let alloc = rt.alloc();
+    let mut map = many(&rt, alloc, 0);
+    let low = is_low_when_cut(&rt, alloc, &mut map);
+    drop(map);
+    assert!(rt; low);
 }

@@ -40,7 +40,10 @@ fn has_gap(change: &Change) -> bool {
 
 #[test]
 fn a_gap_is_zero(rt: HostRuntime) {
-    assert!(rt; has_gap(&made(&rt, rt.alloc(), false)));
+    let change = made(&rt, rt.alloc(), false);
+    let gap = has_gap(&change);
+    drop(change);
+    assert!(rt; gap);
 }
 
 // What a cut took away is not seen again, and the object that was staged has it still.
@@ -48,7 +51,9 @@ fn reads_zeros<R: Abort>(rt: &R, alloc: Global, object: Option<&Object>) -> bool
     let mut staged = Staged::over(object);
     staged.truncate(alloc, 4_095).expect(rt, "memory");
     staged.truncate(alloc, 4_098).expect(rt, "memory");
-    reads(staged.object(), 4_094, [b'a', 0, 0, 0])
+    let right = reads(staged.object(), 4_094, [b'a', 0, 0, 0]);
+    drop(staged);
+    right
 }
 
 /// Whether a cut is forgotten, and the object of the change stays.
@@ -59,7 +64,11 @@ fn forgets<R: Abort>(rt: &R, alloc: Global, change: &Change) -> bool {
 
 #[test]
 fn a_cut_is_forgotten(rt: HostRuntime) {
-    assert!(rt; forgets(&rt, rt.alloc(), &made(&rt, rt.alloc(), false)));
+    let alloc = rt.alloc();
+    let change = made(&rt, alloc, false);
+    let forgotten = forgets(&rt, alloc, &change);
+    drop(change);
+    assert!(rt; forgotten);
 }
 
 /// What a call does to its object.
@@ -150,8 +159,10 @@ fn stage(alloc: Global, staged: &mut Staged, data: &[u8], value: &[u8]) -> Resul
 /// Two objects, of which the first one is changed.
 fn two_objects<R: Abort>(rt: &R, alloc: Global) -> Pair {
     let mut pair = two_names(rt, alloc);
-    step_on(rt, alloc, &mut pair.objects, &pair.one, Step::MakeOne);
-    step_on(rt, alloc, &mut pair.objects, &pair.other, Step::MakeOther);
+    let one = step_on(rt, alloc, &mut pair.objects, &pair.one, Step::MakeOne);
+    drop(one);
+    let other = step_on(rt, alloc, &mut pair.objects, &pair.other, Step::MakeOther);
+    drop(other);
     pair
 }
 
@@ -166,7 +177,9 @@ fn is_as_made(pair: &Pair) -> bool {
 fn undoes<R: Abort>(rt: &R, alloc: Global, pair: &mut Pair, step: Step) -> bool {
     let change = step_on(rt, alloc, &mut pair.objects, &pair.one, step);
     let changed = !is_as_made(pair);
-    undo(alloc, &mut pair.objects, &pair.one, &change).expect(rt, "memory");
+    let done = undo(alloc, &mut pair.objects, &pair.one, &change);
+    drop(change);
+    done.expect(rt, "memory");
     changed && is_as_made(pair)
 }
 
@@ -184,33 +197,42 @@ fn undone<R: Abort>(rt: &R, alloc: Global, pair: &mut Pair) -> usize {
 
 #[test]
 fn undo_restores_what_was(rt: HostRuntime) {
-    let mut pair = two_objects(&rt, rt.alloc());
-    assert!(rt; undone(&rt, rt.alloc(), &mut pair) == 8);
+    let alloc = rt.alloc();
+    let mut pair = two_objects(&rt, alloc);
+    let count = undone(&rt, alloc, &mut pair);
+    drop(pair);
+    assert!(rt; count == 8);
 }
 
 /// A copy of the change that creates an object.
 fn creation<R: Abort>(rt: &R, alloc: Global, objects: &mut Objects, name: &ObjectName) -> Change {
     let change = step_on(rt, alloc, objects, name, Step::Write);
-    change.copy().expect(rt, "memory")
+    let copy = change.copy();
+    drop(change);
+    copy.expect(rt, "memory")
 }
 
 /// Creates the first object and undoes a copy of that change. Whether the object was there in between.
 fn undoes_creation<R: Abort>(rt: &R, alloc: Global, pair: &mut Pair) -> bool {
     let change = creation(rt, alloc, &mut pair.objects, &pair.one);
     let created = is_long(pair.objects.get(&pair.one), 4);
-    undo(alloc, &mut pair.objects, &pair.one, &change).expect(rt, "memory");
+    let done = undo(alloc, &mut pair.objects, &pair.one, &change);
+    drop(change);
+    done.expect(rt, "memory");
     created
 }
 
 /// Whether the undone creation leaves nothing.
-fn leaves_nothing<R: Abort>(rt: &R, alloc: Global, pair: &mut Pair) -> bool {
-    undoes_creation(rt, alloc, pair) && is_empty(pair)
+fn leaves_nothing<R: Abort>(rt: &R, alloc: Global) -> bool {
+    let mut pair = two_names(rt, alloc);
+    let nothing = undoes_creation(rt, alloc, &mut pair) && is_empty(&pair);
+    drop(pair);
+    nothing
 }
 
 #[test]
 fn undo_makes_it_absent(rt: HostRuntime) {
-    let mut pair = two_names(&rt, rt.alloc());
-    assert!(rt; leaves_nothing(&rt, rt.alloc(), &mut pair));
+    assert!(rt; leaves_nothing(&rt, rt.alloc()));
 }
 
 /// Sets the key of a number, and while an object may have more xattrs, the xattr too.
@@ -233,5 +255,7 @@ fn fill(alloc: Global, staged: &mut Staged) -> Result<(), StoreError> {
 #[test]
 fn an_object_of_full_size(rt: HostRuntime) {
     let change = made(&rt, rt.alloc(), true);
-    assert!(rt; is_long(change.after.as_ref(), 65_536));
+    let long = is_long(change.after.as_ref(), 65_536);
+    drop(change);
+    assert!(rt; long);
 }

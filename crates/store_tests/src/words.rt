@@ -6,6 +6,77 @@ const LONGEST: &str = "0123456789abcdef0123456789abcdef0123456789abcdef012345678
 
 const TOO_LONG: &str = "0123456789abcdef0123456789abcdef0123456789abcdef0123456789abcdefg";
 
+/// What a line calls, on objects or as a helper. A key is one of the omap.
+#[derive(Clone, Copy)]
+pub enum Call {
+    Unknown,
+    Stat,
+    Read,
+    Write,
+    Truncate,
+    Create,
+    Remove,
+    GetXattr,
+    SetXattr,
+    RemoveXattr,
+    GetKey,
+    SetKey,
+    RemoveKey,
+    NextKey,
+}
+
+/// Calls by name. Those of the omap have two: on objects, and as helpers.
+static CALLS: [(&str, Call); 17] = [
+    ("stat", Call::Stat),
+    ("read", Call::Read),
+    ("write", Call::Write),
+    ("truncate", Call::Truncate),
+    ("create", Call::Create),
+    ("remove", Call::Remove),
+    ("getxattr", Call::GetXattr),
+    ("setxattr", Call::SetXattr),
+    ("rmxattr", Call::RemoveXattr),
+    ("getkey", Call::GetKey),
+    ("map_get", Call::GetKey),
+    ("setkey", Call::SetKey),
+    ("map_set", Call::SetKey),
+    ("rmkey", Call::RemoveKey),
+    ("map_rm", Call::RemoveKey),
+    ("nextkey", Call::NextKey),
+    ("map_next", Call::NextKey),
+];
+
+/// The call of that name.
+pub fn call_of(word: &str) -> Call {
+    for (name, call) in &CALLS {
+        if *name == word {
+            return *call;
+        }
+    }
+    Call::Unknown
+}
+
+/// A line's words: a call, what it is given first and second, its answer, and what it copies.
+#[derive(Clone, Copy)]
+pub struct Line<'a> {
+    pub call: Call,
+    pub first: &'a str,
+    pub second: &'a str,
+    pub answer: &'a str,
+    pub copied: &'a str,
+}
+
+pub fn line_of(line: &str) -> Line<'_> {
+    let mut words = line.split_whitespace();
+    Line {
+        call: call_of(next(&mut words)),
+        first: next(&mut words),
+        second: next(&mut words),
+        answer: next(&mut words),
+        copied: next(&mut words),
+    }
+}
+
 pub fn next<'a>(words: &mut SplitWhitespace<'a>) -> &'a str {
     words.next().unwrap_or("-")
 }

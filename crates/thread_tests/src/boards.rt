@@ -1,30 +1,17 @@
 //! What writers have committed, among threads.
 ghost use Rattle.std.specs.Prelude.{◌≡◌, ◌<◌, ◌≤◌, [], length};
 
+use crate::locks::request;
 use commit_board::{Board, Note, Seen, Writer};
-use object_store::ObjectName;
-use pg_log::{ClientId, Request, RequestNumber};
 use std::alloc::Global;
 use std::process::Abort;
-use std::thread::join;
+use std::thread::{Threads, join};
 
 /// How many requests each thread commits.
 const MANY: u64 = 1000;
 
-/// A request: which one makes no difference to the board.
-fn request(rt: &impl Abort, alloc: Global) -> Request {
-    Request::new(
-        ClientId::new(1).expect(rt, "a client"),
-        RequestNumber::new(1).expect(rt, "a number"),
-        ObjectName::new(alloc, "object").expect(rt, "memory"),
-        0,
-        String::from_str(alloc, "lock").expect(rt, "memory"),
-        Vec::new(alloc),
-    )
-}
-
-/// Commits so many times.
-fn commit_many(board: &Board, writer: &mut Writer, request: &Request, times: u64)
+/// Commits a request so many times: which one makes no difference to the board.
+fn commit_many<R: Abort>(rt: &R, alloc: Global, board: &Board, writer: &mut Writer, times: u64)
     requires board { writer.old.board ≡ board.now }
     requires new { writer.old.list ≡ [] }
     requires times { times ≤ 1000 }
@@ -32,19 +19,20 @@ fn commit_many(board: &Board, writer: &mut Writer, request: &Request, times: u64
     ensures row { writer.new.row ≡ writer.old.row }
     ensures length { length writer.new.list ≡ times }
 {
+    let request = request(rt, alloc, 1, 1);
     for _ in 0..times {
-        board.commit(writer, request);
+        board.commit(writer, &request);
     }
 }
 
 /// A writer's thread: it commits, and tells of it by a note.
-fn write(board: &Board, mut writer: Writer, request: &Request) -> (Writer, Note)
+fn write<R: Abort>(rt: &R, alloc: Global, board: &Board, mut writer: Writer) -> (Writer, Note)
     requires board { writer.board ≡ board.now }
     requires new { writer.list ≡ [] }
     ensures writer { result.0.board ≡ board.now }
     ensures note { result.1.board ≡ board.now }
 {
-    commit_many(board, &mut writer, request, MANY);
+    commit_many(rt, alloc, board, &mut writer, MANY);
     let note = board.share(&mut writer);
     (writer, note)
 }
@@ -66,96 +54,113 @@ fn watch(board: &Board, mut seen: Seen) -> (Seen, bool)
 }
 
 /// What a token that knows nothing finds in the first row, once it was committed so often.
-fn found_late(
+fn found_late<R: Abort>(
+    rt: &R,
+    alloc: Global,
     board: &Board,
-    writer: &mut Writer,
-    seen: &mut Seen,
-    request: &Request,
+    mut writer: Writer,
+    mut seen: Seen,
     times: u64,
 ) -> u64
-    requires writer { writer.old.board ≡ board.now }
-    requires new { writer.old.list ≡ [] }
+    requires writer { writer.board ≡ board.now }
+    requires new { writer.list ≡ [] }
     requires times { times ≤ 1000 }
-    requires seen { seen.old.board ≡ board.now }
+    requires seen { seen.board ≡ board.now }
     requires rows { 0 < board.now.words }
 {
-    commit_many(board, writer, request, times);
-    let mut late = board.fresh(seen);
+    commit_many(rt, alloc, board, &mut writer, times);
+    let mut late = board.fresh(&mut seen);
     board.look(&mut late, 0)
 }
 
 #[test]
 fn a_fresh_token_sees_three_commits(rt: HostRuntime) {
-    let (board, mut writers, mut seen) = Board::new(rt.alloc(), 1).expect(&rt, "memory");
-    let mut writer = writers.pop().expect(&rt, "a writer");
-    let request = request(&rt, rt.alloc());
-    assert!(rt; found_late(&board, &mut writer, &mut seen, &request, 3) == 3);
+    let (board, mut writers, seen) = Board::new(rt.alloc(), 1).expect(&rt, "memory");
+    let writer = writers.pop().expect(&rt, "a writer");
+    assert!(rt; found_late(&rt, rt.alloc(), &board, writer, seen, 3) == 3);
 }
 
 /// Whether two rows have counts of their own, once the second was committed five times and the first twice.
-fn are_apart(
+fn are_apart<R: Abort>(
+    rt: &R,
+    alloc: Global,
     board: &Board,
-    first: &mut Writer,
-    second: &mut Writer,
-    seen: &mut Seen,
-    request: &Request,
+    mut first: Writer,
+    mut second: Writer,
+    mut seen: Seen,
 ) -> bool
-    requires first { first.old.board ≡ board.now }
-    requires second { second.old.board ≡ board.now }
-    requires new { first.old.list ≡ [] × second.old.list ≡ [] }
-    requires seen { seen.old.board ≡ board.now }
+    requires first { first.board ≡ board.now }
+    requires second { second.board ≡ board.now }
+    requires new { first.list ≡ [] × second.list ≡ [] }
+    requires seen { seen.board ≡ board.now }
     requires rows { 1 < board.now.words }
 {
-    let rows = (first.row(), second.row());
-    commit_many(board, second, request, 5);
-    commit_many(board, first, request, 2);
-    rows == (0, 1) && board.look(seen, 0) == 2 && board.look(seen, 1) == 5
+    commit_many(rt, alloc, board, &mut second, 5);
+    commit_many(rt, alloc, board, &mut first, 2);
+    let in_first = board.look(&mut seen, 0);
+    let in_second = board.look(&mut seen, 1);
+    first.row() == 0 && second.row() == 1 && in_first == 2 && in_second == 5
 }
 
 #[test]
 fn neighbouring_rows_have_counts_of_their_own(rt: HostRuntime) {
-    let (board, mut writers, mut seen) = Board::new(rt.alloc(), 2).expect(&rt, "memory");
-    let mut second = writers.pop().expect(&rt, "a writer");
-    let mut first = writers.pop().expect(&rt, "a writer");
-    let request = request(&rt, rt.alloc());
-    assert!(rt; are_apart(&board, &mut first, &mut second, &mut seen, &request));
+    let (board, mut writers, seen) = Board::new(rt.alloc(), 2).expect(&rt, "memory");
+    let second = writers.pop().expect(&rt, "a writer");
+    let first = writers.pop().expect(&rt, "a writer");
+    assert!(rt; are_apart(&rt, rt.alloc(), &board, first, second, seen));
 }
 
 /// What is found in the first row by a token that heard of it over another one's note.
-fn heard(board: &Board, writer: &mut Writer, note: Note, late: &mut Seen, seen: &mut Seen) -> u64
-    requires writer { writer.old.board ≡ board.now }
+fn heard(board: &Board, mut writer: Writer, note: Note, mut late: Seen, mut seen: Seen) -> u64
+    requires writer { writer.board ≡ board.now }
     requires note { note.board ≡ board.now }
-    requires late { late.old.board ≡ board.now }
-    requires seen { seen.old.board ≡ board.now }
+    requires late { late.board ≡ board.now }
+    requires seen { seen.board ≡ board.now }
     requires rows { 0 < board.now.words }
 {
-    board.meet(late, note);
-    board.compare(writer, late);
-    let note = board.tell(late);
-    board.meet(seen, note);
-    board.look(seen, 0)
+    board.meet(&mut late, note);
+    board.compare(&mut writer, &mut late);
+    let note = board.tell(&mut late);
+    board.meet(&mut seen, note);
+    board.look(&mut seen, 0)
+}
+
+/// Checks that a token hears of what another thread commits while a third looks.
+fn carry_notes<R: Threads + Abort + Sync>(
+    rt: &R,
+    alloc: Global,
+    board: &Board,
+    writer: Writer,
+    mut seen: Seen,
+)
+    requires writer { writer.board ≡ board.now }
+    requires new { writer.list ≡ [] }
+    requires seen { seen.board ≡ board.now }
+    requires rows { 1 ≤ board.now.words }
+{
+    let late = board.fresh(&mut seen);
+    let ((writer, note), (late, rising)) = join(
+        rt,
+        || -> (Writer, Note)
+            requires board { writer.board ≡ board.now }
+            requires new { writer.list ≡ [] }
+            ensures writer { result.0.board ≡ board.entry.now }
+            ensures note { result.1.board ≡ board.entry.now }
+        { write(rt, alloc, board, writer) },
+        || -> (Seen, bool)
+            requires board { late.board ≡ board.now }
+            requires rows { 1 ≤ board.now.words }
+            ensures { result.0.board ≡ board.entry.now }
+        { watch(board, late) },
+    );
+    let found = heard(board, writer, note, late, seen);
+    assert!(rt; rising);
+    assert!(rt; found == MANY);
 }
 
 #[test]
 fn notes_are_carried_between_threads(rt: HostRuntime) {
-    let (board, mut writers, mut seen) = Board::new(rt.alloc(), 1).expect(&rt, "memory");
+    let (board, mut writers, seen) = Board::new(rt.alloc(), 1).expect(&rt, "memory");
     let writer = writers.pop().expect(&rt, "a writer");
-    let late = board.fresh(&mut seen);
-    let request = request(&rt, rt.alloc());
-    let ((mut writer, note), (mut late, rising)) = join(
-        &rt,
-        || -> (Writer, Note)
-            requires board { writer.board ≡ board }
-            requires new { writer.list ≡ [] }
-            ensures writer { result.0.board ≡ board }
-            ensures note { result.1.board ≡ board }
-        { write(&board, writer, &request) },
-        || -> (Seen, bool)
-            requires board { late.board ≡ board }
-            requires rows { 1 ≤ board.words }
-            ensures { result.0.board ≡ board }
-        { watch(&board, late) },
-    );
-    assert!(rt; rising);
-    assert!(rt; heard(&board, &mut writer, note, &mut late, &mut seen) == MANY);
+    carry_notes(&rt, rt.alloc(), &board, writer, seen);
 }

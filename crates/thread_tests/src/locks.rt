@@ -89,7 +89,7 @@ fn table_shares()
 }
 
 /// A client's request for the lock of the one object.
-fn request<R: Abort>(rt: &R, alloc: Global, client: u32, number: u32) -> Request {
+pub fn request<R: Abort>(rt: &R, alloc: Global, client: u32, number: u32) -> Request {
     Request::new(
         ClientId::new(client).expect(rt, "a client"),
         RequestNumber::new(number).expect(rt, "a number"),
@@ -100,17 +100,18 @@ fn request<R: Abort>(rt: &R, alloc: Global, client: u32, number: u32) -> Request
     )
 }
 
-/// A thread: once all are there, it appends its requests, each under the lock.
+/// A thread, of client 1, 2 and so on: once all are there, it appends its requests, each under the lock.
 fn append_each<C: Classes, R: Wait + Abort>(
     rt: &R,
     alloc: Global,
     table: &ClassTable,
     group: &Mutex<Group<C>>,
     start: &Barrier,
-    client: u32,
+    index: usize,
 )
     requires { IsPrefix table.now C.classes }
 {
+    let client = u32::try_from(index).unwrap_or(0).wrapping_add(1);
     start.wait(rt);
     for number in 1..=EACH {
         let request = request(rt, alloc, client, number);
@@ -119,12 +120,12 @@ fn append_each<C: Classes, R: Wait + Abort>(
     }
 }
 
-/// The group that all threads together make.
+/// Whether the group that all threads together make is right.
 fn appended<C: Classes + Send + Sync, R: Threads + Wait + Abort + Sync>(
     rt: &R,
     alloc: Global,
     table: &ClassTable,
-) -> Group<C>
+) -> bool
     requires { IsPrefix table.now C.classes }
 {
     entry_sends();
@@ -135,12 +136,9 @@ fn appended<C: Classes + Send + Sync, R: Threads + Wait + Abort + Sync>(
     let start = Barrier::new(THREADS as usize);
     let thread = |index: usize|
         requires { IsPrefix table.now C.classes }
-    {
-        let client = u32::try_from(index).unwrap_or(0).wrapping_add(1);
-        append_each(rt, alloc, table, &group, &start, client)
-    };
+    { append_each(rt, alloc, table, &group, &start, index) };
     map_indices(rt, alloc, THREADS as usize, &thread).expect(rt, "memory");
-    group.into_inner()
+    are_right(group.into_inner().entries())
 }
 
 /// How many entries a client has, if they are numbered 1, 2 and so on in their order.
@@ -179,23 +177,11 @@ fn are_right(entries: &[Entry]) -> bool {
     all && is_held_by_first(entries)
 }
 
-/// Checks what all threads together make.
-fn check<C: Classes + Send + Sync, R: Threads + Wait + Abort + Sync>(
-    rt: &R,
-    alloc: Global,
-    table: &ClassTable,
-)
-    requires { IsPrefix table.now C.classes }
-{
-    let group = appended::<C, R>(rt, alloc, table);
-    assert!(rt; are_right(group.entries()));
-}
-
 #[test]
 fn eight_threads_append_under_a_lock(rt: HostRuntime) {
     let alloc = rt.alloc();
     let mut table = ClassTable::new(alloc);
     let lock = load_lock(alloc).expect(&rt, "a class");
     table.add(lock).expect(&rt, "memory");
-    check::<Brand, HostRuntime>(&rt, alloc, &table);
+    assert!(rt; appended::<Brand, HostRuntime>(&rt, alloc, &table));
 }

@@ -120,84 +120,73 @@ fn send_two<R: Threads + Wait + Sync>(
     );
 }
 
-fn take_two<R: Threads + Wait + Abort + Sync>(
-    rt: &R,
-    alloc: Global,
-    shards: &OpShards<Job, R>,
-    first: TakePass<Job>,
-    second: TakePass<Job>,
-    taken: &AtomicU64,
-) -> (Vec<Job>, Vec<Job>)
-    requires first { first.queues ≡ shards.now.queues }
-    requires second { second.queues ≡ shards.now.queues }
-{
-    join(
-        rt,
-        || take_all(rt, alloc, shards, first, taken),
-        || take_all(rt, alloc, shards, second, taken),
-    )
+/// The passes of two senders, the first of them with the number `sender`, and of a taker beside them.
+#[derive(Drop)]
+struct Crew {
+    first: SendPass<Job>,
+    second: SendPass<Job>,
+    sender: usize,
+    take: TakePass<Job>,
 }
 
-/// Four senders and two takers, beside a third.
-fn run_most<R: Threads + Wait + Abort + Sync>(
+/// Runs a crew. Answers what its taker took.
+fn run_crew<R: Threads + Wait + Abort + Sync>(
     rt: &R,
     alloc: Global,
     shards: &OpShards<Job, R>,
-    a: SendPass<Job>,
-    b: SendPass<Job>,
-    c: SendPass<Job>,
-    d: SendPass<Job>,
-    first: TakePass<Job>,
-    second: TakePass<Job>,
+    crew: Crew,
     taken: &AtomicU64,
-) -> (Vec<Job>, Vec<Job>)
-    requires a { a.queues ≡ shards.now.queues }
-    requires b { b.queues ≡ shards.now.queues }
-    requires c { c.queues ≡ shards.now.queues }
-    requires d { d.queues ≡ shards.now.queues }
-    requires first { first.queues ≡ shards.now.queues }
-    requires second { second.queues ≡ shards.now.queues }
+) -> Vec<Job>
+    requires first { crew.first.queues ≡ shards.now.queues }
+    requires second { crew.second.queues ≡ shards.now.queues }
+    requires take { crew.take.queues ≡ shards.now.queues }
 {
-    let ((), got) = join(
+    let Crew {
+        first,
+        second,
+        sender,
+        take,
+    } = crew;
+    let ((), jobs) = join(
         rt,
         ||
-            requires a { a.queues ≡ shards.now.queues }
-            requires b { b.queues ≡ shards.now.queues }
-            requires c { c.queues ≡ shards.now.queues }
-            requires d { d.queues ≡ shards.now.queues }
-        { send_four(rt, shards, a, b, c, d) },
-        || -> (Vec<Job>, Vec<Job>)
             requires first { first.queues ≡ shards.now.queues }
             requires second { second.queues ≡ shards.now.queues }
-        { take_two(rt, alloc, shards, first, second, taken) },
+        { send_two(rt, shards, first, second, sender) },
+        || take_all(rt, alloc, shards, take, taken),
     );
-    got
+    jobs
 }
 
-fn send_four<R: Threads + Wait + Sync>(
+/// Runs two crews, four senders and two takers, beside a third taker.
+fn run_crews<R: Threads + Wait + Abort + Sync>(
     rt: &R,
+    alloc: Global,
     shards: &OpShards<Job, R>,
-    a: SendPass<Job>,
-    b: SendPass<Job>,
-    c: SendPass<Job>,
-    d: SendPass<Job>,
-)
-    requires a { a.queues ≡ shards.now.queues }
-    requires b { b.queues ≡ shards.now.queues }
-    requires c { c.queues ≡ shards.now.queues }
-    requires d { d.queues ≡ shards.now.queues }
+    one: Crew,
+    two: Crew,
+    taken: &AtomicU64,
+) -> (Vec<Job>, Vec<Job>)
+    requires first_one { one.first.queues ≡ shards.now.queues }
+    requires second_one { one.second.queues ≡ shards.now.queues }
+    requires take_one { one.take.queues ≡ shards.now.queues }
+    requires first_two { two.first.queues ≡ shards.now.queues }
+    requires second_two { two.second.queues ≡ shards.now.queues }
+    requires take_two { two.take.queues ≡ shards.now.queues }
 {
     join(
         rt,
-        ||
-            requires a { a.queues ≡ shards.now.queues }
-            requires b { b.queues ≡ shards.now.queues }
-        { send_two(rt, shards, a, b, 0) },
-        ||
-            requires c { c.queues ≡ shards.now.queues }
-            requires d { d.queues ≡ shards.now.queues }
-        { send_two(rt, shards, c, d, 2) },
-    );
+        || -> Vec<Job>
+            requires first { one.first.queues ≡ shards.now.queues }
+            requires second { one.second.queues ≡ shards.now.queues }
+            requires take { one.take.queues ≡ shards.now.queues }
+        { run_crew(rt, alloc, shards, one, taken) },
+        || -> Vec<Job>
+            requires first { two.first.queues ≡ shards.now.queues }
+            requires second { two.second.queues ≡ shards.now.queues }
+            requires take { two.take.queues ≡ shards.now.queues }
+        { run_crew(rt, alloc, shards, two, taken) },
+    )
 }
 
 /// Whether an operation is no earlier than what is due of its sender and shard; the one behind it is due then.
@@ -277,28 +266,33 @@ fn each_once_and_in_order(rt: HostRuntime) {
     let (shards, mut sends, mut takes) = OpShards::new(alloc, rt, SHARDS, 64, 4, 3).expect(
         &rt, "memory",
     );
-    let d = sends.pop().expect(&rt, "a sender");
-    let c = sends.pop().expect(&rt, "a sender");
-    let b = sends.pop().expect(&rt, "a sender");
-    let a = sends.pop().expect(&rt, "a sender");
     let third = takes.pop().expect(&rt, "a taker");
-    let second = takes.pop().expect(&rt, "a taker");
-    let first = takes.pop().expect(&rt, "a taker");
+    let two = Crew {
+        second: sends.pop().expect(&rt, "a sender"),
+        first: sends.pop().expect(&rt, "a sender"),
+        sender: 2,
+        take: takes.pop().expect(&rt, "a taker"),
+    };
+    let one = Crew {
+        second: sends.pop().expect(&rt, "a sender"),
+        first: sends.pop().expect(&rt, "a sender"),
+        sender: 0,
+        take: takes.pop().expect(&rt, "a taker"),
+    };
     let taken = AtomicU64::new(0);
-    let ((one, two), three) = join(
+    let ((first, second), third) = join(
         &rt,
-        || run_most(&rt, alloc, &shards, a, b, c, d, first, second, &taken),
+        || -> (Vec<Job>, Vec<Job>)
+            requires first_one { one.first.queues ≡ shards.queues }
+            requires second_one { one.second.queues ≡ shards.queues }
+            requires take_one { one.take.queues ≡ shards.queues }
+            requires first_two { two.first.queues ≡ shards.queues }
+            requires second_two { two.second.queues ≡ shards.queues }
+            requires take_two { two.take.queues ≡ shards.queues }
+        { run_crews(&rt, alloc, &shards, one, two, &taken) },
         || take_all(&rt, alloc, &shards, third, &taken),
     );
-    assert!(rt; is_complete(&rt, alloc, &one, &two, &three));
-}
-
-/// Whether an operation of a group is accepted.
-fn is_accepted<R: Wait>(shards: &OpShards<Job, R>, pass: &mut SendPass<Job>, group: usize) -> bool
-    requires { pass.old.queues ≡ shards.now.queues }
-    ensures { pass.new.queues ≡ pass.old.queues }
-{
-    shards.submit(pass, request(group)).is_ok()
+    assert!(rt; is_complete(&rt, alloc, &first, &second, &third));
 }
 
 /// The group of the operation that comes back; none where it is accepted.
@@ -333,13 +327,13 @@ fn taken_of<R: Wait>(
 }
 
 /// Whether the second of two operations of one shard comes back, and one of the other shard doesn't.
-fn gives_back_nine<R: Wait>(shards: &OpShards<Job, R>, send: &mut SendPass<Job>) -> bool
-    requires { send.old.queues ≡ shards.now.queues }
+fn gives_back_nine<R: Wait>(shards: &OpShards<Job, R>, mut send: SendPass<Job>) -> bool
+    requires { send.queues ≡ shards.now.queues }
 {
-    let first = is_accepted(shards, send, 7);
-    let back = given_back(shards, send, 9);
-    let other = is_accepted(shards, send, 8);
-    first && back == Some(9) && other
+    let first = given_back(shards, &mut send, 7);
+    let back = given_back(shards, &mut send, 9);
+    let other = given_back(shards, &mut send, 8);
+    first.is_none() && back == Some(9) && other.is_none()
 }
 
 #[test]
@@ -347,24 +341,24 @@ fn a_full_queue_gives_back(rt: HostRuntime) {
     let (shards, mut sends, _takes) = OpShards::new(rt.alloc(), rt, 2, 1, 1, 1).expect(
         &rt, "memory",
     );
-    let mut send = sends.pop().expect(&rt, "a sender");
-    assert!(rt; gives_back_nine(&shards, &mut send));
+    let send = sends.pop().expect(&rt, "a sender");
+    assert!(rt; gives_back_nine(&shards, send));
 }
 
 /// Whether an operation of group 7 that was sent is taken once of shard 1 of two, and not of shard 0.
 fn takes_seven_once<R: Wait>(
     shards: &OpShards<Job, R>,
-    send: &mut SendPass<Job>,
-    take: &mut TakePass<Job>,
+    mut send: SendPass<Job>,
+    mut take: TakePass<Job>,
 ) -> bool
-    requires send { send.old.queues ≡ shards.now.queues }
-    requires take { take.old.queues ≡ shards.now.queues }
+    requires send { send.queues ≡ shards.now.queues }
+    requires take { take.queues ≡ shards.now.queues }
     requires shards { 1 < length shards.now.queues.names }
 {
-    let _ = is_accepted(shards, send, 7);
-    let before = taken_of(shards, take, 0);
-    let seven = taken_of(shards, take, 1);
-    let behind = taken_of(shards, take, 1);
+    let _ = given_back(shards, &mut send, 7);
+    let before = taken_of(shards, &mut take, 0);
+    let seven = taken_of(shards, &mut take, 1);
+    let behind = taken_of(shards, &mut take, 1);
     before.is_none() && seven == Some(7) && behind.is_none()
 }
 
@@ -373,30 +367,29 @@ fn an_empty_queue_gives_none(rt: HostRuntime) {
     let (shards, mut sends, mut takes) = OpShards::new(rt.alloc(), rt, 2, 1, 1, 1).expect(
         &rt, "memory",
     );
-    let mut send = sends.pop().expect(&rt, "a sender");
-    let mut take = takes.pop().expect(&rt, "a taker");
-    assert!(rt; takes_seven_once(&shards, &mut send, &mut take));
+    let send = sends.pop().expect(&rt, "a sender");
+    let take = takes.pop().expect(&rt, "a taker");
+    assert!(rt; takes_seven_once(&shards, send, take));
 }
 
 /// Whether two takers take operations of groups 1 and 2 that were sent, one before and one after they are put together.
 fn take_one_each<R: Wait>(
     shards: &OpShards<Job, R>,
-    send: &mut SendPass<Job>,
-    take: &mut TakePass<Job>,
-    other: TakePass<Job>,
+    mut send: SendPass<Job>,
+    mut take: TakePass<Job>,
+    mut other: TakePass<Job>,
 ) -> bool
-    requires send { send.old.queues ≡ shards.now.queues }
-    requires take { take.old.queues ≡ shards.now.queues }
+    requires send { send.queues ≡ shards.now.queues }
+    requires take { take.queues ≡ shards.now.queues }
     requires other { other.queues ≡ shards.now.queues }
     requires shards { 0 < length shards.now.queues.names }
 {
-    let mut other = other;
-    let _ = is_accepted(shards, send, 1);
-    let _ = is_accepted(shards, send, 2);
+    let _ = given_back(shards, &mut send, 1);
+    let _ = given_back(shards, &mut send, 2);
     let first = taken_of(shards, &mut other, 0);
-    shards.gather(take, other);
-    shards.compare(send, take, 0);
-    let second = taken_of(shards, take, 0);
+    shards.gather(&mut take, other);
+    shards.compare(&mut send, &mut take, 0);
+    let second = taken_of(shards, &mut take, 0);
     first == Some(1) && second == Some(2) && shards.count() == 1
 }
 
@@ -405,8 +398,8 @@ fn takers_put_together(rt: HostRuntime) {
     let (shards, mut sends, mut takes) = OpShards::new(rt.alloc(), rt, 1, 4, 1, 2).expect(
         &rt, "memory",
     );
-    let mut send = sends.pop().expect(&rt, "a sender");
+    let send = sends.pop().expect(&rt, "a sender");
     let other = takes.pop().expect(&rt, "a taker");
-    let mut take = takes.pop().expect(&rt, "a taker");
-    assert!(rt; take_one_each(&shards, &mut send, &mut take, other));
+    let take = takes.pop().expect(&rt, "a taker");
+    assert!(rt; take_one_each(&shards, send, take, other));
 }

@@ -216,10 +216,11 @@ const END_WIDTHS: [(EndWidth, i32); 3] = [
 #[test]
 fn byte_orders(rt: HostRuntime) {
     let dst = register_of(&rt, 3);
-    for (order, opcode) in ORDERS {
-        for (width, imm) in END_WIDTHS {
+    for (order, opcode) in &ORDERS {
+        for (width, imm) in &END_WIDTHS {
+            let (order, width) = (*order, *width);
             let insn = Insn::End { order, width, dst };
-            spells(&rt, rt.alloc(), insn, of_one(opcode, 0), imm);
+            spells(&rt, rt.alloc(), insn, of_one(*opcode, 0), *imm);
         }
     }
     let jump = Insn::JumpLong { distance: -2 };
@@ -278,10 +279,15 @@ fn is_told(opcode: u8) -> bool {
     read(opcode, 0, 0, own_imm(opcode)) == expected
 }
 
+/// What is found of the opcode is right.
+fn holds(rt: &impl Abort, opcode: u8, is_right: bool) {
+    assert!(rt; is_right, "opcode {opcode}");
+}
+
 #[test]
 fn no_other_opcode(rt: HostRuntime) {
     for opcode in 0..=255u8 {
-        assert!(rt; is_told(opcode), "opcode {opcode}");
+        holds(&rt, opcode, is_told(opcode));
     }
 }
 
@@ -370,7 +376,7 @@ fn has_fields(opcode: u8, fields: Fields) -> bool {
 /// Instructions of the opcodes may have those fields and no others.
 fn have_fields(rt: &impl Abort, opcodes: &[u8], fields: Fields) {
     for opcode in opcodes {
-        assert!(rt; has_fields(*opcode, fields), "opcode {opcode}");
+        holds(rt, *opcode, has_fields(*opcode, fields));
     }
 }
 
@@ -391,7 +397,7 @@ fn lacks_register_11(opcode: u8) -> bool {
 /// Instructions of the opcodes have no register 11.
 fn lack_register_11(rt: &impl Abort, opcodes: &[u8]) {
     for opcode in opcodes {
-        assert!(rt; lacks_register_11(*opcode), "opcode {opcode}");
+        holds(rt, *opcode, lacks_register_11(*opcode));
     }
 }
 
@@ -422,10 +428,7 @@ const SELECTED: [(u8, &[u16]); 12] = [
 fn select(rt: &impl Abort, opcode: u8, offsets: &[u16]) {
     for offset in 0..=0xffffu16 {
         let is_allowed = offsets.contains(&offset);
-        assert!(rt;
-            is_read_if(is_allowed, opcode, 0, offset, 0),
-            "opcode {opcode}"
-        );
+        holds(rt, opcode, is_read_if(is_allowed, opcode, 0, offset, 0));
     }
 }
 
@@ -440,10 +443,7 @@ fn selecting_offsets(rt: HostRuntime) {
 fn select_width(rt: &impl Abort, opcode: u8) {
     for imm in 0..=255u8 {
         let is_allowed = [16, 32, 64].contains(&imm);
-        assert!(rt;
-            is_read_if(is_allowed, opcode, 0, 0, imm),
-            "opcode {opcode}"
-        );
+        holds(rt, opcode, is_read_if(is_allowed, opcode, 0, 0, imm));
     }
 }
 

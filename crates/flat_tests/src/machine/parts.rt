@@ -7,17 +7,22 @@ use bpf_machine::{
 use helpers::effects_are_within_limits;
 use std::alloc::Global;
 
+/// Whether the regions have those sizes.
+fn has_sizes(caps: &Caps, input: usize, output: usize, stack: usize) -> bool {
+    caps.size(Region::Input) == input
+        && caps.size(Region::Output) == output
+        && caps.size(Region::Stack) == stack
+}
+
+/// Whether all regions but the input are written to.
+fn all_but_input_are_writable() -> bool {
+    !Region::Input.is_writable() && Region::Output.is_writable() && Region::Stack.is_writable()
+}
+
 #[test]
 fn knows_regions(rt: HostRuntime) {
-    let caps = capacities(3, 8, false);
-    assert!(rt;
-        caps.size(Region::Input) == 3
-            && caps.size(Region::Output) == 8
-            && caps.size(Region::Stack) == 512
-    );
-    assert!(rt;
-        !Region::Input.is_writable() && Region::Output.is_writable() && Region::Stack.is_writable()
-    );
+    assert!(rt; has_sizes(&capacities(3, 8, false), 3, 8, 512));
+    assert!(rt; all_but_input_are_writable());
     assert!(rt; layout(0, 3, 11).base(Region::Output) == 3);
 }
 

@@ -37,7 +37,7 @@ fn has_lengths(packed: &PackedLog, common: &str, rest: &str) -> bool {
 /// Whether that is the answer.
 fn is_answer(answer: Result<Vec<Request>, UnpackError>, all: &[Request], wanted: &str) -> bool {
     match answer {
-        Ok(found) => wanted == "unpacked" && is_list(&found, all),
+        Ok(found) => (wanted == "unpacked") & is_list(&found, all),
         Err(error) => error.name() == wanted,
     }
 }
@@ -62,7 +62,7 @@ fn is_right<R: Abort>(rt: &R, alloc: Global, all: &[Request], line: &str) -> boo
     let (common, wanted) = halves(wanted, ' ');
     let (rest, wanted) = halves(wanted, ' ');
     let packed = pack_log(alloc, all, number_of(rt, told) as usize).expect(rt, "memory");
-    has_lengths(&packed, common, rest) && is_unpacked(rt, alloc, all, own, &packed, wanted)
+    has_lengths(&packed, common, rest) & is_unpacked(rt, alloc, all, own, &packed, wanted)
 }
 
 /// The list is packed and unpacked as each line says.

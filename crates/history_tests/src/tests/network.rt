@@ -2,9 +2,10 @@
 ghost use Rattle.std.specs.Prelude.{◌≡◌};
 
 use crate::tests::account::{Asked, request};
-use crate::tests::reached::{Reached, count};
+use crate::tests::reached::{Reached, count, count_if};
 use group_world::{
-    Answer, Epoch, Event, GroupMap, HandleError, Kind, Message, Packet, Party, Requests, Status,
+    Answer, Epoch, Event, GroupMap, HandleError, Kind, Message, Messages, Packet, Party, Requests,
+    Status,
 };
 use interp::ClassTable;
 use peering::{GroupNode, Monitor};
@@ -67,8 +68,31 @@ impl<C: Classes> Network<C> {
         running
     }
 
+    /// Whether a node can stop: it runs, and isn't the last one that does.
+    pub(super) fn can_stop(&self, at: usize) -> bool {
+        self.running() > 1 && !self.is_stopped(at)
+    }
+
+    /// A node stops. At times all that is on its way is lost with it.
+    pub(super) fn stop(&mut self, at: usize, all: bool) {
+        let active = self.is_active(at);
+        count_if(&mut self.reached.stopped_primaries, active);
+        set(&mut self.stopped, at);
+        if all {
+            self.lose_all();
+        }
+    }
+
+    /// Whether a node is an active primary.
+    fn is_active(&self, at: usize) -> bool {
+        match self.nodes.get(at) {
+            Some(node) => node.status() == Status::Active,
+            None => false,
+        }
+    }
+
     /// All that is on its way is lost.
-    pub(super) fn lose_all(&mut self) {
+    fn lose_all(&mut self) {
         let lost = self.on_way.len();
         self.reached.lost = self.reached.lost.saturating_add(lost);
         self.on_way.clear();
@@ -95,15 +119,11 @@ impl<C: Classes> Network<C> {
 
     /// A message is sent, and is on its way.
     fn send<R: Abort>(&mut self, rt: &R, packet: Packet) {
+        let number = self.sent.len();
         let told = self.committed_at(packet.receiver);
-        let packed = packed(rt, self.alloc, &packet.message.kind, told);
-        self.on_way.push(self.sent.len()).expect(rt, "memory");
-        let sent = Sent {
-            packet,
-            packed,
-            delivered: false,
-        };
+        let sent = wrapped(rt, self.alloc, packet, told);
         self.sent.push(sent).expect(rt, "memory");
+        self.on_way.push(number).expect(rt, "memory");
     }
 
     /// A node that isn't stopped takes an event. It says whether the node refused it.
@@ -120,7 +140,7 @@ impl<C: Classes> Network<C> {
         let _ = node.group().entries();
         match node.handle(table, event) {
             Ok(sent) => {
-                self.send_all(rt, sent.into_items());
+                self.send_all(rt, sent);
                 None
             }
             Err(error) => Some(error),
@@ -128,8 +148,8 @@ impl<C: Classes> Network<C> {
     }
 
     /// Messages are sent, in their order.
-    fn send_all<R: Abort>(&mut self, rt: &R, packets: Vec<Packet>) {
-        for packet in packets {
+    fn send_all<R: Abort>(&mut self, rt: &R, messages: Messages) {
+        for packet in messages.into_items() {
             self.send(rt, packet);
         }
     }
@@ -138,17 +158,19 @@ impl<C: Classes> Network<C> {
     pub(super) fn ask<R: Abort>(&mut self, rt: &R, table: &ClassTable, at: usize, asked: Asked)
         requires { table.now ≡ C.classes }
     {
-        if self.is_stopped(at) {
-            return;
+        if !self.is_stopped(at) {
+            let (length, sent) = (self.length(at), self.sent.len());
+            let event = Event::Request(request(rt, self.alloc, asked));
+            let refused = self.take(rt, table, at, event);
+            let (same, answered) = (self.length(at) == length, self.sent.len() > sent);
+            self.note_answer(refused, same, answered);
         }
-        let before = (self.length(at), self.sent.len());
-        let event = Event::Request(request(rt, self.alloc, asked));
-        match self.take(rt, table, at, event) {
-            None => {
-                if self.length(at) == before.0 && self.sent.len() > before.1 {
-                    count(&mut self.reached.answered_again);
-                }
-            }
+    }
+
+    /// Counts a request that is refused as a stale one, or one that is answered though the log is as it was.
+    fn note_answer(&mut self, refused: Option<HandleError>, same: bool, answered: bool) {
+        match refused {
+            None => count_if(&mut self.reached.answered_again, same && answered),
             Some(HandleError::StaleNumber) => count(&mut self.reached.stale),
             Some(_) => {}
         }
@@ -164,9 +186,7 @@ impl<C: Classes> Network<C> {
     /// The monitor makes a map, or refuses.
     pub(super) fn make_map<R: Abort>(&mut self, rt: &R, acting: &[NodeId]) {
         if let Ok(map) = self.monitor.new_map(acting) {
-            if map.epoch() != map.interval() {
-                count(&mut self.reached.kept_maps);
-            }
+            count_if(&mut self.reached.kept_maps, map.epoch() != map.interval());
             self.maps.push(map).expect(rt, "memory");
         }
     }
@@ -175,14 +195,10 @@ impl<C: Classes> Network<C> {
     pub(super) fn see<R: Abort>(&mut self, rt: &R, table: &ClassTable, at: usize, place: usize)
         requires { table.now ≡ C.classes }
     {
-        if self.is_stopped(at) {
-            return;
+        if !self.is_stopped(at) && place < self.maps.len() {
+            let map = copied_map(rt, self.alloc, &self.maps[place]);
+            let _ = self.take(rt, table, at, Event::Map(map));
         }
-        let Some(map) = self.maps.get(place) else {
-            return;
-        };
-        let map = copied_map(rt, self.alloc, map);
-        let _ = self.take(rt, table, at, Event::Map(map));
     }
 
     /// A message is delivered to its receiver.
@@ -190,9 +206,7 @@ impl<C: Classes> Network<C> {
         requires { table.now ≡ C.classes }
     {
         let sent = self.sent.get_mut(number).expect(rt, "a message");
-        if sent.delivered {
-            count(&mut self.reached.repeated);
-        }
+        count_if(&mut self.reached.repeated, sent.delivered);
         sent.delivered = true;
         let (sender, receiver) = (sent.packet.message.sender, sent.packet.receiver);
         match receiver {
@@ -218,9 +232,7 @@ impl<C: Classes> Network<C> {
             count(&mut self.reached.lost);
             return;
         };
-        if sent.was_packed() {
-            count(&mut self.reached.unpacked);
-        }
+        count_if(&mut self.reached.unpacked, sent.was_packed());
         let message = Message {
             sender: sent.packet.message.sender,
             kind,
@@ -252,16 +264,25 @@ impl<C: Classes> Network<C> {
 
     /// A node sends again what is unanswered: each message is one that was sent before.
     pub(super) fn send_again<R: Abort>(&mut self, rt: &R, at: usize) {
-        if self.is_stopped(at) {
-            return;
+        if !self.is_stopped(at) {
+            let again = self.unanswered(rt, at);
+            for packet in again.items() {
+                self.send_same(rt, packet);
+            }
         }
+    }
+
+    /// What a node sends again.
+    fn unanswered<R: Abort>(&self, rt: &R, at: usize) -> Messages {
         let node = self.nodes.get(at).expect(rt, "a node");
-        let again = node.resend().expect(rt, "memory");
-        for packet in again.items() {
-            let number = self.number_of(packet).expect(rt, "one that was sent");
-            self.on_way.push(number).expect(rt, "memory");
-            count(&mut self.reached.sent_again);
-        }
+        node.resend().expect(rt, "memory")
+    }
+
+    /// A message that was sent before is on its way again.
+    fn send_same<R: Abort>(&mut self, rt: &R, packet: &Packet) {
+        let number = self.number_of(packet).expect(rt, "one that was sent");
+        self.on_way.push(number).expect(rt, "memory");
+        count(&mut self.reached.sent_again);
     }
 
     /// The least number of a message that is equal.
@@ -282,6 +303,13 @@ impl Sent {
             Some(packed) => packed.common() > 0,
             None => false,
         }
+    }
+}
+
+/// Makes one of them true.
+fn set(all: &mut [bool], at: usize) {
+    if at < all.len() {
+        all[at] = true;
     }
 }
 
@@ -309,6 +337,16 @@ fn first(nodes: &[NodeId]) -> usize {
     match nodes {
         [node, ..] => node.get() as usize,
         [] => 0,
+    }
+}
+
+/// A message as it travels to who has committed so many.
+fn wrapped<R: Abort>(rt: &R, alloc: Global, packet: Packet, told: usize) -> Sent {
+    let packed = packed(rt, alloc, &packet.message.kind, told);
+    Sent {
+        packet,
+        packed,
+        delivered: false,
     }
 }
 
@@ -379,6 +417,11 @@ fn has_list(kind: &Kind, list: &[Request]) -> bool {
     }
 }
 
+/// Whether a list that was unpacked is that of its message, if the node waits for that.
+fn is_right<C: Classes>(node: &GroupNode<C>, kind: &Kind, list: &[Request]) -> bool {
+    !is_wanted(node, kind) || has_list(kind, list)
+}
+
 /// The same message with a list that was unpacked.
 fn with_list<C: Classes, R: Abort>(
     rt: &R,
@@ -387,7 +430,7 @@ fn with_list<C: Classes, R: Abort>(
     kind: &Kind,
     list: Vec<Request>,
 ) -> Option<Kind> {
-    assert!(rt; !is_wanted(node, kind) || has_list(kind, &list));
+    assert!(rt; is_right(node, kind, &list));
     match kind {
         Kind::Log(interval, _) => Some(Kind::Log(*interval, Requests::new(list))),
         Kind::Install(map, _) => {

@@ -67,3 +67,10 @@ impl Reached {
 pub(super) fn count(times: &mut usize) {
     *times = times.saturating_add(1);
 }
+
+/// One more where it is so.
+pub(super) fn count_if(times: &mut usize, is_so: bool) {
+    if is_so {
+        count(times);
+    }
+}

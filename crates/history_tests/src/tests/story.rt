@@ -4,9 +4,9 @@ ghost use Rattle.std.specs.Prelude.{◌≡◌};
 use crate::tests::account::{ACCOUNTS, Asked, table};
 use crate::tests::dice::Dice;
 use crate::tests::network::Network;
-use crate::tests::reached::{Reached, count};
+use crate::tests::reached::{Reached, count, count_if};
 use crate::tests::witness::Witness;
-use group_world::Status;
+use group_world::GroupMap;
 use interp::ClassTable;
 use pg_log::{Classes, Group, GroupWork, with_group};
 use placement::NodeId;
@@ -41,14 +41,30 @@ impl<C: Classes> Story<C> {
         }
     }
 
+    /// Makes so many events, which a witness sees, and says what they reached.
+    fn be_seen<R: Abort>(
+        &mut self,
+        rt: &R,
+        table: &ClassTable,
+        nodes: usize,
+        events: usize,
+    ) -> Reached
+        requires { table.now ≡ C.classes }
+    {
+        let mut witness = Witness::new(rt, self.alloc, nodes);
+        for _event in 0..events {
+            self.go_on(rt, table);
+            witness.look(rt, &self.network, &self.brought);
+        }
+        witness.added_to(self.network.reached)
+    }
+
     /// Makes one event.
     fn go_on<R: Abort>(&mut self, rt: &R, table: &ClassTable)
         requires { table.now ≡ C.classes }
     {
-        if self.network.is_stopped(self.network.primary()) && self.dice.roll(8) == 0 {
-            return self.make_map(rt);
-        }
-        match self.dice.roll(200) {
+        let stopped = self.network.is_stopped(self.network.primary());
+        match next(&mut self.dice, stopped) {
             0..=1 => self.make_map(rt),
             2..=25 => self.see(rt, table),
             26..=28 => self.stop(),
@@ -61,39 +77,18 @@ impl<C: Classes> Story<C> {
 
     /// The primary of the newest map, or, once in so many times, any node.
     fn likely_primary(&mut self, times: usize) -> usize {
-        if self.dice.roll(times) == 0 {
-            return self.dice.roll(self.network.nodes.len());
-        }
-        self.network.primary()
+        let primary = self.network.primary();
+        mostly(&mut self.dice, times, self.network.nodes.len(), primary)
     }
 
     /// A map of one to three nodes, mostly of such that aren't stopped; or of the newest map's.
     fn make_map<R: Abort>(&mut self, rt: &R) {
         let mut acting = Vec::new(self.alloc);
-        let from = self.dice.roll(self.network.nodes.len());
-        let most = [1, 2, 3, 3][self.dice.roll(4) % 4];
-        for step in 0..self.network.nodes.len() {
-            let node = from.saturating_add(step) % self.network.nodes.len().max(1);
-            let passed = self.network.is_stopped(node) && self.dice.roll(8) > 0;
-            if acting.len() < most && !passed {
-                acting.push(NodeId::new(node as u64)).expect(rt, "memory");
-            }
-        }
-        if self.dice.roll(2) == 0 {
-            acting.reverse();
-        }
+        choose(rt, &mut self.dice, &self.network.stopped, &mut acting);
         if self.dice.roll(4) == 0 {
-            self.keep_acting(rt, &mut acting);
+            keep_acting(rt, &self.network.maps, &mut acting);
         }
         self.network.make_map(rt, &acting);
-    }
-
-    /// Makes a list that of the newest map.
-    fn keep_acting<R: Abort>(&mut self, rt: &R, acting: &mut Vec<NodeId>) {
-        acting.clear();
-        if let Some(map) = self.network.maps.last() {
-            acting.extend_from_slice(map.acting()).expect(rt, "memory");
-        }
     }
 
     /// A node sees a map, mostly the newest one.
@@ -102,40 +97,25 @@ impl<C: Classes> Story<C> {
     {
         let at = self.likely_primary(3);
         let maps = self.network.maps.len();
-        let place = if self.dice.roll(4) == 0 {
-            self.dice.roll(maps)
-        } else {
-            maps.saturating_sub(1)
-        };
+        let place = mostly(&mut self.dice, 4, maps, maps.saturating_sub(1));
         self.network.see(rt, table, at, place);
     }
 
     /// A node stops, unless it is the last one that runs. At times all that is on its way is lost with it.
     fn stop(&mut self) {
         let at = self.likely_primary(2);
-        if self.network.running() <= 1 || self.network.is_stopped(at) {
-            return;
-        }
-        if let Some(node) = self.network.nodes.get(at)
-            && node.status() == Status::Active
-        {
-            count(&mut self.network.reached.stopped_primaries);
-        }
-        if let Some(stopped) = self.network.stopped.get_mut(at) {
-            *stopped = true;
-        }
-        if self.dice.roll(2) == 0 {
-            self.network.lose_all();
+        if self.network.can_stop(at) {
+            let all = self.dice.roll(2) == 0;
+            self.network.stop(at, all);
         }
     }
 
     /// A node sends again what is unanswered, mostly while not much is on its way.
     fn send_again<R: Abort>(&mut self, rt: &R) {
-        if self.network.on_way.len() > 3 && self.dice.roll(8) > 0 {
-            return;
+        if !is_passed(&mut self.dice, self.network.on_way.len()) {
+            let at = self.likely_primary(4);
+            self.network.send_again(rt, at);
         }
-        let at = self.likely_primary(4);
-        self.network.send_again(rt, at);
     }
 
     /// A client asks: something new, something that was asked before, or, where it is at fault, something else by a
@@ -144,25 +124,7 @@ impl<C: Classes> Story<C> {
         requires { table.now ≡ C.classes }
     {
         let at = self.likely_primary(8);
-        let client = self.dice.roll(CLIENTS) % CLIENTS;
-        let fresh = self.newest[client].saturating_add(1);
-        let mut asked = Asked {
-            client,
-            number: fresh,
-            account: self.dice.roll(ACCOUNTS),
-            takes: self.dice.roll(2) == 0,
-            amount: u8::try_from(self.dice.roll(256)).unwrap_or(0),
-        };
-        let chance = self.dice.roll(16);
-        if chance < 6 {
-            let place = self.dice.roll(self.brought.len());
-            asked = self.brought.get(place).copied().unwrap_or(asked);
-        } else if chance == 6 {
-            asked.number = self.newest[client].max(1);
-        }
-        if asked.number == fresh && asked.client == client {
-            self.newest[client] = fresh;
-        }
+        let asked = asked(&mut self.dice, &self.brought, &mut self.newest);
         self.brought.push(asked).expect(rt, "memory");
         self.network.ask(rt, table, at, asked);
     }
@@ -175,11 +137,7 @@ impl<C: Classes> Story<C> {
         if chance < 2 {
             return self.repeat(rt, table, chance == 0);
         }
-        let place = if chance < 5 {
-            self.dice.roll(self.network.on_way.len())
-        } else {
-            0
-        };
+        let place = place(&mut self.dice, chance, self.network.on_way.len());
         if place >= self.network.on_way.len() {
             return;
         }
@@ -188,9 +146,7 @@ impl<C: Classes> Story<C> {
             count(&mut self.network.reached.lost);
             return;
         }
-        if place > 0 {
-            count(&mut self.network.reached.overtaken);
-        }
+        count_if(&mut self.network.reached.overtaken, place > 0);
         self.network.deliver(rt, table, number);
     }
 
@@ -199,12 +155,103 @@ impl<C: Classes> Story<C> {
         requires { table.now ≡ C.classes }
     {
         let sent = self.network.sent.len();
-        let back = if any { sent } else { sent.min(LAST) };
-        let number = sent.saturating_sub(self.dice.roll(back)).saturating_sub(1);
+        let number = earlier(&mut self.dice, sent, any);
         if number < sent {
             self.network.deliver(rt, table, number);
         }
     }
+}
+
+/// Which of 200 comes next: 0, a map, more often while the newest one's primary is stopped.
+fn next(dice: &mut Dice, stopped: bool) -> usize {
+    if stopped && dice.roll(8) == 0 {
+        0
+    } else {
+        dice.roll(200)
+    }
+}
+
+/// A place, or, once in so many times, any of all.
+fn mostly(dice: &mut Dice, times: usize, all: usize, place: usize) -> usize {
+    if dice.roll(times) == 0 {
+        dice.roll(all)
+    } else {
+        place
+    }
+}
+
+/// Which of so many messages comes: mostly the first, and at a small chance any.
+fn place(dice: &mut Dice, chance: usize, messages: usize) -> usize {
+    if chance < 5 { dice.roll(messages) } else { 0 }
+}
+
+/// Any of so many messages, or one of the last.
+fn earlier(dice: &mut Dice, sent: usize, any: bool) -> usize {
+    let back = if any { sent } else { sent.min(LAST) };
+    sent.saturating_sub(dice.roll(back)).saturating_sub(1)
+}
+
+/// Whether a node that could send again doesn't, as it mostly is while much is on its way.
+fn is_passed(dice: &mut Dice, messages: usize) -> bool {
+    messages > 3 && dice.roll(8) > 0
+}
+
+/// Adds one to three nodes, mostly such that aren't stopped, going up or down.
+fn choose<R: Abort>(rt: &R, dice: &mut Dice, stopped: &[bool], acting: &mut Vec<NodeId>) {
+    let from = dice.roll(stopped.len());
+    let most = [1, 2, 3, 3][dice.roll(4) % 4];
+    for step in 0..stopped.len() {
+        let node = from.saturating_add(step) % stopped.len();
+        let passed = stopped[node] && dice.roll(8) > 0;
+        if acting.len() < most && !passed {
+            acting.push(NodeId::new(node as u64)).expect(rt, "memory");
+        }
+    }
+    if dice.roll(2) == 0 {
+        acting.reverse();
+    }
+}
+
+/// Makes a list that of the newest map.
+fn keep_acting<R: Abort>(rt: &R, maps: &[GroupMap], acting: &mut Vec<NodeId>) {
+    acting.clear();
+    if let Some(map) = maps.last() {
+        acting.extend_from_slice(map.acting()).expect(rt, "memory");
+    }
+}
+
+/// What a client asks, which notes its newest number.
+fn asked(dice: &mut Dice, brought: &[Asked], newest: &mut [u32; CLIENTS]) -> Asked {
+    let client = dice.roll(CLIENTS) % CLIENTS;
+    let number = newest[client].saturating_add(1);
+    let fresh = fresh(dice, client, number);
+    let asked = fresh_or_used(dice, brought, fresh, newest[client].max(1));
+    if asked.number == number && asked.client == client {
+        newest[client] = number;
+    }
+    asked
+}
+
+/// Something new.
+fn fresh(dice: &mut Dice, client: usize, number: u32) -> Asked {
+    Asked {
+        client,
+        number,
+        account: dice.roll(ACCOUNTS),
+        takes: dice.roll(2) == 0,
+        amount: u8::try_from(dice.roll(256)).unwrap_or(0),
+    }
+}
+
+/// Something new, something that was brought before, or something else by a number that was used.
+fn fresh_or_used(dice: &mut Dice, brought: &[Asked], fresh: Asked, used: u32) -> Asked {
+    let chance = dice.roll(16);
+    if chance < 6 {
+        let place = dice.roll(brought.len());
+        return brought.get(place).copied().unwrap_or(fresh);
+    }
+    let number = if chance == 6 { used } else { fresh.number };
+    Asked { number, ..fresh }
 }
 
 /// The history of a seed.
@@ -224,14 +271,7 @@ impl<R: Abort> GroupWork for History<'_, R> {
 
     fn work<C: Classes>(self, table: &ClassTable, _group: Group<C>) -> Reached {
         let mut story: Story<C> = Story::new(self.rt, self.alloc, self.nodes, self.seed);
-        let mut witness = Witness::new(self.rt, self.alloc, self.nodes);
-        for _event in 0..self.events {
-            story.go_on(self.rt, table);
-            witness.look(self.rt, &story.network, &story.brought);
-        }
-        let mut reached = story.network.reached;
-        witness.add_to(&mut reached);
-        reached
+        story.be_seen(self.rt, table, self.nodes, self.events)
     }
 }
 

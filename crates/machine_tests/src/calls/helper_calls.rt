@@ -1,8 +1,9 @@
 //! Each helper's answers, and what it leaves.
 
-use super::call_once;
+use crate::answers::{Expected, answers_beside_once};
 use crate::classes::class_of;
-use crate::contents::{Contents, NOTHING, Pair, is_change, made};
+use crate::code::{put, slot};
+use crate::contents::{Contents, NOTHING, Pair, is_change};
 use interp::Outcome;
 use object_store::Object;
 use std::alloc::Global;
@@ -47,11 +48,14 @@ struct Row {
 /// What the methods are called on: names are a byte of it, or some.
 const INPUT: [u8; 8] = *b"nmacb123";
 
-const THERE: Contents = Contents {
+static THERE: Contents = Contents {
     data: b"hello",
     xattrs: &[(b"n", b"value")],
     keys: &[(b"a", b"1"), (b"c", b"22")],
 };
+
+/// What is created holds nothing else.
+static CREATED: Contents = NOTHING;
 
 /// A call beside `THERE` that changes nothing and puts nothing out.
 const BESIDE: Row = Row {
@@ -120,7 +124,8 @@ macro_rules! creates {
     };
 }
 
-static ROWS: [Row; 52] = [
+/// Rows of the helpers of an object's data.
+static DATA_ROWS: [Row; 18] = [
     // stat
     there!(1, [Nothing; 2], 5, b""),
     absent!(1, [Nothing; 2], -2),
@@ -144,6 +149,10 @@ static ROWS: [Row; 52] = [
     // remove
     leaves!(5, [Nothing; 2], 0, Removed),
     absent!(5, [Nothing; 2], -2),
+];
+
+/// Rows of the helpers of xattrs.
+static XATTR_ROWS: [Row; 13] = [
     // getxattr
     there!(6, [Input(0, 1), Output(8)], 5, b"value"),
     there!(6, [Input(0, 1), Output(4)], -34, b""),
@@ -165,6 +174,10 @@ static ROWS: [Row; 52] = [
     there!(8, [Input(2, 1), Nothing], -61, b""),
     there!(8, [Input(0, 0), Nothing], -22, b""),
     absent!(8, [Input(0, 1), Nothing], -2),
+];
+
+/// Rows of the helpers of keys.
+static KEY_ROWS: [Row; 16] = [
     // map_get
     there!(9, [Input(3, 1), Output(2)], 2, b"22"),
     there!(9, [Input(3, 1), Output(1)], -34, b""),
@@ -190,6 +203,10 @@ static ROWS: [Row; 52] = [
     there!(12, [Input(3, 1), Output(8)], -61, b""),
     there!(12, [Input(2, 1), Output(0)], -34, b""),
     absent!(12, [Input(0, 0), Output(8)], -2),
+];
+
+/// Rows of the others.
+static OTHER_ROWS: [Row; 5] = [
     // create
     there!(14, [Number(0), Nothing], 0, b""),
     there!(14, [Number(1), Nothing], -17, b""),
@@ -199,19 +216,13 @@ static ROWS: [Row; 52] = [
     absent!(15, [Nothing; 2], 7),
 ];
 
-/// One slot: opcode, registers and immediate.
-fn slot(opcode: u8, registers: u8, imm: i32) -> [u8; 8] {
-    let [i0, i1, i2, i3] = imm.to_le_bytes();
-    [opcode, registers, 0, 0, i0, i1, i2, i3]
-}
-
 /// Puts an argument into registers from one on, and gives the next one.
 fn put_argument(rt: &impl Abort, code: &mut Vec<u8>, register: u8, argument: Argument) -> u8 {
     let next = register.wrapping_add(1);
     match argument {
         Nothing => register,
         Number(number) => {
-            put(rt, code, &[slot(0xb7, register, number)]);
+            put(rt, code, &[slot(0xb7, register, 0, number)]);
             next
         }
         Input(at, len) => put_range(rt, code, register, 0x60, at, len),
@@ -227,18 +238,12 @@ fn put_range(rt: &impl Abort, code: &mut Vec<u8>, register: u8, base: u8, at: i3
         rt,
         code,
         &[
-            slot(0xbf, base | register, 0),
-            slot(0x07, register, at),
-            slot(0xb7, next, len),
+            slot(0xbf, base | register, 0, 0),
+            slot(0x07, register, 0, at),
+            slot(0xb7, next, 0, len),
         ],
     );
     next.wrapping_add(1)
-}
-
-/// Puts slots behind a code.
-fn put(rt: &impl Abort, code: &mut Vec<u8>, slots: &[[u8; 8]]) {
-    code.extend_from_slice(slots.as_flattened())
-        .expect(rt, "memory");
 }
 
 /// Puts the row's arguments into registers from 1 on.
@@ -252,51 +257,72 @@ fn put_arguments(rt: &impl Abort, code: &mut Vec<u8>, row: &Row) {
 /// A method that calls the helper, answers what it answered, and puts out as much as the row says.
 fn code_of(rt: &impl Abort, alloc: Global, row: &Row) -> Vec<u8> {
     let mut code = Vec::new(alloc);
-    put(rt, &mut code, &[slot(0xbf, 0x16, 0), slot(0xbf, 0x37, 0)]);
+    put(
+        rt,
+        &mut code,
+        &[slot(0xbf, 0x16, 0, 0), slot(0xbf, 0x37, 0, 0)],
+    );
     put_arguments(rt, &mut code, row);
     put(
         rt,
         &mut code,
         &[
-            slot(0x85, 0, row.id),
-            slot(0xbf, 0x08, 0),
-            slot(0xb7, 1, (row.output.len() % 256) as i32),
-            slot(0x85, 0, 13),
-            slot(0xbf, 0x80, 0),
-            slot(0x95, 0, 0),
+            slot(0x85, 0, 0, row.id),
+            slot(0xbf, 0x08, 0, 0),
+            slot(0xb7, 1, 0, (row.output.len() % 256) as i32),
+            slot(0x85, 0, 0, 13),
+            slot(0xbf, 0x80, 0, 0),
+            slot(0x95, 0, 0, 0),
         ],
     );
     code
 }
 
+/// What a row's call leaves where it changes nothing of it.
+fn others(row: &Row) -> &'static Contents {
+    if row.is_there { &THERE } else { &CREATED }
+}
+
 /// What a row's call is beside.
 fn object_before(row: &Row) -> Option<Contents> {
-    if row.is_there { Some(THERE) } else { None }
+    if row.is_there {
+        Some(*others(row))
+    } else {
+        None
+    }
 }
 
 /// What a row's call leaves.
 fn object_after(row: &Row) -> Option<Contents> {
-    let others = if row.is_there { THERE } else { NOTHING };
+    let others = others(row);
     match row.after {
         After::Same => object_before(row),
         Removed => None,
-        Data(data) => Some(Contents { data, ..others }),
-        Xattrs(xattrs) => Some(Contents { xattrs, ..others }),
-        Keys(keys) => Some(Contents { keys, ..others }),
+        Data(data) => Some(Contents { data, ..*others }),
+        Xattrs(xattrs) => Some(Contents { xattrs, ..*others }),
+        Keys(keys) => Some(Contents { keys, ..*others }),
     }
 }
 
-/// Whether an outcome is the row's.
-fn is_answer(rt: &impl Abort, alloc: Global, outcome: &Outcome, row: &Row) -> bool {
-    outcome.code == row.answer
-        && outcome.output.as_slice() == row.output
-        && is_change(
-            rt,
-            alloc,
-            &outcome.change,
-            object_before(row),
-            object_after(row),
-        )
+impl Expected for Row {
+    fn is_so(
+        &self,
+        rt: &impl Abort,
+        alloc: Global,
+        _: Option<&Object>,
+        _: &[u8],
+        outcome: &Outcome,
+    ) -> bool {
+        outcome.code == self.answer
+            && outcome.output.as_slice() == self.output
+            && is_change(
+                rt,
+                alloc,
+                &outcome.change,
+                object_before(self),
+                object_after(self),
+            )
+    }
 }
 
 /// The class of that method.
@@ -305,31 +331,50 @@ fn class_of_row(rt: &impl Abort, alloc: Global, row: &Row) -> VerifiedClass {
     class_of(rt, alloc, &code, 3, 8, 8)
 }
 
-/// Whether a call beside that object answers so.
-fn answers_beside(rt: &impl Abort, alloc: Global, object: Option<&Object>, row: &Row) -> bool {
-    let class = class_of_row(rt, alloc, row);
-    is_answer(rt, alloc, &call_once(rt, alloc, class, object, &INPUT), row)
-}
-
 /// Whether a call answers so.
 fn answers(rt: &impl Abort, alloc: Global, row: &Row) -> bool {
-    let object = made(rt, alloc, object_before(row));
-    answers_beside(rt, alloc, object.as_ref(), row)
+    let class = class_of_row(rt, alloc, row);
+    answers_beside_once(rt, alloc, class, object_before(row), &INPUT, row)
 }
 
-/// The number of the first row that is answered otherwise.
-fn first_wrong(rt: &impl Abort, alloc: Global, rows: &[Row]) -> Option<usize> {
-    let mut number = 0usize;
+/// Whether the calls of those rows answer so.
+fn all_answer(rt: &impl Abort, alloc: Global, rows: &[Row]) -> bool {
+    let mut all = true;
     for row in rows {
-        if !answers(rt, alloc, row) {
-            return Some(number);
-        }
-        number = number.wrapping_add(1);
+        all = all && answers(rt, alloc, row);
     }
-    None
+    all
+}
+
+/// Whether the helpers of an object's data answer so.
+fn data_answers(rt: &impl Abort, alloc: Global) -> bool {
+    all_answer(rt, alloc, &DATA_ROWS)
+}
+
+/// Whether the helpers of xattrs answer so.
+fn xattrs_answer(rt: &impl Abort, alloc: Global) -> bool {
+    all_answer(rt, alloc, &XATTR_ROWS)
+}
+
+/// Whether the helpers of keys answer so.
+fn keys_answer(rt: &impl Abort, alloc: Global) -> bool {
+    all_answer(rt, alloc, &KEY_ROWS)
+}
+
+/// Whether the others answer so.
+fn others_answer(rt: &impl Abort, alloc: Global) -> bool {
+    all_answer(rt, alloc, &OTHER_ROWS)
+}
+
+/// Whether every helper answers so.
+fn all_helpers_answer(rt: &impl Abort, alloc: Global) -> bool {
+    data_answers(rt, alloc)
+        && xattrs_answer(rt, alloc)
+        && keys_answer(rt, alloc)
+        && others_answer(rt, alloc)
 }
 
 #[test]
 fn each_helper(rt: HostRuntime) {
-    assert!(rt; first_wrong(&rt, rt.alloc(), &ROWS).is_none());
+    assert!(rt; all_helpers_answer(&rt, rt.alloc()));
 }

@@ -1,6 +1,6 @@
 //! A call at all limits at once: input and output of 4,096 bytes, and an object that is written to 65,536 bytes.
 
-use super::call_once;
+use crate::answers::{Expected, answers_once};
 use crate::classes::class_of;
 use interp::Outcome;
 use object_store::{DATA_LIMIT, Object, calls};
@@ -23,11 +23,50 @@ const LONGEST: [u8; 88] = [
     0x95, 0x00, 0, 0, 0, 0, 0, 0, // exit
 ];
 
-/// What `LONGEST` answers on 4,096 bytes of 0x5a.
-fn longest(rt: &impl Abort, alloc: Global, object: Option<&Object>) -> Outcome {
-    let input = [0x5a].repeat(alloc, 4096).expect(rt, "memory");
+/// What is looked at of what `LONGEST` answers.
+#[derive(Clone, Copy)]
+enum Longest {
+    /// The output.
+    Output,
+    /// The object that it creates.
+    Grown,
+    /// The full object that it changes.
+    Shared,
+}
+
+impl Expected for Longest {
+    fn is_so(
+        &self,
+        rt: &impl Abort,
+        alloc: Global,
+        _: Option<&Object>,
+        _: &[u8],
+        outcome: &Outcome,
+    ) -> bool {
+        match self {
+            Longest::Output => has_all_output(outcome),
+            Longest::Grown => has_grown(rt, alloc, outcome),
+            Longest::Shared => has_shared(rt, alloc, outcome),
+        }
+    }
+}
+
+/// Whether `LONGEST` answers so on that input.
+fn answers_on(
+    rt: &impl Abort,
+    alloc: Global,
+    object: Option<&Object>,
+    input: &[u8],
+    expected: Longest,
+) -> bool {
     let class = class_of(rt, alloc, &LONGEST, 2, 4096, 4096);
-    call_once(rt, alloc, class, object, &input)
+    answers_once(rt, alloc, class, object, input, &expected)
+}
+
+/// Whether `LONGEST` answers so on 4,096 bytes of 0x5a.
+fn answers(rt: &impl Abort, alloc: Global, object: Option<&Object>, expected: Longest) -> bool {
+    let input = [0x5a].repeat(alloc, 4096).expect(rt, "memory");
+    answers_on(rt, alloc, object, &input, expected)
 }
 
 /// Whether those bytes begin by so many of the one byte, and the rest are of the other.
@@ -49,7 +88,7 @@ fn has_all_output(outcome: &Outcome) -> bool {
 
 #[test]
 fn a_call_has_all_output(rt: HostRuntime) {
-    assert!(rt; has_all_output(&longest(&rt, rt.alloc(), None)));
+    assert!(rt; answers(&rt, rt.alloc(), None, Longest::Output));
 }
 
 /// Whether an object has 65,536 bytes, which begin by so many of the one byte, and the rest are of the other.
@@ -76,7 +115,7 @@ fn has_grown(rt: &impl Abort, alloc: Global, outcome: &Outcome) -> bool {
 
 #[test]
 fn an_object_grows_to_its_limit(rt: HostRuntime) {
-    assert!(rt; has_grown(&rt, rt.alloc(), &longest(&rt, rt.alloc(), None)));
+    assert!(rt; answers(&rt, rt.alloc(), None, Longest::Grown));
 }
 
 /// The object of 65,536 bytes of 0x33.
@@ -94,5 +133,5 @@ fn has_shared(rt: &impl Abort, alloc: Global, outcome: &Outcome) -> bool {
 #[test]
 fn a_full_object_is_shared(rt: HostRuntime) {
     let object = full(&rt, rt.alloc());
-    assert!(rt; has_shared(&rt, rt.alloc(), &longest(&rt, rt.alloc(), Some(&object))));
+    assert!(rt; answers(&rt, rt.alloc(), Some(&object), Longest::Shared));
 }

@@ -1,8 +1,10 @@
 //! What single operations answer by RFC 9669.
 
-use super::call_once;
+use crate::answers::{Expected, answers_once};
 use crate::classes::class_of;
+use crate::code::put;
 use interp::Outcome;
+use object_store::Object;
 use std::alloc::Global;
 use std::process::Abort;
 use verifier::VerifiedClass;
@@ -96,26 +98,43 @@ static ROWS: [Row; 10] = [
 /// The class of a method of those slots and an `exit`.
 fn class_of_slots(rt: &impl Abort, alloc: Global, slots: &[u8]) -> VerifiedClass {
     let mut code = Vec::from_slice(alloc, slots).expect(rt, "memory");
-    code.extend_from_slice(&EXIT).expect(rt, "memory");
+    put(rt, &mut code, &[EXIT]);
     class_of(rt, alloc, &code, 1, 0, 0)
 }
 
-/// What that method answers.
-fn answer(rt: &impl Abort, alloc: Global, slots: &[u8]) -> Outcome {
-    call_once(rt, alloc, class_of_slots(rt, alloc, slots), None, &[])
+/// A code and steps.
+#[derive(Clone, Copy)]
+struct Answer {
+    code: i64,
+    steps: usize,
 }
 
-/// Whether an outcome has that code and those steps.
-fn is_answer(outcome: &Outcome, code: i64, steps: usize) -> bool {
-    outcome.code == code && outcome.steps == steps
+impl Expected for Answer {
+    fn is_so(
+        &self,
+        _: &impl Abort,
+        _: Global,
+        _: Option<&Object>,
+        _: &[u8],
+        outcome: &Outcome,
+    ) -> bool {
+        outcome.code == self.code && outcome.steps == self.steps
+    }
+}
+
+/// Whether a method of those slots and an `exit` answers so.
+fn computes(rt: &impl Abort, alloc: Global, slots: &[u8], answer: Answer) -> bool {
+    let class = class_of_slots(rt, alloc, slots);
+    answers_once(rt, alloc, class, None, &[], &answer)
 }
 
 #[test]
 fn operations(rt: HostRuntime) {
     for (name, slots, code, steps) in &ROWS {
-        assert!(rt;
-            is_answer(&answer(&rt, rt.alloc(), slots), *code, *steps),
-            "{name}"
-        );
+        let answer = Answer {
+            code: *code,
+            steps: *steps,
+        };
+        assert!(rt; computes(&rt, rt.alloc(), slots, answer), "{name}");
     }
 }

@@ -1,8 +1,8 @@
 //! Calls by their bytes, with answers computed by hand.
 
-use super::call_once;
+use crate::answers::{Expected, answers_beside_once};
 use crate::classes::class_of;
-use crate::contents::{Contents, NOTHING, is_change, made};
+use crate::contents::{Contents, NOTHING, is_change};
 use interp::{CallError, Outcome, call};
 use object_store::Object;
 use std::alloc::Global;
@@ -61,16 +61,19 @@ const FAILS_AFTER_WRITE: Row = Row {
     ..RETURNS_ZERO
 };
 
+/// Writes three bytes of the input, and answers 7.
+const WRITES_CODE: [u8; 48] = [
+    0xbf, 0x12, 0, 0, 0, 0, 0, 0, // mov r2, r1
+    0xb7, 0x01, 0, 0, 0, 0, 0, 0, // mov r1, 0
+    0xb7, 0x03, 0, 0, 3, 0, 0, 0, // mov r3, 3
+    0x85, 0x00, 0, 0, 3, 0, 0, 0, // call 3
+    0xb7, 0x00, 0, 0, 7, 0, 0, 0, // mov r0, 7
+    0x95, 0x00, 0, 0, 0, 0, 0, 0, // exit
+];
+
 const WRITES: Row = Row {
     name: "writes its input",
-    code: &[
-        0xbf, 0x12, 0, 0, 0, 0, 0, 0, // mov r2, r1
-        0xb7, 0x01, 0, 0, 0, 0, 0, 0, // mov r1, 0
-        0xb7, 0x03, 0, 0, 3, 0, 0, 0, // mov r3, 3
-        0x85, 0x00, 0, 0, 3, 0, 0, 0, // call 3
-        0xb7, 0x00, 0, 0, 7, 0, 0, 0, // mov r0, 7
-        0x95, 0x00, 0, 0, 0, 0, 0, 0, // exit
-    ],
+    code: &WRITES_CODE,
     answer: 7,
     after: Some(b"abc"),
     ..FAILS_AFTER_WRITE
@@ -230,7 +233,8 @@ const STACK: Row = Row {
     ..LOADS_UNALIGNED
 };
 
-static ROWS: [Row; 15] = [
+/// Rows of methods that write or put out.
+static WRITERS: [Row; 7] = [
     RETURNS_ZERO,
     FAILS_AFTER_WRITE,
     WRITES,
@@ -238,6 +242,10 @@ static ROWS: [Row; 15] = [
     WRITES_PAST_THE_LIMIT,
     WRITES_NOTHING,
     OUTPUT,
+];
+
+/// Rows of methods that read or load.
+static READERS: [Row; 8] = [
     READS,
     READS_TO_THE_END,
     READS_AT_THE_END,
@@ -256,42 +264,55 @@ fn of_data(data: Option<&'static [u8]>) -> Option<Contents> {
     }
 }
 
-/// Whether an outcome is the row's.
-fn is_answer(rt: &impl Abort, alloc: Global, outcome: &Outcome, row: &Row) -> bool {
-    outcome.code == row.answer
-        && outcome.steps == row.steps
-        && outcome.output.as_slice() == row.output
-        && is_change(
-            rt,
-            alloc,
-            &outcome.change,
-            of_data(row.object),
-            of_data(row.after),
-        )
-}
-
-/// Whether a call beside that object answers so.
-fn answers_beside(rt: &impl Abort, alloc: Global, object: Option<&Object>, row: &Row) -> bool {
-    let class = class_of(rt, alloc, row.code, row.flags, row.in_cap, row.out_cap);
-    is_answer(
-        rt,
-        alloc,
-        &call_once(rt, alloc, class, object, row.input),
-        row,
-    )
+impl Expected for Row {
+    fn is_so(
+        &self,
+        rt: &impl Abort,
+        alloc: Global,
+        _: Option<&Object>,
+        _: &[u8],
+        outcome: &Outcome,
+    ) -> bool {
+        outcome.code == self.answer
+            && outcome.steps == self.steps
+            && outcome.output.as_slice() == self.output
+            && is_change(
+                rt,
+                alloc,
+                &outcome.change,
+                of_data(self.object),
+                of_data(self.after),
+            )
+    }
 }
 
 /// Whether a call answers so.
 fn answers_row(rt: &impl Abort, alloc: Global, row: &Row) -> bool {
-    let object = made(rt, alloc, of_data(row.object));
-    answers_beside(rt, alloc, object.as_ref(), row)
+    let class = class_of(rt, alloc, row.code, row.flags, row.in_cap, row.out_cap);
+    answers_beside_once(rt, alloc, class, of_data(row.object), row.input, row)
+}
+
+/// Asserts that the calls of those rows answer so.
+fn assert_all(rt: &impl Abort, alloc: Global, rows: &[Row]) {
+    for row in rows {
+        assert!(rt; answers_row(rt, alloc, row), "{}", row.name);
+    }
+}
+
+/// Asserts that methods that write or put out answer so.
+fn assert_writers(rt: &impl Abort, alloc: Global) {
+    assert_all(rt, alloc, &WRITERS);
+}
+
+/// Asserts that methods that read or load answer so.
+fn assert_readers(rt: &impl Abort, alloc: Global) {
+    assert_all(rt, alloc, &READERS);
 }
 
 #[test]
 fn answers(rt: HostRuntime) {
-    for row in &ROWS {
-        assert!(rt; answers_row(&rt, rt.alloc(), row), "{}", row.name);
-    }
+    assert_writers(&rt, rt.alloc());
+    assert_readers(&rt, rt.alloc());
 }
 
 /// A method's name, an input, and the refusal.
@@ -317,6 +338,6 @@ fn refuses_those(alloc: Global, class: &VerifiedClass) -> bool {
 
 #[test]
 fn refuses(rt: HostRuntime) {
-    let class = class_of(&rt, rt.alloc(), WRITES.code, 2, 3, 0);
+    let class = class_of(&rt, rt.alloc(), &WRITES_CODE, 2, 3, 0);
     assert!(rt; refuses_those(rt.alloc(), &class));
 }

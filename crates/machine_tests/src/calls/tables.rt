@@ -3,6 +3,7 @@
 use crate::classes::class_of;
 use interp::{CallError, ClassTable, TableError};
 use std::alloc::Global;
+use std::fmt;
 use std::process::Abort;
 use verifier::VerifiedClass;
 
@@ -45,13 +46,11 @@ fn in_cap(table: &ClassTable, id: usize) -> Option<u16> {
     Some(table.get(id)?.method("f")?.caps().in_cap)
 }
 
-/// A table of classes whose methods have those.
-fn table_of(rt: &impl Abort, alloc: Global, in_caps: &[u16]) -> ClassTable {
-    let mut table = ClassTable::new(alloc);
+/// Adds classes whose methods have those.
+fn add_all(rt: &impl Abort, alloc: Global, table: &mut ClassTable, in_caps: &[u16]) {
     for in_cap in in_caps {
         let _ = table.add(class(rt, alloc, *in_cap));
     }
-    table
 }
 
 /// Whether the table's classes have the in_caps 5 and 6, and are no more.
@@ -61,7 +60,9 @@ fn has_two(table: &ClassTable) -> bool {
 
 #[test]
 fn ids(rt: HostRuntime) {
-    assert!(rt; has_two(&table_of(&rt, rt.alloc(), &[5, 6])));
+    let mut table = ClassTable::new(rt.alloc());
+    add_all(&rt, rt.alloc(), &mut table, &[5, 6]);
+    assert!(rt; has_two(&table));
 }
 
 static CALL_ERRORS: [(CallError, u8, &str); 3] = [
@@ -75,18 +76,22 @@ static TABLE_ERRORS: [(TableError, u8, &str); 2] = [
     (TableError::NoMemory, 2, "2 NoMemory"),
 ];
 
+/// Whether an error prints that.
+fn prints<E: fmt::Display>(rt: &impl Abort, alloc: Global, error: &E, text: &str) -> bool {
+    let printed = error.to_string(alloc).expect(rt, "memory");
+    printed.as_str() == text
+}
+
 #[test]
 fn call_errors(rt: HostRuntime) {
     for (error, number, text) in &CALL_ERRORS {
-        let printed = error.to_string(rt.alloc()).expect(&rt, "memory");
-        assert!(rt; error.number() == *number && printed.as_str() == *text);
+        assert!(rt; error.number() == *number && prints(&rt, rt.alloc(), error, text));
     }
 }
 
 #[test]
 fn table_errors(rt: HostRuntime) {
     for (error, number, text) in &TABLE_ERRORS {
-        let printed = error.to_string(rt.alloc()).expect(&rt, "memory");
-        assert!(rt; error.number() == *number && printed.as_str() == *text);
+        assert!(rt; error.number() == *number && prints(&rt, rt.alloc(), error, text));
     }
 }

@@ -1,8 +1,10 @@
 //! Programs that call every helper beside every kind of object, with ranges that overlap and ranges of no bytes.
 
 use super::random::Random;
-use super::{agrees, put, slot, verified};
-use crate::contents::{Contents, NOTHING, object_of, with_key, with_xattr};
+use super::{PlainRun, verified};
+use crate::answers::answers;
+use crate::code::{put, slot};
+use crate::contents::{Contents, NOTHING, Pair, object_of, with_key, with_xattr};
 use bpf_machine::Layout;
 use helpers::{Argument, signature};
 use object_store::{DATA_LIMIT, KEY_LIMIT, Object, XATTR_LIMIT, calls};
@@ -24,8 +26,10 @@ const DATA: Contents = Contents {
     ..NOTHING
 };
 
+const THREE: &[Pair] = &[(b"n", b"value"), (b"nm", b""), (b"m", b"0123456789abcdefg")];
+
 const XATTRS: Contents = Contents {
-    xattrs: &[(b"n", b"value"), (b"nm", b""), (b"m", b"0123456789abcdefg")],
+    xattrs: THREE,
     ..NOTHING
 };
 
@@ -64,26 +68,44 @@ fn filled(rt: &impl Abort, alloc: Global, object: Object) -> Object {
     full
 }
 
+/// The object with zeros to its limit.
+fn extended(rt: &impl Abort, alloc: Global, object: Object) -> Object {
+    calls::truncate(alloc, Some(&object), DATA_LIMIT as u64).expect(rt, "memory")
+}
+
+static KINDS: [Contents; 4] = [NOTHING, DATA, XATTRS, KEYS];
+
+/// What the object at all limits holds before it is filled.
+static NAMED: Contents = Contents {
+    xattrs: THREE,
+    ..KEYS
+};
+
 /// An object at all limits.
 fn full(rt: &impl Abort, alloc: Global) -> Object {
-    let named = Contents {
-        xattrs: XATTRS.xattrs,
-        ..KEYS
-    };
-    let named = object_of(rt, alloc, &named);
+    let named = object_of(rt, alloc, &NAMED);
     let object = filled(rt, alloc, named);
-    calls::truncate(alloc, Some(&object), DATA_LIMIT as u64).expect(rt, "memory")
+    extended(rt, alloc, object)
+}
+
+/// Puts an object behind others.
+fn put_object(rt: &impl Abort, objects: &mut Vec<Object>, object: Object) {
+    objects.reserve(1).expect(rt, "memory");
+    objects.push_reserved(object);
+}
+
+/// Puts an object of each kind.
+fn put_objects(rt: &impl Abort, alloc: Global, objects: &mut Vec<Object>) {
+    for contents in &KINDS {
+        put_object(rt, objects, object_of(rt, alloc, contents));
+    }
+    put_object(rt, objects, full(rt, alloc));
 }
 
 /// An object of each kind: empty, with data, with xattrs, with keys, and at all limits.
 fn objects(rt: &impl Abort, alloc: Global) -> Vec<Object> {
     let mut objects = Vec::new(alloc);
-    for contents in &[NOTHING, DATA, XATTRS, KEYS] {
-        objects
-            .push(object_of(rt, alloc, contents))
-            .expect(rt, "memory");
-    }
-    objects.push(full(rt, alloc)).expect(rt, "memory");
+    put_objects(rt, alloc, &mut objects);
     objects
 }
 
@@ -103,8 +125,14 @@ const PLACES: [i32; 8] = [0, 0, 1, 2, 3, 4, 6, 7];
 
 const LENGTHS: [i32; 8] = [0, 1, 1, 2, 2, 4, 8, 16];
 
-/// Puts a range into two registers.
-fn range(rt: &impl Abort, random: &mut Random, code: &mut Vec<u8>, register: u8, base: u8) {
+/// Puts a number into a register, and gives that it is one.
+fn number(rt: &impl Abort, code: &mut Vec<u8>, register: u8, number: i32) -> u8 {
+    put(rt, code, &[slot(0xb7, register, 0, number)]);
+    1
+}
+
+/// Puts a range into two registers, and gives that they are two.
+fn range(rt: &impl Abort, random: &mut Random, code: &mut Vec<u8>, register: u8, base: u8) -> u8 {
     let before = if base == 10 { -64 } else { 0 };
     let place = PLACES[random.pick()].wrapping_add(before);
     let length = LENGTHS[random.pick()];
@@ -117,6 +145,7 @@ fn range(rt: &impl Abort, random: &mut Random, code: &mut Vec<u8>, register: u8,
             slot(0xb7, register.wrapping_add(1), 0, length),
         ],
     );
+    2
 }
 
 /// Puts an argument into one register or two, and gives how many.
@@ -129,22 +158,10 @@ fn argument(
 ) -> u8 {
     let choice = random.pick();
     match argument {
-        Argument::Number => {
-            put(rt, code, &[slot(0xb7, register, 0, NUMBERS[choice])]);
-            1
-        }
-        Argument::OutputLength => {
-            put(rt, code, &[slot(0xb7, register, 0, OUTPUT_LENGTHS[choice])]);
-            1
-        }
-        Argument::Readable => {
-            range(rt, random, code, register, READ[choice]);
-            2
-        }
-        Argument::Writable => {
-            range(rt, random, code, register, WRITTEN[choice]);
-            2
-        }
+        Argument::Number => number(rt, code, register, NUMBERS[choice]),
+        Argument::OutputLength => number(rt, code, register, OUTPUT_LENGTHS[choice]),
+        Argument::Readable => range(rt, random, code, register, READ[choice]),
+        Argument::Writable => range(rt, random, code, register, WRITTEN[choice]),
     }
 }
 
@@ -229,9 +246,13 @@ fn agrees_beside_all(
     code: &[u8],
     objects: &[Object],
 ) -> bool {
-    let mut all = agrees(rt, alloc, class, code, LAYOUT, None, &INPUT);
+    let expected = PlainRun {
+        code,
+        layout: LAYOUT,
+    };
+    let mut all = answers(rt, alloc, class, None, &INPUT, &expected);
     for object in objects {
-        all = all && agrees(rt, alloc, class, code, LAYOUT, Some(object), &INPUT);
+        all = all && answers(rt, alloc, class, Some(object), &INPUT, &expected);
     }
     all
 }
@@ -245,14 +266,19 @@ fn compared(rt: &impl Abort, alloc: Global, seed: u64, objects: &[Object]) -> Op
     }
 }
 
+/// Whether the program of a seed is accepted. It asserts that one that is agrees.
+fn is_accepted(rt: &impl Abort, alloc: Global, seed: u64, objects: &[Object]) -> bool {
+    let compared = compared(rt, alloc, seed, objects);
+    assert!(rt; compared != Some(false), "{seed}");
+    compared.is_some()
+}
+
 /// How many accepted programs call each helper first, and so beside each object and beside none.
 fn accepted(rt: &impl Abort, alloc: Global, objects: &[Object]) -> [u32; 15] {
     let mut accepted = [0u32; 15];
     for seed in 0..150u64 {
-        let compared = compared(rt, alloc, seed, objects);
-        assert!(rt; compared != Some(false), "{seed}");
         let n = (seed % 15) as usize;
-        accepted[n] = accepted[n].wrapping_add(u32::from(compared.is_some()));
+        accepted[n] = accepted[n].wrapping_add(u32::from(is_accepted(rt, alloc, seed, objects)));
     }
     accepted
 }

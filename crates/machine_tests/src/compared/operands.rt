@@ -1,7 +1,9 @@
 //! Every width at offsets, numbers and places of the object.
 
-use super::{agrees, slot, verified};
-use crate::contents::{Contents, NOTHING, made};
+use super::{PlainRun, verified};
+use crate::answers::answers_beside;
+use crate::code::slot;
+use crate::contents::{Contents, NOTHING};
 use bpf_machine::Layout;
 use std::alloc::Global;
 use std::process::Abort;
@@ -60,7 +62,7 @@ fn program(rt: &impl Abort, alloc: Global, c: Choice) -> Vec<u8> {
     Vec::from_slice(alloc, slots.as_flattened()).expect(rt, "memory")
 }
 
-const OBJECTS: [Option<Contents>; 3] = [
+static OBJECTS: [Option<Contents>; 3] = [
     None,
     Some(NOTHING),
     Some(Contents {
@@ -94,23 +96,12 @@ const NUMBERS: [(i16, i32); 5] = [
 /// Where the object is written and read, how many bytes of it, and the code.
 const PLACES: [(i32, i32, i32); 4] = [(0, 0, 0), (2, 5, 1), (40, 24, -30), (65520, 20, 5)];
 
-/// Whether a program answers so beside an object of those contents.
-fn agrees_beside(
-    rt: &impl Abort,
-    alloc: Global,
-    class: &VerifiedClass,
-    code: &[u8],
-    contents: Option<Contents>,
-) -> bool {
-    let object = made(rt, alloc, contents);
-    agrees(rt, alloc, class, code, HIGH, object.as_ref(), &INPUT)
-}
-
-/// The same beside each object.
+/// Whether a program answers so beside each object.
 fn agrees_beside_all(rt: &impl Abort, alloc: Global, class: &VerifiedClass, code: &[u8]) -> bool {
+    let expected = PlainRun { code, layout: HIGH };
     let mut all = true;
     for contents in &OBJECTS {
-        all = all && agrees_beside(rt, alloc, class, code, *contents);
+        all = all && answers_beside(rt, alloc, class, *contents, &INPUT, &expected);
     }
     all
 }

@@ -1,7 +1,9 @@
 //! Programs with branches that together hold every row of the opcode table.
 
 use super::random::Random;
-use super::{agrees, put, slot, verified};
+use super::{PlainRun, verified};
+use crate::answers::answers_once;
+use crate::code::{put, slot};
 use bpf_machine::Layout;
 use std::alloc::Global;
 use std::process::Abort;
@@ -293,7 +295,13 @@ fn agrees_on(rt: &impl Abort, alloc: Global, seed: u64) -> bool {
     let code = program(rt, alloc, seed);
     match verified(rt, alloc, &code) {
         None => false,
-        Some(class) => agrees(rt, alloc, &class, &code, LOW, None, &INPUT),
+        Some(class) => {
+            let expected = PlainRun {
+                code: &code,
+                layout: LOW,
+            };
+            answers_once(rt, alloc, class, None, &INPUT, &expected)
+        }
     }
 }
 

@@ -1,7 +1,7 @@
 //! Calls as lines of text: a helper's name, what it is given first and second, its answer with a sign, and the bytes that
 //! it copies.
 
-use crate::words::{bytes, next, number};
+use crate::words::{Call, Line, bytes, line_of, number};
 use helpers::{
     Answer, Span, create, key_above, map_rm, map_set, map_value, read, remove, rmxattr, setxattr,
     stat, truncate, write, xattr_value,
@@ -9,27 +9,6 @@ use helpers::{
 use object_store::VALUE_LIMIT;
 use std::alloc::Global;
 use txn::{NoMemory, Staged};
-
-/// A line's words.
-#[derive(Clone, Copy)]
-struct Line<'a> {
-    helper: &'a str,
-    first: &'a str,
-    second: &'a str,
-    answer: &'a str,
-    copied: &'a str,
-}
-
-fn line_of(line: &str) -> Line<'_> {
-    let mut words = line.split_whitespace();
-    Line {
-        helper: next(&mut words),
-        first: next(&mut words),
-        second: next(&mut words),
-        answer: next(&mut words),
-        copied: next(&mut words),
-    }
-}
 
 /// Whether an answer is the line's.
 fn is_right(answer: Answer<'_>, line: Line<'_>) -> bool {
@@ -39,42 +18,35 @@ fn is_right(answer: Answer<'_>, line: Line<'_>) -> bool {
 /// Whether a call that looks something up answers so; none of another call.
 fn looks_up(staged: &Staged, line: Line<'_>) -> Option<bool> {
     let (name, room) = (bytes(line.first), number(line.second));
-    let answer = match line.helper {
-        "read" => return Some(reads(staged, line)),
-        "stat" => Answer {
+    let answer = match line.call {
+        Call::Read => return Some(reads(staged, line)),
+        Call::Stat => Answer {
             number: stat(staged),
             bytes: &[],
         },
-        "getxattr" => xattr_value(staged, name, room),
-        "map_get" => map_value(staged, name, room),
-        "map_next" => key_above(staged, name, room),
+        Call::GetXattr => xattr_value(staged, name, room),
+        Call::GetKey => map_value(staged, name, room),
+        Call::NextKey => key_above(staged, name, room),
         _ => return None,
     };
     Some(is_right(answer, line))
 }
 
-/// What a call that sets a value answers; of another call what `changes` answers.
-fn sets(alloc: Global, staged: &mut Staged, line: Line<'_>) -> Result<u64, NoMemory> {
-    let (name, value) = (bytes(line.first), bytes(line.second));
+/// What a call that may change the object answers; 1 of one that is none, and where the value is too long.
+fn changes(alloc: Global, staged: &mut Staged, line: Line<'_>) -> Result<u64, NoMemory> {
+    let (at, name, value) = (number(line.first), bytes(line.first), bytes(line.second));
     if value.len() > VALUE_LIMIT {
         return Ok(1);
     }
-    match line.helper {
-        "write" => write(alloc, staged, number(line.first), value),
-        "setxattr" => setxattr(alloc, staged, name, value),
-        "map_set" => map_set(alloc, staged, name, value),
-        _ => changes(alloc, staged, line),
-    }
-}
-
-/// What another call that may change the object answers; 1 of one that is none.
-fn changes(alloc: Global, staged: &mut Staged, line: Line<'_>) -> Result<u64, NoMemory> {
-    match line.helper {
-        "truncate" => truncate(alloc, staged, number(line.first)),
-        "remove" => Ok(remove(staged)),
-        "rmxattr" => rmxattr(alloc, staged, bytes(line.first)),
-        "map_rm" => map_rm(alloc, staged, bytes(line.first)),
-        "create" => Ok(create(staged, number(line.first))),
+    match line.call {
+        Call::Write => write(alloc, staged, at, value),
+        Call::SetXattr => setxattr(alloc, staged, name, value),
+        Call::SetKey => map_set(alloc, staged, name, value),
+        Call::Truncate => truncate(alloc, staged, at),
+        Call::RemoveXattr => rmxattr(alloc, staged, name),
+        Call::RemoveKey => map_rm(alloc, staged, name),
+        Call::Remove => Ok(remove(staged)),
+        Call::Create => Ok(create(staged, at)),
         _ => Ok(1),
     }
 }
@@ -104,7 +76,7 @@ pub fn is_answer(answer: Result<u64, NoMemory>, want: u64) -> bool {
 fn answers(alloc: Global, staged: &mut Staged, line: Line<'_>) -> bool {
     match looks_up(staged, line) {
         Some(right) => right,
-        None => is_answer(sets(alloc, staged, line), number(line.answer)),
+        None => is_answer(changes(alloc, staged, line), number(line.answer)),
     }
 }
 

@@ -129,7 +129,9 @@ static TEXTS: [(&str, usize, bool); 4] = [
 fn passes(alloc: Global, text: &str, count: usize, there: bool) -> bool {
     let mut staged = Staged::over(None);
     let right = right_answers(alloc, &mut staged, text);
-    right == count && staged.object().is_some() == there
+    let passed = right == count && staged.object().is_some() == there;
+    drop(staged);
+    passed
 }
 
 #[test]

@@ -52,7 +52,9 @@ static LIMITS: [(bool, u16, &str, usize); 2] = [
 fn passes(alloc: Global, keys: bool, count: u16, text: &str, right: usize) -> bool {
     let mut staged = Staged::over(None);
     let filled = fills(alloc, &mut staged, keys, count);
-    filled && right_answers(alloc, &mut staged, text) == right
+    let passed = filled && right_answers(alloc, &mut staged, text) == right;
+    drop(staged);
+    passed
 }
 
 #[test]

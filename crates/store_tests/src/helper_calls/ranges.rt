@@ -1,7 +1,7 @@
 ghost use Rattle.std.specs.Prelude.{◌≡◌, ◌+◌, ◌≤◌};
 
 use super::calls::right_answers;
-use crate::words::{next, number};
+use crate::words::{Call, call_of, next, number};
 use helpers::{Span, getxattr, map_get, map_next};
 use std::str::SplitWhitespace;
 use txn::Staged;
@@ -33,14 +33,14 @@ fn span(words: &mut SplitWhitespace<'_>) -> Span
 }
 
 /// What a helper answers.
-fn answer(staged: &Staged, helper: &str, memory: &mut [u8; 12], name: Span, value: Span) -> u64
+fn answer(staged: &Staged, helper: Call, memory: &mut [u8; 12], name: Span, value: Span) -> u64
     requires name { (name.len ≡ 0 → ⊥) → name.at + name.len ≤ 12 }
     requires value { (value.len ≡ 0 → ⊥) → value.at + value.len ≤ 12 }
 {
     match helper {
-        "getxattr" => getxattr(staged, memory, name, value),
-        "map_get" => map_get(staged, memory, name, value),
-        "map_next" => map_next(staged, memory, name, value),
+        Call::GetXattr => getxattr(staged, memory, name, value),
+        Call::GetKey => map_get(staged, memory, name, value),
+        Call::NextKey => map_next(staged, memory, name, value),
         _ => 1,
     }
 }
@@ -48,7 +48,7 @@ fn answer(staged: &Staged, helper: &str, memory: &mut [u8; 12], name: Span, valu
 /// Whether a helper answers and copies so.
 fn copies(staged: &Staged, line: &str) -> bool {
     let mut words = line.split_whitespace();
-    let helper = next(&mut words);
+    let helper = call_of(next(&mut words));
     let before = next(&mut words).as_bytes();
     let (name, value) = (span(&mut words), span(&mut words));
     if before.len() != 12 {
@@ -79,6 +79,9 @@ map_set bb - 0
 #[test]
 fn ranges_may_overlap(rt: HostRuntime) {
     let mut staged = Staged::over(None);
-    assert!(rt; right_answers(rt.alloc(), &mut staged, SETS) == 3);
-    assert!(rt; right_copies(&staged, COPIES) == 8);
+    let set = right_answers(rt.alloc(), &mut staged, SETS);
+    let copied = right_copies(&staged, COPIES);
+    drop(staged);
+    assert!(rt; set == 3);
+    assert!(rt; copied == 8);
 }

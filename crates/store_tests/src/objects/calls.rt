@@ -1,7 +1,7 @@
 //! Calls one after another on the object of one name, with answers computed by hand.
 
 use crate::pair::{Pair, two_names};
-use crate::words::{bytes, next, number};
+use crate::words::{Call, Line, bytes, line_of, number};
 use object_store::{ObjectName, Objects, StoreError};
 use std::alloc::Global;
 
@@ -83,25 +83,6 @@ getxattr @64 - NoAttr
 nextkey - - NoAttr
 ";
 
-/// A line's words.
-#[derive(Clone, Copy)]
-struct Line<'a> {
-    call: &'a str,
-    first: &'a str,
-    second: &'a str,
-    answer: &'a str,
-}
-
-fn line_of(line: &str) -> Line<'_> {
-    let mut words = line.split_whitespace();
-    Line {
-        call: next(&mut words),
-        first: next(&mut words),
-        second: next(&mut words),
-        answer: next(&mut words),
-    }
-}
-
 /// The bytes of a value.
 fn value_of(word: &str) -> &[u8] {
     match word {
@@ -131,14 +112,14 @@ fn change(
 ) -> Result<(), StoreError> {
     let (at, key, value) = (number(line.first), bytes(line.first), value_of(line.second));
     match line.call {
-        "write" => objects.write(alloc, name, at, value),
-        "truncate" => objects.truncate(alloc, name, at),
-        "create" => objects.create(alloc, name, line.first == "new"),
-        "remove" => objects.remove(alloc, name),
-        "setxattr" => objects.set_xattr(alloc, name, key, value),
-        "rmxattr" => objects.remove_xattr(alloc, name, key),
-        "setkey" => objects.set_key(alloc, name, key, value),
-        "rmkey" => objects.remove_key(alloc, name, key),
+        Call::Write => objects.write(alloc, name, at, value),
+        Call::Truncate => objects.truncate(alloc, name, at),
+        Call::Create => objects.create(alloc, name, line.first == "new"),
+        Call::Remove => objects.remove(alloc, name),
+        Call::SetXattr => objects.set_xattr(alloc, name, key, value),
+        Call::RemoveXattr => objects.remove_xattr(alloc, name, key),
+        Call::SetKey => objects.set_key(alloc, name, key, value),
+        Call::RemoveKey => objects.remove_key(alloc, name, key),
         _ => Err(StoreError::NoMemory),
     }
 }
@@ -173,11 +154,11 @@ fn is_found(found: Result<&[u8], StoreError>, answer: &str) -> bool {
 fn looks_up(objects: &Objects, name: &ObjectName, line: Line<'_>) -> Option<bool> {
     let (key, answer) = (bytes(line.first), line.answer);
     match line.call {
-        "stat" => Some(has_length(objects.stat(name), answer)),
-        "read" => Some(reads(objects, name, line)),
-        "getxattr" => Some(is_found(objects.get_xattr(name, key), answer)),
-        "getkey" => Some(is_found(objects.get_key(name, key), answer)),
-        "nextkey" => Some(is_found(objects.next_key(name, key), answer)),
+        Call::Stat => Some(has_length(objects.stat(name), answer)),
+        Call::Read => Some(reads(objects, name, line)),
+        Call::GetXattr => Some(is_found(objects.get_xattr(name, key), answer)),
+        Call::GetKey => Some(is_found(objects.get_key(name, key), answer)),
+        Call::NextKey => Some(is_found(objects.next_key(name, key), answer)),
         _ => None,
     }
 }
@@ -204,7 +185,9 @@ fn right_answers(alloc: Global, pair: &mut Pair, text: &str) -> usize {
 
 #[test]
 fn rows(rt: HostRuntime) {
-    let mut pair = two_names(&rt, rt.alloc());
-    let count = right_answers(rt.alloc(), &mut pair, ROWS);
+    let alloc = rt.alloc();
+    let mut pair = two_names(&rt, alloc);
+    let count = right_answers(alloc, &mut pair, ROWS);
+    drop(pair);
     assert!(rt; count == 71, "{count} right answers");
 }

@@ -86,12 +86,16 @@ fn passes<R: Abort, D: Data>(rt: &R, alloc: Global, data: &mut D, line: &str) ->
 
 fn passes_flat<R: Abort>(rt: &R, alloc: Global, line: &str) -> bool {
     let mut data = FlatData::new(alloc);
-    passes(rt, alloc, &mut data, line)
+    let right = passes(rt, alloc, &mut data, line);
+    drop(data);
+    right
 }
 
 fn passes_in_extents<R: Abort>(rt: &R, alloc: Global, line: &str) -> bool {
     let mut data = ExtentData::new();
-    passes(rt, alloc, &mut data, line)
+    let right = passes(rt, alloc, &mut data, line);
+    drop(data);
+    right
 }
 
 /// How many lines pass with both kinds of data.

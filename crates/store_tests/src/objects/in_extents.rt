@@ -19,7 +19,9 @@ static COUNTS: [(usize, usize); 4] = [(1, 1), (4096, 1), (4097, 2), (65_536, 16)
 fn extents_of<R: Abort>(rt: &R, alloc: Global, len: usize) -> usize {
     let mut data = sevens(rt, alloc, len);
     data.write(alloc, 0, b"a").expect(rt, "memory");
-    count_of(&data)
+    let count = count_of(&data);
+    drop(data);
+    count
 }
 
 fn count_of(data: &ExtentData) -> usize {
@@ -48,12 +50,17 @@ fn shared_by_copy<R: Abort>(rt: &R, alloc: Global, old: &ExtentData) -> (usize, 
     new.write(alloc, 5000, b"a").expect(rt, "memory");
     let written = new.shared_count();
     new.truncate(alloc, 10_000).expect(rt, "memory");
-    (written, new.shared_count())
+    let cut = new.shared_count();
+    drop(new);
+    (written, cut)
 }
 
 #[test]
 fn a_write_shares_what_it_does_not_touch(rt: HostRuntime) {
-    let old = sevens(&rt, rt.alloc(), 65_536);
-    let (written, cut) = shared_by_copy(&rt, rt.alloc(), &old);
-    assert!(rt; written == 15 && cut == 1 && is_seven(&old));
+    let alloc = rt.alloc();
+    let old = sevens(&rt, alloc, 65_536);
+    let (written, cut) = shared_by_copy(&rt, alloc, &old);
+    let stays = is_seven(&old);
+    drop(old);
+    assert!(rt; written == 15 && cut == 1 && stays);
 }

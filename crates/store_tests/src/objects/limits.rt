@@ -11,10 +11,14 @@ fn with_names<R: Abort>(rt: &R, alloc: Global, object: Object, xattrs: u16, keys
     let value = [7; 4096];
     let mut object = object;
     for n in 0..xattrs {
-        object = with_xattr(rt, alloc, &object, n, &value);
+        let next = with_xattr(rt, alloc, &object, n, &value);
+        drop(object);
+        object = next;
     }
     for n in 0..keys {
-        object = with_key(rt, alloc, &object, n, &value);
+        let next = with_key(rt, alloc, &object, n, &value);
+        drop(object);
+        object = next;
     }
     object
 }
@@ -37,7 +41,9 @@ fn full<R: Abort>(rt: &R, alloc: Global) -> Object {
 /// A copy of such an object, which is gone by then.
 fn full_copy<R: Abort>(rt: &R, alloc: Global) -> Object {
     let object = full(rt, alloc);
-    object.copy().expect(rt, "memory")
+    let copy = object.copy();
+    drop(object);
+    copy.expect(rt, "memory")
 }
 
 /// Whether the object has all that, with this value of a name.
@@ -59,21 +65,32 @@ fn refuses_more(alloc: Global, object: &Object) -> bool {
 
 #[test]
 fn the_largest_object(rt: HostRuntime) {
-    let object = full_copy(&rt, rt.alloc());
-    assert!(rt; is_full(&object, &numbered(31), &[7; 4096]));
-    assert!(rt; refuses_more(rt.alloc(), &object));
+    let alloc = rt.alloc();
+    let object = full_copy(&rt, alloc);
+    let full = is_full(&object, &numbered(31), &[7; 4096]);
+    let refused = refuses_more(alloc, &object);
+    drop(object);
+    assert!(rt; full);
+    assert!(rt; refused);
 }
 
 /// Whether an xattr and a key that are there may have new values.
 fn takes_new<R: Abort>(rt: &R, alloc: Global, object: &Object) -> bool {
-    let renewed = with_xattr(rt, alloc, object, 5, b"new");
-    let renewed = with_key(rt, alloc, &renewed, 5, b"new");
-    is_full(&renewed, &numbered(5), b"new")
+    let one = with_xattr(rt, alloc, object, 5, b"new");
+    let both = with_key(rt, alloc, &one, 5, b"new");
+    drop(one);
+    let full = is_full(&both, &numbered(5), b"new");
+    drop(both);
+    full
 }
 
 #[test]
 fn an_old_name_at_the_limit(rt: HostRuntime) {
-    let object = full(&rt, rt.alloc());
-    assert!(rt; takes_new(&rt, rt.alloc(), &object));
-    assert!(rt; is_full(&object, &numbered(5), &[7; 4096]));
+    let alloc = rt.alloc();
+    let object = full(&rt, alloc);
+    let taken = takes_new(&rt, alloc, &object);
+    let full = is_full(&object, &numbered(5), &[7; 4096]);
+    drop(object);
+    assert!(rt; taken);
+    assert!(rt; full);
 }

@@ -24,7 +24,10 @@ fn length_of<R: Abort>(rt: &R, alloc: Global, len: usize) -> Option<usize> {
 }
 
 fn copied_length<R: Abort>(rt: &R, alloc: Global, name: &ObjectName) -> usize {
-    name.copy(alloc).expect(rt, "memory").text().len()
+    let copy = name.copy(alloc).expect(rt, "memory");
+    let len = copy.text().len();
+    drop(copy);
+    len
 }
 
 /// Lengths of names, and of what is made of them.

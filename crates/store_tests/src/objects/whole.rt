@@ -15,14 +15,20 @@ fn sample<R: Abort>(rt: &R, alloc: Global) -> Pair {
 fn copy_stays<R: Abort>(rt: &R, alloc: Global, pair: &mut Pair) -> bool {
     let copy = pair.objects.copy().expect(rt, "memory");
     pair.objects.remove(alloc, &pair.one).expect(rt, "memory");
-    is_long(copy.get(&pair.one), 3)
+    let stays = is_long(copy.get(&pair.one), 3);
+    drop(copy);
+    stays
 }
 
 #[test]
 fn a_copy_stays_as_it_is(rt: HostRuntime) {
-    let mut pair = sample(&rt, rt.alloc());
-    assert!(rt; copy_stays(&rt, rt.alloc(), &mut pair));
-    assert!(rt; is_empty(&pair));
+    let alloc = rt.alloc();
+    let mut pair = sample(&rt, alloc);
+    let stays = copy_stays(&rt, alloc, &mut pair);
+    let empty = is_empty(&pair);
+    drop(pair);
+    assert!(rt; stays);
+    assert!(rt; empty);
 }
 
 /// Puts the object of the first name under the second, and takes it away from the first. Whether it has moved then.
@@ -30,6 +36,7 @@ fn moves<R: Abort>(rt: &R, alloc: Global, pair: &mut Pair) -> bool {
     let object = pair.objects.get(&pair.one).expect(rt, "an object");
     let object = object.copy().expect(rt, "memory");
     let done = pair.objects.store(alloc, &pair.other, Some(&object));
+    drop(object);
     done.expect(rt, "memory");
     let done = pair.objects.store(alloc, &pair.one, None);
     done.expect(rt, "memory");
@@ -45,7 +52,11 @@ fn takes_empty<R: Abort>(rt: &R, alloc: Global, pair: &mut Pair) -> bool {
 
 #[test]
 fn stored_objects(rt: HostRuntime) {
-    let mut pair = sample(&rt, rt.alloc());
-    assert!(rt; moves(&rt, rt.alloc(), &mut pair));
-    assert!(rt; takes_empty(&rt, rt.alloc(), &mut pair));
+    let alloc = rt.alloc();
+    let mut pair = sample(&rt, alloc);
+    let moved = moves(&rt, alloc, &mut pair);
+    let taken = takes_empty(&rt, alloc, &mut pair);
+    drop(pair);
+    assert!(rt; moved);
+    assert!(rt; taken);
 }
