@@ -1,8 +1,10 @@
 //! `bench_parts` measures parts of the store, a table each: what a text of many labels costs to assemble; what a change of a
-//! small object costs, beside the same change of a large one; and calls that only read their object, a staged object, one
-//! helper and `finish`, beside no object and beside one of full size. With `--dry` it leaves the times out.
+//! small object costs, beside the same change of a large one; calls that only read their object, a staged object, one helper
+//! and `finish`, beside no object and beside one of full size; and a log that becomes another list, beside a replay of that
+//! list. With `--dry` it leaves the times out.
 #![tactic(auto)]
 
+mod log;
 mod objects;
 mod reads;
 mod texts;
@@ -23,5 +25,6 @@ fn main(rt: HostRuntime) -> Result<()> {
 fn report<C: Clock, O: io::Write>(alloc: Global, clock: Option<&C>, out: &mut O) -> Result<()> {
     texts::report(alloc, clock, out)?;
     objects::report(alloc, clock, out)?;
-    reads::report(alloc, clock, out)
+    reads::report(alloc, clock, out)?;
+    log::report(alloc, clock, out)
 }

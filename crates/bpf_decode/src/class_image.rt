@@ -12,9 +12,15 @@ use crate::method::Method;
 use std::marker::Model;
 
 /// A class: 1 to 32 methods within the limits, by rising names. Contracts see the list of its methods.
-#[derive(Drop)]
 pub struct ClassImage {
     methods: Vec<Method>,
+}
+
+impl Drop for ClassImage {
+    fn drop(self) {
+        let ClassImage { methods } = self;
+        drop(methods);
+    }
 }
 
 impl Model for ClassImage {

@@ -5,13 +5,26 @@ use std::marker::Model;
 
 /// A method as it is written. Its numbers may be any: a `ClassImage` keeps those that are within the limits.
 /// Contracts see a `ClassMethod`.
-#[derive(Drop)]
 pub struct Method {
     name: String,
     flags: u8,
     in_cap: u16,
     out_cap: u16,
     instructions: Vec<Insn>,
+}
+
+impl Drop for Method {
+    fn drop(self) {
+        let Method {
+            name,
+            flags: _,
+            in_cap: _,
+            out_cap: _,
+            instructions,
+        } = self;
+        drop(name);
+        drop(instructions);
+    }
 }
 
 impl Model for Method {

@@ -6,13 +6,26 @@ use std::alloc::{AllocError, Global};
 use std::marker::Model;
 
 /// A map of the group, made by the monitor. Contracts see its parts.
-#[derive(Drop)]
 pub struct GroupMap {
     epoch: Epoch,
     interval: Epoch,
     acting: Vec<NodeId>,
     prev: Epoch,
     prev_acting: Vec<NodeId>,
+}
+
+impl Drop for GroupMap {
+    fn drop(self) {
+        let GroupMap {
+            epoch: _,
+            interval: _,
+            acting,
+            prev: _,
+            prev_acting,
+        } = self;
+        drop(acting);
+        drop(prev_acting);
+    }
 }
 
 impl Model for GroupMap {

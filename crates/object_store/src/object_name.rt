@@ -6,9 +6,16 @@ use std::alloc::Global;
 use std::marker::Model;
 
 /// An object's name: 1 to 255 bytes of text. Contracts see the bytes.
-#[derive(Debug, Drop)]
+#[derive(Debug)]
 pub struct ObjectName {
     text: String,
+}
+
+impl Drop for ObjectName {
+    fn drop(self) {
+        let ObjectName { text } = self;
+        drop(text);
+    }
 }
 
 impl Model for ObjectName {

@@ -18,7 +18,6 @@ use std::alloc::Global;
 use std::marker::Model;
 
 /// A node of a group, for the classes that `C` names. Contracts see its number and its state.
-#[derive(Drop)]
 pub struct GroupNode<C: Classes> {
     alloc: Global,
     number: NodeId,
@@ -29,6 +28,26 @@ pub struct GroupNode<C: Classes> {
     committed: usize,
     joined: Vec<NodeId>,
     acked: Vec<usize>,
+}
+
+impl<C: Classes> Drop for GroupNode<C> {
+    fn drop(self) {
+        let GroupNode {
+            alloc: _,
+            number: _,
+            interval: _,
+            members,
+            status: _,
+            group,
+            committed: _,
+            joined,
+            acked,
+        } = self;
+        drop(members);
+        drop(group);
+        drop(joined);
+        drop(acked);
+    }
 }
 
 impl<C: Classes> Model for GroupNode<C> {

@@ -1,12 +1,12 @@
 ghost use mathlib.Core.List.{IsPrefix};
 
+use crate::timing::Time;
 use anyhow::{Context, Result};
 use builtin_classes::load_lock;
 use interp::ClassTable;
 use object_store::ObjectName;
 use pg_log::{Classes, ClientId, Group, GroupWork, Request, RequestNumber, with_group};
 use std::alloc::Global;
-use std::fmt;
 use std::time::{Clock, Instant};
 
 /// The requests of a full log.
@@ -15,36 +15,24 @@ const REQUESTS: u32 = 65_536;
 /// How often each time is taken, of which the least counts.
 const RUNS: usize = 20;
 
-/// A time of so many nanoseconds, which prints as microseconds with one digit.
-#[derive(Clone, Copy)]
-pub struct Micros {
-    nanos: u128,
-}
-
-impl fmt::Display for Micros {
-    fn fmt<W: fmt::Write>(&self, f: &mut fmt::Formatter<W>) -> fmt::Result {
-        let whole = self.nanos / 1000;
-        let rest = self.nanos % 1000 / 100;
-        write!(f, "{whole:>10}.{rest}")
+/// The least times of a replay and of an adoption, where there is a clock, of a full log whose client takes a lock and gives
+/// it back in turn.
+pub fn times<C: Clock>(alloc: Global, clock: Option<&C>) -> Result<(Time, Time)> {
+    match clock {
+        None => Ok((Time::None, Time::None)),
+        Some(clock) => with_lock(alloc, clock),
     }
 }
 
-/// The least times of a replay, and of an adoption.
-#[derive(Clone, Copy)]
-pub struct Times {
-    pub replay: Micros,
-    pub adopt: Micros,
-}
-
-/// Takes the times, of a full log whose client takes a lock and gives it back in turn.
-pub fn measured<C: Clock>(alloc: Global, clock: &C) -> Result<Times> {
+/// The same, with a clock.
+fn with_lock<C: Clock>(alloc: Global, clock: &C) -> Result<(Time, Time)> {
     let mut table = ClassTable::new(alloc);
     table.add(load_lock(alloc)?)?;
     times_of(alloc, clock, &table)
 }
 
 /// The same, with the table of the class.
-fn times_of<C: Clock>(alloc: Global, clock: &C, table: &ClassTable) -> Result<Times> {
+fn times_of<C: Clock>(alloc: Global, clock: &C, table: &ClassTable) -> Result<(Time, Time)> {
     let one = list(alloc, 1)?;
     let two = list(alloc, 2)?;
     let work = Measures {
@@ -114,7 +102,7 @@ fn least<C: Classes, T: Clock>(
     alloc: Global,
     table: &ClassTable,
     lists: (&[Request], &[Request]),
-) -> Result<Times>
+) -> Result<(Time, Time)>
     requires { IsPrefix table.now C.classes }
 {
     let mut least = (u128::MAX, u128::MAX);
@@ -122,10 +110,8 @@ fn least<C: Classes, T: Clock>(
         let (replay, adopt) = once::<C, T>(clock, alloc, table, lists)?;
         least = (least.0.min(replay), least.1.min(adopt));
     }
-    Ok(Times {
-        replay: Micros { nanos: least.0 },
-        adopt: Micros { nanos: least.1 },
-    })
+    let (replay, adopt) = least;
+    Ok((Time::Micros(replay / 1000), Time::Micros(adopt / 1000)))
 }
 
 /// Replays one list, and adopts the other, again and again.
@@ -138,11 +124,11 @@ struct Measures<'a, T> {
 }
 
 impl<T: Clock> GroupWork for Measures<'_, T> {
-    type Output = Result<Times>;
+    type Output = Result<(Time, Time)>;
 
     ghost gives = { λ _ _ _ _. Unit {0} };
 
-    fn work<C: Classes>(self, table: &ClassTable, group: Group<C>) -> Result<Times> {
+    fn work<C: Classes>(self, table: &ClassTable, group: Group<C>) -> Result<(Time, Time)> {
         let _ = group;
         least::<C, T>(self.clock, self.alloc, table, (self.first, self.second))
     }
