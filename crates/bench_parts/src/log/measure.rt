@@ -20,12 +20,12 @@ const RUNS: usize = 20;
 pub fn times<C: Clock>(alloc: Global, clock: Option<&C>) -> Result<(Time, Time)> {
     match clock {
         None => Ok((Time::None, Time::None)),
-        Some(clock) => with_lock(alloc, clock),
+        Some(clock) => with_clock(alloc, clock),
     }
 }
 
 /// The same, with a clock.
-fn with_lock<C: Clock>(alloc: Global, clock: &C) -> Result<(Time, Time)> {
+fn with_clock<C: Clock>(alloc: Global, clock: &C) -> Result<(Time, Time)> {
     let mut table = ClassTable::new(alloc);
     table.add(load_lock(alloc)?)?;
     times_of(alloc, clock, &table)
