@@ -19,3 +19,4 @@ pub use calls::{CallError, call};
 pub use class_table::{ClassTable, TableError};
 pub use limits::CLASS_LIMIT;
 pub use outcome::Outcome;
+pub use verifier::VerifiedClass;

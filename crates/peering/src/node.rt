@@ -11,8 +11,7 @@ mod resend;
 mod serve;
 
 use group_world::{Epoch, Event, GroupMap, HandleError, Kind, Messages, Packet, Party, Status};
-use interp::ClassTable;
-use pg_log::{Classes, Group, legal_lists, refusals};
+use pg_log::{ClassTable, Classes, Group, legal_lists, refusals};
 use placement::NodeId;
 use std::alloc::Global;
 use std::marker::Model;

@@ -11,8 +11,9 @@ ghost use Rattle.peering_messages.specs.Sending.{IsNextReply};
 
 use crate::packets::{packet, send};
 use group_world::{Answer, HandleError, Kind, Packet, Party, Place};
-use interp::ClassTable;
-use pg_log::{Classes, Entry, Group, Request, classes_added, replies as replies_of_lists};
+use pg_log::{
+    ClassTable, Classes, Entry, Group, Request, classes_added, replies as replies_of_lists,
+};
 use placement::NodeId;
 use std::alloc::Global;
 

@@ -1,6 +1,6 @@
 //! A class whose answers are worked out by hand: the first byte of an object is 1 while it is locked.
 use bpf_decode::{ClassImage, Method, decode};
-use interp::ClassTable;
+use pg_log::ClassTable;
 use std::alloc::Global;
 use std::process::Abort;
 use verifier::verify;

@@ -11,7 +11,7 @@ use Rattle.object_store.specs.Names.{PlainObjects}
 use Rattle.txn.specs.declared.change.Change.{Change}
 use Rattle.bpf_decode.specs.Class.{ClassMethod, IsMethod, IsClass}
 use Rattle.bpf_machine.specs.Safe.{OutcomesAreOne}
-use Rattle.verifier.specs.Verified.{method_named}
+use Rattle.interp.specs.Plain.{method_named}
 use Rattle.interp.specs.declared.outcome.Outcome.{Outcome}
 use Rattle.interp.specs.Plain.{Answers}
 use Rattle.pg_log.specs.declared.group.TheConstants.{LOG_LIMIT}

@@ -2,7 +2,7 @@
 use Rattle.std.specs.Prelude.{◌≡◌, ℕ, suc, ◌<◌, ◌⊎◌, List, [], ◌∷◌, ◌++◌, Option, Some, None, Result, Ok, Err, Bool, false, if◌then◌else◌, ◌==◌, ◌&&◌, ◌||◌, nat_lt, nat_le, slice_get, length, take, ◌+◌, codes}
 use Rattle.std.specs.Fmt.{decimal}
 use Rattle.bpf_decode.specs.Class.{ClassMethod}
-use Rattle.verifier.specs.Verified.{method_named}
+use Rattle.interp.specs.Plain.{method_named}
 use Rattle.pg_log.specs.declared.group.TheConstants.{LOG_LIMIT}
 use Rattle.pg_log.specs.declared.log_error.LogError.{LogError}
 use Rattle.pg_log.specs.declared.log_error.LogError.TheVariants.{LogFull, StaleNumber, NoMemory, NoClass, NoMethod, InputTooLong}

@@ -1,5 +1,16 @@
 //! `radoscls` tells whether the class of an image is safe, runs a method of one, and turns texts of classes into images
-//! and back.
+//! and back; and it plays a group of nodes from a file of events.
+//!
+//! - `radoscls verify IN`: whether each method of the class image in the file IN is safe, or which rule it breaks.
+//! - `radoscls run IN METHOD [--input HEX] [--caller N]`: a call of that method beside an absent object, by client N (1 to
+//!   4294967295; else client 1): its code, its output, the object that it leaves, and its steps.
+//! - `radoscls asm IN OUT`: the image of the class text in the file IN, written to the file OUT.
+//! - `radoscls dis IN`: the text of the class image in the file IN.
+//! - `radoscls sim FILE [--class NAME=IMAGE ..] [--trace]`: what each event of the file FILE comes to, or a drawing of the
+//!   run; a request asks `lock`, `obj` or one of those classes by name.
+//!
+//! It ends with 0 where that was done and printed, with 1 where it was refused or could not be printed, and with 2 where the
+//! words ask for none of that, or for help.
 #![tactic(auto)]
 
 use radoscls_program::start;

@@ -5,8 +5,7 @@ ghost use Rattle.pg_log.specs.declared.log_error.LogError.TheVariants.{NoMemory}
 ghost use Rattle.replication.specs.Places.{append_at_answer, list_with};
 
 use crate::rep::Rep;
-use interp::ClassTable;
-use pg_log::{Classes, Group, LogError};
+use pg_log::{ClassTable, Classes, Group, LogError};
 
 /// Puts a request at its place. Where that is the log's length the request is added, and where it is a smaller one
 /// nothing changes; both give the length after. A greater place gives none, and changes nothing. Its epoch isn't looked

@@ -10,9 +10,6 @@ use Rattle.sim.specs.Run.{bad_line, Grew}
 use Rattle.sim_lines.specs.Lines.{line_of, lines_of}
 use Rattle.sim_lines.specs.declared.line.Line.{Line}
 use Rattle.sim_lines.specs.declared.line.Line.TheVariants as lines
-use Rattle.sim_messages.specs.Texts.{kind_text, with_two}
-use Rattle.sim_messages.specs.declared.kept.Kept.{Kept}
-use Rattle.sim_messages.specs.declared.kept.Kept.TheVariants.{Whole, Short}
 use Rattle.sim_trace.specs.Drawing.{drawn}
 use Rattle.sim_trace.specs.declared.lane.Lane.{Lane}
 use Rattle.sim_trace.specs.declared.lane.Lane.TheVariants.{Client, Node, Monitor}
@@ -20,7 +17,8 @@ use Rattle.sim_trace.specs.declared.letter.Letter.{Letter}
 use Rattle.sim_trace.specs.declared.step.What.{What}
 use Rattle.sim_trace.specs.declared.step.What.TheVariants.{At, Asked, Arrived, Bounced}
 use Rattle.sim_trace.specs.declared.step.Step.{Step}
-use Rattle.sim_world.specs.Step.{SimWorld, Happened, opening, step}
+use Rattle.sim_world.specs.Output.{kind_text, with_two}
+use Rattle.sim_world.specs.Step.{SimWorld, Happened, Kept, Short, Whole, opening, step}
 
 -- WHO HAS A COLUMN: each party; a node's number past 255, which no node has, counts as that.
 abbrev pub lane_of_node : ℕ → Lane

@@ -8,13 +8,11 @@ ghost use Rattle.sim_world.specs.Step.{opening};
 
 use crate::bad_line::bad_line;
 use group_world::Party;
-use interp::ClassTable;
-use pg_log::Classes;
+use pg_log::{ClassTable, Classes};
 use placement::NodeId;
 use sim_lines::{Line, lines, read_line};
-use sim_messages::{Kept, kind_text, with_two};
 use sim_trace::{Lane, Letter, Step, What, draw};
-use sim_world::World;
+use sim_world::{Kept, World, kind_text, with_two};
 use std::alloc::{AllocError, Global};
 use std::marker::Brand;
 

@@ -5,8 +5,7 @@ ghost use Rattle.sim_world.specs.Step.{opening, step};
 
 use crate::bad_line::bad_line;
 use class_tool::Output;
-use interp::ClassTable;
-use pg_log::Classes;
+use pg_log::{ClassTable, Classes};
 use sim_lines::{lines, read_line};
 use sim_world::World;
 use std::alloc::{AllocError, Global};

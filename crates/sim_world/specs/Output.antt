@@ -1,6 +1,7 @@
 -- What is printed besides messages: of what an event came to, and of a node.
 use Rattle.std.specs.Prelude.{ℕ, ◌==◌, List, ◌++◌, length, if◌then◌else◌, codes}
 use Rattle.std.specs.Fmt.{decimal}
+pub use Rattle.sim_messages.specs.Texts.{kind_text, with_two}
 use Rattle.group_world.specs.Maps.{GroupMap}
 use Rattle.group_world.specs.Node.{NodeState}
 use Rattle.group_world.specs.declared.status.Status.{Status}

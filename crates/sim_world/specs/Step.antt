@@ -26,8 +26,8 @@ use Rattle.peering.specs.Numbered.{NumberedNode, IsDone}
 use Rattle.sim_lines.specs.Lines.{numbered}
 use Rattle.sim_lines.specs.declared.line.Line.{Line}
 use Rattle.sim_lines.specs.declared.line.Line.TheVariants as lines
-use Rattle.sim_messages.specs.declared.kept.Kept.{Kept}
-use Rattle.sim_messages.specs.declared.kept.Kept.TheVariants.{Whole, Short}
+pub use Rattle.sim_messages.specs.declared.kept.Kept.{Kept}
+pub use Rattle.sim_messages.specs.declared.kept.Kept.TheVariants.{Whole, Short}
 use Rattle.sim_messages.specs.declared.kept.ShortLog.{ShortLog}
 use Rattle.sim_world.specs.declared.deliver.Coming.{Coming}
 use Rattle.sim_world.specs.declared.deliver.Coming.TheVariants.{Told, List as AList}

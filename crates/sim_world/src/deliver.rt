@@ -8,10 +8,9 @@ ghost use Rattle.sim_world.specs.Step.{at_monitor, deliver, deliver_to, activate
 use crate::print::refused_line;
 use crate::world::World;
 use group_world::{Epoch, Event, Kind, Message, Packet, Party, Requests};
-use interp::ClassTable;
 use peering::GroupNode;
 use peering_messages::copy_log;
-use pg_log::{Classes, Request};
+use pg_log::{ClassTable, Classes, Request};
 use placement::NodeId;
 use replication::{UnpackError, unpack_log};
 use sim_lines::numbered;

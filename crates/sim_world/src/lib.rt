@@ -8,4 +8,5 @@ mod keeping;
 mod print;
 mod world;
 
+pub use sim_messages::{Kept, kind_text, with_two};
 pub use world::World;

@@ -7,9 +7,8 @@ ghost use Rattle.sim_world.specs.Step.{Happened, opening, fresh_nodes, step, is_
 use crate::keeping::keep_sent;
 use crate::print::{map_line, node_line, refused_line};
 use group_world::{Event, GroupMap, HandleError, Messages, MonitorError};
-use interp::ClassTable;
 use peering::{GroupNode, Monitor};
-use pg_log::Classes;
+use pg_log::{ClassTable, Classes};
 use placement::NodeId;
 use sim_lines::{Line, numbered};
 use sim_messages::{Kept, Sent, again_text, numbers_of};

@@ -3,9 +3,8 @@ ghost use mathlib.Core.List.{IsPrefix};
 use crate::timing::Time;
 use anyhow::{Context, Result};
 use builtin_classes::load_lock;
-use interp::ClassTable;
 use object_store::ObjectName;
-use pg_log::{Classes, ClientId, Group, GroupWork, Request, RequestNumber, with_group};
+use pg_log::{ClassTable, Classes, ClientId, Group, GroupWork, Request, RequestNumber, with_group};
 use std::alloc::Global;
 use std::time::{Clock, Instant};
 

@@ -1,8 +1,7 @@
 //! A class whose answers are worked out by hand: an object is an account, its first eight bytes are the balance.
 use bpf_asm::assemble_class;
-use interp::ClassTable;
 use object_store::ObjectName;
-use pg_log::{ClientId, Request, RequestNumber};
+use pg_log::{ClassTable, ClientId, Request, RequestNumber};
 use std::alloc::Global;
 use std::process::Abort;
 use verifier::{VerifiedClass, verify};

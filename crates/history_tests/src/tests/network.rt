@@ -7,9 +7,8 @@ use group_world::{
     Answer, Epoch, Event, GroupMap, HandleError, Kind, Message, Messages, Packet, Party, Requests,
     Status,
 };
-use interp::ClassTable;
 use peering::{GroupNode, Monitor};
-use pg_log::{Classes, Request};
+use pg_log::{ClassTable, Classes, Request};
 use placement::NodeId;
 use replication::{PackedLog, pack_log, unpack_log};
 use std::alloc::Global;

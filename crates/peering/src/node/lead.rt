@@ -13,9 +13,8 @@ ghost use Rattle.peering.specs.Arriving.{with_log, is_memory};
 use crate::node::GroupNode;
 use crate::node::moves::installing;
 use group_world::{Epoch, HandleError, Kind, Packet, Party, Status};
-use interp::ClassTable;
 use peering_messages::{are_among, is_among, is_same_request, packet};
-use pg_log::{Classes, Entry, Group, LogError, Request, adopting};
+use pg_log::{ClassTable, Classes, Entry, Group, LogError, Request, adopting};
 use placement::NodeId;
 use std::alloc::Global;
 

@@ -10,9 +10,8 @@ ghost use Rattle.peering.specs.Arriving.{after_move, IsArrival, IsAnswering, IsL
 
 use crate::node::GroupNode;
 use group_world::{Epoch, GroupMap, HandleError, Kind, Packet, Party, Requests, Status};
-use interp::ClassTable;
 use peering_messages::{adoption, copy_log, is_among, leads, packet, query_to_all, send};
-use pg_log::{Classes, Group, LogError, Request};
+use pg_log::{ClassTable, Classes, Group, LogError, Request};
 use placement::NodeId;
 use std::alloc::Global;
 

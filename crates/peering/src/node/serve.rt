@@ -12,11 +12,10 @@ ghost use Rattle.peering.specs.Arriving.{sent_with, grown, with_log};
 
 use crate::node::GroupNode;
 use group_world::{Epoch, HandleError, Kind, Packet, Party, Place, Status};
-use interp::ClassTable;
 use peering_messages::{
     packet, refusal_of, rep_to_others, replies, replies_with, reply, same_reply, send,
 };
-use pg_log::{Classes, Entry, LogError, Request, classes_added, legal_lists, refusals};
+use pg_log::{ClassTable, Classes, Entry, LogError, Request, classes_added, legal_lists, refusals};
 use placement::NodeId;
 use replication::commit_point;
 use std::alloc::Global;

@@ -3,7 +3,7 @@ ghost use Rattle.std.specs.Prelude.{◌≡◌, ◌<◌, ◌≤◌, ◌∷◌, �
 ghost use mathlib.Core.List.{IsPrefix};
 ghost use Rattle.bpf_decode.specs.Class.{ClassMethod};
 ghost use Rattle.bpf_machine.specs.Safe.{IsSafe};
-ghost use Rattle.verifier.specs.Verified.{method_named};
+ghost use Rattle.interp.specs.Plain.{method_named};
 ghost use Rattle.std.specs.Option.{option_copied};
 ghost use Rattle.pg_log.specs.Requests.{ClientRequest};
 ghost use Rattle.pg_log.specs.Log.{Legal, NumbersRise, fold, reply_at};
@@ -18,11 +18,10 @@ use crate::log_error::LogError;
 use crate::places::Places;
 use crate::request::Request;
 use bpf_machine::outcomes;
-use interp::{CallError, ClassTable, Outcome, call};
+use interp::{CallError, ClassTable, Outcome, VerifiedClass, call};
 use object_store::{Object, Objects};
 use std::alloc::Global;
 use txn::apply;
-use verifier::VerifiedClass;
 
 impl<C: Classes> Group<C> {
     /// Runs a request and logs it: gives its place. A logged pair of client and number gives its old place and changes

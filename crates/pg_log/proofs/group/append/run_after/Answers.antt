@@ -5,7 +5,7 @@ use Rattle.std.specs.Option.{option_copied}
 use Rattle.object_store.specs.Object.{PlainObject}
 use Rattle.bpf_decode.specs.Class.{ClassMethod}
 use Rattle.bpf_machine.specs.Safe.{IsSafe}
-use Rattle.verifier.specs.Verified.{method_named}
+use Rattle.interp.specs.Plain.{method_named}
 use Rattle.pg_log.specs.declared.log_error.LogError.{LogError}
 use Rattle.pg_log.specs.Log.{method_in, method_of}
 use Rattle.pg_log.specs.Refusals.{is_reached, refusal, refusal_of_class, refusal_of_method, Refuses}

@@ -3,7 +3,7 @@ use Rattle.std.specs.Option.{option_copied}
 use Rattle.std.proofs.lemmas.Option.{same_Some}
 use Rattle.bpf_decode.specs.Class.{ClassMethod}
 use Rattle.bpf_machine.specs.Safe.{IsSafe}
-use Rattle.verifier.specs.Verified.{method_named}
+use Rattle.interp.specs.Plain.{method_named}
 use Rattle.interp.specs.Plain.{Answers}
 use Rattle.pg_log.proofs.Ran.{ran}
 use Rattle.pg_log.proofs.group.append.run_method.Goals as goal
