@@ -378,9 +378,13 @@ fn builds_classes(rt: HostRuntime) {
     assert!(rt; has_in_caps(rt.alloc(), &bytes));
 }
 
+/// 65 bytes.
+const LONG_NAME: &str = "b2345678901234567890123456789012345678901234567890123456789012345";
+
 /// Name, flags and in_cap of a second method behind `a`, and its refusal.
-const SECOND: [(&str, u8, u16, DecodeError); 6] = [
+const SECOND: [(&str, u8, u16, DecodeError); 7] = [
     ("", 1, 0, DecodeError::Name),
+    (LONG_NAME, 1, 0, DecodeError::Name),
     ("B", 1, 0, DecodeError::Name),
     ("a", 1, 0, DecodeError::Order),
     ("b", 0, 0, DecodeError::Flags),

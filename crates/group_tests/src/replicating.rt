@@ -3,7 +3,7 @@ mod packed;
 
 use super::printed::are_printed;
 use placement::NodeId;
-use replication::{Ack, UnpackError, commit_point, packed_lists};
+use replication::{Ack, NoMemory, UnpackError, commit_point, packed_lists};
 
 /// Whether the least of three members' acknowledged lengths is that one.
 fn is_least(lengths: [usize; 3], least: usize) -> bool {
@@ -21,6 +21,7 @@ const REFUSALS: [UnpackError; 2] = [UnpackError::TooShort, UnpackError::NoMemory
 #[test]
 fn printed_refusals(rt: HostRuntime) {
     assert!(rt; are_printed(&rt, rt.alloc(), &REFUSALS, "1 TooShort\n2 NoMemory"));
+    assert!(rt; are_printed(&rt, rt.alloc(), &[NoMemory], "NoMemory"));
 }
 
 #[test]

@@ -95,14 +95,21 @@ fn asked(kind: &Kind) -> Option<Epoch> {
     }
 }
 
-/// A client's request, by its number and its method of class 0.
+/// A request of a client, by its number and its method of class 0.
+fn request_of<R: Abort>(rt: &R, alloc: Global, client: u32, number: u32, method: &str) -> Request {
+    let client = ClientId::new(client).expect(rt, "a client");
+    let number = RequestNumber::new(number).expect(rt, "a number");
+    let object = ObjectName::new(alloc, "object").expect(rt, "memory");
+    let method = String::from_str(alloc, method).expect(rt, "memory");
+    Request::new(client, number, object, 0, method, Vec::new(alloc))
+}
+
+/// The request of a client, its number and its method.
 fn asked_of<R: Abort>(rt: &R, alloc: Global, text: &str) -> Request {
     let mut words = text.split_whitespace();
-    let client = ClientId::new(next_number(rt, &mut words)).expect(rt, "a client");
-    let number = RequestNumber::new(next_number(rt, &mut words)).expect(rt, "a number");
-    let object = ObjectName::new(alloc, "object").expect(rt, "memory");
-    let method = String::from_str(alloc, next(&mut words)).expect(rt, "memory");
-    Request::new(client, number, object, 0, method, Vec::new(alloc))
+    let client = next_number(rt, &mut words);
+    let number = next_number(rt, &mut words);
+    request_of(rt, alloc, client, number, next(&mut words))
 }
 
 impl<C: Classes> World<C> {
@@ -194,6 +201,24 @@ impl<C: Classes> World<C> {
         self.take(rt, table, at, Event::Request(request));
     }
 
+    /// A node gets so many requests of a client. What it sends of them is passed over.
+    fn fill<R: Abort>(&mut self, rt: &R, table: &ClassTable, at: usize, count: u32)
+        requires { table.now ≡ C.classes }
+    {
+        for number in 1..=count {
+            let request = request_of(rt, self.alloc, 1, number, "unlock");
+            self.take(rt, table, at, Event::Request(request));
+        }
+        self.mail.pass_over();
+    }
+
+    /// A node would send so many messages again.
+    fn would_resend<R: Abort>(&self, rt: &R, at: usize, wanted: usize) {
+        let node = self.nodes.get(at).expect(rt, "a node");
+        let again = node.resend().expect(rt, "memory");
+        see(rt, again.items().len() == wanted, "messages again");
+    }
+
     /// A node is shown.
     fn show<R: Abort>(&mut self, rt: &R, at: usize) {
         let node = self.nodes.get(at).expect(rt, "a node");
@@ -212,6 +237,8 @@ impl<C: Classes> World<C> {
             "deliver" => self.deliver(rt, table, at),
             "show" => self.show(rt, at),
             "resend" => self.resend(rt, at),
+            "fill" => self.fill(rt, table, at, number_of(rt, rest)),
+            "would-resend" => self.would_resend(rt, at, number_of(rt, rest) as usize),
             _ => see(rt, false, what),
         }
     }

@@ -49,6 +49,11 @@ impl Mail {
         self.numbered = self.sent.len();
     }
 
+    /// What was sent is not wanted.
+    pub(super) fn pass_over(&mut self) {
+        self.wanted = self.numbered;
+    }
+
     /// Whether the words say the next message that was sent, which is wanted now, or what the step told, which is told no
     /// more.
     fn says(&mut self, words: &mut SplitWhitespace<'_>) -> bool {

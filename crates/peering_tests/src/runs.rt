@@ -254,6 +254,14 @@ deliver 5
   refused 2 NotNewest
 ";
 
+/// A primary that no acknowledgement reaches sends each request of its list again, to both others.
+const LONG_LIST: &str = "
+fill 1 1200
+show 1
+  epoch 1 active length 1200 committed 0
+would-resend 1 2400
+";
+
 #[test]
 fn alone(rt: HostRuntime) {
     go_through(&rt, rt.alloc(), &[ALONE]);
@@ -292,6 +300,11 @@ fn lost_replication_sent_again(rt: HostRuntime) {
 #[test]
 fn unchanged_acting_set(rt: HostRuntime) {
     go_through(&rt, rt.alloc(), &[OPENING, SAME_ACTING]);
+}
+
+#[test]
+fn long_list_sent_again(rt: HostRuntime) {
+    go_through(&rt, rt.alloc(), &[OPENING, LONG_LIST]);
 }
 
 #[test]

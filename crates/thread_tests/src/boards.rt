@@ -2,8 +2,9 @@
 ghost use Rattle.std.specs.Prelude.{◌≡◌, ◌<◌, ◌≤◌, [], length};
 
 use crate::locks::request;
-use commit_board::{Board, Note, Seen, Writer};
+use commit_board::{Board, NoMemory, Note, Seen, Writer};
 use std::alloc::Global;
+use std::fmt::Display;
 use std::process::Abort;
 use std::thread::{Threads, join};
 
@@ -78,6 +79,23 @@ fn a_fresh_token_sees_three_commits(rt: HostRuntime) {
     let (board, mut writers, seen) = Board::new(rt.alloc(), 1).expect(&rt, "memory");
     let writer = writers.pop().expect(&rt, "a writer");
     assert!(rt; found_late(&rt, rt.alloc(), &board, writer, seen, 3) == 3);
+}
+
+#[test]
+fn a_thousand_rows(rt: HostRuntime) {
+    let (board, writers, mut seen) = Board::new(rt.alloc(), 1000).expect(&rt, "memory");
+    assert!(rt; writers.len() == 1000 && board.look(&mut seen, 999) == 0);
+}
+
+/// Whether a refusal prints as its name.
+fn prints_its_name<T: Display, R: Abort>(rt: &R, alloc: Global, error: &T) -> bool {
+    error.to_string(alloc).expect(rt, "memory").as_str() == "NoMemory"
+}
+
+#[test]
+fn refusals_print_their_name(rt: HostRuntime) {
+    assert!(rt; prints_its_name(&rt, rt.alloc(), &NoMemory));
+    assert!(rt; prints_its_name(&rt, rt.alloc(), &op_shards::NoMemory));
 }
 
 /// Whether two rows have counts of their own, once the second was committed five times and the first twice.

@@ -1,4 +1,5 @@
 use super::is_kept;
+use bpf_decode::{IMAGE_LIMIT, Insn, encode};
 use std::alloc::Global;
 use std::process::Abort;
 
@@ -7,10 +8,12 @@ fn put(rt: &impl Abort, bytes: &mut Vec<u8>, behind: &[u8]) {
     bytes.extend_from_slice(behind).expect(rt, "memory");
 }
 
-/// Writes a method of 4,096 slots: those `movs`, and `exit`.
+/// Writes a method of a name of 64 bytes and of 4,096 slots: those `movs`, and `exit`.
 fn put_method(rt: &impl Abort, image: &mut Vec<u8>, method: u8, movs: &[u8]) {
     let (high, low) = (b'a' + method / 16, b'a' + method % 16);
-    put(rt, image, &[2, high, low, 3, 0, 16, 0, 16, 0, 16]);
+    put(rt, image, &[64]);
+    put(rt, image, &[b'a'; 62]);
+    put(rt, image, &[high, low, 3, 0, 16, 0, 16, 0, 16]);
     put(rt, image, movs);
     put(rt, image, &[0x95, 0, 0, 0, 0, 0, 0, 0]);
 }
@@ -22,7 +25,7 @@ fn put_methods(rt: &impl Abort, image: &mut Vec<u8>, movs: &[u8]) {
     }
 }
 
-/// The image of 32 methods of 4,096 slots: `mov r0, 0`, and `exit` at the end.
+/// The image of 32 methods of the longest names and of 4,096 slots: `mov r0, 0`, and `exit` at the end.
 fn largest(rt: &impl Abort, alloc: Global) -> Vec<u8> {
     let movs = [0xb7, 0, 0, 0, 0, 0, 0, 0]
         .repeat(alloc, 4095)
@@ -36,5 +39,23 @@ fn largest(rt: &impl Abort, alloc: Global) -> Vec<u8> {
 #[test]
 fn largest_image(rt: HostRuntime) {
     let image = largest(&rt, rt.alloc());
+    assert!(rt; image.len() == 1_050_888 && IMAGE_LIMIT == 1_050_888);
     assert!(rt; is_kept(rt.alloc(), &image, false));
+}
+
+/// How many bytes the spelling of instructions has.
+fn spelled_length(alloc: Global, insns: &[Insn]) -> Option<usize> {
+    match encode(alloc, insns) {
+        Ok(code) => Some(code.len()),
+        Err(_) => None,
+    }
+}
+
+/// More instructions than any method has.
+#[test]
+fn many_instructions(rt: HostRuntime) {
+    let insns = [Insn::Exit]
+        .repeat(rt.alloc(), 10_000)
+        .expect(&rt, "memory");
+    assert!(rt; spelled_length(rt.alloc(), &insns) == Some(80_000));
 }

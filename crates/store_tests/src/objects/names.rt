@@ -2,6 +2,7 @@ use object_store::{DataError, ObjectName, StoreError};
 use std::alloc::Global;
 use std::fmt::Display;
 use std::process::Abort;
+use txn::NoMemory;
 
 /// Each refusal, its number, and how it prints.
 static REFUSALS: [(StoreError, u8, &str); 7] = [
@@ -55,6 +56,7 @@ fn refusals(rt: HostRuntime) {
     for (error, number, text) in &REFUSALS {
         assert!(rt; error.number() == *number && prints(&rt, rt.alloc(), error, *text));
     }
+    assert!(rt; prints(&rt, rt.alloc(), &NoMemory, "NoMemory"));
 }
 
 /// Refusals of data, their numbers, and how they print.
