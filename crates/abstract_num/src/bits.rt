@@ -5,7 +5,7 @@ mod rows;
 ghost use Rattle.std.specs.Prelude.{◌≡◌, ◌<◌, ◌^◌, bit_and};
 
 /// The numbers that agree with `value` in each bit that `unknown` hasn't set. A bit is never set in both.
-#[derive(Clone, Copy, Debug, PartialEq, Eq)]
+#[derive(Clone, Copy, PartialEq, Eq)]
 pub struct Bits {
     pub value: u64,
     pub unknown: u64,

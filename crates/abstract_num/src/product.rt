@@ -6,7 +6,7 @@ use crate::fact::Fact;
 use crate::row::Row;
 
 /// The numbers that both parts hold.
-#[derive(Clone, Copy, Debug, PartialEq, Eq)]
+#[derive(Clone, Copy, PartialEq, Eq)]
 pub struct Product<A, B> {
     pub first: A,
     pub second: B,

@@ -12,7 +12,7 @@ use bpf_decode::{Arithmetic, Bits, ByteOrder, Comparison, EndWidth, Region, Sign
 
 /// What is known of a register: nothing, not even that it is set; that it is a number; or that it points into a region,
 /// so far from its first byte.
-#[derive(Clone, Copy, Debug, PartialEq, Eq)]
+#[derive(Clone, Copy, PartialEq, Eq)]
 pub enum Kind {
     Unset,
     Num(Number),

@@ -7,7 +7,7 @@ use std::fmt;
 use std::time::{Clock, Instant};
 
 /// How many there were, and the least picoseconds that one of them took, if times are taken.
-#[derive(Clone, Copy, Debug)]
+#[derive(Clone, Copy)]
 pub struct Figure {
     pub mode: Mode,
     pub count: usize,

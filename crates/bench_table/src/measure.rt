@@ -35,7 +35,7 @@ pub fn picos_each(nanos: u128, count: usize) -> u64
 }
 
 /// The least time of some measurements, in picoseconds.
-#[derive(Clone, Copy, Debug)]
+#[derive(Clone, Copy)]
 pub struct Least {
     pub picos: u64,
 }

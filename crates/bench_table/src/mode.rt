@@ -2,7 +2,7 @@ ghost use Rattle.std.specs.Prelude.{◌≡◌, map, string_bytes};
 ghost use Rattle.bench_table.specs.Mode.{mode_of, runs_of};
 
 /// What is measured, and printed.
-#[derive(Clone, Copy, Debug, PartialEq, Eq)]
+#[derive(Clone, Copy, PartialEq, Eq)]
 pub enum Mode {
     /// Steps or counts alone, which are the same on every machine: each measurement runs once.
     Dry,

@@ -9,7 +9,7 @@ use std::alloc::Global;
 use verifier::{VerifiedClass, verify};
 
 /// A call beside an object.
-#[derive(Clone, Copy, Debug, PartialEq, Eq)]
+#[derive(Clone, Copy, PartialEq, Eq)]
 pub enum Subject {
     /// A byte written to 1 KiB, and to 64 KiB.
     WriteShort,

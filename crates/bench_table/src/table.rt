@@ -8,13 +8,13 @@ use crate::subject::Subject;
 use std::fmt;
 
 /// A time of so many picoseconds, which prints as nanoseconds with two digits.
-#[derive(Clone, Copy, Debug)]
+#[derive(Clone, Copy)]
 pub struct Nanos {
     pub picos: u64,
 }
 
 /// What a method takes: a call, a step of it, and a slot of `verify`.
-#[derive(Clone, Copy, Debug)]
+#[derive(Clone, Copy)]
 pub struct Times {
     pub call: Nanos,
     pub step: Nanos,
@@ -22,7 +22,7 @@ pub struct Times {
 }
 
 /// A method's line.
-#[derive(Clone, Copy, Debug)]
+#[derive(Clone, Copy)]
 pub struct Line {
     pub name: &'static str,
     pub slots: usize,
@@ -31,21 +31,21 @@ pub struct Line {
 }
 
 /// What an `append` takes behind so many entries.
-#[derive(Clone, Copy, Debug)]
+#[derive(Clone, Copy)]
 pub struct AppendLine {
     pub behind: u32,
     pub time: Nanos,
 }
 
 /// The two lengths of a log at which `append` is measured.
-#[derive(Clone, Copy, Debug)]
+#[derive(Clone, Copy)]
 pub struct AppendLines {
     pub short: AppendLine,
     pub long: AppendLine,
 }
 
 /// What a call beside an object takes.
-#[derive(Clone, Copy, Debug)]
+#[derive(Clone, Copy)]
 pub struct CallLine {
     pub subject: Subject,
     pub time: Nanos,

@@ -5,7 +5,7 @@ use Rattle.std.proofs.lemmas.List.{take_more}
 use Rattle.bpf_decode.specs.declared.insn.Insn.{Insn}
 use Rattle.bpf_decode.specs.declared.insn.Insn.TheVariants.{LoadWide}
 use Rattle.bpf_decode.specs.Instruction.{slot_total, slot_count}
-use Rattle.bpf_asm.specs.declared.statement.Statement.{Statement}
+use Rattle.asm_lines.specs.declared.statement.Statement.{Statement}
 use Rattle.bpf_asm.specs.Bodies.{is_instruction}
 
 -- an instruction takes a slot at least

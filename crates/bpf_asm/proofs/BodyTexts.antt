@@ -1,7 +1,7 @@
 -- The canonical text of instructions is read as those instructions.
 use Rattle.std.proofs.Common.{◌≡◌, ℕ, ℤ, pos, negsuc, ◌==◌, ◌&&◌, ◌+◌, ◌≤◌, true, List, [], ◌∷◌, ◌++◌, Some, Result, Ok, refl, sym, ap, ◌∙◌, arith, codes, append_assoc, FitsSigned, nat_le, nat_lt, int_le, count_by, cond}
 use Rattle.std.proofs.lemmas.List.Sums.{sum_by-append}
-use Rattle.bpf_asm.specs.declared.fault.AsmFault.{AsmFault}
+use Rattle.asm_lines.specs.declared.fault.AsmFault.{AsmFault}
 use Rattle.std.specs.List.{list_all, slice_split}
 use Rattle.std.specs.Int.{w16, w32}
 use Rattle.std.proofs.lemmas.Bool.Decides.{nat_tests}
@@ -9,12 +9,12 @@ use Rattle.std.proofs.lemmas.List.{append-nil}
 use Rattle.bpf_decode.specs.declared.insn.Insn.{Insn}
 use Rattle.bpf_decode.specs.declared.insn.Insn.TheVariants.{Alu, Neg, Mov, MovSigned, End, LoadWide, Load, LoadSigned, Store, Jump, JumpLong, Branch, Call, CallLocal, Exit}
 use Rattle.bpf_decode.specs.Instruction.{Fits, AllFit, slot_count, slot_total}
-use Rattle.bpf_asm.specs.declared.draft.Draft.{Draft}
-use Rattle.bpf_asm.specs.declared.statement.Statement.{Statement}
-use Rattle.bpf_asm.specs.declared.statement.Statement.TheVariants.{Empty, Instruction}
-use Rattle.bpf_asm.specs.Texts.{content, trim, trim_start, trim_end}
-use Rattle.bpf_asm.specs.Statements.{statement_of, statements_of}
-use Rattle.bpf_asm.specs.Canonical.{line_of, canonical_text}
+use Rattle.asm_lines.specs.declared.draft.Draft.{Draft}
+use Rattle.asm_lines.specs.declared.statement.Statement.{Statement}
+use Rattle.asm_lines.specs.declared.statement.Statement.TheVariants.{Empty, Instruction}
+use Rattle.asm_lines.specs.Texts.{content, trim, trim_start, trim_end}
+use Rattle.asm_lines.specs.Statements.{statement_of, statements_of}
+use Rattle.asm_lines.specs.Canonical.{line_of, canonical_text}
 use Rattle.bpf_asm.specs.Bodies.{draft_slots, finished, line_at, body_from, is_instruction, assembled, read_text}
 use Rattle.bpf_asm.specs.Laws.{TextsGiveBack}
 use Rattle.bpf_asm.proofs.PlainBytes.{is_quiet, Free, free_where, quiet_feed}

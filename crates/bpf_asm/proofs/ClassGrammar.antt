@@ -8,17 +8,17 @@ use Rattle.std.proofs.lemmas.List.{append-nil, length-append, take-append-drop}
 use Rattle.bpf_decode.specs.declared.insn.Insn.{Insn}
 use Rattle.bpf_decode.specs.Class.{ClassMethod}
 use Rattle.bpf_decode.specs.ImageReading.{is_above}
-use Rattle.bpf_asm.specs.declared.fault.AsmFault.{AsmFault}
-use Rattle.bpf_asm.specs.declared.fault.AsmFault.TheVariants as faults
-use Rattle.bpf_asm.specs.declared.fault.AsmError.{AsmError}
-use Rattle.bpf_asm.specs.declared.statement.Statement.{Statement}
-use Rattle.bpf_asm.specs.declared.statement.Statement.TheVariants.{Empty, Label, Directive, Instruction}
-use Rattle.bpf_asm.specs.Headers.{MethodHeader}
-use Rattle.bpf_asm.specs.Statements.{statements_of}
+use Rattle.asm_lines.specs.declared.fault.AsmFault.{AsmFault}
+use Rattle.asm_lines.specs.declared.fault.AsmFault.TheVariants as faults
+use Rattle.asm_lines.specs.declared.fault.AsmError.{AsmError}
+use Rattle.asm_lines.specs.declared.statement.Statement.{Statement}
+use Rattle.asm_lines.specs.declared.statement.Statement.TheVariants.{Empty, Label, Directive, Instruction}
+use Rattle.asm_lines.specs.Headers.{MethodHeader}
+use Rattle.asm_lines.specs.Statements.{statements_of}
 use Rattle.bpf_asm.specs.Bodies.{body, is_instruction, has_instruction}
 use Rattle.bpf_asm.specs.Classes.{is_directive, last_name, opening_fault, method_with, with_body, unless_fault, method_at, next_method, class_from, bare_class_fault, read_class_text}
-use Rattle.bpf_asm.specs.Fault.{no_memory}
-use Rattle.bpf_asm.specs.Canonical.{class_text}
+use Rattle.asm_lines.specs.Fault.{no_memory}
+use Rattle.asm_lines.specs.Canonical.{class_text}
 use Rattle.bpf_asm.specs.Laws.{ClassTextsAreInGrammar}
 use Rattle.bpf_asm.specs.Grammar.{AreMethodLines, BeginsWithMethod, SayMethods, NamesAbove, AreClassLines, IsClassText}
 use Rattle.bpf_asm.proofs.StatementRelations.{text_says, says_text}

@@ -11,15 +11,15 @@ use Rattle.bpf_decode.specs.Instruction.{AllFit, slot_total, slot_count}
 use Rattle.bpf_decode.specs.Class.{ClassMethod, IsNameByte, IsMethod, NamesRise}
 use Rattle.bpf_decode.specs.Limits.{between, is_name_byte, are_name_bytes}
 use Rattle.bpf_decode.specs.ImageReading.{is_above}
-use Rattle.bpf_asm.specs.declared.fault.AsmFault.{AsmFault}
-use Rattle.bpf_asm.specs.declared.fault.AsmError.{AsmError}
-use Rattle.bpf_asm.specs.declared.statement.Statement.{Statement}
-use Rattle.bpf_asm.specs.declared.statement.Statement.TheVariants.{Empty, Directive, Instruction}
-use Rattle.bpf_asm.specs.Headers.{MethodHeader}
-use Rattle.bpf_asm.specs.Texts.{is_blank, trim_start, trim_end, content, first_word, after_word}
-use Rattle.bpf_asm.specs.Operands.{unsigned_of}
-use Rattle.bpf_asm.specs.Statements.{flags_of, header_of, statement_of, statements_of}
-use Rattle.bpf_asm.specs.Canonical.{flags_text, directive_line, canonical_text, class_text, line_of}
+use Rattle.asm_lines.specs.declared.fault.AsmFault.{AsmFault}
+use Rattle.asm_lines.specs.declared.fault.AsmError.{AsmError}
+use Rattle.asm_lines.specs.declared.statement.Statement.{Statement}
+use Rattle.asm_lines.specs.declared.statement.Statement.TheVariants.{Empty, Directive, Instruction}
+use Rattle.asm_lines.specs.Headers.{MethodHeader}
+use Rattle.asm_lines.specs.Texts.{is_blank, trim_start, trim_end, content, first_word, after_word}
+use Rattle.asm_lines.specs.Operands.{unsigned_of}
+use Rattle.asm_lines.specs.Statements.{flags_of, header_of, statement_of, statements_of}
+use Rattle.asm_lines.specs.Canonical.{flags_text, directive_line, canonical_text, class_text, line_of}
 use Rattle.bpf_asm.specs.Bodies.{body_from, body, has_instruction}
 use Rattle.bpf_asm.specs.Classes.{is_directive, last_name, method_at, class_from, read_class_text}
 use Rattle.bpf_asm.specs.Laws.{ClassTextsGiveBack}

@@ -3,7 +3,7 @@ use Rattle.std.proofs.Common.{◌≡◌, ◌⊎◌, inl, inr, ℕ, ◌==◌, ◌
 use Rattle.std.specs.List.{list_all, before_first}
 use Rattle.std.proofs.lemmas.Bool.Decides.{nat_tests}
 use Rattle.std.proofs.lemmas.List.{append-nil}
-use Rattle.bpf_asm.specs.Texts.{is_blank, onto_trimmed, trim_start, trim_end, trim, content, first_word, after_word}
+use Rattle.asm_lines.specs.Texts.{is_blank, onto_trimmed, trim_start, trim_end, trim, content, first_word, after_word}
 use Rattle.bpf_asm.specs.Syntax.{AreBlanks, NoBlanks, Without, IsSolid, IsPadded, IsComment, HasContent, HasWord}
 use Rattle.bpf_asm.proofs.PlainBytes.{Free, free_where, before_at, before_none, drop_seam, trim_start_stays, and_left, and_right}
 use Rattle.bpf_asm.proofs.TextLemmas.{trim_end_same}

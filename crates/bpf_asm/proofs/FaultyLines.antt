@@ -3,16 +3,16 @@ use Rattle.std.proofs.Common.{◌≡◌, inl, inr, ℕ, ◌==◌, Bool, true, fa
 use Rattle.std.proofs.lemmas.Option.{none-some}
 use Rattle.std.proofs.lemmas.Bool.Decides.{nat_tests}
 use Rattle.bpf_decode.specs.declared.insn.Insn.TheVariants as insns
-use Rattle.bpf_asm.specs.declared.fault.AsmFault.{AsmFault}
-use Rattle.bpf_asm.specs.declared.fault.AsmFault.TheVariants as faults
-use Rattle.bpf_asm.specs.declared.draft.Draft.{Draft}
-use Rattle.bpf_asm.specs.declared.draft.Draft.TheVariants as drafts
-use Rattle.bpf_asm.specs.declared.form.Form.{Form}
-use Rattle.bpf_asm.specs.declared.form.Form.TheVariants.{Alu, Neg, Mov, MovSigned, End, LoadWide, Load, LoadSigned, StoreNumber, StoreRegister, Jump, JumpLong, Branch, Call, Exit}
-use Rattle.bpf_asm.specs.Texts.{lone, pair, triple}
-use Rattle.bpf_asm.specs.Words.{word_of, form_of}
-use Rattle.bpf_asm.specs.Operands.{both, of_one, of_two, of_three, register_of, immediate_of, unsigned_of, source_of, memory_of, near_target_of, far_target_of}
-use Rattle.bpf_asm.specs.Drafts.{call_of, draft, draft_of}
+use Rattle.asm_lines.specs.declared.fault.AsmFault.{AsmFault}
+use Rattle.asm_lines.specs.declared.fault.AsmFault.TheVariants as faults
+use Rattle.asm_lines.specs.declared.draft.Draft.{Draft}
+use Rattle.asm_lines.specs.declared.draft.Draft.TheVariants as drafts
+use Rattle.asm_lines.specs.declared.form.Form.{Form}
+use Rattle.asm_lines.specs.declared.form.Form.TheVariants.{Alu, Neg, Mov, MovSigned, End, LoadWide, Load, LoadSigned, StoreNumber, StoreRegister, Jump, JumpLong, Branch, Call, Exit}
+use Rattle.asm_lines.specs.Texts.{lone, pair, triple}
+use Rattle.asm_lines.specs.Words.{word_of, form_of}
+use Rattle.asm_lines.specs.Operands.{both, of_one, of_two, of_three, register_of, immediate_of, unsigned_of, source_of, memory_of, near_target_of, far_target_of}
+use Rattle.asm_lines.specs.Drafts.{call_of, draft, draft_of}
 use Rattle.bpf_asm.specs.Syntax.{IsDraftText}
 use Rattle.bpf_asm.specs.Shapes.{AnyRegister, AnyNumber, AnySource, AnyPlace, AnyTarget, AnyCall, OfOne, OfTwo, OfThree, AnyOperands, InstructionFault}
 use Rattle.bpf_asm.proofs.OperandCuts.{one_is, is_one, two_is, is_two, three_is, is_three}

@@ -7,15 +7,15 @@ use Rattle.std.proofs.lemmas.List.{length-append}
 use Rattle.bpf_decode.specs.declared.insn.Insn.{Insn}
 use Rattle.bpf_decode.specs.Class.{ClassMethod}
 use Rattle.bpf_decode.specs.ImageReading.{is_above}
-use Rattle.bpf_asm.specs.declared.fault.AsmFault.{AsmFault}
-use Rattle.bpf_asm.specs.declared.fault.AsmFault.TheVariants as faults
-use Rattle.bpf_asm.specs.declared.fault.AsmError.{AsmError}
-use Rattle.bpf_asm.specs.declared.draft.Draft.{Draft}
-use Rattle.bpf_asm.specs.declared.statement.Statement.{Statement}
-use Rattle.bpf_asm.specs.declared.statement.Statement.TheVariants.{Empty, Label, Directive, Instruction}
-use Rattle.bpf_asm.specs.Fault.{fault_number, no_memory}
-use Rattle.bpf_asm.specs.Headers.{MethodHeader}
-use Rattle.bpf_asm.specs.Statements.{statements_of}
+use Rattle.asm_lines.specs.declared.fault.AsmFault.{AsmFault}
+use Rattle.asm_lines.specs.declared.fault.AsmFault.TheVariants as faults
+use Rattle.asm_lines.specs.declared.fault.AsmError.{AsmError}
+use Rattle.asm_lines.specs.declared.draft.Draft.{Draft}
+use Rattle.asm_lines.specs.declared.statement.Statement.{Statement}
+use Rattle.asm_lines.specs.declared.statement.Statement.TheVariants.{Empty, Label, Directive, Instruction}
+use Rattle.asm_lines.specs.Fault.{fault_number, no_memory}
+use Rattle.asm_lines.specs.Headers.{MethodHeader}
+use Rattle.asm_lines.specs.Statements.{statements_of}
 use Rattle.bpf_asm.specs.Bodies.{body, has_instruction}
 use Rattle.bpf_asm.specs.Classes.{is_directive, last_name, method_with, with_body, unless_fault, next_method, class_from, bare_class_fault, read_class_text}
 use Rattle.bpf_asm.specs.Faults.{LineFault, LinesHaveFault, slot_behind, Place, top, next_place, OpeningFault, EarlyFault, ClassLineFault, ClassLinesHaveFault, HasClassFault, IsFirstFault, RefusesClassText, IsFaultlessClass}

@@ -6,18 +6,18 @@ use Rattle.std.proofs.lemmas.List.{append-nil}
 use Rattle.bpf_decode.specs.declared.insn.Insn.{Insn}
 use Rattle.bpf_decode.specs.declared.insn.Insn.TheVariants as insns
 use Rattle.bpf_decode.specs.Instruction.{slot_count, slot_total}
-use Rattle.bpf_asm.specs.declared.fault.AsmFault.{AsmFault}
-use Rattle.bpf_asm.specs.declared.fault.AsmFault.TheVariants as faults
-use Rattle.bpf_asm.specs.declared.fault.AsmError.{AsmError}
-use Rattle.bpf_asm.specs.declared.draft.Draft.{Draft}
-use Rattle.bpf_asm.specs.declared.draft.Draft.TheVariants as drafts
-use Rattle.bpf_asm.specs.declared.statement.Statement.{Statement}
-use Rattle.bpf_asm.specs.declared.statement.Statement.TheVariants.{Empty, Label, Directive, Instruction}
-use Rattle.bpf_asm.specs.Operands.{filled}
-use Rattle.bpf_asm.specs.Statements.{statements_of}
+use Rattle.asm_lines.specs.declared.fault.AsmFault.{AsmFault}
+use Rattle.asm_lines.specs.declared.fault.AsmFault.TheVariants as faults
+use Rattle.asm_lines.specs.declared.fault.AsmError.{AsmError}
+use Rattle.asm_lines.specs.declared.draft.Draft.{Draft}
+use Rattle.asm_lines.specs.declared.draft.Draft.TheVariants as drafts
+use Rattle.asm_lines.specs.declared.statement.Statement.{Statement}
+use Rattle.asm_lines.specs.declared.statement.Statement.TheVariants.{Empty, Label, Directive, Instruction}
+use Rattle.asm_lines.specs.Operands.{filled}
+use Rattle.asm_lines.specs.Statements.{statements_of}
 use Rattle.bpf_asm.specs.Bodies.{draft_slots, slot_of_label, near, far, finished, instruction_at, proceed, body_from, body, bare_fault, is_instruction, has_instruction, read_text}
-use Rattle.bpf_asm.specs.Fault.{no_memory}
-use Rattle.bpf_asm.specs.Canonical.{canonical_text}
+use Rattle.asm_lines.specs.Fault.{no_memory}
+use Rattle.asm_lines.specs.Canonical.{canonical_text}
 use Rattle.bpf_asm.specs.Laws.{TextsAreInGrammar}
 use Rattle.bpf_asm.specs.Grammar.{LabelsOnce, SaysInsn, Says, IsMethodText, AreMethodLines}
 use Rattle.bpf_asm.proofs.BodyLemmas.{one_slot}

@@ -5,9 +5,9 @@ use Rattle.std.proofs.Math.Nat.{pow-succ'}
 use Rattle.std.specs.Char.{digit_value, is_digit, digit_char}
 use Rattle.std.specs.Str.Parse.{digits_value, digits_value_after}
 use Rattle.std.proofs.lemmas.Bool.Decides.{nat_tests}
-use Rattle.bpf_asm.specs.Numbers.{hex_number, natural, plus_within, plain_within}
-use Rattle.bpf_asm.specs.Canonical.{hex_digits, wide_text}
-use Rattle.bpf_asm.specs.Operands.{unsigned_of}
+use Rattle.asm_lines.specs.Numbers.{hex_number, natural, plus_within, plain_within}
+use Rattle.asm_lines.specs.Canonical.{hex_digits, wide_text}
+use Rattle.asm_lines.specs.Operands.{unsigned_of}
 use Rattle.bpf_asm.proofs.PlainBytes.{is_plain, all_append}
 
 char_value : (d : ℕ) → d < 16 → digit_value (digit_char d) ≡ d

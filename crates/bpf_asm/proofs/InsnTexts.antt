@@ -10,18 +10,18 @@ use Rattle.bpf_decode.specs.declared.insn.Operand.TheVariants.{Immediate, Regist
 use Rattle.bpf_decode.specs.declared.insn.Insn.{Insn}
 use Rattle.bpf_decode.specs.declared.insn.Insn.TheVariants.{Alu, Neg, Mov, MovSigned, End, LoadWide, Load, LoadSigned, Store, Jump, JumpLong, Branch, Call, CallLocal, Exit}
 use Rattle.bpf_decode.specs.Instruction.{Fits, OperandFits}
-use Rattle.bpf_asm.specs.declared.target.Target.TheVariants.{Slots}
-use Rattle.bpf_asm.specs.declared.form.Form.{Form}
-use Rattle.bpf_asm.specs.declared.form.Form.TheVariants as forms
-use Rattle.bpf_asm.specs.declared.draft.Draft.{Draft}
-use Rattle.bpf_asm.specs.declared.draft.Draft.TheVariants as drafts
-use Rattle.bpf_asm.specs.declared.statement.Statement.TheVariants.{Instruction}
-use Rattle.bpf_asm.specs.Words.{word_of, form_of, arithmetic_word, comparison_word, signed_move_word, end_word}
-use Rattle.bpf_asm.specs.Texts.{is_blank, trim_start, trim_end, trim, content, first_word, after_word, lone, is_label_name}
-use Rattle.bpf_asm.specs.Operands.{far_target_of}
-use Rattle.bpf_asm.specs.Drafts.{draft, call_of, instruction_of}
-use Rattle.bpf_asm.specs.Statements.{statement_of, is_label_line}
-use Rattle.bpf_asm.specs.Canonical.{register_text, source_text, offset_text, memory_text, wide_text, with_one, with_two, with_three, line_of}
+use Rattle.asm_lines.specs.declared.target.Target.TheVariants.{Slots}
+use Rattle.asm_lines.specs.declared.form.Form.{Form}
+use Rattle.asm_lines.specs.declared.form.Form.TheVariants as forms
+use Rattle.asm_lines.specs.declared.draft.Draft.{Draft}
+use Rattle.asm_lines.specs.declared.draft.Draft.TheVariants as drafts
+use Rattle.asm_lines.specs.declared.statement.Statement.TheVariants.{Instruction}
+use Rattle.asm_lines.specs.Words.{word_of, form_of, arithmetic_word, comparison_word, signed_move_word, end_word}
+use Rattle.asm_lines.specs.Texts.{is_blank, trim_start, trim_end, trim, content, first_word, after_word, lone, is_label_name}
+use Rattle.asm_lines.specs.Operands.{far_target_of}
+use Rattle.asm_lines.specs.Drafts.{draft, call_of, instruction_of}
+use Rattle.asm_lines.specs.Statements.{statement_of, is_label_line}
+use Rattle.asm_lines.specs.Canonical.{register_text, source_text, offset_text, memory_text, wide_text, with_one, with_two, with_three, line_of}
 use Rattle.bpf_asm.proofs.PlainBytes.{is_plain, is_quiet, Free, and_left, plain_blank, before_none, trim_end_free, trim_end_behind, trim_start_stays, trim_start_space, blanks_free, commas_free, quiet_where, all_append, cut_none, lone_piece, pair_pieces, triple_pieces}
 use Rattle.bpf_asm.proofs.NumberTexts.{decimal_not, decimal_plain, helper_reads, immediate_reads, register_reads, register_plain, signed_plain, offset_plain}
 use Rattle.bpf_asm.proofs.HexTexts.{wide_plain, wide_reads}

@@ -4,13 +4,13 @@ use Rattle.std.specs.Int.{w16, w32}
 use Rattle.std.proofs.lemmas.Bool.Decides.{nat_tests}
 use Rattle.bpf_decode.specs.declared.insn.Insn.{Insn}
 use Rattle.bpf_decode.specs.declared.insn.Insn.TheVariants as insns
-use Rattle.bpf_asm.specs.declared.fault.AsmFault.TheVariants as faults
-use Rattle.bpf_asm.specs.declared.target.Target.{Target}
-use Rattle.bpf_asm.specs.declared.target.Target.TheVariants as targets
-use Rattle.bpf_asm.specs.declared.draft.Draft.{Draft}
-use Rattle.bpf_asm.specs.declared.draft.Draft.TheVariants as drafts
-use Rattle.bpf_asm.specs.declared.statement.Statement.{Statement}
-use Rattle.bpf_asm.specs.Operands.{filled}
+use Rattle.asm_lines.specs.declared.fault.AsmFault.TheVariants as faults
+use Rattle.asm_lines.specs.declared.target.Target.{Target}
+use Rattle.asm_lines.specs.declared.target.Target.TheVariants as targets
+use Rattle.asm_lines.specs.declared.draft.Draft.{Draft}
+use Rattle.asm_lines.specs.declared.draft.Draft.TheVariants as drafts
+use Rattle.asm_lines.specs.declared.statement.Statement.{Statement}
+use Rattle.asm_lines.specs.Operands.{filled}
 use Rattle.bpf_asm.specs.Bodies.{slot_of_label, distance_within, distance_to, resolved, finished}
 use Rattle.bpf_asm.specs.Grammar.{Reaches, GoesBy, SaysInsn}
 use Rattle.bpf_asm.proofs.PlainBytes.{and_left, and_right}

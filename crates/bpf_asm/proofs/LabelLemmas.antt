@@ -2,9 +2,9 @@
 use Rattle.std.proofs.Common.{◌≡◌, ℕ, zero, suc, ◌+◌, ◌<◌, ◌≤◌, Bool, true, false, cond, nat_lt, List, [], ◌∷◌, take, Option, Some, None, is_some, refl, sym, ap, subst, ◌∙◌, arith}
 use Rattle.std.specs.Option.{option_map}
 use Rattle.std.proofs.lemmas.Bool.Decides.{nat_tests}
-use Rattle.bpf_asm.specs.declared.statement.Statement.{Statement}
+use Rattle.asm_lines.specs.declared.statement.Statement.{Statement}
 use Rattle.bpf_asm.specs.Bodies.{is_label, line_slots, slot_of_label}
-use Rattle.bpf_asm.specs.declared.statement.Statement.TheVariants.{Label}
+use Rattle.asm_lines.specs.declared.statement.Statement.TheVariants.{Label}
 use Rattle.bpf_asm.specs.Places.{first_place, place_in, or_else, IsNoted}
 use Rattle.std.specs.Borrow.{Bor}
 use Rattle.std.specs.Str.{bytes_eq}

@@ -1,6 +1,4 @@
-pub mod NumberLemmas
 pub mod TextLemmas
-pub mod StatementLemmas
 pub mod BodyLemmas
 pub mod LabelLemmas
 pub mod ClassLemmas

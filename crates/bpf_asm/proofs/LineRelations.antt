@@ -6,16 +6,16 @@ use Rattle.std.proofs.lemmas.Slice.Eq.{bytes_eq-Decides}
 use Rattle.bpf_decode.specs.declared.insn.Operand.TheVariants.{Immediate, Register}
 use Rattle.bpf_decode.specs.declared.insn.Insn.{Insn}
 use Rattle.bpf_decode.specs.declared.insn.Insn.TheVariants as insns
-use Rattle.bpf_asm.specs.declared.fault.AsmFault.TheVariants as faults
-use Rattle.bpf_asm.specs.declared.form.Form.{Form}
-use Rattle.bpf_asm.specs.declared.form.Form.TheVariants.{Alu, Neg, Mov, MovSigned, End, LoadWide, Load, LoadSigned, StoreNumber, StoreRegister, Jump, JumpLong, Branch, Call, Exit}
-use Rattle.bpf_asm.specs.declared.target.Target.{Target}
-use Rattle.bpf_asm.specs.declared.draft.Draft.{Draft}
-use Rattle.bpf_asm.specs.declared.draft.Draft.TheVariants as drafts
-use Rattle.bpf_asm.specs.Words.{word_of, forms, form_of}
-use Rattle.bpf_asm.specs.Texts.{first_word, after_word, lone, pair, triple}
-use Rattle.bpf_asm.specs.Operands.{filled, of_one, of_two, of_three, register_of, immediate_of, unsigned_of, source_of, memory_of, near_target_of, far_target_of}
-use Rattle.bpf_asm.specs.Drafts.{call_of, draft, draft_of, instruction_of}
+use Rattle.asm_lines.specs.declared.fault.AsmFault.TheVariants as faults
+use Rattle.asm_lines.specs.declared.form.Form.{Form}
+use Rattle.asm_lines.specs.declared.form.Form.TheVariants.{Alu, Neg, Mov, MovSigned, End, LoadWide, Load, LoadSigned, StoreNumber, StoreRegister, Jump, JumpLong, Branch, Call, Exit}
+use Rattle.asm_lines.specs.declared.target.Target.{Target}
+use Rattle.asm_lines.specs.declared.draft.Draft.{Draft}
+use Rattle.asm_lines.specs.declared.draft.Draft.TheVariants as drafts
+use Rattle.asm_lines.specs.Words.{word_of, forms, form_of}
+use Rattle.asm_lines.specs.Texts.{first_word, after_word, lone, pair, triple}
+use Rattle.asm_lines.specs.Operands.{filled, of_one, of_two, of_three, register_of, immediate_of, unsigned_of, source_of, memory_of, near_target_of, far_target_of}
+use Rattle.asm_lines.specs.Drafts.{call_of, draft, draft_of, instruction_of}
 use Rattle.bpf_asm.specs.Syntax.{IsNatural, IsImmediate, IsUnsigned, IsRegister, IsSource, IsPlace, IsNearTarget, IsFarTarget, IsLocal, HasWord, One, Two, IsPlainText, IsDraftText, IsInstructionText}
 use Rattle.bpf_asm.proofs.NumberRelations.{filled_is, immediate_is, is_immediate, unsigned_is, is_unsigned}
 use Rattle.bpf_asm.proofs.OperandRelations.{register_is, is_register, source_is, is_source, memory_is, is_memory, near_is, is_near, far_is, is_far}

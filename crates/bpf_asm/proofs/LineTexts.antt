@@ -3,12 +3,12 @@ use Rattle.std.proofs.Common.{◌≡◌, ℕ, ◌==◌, ◌-◌, Bool, true, fal
 use Rattle.std.specs.List.{list_all, before_first}
 use Rattle.std.specs.Str.{bytes_eq}
 use Rattle.std.proofs.lemmas.Slice.Eq.{bytes_eq-Decides}
-use Rattle.bpf_asm.specs.declared.form.Form.{Form}
-use Rattle.bpf_asm.specs.declared.statement.Statement.TheVariants.{Instruction}
-use Rattle.bpf_asm.specs.Words.{arithmetic_word, comparison_word, signed_move_word, end_word, word_of, form_of}
-use Rattle.bpf_asm.specs.Texts.{is_blank, trim_start, trim_end, trim, content, first_word, after_word}
-use Rattle.bpf_asm.specs.Drafts.{draft, instruction_of}
-use Rattle.bpf_asm.specs.Statements.{is_label_line, statement_of}
+use Rattle.asm_lines.specs.declared.form.Form.{Form}
+use Rattle.asm_lines.specs.declared.statement.Statement.TheVariants.{Instruction}
+use Rattle.asm_lines.specs.Words.{arithmetic_word, comparison_word, signed_move_word, end_word, word_of, form_of}
+use Rattle.asm_lines.specs.Texts.{is_blank, trim_start, trim_end, trim, content, first_word, after_word}
+use Rattle.asm_lines.specs.Drafts.{draft, instruction_of}
+use Rattle.asm_lines.specs.Statements.{is_label_line, statement_of}
 use Rattle.bpf_asm.proofs.PlainBytes.{is_plain, is_quiet, Free, and_left, plain_blank, free_where, before_at, before_none, drop_seam, trim_end_behind, trim_start_stays, trim_start_space, blanks_free, quiet_where, all_append, quiet_comment, quiet_colon}
 use Rattle.bpf_asm.proofs.OperandTexts.{length_some}
 use Rattle.bpf_asm.proofs.WordLemmas.{form_known, word_plain}

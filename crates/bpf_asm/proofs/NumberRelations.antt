@@ -4,11 +4,11 @@ use Rattle.std.specs.List.{list_all}
 use Rattle.std.specs.Char.{digit_value, is_digit}
 use Rattle.std.specs.Str.Parse.{AllDigits, digits_value}
 use Rattle.std.proofs.lemmas.Bool.Decides.{nat_tests}
-use Rattle.bpf_asm.specs.declared.fault.AsmFault.{AsmFault}
-use Rattle.bpf_asm.specs.declared.fault.AsmFault.TheVariants.{Operand, Range}
-use Rattle.bpf_asm.specs.declared.number.Number.{Number}
-use Rattle.bpf_asm.specs.Numbers.{all_digits, decimal_number, hex_number, natural, natural_within, as_negative, as_nonnegative, minus_within, plus_within, plain_within, signed_within, value_of}
-use Rattle.bpf_asm.specs.Operands.{filled, immediate_of, offset_of, distance_of, unsigned_of}
+use Rattle.asm_lines.specs.declared.fault.AsmFault.{AsmFault}
+use Rattle.asm_lines.specs.declared.fault.AsmFault.TheVariants.{Operand, Range}
+use Rattle.asm_lines.specs.declared.number.Number.{Number}
+use Rattle.asm_lines.specs.Numbers.{all_digits, decimal_number, hex_number, natural, natural_within, as_negative, as_nonnegative, minus_within, plus_within, plain_within, signed_within, value_of}
+use Rattle.asm_lines.specs.Operands.{filled, immediate_of, offset_of, distance_of, unsigned_of}
 use Rattle.bpf_asm.specs.Syntax.{IsDecimal, IsHexadecimal, IsNatural, IsBehind, IsImmediate, IsOffset, IsDistance, IsUnsigned}
 use Rattle.bpf_asm.proofs.PlainBytes.{and_left, and_right}
 use Rattle.bpf_asm.proofs.CutRelations.{same_byte}

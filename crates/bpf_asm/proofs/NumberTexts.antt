@@ -7,9 +7,9 @@ use Rattle.std.specs.Fmt.{decimal, signed_decimal}
 use Rattle.std.specs.Str.Parse.{AllDigits, digits_value}
 use Rattle.std.proofs.lemmas.Fmt.{decimal_is_IsNumeral, first_decimal, decimal_digit}
 use Rattle.std.proofs.lemmas.Bool.Decides.{nat_tests}
-use Rattle.bpf_asm.specs.Numbers.{decimal_number, natural, minus_within, plus_within, plain_within, signed_within, value_of}
-use Rattle.bpf_asm.specs.Canonical.{register_text, offset_text}
-use Rattle.bpf_asm.specs.Operands.{filled, register_of, immediate_of, offset_of, distance_of, unsigned_of}
+use Rattle.asm_lines.specs.Numbers.{decimal_number, natural, minus_within, plus_within, plain_within, signed_within, value_of}
+use Rattle.asm_lines.specs.Canonical.{register_text, offset_text}
+use Rattle.asm_lines.specs.Operands.{filled, register_of, immediate_of, offset_of, distance_of, unsigned_of}
 use Rattle.bpf_asm.proofs.PlainBytes.{is_plain}
 
 pub digit_range : (c : ℕ) → digit_value c < 10 → (48 ≤ c) × (c ≤ 57)

@@ -2,9 +2,9 @@
 use Rattle.std.proofs.Common.{◌≡◌, ◌⊎◌, inl, inr, ℕ, ◌==◌, List, [], ◌∷◌, ◌++◌, Option, Some, None, Result, Ok, Err, refl, sym, ap, subst, ◌∙◌}
 use Rattle.std.specs.Option.{option_map}
 use Rattle.std.proofs.lemmas.List.{append-nil}
-use Rattle.bpf_asm.specs.declared.fault.AsmFault.{AsmFault}
-use Rattle.bpf_asm.specs.Texts.{trim, cut, lone, pair, triple}
-use Rattle.bpf_asm.specs.Operands.{both, of_one, of_two, of_three}
+use Rattle.asm_lines.specs.declared.fault.AsmFault.{AsmFault}
+use Rattle.asm_lines.specs.Texts.{trim, cut, lone, pair, triple}
+use Rattle.asm_lines.specs.Operands.{both, of_one, of_two, of_three}
 use Rattle.bpf_asm.specs.Syntax.{Without, One, Two, Three}
 use Rattle.bpf_asm.proofs.PlainBytes.{cut_at, cut_none}
 use Rattle.bpf_asm.proofs.CutRelations.{Stops, split, free_not, same_byte, padded, is_padded}

@@ -4,13 +4,13 @@ use Rattle.std.specs.List.{position_or_len, before_first}
 use Rattle.std.proofs.lemmas.Bool.Decides.{nat_tests}
 use Rattle.bpf_decode.specs.declared.insn.Operand.{Operand}
 use Rattle.bpf_decode.specs.declared.insn.Operand.TheVariants.{Immediate, Register}
-use Rattle.bpf_asm.specs.declared.fault.AsmFault.{AsmFault}
-use Rattle.bpf_asm.specs.declared.fault.AsmFault.TheVariants as faults
-use Rattle.bpf_asm.specs.declared.target.Target.{Target}
-use Rattle.bpf_asm.specs.declared.target.Target.TheVariants.{Slots, Label}
-use Rattle.bpf_asm.specs.Numbers.{decimal_number, natural_within}
-use Rattle.bpf_asm.specs.Texts.{is_label_name}
-use Rattle.bpf_asm.specs.Operands.{filled, both, register_of, immediate_of, offset_of, distance_of, source_of, is_sign, offset_or_zero, place_within, memory_of, near_target_of, far_target_of}
+use Rattle.asm_lines.specs.declared.fault.AsmFault.{AsmFault}
+use Rattle.asm_lines.specs.declared.fault.AsmFault.TheVariants as faults
+use Rattle.asm_lines.specs.declared.target.Target.{Target}
+use Rattle.asm_lines.specs.declared.target.Target.TheVariants.{Slots, Label}
+use Rattle.asm_lines.specs.Numbers.{decimal_number, natural_within}
+use Rattle.asm_lines.specs.Texts.{is_label_name}
+use Rattle.asm_lines.specs.Operands.{filled, both, register_of, immediate_of, offset_of, distance_of, source_of, is_sign, offset_or_zero, place_within, memory_of, near_target_of, far_target_of}
 use Rattle.bpf_asm.specs.Syntax.{IsSigned, IsImmediate, IsOffset, IsRegister, IsSource, IsOffsetOrNone, IsPlace, IsNearTarget, IsFarTarget}
 use Rattle.bpf_asm.proofs.PlainBytes.{Free, before_at, before_none, drop_seam, and_left, and_right}
 use Rattle.bpf_asm.proofs.TextLemmas.{front}

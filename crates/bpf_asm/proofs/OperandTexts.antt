@@ -10,10 +10,10 @@ use Rattle.std.proofs.lemmas.Bool.Decides.{nat_tests}
 use Rattle.bpf_decode.specs.declared.insn.Operand.{Operand}
 use Rattle.bpf_decode.specs.declared.insn.Operand.TheVariants.{Immediate, Register}
 use Rattle.bpf_decode.specs.Instruction.{OperandFits}
-use Rattle.bpf_asm.specs.declared.target.Target.TheVariants.{Slots}
-use Rattle.bpf_asm.specs.Texts.{is_label_name}
-use Rattle.bpf_asm.specs.Canonical.{register_text, source_text, offset_text, memory_text}
-use Rattle.bpf_asm.specs.Operands.{filled, offset_of, source_of, is_sign, offset_or_zero, place_within, memory_of, near_target_of, far_target_of}
+use Rattle.asm_lines.specs.declared.target.Target.TheVariants.{Slots}
+use Rattle.asm_lines.specs.Texts.{is_label_name}
+use Rattle.asm_lines.specs.Canonical.{register_text, source_text, offset_text, memory_text}
+use Rattle.asm_lines.specs.Operands.{filled, offset_of, source_of, is_sign, offset_or_zero, place_within, memory_of, near_target_of, far_target_of}
 use Rattle.bpf_asm.proofs.PlainBytes.{is_plain, Free, before_at, drop_seam, all_append}
 use Rattle.bpf_asm.proofs.NumberTexts.{digit_range, decimal_not, decimal_plain, immediate_reads, offset_reads, distance_reads, register_reads, register_plain, signed_plain}
 

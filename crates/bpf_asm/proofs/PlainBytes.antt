@@ -3,7 +3,7 @@ use Rattle.std.proofs.Common.{◌≡◌, ℕ, ◌==◌, ◌||◌, ◌&&◌, ◌+
 use Rattle.std.specs.List.{list_all, position_or_len, before_first}
 use Rattle.std.proofs.Math.Seq.{take-length, take-append_seam}
 use Rattle.std.proofs.lemmas.Bool.Decides.{nat_tests}
-use Rattle.bpf_asm.specs.Texts.{is_blank, onto_trimmed, trim_start, trim_end, trim, cut, lone, pair, triple}
+use Rattle.asm_lines.specs.Texts.{is_blank, onto_trimmed, trim_start, trim_end, trim, cut, lone, pair, triple}
 
 abbrev pub is_plain : ℕ → Bool
 is_plain c = not (is_blank c || c == 44 || c == 58 || c == 59 || c == 10)

@@ -7,15 +7,15 @@ use Rattle.std.proofs.lemmas.List.{append_cancel_right, append-nil}
 use Rattle.std.proofs.lemmas.Bool.Decides.{nat_tests}
 use Rattle.std.proofs.lemmas.Slice.Eq.{bytes_eq-Decides}
 use Rattle.bpf_decode.specs.declared.insn.Operand.TheVariants.{Immediate, Register}
-use Rattle.bpf_asm.specs.declared.fault.AsmFault.{AsmFault}
-use Rattle.bpf_asm.specs.declared.fault.AsmFault.TheVariants as faults
-use Rattle.bpf_asm.specs.declared.target.Target.TheVariants.{Slots, Label}
-use Rattle.bpf_asm.specs.declared.number.Number.{Number}
-use Rattle.bpf_asm.specs.Numbers.{decimal_number, natural, natural_within, as_negative, as_nonnegative, minus_within, plus_within, plain_within, signed_within, value_of}
-use Rattle.bpf_asm.specs.Texts.{first_word, after_word, is_label_name}
-use Rattle.bpf_asm.specs.Operands.{filled, both, register_of, immediate_of, offset_of, distance_of, unsigned_of, source_of, is_sign, offset_or_zero, place_within, memory_of, near_target_of, far_target_of}
-use Rattle.bpf_asm.specs.Drafts.{call_of}
-use Rattle.bpf_asm.specs.declared.draft.Draft.TheVariants as drafts
+use Rattle.asm_lines.specs.declared.fault.AsmFault.{AsmFault}
+use Rattle.asm_lines.specs.declared.fault.AsmFault.TheVariants as faults
+use Rattle.asm_lines.specs.declared.target.Target.TheVariants.{Slots, Label}
+use Rattle.asm_lines.specs.declared.number.Number.{Number}
+use Rattle.asm_lines.specs.Numbers.{decimal_number, natural, natural_within, as_negative, as_nonnegative, minus_within, plus_within, plain_within, signed_within, value_of}
+use Rattle.asm_lines.specs.Texts.{first_word, after_word, is_label_name}
+use Rattle.asm_lines.specs.Operands.{filled, both, register_of, immediate_of, offset_of, distance_of, unsigned_of, source_of, is_sign, offset_or_zero, place_within, memory_of, near_target_of, far_target_of}
+use Rattle.asm_lines.specs.Drafts.{call_of}
+use Rattle.asm_lines.specs.declared.draft.Draft.TheVariants as drafts
 use Rattle.bpf_decode.specs.declared.insn.Insn.TheVariants as insns
 use Rattle.bpf_asm.specs.Syntax.{IsNatural, IsInteger, IsSigned, HasWord}
 use Rattle.bpf_asm.specs.Shapes.{AnyRegister, AnyNumber, AnySigned, AnySource, AnyPlace, AnyTarget, AnyCall}

@@ -9,23 +9,23 @@ use Rattle.std.proofs.lemmas.Bool.Decides.{nat_tests}
 use Rattle.bpf_decode.specs.declared.insn.Operand.TheVariants.{Immediate, Register}
 use Rattle.bpf_decode.specs.declared.insn.Insn.TheVariants as insns
 use Rattle.bpf_decode.specs.Limits.{between, is_name_byte, are_name_bytes}
-use Rattle.bpf_asm.specs.declared.fault.AsmFault.{AsmFault}
-use Rattle.bpf_asm.specs.declared.form.Form.{Form}
-use Rattle.bpf_asm.specs.declared.form.Form.TheVariants.{Alu, Neg, Mov, MovSigned, End, LoadWide, Load, LoadSigned, StoreNumber, StoreRegister, Jump, JumpLong, Branch, Call, Exit}
-use Rattle.bpf_asm.specs.declared.draft.Draft.{Draft}
-use Rattle.bpf_asm.specs.declared.draft.Draft.TheVariants as drafts
-use Rattle.bpf_asm.specs.declared.statement.Statement.{Statement}
-use Rattle.bpf_asm.specs.declared.statement.Statement.TheVariants as statements
-use Rattle.bpf_asm.specs.Headers.{MethodHeader}
-use Rattle.bpf_asm.specs.Words.{word_of, form_of}
-use Rattle.bpf_asm.specs.Texts.{is_blank, content, first_word, after_word, is_label_name}
-use Rattle.bpf_asm.specs.Operands.{both, unsigned_of}
-use Rattle.bpf_asm.specs.Drafts.{draft_of, instruction_of}
-use Rattle.bpf_asm.specs.Statements.{flags_of, header_with, header_of, is_label_line, statement_of, lines_of, statements_of}
+use Rattle.asm_lines.specs.declared.fault.AsmFault.{AsmFault}
+use Rattle.asm_lines.specs.declared.form.Form.{Form}
+use Rattle.asm_lines.specs.declared.form.Form.TheVariants.{Alu, Neg, Mov, MovSigned, End, LoadWide, Load, LoadSigned, StoreNumber, StoreRegister, Jump, JumpLong, Branch, Call, Exit}
+use Rattle.asm_lines.specs.declared.draft.Draft.{Draft}
+use Rattle.asm_lines.specs.declared.draft.Draft.TheVariants as drafts
+use Rattle.asm_lines.specs.declared.statement.Statement.{Statement}
+use Rattle.asm_lines.specs.declared.statement.Statement.TheVariants as statements
+use Rattle.asm_lines.specs.Headers.{MethodHeader}
+use Rattle.asm_lines.specs.Words.{word_of, form_of}
+use Rattle.asm_lines.specs.Texts.{is_blank, content, first_word, after_word, is_label_name}
+use Rattle.asm_lines.specs.Operands.{both, unsigned_of}
+use Rattle.asm_lines.specs.Drafts.{draft_of, instruction_of}
+use Rattle.asm_lines.specs.Statements.{flags_of, header_with, header_of, is_label_line, statement_of, lines_of, statements_of}
 use Rattle.bpf_asm.specs.Syntax.{Without, HasWord, IsDraftText, IsPlainText, AreFlags, IsDirectiveText}
 use Rattle.bpf_asm.specs.Lines.{TextSays, IsStatementText, IsLine, AreLines}
 use Rattle.bpf_asm.specs.Shapes.{AnyNumber, IsLabelText, AnyDirective, DirectiveFault, IsFaultyInstruction}
-use Rattle.bpf_asm.specs.declared.fault.AsmFault.TheVariants as faults
+use Rattle.asm_lines.specs.declared.fault.AsmFault.TheVariants as faults
 use Rattle.bpf_asm.proofs.ShapeLemmas.{Judged, judged_filled, judged_by, judged_both, judged_unsigned}
 use Rattle.bpf_asm.proofs.FaultyLines.{other_shape, no_such, fault_is, is_fault}
 use Rattle.std.proofs.lemmas.Option.{none-some}

@@ -5,17 +5,17 @@ use Rattle.std.specs.Int.{w16, w32}
 use Rattle.std.specs.List.{before_first}
 use Rattle.bpf_decode.specs.declared.limits.TheConstants.{METHOD_LIMIT, SLOT_LIMIT}
 use Rattle.bpf_decode.specs.ImageReading.{is_above}
-use Rattle.bpf_asm.specs.declared.fault.AsmFault.{AsmFault}
-use Rattle.bpf_asm.specs.declared.fault.AsmFault.TheVariants as faults
-use Rattle.bpf_asm.specs.declared.fault.AsmError.{AsmError}
-use Rattle.bpf_asm.specs.declared.target.Target.{Target}
-use Rattle.bpf_asm.specs.declared.target.Target.TheVariants as targets
-use Rattle.bpf_asm.specs.declared.draft.Draft.{Draft}
-use Rattle.bpf_asm.specs.declared.draft.Draft.TheVariants as drafts
-use Rattle.bpf_asm.specs.declared.statement.Statement.{Statement}
-use Rattle.bpf_asm.specs.declared.statement.Statement.TheVariants.{Empty, Label, Directive, Instruction}
-use Rattle.bpf_asm.specs.Fault.{fault_number}
-use Rattle.bpf_asm.specs.Headers.{MethodHeader}
+use Rattle.asm_lines.specs.declared.fault.AsmFault.{AsmFault}
+use Rattle.asm_lines.specs.declared.fault.AsmFault.TheVariants as faults
+use Rattle.asm_lines.specs.declared.fault.AsmError.{AsmError}
+use Rattle.asm_lines.specs.declared.target.Target.{Target}
+use Rattle.asm_lines.specs.declared.target.Target.TheVariants as targets
+use Rattle.asm_lines.specs.declared.draft.Draft.{Draft}
+use Rattle.asm_lines.specs.declared.draft.Draft.TheVariants as drafts
+use Rattle.asm_lines.specs.declared.statement.Statement.{Statement}
+use Rattle.asm_lines.specs.declared.statement.Statement.TheVariants.{Empty, Label, Directive, Instruction}
+use Rattle.asm_lines.specs.Fault.{fault_number}
+use Rattle.asm_lines.specs.Headers.{MethodHeader}
 use Rattle.bpf_asm.specs.Lines.{TextSays}
 use Rattle.bpf_asm.specs.Bodies.{draft_slots, slot_of_label, has_instruction}
 use Rattle.bpf_asm.specs.Classes.{is_directive}

@@ -2,9 +2,9 @@
 use Rattle.std.specs.Prelude.{◌≡◌, ℕ, ◌≤◌, List, Ok}
 use Rattle.bpf_decode.specs.declared.insn.Insn.{Insn}
 use Rattle.bpf_decode.specs.Instruction.{AllFit, slot_total}
-use Rattle.bpf_asm.specs.Canonical.{canonical_text, class_text}
+use Rattle.asm_lines.specs.Canonical.{canonical_text, class_text}
 use Rattle.bpf_asm.specs.Grammar.{IsMethodText, IsClassText}
-use Rattle.bpf_asm.specs.declared.statement.Statement.{Statement}
+use Rattle.asm_lines.specs.declared.statement.Statement.{Statement}
 use Rattle.bpf_asm.specs.Lines.{TextSays}
 use Rattle.bpf_asm.specs.Bodies.{read_text}
 use Rattle.bpf_asm.specs.Classes.{read_class_text}

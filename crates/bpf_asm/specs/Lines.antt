@@ -1,8 +1,8 @@
 -- What a line says, and the lines of a text: nothing, a label, a `.method`, an instruction, or why it is none of its form.
 use Rattle.std.specs.Prelude.{◌≡◌, ℕ, ◌≤◌, List, [], ◌∷◌, length, Ok, Err}
 use Rattle.std.specs.List.{join_with_byte}
-use Rattle.bpf_asm.specs.declared.statement.Statement.{Statement}
-use Rattle.bpf_asm.specs.declared.statement.Statement.TheVariants as statements
+use Rattle.asm_lines.specs.declared.statement.Statement.{Statement}
+use Rattle.asm_lines.specs.declared.statement.Statement.TheVariants as statements
 use Rattle.bpf_asm.specs.Syntax.{Without, HasContent, IsInstructionText, IsDirectiveText}
 use Rattle.bpf_asm.specs.Shapes.{IsLabelText, IsFaultyDirective, IsFaultyInstruction}
 

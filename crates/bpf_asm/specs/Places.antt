@@ -6,7 +6,7 @@ use Rattle.std.specs.BTreeMap as tree
 use Rattle.std.specs.BTreeMap.{BTreeMap}
 use Rattle.std.specs.Cmp.Lexicographic.{slice_cmp}
 use Rattle.std.specs.Ordering.{nat_cmp}
-use Rattle.bpf_asm.specs.declared.statement.Statement.{Statement}
+use Rattle.asm_lines.specs.declared.statement.Statement.{Statement}
 use Rattle.bpf_asm.specs.Bodies.{is_label, line_slots}
 
 -- the slot and the line at which a label stands first, among lines that begin at a slot and a line

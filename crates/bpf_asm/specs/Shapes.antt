@@ -2,14 +2,14 @@
 -- and 3 Range apart.
 use Rattle.std.specs.Prelude.{◌≡◌, ◌⊎◌, ℕ, ℤ, ◌≤◌, true, List, [], ◌++◌, length, codes}
 use Rattle.bpf_decode.specs.Limits.{is_method_name}
-use Rattle.bpf_asm.specs.declared.draft.Draft.{Draft}
-use Rattle.bpf_asm.specs.declared.fault.AsmFault.{AsmFault}
-use Rattle.bpf_asm.specs.declared.fault.AsmFault.TheVariants as faults
-use Rattle.bpf_asm.specs.declared.form.Form.{Form}
-use Rattle.bpf_asm.specs.declared.form.Form.TheVariants.{Alu, Neg, Mov, MovSigned, End, LoadWide, Load, LoadSigned, StoreNumber, StoreRegister, Jump, JumpLong, Branch, Call, Exit}
-use Rattle.bpf_asm.specs.Headers.{MethodHeader}
-use Rattle.bpf_asm.specs.Texts.{is_label_name}
-use Rattle.bpf_asm.specs.Words.{word_of}
+use Rattle.asm_lines.specs.declared.draft.Draft.{Draft}
+use Rattle.asm_lines.specs.declared.fault.AsmFault.{AsmFault}
+use Rattle.asm_lines.specs.declared.fault.AsmFault.TheVariants as faults
+use Rattle.asm_lines.specs.declared.form.Form.{Form}
+use Rattle.asm_lines.specs.declared.form.Form.TheVariants.{Alu, Neg, Mov, MovSigned, End, LoadWide, Load, LoadSigned, StoreNumber, StoreRegister, Jump, JumpLong, Branch, Call, Exit}
+use Rattle.asm_lines.specs.Headers.{MethodHeader}
+use Rattle.asm_lines.specs.Texts.{is_label_name}
+use Rattle.asm_lines.specs.Words.{word_of}
 use Rattle.bpf_asm.specs.Syntax.{HasWord, IsDecimal, IsInteger, IsSigned, One, Two, Three, AreFlags, IsDraftText, IsDirectiveText}
 
 -- ---- operands, whatever their numbers

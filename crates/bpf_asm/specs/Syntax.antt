@@ -7,16 +7,16 @@ use Rattle.bpf_decode.specs.declared.insn.Operand.{Operand}
 use Rattle.bpf_decode.specs.declared.insn.Operand.TheVariants.{Immediate, Register}
 use Rattle.bpf_decode.specs.declared.insn.Insn.{Insn}
 use Rattle.bpf_decode.specs.declared.insn.Insn.TheVariants as insns
-use Rattle.bpf_asm.specs.declared.form.Form.TheVariants as forms
-use Rattle.bpf_asm.specs.declared.target.Target.{Target}
-use Rattle.bpf_asm.specs.declared.target.Target.TheVariants.{Slots, Label}
-use Rattle.bpf_asm.specs.declared.draft.Draft.{Draft}
-use Rattle.bpf_asm.specs.declared.draft.Draft.TheVariants as drafts
-use Rattle.bpf_asm.specs.Texts.{is_blank, is_label_name}
-use Rattle.bpf_asm.specs.Numbers.{all_digits}
-use Rattle.bpf_asm.specs.Words.{word_of}
-use Rattle.bpf_asm.specs.Canonical.{flags_text}
-use Rattle.bpf_asm.specs.Headers.{MethodHeader}
+use Rattle.asm_lines.specs.declared.form.Form.TheVariants as forms
+use Rattle.asm_lines.specs.declared.target.Target.{Target}
+use Rattle.asm_lines.specs.declared.target.Target.TheVariants.{Slots, Label}
+use Rattle.asm_lines.specs.declared.draft.Draft.{Draft}
+use Rattle.asm_lines.specs.declared.draft.Draft.TheVariants as drafts
+use Rattle.asm_lines.specs.Texts.{is_blank, is_label_name}
+use Rattle.asm_lines.specs.Numbers.{all_digits}
+use Rattle.asm_lines.specs.Words.{word_of}
+use Rattle.asm_lines.specs.Canonical.{flags_text}
+use Rattle.asm_lines.specs.Headers.{MethodHeader}
 use Rattle.bpf_decode.specs.Limits.{is_method_name}
 use Rattle.bpf_decode.specs.declared.limits.TheConstants.{CAPACITY_LIMIT}
 

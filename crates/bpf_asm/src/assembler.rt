@@ -1,5 +1,5 @@
 ghost use Rattle.std.specs.Prelude.{◌≡◌, ◌⊎◌, ◌+◌, ◌<◌, ◌^◌, Ok, Err, IfOk, IfErr, MatchResult, length};
-ghost use Rattle.bpf_asm.specs.Fault.{no_memory};
+ghost use Rattle.asm_lines.specs.Fault.{no_memory};
 ghost use Rattle.std.specs.Prelude.{List};
 ghost use Rattle.bpf_decode.specs.declared.insn.Insn.{Insn as Instruction};
 ghost use Rattle.bpf_asm.specs.Grammar.{IsMethodText};
@@ -7,8 +7,7 @@ ghost use Rattle.bpf_asm.specs.Faults.{RefusesText, IsFaultless};
 ghost use Rattle.bpf_asm.specs.Bodies.{bare_fault, assembled, read_text};
 
 use crate::body::{has_instruction, read_body};
-use crate::fault::{AsmError, AsmFault};
-use crate::statement::{Statement, statements};
+use asm_lines::{AsmError, AsmFault, Statement, statements};
 use bpf_decode::Insn;
 use std::alloc::Global;
 

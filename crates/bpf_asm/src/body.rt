@@ -1,14 +1,11 @@
 ghost use Rattle.std.specs.Prelude.{◌≡◌, ◌≤◌, ◌<◌, ◌^◌, ◌+◌, ◌-ℤ◌, ◌⊎◌, ◌≤ℤ◌, pos, [], IfOk, OnOk, MatchResult, length, is_some, take, count_by};
 ghost use Rattle.std.specs.Option.{ForSome};
 ghost use Rattle.bpf_decode.specs.Instruction.{slot_count, slot_total};
-ghost use Rattle.bpf_asm.specs.Fault.{no_memory};
+ghost use Rattle.asm_lines.specs.Fault.{no_memory};
 ghost use Rattle.bpf_asm.specs.Bodies.{draft_slots, line_slots, distance_within, resolved, near, far, finished, instruction_at, line_at, body, is_instruction, has_instruction};
 
-use crate::draft::Draft;
-use crate::fault::{AsmError, AsmFault};
 use crate::labels::Labels;
-use crate::statement::Statement;
-use crate::target::Target;
+use asm_lines::{AsmError, AsmFault, Draft, Statement, Target};
 use bpf_decode::{Insn, SLOT_LIMIT, width};
 use std::alloc::Global;
 

@@ -4,14 +4,12 @@ ghost use Rattle.bpf_decode.specs.Limits.{are_name_bytes};
 ghost use Rattle.bpf_decode.specs.ImageReading.{method_after, methods_after};
 ghost use Rattle.bpf_decode.specs.Class.{ClassMethod};
 ghost use Rattle.bpf_asm.specs.Grammar.{IsClassText};
-ghost use Rattle.bpf_asm.specs.Fault.{no_memory};
+ghost use Rattle.asm_lines.specs.Fault.{no_memory};
 ghost use Rattle.bpf_asm.specs.Faults.{RefusesClassText, IsFaultlessClass};
 ghost use Rattle.bpf_asm.specs.Classes.{is_directive, last_name, opening_fault, method_at, class_from, bare_class_fault, class_assembled, read_class_text};
 
 use crate::body::{has_instruction, read_body};
-use crate::fault::{AsmError, AsmFault};
-use crate::header::Header;
-use crate::statement::{Statement, statements};
+use asm_lines::{AsmError, AsmFault, Header, Statement, statements};
 use bpf_decode::{ClassImage, METHOD_LIMIT, Method};
 use std::alloc::{AllocError, Global};
 

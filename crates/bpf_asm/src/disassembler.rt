@@ -1,10 +1,9 @@
 ghost use Rattle.std.specs.Prelude.{◌≡◌, ◌≤◌, IfOk, IfErr, string_bytes};
 ghost use Rattle.bpf_decode.specs.Instruction.{slot_total};
-ghost use Rattle.bpf_asm.specs.Canonical.{canonical_text, class_text};
-ghost use Rattle.bpf_asm.specs.Fault.{no_memory};
+ghost use Rattle.asm_lines.specs.Canonical.{canonical_text, class_text};
+ghost use Rattle.asm_lines.specs.Fault.{no_memory};
 
-use crate::fault::AsmError;
-use crate::print::{push_insns, push_methods};
+use asm_lines::{AsmError, push_insns, push_methods};
 use bpf_decode::{ClassImage, Insn, SLOT_LIMIT};
 use std::alloc::Global;
 

@@ -2,7 +2,7 @@ ghost use Rattle.std.specs.Prelude.{IfOk, OnOk};
 ghost use Rattle.bpf_asm.specs.Places.{AreLabels, IsNoted};
 
 use crate::body::line_slots;
-use crate::statement::Statement;
+use asm_lines::Statement;
 use std::alloc::{AllocError, Global};
 use std::collections::BTreeMap;
 use std::marker::Model;
@@ -17,7 +17,7 @@ pub(crate) struct Labels<'a, 't> {
 
 impl<'a, 't> Model for Labels<'a, 't> {
     ghost use Rattle.std.specs.Prelude.{List};
-    ghost use Rattle.bpf_asm.specs.declared.statement.Statement.{Statement as Line};
+    ghost use Rattle.asm_lines.specs.declared.statement.Statement.{Statement as Line};
     ghost use Rattle.bpf_asm.specs.Places.{AreLabels};
 
     ghost Value = { List Line };

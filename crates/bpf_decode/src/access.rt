@@ -2,7 +2,7 @@ ghost use Rattle.std.specs.Prelude.{◌≡◌};
 ghost use Rattle.bpf_decode.specs.Instruction.{byte_count, signed_byte_count, size_code, signed_size_code};
 
 /// How many bytes a load or store moves (RFC 9669 section 5, the size modifier).
-#[derive(Clone, Copy, Debug, PartialEq, Eq)]
+#[derive(Clone, Copy, PartialEq, Eq)]
 pub enum Width {
     Byte,
     Half,
@@ -37,7 +37,7 @@ impl Width {
 }
 
 /// How many bytes a load with sign extension moves (RFC 9669 section 5.2).
-#[derive(Clone, Copy, Debug, PartialEq, Eq)]
+#[derive(Clone, Copy, PartialEq, Eq)]
 pub enum SignedWidth {
     Byte,
     Half,

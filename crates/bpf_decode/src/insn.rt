@@ -6,14 +6,14 @@ use crate::operation::{Arithmetic, Bits, ByteOrder, Comparison, EndWidth, Signed
 use crate::register::Register;
 
 /// What an instruction reads beside its destination: a number in the instruction, or a register.
-#[derive(Clone, Copy, Debug, PartialEq, Eq)]
+#[derive(Clone, Copy, PartialEq, Eq)]
 pub enum Operand {
     Immediate(i32),
     Register(Register),
 }
 
 /// One instruction (RFC 9669 sections 4 and 5). The wide load takes two slots, every other one.
-#[derive(Clone, Copy, Debug, PartialEq, Eq)]
+#[derive(Clone, Copy, PartialEq, Eq)]
 pub enum Insn {
     /// Arithmetic of a register and an operand: on all 64 bits, a number sign-extended to them, or on the low 32 of both.
     Alu {

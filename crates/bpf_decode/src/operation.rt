@@ -4,7 +4,7 @@ ghost use Rattle.bpf_decode.specs.Opcodes.{operation_of, offset_selects, selecte
 
 /// Whether an operation works on all 64 bits of a register, or on the low 32 and zeroes the rest
 /// (RFC 9669 section 3.3: ALU64 and JMP, or ALU and JMP32).
-#[derive(Clone, Copy, Debug, PartialEq, Eq)]
+#[derive(Clone, Copy, PartialEq, Eq)]
 pub enum Bits {
     Bits32,
     Bits64,
@@ -33,7 +33,7 @@ impl Bits {
 }
 
 /// Arithmetic of a register and an operand (RFC 9669 section 4.1).
-#[derive(Clone, Copy, Debug, PartialEq, Eq)]
+#[derive(Clone, Copy, PartialEq, Eq)]
 pub enum Arithmetic {
     Add,
     Sub,
@@ -126,7 +126,7 @@ impl Arithmetic {
 }
 
 /// A copy with sign extension (RFC 9669 section 4.1, MOVSX): how much is copied, and to how many bits.
-#[derive(Clone, Copy, Debug, PartialEq, Eq)]
+#[derive(Clone, Copy, PartialEq, Eq)]
 pub enum SignedMove {
     Byte64,
     Half64,
@@ -193,7 +193,7 @@ impl SignedMove {
 }
 
 /// The order of bytes that END gives (RFC 9669 section 4.2).
-#[derive(Clone, Copy, Debug, PartialEq, Eq)]
+#[derive(Clone, Copy, PartialEq, Eq)]
 pub enum ByteOrder {
     ToLittle,
     ToBig,
@@ -226,7 +226,7 @@ impl ByteOrder {
 }
 
 /// How many bits END keeps.
-#[derive(Clone, Copy, Debug, PartialEq, Eq)]
+#[derive(Clone, Copy, PartialEq, Eq)]
 pub enum EndWidth {
     End16,
     End32,
@@ -267,7 +267,7 @@ impl EndWidth {
 }
 
 /// What a conditional jump asks (RFC 9669 section 4.3).
-#[derive(Clone, Copy, Debug, PartialEq, Eq)]
+#[derive(Clone, Copy, PartialEq, Eq)]
 pub enum Comparison {
     Equal,
     Greater,

@@ -4,7 +4,7 @@ use byteorder::{ByteOrder, LittleEndian};
 use std::alloc::AllocError;
 
 /// A slot of eight bytes by its fields (RFC 9669 section 3.1), the signed ones as two's complement.
-#[derive(Clone, Copy, Debug, PartialEq, Eq)]
+#[derive(Clone, Copy, PartialEq, Eq)]
 pub struct Slot {
     pub opcode: u8,
     pub dst: u8,

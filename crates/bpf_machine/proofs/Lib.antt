@@ -12,9 +12,5 @@ pub mod Rows
 pub mod Fetch
 pub mod Counting
 pub mod Runs
-pub mod Going
 pub mod Bytes
 pub mod Kept
-pub mod Table
-pub mod Ranges
-pub mod Row

@@ -1,7 +1,7 @@
 -- A reader must believe State, Helper, Jump, Flat and Safe: what a run is, and what safe means (what operations compute
 -- stands in bpf_decode's Arithmetic, what helpers do in helpers' Table, what an object is in object_store's Object).
 -- Address, Within and the laws of Safe are proved of these. Typed and Decoded are the machine on decoded instructions, on
--- which the crates above build; View is what flat_run takes and gives; inner is the code's own.
+-- which the crates above build.
 pub mod State
 pub mod Helper
 pub use Rattle.bpf_decode.specs.Jump
@@ -11,5 +11,3 @@ pub mod Decoded
 pub mod Safe
 pub mod Address
 pub mod Within
-pub mod View
-pub mod inner

@@ -6,7 +6,7 @@ use crate::limits::STACK_SIZE;
 use bpf_decode::{Method, Region};
 
 /// What a method declares: the lengths of its regions in bytes, and whether it may change the object.
-#[derive(Clone, Copy, Debug, PartialEq, Eq)]
+#[derive(Clone, Copy, PartialEq, Eq)]
 pub struct Caps {
     pub in_cap: u16,
     pub out_cap: u16,

@@ -1,8 +1,7 @@
 -- Why a text has no image, and why a call is refused.
 use Rattle.std.proofs.Common.{◌≡◌, ◌⊎◌, inl, inr, ℕ, List, Err}
 use Rattle.bpf_decode.specs.Class.{ClassMethod}
-use Rattle.bpf_asm.specs.declared.fault.AsmError.{AsmError}
-use Rattle.bpf_asm.specs.Classes.{read_class_text}
+use Rattle.bpf_asm.specs.Classes.{AsmError, read_class_text}
 use Rattle.bpf_asm.specs.Fault.{no_memory}
 use Rattle.bpf_asm.specs.Grammar.{IsClassText}
 use Rattle.class_tool.specs.Assembly.{IsFaultOf}

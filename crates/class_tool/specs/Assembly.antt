@@ -1,10 +1,9 @@
 -- What `asm` writes and `dis` gives, and why they do not.
 use Rattle.std.specs.Prelude.{◌≡◌, ◌⊎◌, ⊤, ℕ, List, Option, Err, IsUtf8}
 use Rattle.bpf_asm.specs.Canonical.{class_text}
-use Rattle.bpf_asm.specs.Classes.{read_class_text}
+use Rattle.bpf_asm.specs.Classes.{AsmError, read_class_text}
 use Rattle.bpf_asm.specs.Fault.{no_memory}
 use Rattle.bpf_asm.specs.Grammar.{IsClassText}
-use Rattle.bpf_asm.specs.declared.fault.AsmError.{AsmError}
 use Rattle.bpf_decode.specs.Class.{ClassMethod, IsImage}
 use Rattle.class_tool.specs.Files.{Disk, Holds, IsUnreadable, IsWritten, OthersStay}
 use Rattle.class_tool.specs.Image.{IsImageIn}

@@ -22,7 +22,7 @@ pub struct Reply {
 }
 
 /// How much an object holds.
-#[derive(Clone, Copy, Debug, PartialEq, Eq)]
+#[derive(Clone, Copy, PartialEq, Eq)]
 pub struct Holdings {
     /// Bytes of data.
     pub bytes: usize,

@@ -4,7 +4,7 @@ use std::marker::Model;
 
 /// An epoch's number: 1 to 2^32 - 1, or 0 where there is none yet. An interval goes by the epoch in which it began.
 /// Contracts see the number.
-#[derive(Clone, Copy, Debug, PartialEq, Eq, Drop)]
+#[derive(Clone, Copy, PartialEq, Eq, Drop)]
 pub struct Epoch {
     number: u32,
 }

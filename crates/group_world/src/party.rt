@@ -2,7 +2,7 @@ use pg_log::ClientId;
 use placement::NodeId;
 
 /// Who sends or receives a message.
-#[derive(Clone, Copy, Debug, PartialEq, Eq, Drop)]
+#[derive(Clone, Copy, PartialEq, Eq, Drop)]
 pub enum Party {
     /// A node of the cluster.
     Node(NodeId),

@@ -1,5 +1,5 @@
 /// What a node does in its interval.
-#[derive(Clone, Copy, Debug, PartialEq, Eq, Drop)]
+#[derive(Clone, Copy, PartialEq, Eq, Drop)]
 pub enum Status {
     /// It doesn't act.
     Out,

@@ -8,7 +8,7 @@ use object_store::StoreError;
 use txn::NoMemory;
 
 /// What a helper answers in register 0, and the bytes that it copies to the beginning of its writable range.
-#[derive(Clone, Copy, Debug)]
+#[derive(Clone, Copy)]
 pub struct Answer<'a> {
     pub number: u64,
     pub bytes: &'a [u8],

@@ -1,5 +1,5 @@
 /// What a helper takes from a register, or from two for a range: a pointer and a length in bytes.
-#[derive(Clone, Copy, Debug, PartialEq, Eq)]
+#[derive(Clone, Copy, PartialEq, Eq)]
 pub enum Argument {
     /// A number.
     Number,
@@ -12,7 +12,7 @@ pub enum Argument {
 }
 
 /// What a helper takes from register 1 on, and whether it may change the object.
-#[derive(Clone, Copy, Debug)]
+#[derive(Clone, Copy)]
 pub struct Signature {
     pub arguments: &'static [Argument],
     pub writes: bool,

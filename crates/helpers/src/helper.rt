@@ -5,7 +5,7 @@ ghost use Rattle.helpers.specs.View.{given_signature};
 use crate::argument::{Argument, Signature};
 
 /// What a method may call. Each helper has one function of the same name.
-#[derive(Clone, Copy, Debug, PartialEq, Eq)]
+#[derive(Clone, Copy, PartialEq, Eq)]
 pub enum Helper {
     Stat,
     Read,

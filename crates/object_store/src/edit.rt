@@ -7,7 +7,7 @@ use crate::data_error::DataError;
 use std::alloc::Global;
 
 /// A change of data.
-#[derive(Debug, Drop)]
+#[derive(Drop)]
 pub enum Edit {
     /// Bytes from a place on. No bytes change nothing.
     Write { at: u64, text: Vec<u8> },

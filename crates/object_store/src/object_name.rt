@@ -6,7 +6,6 @@ use std::alloc::Global;
 use std::marker::Model;
 
 /// An object's name: 1 to 255 bytes of text. Contracts see the bytes.
-#[derive(Debug)]
 pub struct ObjectName {
     text: String,
 }

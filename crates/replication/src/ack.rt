@@ -1,7 +1,7 @@
 use placement::NodeId;
 
 /// That a member's log has come to a length in an epoch.
-#[derive(Clone, Copy, Debug, PartialEq, Eq, Drop)]
+#[derive(Clone, Copy, PartialEq, Eq, Drop)]
 pub struct Ack {
     /// The sender's epoch.
     pub epoch: u32,

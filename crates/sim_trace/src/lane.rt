@@ -5,7 +5,7 @@ ghost use Rattle.sim_trace.specs.Drawing.{is_client, fate};
 use std::alloc::AllocError;
 
 /// Who has a column.
-#[derive(Clone, Copy, Debug, PartialEq, Eq, Drop)]
+#[derive(Clone, Copy, PartialEq, Eq, Drop)]
 pub enum Lane {
     /// A client, by its number.
     Client(u32),

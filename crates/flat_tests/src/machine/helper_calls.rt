@@ -1,5 +1,6 @@
 use super::lines::{capacities, layout, run_all_beside};
-use bpf_machine::{Caps, Ending, Layout, flat_run, is_layout};
+use bpf_machine::Caps;
+use flat_machine::{Ending, Layout, flat_run, is_layout};
 use object_store::Object;
 use std::alloc::Global;
 

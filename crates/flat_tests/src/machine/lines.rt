@@ -1,5 +1,6 @@
 use super::told::{ROOM, are_bytes, bytes, is_object, number, object};
-use bpf_machine::{Caps, Ending, Layout, flat_run, is_layout};
+use bpf_machine::Caps;
+use flat_machine::{Ending, Layout, flat_run, is_layout};
 use object_store::Object;
 use std::alloc::Global;
 use std::str::SplitWhitespace;
@@ -165,7 +166,7 @@ pub fn ends_with(alloc: Global, code: &[u8], value: u64, counted: usize) -> bool
 }
 
 /// What a run without an object and without input comes to.
-#[derive(Clone, Copy, Debug, PartialEq)]
+#[derive(Clone, Copy, PartialEq)]
 pub enum Short {
     Ended(u64, usize),
     Stuck,

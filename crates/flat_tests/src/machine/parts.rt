@@ -1,9 +1,10 @@
 use super::lines::{capacities, layout};
 use bpf_decode::Method;
 use bpf_machine::{
-    Argument, Caps, Region, addresses, chains, decoded, is_layout, jump_target, layouts,
-    limits_are_kept, other_runs, outcomes, signature, simulation,
+    Argument, Caps, Region, addresses, chains, decoded, jump_target, layouts, limits_are_kept,
+    other_runs, outcomes, signature, simulation,
 };
+use flat_machine::is_layout;
 use helpers::effects_are_within_limits;
 use std::alloc::Global;
 

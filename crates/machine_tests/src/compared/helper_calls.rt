@@ -5,7 +5,7 @@ use super::{PlainRun, verified};
 use crate::answers::answers;
 use crate::code::{put, slot};
 use crate::contents::{Contents, NOTHING, Pair, object_of, with_key, with_xattr};
-use bpf_machine::Layout;
+use flat_machine::Layout;
 use helpers::{Argument, signature};
 use object_store::{DATA_LIMIT, KEY_LIMIT, Object, XATTR_LIMIT, calls};
 use std::alloc::Global;

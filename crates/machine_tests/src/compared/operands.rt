@@ -4,7 +4,7 @@ use super::{PlainRun, verified};
 use crate::answers::answers_beside;
 use crate::code::slot;
 use crate::contents::{Contents, NOTHING};
-use bpf_machine::Layout;
+use flat_machine::Layout;
 use std::alloc::Global;
 use std::process::Abort;
 use verifier::VerifiedClass;

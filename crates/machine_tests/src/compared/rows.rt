@@ -4,7 +4,7 @@ use super::random::Random;
 use super::{PlainRun, verified};
 use crate::answers::answers_once;
 use crate::code::{put, slot};
-use bpf_machine::Layout;
+use flat_machine::Layout;
 use std::alloc::Global;
 use std::process::Abort;
 

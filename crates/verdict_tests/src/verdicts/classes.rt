@@ -2,7 +2,8 @@
 
 use super::{class, is_judged, method_of, put};
 use bpf_decode::{ClassImage, Method, encode, read_image};
-use bpf_machine::{Caps, Ending, Layout, flat_run, is_layout};
+use bpf_machine::Caps;
+use flat_machine::{Ending, Layout, flat_run, is_layout};
 use std::alloc::Global;
 use verifier::{Op, Refusal, Rule, SlotOp, VerifiedClass, VerifiedMethod, one_table, verify};
 

@@ -2,7 +2,7 @@ use Rattle.std.proofs.Common.{FitsSigned, Ok, ap, rules, sym, w16, ◌∙◌}
 use Rattle.std.proofs.lemmas.Int.{to_z-of_z}
 use Rattle.bpf_decode.specs.declared.insn.Insn.TheVariants as insns
 use Rattle.bpf_asm.specs.Bodies.{finished}
-use Rattle.bpf_asm.specs.Operands.{filled}
+use Rattle.asm_lines.specs.Operands.{filled}
 use Rattle.bpf_asm.proofs.body.finished.Goals as goal
 
 pub returns-in-Ok-near : goal.returns-in-Ok-near

@@ -1,5 +1,5 @@
 use Rattle.std.proofs.Common.{sym}
-use Rattle.bpf_asm.specs.Statements.{statements_of}
+use Rattle.asm_lines.specs.Statements.{statements_of}
 use Rattle.bpf_asm.proofs.StatementRelations.{text_says, says_text}
 use Rattle.bpf_asm.proofs.laws.one_reading.Goals as goal
 

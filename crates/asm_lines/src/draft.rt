@@ -1,0 +1,295 @@
+ghost use Rattle.std.specs.Prelude.{◌≡◌, IsFalse};
+ghost use Rattle.asm_lines.specs.Operands.{filled, of_one, of_two, of_three, register_of, immediate_of, unsigned_of, source_of, memory_of, near_target_of, far_target_of};
+ghost use Rattle.asm_lines.specs.Drafts.{draft, call_of, instruction_of, has_target};
+ghost use Rattle.asm_lines.specs.Texts.{lone, pair, triple};
+
+use crate::fault::AsmFault;
+use crate::form::Form;
+use crate::operand::{
+    both, far_target, immediate, memory, near_target, register, source, unsigned,
+};
+use crate::target::Target;
+use crate::text::{after_word, first_word, lone, pair, triple};
+use bpf_decode::{Bits, Comparison, Insn, Operand, Register, SignedWidth, Width};
+
+/// An instruction as its line has it: where a jump goes may be a label.
+#[derive(Drop)]
+pub enum Draft<'a> {
+    Plain(Insn),
+    Jump(Target<'a>),
+    JumpLong(Target<'a>),
+    Branch(Bits, Comparison, Register, Operand, Target<'a>),
+    CallLocal(Target<'a>),
+}
+
+/// One register.
+fn one_register(rest: &[u8]) -> Result<Register, AsmFault>
+    ensures { result ≡ of_one register_of (lone rest.now) }
+{
+    match lone(rest) {
+        Some(a) => register(a),
+        None => Err(AsmFault::Operand),
+    }
+}
+
+/// A register and a source.
+fn register_and_source(rest: &[u8]) -> Result<(Register, Operand), AsmFault>
+    ensures { result ≡ of_two register_of source_of (pair rest.now) }
+{
+    match pair(rest) {
+        Some((a, b)) => both(register(a), source(b)),
+        None => Err(AsmFault::Operand),
+    }
+}
+
+/// Two registers.
+fn two_registers(rest: &[u8]) -> Result<(Register, Register), AsmFault>
+    ensures { result ≡ of_two register_of register_of (pair rest.now) }
+{
+    match pair(rest) {
+        Some((a, b)) => both(register(a), register(b)),
+        None => Err(AsmFault::Operand),
+    }
+}
+
+/// A register and a number of 64 bits.
+fn register_and_wide(rest: &[u8]) -> Result<(Register, u64), AsmFault>
+    ensures { result ≡ of_two register_of (unsigned_of 18446744073709551615) (pair rest.now) }
+{
+    match pair(rest) {
+        Some((a, b)) => both(register(a), unsigned(b, u64::MAX)),
+        None => Err(AsmFault::Operand),
+    }
+}
+
+/// A register and a place.
+fn register_and_memory(rest: &[u8]) -> Result<(Register, (Register, i16)), AsmFault>
+    ensures { result ≡ of_two register_of memory_of (pair rest.now) }
+{
+    match pair(rest) {
+        Some((a, b)) => both(register(a), memory(b)),
+        None => Err(AsmFault::Operand),
+    }
+}
+
+/// A place and a number.
+fn memory_and_number(rest: &[u8]) -> Result<((Register, i16), i32), AsmFault>
+    ensures { result ≡ of_two memory_of immediate_of (pair rest.now) }
+{
+    match pair(rest) {
+        Some((a, b)) => both(memory(a), immediate(b)),
+        None => Err(AsmFault::Operand),
+    }
+}
+
+/// A place and a register.
+fn memory_and_register(rest: &[u8]) -> Result<((Register, i16), Register), AsmFault>
+    ensures { result ≡ of_two memory_of register_of (pair rest.now) }
+{
+    match pair(rest) {
+        Some((a, b)) => both(memory(a), register(b)),
+        None => Err(AsmFault::Operand),
+    }
+}
+
+/// The target of a jump by an offset.
+fn one_near(rest: &[u8]) -> Result<Target, AsmFault>
+    ensures { result ≡ of_one near_target_of (lone rest.now) }
+{
+    match lone(rest) {
+        Some(a) => near_target(a),
+        None => Err(AsmFault::Operand),
+    }
+}
+
+/// The target of a jump by an immediate.
+fn one_far(rest: &[u8]) -> Result<Target, AsmFault>
+    ensures { result ≡ of_one far_target_of (lone rest.now) }
+{
+    match lone(rest) {
+        Some(a) => far_target(a),
+        None => Err(AsmFault::Operand),
+    }
+}
+
+/// What a conditional jump compares, and where it goes.
+fn branch_operands(rest: &[u8]) -> Result<(Register, (Operand, Target)), AsmFault>
+    ensures { result ≡ of_three register_of source_of near_target_of (triple rest.now) }
+{
+    match triple(rest) {
+        Some((a, b, c)) => both(register(a), both(source(b), near_target(c))),
+        None => Err(AsmFault::Operand),
+    }
+}
+
+/// What a call's operand says.
+#[tactic(auto, unfolding(crate::specs::Drafts::call_of))]
+fn call(text: &[u8]) -> Result<Draft, AsmFault>
+    ensures { result ≡ call_of text.now }
+{
+    if first_word(text) == b"local".as_slice() {
+        return match far_target(after_word(text)) {
+            Ok(target) => Ok(Draft::CallLocal(target)),
+            Err(fault) => Err(fault),
+        };
+    }
+    match unsigned(text, 4294967295) {
+        Ok(helper) => Ok(Draft::Plain(Insn::Call {
+            helper: helper as u32,
+        })),
+        Err(fault) => Err(fault),
+    }
+}
+
+/// A load.
+fn load(width: Width, rest: &[u8]) -> Result<Insn, AsmFault>
+    ensures { filled Draft.Plain result ≡ draft (Form.Load width) rest.now }
+{
+    match register_and_memory(rest) {
+        Ok((dst, (base, offset))) => Ok(Insn::Load {
+            width,
+            dst,
+            base,
+            offset,
+        }),
+        Err(fault) => Err(fault),
+    }
+}
+
+/// A load with sign extension.
+fn load_signed(width: SignedWidth, rest: &[u8]) -> Result<Insn, AsmFault>
+    ensures { filled Draft.Plain result ≡ draft (Form.LoadSigned width) rest.now }
+{
+    match register_and_memory(rest) {
+        Ok((dst, (base, offset))) => Ok(Insn::LoadSigned {
+            width,
+            dst,
+            base,
+            offset,
+        }),
+        Err(fault) => Err(fault),
+    }
+}
+
+/// A store of a number.
+fn store_number(width: Width, rest: &[u8]) -> Result<Insn, AsmFault>
+    ensures { filled Draft.Plain result ≡ draft (Form.StoreNumber width) rest.now }
+{
+    match memory_and_number(rest) {
+        Ok(((base, offset), imm)) => Ok(Insn::Store {
+            width,
+            base,
+            offset,
+            source: Operand::Immediate(imm),
+        }),
+        Err(fault) => Err(fault),
+    }
+}
+
+/// A store of a register.
+fn store_register(width: Width, rest: &[u8]) -> Result<Insn, AsmFault>
+    ensures { filled Draft.Plain result ≡ draft (Form.StoreRegister width) rest.now }
+{
+    match memory_and_register(rest) {
+        Ok(((base, offset), src)) => Ok(Insn::Store {
+            width,
+            base,
+            offset,
+            source: Operand::Register(src),
+        }),
+        Err(fault) => Err(fault),
+    }
+}
+
+/// A form without a target, with its operands.
+fn plain(form: Form, rest: &[u8]) -> Result<Insn, AsmFault>
+    requires { IsFalse (has_target form) }
+    ensures { filled Draft.Plain result ≡ draft form rest.now }
+{
+    match form {
+        Form::Alu(bits, operation) => match register_and_source(rest) {
+            Ok((dst, source)) => Ok(Insn::Alu {
+                bits,
+                operation,
+                dst,
+                source,
+            }),
+            Err(fault) => Err(fault),
+        },
+        Form::Neg(bits) => match one_register(rest) {
+            Ok(dst) => Ok(Insn::Neg { bits, dst }),
+            Err(fault) => Err(fault),
+        },
+        Form::Mov(bits) => match register_and_source(rest) {
+            Ok((dst, source)) => Ok(Insn::Mov { bits, dst, source }),
+            Err(fault) => Err(fault),
+        },
+        Form::MovSigned(extension) => match two_registers(rest) {
+            Ok((dst, src)) => Ok(Insn::MovSigned {
+                extension,
+                dst,
+                src,
+            }),
+            Err(fault) => Err(fault),
+        },
+        Form::End(order, width) => match one_register(rest) {
+            Ok(dst) => Ok(Insn::End { order, width, dst }),
+            Err(fault) => Err(fault),
+        },
+        Form::LoadWide => match register_and_wide(rest) {
+            Ok((dst, value)) => Ok(Insn::LoadWide { dst, value }),
+            Err(fault) => Err(fault),
+        },
+        Form::Load(width) => load(width, rest),
+        Form::LoadSigned(width) => load_signed(width, rest),
+        Form::StoreNumber(width) => store_number(width, rest),
+        Form::StoreRegister(width) => store_register(width, rest),
+        Form::Exit => {
+            if rest.is_empty() {
+                Ok(Insn::Exit)
+            } else {
+                Err(AsmFault::Operand)
+            }
+        }
+        Form::Jump | Form::JumpLong | Form::Branch(_, _) | Form::Call => unreachable!(),
+    }
+}
+
+/// A form with its operands.
+fn with_operands(form: Form, rest: &[u8]) -> Result<Draft, AsmFault>
+    ensures { result ≡ draft form rest.now }
+{
+    match form {
+        Form::Jump => match one_near(rest) {
+            Ok(target) => Ok(Draft::Jump(target)),
+            Err(fault) => Err(fault),
+        },
+        Form::JumpLong => match one_far(rest) {
+            Ok(target) => Ok(Draft::JumpLong(target)),
+            Err(fault) => Err(fault),
+        },
+        Form::Branch(bits, comparison) => match branch_operands(rest) {
+            Ok((dst, (source, target))) => Ok(Draft::Branch(bits, comparison, dst, source, target)),
+            Err(fault) => Err(fault),
+        },
+        Form::Call => match lone(rest) {
+            Some(a) => call(a),
+            None => Err(AsmFault::Operand),
+        },
+        _ => match plain(form, rest) {
+            Ok(insn) => Ok(Draft::Plain(insn)),
+            Err(fault) => Err(fault),
+        },
+    }
+}
+
+/// An instruction's line.
+#[tactic(auto, unfolding(crate::specs::Drafts::instruction_of))]
+pub(crate) fn instruction(text: &[u8]) -> Result<Draft, AsmFault>
+    ensures { result ≡ instruction_of text.now }
+{
+    match Form::of(first_word(text)) {
+        Some(form) => with_operands(form, after_word(text)),
+        None => Err(AsmFault::Word),
+    }
+}

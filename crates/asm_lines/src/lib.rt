@@ -1,0 +1,23 @@
+//! A line of a class's text: what it says or its first fault, by the grammar's functions, and the one text of
+//! instructions and of methods. Labels, methods and whole texts are `bpf_asm`'s, which hands on all that a user needs.
+#![tactic(auto)]
+
+mod draft;
+mod fault;
+mod form;
+mod header;
+mod number;
+mod operand;
+mod print;
+mod statement;
+mod target;
+mod text;
+
+pub use draft::Draft;
+pub use fault::{AsmError, AsmFault};
+pub use form::Form;
+pub use header::Header;
+pub use number::Number;
+pub use print::{push_insns, push_methods};
+pub use statement::{Statement, statements};
+pub use target::{Name, Target};

@@ -1,0 +1,179 @@
+ghost use Rattle.std.specs.Prelude.{◌≡◌, ◌≤◌, ◌<◌, ◌^◌, Some};
+ghost use Rattle.std.specs.Char.{digit_value, is_digit};
+ghost use Rattle.std.specs.List.{list_all};
+ghost use Rattle.std.specs.Str.Parse.{digits_value};
+ghost use Rattle.asm_lines.specs.Numbers.{all_digits, decimal_number, hex_number, natural, natural_within, minus_within, plus_within, plain_within, signed_within, value_of, is_within};
+
+use crate::fault::AsmFault;
+
+/// A number with its sign: -0 isn't one.
+#[derive(Clone, Copy)]
+pub struct Number {
+    pub negative: bool,
+    pub magnitude: u64,
+}
+
+impl Number {
+    ghost use Rattle.std.specs.Prelude.{◌≡◌, ◌≤◌, ◌<◌, ◌^◌, ◌-◌, IsTrue};
+    ghost use Rattle.asm_lines.specs.Numbers.{value_of, is_within};
+
+    /// It as an `i32`, in whose range it is.
+    pub(crate) fn to_i32(self) -> i32
+        requires { IsTrue (is_within (2 ^ 31) (2 ^ 31 - 1) self) }
+        ensures { result ≡ value_of self }
+    {
+        let size = self.magnitude as i64;
+        if self.negative {
+            (-size) as i32
+        } else {
+            size as i32
+        }
+    }
+
+    /// It as an `i16`, in whose range it is.
+    pub(crate) fn to_i16(self) -> i16
+        requires { IsTrue (is_within (2 ^ 15) (2 ^ 15 - 1) self) }
+        ensures { result ≡ value_of self }
+    {
+        let size = self.magnitude as i64;
+        if self.negative {
+            (-size) as i16
+        } else {
+            size as i16
+        }
+    }
+}
+
+/// The value of a digit or a letter: 0 to 35, and 36 for any other byte.
+fn digit_of(byte: u8) -> u8
+    ensures value { result ≡ digit_value byte }
+    ensures small { result ≤ 36 }
+{
+    match byte {
+        b'0'..=b'9' => byte - 48,
+        b'A'..=b'Z' => byte - 55,
+        b'a'..=b'z' => byte - 87,
+        _ => 36,
+    }
+}
+
+/// Whether each byte is a digit.
+fn all_pass(text: &[u8], radix: u8) -> bool
+    ensures { result ≡ list_all (λ c. is_digit c radix) text.now }
+{
+    text.iter().all(|byte| digit_of(*byte) < radix)
+}
+
+/// Whether it is one digit or more, and nothing else.
+fn are_digits(text: &[u8], radix: u8) -> bool
+    ensures { result ≡ all_digits radix text.now }
+{
+    if text.is_empty() {
+        false
+    } else {
+        all_pass(text, radix)
+    }
+}
+
+/// The number that digits write, if it is at most `most`.
+#[tactic(auto, using(crate::proofs::NumberLemmas::digits_value_after_ge))]
+fn digits_within(text: &[u8], radix: u8, most: u64) -> Result<u64, AsmFault>
+    requires low { 1 ≤ radix }
+    requires high { radix ≤ 16 }
+    ensures { result ≡ natural_within most (Some (digits_value radix text.now)) }
+{
+    let mut value: u64 = 0;
+    for byte in text {
+        let next = u128::from(value) * u128::from(radix) + u128::from(digit_of(*byte));
+        if next > u128::from(most) {
+            return Err(AsmFault::Range);
+        }
+        value = next as u64;
+    }
+    Ok(value)
+}
+
+/// Decimal digits without a leading zero, up to `most`.
+#[tactic(auto, unfolding(crate::specs::Numbers::decimal_number))]
+pub(crate) fn decimal_within(text: &[u8], most: u64) -> Result<u64, AsmFault>
+    ensures { result ≡ natural_within most (decimal_number text.now) }
+{
+    if !are_digits(text, 10) || (text.len() != 1 && text[0] == b'0') {
+        return Err(AsmFault::Operand);
+    }
+    digits_within(text, 10, most)
+}
+
+/// 1 to 16 digits to base 16, up to `most`.
+#[tactic(auto, unfolding(crate::specs::Numbers::hex_number))]
+fn hex_within(text: &[u8], most: u64) -> Result<u64, AsmFault>
+    ensures { result ≡ natural_within most (hex_number text.now) }
+{
+    if !are_digits(text, 16) || text.len() > 16 {
+        return Err(AsmFault::Operand);
+    }
+    digits_within(text, 16, most)
+}
+
+/// A number without a sign, up to `most`.
+#[tactic(auto, unfolding(crate::specs::Numbers::natural))]
+fn within(text: &[u8], most: u64) -> Result<u64, AsmFault>
+    ensures { result ≡ natural_within most (natural text.now) }
+{
+    match text {
+        [b'0', b'x', digits @ ..] => hex_within(digits, most),
+        _ => decimal_within(text, most),
+    }
+}
+
+/// The number behind a `-`, down to minus `below`.
+#[tactic(auto, unfolding(crate::specs::Numbers::minus_within))]
+fn minus(text: &[u8], below: u64) -> Result<Number, AsmFault>
+    ensures { result ≡ minus_within below text.now }
+{
+    match within(text, below) {
+        Ok(0) => Err(AsmFault::Operand),
+        Ok(magnitude) => Ok(Number {
+            negative: true,
+            magnitude,
+        }),
+        Err(fault) => Err(fault),
+    }
+}
+
+/// The number behind a `+` or no sign, up to `above`.
+#[tactic(auto, unfolding(crate::specs::Numbers::plus_within))]
+fn plus(text: &[u8], above: u64) -> Result<Number, AsmFault>
+    ensures { result ≡ plus_within above text.now }
+{
+    match within(text, above) {
+        Ok(magnitude) => Ok(Number {
+            negative: false,
+            magnitude,
+        }),
+        Err(fault) => Err(fault),
+    }
+}
+
+/// A number from minus `below` to `above`, with `-` before a negative one alone.
+#[tactic(auto, unfolding(crate::specs::Numbers::plain_within))]
+pub(crate) fn plain(text: &[u8], below: u64, above: u64) -> Result<Number, AsmFault>
+    ensures { result ≡ plain_within below above text.now }
+{
+    match text {
+        [b'-', digits @ ..] => minus(digits, below),
+        _ => plus(text, above),
+    }
+}
+
+/// A number from minus `below` to `above`, with its sign.
+#[tactic(auto, unfolding(crate::specs::Numbers::signed_within))]
+pub(crate) fn signed(text: &[u8], below: u64, above: u64) -> Result<Number, AsmFault>
+    ensures { result ≡ signed_within below above text.now }
+{
+    match text {
+        [b'-', digits @ ..] => minus(digits, below),
+        [b'+', digits @ ..] => plus(digits, above),
+        _ => Err(AsmFault::Operand),
+    }
+}

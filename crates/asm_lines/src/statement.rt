@@ -1,0 +1,127 @@
+ghost use Rattle.std.specs.Prelude.{◌≡◌, ◌==◌, ◌≤◌, ◌-◌, IfOk, if◌then◌else◌, length, map, take, IfSome, IsTrue};
+ghost use Rattle.bpf_decode.specs.Limits.{between};
+ghost use Rattle.std.specs.Option.{option_map};
+ghost use Rattle.asm_lines.specs.Operands.{unsigned_of};
+ghost use Rattle.asm_lines.specs.Texts.{content};
+ghost use Rattle.asm_lines.specs.Statements.{flags_of, header_of, is_label_line, statement_of, lines_of, statements_of};
+
+use crate::draft::{Draft, instruction};
+use crate::fault::AsmFault;
+use crate::header::Header;
+use crate::operand::{both, unsigned};
+use crate::target::Name;
+use crate::text::{after_word, content, first_word, is_label_name};
+use bpf_decode::{CAPACITY_LIMIT, is_method_name};
+use std::alloc::{AllocError, Global};
+
+/// What a line says, or its fault.
+#[derive(Drop)]
+pub enum Statement<'a> {
+    Empty,
+    Label(Name<'a>),
+    Directive(Result<Header<'a>, AsmFault>),
+    Instruction(Result<Draft<'a>, AsmFault>),
+}
+
+/// Flags: 1 reads, 2 writes, 3 both.
+#[tactic(auto, unfolding(crate::specs::Statements::flags_of))]
+fn flags(text: &[u8]) -> Option<u8>
+    ensures read { result ≡ flags_of text.now }
+    ensures known { IfSome result (λ n. IsTrue (between 1 3 n)) }
+{
+    if text == b"r".as_slice() {
+        Some(1)
+    } else if text == b"w".as_slice() {
+        Some(2)
+    } else if text == b"rw".as_slice() {
+        Some(3)
+    } else {
+        None
+    }
+}
+
+/// A capacity: 0 to 4,096.
+fn capacity(text: &[u8]) -> Result<u16, AsmFault>
+    ensures read { result ≡ unsigned_of CAPACITY_LIMIT text.now }
+    ensures within { IfOk result (λ n. n ≤ CAPACITY_LIMIT) }
+{
+    match unsigned(text, u64::from(CAPACITY_LIMIT)) {
+        Ok(number) => Ok(number as u16),
+        Err(fault) => Err(fault),
+    }
+}
+
+/// What stands behind `.method`.
+#[tactic(auto, unfolding(crate::specs::Statements::header_of))]
+fn read_header(text: &[u8]) -> Result<Header, AsmFault>
+    ensures { result ≡ header_of text.now }
+{
+    let name = first_word(text);
+    let rest = after_word(text);
+    let Some(flags) = flags(first_word(rest)) else {
+        return Err(AsmFault::Operand);
+    };
+    if !is_method_name(name) {
+        return Err(AsmFault::Operand);
+    }
+    let caps = after_word(rest);
+    match both(capacity(first_word(caps)), capacity(after_word(caps))) {
+        Ok((in_cap, out_cap)) => Ok(Header::new(Name::new(name), flags, in_cap, out_cap)),
+        Err(fault) => Err(fault),
+    }
+}
+
+/// A label's name, if that is what the line has.
+#[tactic(auto, unfolding(crate::specs::Statements::is_label_line))]
+fn label_name(text: &[u8]) -> Option<&[u8]>
+    ensures { option_map (λ n. n.now) result ≡ (if is_label_line text.now then Some (take (length text.now - 1) text.now) else None) }
+{
+    match text {
+        [name @ .., b':'] if is_label_name(name) => Some(name),
+        _ => None,
+    }
+}
+
+/// What a line says whose content that is.
+#[tactic(auto, unfolding(crate::specs::Statements::statement_of))]
+fn read_line(text: &[u8]) -> Statement
+    ensures { result ≡ statement_of text.now }
+{
+    if text.is_empty() {
+        return Statement::Empty;
+    }
+    if let Some(name) = label_name(text) {
+        return Statement::Label(Name::new(name));
+    }
+    if first_word(text) == b".method".as_slice() {
+        return Statement::Directive(read_header(after_word(text)));
+    }
+    Statement::Instruction(instruction(text))
+}
+
+/// The lines of a text.
+fn lines(alloc: Global, text: &str) -> Result<Vec<&str>, AllocError>
+    ensures { IfOk result (λ v. map (λ l. l.now) v.items ≡ lines_of text.now) }
+{
+    text.split('\n').collect(alloc)
+}
+
+/// What each of the lines says.
+fn read_lines<'a>(alloc: Global, lines: &[&'a str]) -> Result<Vec<Statement<'a>>, AllocError>
+    ensures { IfOk result (λ v. v.items ≡ map (λ l. statement_of (content l.now)) lines.now) }
+{
+    let mut all = Vec::new(alloc);
+    for line in lines {
+        all.push(read_line(content(line.as_bytes())))?;
+    }
+    Ok(all)
+}
+
+/// What each line of a text says.
+#[tactic(auto, using(crate::proofs::StatementLemmas::each_line))]
+pub fn statements(alloc: Global, text: &str) -> Result<Vec<Statement>, AllocError>
+    ensures { IfOk result (λ v. v.items ≡ statements_of text.now) }
+{
+    let lines = lines(alloc, text)?;
+    read_lines(alloc, &lines)
+}

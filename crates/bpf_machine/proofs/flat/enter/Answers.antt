@@ -1,6 +1,0 @@
-use Rattle.std.proofs.Common.{arith}
-use Rattle.bpf_decode.specs.declared.region.Region.TheVariants.{Stack}
-use Rattle.bpf_machine.proofs.flat.enter.Goals as goal
-
-pub overflow_add-result : goal.overflow_add-result
-overflow_add-result c = omega (arith, c.requires.layout.fits Stack)

@@ -1,0 +1,5 @@
+pub mod Cells
+pub mod Table
+pub mod Ranges
+pub mod Row
+pub mod Going

@@ -1,0 +1,26 @@
+use Rattle.std.proofs.Common.{◌≡◌, Some, true, ap, sym, subst, ◌∙◌}
+use Rattle.helpers.specs.Table.{helper_of}
+use Rattle.flat_machine.specs.View.{layout_of}
+use Rattle.flat_machine.specs.inner.FlatState.{flat_state, Answers, may_call, helped}
+use Rattle.flat_machine.proofs.Table.{help_is}
+use Rattle.flat_machine.proofs.calls.help.Goals as goal
+
+pub returns-in-None-2-clause-helped : goal.returns-in-None-2-clause-helped
+returns-in-None-2-clause-helped c =
+    let caps = c.args.caps.now in
+    let lay = layout_of c.args.layout.now in
+    let s = flat_state c.args.s.now in
+    let h = c.in-Some.helper in
+    let leave : may_call caps c.args.id ≡ true = sym c.may_call.ensures ∙ c.if-not-may_call.false in
+    let named : helper_of c.args.id ≡ Some h = sym c.of.ensures ∙ c.in-Some.is in
+    help_is caps lay s c.args.id h leave named ∙ subst (λ o. Answers o (flat_state c.help_by.new.s) (helped caps lay h s)) c.in-None-2.is c.in_ok-help_by-in-Some.ensures.helped
+
+pub returns-in-Some-2-clause-helped : goal.returns-in-Some-2-clause-helped
+returns-in-Some-2-clause-helped c =
+    let caps = c.args.caps.now in
+    let lay = layout_of c.args.layout.now in
+    let s = flat_state c.args.s.now in
+    let h = c.in-Some.helper in
+    let leave : may_call caps c.args.id ≡ true = sym c.may_call.ensures ∙ c.if-not-may_call.false in
+    let named : helper_of c.args.id ≡ Some h = sym c.of.ensures ∙ c.in-Some.is in
+    help_is caps lay s c.args.id h leave named ∙ (subst (λ o. Answers o (flat_state c.help_by.new.s) (helped caps lay h s)) c.in-Some-2.is c.in_ok-help_by-in-Some.ensures.helped ∙ ap (λ t. Some t) (sym c.put_answer.ensures.state))

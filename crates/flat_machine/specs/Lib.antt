@@ -1,0 +1,3 @@
+-- What the program takes and gives, as the machine's definitions have it; inner is the code's own.
+pub mod View
+pub mod inner

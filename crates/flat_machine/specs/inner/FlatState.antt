@@ -1,0 +1,73 @@
+-- The code's own values, which private contracts name: no promise of the crate rests on them.
+use Rattle.std.specs.Prelude.{◌≡◌, ℕ, ◌+◌, ◌||◌, not, Bool, false, Option, Some, None, unwrap_or, length}
+use Rattle.std.specs.Option.{option_map}
+use Rattle.bpf_decode.specs.declared.region.Region.{Region}
+use Rattle.object_store.specs.Object.{PlainObject}
+use Rattle.helpers.specs.declared.helper.Helper.{Helper}
+use Rattle.helpers.specs.Table.{row, signature_of}
+use Rattle.bpf_machine.specs.declared.caps.Caps.{Caps}
+use Rattle.bpf_machine.specs.declared.limits.TheConstants.{STACK_SIZE}
+use Rattle.flat_machine.specs.declared.run.Stop.{Stop}
+use Rattle.flat_machine.specs.declared.run.Stop.TheVariants as stops
+use Rattle.flat_machine.specs.declared.memory.Regions.{Regions}
+use Rattle.flat_machine.specs.declared.state.FlatState.{FlatState}
+use Rattle.bpf_machine.specs.State.{◌>>=◌, Memory, AreCapacities, State, reg, set_reg, go, after, outcome_of, Ending, Ended, Stuck, Unfinished}
+use Rattle.bpf_machine.specs.Helper.{asked, answered, write_room}
+use Rattle.bpf_machine.specs.Flat.{Layout, range, arguments}
+
+abbrev pub memory_of : Regions → Memory
+memory_of m = record { input = m.input.items; output = m.output.items; stack = m.stack.items }
+
+abbrev pub flat_state : FlatState → State ℕ
+flat_state s = record { slot = s.slot; regs = s.regs; memory = memory_of s.memory; object = s.object.after; out_len = s.out_len; caller = s.caller }
+
+-- the regions have their lengths, which a method may declare
+pub record IsSized (caps : Caps) (m : Regions) : Type 0 where
+  pub input : length m.input.items ≡ caps.in_cap
+  pub output : length m.output.items ≡ caps.out_cap
+  pub stack : length m.stack.items ≡ STACK_SIZE
+  pub capacities : AreCapacities caps
+
+-- what a step left, as the definition has it; where there is none, nothing is said of the state
+abbrev pub GivesState : {A : Type 0} → Option A → State ℕ → Option (State ℕ) → Type 0
+GivesState (Some x) after step = step ≡ Some after
+GivesState None after step = step ≡ None
+
+-- the step that sets a register to a value and goes on at the next slot; there is none where there is no value
+abbrev pub sets : ℕ → State ℕ → Option ℕ → Option (State ℕ)
+sets d s value = value >>= λ v. after s (set_reg s d v)
+
+-- the same of a wide load, which has two slots
+abbrev pub sets_wide : ℕ → State ℕ → Option ℕ → Option (State ℕ)
+sets_wide d s value = value >>= λ v. set_reg s d v >>= λ t. Some (go (s.slot + 2) t)
+
+-- a range of which two registers have the address and the length
+abbrev pub range_at : Caps → Layout → State ℕ → Bool → ℕ → Option (Option (Region × ℕ) × ℕ)
+range_at caps lay s writes k =
+    reg s k >>= λ at. reg s (k + 1) >>= λ n. range caps lay writes at n >>= λ p. Some (p, n)
+
+-- whether a method may call the helper of an id
+abbrev pub may_call : Caps → ℕ → Bool
+may_call caps id = unwrap_or (option_map (λ takes. not takes.writes || caps.writes) (signature_of id)) false
+
+-- a helper by its row of the table, where the method may call it
+abbrev pub helped : Caps → Layout → Helper → State ℕ → Option (State ℕ)
+helped caps lay h s =
+    arguments caps lay s (row h).takes.arguments 1 >>= λ g.
+    let e = (row h).effect s.object (asked g) in
+    Some (record { slot = s.slot; regs = answered s.regs e.answer; memory = write_room s.memory g.target e.bytes; object = e.object; out_len = unwrap_or e.out_len s.out_len; caller = s.caller })
+
+-- a helper's answer in register 0, registers 1 to 5 unset
+abbrev pub with_answer : State ℕ → ℕ → State ℕ
+with_answer s n = record s { regs = answered s.regs n }
+
+-- a helper's answer, which is still to be put in register 0, and what it left of the state; none where there is no step
+abbrev pub Answers : Option ℕ → State ℕ → Option (State ℕ) → Type 0
+Answers (Some n) s step = step ≡ Some (with_answer s n)
+Answers None s step = step ≡ None
+
+-- where a run stopped, and with what state
+abbrev pub stopped : PlainObject → Stop → State ℕ → Ending
+stopped before (stops.Exit code steps) s = Ended (outcome_of before code s) steps
+stopped before stops.Stuck s = Stuck
+stopped before stops.Unfinished s = Unfinished

@@ -1,0 +1,121 @@
+ghost use Rattle.std.specs.Prelude.{◌≡◌, ◌+◌, ◌≤◌, ◌<◌, length};
+ghost use Rattle.helpers.specs.Table.{read_answer};
+ghost use Rattle.bpf_machine.specs.State.{written, put, size};
+ghost use Rattle.flat_machine.specs.View.{layout_of};
+ghost use Rattle.flat_machine.specs.inner.FlatState.{memory_of, flat_state, Answers, IsSized, helped};
+
+use crate::calls::arguments::{Range, number_and_room, text_and_room, text_in};
+use crate::layout::Layout;
+use crate::memory::{Regions, put_room};
+use crate::state::{FlatState, get};
+use bpf_decode::Region;
+use bpf_machine::Caps;
+use helpers::{Helper, Span};
+use txn::Staged;
+
+/// The object's bytes from a place on, read over those at a place; and what `read` answers.
+fn read_over(staged: &Staged, at: u64, bytes: &mut Vec<u8>, room: Span) -> u64
+    requires inside { room.at + room.len ≤ length bytes.old.items }
+    requires some { 0 < room.len }
+    ensures answer { result ≡ (read_answer staged.entry.now.after at room.len).number }
+    ensures bytes { bytes.new.items ≡ written bytes.old.items room.at (read_answer staged.entry.now.after at room.len).bytes }
+    ensures long { length bytes.new.items ≡ length bytes.old.items }
+{
+    helpers::read(staged, at, bytes, room)
+}
+
+/// The object's bytes from a place on, read into a region at a place; and what `read` answers.
+fn read_into(
+    caps: &Caps,
+    memory: &mut Regions,
+    region: Region,
+    room: Span,
+    staged: &Staged,
+    at: u64,
+) -> u64
+    requires sized { IsSized caps.now memory.old }
+    requires inside { room.at + room.len ≤ size caps.now region }
+    requires some { 0 < room.len }
+    ensures answer { result ≡ (read_answer staged.entry.now.after at room.len).number }
+    ensures bytes { memory_of memory.new ≡ put (memory_of memory.old) region room.at (read_answer staged.entry.now.after at room.len).bytes }
+    ensures sized { IsSized caps.now memory.new }
+{
+    match region {
+        Region::Input => read_over(staged, at, &mut memory.input, room),
+        Region::Output => read_over(staged, at, &mut memory.output, room),
+        Region::Stack => read_over(staged, at, &mut memory.stack, room),
+    }
+}
+
+/// Helper 2, `read`: copies the object's bytes from a place on into a range.
+pub fn read(caps: &Caps, layout: &Layout, s: &mut FlatState) -> Option<u64>
+    requires sized { IsSized caps.now s.old.memory }
+    ensures helped { Answers result (flat_state s.new) (helped caps.now (layout_of layout.now) Helper.Read (flat_state s.old)) }
+    ensures slot { s.new.slot ≡ s.old.slot }
+    ensures sized { IsSized caps.now s.new.memory }
+{
+    let (at, room) = number_and_room(caps, layout, s)?;
+    match room.place {
+        None => Some(helpers::read(&s.object, at, &mut [], Span { at: 0, len: 0 })),
+        Some((region, place)) => {
+            let span = Span {
+                at: place as u64,
+                len: room.len,
+            };
+            Some(read_into(caps, &mut s.memory, region, span, &s.object, at))
+        }
+    }
+}
+
+/// Helper 6, `getxattr`: copies an xattr's value into a range.
+pub fn getxattr(caps: &Caps, layout: &Layout, s: &mut FlatState) -> Option<u64>
+    requires sized { IsSized caps.now s.old.memory }
+    ensures helped { Answers result (flat_state s.new) (helped caps.now (layout_of layout.now) Helper.GetXattr (flat_state s.old)) }
+    ensures slot { s.new.slot ≡ s.old.slot }
+    ensures sized { IsSized caps.now s.new.memory }
+{
+    let (name, room) = text_and_room(caps, layout, s)?;
+    let found = helpers::xattr_value(&s.object, text_in(&s.memory, name), room.len);
+    put_room(caps, &mut s.memory, room.place, found.bytes);
+    Some(found.number)
+}
+
+/// Helper 9, `map_get`: copies a key's value into a range.
+pub fn map_get(caps: &Caps, layout: &Layout, s: &mut FlatState) -> Option<u64>
+    requires sized { IsSized caps.now s.old.memory }
+    ensures helped { Answers result (flat_state s.new) (helped caps.now (layout_of layout.now) Helper.MapGet (flat_state s.old)) }
+    ensures slot { s.new.slot ≡ s.old.slot }
+    ensures sized { IsSized caps.now s.new.memory }
+{
+    let (name, room) = text_and_room(caps, layout, s)?;
+    let found = helpers::map_value(&s.object, text_in(&s.memory, name), room.len);
+    put_room(caps, &mut s.memory, room.place, found.bytes);
+    Some(found.number)
+}
+
+/// Helper 12, `map_next`: copies the least key above a range's bytes into a range.
+pub fn map_next(caps: &Caps, layout: &Layout, s: &mut FlatState) -> Option<u64>
+    requires sized { IsSized caps.now s.old.memory }
+    ensures helped { Answers result (flat_state s.new) (helped caps.now (layout_of layout.now) Helper.MapNext (flat_state s.old)) }
+    ensures slot { s.new.slot ≡ s.old.slot }
+    ensures sized { IsSized caps.now s.new.memory }
+{
+    let (name, room) = text_and_room(caps, layout, s)?;
+    let found = helpers::key_above(&s.object, text_in(&s.memory, name), room.len);
+    put_room(caps, &mut s.memory, room.place, found.bytes);
+    Some(found.number)
+}
+
+/// Helper 13, `out_len`: how much of the output region is output.
+pub fn out_len(caps: &Caps, layout: &Layout, s: &mut FlatState) -> Option<u64>
+    requires sized { IsSized caps.now s.old.memory }
+    ensures helped { Answers result (flat_state s.new) (helped caps.now (layout_of layout.now) Helper.OutLen (flat_state s.old)) }
+    ensures slot { s.new.slot ≡ s.old.slot }
+    ensures sized { IsSized caps.now s.new.memory }
+{
+    let n = get(s, 1)?;
+    if n > u64::from(caps.out_cap) {
+        return None;
+    }
+    Some(helpers::out_len(&mut s.out_len, n))
+}

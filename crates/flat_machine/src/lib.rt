@@ -1,0 +1,14 @@
+//! The flat machine as a program, slow and plain: what a method's bytes come to on plain addresses, in a given layout.
+//! It computes the definition, for all instructions and all helpers, and so the crates above are tested beside it.
+#![tactic(auto)]
+
+mod calls;
+mod fields;
+mod layout;
+mod memory;
+mod rows;
+mod run;
+mod state;
+
+pub use layout::{Layout, is_layout};
+pub use run::{Ending, flat_run};
