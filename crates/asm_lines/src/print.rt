@@ -1,11 +1,11 @@
-ghost use Rattle.std.specs.Prelude.{◌≡◌, ◌++◌, ◌<◌, OnOk, string_bytes, codes};
+ghost use Rattle.std.specs.Prelude.{◌≡◌, ◌++◌, ◌<◌, IfOk, OnOk, string_bytes, codes};
 ghost use Rattle.asm_lines.specs.Canonical.{register_text, source_text, offset_text, memory_text, hex_digits, wide_text, line_of, canonical_text, with_one, with_two, with_three, flags_text, directive_line, class_text};
 ghost use Rattle.asm_lines.specs.Printing.{item_text};
 ghost use Rattle.asm_lines.specs.Words.{word_of};
 
 use crate::form::Form;
 use bpf_decode::{Insn, Method, Operand, Register};
-use std::alloc::AllocError;
+use std::alloc::{AllocError, Global};
 
 fn push_register(out: &mut String, register: Register) -> Result<(), AllocError>
     ensures { OnOk result (string_bytes out.new ≡ string_bytes out.old ++ register_text register) }
@@ -244,8 +244,7 @@ fn push_insn(out: &mut String, insn: Insn) -> Result<(), AllocError>
     }
 }
 
-/// The canonical text of instructions.
-pub fn push_insns(out: &mut String, insns: &[Insn]) -> Result<(), AllocError>
+fn push_insns(out: &mut String, insns: &[Insn]) -> Result<(), AllocError>
     ensures { OnOk result (string_bytes out.new ≡ string_bytes out.old ++ canonical_text insns.now) }
 {
     for insn in insns {
@@ -281,8 +280,7 @@ fn push_directive(out: &mut String, method: &Method) -> Result<(), AllocError>
     write!(out, "{in_cap} {out_cap}")
 }
 
-/// The canonical text of methods.
-pub fn push_methods(out: &mut String, methods: &[Method]) -> Result<(), AllocError>
+fn push_methods(out: &mut String, methods: &[Method]) -> Result<(), AllocError>
     ensures { OnOk result (string_bytes out.new ≡ string_bytes out.old ++ class_text methods.now) }
 {
     for method in methods {
@@ -291,4 +289,22 @@ pub fn push_methods(out: &mut String, methods: &[Method]) -> Result<(), AllocErr
         push_insns(out, method.instructions())?;
     }
     Ok(())
+}
+
+/// The canonical text of instructions. It is refused for want of memory alone.
+pub fn insns_text(alloc: Global, insns: &[Insn]) -> Result<String, AllocError>
+    ensures { IfOk result (λ s. string_bytes s ≡ canonical_text insns.now) }
+{
+    let mut out = String::new(alloc);
+    push_insns(&mut out, insns)?;
+    Ok(out)
+}
+
+/// The canonical text of methods. It is refused for want of memory alone.
+pub fn methods_text(alloc: Global, methods: &[Method]) -> Result<String, AllocError>
+    ensures { IfOk result (λ s. string_bytes s ≡ class_text methods.now) }
+{
+    let mut out = String::new(alloc);
+    push_methods(&mut out, methods)?;
+    Ok(out)
 }

@@ -3,7 +3,7 @@ ghost use Rattle.bpf_decode.specs.Instruction.{slot_total};
 ghost use Rattle.asm_lines.specs.Canonical.{canonical_text, class_text};
 ghost use Rattle.asm_lines.specs.Fault.{no_memory};
 
-use asm_lines::{AsmError, push_insns, push_methods};
+use asm_lines::{AsmError, insns_text, methods_text};
 use bpf_decode::{ClassImage, Insn, SLOT_LIMIT};
 use std::alloc::Global;
 
@@ -15,9 +15,7 @@ pub fn disassemble(alloc: Global, insns: &[Insn]) -> Result<String, AsmError>
     ensures text { IfOk result (λ s. string_bytes s ≡ canonical_text insns.now) }
     ensures memory { IfErr result (λ e. e ≡ no_memory) }
 {
-    let mut out = String::new(alloc);
-    push_insns(&mut out, insns)?;
-    Ok(out)
+    Ok(insns_text(alloc, insns)?)
 }
 
 /// The canonical text of a class. It is refused for want of memory alone.
@@ -25,7 +23,5 @@ pub fn disassemble_class(alloc: Global, class: &ClassImage) -> Result<String, As
     ensures text { IfOk result (λ s. string_bytes s ≡ class_text class.now) }
     ensures memory { IfErr result (λ e. e ≡ no_memory) }
 {
-    let mut out = String::new(alloc);
-    push_methods(&mut out, class.methods())?;
-    Ok(out)
+    Ok(methods_text(alloc, class.methods())?)
 }
