@@ -25,12 +25,15 @@ pub(crate) fn with_text(
     requires end { at + length text.now ≤ 65536 }
     ensures { IfOk result (λ v. flat v.items ≡ spliced (flat parts.now) at text.now) }
 {
-    let end = at + text.len();
     let (kept, from) = before(parts, at);
-    let (others, to) = past(parts, end);
+    let (_, rest) = parts.split_at(kept);
+    let low = at - from;
+    let end = low + text.len();
+    let (count, to) = past(rest, end);
+    let (old, _) = rest.split_at(count);
     let gap = at.saturating_sub(len);
-    let middle = touched(alloc, parts, (from, at), gap, text, (end.min(to), to))?;
-    replaced(alloc, parts, kept, &middle, others)
+    let middle = touched(alloc, old, (0, low), gap, text, (end.min(to), to))?;
+    replaced(alloc, parts, kept, middle, kept + count)
 }
 
 /// The extents of the bytes cut, or extended with zeros, to a length.
@@ -45,9 +48,13 @@ pub(crate) fn with_len(
     ensures { IfOk result (λ v. flat v.items ≡ resized (flat parts.now) new_len) }
 {
     let (kept, from) = before(parts, new_len);
+    let (_, rest) = parts.split_at(kept);
+    let low = new_len - from;
+    let (count, _) = past(rest, low);
+    let (old, _) = rest.split_at(count);
     let gap = new_len.saturating_sub(len);
-    let middle = touched(alloc, parts, (from, new_len), gap, &[], (0, 0))?;
-    replaced(alloc, parts, kept, &middle, parts.len())
+    let middle = touched(alloc, old, (0, low), gap, &[], (0, 0))?;
+    replaced(alloc, parts, kept, middle, parts.len())
 }
 
 /// The bytes of a range, zeros, a text, and the bytes of another range.
@@ -77,15 +84,15 @@ fn replaced(
     alloc: Global,
     parts: &[Extent],
     kept: usize,
-    bytes: &[u8],
+    bytes: Vec<u8>,
     others: usize,
 ) -> Result<Vec<Extent>, AllocError>
     requires { (kept ≤ length parts.now) × (others ≤ length parts.now) }
-    ensures { IfOk result (λ v. flat v.items ≡ (flat (take kept parts.now) ++ bytes.now) ++ flat (drop others parts.now)) }
+    ensures { IfOk result (λ v. flat v.items ≡ (flat (take kept parts.now) ++ bytes.items) ++ flat (drop others parts.now)) }
 {
     let mut all = Vec::with_capacity(alloc, parts.len().saturating_add(1))?;
     share(&mut all, &parts[..kept])?;
-    push_cut(alloc, &mut all, bytes)?;
+    push_bytes(alloc, &mut all, bytes)?;
     share(&mut all, &parts[others..])?;
     Ok(all)
 }
@@ -117,8 +124,24 @@ fn append(parts: &[Extent], from: usize, to: usize, out: &mut Vec<u8>) -> Result
     Ok(())
 }
 
-/// Copies the bytes of a range to the front of a buffer, as far as they exist, and answers how many.
+/// Copies the bytes of a range to the front of a buffer, as far as they exist, and answers how many. Of the extents before
+/// it only the lengths are read, and of those past it nothing.
 pub(crate) fn copy_out(parts: &[Extent], from: usize, to: usize, out: &mut [u8]) -> usize
+    requires order { from ≤ to }
+    requires room { to - from ≤ length out.old }
+    requires small { length (flat parts.now) ≤ 65536 }
+    ensures count { result ≡ length (cut from to (flat parts.now)) }
+    ensures bytes { out.new ≡ cut from to (flat parts.now) ++ drop result out.old }
+{
+    let (kept, start) = before(parts, from);
+    let (_, rest) = parts.split_at(kept);
+    let (count, _) = past(rest, to - start);
+    let (read, _) = rest.split_at(count);
+    copy_cut(read, from - start, to - start, out)
+}
+
+/// The same, of each extent what is in the range.
+fn copy_cut(parts: &[Extent], from: usize, to: usize, out: &mut [u8]) -> usize
     requires order { from ≤ to }
     requires room { to - from ≤ length out.old }
     requires small { length (flat parts.now) ≤ 65536 }
@@ -180,7 +203,19 @@ fn share(parts: &mut Vec<Extent>, others: &[Extent]) -> Result<(), AllocError>
     Ok(())
 }
 
-/// Adds extents of new bytes.
+/// Adds extents of new bytes, which become the extent themselves where they fill one.
+fn push_bytes(alloc: Global, parts: &mut Vec<Extent>, bytes: Vec<u8>) -> Result<(), AllocError>
+    ensures { OnOk result (flat parts.new.items ≡ flat parts.old.items ++ bytes.items) }
+{
+    if bytes.len() != EXTENT_LIMIT {
+        return push_cut(alloc, parts, &bytes);
+    }
+    let extent = Arc::new(alloc, bytes)?;
+    parts.push(extent)?;
+    Ok(())
+}
+
+/// Adds extents of copied bytes.
 fn push_cut(alloc: Global, parts: &mut Vec<Extent>, bytes: &[u8]) -> Result<(), AllocError>
     ensures { OnOk result (flat parts.new.items ≡ flat parts.old.items ++ bytes.now) }
 {

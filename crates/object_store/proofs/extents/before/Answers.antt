@@ -1,8 +1,7 @@
-use Rattle.std.proofs.Common.{◌≡◌, ℕ, ◌-◌, length, get_or, ap, ◌∙◌, arith}
+use Rattle.std.proofs.Common.{◌≡◌, ℕ, length, get_or, ap, ◌∙◌, arith}
 use Rattle.std.specs.Arc.{arc_value}
 use Rattle.std.specs.declared.vec.Vec.{Vec}
-use Rattle.object_store.specs.Extents.{flat}
-use Rattle.object_store.proofs.Flats.{flat-more, length-flat-more, flat-more-fits}
+use Rattle.object_store.proofs.Flats.{length-flat-more, flat-more-fits}
 use Rattle.object_store.proofs.extents.before.Goals as goal
 
 pub overflow_add-start : goal.overflow_add-start

@@ -1,81 +1,30 @@
-use Rattle.std.proofs.Common.{◌≡◌, ℕ, ◌+◌, ◌-◌, min, ◌++◌, length, take, drop, get_or, ap, sym, ◌∙◌, arith, length-append, length-drop}
-use Rattle.std.specs.Arc.{arc_value}
-use Rattle.std.specs.declared.vec.Vec.{Vec}
-use Rattle.std.proofs.lemmas.List.{length-take}
+use Rattle.std.proofs.Common.{◌≡◌, ◌-◌, ◌++◌, length, take, drop, ap, ◌∙◌, arith}
 use Rattle.object_store.specs.Extents.{flat, cut}
-use Rattle.object_store.proofs.Flats.{flat-more, length-flat-more, flat-more-fits, cut-append, cut-min, length-cut, overlay_next}
+use Rattle.object_store.proofs.Flats.{length-flat-take, length-flat-drop, cut-after, cut-before}
 use Rattle.object_store.proofs.extents.copy_out.Goals as goal
 
-pub overlay-requires : goal.overlay-requires
-overlay-requires c =
-    let x = c.part-item.result in
-    let i = c.loop-part.part-index in
+pub past-count-requires : goal.past-count-requires
+past-count-requires c =
+    omega (arith, ap (λ l. length (flat l)) c.split_at.ensures.back, length-flat-drop c.args.parts.now c.before-kept.result.0, c.requires.small)
+
+pub copy_cut-requires-clause-small : goal.copy_cut-requires-clause-small
+copy_cut-requires-clause-small c =
+    omega (arith, ap (λ l. length (flat l)) c.split_at-2.ensures.front, length-flat-take c.split_at.result.1.now c.past-count.result.0, ap (λ l. length (flat l)) c.split_at.ensures.back, length-flat-drop c.args.parts.now c.before-kept.result.0, c.requires.small)
+
+pub returns : goal.returns
+returns c =
+    let xs = c.args.parts.now in
+    let k = c.before-kept.result.0 in
+    let start = c.before-kept.result.1 in
+    let n = c.past-count.result.0 in
     let from = c.args.from in
     let to = c.args.to in
-    let b = (arc_value (get_or c.args.parts.now i x)).items in
-    let f = flat (take i c.args.parts.now) in
-    let v : c.as_slice-bytes.result.now ≡ b = c.as_slice-bytes.ensures.value ∙ ap (λ (v : Vec ℕ _). v.items) (c.deref.ensures ∙ ap arc_value c.part-item.is) in
-    let n : length c.as_slice-bytes.result.now ≡ length b = ap length v in
-    let low : c.min-low.result ≡ min (from - length f) (length b) = c.min-low.ensures ∙ ap (λ k. min k (length c.as_slice-bytes.result.now)) (c.saturating_sub.ensures ∙ ap (λ k. from - k) c.loop-part.invariant.place) ∙ ap (min (from - length f)) n in
-    let high : c.min-high.result ≡ min (to - length f) (length b) = c.min-high.ensures ∙ ap (λ k. min k (length c.as_slice-bytes.result.now)) (c.saturating_sub-in-loop-part.ensures ∙ ap (λ k. to - k) c.loop-part.invariant.place) ∙ ap (min (to - length f)) n in
-    let chunk = take (c.min-high.result - c.min-low.result) (drop c.min-low.result c.as_slice-bytes.result.now) in
-    let same : chunk ≡ cut (from - length f) (to - length f) b =
-    ap (λ l. take (c.min-high.result - c.min-low.result) (drop c.min-low.result l)) v
-    ∙ ap (λ m. take (c.min-high.result - m) (drop m b)) low
-    ∙ ap (λ m. take (m - min (from - length f) (length b)) (drop (min (from - length f) (length b)) b)) high
-    ∙ cut-min (from - length f) (to - length f) b (omega (arith, c.requires.order)) in
-    let m = flat-more c.args.parts.now i x c.loop-part-test.true in
-    let whole : cut from to f ++ chunk ≡ cut from to (flat (take (i + 1) c.args.parts.now)) =
-    ap (λ l. cut from to f ++ l) same ∙ sym (cut-append from to f b c.requires.order) ∙ ap (cut from to) (sym m) in
-    let size : length chunk ≡ c.min-high.result - c.min-low.result =
-    omega (arith, length-take (c.min-high.result - c.min-low.result) (drop c.min-low.result c.as_slice-bytes.result.now), length-drop c.min-low.result c.as_slice-bytes.result.now, n, high) in
-    let total : c.loop-part.done + length chunk ≡ length (cut from to (flat (take (i + 1) c.args.parts.now))) =
-    ap (λ k. k + length chunk) c.loop-part.invariant.count ∙ sym (length-append (cut from to f) chunk) ∙ ap length whole in
-    let room : length c.loop-part.out ≡ length (cut from to f) + (length c.args.out.now - c.loop-part.done) =
-    ap length c.loop-part.invariant.bytes ∙ length-append (cut from to f) (drop c.loop-part.done c.args.out.now) ∙ ap (λ k. length (cut from to f) + k) (length-drop c.loop-part.done c.args.out.now) in
-    omega (arith, room, total, length-cut from to (flat (take (i + 1) c.args.parts.now)), c.requires.room, c.loop-part.invariant.count)
-
-pub overflow_add-start : goal.overflow_add-start
-overflow_add-start c =
-    let x = c.part-item.result in
-    let b = (arc_value (get_or c.args.parts.now c.loop-part.part-index x)).items in
-    let v : c.as_slice-bytes.result.now ≡ b = c.as_slice-bytes.ensures.value ∙ ap (λ (v : Vec ℕ _). v.items) (c.deref.ensures ∙ ap arc_value c.part-item.is) in
-    let n : length c.as_slice-bytes.result.now ≡ length b = ap length v in
-    let f = flat-more-fits c.args.parts.now c.loop-part.part-index x c.loop-part-test.true in
-    omega (arith, n, f, c.requires.small, c.loop-part.invariant.place)
-
-pub loop-part-preserved : goal.loop-part-preserved
-loop-part-preserved c =
-    let x = c.part-item.result in
-    let i = c.loop-part.part-index in
-    let from = c.args.from in
-    let to = c.args.to in
-    let b = (arc_value (get_or c.args.parts.now i x)).items in
-    let f = flat (take i c.args.parts.now) in
-    let v : c.as_slice-bytes.result.now ≡ b = c.as_slice-bytes.ensures.value ∙ ap (λ (v : Vec ℕ _). v.items) (c.deref.ensures ∙ ap arc_value c.part-item.is) in
-    let n : length c.as_slice-bytes.result.now ≡ length b = ap length v in
-    let low : c.min-low.result ≡ min (from - length f) (length b) = c.min-low.ensures ∙ ap (λ k. min k (length c.as_slice-bytes.result.now)) (c.saturating_sub.ensures ∙ ap (λ k. from - k) c.loop-part.invariant.place) ∙ ap (min (from - length f)) n in
-    let high : c.min-high.result ≡ min (to - length f) (length b) = c.min-high.ensures ∙ ap (λ k. min k (length c.as_slice-bytes.result.now)) (c.saturating_sub-in-loop-part.ensures ∙ ap (λ k. to - k) c.loop-part.invariant.place) ∙ ap (min (to - length f)) n in
-    let chunk = take (c.min-high.result - c.min-low.result) (drop c.min-low.result c.as_slice-bytes.result.now) in
-    let same : chunk ≡ cut (from - length f) (to - length f) b =
-    ap (λ l. take (c.min-high.result - c.min-low.result) (drop c.min-low.result l)) v
-    ∙ ap (λ m. take (c.min-high.result - m) (drop m b)) low
-    ∙ ap (λ m. take (m - min (from - length f) (length b)) (drop (min (from - length f) (length b)) b)) high
-    ∙ cut-min (from - length f) (to - length f) b (omega (arith, c.requires.order)) in
-    let m = flat-more c.args.parts.now i x c.loop-part-test.true in
-    let whole : cut from to f ++ chunk ≡ cut from to (flat (take (i + 1) c.args.parts.now)) =
-    ap (λ l. cut from to f ++ l) same ∙ sym (cut-append from to f b c.requires.order) ∙ ap (cut from to) (sym m) in
-    let size : length chunk ≡ c.min-high.result - c.min-low.result =
-    omega (arith, length-take (c.min-high.result - c.min-low.result) (drop c.min-low.result c.as_slice-bytes.result.now), length-drop c.min-low.result c.as_slice-bytes.result.now, n, high) in
-    let total : c.loop-part.done + length chunk ≡ length (cut from to (flat (take (i + 1) c.args.parts.now))) =
-    ap (λ k. k + length chunk) c.loop-part.invariant.count ∙ sym (length-append (cut from to f) chunk) ∙ ap length whole in
+    let b = c.split_at.ensures.back in
+    let same : cut (from - start) (to - start) (flat c.split_at-2.result.0.now) ≡ cut from to (flat xs) =
+    ap (λ l. cut (from - start) (to - start) (flat l)) (c.split_at-2.ensures.front ∙ ap (take n) b)
+    ∙ cut-before (drop k xs) n (from - start) (to - start) (omega (arith, c.requires.order)) (omega (arith, c.past-count.ensures.1, c.past-count.ensures.2, ap (λ l. length (flat l)) b, ap (λ l. length (flat (take n l))) b))
+    ∙ cut-after xs k from to start c.before-kept.ensures.1 c.before-kept.ensures.2 c.requires.order in
     record {
-      place = omega (arith, n, c.loop-part.invariant.place, length-flat-more c.args.parts.now i x c.loop-part-test.true);
-      count = ap (λ k. c.loop-part.done + k) (sym size) ∙ total;
-      bytes =
-          c.overlay.ensures
-          ∙ ap (λ l. take c.loop-part.done l ++ chunk ++ drop (c.loop-part.done + length chunk) l) c.loop-part.invariant.bytes
-          ∙ overlay_next (cut from to f) chunk c.args.out.now c.loop-part.done c.loop-part.invariant.count
-          ∙ ap (λ l. l ++ drop (c.loop-part.done + length chunk) c.args.out.now) whole
-          ∙ ap (λ k. cut from to (flat (take (i + 1) c.args.parts.now)) ++ drop (c.loop-part.done + k) c.args.out.now) size;
+      count = c.copy_cut.ensures.count ∙ ap length same;
+      bytes = c.copy_cut.ensures.bytes ∙ ap (λ l. l ++ drop c.copy_cut.result c.args.out.now) same;
     }

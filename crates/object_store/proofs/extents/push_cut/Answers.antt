@@ -1,4 +1,4 @@
-use Rattle.std.proofs.Common.{◌+◌, ◌-◌, ◌++◌, take, drop, ap, ◌∙◌, append_assoc}
+use Rattle.std.proofs.Common.{◌++◌, take, ap, ◌∙◌, append_assoc}
 use Rattle.std.proofs.lemmas.List.{take-append-drop}
 use Rattle.object_store.specs.Extents.{flat}
 use Rattle.object_store.proofs.extents.push_cut.Goals as goal

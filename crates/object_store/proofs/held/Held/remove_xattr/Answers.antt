@@ -1,4 +1,3 @@
-use Rattle.std.proofs.Common.{length}
 use Rattle.object_store.specs.declared.limits.TheConstants.{XATTR_LIMIT}
 use Rattle.object_store.proofs.Within.{after_removal}
 use Rattle.object_store.proofs.held.Held.remove_xattr.Goals as goal

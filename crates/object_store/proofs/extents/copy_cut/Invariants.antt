@@ -1,6 +1,6 @@
 use Rattle.std.proofs.Common.{◌≡◌, ◌++◌, length, take, drop}
 use Rattle.object_store.specs.Extents.{flat, cut}
-use Rattle.object_store.proofs.extents.copy_out.Given as goal
+use Rattle.object_store.proofs.extents.copy_cut.Given as goal
 
 abbrev pub invariant-loop-part : goal.invariant-loop-part
 invariant-loop-part l = record {
