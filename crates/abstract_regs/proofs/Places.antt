@@ -1,4 +1,4 @@
--- The entry frame, and accesses that fit.
+-- The entry frame, and accesses and ranges that fit.
 use Rattle.std.proofs.Common.{◌≡◌, ℕ, ◌+◌, ◌%◌, ◌^◌, ◌≤◌, Option, Some, None, true, refl, arith}
 use Rattle.std.proofs.lemmas.Bool.{leb-true}
 use Rattle.bpf_decode.specs.declared.operation.Bits.TheVariants.{Bits64}
@@ -10,7 +10,7 @@ use Rattle.abstract_num.specs.Transfer.{ranged}
 use Rattle.abstract_num.specs.Keeping.{HeldIn, ConstantsFit, ConstantHolds, ArithmeticKeeps, RangeKeeps}
 use Rattle.abstract_regs.specs.Kind.{HoldsKind, places_fit, last_place}
 use Rattle.abstract_regs.specs.Frame.{number_kind}
-use Rattle.abstract_regs.specs.Laws.{EntryHolds, AccessesFit}
+use Rattle.abstract_regs.specs.Laws.{EntryHolds, AccessesFit, RangesFit}
 
 number_held : (o : Option Plain) (n : ℕ) → HeldIn o n → HoldsKind (number_kind o) (Some (values.Num n))
 number_held None n h = tt
@@ -30,3 +30,6 @@ pub accesses_fit : ConstantHolds → ConstantsFit → ArithmeticKeeps → Access
 accesses_fit constants fit sums k f distance w size small e at h =
     fits_at (last_place k distance) ((at + distance) % 2 ^ 64) w size
     (sums Bits64 Add k (constant distance) f (fit distance small) at distance h (constants distance small)) e
+
+pub ranges_fit : RangesFit
+ranges_fit k l size e at n h g = let le = leb-true (k.high + l.high) size e in omega (arith, le, h.below, g.below)

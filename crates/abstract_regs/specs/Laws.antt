@@ -6,7 +6,7 @@ use Rattle.bpf_decode.specs.declared.region.Region.TheVariants.{Input, Output, S
 use Rattle.bpf_decode.specs.declared.value.Value.TheVariants as values
 use Rattle.bpf_decode.specs.declared.value.Value.{Value}
 use Rattle.abstract_regs.specs.declared.kind.Kind.{Kind}
-use Rattle.abstract_regs.specs.Kind.{PlainKind, Unset, Num, Ptr, access_fits}
+use Rattle.abstract_regs.specs.Kind.{PlainKind, Unset, Num, Ptr, access_fits, range_fits}
 use Rattle.abstract_regs.specs.Frame.{PlainFrame, join_each, join, entry_frame, HoldsEach}
 use Rattle.abstract_regs.specs.Seen.{seen_each}
 
@@ -61,3 +61,10 @@ abbrev pub AccessesFit : Type 0
 AccessesFit =
     (k : Plain) → Fits k → (distance w size : ℕ) → distance < 2 ^ 64 → access_fits k distance w size ≡ true →
     (at : ℕ) → Holds k at → (at + distance) % 2 ^ 64 + w ≤ size
+
+-- A range that fits from an offset on stays within the first so many bytes, from every place that the offset holds, for
+-- every number of bytes that the length holds.
+abbrev pub RangesFit : Type 0
+RangesFit =
+    (k l : Plain) → (size : ℕ) → range_fits k l size ≡ true →
+    (at n : ℕ) → Holds k at → Holds l n → at + n ≤ size

@@ -1,4 +1,4 @@
-ghost use Rattle.abstract_regs.specs.Laws.{JoinCommutes, JoinAssociates, JoinOfSame, JoinIsAbove, JoinsHold, EntryHolds, AccessesFit};
+ghost use Rattle.abstract_regs.specs.Laws.{JoinCommutes, JoinAssociates, JoinOfSame, JoinIsAbove, JoinsHold, EntryHolds, AccessesFit, RangesFit};
 
 use abstract_num::keeping_laws;
 
@@ -14,11 +14,13 @@ pub fn join_laws()
 }
 
 /// A law. What either of two frames holds, their join holds; what a method begins with, the entry frame holds; the bytes
-/// of an access that fits are in the region, at every place that its offset holds.
+/// of an access that fits are in the region, at every place that its offset holds; so are those of a range that fits, from
+/// every place that its offset holds, as many as its length holds.
 pub fn holding_laws()
     ensures joins { JoinsHold }
     ensures entry { EntryHolds }
     ensures accesses { AccessesFit }
+    ensures ranges { RangesFit }
 {
     keeping_laws();
 }

@@ -92,6 +92,12 @@ pub accept : EndsAlwaysIsSafe → Laws → (m : ClassMethod) → IsMethod m → 
 accept law laws m ok sound clear =
     record { method = ok; safe = law m ok.fit (ends_always laws m ok sound clear) }
 
+-- a fact of all elements, of one
+pub all_at : {A : Type 0} (P : A → Type 0) (xs : List A) (n : ℕ) (x : A) → slice_get xs n ≡ Some x → AllByRecursion P xs → P x
+all_at P [] n x e h = absurd (none-some x e)
+all_at P (y ∷ xs) zero x e h = subst P (same_Some y x e) h.0
+all_at P (y ∷ xs) (suc n) x e h = all_at P xs n x e h.1
+
 -- a fact of the first elements and of the next
 pub all_more : {A : Type 0} (P : A → Type 0) (xs : List A) (n : ℕ) (x : A) → slice_get xs n ≡ Some x → AllByRecursion P (take n xs) → P x → AllByRecursion P (take (n + 1) xs)
 all_more P [] n x e h p = absurd (none-some x e)

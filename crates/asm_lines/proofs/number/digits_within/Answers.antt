@@ -1,4 +1,5 @@
 use Rattle.std.proofs.Common.{◌<◌, arith, rules}
+use Rattle.std.proofs.lemmas.Grind.{common_steps}
 use Rattle.std.specs.Str.Parse.{digits_value}
 use Rattle.std.proofs.lemmas.Bool.Decides.{nat_tests}
 use Rattle.asm_lines.proofs.NumberLemmas.{digits_over}
@@ -9,3 +10,6 @@ returns-then-next-from c =
     let over : c.args.most < digits_value c.args.radix c.args.text.now =
     digits_over _ c.loop-byte.value c.loop-byte.byte-index _ _ c.requires.low (omega arith) c.loop-byte.invariant.same c.from.result c.from-in-loop-byte.result c.from-in-loop-byte-2.result (cc) (cc) (search rules) (omega arith) in
     grind (arith, nat_tests)
+
+pub loop-byte-preserved : goal.loop-byte-preserved
+loop-byte-preserved c = grind (arith, common_steps)

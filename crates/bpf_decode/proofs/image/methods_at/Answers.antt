@@ -1,4 +1,5 @@
 use Rattle.std.proofs.Common.{◌≡◌, ◌++◌, ◌∷◌, [], Bool, true, not, cond, Err, sym, ap, ◌∙◌, inl, inr, subst, ℕ, arith}
+use Rattle.std.proofs.lemmas.Grind.{common_steps}
 use Rattle.std.specs.Result.{is_ok}
 use Rattle.bpf_decode.specs.ImageReading.{ReadsSoFar}
 use Rattle.bpf_decode.proofs.ImageLoop.{goes_along, ends, is_done, so_far}
@@ -36,3 +37,6 @@ loop-done-preserved c =
     let pushed : is_ok c.push.result ≡ true = c.is_err.ensures.negation ∙ ap not c.if-is_err.false in
     let items : c.push.new.self.items ≡ c.loop-done.methods.items ++ c.in-Ok.method ∷ [] = c.push.ensures.items ∙ ap (λ (b : Bool). cond b (c.loop-done.methods.items ++ c.in-Ok.method ∷ []) c.loop-done.methods.items) pushed in
     rw (items, c.in-Ok.ensures.name) (goes_along c.args.bytes.now c.loop-done.methods.items c.loop-done.done c.loop-done.before.now c.loop-done.rest.now c.in-Ok.method c.in-Ok.behind.now c.in-Ok.ensures.read c.loop-done.invariant)
+
+pub returns-then-is_err-clause-read : goal.returns-then-is_err-clause-read
+returns-then-is_err-clause-read c = grind (arith, common_steps)

@@ -1,4 +1,5 @@
-use Rattle.std.proofs.Common.{◌≡◌, Some, true, ap, sym, subst, ◌∙◌}
+use Rattle.std.proofs.Common.{◌≡◌, Some, true, ap, sym, subst, ◌∙◌, arith}
+use Rattle.std.proofs.lemmas.Grind.{common_steps}
 use Rattle.helpers.specs.Table.{helper_of}
 use Rattle.flat_machine.specs.View.{layout_of}
 use Rattle.flat_machine.specs.inner.FlatState.{flat_state, Answers, may_call, helped}
@@ -24,3 +25,9 @@ returns-in-Some-2-clause-helped c =
     let leave : may_call caps c.args.id ≡ true = sym c.may_call.ensures ∙ c.if-not-may_call.false in
     let named : helper_of c.args.id ≡ Some h = sym c.of.ensures ∙ c.in-Some.is in
     help_is caps lay s c.args.id h leave named ∙ (subst (λ o. Answers o (flat_state c.help_by.new.s) (helped caps lay h s)) c.in-Some-2.is c.in_ok-help_by-in-Some.ensures.helped ∙ ap (λ t. Some t) (sym c.put_answer.ensures.state))
+
+pub returns-then-not-may_call-clause-helped : goal.returns-then-not-may_call-clause-helped
+returns-then-not-may_call-clause-helped c = grind (arith, common_steps)
+
+pub returns-in-None-clause-helped : goal.returns-in-None-clause-helped
+returns-in-None-clause-helped c = grind (arith, common_steps)

@@ -12,3 +12,9 @@ pub returns-then-is_writable-clause-store : goal.returns-then-is_writable-clause
 returns-then-is_writable-clause-store c =
     let e = take-le_bytes c.args.w 8 c.args.value c.requires.short in
     grind (arith, common_steps, e)
+
+pub slice_bounds-put_bytes-end : goal.slice_bounds-put_bytes-end
+slice_bounds-put_bytes-end c = grind (arith, common_steps)
+
+pub returns-else-is_writable-clause-store : goal.returns-else-is_writable-clause-store
+returns-else-is_writable-clause-store c = grind (arith, common_steps)

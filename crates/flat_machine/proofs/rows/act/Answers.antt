@@ -1,4 +1,5 @@
-use Rattle.std.proofs.Common.{sym, subst}
+use Rattle.std.proofs.Common.{sym, subst, arith}
+use Rattle.std.proofs.lemmas.Grind.{common_steps}
 use Rattle.std.specs.Prelude.{IfOk}
 use Rattle.flat_machine.specs.View.{layout_of}
 use Rattle.flat_machine.specs.inner.FlatState.{flat_state, GivesState}
@@ -49,3 +50,12 @@ pub returns-in-7-clause-acts : goal.returns-in-7-clause-acts
 returns-in-7-clause-acts c =
     let is = of_class c.args.caps.now (layout_of c.args.layout.now) c.args.f c.args.next (flat_state c.args.s.now) 7 c.in-7.is in
     subst (λ step. GivesState c.alu_row-in-7.result (flat_state c.alu_row-in-7.new.s) step) (sym is) c.alu_row-in-7.ensures.row
+
+pub returns-in_default-class-clause-acts : goal.returns-in_default-class-clause-acts
+returns-in_default-class-clause-acts c = grind (arith, common_steps)
+
+pub returns-in-6-class-clause-acts : goal.returns-in-6-class-clause-acts
+returns-in-6-class-clause-acts c = grind (arith, common_steps)
+
+pub returns-in-5-class-clause-acts : goal.returns-in-5-class-clause-acts
+returns-in-5-class-clause-acts c = grind (arith, common_steps)

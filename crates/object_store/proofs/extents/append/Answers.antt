@@ -1,4 +1,5 @@
 use Rattle.std.proofs.Common.{◌≡◌, ℕ, ◌-◌, min, ◌++◌, length, take, drop, get_or, ap, sym, ◌∙◌, append_assoc, arith}
+use Rattle.std.proofs.lemmas.Grind.{common_steps}
 use Rattle.std.specs.Arc.{arc_value}
 use Rattle.std.specs.declared.vec.Vec.{Vec}
 use Rattle.object_store.specs.Extents.{flat, cut}
@@ -43,3 +44,6 @@ loop-part-preserved c =
           ∙ ap (λ l. o ++ l) (sym (cut-append from to f b c.requires.order))
           ∙ ap (λ l. o ++ cut from to l) (sym m);
     }
+
+pub returns : goal.returns
+returns c = grind (arith, common_steps)

@@ -1,4 +1,5 @@
 use Rattle.std.proofs.Common.{◌≡◌, ℕ, ◌+◌, ◌-◌, min, ◌++◌, length, take, drop, get_or, ap, sym, ◌∙◌, arith, length-append, length-drop}
+use Rattle.std.proofs.lemmas.Grind.{common_steps}
 use Rattle.std.specs.Arc.{arc_value}
 use Rattle.std.specs.declared.vec.Vec.{Vec}
 use Rattle.std.proofs.lemmas.List.{length-take}
@@ -79,3 +80,9 @@ loop-part-preserved c =
           ∙ ap (λ l. l ++ drop (c.loop-part.done + length chunk) c.args.out.now) whole
           ∙ ap (λ k. cut from to (flat (take (i + 1) c.args.parts.now)) ++ drop (c.loop-part.done + k) c.args.out.now) size;
     }
+
+pub returns-clause-bytes : goal.returns-clause-bytes
+returns-clause-bytes c = grind (arith, common_steps)
+
+pub overflow_add-done : goal.overflow_add-done
+overflow_add-done c = grind (arith, common_steps)

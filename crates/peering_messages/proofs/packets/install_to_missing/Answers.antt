@@ -1,4 +1,5 @@
 use Rattle.std.proofs.Common.{◌≡◌, ℕ, ◌+◌, ◌≤◌, ◌++◌, ◌∷◌, [], List, true, false, length, drop, get_or, ap, sym, ◌∙◌, append_assoc, arith}
+use Rattle.std.proofs.lemmas.Grind.{common_steps}
 use Rattle.std.proofs.lemmas.List.{get_or_read, drop_more, drop_all, append-nil}
 use Rattle.group_world.specs.Node.{packet}
 use Rattle.group_world.specs.Unanswered.{to_missing}
@@ -62,3 +63,6 @@ returns-clause-ok c =
     let kind : Kind = Install c.args.map.now c.args.list.now in
     let done : length ns ≤ k = omega arith in
     sym (append-nil c.loop-node.sent.items) ∙ ap (λ w. c.loop-node.sent.items ++ to_missing n js w kind) (sym (drop_all k ns done)) ∙ c.loop-node.invariant
+
+pub loop-node-init : goal.loop-node-init
+loop-node-init c = grind (arith, common_steps)

@@ -1,4 +1,5 @@
 use Rattle.std.proofs.Common.{◌≡◌, ℕ, ◌+◌, ◌≤◌, ◌++◌, ◌∷◌, [], List, length, drop, get_or, ap, sym, ◌∙◌, append_assoc, arith}
+use Rattle.std.proofs.lemmas.Grind.{common_steps}
 use Rattle.std.proofs.lemmas.List.{get_or_read, drop_more, drop_all, append-nil}
 use Rattle.group_world.specs.Node.{packet, to_others}
 use Rattle.group_world.specs.declared.party.Party.TheVariants.{Node as ANode}
@@ -42,3 +43,6 @@ returns-clause-ok c =
     let kind : Kind = Rep c.args.interval c.args.place c.args.request.now in
     let done : length ns ≤ k = omega arith in
     sym (append-nil c.loop-node.sent.items) ∙ ap (λ w. c.loop-node.sent.items ++ to_others n w kind) (sym (drop_all k ns done)) ∙ c.loop-node.invariant
+
+pub loop-node-init : goal.loop-node-init
+loop-node-init c = grind (arith, common_steps)

@@ -1,4 +1,5 @@
-use Rattle.std.proofs.Common.{refl, codes}
+use Rattle.std.proofs.Common.{refl, codes, arith}
+use Rattle.std.proofs.lemmas.Grind.{common_steps}
 use Rattle.clap.specs.Words.{first_value, found_of}
 use Rattle.radoscls_program.proofs.Entered.{Asks-entered}
 use Rattle.radoscls_program.proofs.Unasked.{AsksNothing-entered, no_asm, no_dis, no_run, no_verify, not_both}
@@ -47,3 +48,6 @@ returns-clause-unasked c none =
     let entered = c.in_ok-subcommand_matches.ensures in
     AsksNothing-entered (codes "dis") c.args.matches.now c.in_ok-subcommand_matches.field-0.now (entered.found.0 refl) entered.rows
     (no_dis (first_value (found_of c.in_ok-subcommand_matches.field-0.now)) (c.dis_action.ensures.missing.0 none))
+
+pub returns-in_err-subcommand_matches-clause-unasked : goal.returns-in_err-subcommand_matches-clause-unasked
+returns-in_err-subcommand_matches-clause-unasked c = grind (arith, common_steps)

@@ -1,4 +1,5 @@
-use Rattle.std.proofs.Common.{map}
+use Rattle.std.proofs.Common.{map, arith}
+use Rattle.std.proofs.lemmas.Grind.{common_steps}
 use Rattle.radoscls_program.specs.Streams.{stream}
 use Rattle.radoscls_program.proofs.Ended.{refused_by}
 use Rattle.radoscls_program.proofs.perform.program.Goals as goal
@@ -8,3 +9,6 @@ returns-clause-refused g c =
     let out = stream g.O.Output.printed g.O.Output.failed in
     refused_by (g.F.Reads.disk c.args.files.now) (g.F.Reads.disk c.perform.new.files) (out c.args.out.now) (out c.perform.new.out) (map g.S.AsStr.text c.args.words.now)
     c.perform.result c.code.result c.code.ensures c.perform.ensures
+
+pub returns-clause-done : goal.returns-clause-done
+returns-clause-done g c = grind (arith, common_steps)

@@ -1,4 +1,5 @@
 use Rattle.std.proofs.Common.{arith, length-append}
+use Rattle.std.proofs.lemmas.Grind.{common_steps}
 use Rattle.std.proofs.lemmas.Result.{err_from_is_err_and}
 use Rattle.sim_tool.proofs.Owning.{IsOwn-more, fails_at}
 use Rattle.sim_tool.proofs.classes.add_own.Goals as goal
@@ -13,3 +14,6 @@ loop-class-preserved g c = record {
   grew = IsOwn-more (g.F.Reads.disk c.args.files.now) c.args.own.now c.loop-class.class-index _ c.args.table.now c.loop-class.table c.add.new.table c.in_ok-loaded.loaded c.loop-class-test.true c.loop-class.invariant.grew c.in_ok-loaded.ensures.safe c.in_ok-add.ensures;
   count = grind (arith, length-append, c.in_ok-add.ensures, c.loop-class.invariant.count);
 }
+
+pub returns-in_err-add-clause-fails : goal.returns-in_err-add-clause-fails
+returns-in_err-add-clause-fails g c = grind (arith, common_steps)

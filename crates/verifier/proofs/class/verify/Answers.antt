@@ -1,16 +1,16 @@
 use Rattle.std.proofs.Common.{◌+◌, ◌<◌, ◌++◌, [], ◌∷◌, refl, drop, get_or, ◌≡◌, ◌≤◌, ℕ, ap, ◌∙◌, sym, subst, arith, length, ◌⊎◌, Some, List, inl, inr}
 use Rattle.std.proofs.lemmas.Option.{slice_get_read}
 use Rattle.std.proofs.lemmas.Result.{err_from_is_err_and}
-use Rattle.std.proofs.lemmas.List.{take_all}
+use Rattle.std.proofs.lemmas.List.{drop_all, take_all}
 use Rattle.std.specs.List.{AllByRecursion}
-use Rattle.bpf_decode.specs.Class.{ClassMethod}
+use Rattle.bpf_decode.specs.Class.{ClassMethod, IsClass, IsMethod}
 use Rattle.bpf_machine.specs.Safe.{IsSafe}
 use Rattle.verifier.specs.declared.refusal.Refusal.{Refusal}
 use Rattle.verifier.specs.Verdict.{verdict_from, or_later, class_verdict, out_of_memory, IsFirst, IsDeserved}
 use Rattle.verifier.proofs.Verdicts.{deserved}
 use Rattle.std.specs.Prelude.{slice_get}
 use Rattle.verifier.proofs.Tables.{drop_head}
-use Rattle.verifier.proofs.Accepts.{all_more, take_next}
+use Rattle.verifier.proofs.Accepts.{all_at, all_more, take_next}
 use Rattle.verifier.proofs.class.verify.Goals as goal
 
 -- the refusal of a method is the verdict, where the methods below it have none
@@ -48,6 +48,31 @@ pub returns-clause-safe : goal.returns-clause-safe
 returns-clause-safe c =
     let past : length c.args.image.now ≤ c.loop-number.number = omega (arith, ap length c.methods-method-items.ensures.methods) in
     subst (AllByRecursion IsSafe) (take_all c.loop-number.number c.args.image.now past) c.loop-number.invariant.safe
+
+pub returns-clause-value : goal.returns-clause-value
+returns-clause-value c =
+    let past : length c.args.image.now ≤ c.loop-number.number = omega (arith, ap length c.methods-method-items.ensures.methods) in
+    c.new.ensures ∙ c.loop-number.invariant.sofar ∙ take_all c.loop-number.number c.args.image.now past
+
+pub returns-clause-accepted : goal.returns-clause-accepted
+returns-clause-accepted c =
+    let past : length c.args.image.now ≤ c.loop-number.number = omega (arith, ap length c.methods-method-items.ensures.methods) in
+    sym c.loop-number.invariant.rest ∙ ap (verdict_from c.loop-number.number) (drop_all c.loop-number.number c.args.image.now past)
+
+pub new-requires-clause-class : goal.new-requires-clause-class
+new-requires-clause-class c =
+    let past : length c.args.image.now ≤ c.loop-number.number = omega (arith, ap length c.methods-method-items.ensures.methods) in
+    let whole = c.loop-number.invariant.sofar ∙ take_all c.loop-number.number c.args.image.now past in
+    subst IsClass (sym whole) c.methods-method-items.ensures.class
+
+pub push_verified-requires : goal.push_verified-requires
+push_verified-requires c =
+    let image = c.args.image.now in
+    let number = c.loop-number.number in
+    let few : number < length image = omega (arith, ap length c.methods-method-items.ensures.methods) in
+    let at : slice_get image number ≡ Some c.method-item.result =
+    slice_get_read image (length image) number c.method-item.result refl few (c.method-item.is ∙ ap (λ ms. get_or ms number c.method-item.result) c.methods-method-items.ensures.methods) in
+    all_at IsMethod image number c.method-item.result at c.methods-method-items.ensures.class.methods
 
 pub new-requires-clause-safe : goal.new-requires-clause-safe
 new-requires-clause-safe c = subst (AllByRecursion IsSafe) (sym c.loop-number.invariant.sofar) c.loop-number.invariant.safe

@@ -1,4 +1,5 @@
-use Rattle.std.proofs.Common.{refl}
+use Rattle.std.proofs.Common.{refl, arith}
+use Rattle.std.proofs.lemmas.Grind.{common_steps}
 use Rattle.std.specs.Int.{w16, w32}
 use Rattle.std.proofs.lemmas.Int.{to_z-of_z}
 use Rattle.std.proofs.lemmas.Bool.{ne_eqb}
@@ -51,3 +52,9 @@ returns-in-MovRegister-2 c = rw (c.in-MovRegister-2.is, ne_eqb c.args.slot.now.o
 
 pub returns-in-End : goal.returns-in-End
 returns-in-End c = rw (c.in-End.is, c.selected-in-End.ensures, c.requires.dst_is) refl
+
+pub returns-in-Call-2 : goal.returns-in-Call-2
+returns-in-Call-2 c = grind (arith, common_steps)
+
+pub returns-in-Wide : goal.returns-in-Wide
+returns-in-Wide c = grind (arith, common_steps)

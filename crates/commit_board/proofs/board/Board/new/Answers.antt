@@ -1,4 +1,5 @@
 use Rattle.std.proofs.Common.{◌≡◌, sym, ◌∙◌, ap, rules, ◌<◌, ℕ, arith, []}
+use Rattle.std.proofs.lemmas.Grind.{common_steps}
 use Rattle.commit_board.specs.Rows.{writes}
 use Rattle.commit_board.proofs.Moves.{begins, deals, freshens}
 use Rattle.commit_board.proofs.board.Board.new.Goals as goal
@@ -18,3 +19,15 @@ pub split_seat-requires-2 : goal.split_seat-requires-2
 split_seat-requires-2 c =
     let words : c.in_ok-table.table.shared.table_id.words ≡ c.args.rows = search rules in
     (c.loop-row.invariant.1, omega arith, freshens c.in_ok-table.table.shared.key _ _)
+
+pub returns-clause-writers : goal.returns-clause-writers
+returns-clause-writers c = grind (arith, common_steps)
+
+pub loop-row-preserved : goal.loop-row-preserved
+loop-row-preserved c = grind (arith, common_steps)
+
+pub loop-row-init : goal.loop-row-init
+loop-row-init c = grind (arith, common_steps)
+
+pub returns-clause-seen : goal.returns-clause-seen
+returns-clause-seen c = grind (arith, common_steps)

@@ -1,4 +1,5 @@
-use Rattle.std.proofs.Common.{refl, sym, ap, ◌∙◌}
+use Rattle.std.proofs.Common.{refl, sym, ap, ◌∙◌, arith}
+use Rattle.std.proofs.lemmas.Grind.{elements}
 use Rattle.std.specs.Prelude.{slice_get}
 use Rattle.std.proofs.lemmas.Option.{slice_get_read}
 use Rattle.interp.proofs.class_table.ClassTable.get.Goals as goal
@@ -11,3 +12,6 @@ returns-clause-found c =
 
 pub returns-clause-safe : goal.returns-clause-safe
 returns-clause-safe c = c.methods.ensures.safe
+
+pub returns-in_err-class-clause-found : goal.returns-in_err-class-clause-found
+returns-in_err-class-clause-found c = grind (arith, elements)

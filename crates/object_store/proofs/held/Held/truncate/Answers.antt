@@ -1,4 +1,5 @@
-use Rattle.std.proofs.Common.{◌≤◌, sym, subst, length}
+use Rattle.std.proofs.Common.{◌≤◌, sym, subst, length, arith}
+use Rattle.std.proofs.lemmas.Grind.{common_steps}
 use Rattle.object_store.specs.declared.limits.TheConstants.{DATA_LIMIT}
 use Rattle.object_store.specs.Object.{AreBytes}
 use Rattle.object_store.proofs.Bytes.{are_resized}
@@ -13,3 +14,6 @@ invariant_of-self-2 c = record {
   xattrs = c.self.invariant.xattrs;
   omap = c.self.invariant.omap;
 }
+
+pub returns : goal.returns
+returns c = grind (arith, common_steps)

@@ -1,4 +1,5 @@
-use Rattle.std.proofs.Common.{◌<◌, suc, ap, sym, subst, ◌∙◌, ℕ}
+use Rattle.std.proofs.Common.{◌<◌, suc, ap, sym, subst, ◌∙◌, ℕ, arith}
+use Rattle.std.proofs.lemmas.Grind.{common_steps}
 use Rattle.op_shards.proofs.Keeps.{parts, meets, accepts}
 use Rattle.op_shards.proofs.lane.SendLane.compare.Goals as goal
 
@@ -19,3 +20,9 @@ another-requires-clause-rule g c =
     let met = c.absorb.ensures.rule in
     let same = c.learn_as.ensures.queue.1 in
     parts g.T.Op.group _ _ (subst (λ (k : ℕ). 0 < k) (sym (ap (λ v. v.place.shards) (same ∙ met))) c.self.invariant.1)
+
+pub returns-clause-same : goal.returns-clause-same
+returns-clause-same g c = grind (arith, common_steps)
+
+pub invariant_of-self : goal.invariant_of-self
+invariant_of-self g c = grind (arith, common_steps)

@@ -1,4 +1,5 @@
-use Rattle.std.proofs.Common.{◌≡◌, ◌%◌, ap, sym, subst, ◌∙◌}
+use Rattle.std.proofs.Common.{◌≡◌, ◌%◌, ap, sym, subst, ◌∙◌, arith}
+use Rattle.std.proofs.lemmas.Grind.{common_steps}
 use Rattle.op_shards.specs.declared.rule.Place.{Place}
 use Rattle.op_shards.proofs.Keeps.{puts, learns}
 use Rattle.op_shards.proofs.lane.SendLane.push.Goals as goal
@@ -10,3 +11,15 @@ push_as-requires-clause-rule g c =
     let from : c.args.number ≡ v.first = sym (ap (λ s. s.sender) c.self.view_is ∙ c.requires.number) in
     let lies : g.T.Op.group c.args.op % v.place.shards ≡ v.place.shard = subst (λ (q : Place). g.T.Op.group c.args.op % q.shards ≡ q.shard) (sym (ap (λ s. s.spot.place) c.self.view_is)) c.requires.here in
     (puts g.T.Op.group _ _ v.first _ _ (ap (λ v. v.first) i.0) (ap (λ v. v.end) i.0) i.1 lies from i.2, learns g.T.Op.group _ _ i.1)
+
+pub returns-in-Err-clause-answer : goal.returns-in-Err-clause-answer
+returns-in-Err-clause-answer g c = grind (arith, common_steps)
+
+pub invariant_of-self-in-Err : goal.invariant_of-self-in-Err
+invariant_of-self-in-Err g c = grind (arith, common_steps)
+
+pub returns-in-Ok-clause-answer : goal.returns-in-Ok-clause-answer
+returns-in-Ok-clause-answer g c = grind (arith, common_steps)
+
+pub invariant_of-self : goal.invariant_of-self
+invariant_of-self g c = grind (arith, common_steps)

@@ -1,4 +1,5 @@
-use Rattle.std.proofs.Common.{refl, subst}
+use Rattle.std.proofs.Common.{refl, subst, arith}
+use Rattle.std.proofs.lemmas.Grind.{elements}
 use Rattle.op_shards.specs.Order.{IsHere}
 use Rattle.op_shards.specs.Passes.{Queues, shard_of}
 use Rattle.op_shards.proofs.shards.OpShards.take.Goals as goal
@@ -7,3 +8,6 @@ pub returns-in-Some-clause-answer : goal.returns-in-Some-clause-answer
 returns-in-Some-clause-answer g c =
     let told = c.in-Some.ensures in
     (c.in-Some.ranked, refl, told.0, subst (λ (q : Queues). IsHere g.T.Op.group (shard_of q c.args.shard) c.in-Some.ranked) c.requires.pass told.1, told.2, told.3)
+
+pub pop-requires : goal.pop-requires
+pop-requires g c = grind (arith, elements)

@@ -1,4 +1,5 @@
-use Rattle.std.proofs.Common.{◌≡◌, ◌&&◌, refl, false, ℕ, true, List, ap, drop, eqb, length, max, sym, take, ◌∙◌, subst}
+use Rattle.std.proofs.Common.{◌≡◌, ◌&&◌, refl, false, ℕ, true, List, ap, drop, eqb, length, max, sym, take, ◌∙◌, subst, arith}
+use Rattle.std.proofs.lemmas.Grind.{common_steps}
 use Rattle.pg_log.specs.Requests.{ClientRequest}
 use Rattle.pg_log.specs.Log.{Legal}
 use Rattle.group_world.specs.Node.{is_active}
@@ -60,3 +61,12 @@ returns-then-ne-clause-done g c =
       sent = c.new-then-ne.ensures.items ∙ ap (λ o. o.sent) h;
       unrefused = ap (λ o. o.refusal) (sym h);
     }
+
+pub invariant_of-self : goal.invariant_of-self
+invariant_of-self g c = grind (arith, common_steps)
+
+pub replies-requires-clause-within : goal.replies-requires-clause-within
+replies-requires-clause-within g c = grind (arith, common_steps)
+
+pub same-self-in_err-sent : goal.same-self-in_err-sent
+same-self-in_err-sent g c = grind (arith, common_steps)

@@ -1,4 +1,5 @@
-use Rattle.std.proofs.Common.{◌≡◌, eqb, true, false, [], ◌∷◌, ap, sym, ◌∙◌, cond}
+use Rattle.std.proofs.Common.{◌≡◌, eqb, true, false, [], ◌∷◌, ap, sym, ◌∙◌, cond, arith}
+use Rattle.std.proofs.lemmas.Grind.{common_steps}
 use Rattle.group_world.specs.Node.{is_asking}
 use Rattle.group_world.specs.Rules.{is_usable}
 use Rattle.group_world.specs.declared.status.Status.TheVariants.{Installing}
@@ -39,3 +40,6 @@ returns-then-not-branch-clause-done g c =
       sent = c.new-then-not-branch.ensures.items ∙ ap (λ o. o.sent) h;
       unrefused = ap (λ o. o.refusal) (sym h);
     }
+
+pub returns-then-ne-clause-done : goal.returns-then-ne-clause-done
+returns-then-ne-clause-done g c = grind (arith, common_steps)

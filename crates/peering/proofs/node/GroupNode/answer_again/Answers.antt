@@ -1,4 +1,5 @@
 use Rattle.std.proofs.Common.{FitsSigned, ◌≡◌, ◌∙◌, ◌++◌, ◌∷◌, [], ap, arith, cond, nat_lt, refl, rules, sym, true, w64}
+use Rattle.std.proofs.lemmas.Grind.{common_steps}
 use Rattle.std.specs.Int.{cast_unsigned}
 use Rattle.std.proofs.lemmas.Int.{to_z-of_z}
 use Rattle.pg_log.specs.Log.{Reply, reply_at}
@@ -30,3 +31,6 @@ returns-clause-done g c =
       sent = c.in_ok-send.ensures.ok ∙ ap (λ ps. ps ++ c.in_ok-said.said ∷ []) c.new-sent.ensures.items ∙ ap (λ p. p ∷ []) said ∙ ap (λ o. o.sent) (sym h);
       unrefused = ap (λ o. o.refusal) h;
     }
+
+pub same_reply-requires-clause-legal : goal.same_reply-requires-clause-legal
+same_reply-requires-clause-legal g c = grind (arith, common_steps)

@@ -1,4 +1,5 @@
-use Rattle.std.proofs.Common.{◌∙◌, ap, sym, refl, subst, cond, nat_lt}
+use Rattle.std.proofs.Common.{◌∙◌, ap, sym, refl, subst, cond, nat_lt, arith}
+use Rattle.std.proofs.lemmas.Grind.{common_steps}
 use Rattle.group_world.specs.Node.{Outcome, nothing, and_sends, packet}
 use Rattle.group_world.specs.declared.message.Kind.TheVariants.{Log as LogOf}
 use Rattle.group_world.specs.Rules.{arrive, would_forget}
@@ -20,3 +21,6 @@ pub answering-requires : goal.answering-requires
 answering-requires g c =
     let n = c.args.self.now in
     or_false (nat_lt c.args.map.interval n.state.interval) (would_forget n.number n.state c.args.map) (sym c.ignores.ensures ∙ c.if-ignores.false)
+
+pub returns-then-ignores-clause-done : goal.returns-then-ignores-clause-done
+returns-then-ignores-clause-done g c = grind (arith, common_steps)

@@ -1,4 +1,5 @@
-use Rattle.std.proofs.Common.{◌∙◌, ap, subst, IfOk, None}
+use Rattle.std.proofs.Common.{◌∙◌, ap, subst, IfOk, None, arith}
+use Rattle.std.proofs.lemmas.Grind.{common_steps}
 use Rattle.group_world.specs.Node.{Outcome}
 use Rattle.group_world.specs.Rules.{append_new, request_at}
 use Rattle.peering.specs.Numbered.{IsDone}
@@ -17,3 +18,6 @@ pub returns-clause-why : goal.returns-clause-why
 returns-clause-why g c =
     let n = c.args.self.now in
     short c.keep_next.result (request_at c.args.table.now n.number n.state c.args.request None) (new_unrefused c.args.table.now n.number n.state c.args.request c.in_ok-entry.ensures.unrefused) c.keep_next.ensures.why
+
+pub keep_next-requires-clause-reply : goal.keep_next-requires-clause-reply
+keep_next-requires-clause-reply g c = grind (arith, common_steps)

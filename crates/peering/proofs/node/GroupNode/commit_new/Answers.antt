@@ -1,4 +1,5 @@
-use Rattle.std.proofs.Common.{◌≡◌, ℕ, ◌+◌, ◌∙◌, ap, length, max}
+use Rattle.std.proofs.Common.{◌≡◌, ℕ, ◌+◌, ◌∙◌, ap, length, max, arith}
+use Rattle.std.proofs.lemmas.Grind.{common_steps}
 use Rattle.group_world.specs.Rules.{least_of, raised}
 use Rattle.peering.proofs.Growing.{grown_is}
 use Rattle.peering.proofs.node.GroupNode.commit_new.Goals as goal
@@ -16,3 +17,9 @@ returns-clause-ok g c =
     c.max-point.ensures ∙ ap (max c.self.inside.committed) (c.least_of.ensures.value ∙ ap (least_of k) c.deref-2.ensures.value)
     ∙ ap (λ z. max z.state.committed (least_of k c.in_ok-acked.acked.items)) c.self.view_is in
     grown_is c.args.table.now n.number k n.state c.args.entry.now.request c.in_ok-acked.acked.items c.max-point.result c.in_ok-sent.sent.items longer acked point c.in_ok-sent.ensures.ok
+
+pub sent_with-requires-clause-within : goal.sent_with-requires-clause-within
+sent_with-requires-clause-within g c = grind (arith, common_steps)
+
+pub returns-clause-within : goal.returns-clause-within
+returns-clause-within g c = grind (arith, common_steps)

@@ -1,6 +1,16 @@
-use Rattle.std.proofs.Common.{rules}
+use Rattle.std.proofs.Common.{rules, arith}
+use Rattle.std.proofs.lemmas.Grind.{common_steps}
 use Rattle.peering.proofs.node.GroupNode.decided.Goals as goal
 
 -- turned by leads_without_asking
 pub returns-then-leads-clause-ok : goal.returns-then-leads-clause-ok
 returns-then-leads-clause-ok g c = search rules
+
+pub returns-then-get-clause-ok : goal.returns-then-get-clause-ok
+returns-then-get-clause-ok g c = grind (arith, common_steps)
+
+pub returns-then-is_among-clause-ok : goal.returns-then-is_among-clause-ok
+returns-then-is_among-clause-ok g c = grind (arith, common_steps)
+
+pub returns-clause-ok : goal.returns-clause-ok
+returns-clause-ok g c = grind (arith, common_steps)

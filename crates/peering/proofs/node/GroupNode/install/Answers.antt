@@ -1,4 +1,5 @@
-use Rattle.std.proofs.Common.{ap, sym, ◌∙◌, subst, cond, nat_lt, IfOk}
+use Rattle.std.proofs.Common.{ap, sym, ◌∙◌, subst, cond, nat_lt, IfOk, arith}
+use Rattle.std.proofs.lemmas.Grind.{common_steps}
 use Rattle.group_world.specs.Node.{Outcome, nothing, is_waiting}
 use Rattle.group_world.specs.Rules.{arrive, install_after, would_forget}
 use Rattle.peering.specs.Numbered.{IsDone}
@@ -35,3 +36,6 @@ pub arrival-requires : goal.arrival-requires
 arrival-requires g c =
     let n = c.args.self.now in
     or_false (nat_lt c.args.map.interval n.state.interval) (would_forget n.number n.state c.args.map) (sym c.ignores.ensures ∙ c.if-ignores.false)
+
+pub returns-then-ignores-clause-done : goal.returns-then-ignores-clause-done
+returns-then-ignores-clause-done g c = grind (arith, common_steps)

@@ -1,4 +1,5 @@
 use Rattle.std.proofs.Common.{◌≡◌, ◌≤◌, ℕ, ap, ◌∙◌, take, length, sym, arith}
+use Rattle.std.proofs.lemmas.Grind.{common_steps}
 use Rattle.std.proofs.lemmas.List.{length-take-le}
 use Rattle.pg_log.specs.Entries.{requests_of}
 use Rattle.group_world.specs.Node.{committed_list}
@@ -26,3 +27,6 @@ returns-clause-within g c = λ h.
     let t : length (take k es) ≡ k = length-take-le k es l in
     let v : k ≡ c.args.self.now.state.committed = ap (λ n. n.state.committed) c.self.view_is in
     omega arith
+
+pub slice_bounds-begins_with-end : goal.slice_bounds-begins_with-end
+slice_bounds-begins_with-end g c = grind (arith, common_steps)

@@ -1,4 +1,5 @@
-use Rattle.std.proofs.Common.{ap, sym, ◌∙◌, subst, cond}
+use Rattle.std.proofs.Common.{ap, sym, ◌∙◌, subst, cond, arith}
+use Rattle.std.proofs.lemmas.Grind.{common_steps}
 use Rattle.group_world.specs.Node.{Outcome, nothing}
 use Rattle.group_world.specs.Rules.{arrive}
 use Rattle.peering.specs.Numbered.{IsDone}
@@ -13,3 +14,6 @@ returns-clause-done g c =
     let learns = ap (λ b. cond b (nothing n.state) (arrive n.number n.state c.args.map)) (sym c.would_forget.ensures ∙ c.if-would_forget.false) in
     let P : Outcome → Type 0 = λ o. IsDone n c.move_to.new.self a.sent.items o in
     subst P (sym learns) (record { number = c.move_to.ensures.number; state = c.move_to.ensures.state ∙ e.0; sent = e.1; unrefused = arrive_unrefused n.number n.state c.args.map })
+
+pub returns-then-would_forget-clause-done : goal.returns-then-would_forget-clause-done
+returns-then-would_forget-clause-done g c = grind (arith, common_steps)

@@ -1,4 +1,5 @@
-use Rattle.std.proofs.Common.{◌≡◌, List, ap, sym, refl, subst}
+use Rattle.std.proofs.Common.{◌≡◌, List, ap, sym, refl, subst, arith}
+use Rattle.std.proofs.lemmas.Grind.{common_steps}
 use Rattle.pg_log.specs.Requests.{ClientRequest}
 use Rattle.pg_log.specs.Log.{Legal}
 use Rattle.peering_messages.specs.Sending.{IsNextReply}
@@ -13,3 +14,6 @@ returns-in-Ok-clause-reply g c =
     let log : c.self.inside.group ≡ c.args.self.now.state.log = ap (λ n. n.state.log) c.self.view_is in
     λ l. subst P log (next_reply c.legal_lists.ensures.append c.refusals.ensures.requests c.classes_added.ensures table g.C.Classes.classes c.self.inside.group c.args.request c.in-Ok.entry _
     c.requires c.in-Ok.ensures.request c.in-Ok.ensures.unrefused c.in-Ok.ensures.reply (subst L (sym log) l) refl)
+
+pub returns-in-Ok-clause-next : goal.returns-in-Ok-clause-next
+returns-in-Ok-clause-next g c = grind (arith, common_steps)

@@ -1,4 +1,5 @@
 use Rattle.std.proofs.Common.{◌≡◌, ℕ, ◌-◌, ◌≤◌, ◌++◌, List, length, length-drop, drop, min, ap, sym, ◌∙◌, arith}
+use Rattle.std.proofs.lemmas.Grind.{common_steps}
 use Rattle.std.proofs.lemmas.List.{take_all}
 use Rattle.peering.proofs.Raising.{raised_end}
 use Rattle.peering.proofs.node.serve.raised.Goals as goal
@@ -18,3 +19,6 @@ returns-clause-ok c =
     ∙ ap (λ j. c.loop-place.lengths.items ++ drop j ks) (sym p)
     ∙ ap (λ w. c.loop-place.lengths.items ++ w) (sym (raised_end c.args.member c.args.length k ns ks q))
     ∙ c.loop-place.invariant
+
+pub loop-place-preserved : goal.loop-place-preserved
+loop-place-preserved c = grind (arith, common_steps)

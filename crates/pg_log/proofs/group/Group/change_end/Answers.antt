@@ -1,4 +1,5 @@
 use Rattle.std.proofs.Common.{◌≡◌, ◌∙◌, ap, sym, subst, refl, List, ◌++◌, take, drop, length, arith}
+use Rattle.std.proofs.lemmas.Grind.{common_steps}
 use Rattle.std.proofs.lemmas.List.{length-take-le, take-append-drop}
 use Rattle.pg_log.specs.Requests.{ClientRequest}
 use Rattle.pg_log.specs.Places.{ArePlaces, HasRoom}
@@ -58,3 +59,6 @@ put_back-requires-clause-fits g c =
     let cut : length c.split_off.new.self.items ≡ k = ap (λ (w : List Entry). length w) c.in_ok-tail.ensures.items ∙ length-take-le k es c.requires.within.1 in
     let longer = prefix_long c.split_off.new.self.items c.extend.new.entries.items c.extend.ensures.begun in
     omega (arith, cut, longer)
+
+pub put_back-requires-clause-entries_room : goal.put_back-requires-clause-entries_room
+put_back-requires-clause-entries_room g c = grind (arith, common_steps)

@@ -1,4 +1,5 @@
 use Rattle.std.proofs.Common.{◌≡◌, ◌∙◌, ap, sym, refl, arith, rules, [], ◌∷◌, ◌++◌, take, Some, None}
+use Rattle.std.proofs.lemmas.Grind.{common_steps}
 use Rattle.std.specs.List.{slice_get}
 use Rattle.std.proofs.lemmas.Option.{slice_get_read}
 use Rattle.pg_log.specs.Refusals.{refusal}
@@ -45,3 +46,6 @@ loop-k-preserved g c =
       entries_room = omega (arith, c.loop-k.invariant.entries_room, room);
       room = room_twice c.args.places.now c.loop-k.places c.extend_by.new.places c.loop-k.invariant.room c.extend_by.ensures.room;
     }
+
+pub returns-clause-ok : goal.returns-clause-ok
+returns-clause-ok g c = grind (arith, common_steps)

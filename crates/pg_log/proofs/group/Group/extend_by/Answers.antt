@@ -1,4 +1,5 @@
 use Rattle.std.proofs.Common.{◌∙◌, ap, subst, refl, arith, rules, [], ◌∷◌, ◌++◌, inr}
+use Rattle.std.proofs.lemmas.Grind.{common_steps}
 use Rattle.std.proofs.lemmas.Result.{on_ok_weaker, IfErr-weaker}
 use Rattle.object_store.specs.Names.{PlainObjects}
 use Rattle.pg_log.specs.Log.{fold}
@@ -65,3 +66,12 @@ returns-clause-err g c =
 
 pub returns-clause-begun : goal.returns-clause-begun
 returns-clause-begun g c = prefix_added c.add.result c.args.entries.now.items c.add.new.entries.items c.in_ok-entry.entry c.add.ensures.ok c.add.ensures.err
+
+pub returns-clause-room : goal.returns-clause-room
+returns-clause-room g c = grind (arith, common_steps)
+
+pub returns-in_err-entry-clause-begun : goal.returns-in_err-entry-clause-begun
+returns-in_err-entry-clause-begun g c = grind (arith, common_steps)
+
+pub returns-in_err-outcome-clause-begun : goal.returns-in_err-outcome-clause-begun
+returns-in_err-outcome-clause-begun g c = grind (arith, common_steps)

@@ -1,4 +1,5 @@
-use Rattle.std.proofs.Common.{◌≡◌, ◌∙◌, ap, sym, refl, length, rules}
+use Rattle.std.proofs.Common.{◌≡◌, ◌∙◌, ap, sym, refl, length, rules, arith}
+use Rattle.std.proofs.lemmas.Grind.{common_steps}
 use Rattle.object_store.specs.Names.{stored}
 use Rattle.pg_log.specs.Entries.{requests_of, Keeps}
 use Rattle.pg_log.proofs.Kept.{keeps_push, keeps_same, on_err, on_ok, length-requests}
@@ -38,3 +39,9 @@ returns-clause-ok g c =
 
 pub returns-then-is_err-clause-room : goal.returns-then-is_err-clause-room
 returns-then-is_err-clause-room g c = room_twice c.args.places.now c.add.new.self c.remove.new.self c.add.ensures.room c.remove.ensures.room
+
+pub returns-clause-room : goal.returns-clause-room
+returns-clause-room g c = grind (arith, common_steps)
+
+pub apply-requires : goal.apply-requires
+apply-requires g c = grind (arith, common_steps)

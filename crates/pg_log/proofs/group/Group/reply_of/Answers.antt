@@ -1,4 +1,5 @@
 use Rattle.std.proofs.Common.{◌≡◌, ◌∙◌, ap, sym, subst, List, None, arith}
+use Rattle.std.proofs.lemmas.Grind.{common_steps}
 use Rattle.std.proofs.lemmas.Option.{slice_get_within}
 use Rattle.pg_log.specs.Requests.{ClientRequest}
 use Rattle.pg_log.specs.Log.{NumbersRise, reply_at}
@@ -21,3 +22,6 @@ returns-in_err-code g c =
     let none : reply_at classes xs place ≡ None = sym c.reply_at.ensures ∙ ap given_reply c.in_err-code.was in
     let past = (no_reply classes xs place).0 none in
     absurd (omega (arith, within, past))
+
+pub returns : goal.returns
+returns g c = grind (arith, common_steps)

@@ -1,4 +1,5 @@
-use Rattle.std.proofs.Common.{◌≡◌, ◌∙◌, ap, sym, subst, rules, List, ◌++◌, take, drop}
+use Rattle.std.proofs.Common.{◌≡◌, ◌∙◌, ap, sym, subst, rules, List, ◌++◌, take, drop, arith}
+use Rattle.std.proofs.lemmas.Grind.{common_steps}
 use Rattle.std.proofs.lemmas.List.{take-append-drop}
 use Rattle.pg_log.specs.declared.entry.Entry.{Entry}
 use Rattle.pg_log.specs.Requests.{ClientRequest}
@@ -37,3 +38,6 @@ returns-clause-places c =
     let P : List ClientRequest → Type 0 = ArePlaces c.give_back.new.self in
     subst P (ap requests_of all ∙ requests_of-append (take k es) c.args.tail.now.items ∙ ap (λ (w : List ClientRequest). w ++ requests_of c.args.tail.now.items) (requests_of-take es k))
     c.give_back.ensures
+
+pub returns-clause-entries : goal.returns-clause-entries
+returns-clause-entries c = grind (arith, common_steps)

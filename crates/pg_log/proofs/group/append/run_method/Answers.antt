@@ -1,4 +1,5 @@
-use Rattle.std.proofs.Common.{◌∙◌, ap, ℕ, List, subst}
+use Rattle.std.proofs.Common.{◌∙◌, ap, ℕ, List, subst, arith}
+use Rattle.std.proofs.lemmas.Grind.{common_steps}
 use Rattle.std.specs.Option.{option_copied}
 use Rattle.std.proofs.lemmas.Option.{same_Some}
 use Rattle.bpf_decode.specs.Class.{ClassMethod}
@@ -25,3 +26,9 @@ returns-in-Ok-clause-safe c = λ m e.
     let P : ClassMethod → Type 0 = IsSafe in
     let found = c.in-Some.ensures ∙ ap (method_named c.args.class.now) c.method-name.ensures in
     subst P (same_Some c.in-Some.method.now m (found ∙ e)) c.ops.ensures.verified.safe
+
+pub returns-in-Err-InputTooLong-clause-err : goal.returns-in-Err-InputTooLong-clause-err
+returns-in-Err-InputTooLong-clause-err c = grind (arith, common_steps)
+
+pub returns-in-Err-NoMemory-clause-err : goal.returns-in-Err-NoMemory-clause-err
+returns-in-Err-NoMemory-clause-err c = grind (arith, common_steps)

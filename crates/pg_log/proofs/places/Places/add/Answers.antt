@@ -1,4 +1,5 @@
 use Rattle.std.proofs.Common.{◌≡◌, length, arith, ◌∙◌, ap, sym, refl, IsSome, subst, Option, ◌++◌, ◌∷◌, [], Vec, ℕ}
+use Rattle.std.proofs.lemmas.Grind.{common_steps}
 use Rattle.std.specs.declared.alloc.Global.{Global}
 use Rattle.std.specs.Ordering.{nat_cmp}
 use Rattle.std.specs.BTreeMap as tree
@@ -55,3 +56,6 @@ returns-in-None-clause-succeeds c = λ h.
     let m = c.args.self.now.by_client in
     let room : 0 ≡ room_of (tree.get nat_cmp m c.args.client) = ap (λ o. room_of o) c.in-None.ensures.value ∙ ap (λ k. room_of (tree.get nat_cmp m k)) c.get-key.ensures.value in
     absurd (omega (arith, h, room))
+
+pub returns-in_ok-push-in-Some-clause-room : goal.returns-in_ok-push-in-Some-clause-room
+returns-in_ok-push-in-Some-clause-room c = grind (arith, common_steps)

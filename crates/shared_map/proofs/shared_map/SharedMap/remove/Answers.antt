@@ -1,4 +1,5 @@
-use Rattle.std.proofs.Common.{◌-◌, length, is_some, ap, sym, ◌∙◌}
+use Rattle.std.proofs.Common.{◌-◌, length, is_some, ap, sym, ◌∙◌, arith}
+use Rattle.std.proofs.lemmas.Grind.{common_steps}
 use Rattle.std.specs.FinMap as fin
 use Rattle.shared_map.specs.Entries.{sorted}
 use Rattle.shared_map.proofs.Halves.{sorted-without}
@@ -18,3 +19,6 @@ returns-in_ok-self-inside-clause-ok g c =
 pub returns-else-is_some-clause-ok : goal.returns-else-is_some-clause-ok
 returns-else-is_some-clause-ok g c = remove-absent c.args.self.now c.args.key.now
     (ap (λ m. is_some (fin.get m c.args.key.now)) (sym c.self.view_is) ∙ ap is_some (get-map _ c.args.key.now c.self.invariant.1) ∙ ap is_some (sym c.get.ensures) ∙ is_some-copied c.get.result ∙ sym c.is_some.ensures ∙ c.if-is_some.false)
+
+pub overflow_sub-self : goal.overflow_sub-self
+overflow_sub-self g c = grind (arith, common_steps)

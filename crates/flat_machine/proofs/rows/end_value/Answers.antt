@@ -1,0 +1,12 @@
+use Rattle.std.proofs.Common.{arith}
+use Rattle.std.proofs.lemmas.Grind.{common_steps}
+use Rattle.flat_machine.proofs.rows.end_value.Goals as goal
+
+pub returns-then-f-ne0 : goal.returns-then-f-ne0
+returns-then-f-ne0 c = grind (arith, common_steps)
+
+pub returns-in_err-x : goal.returns-in_err-x
+returns-in_err-x c = grind (arith, common_steps)
+
+pub returns : goal.returns
+returns c = grind (arith, common_steps)
