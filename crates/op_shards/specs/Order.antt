@@ -131,7 +131,7 @@ module _ {T : Type 0} where
     pub kept : Kept group items views
     pub mine : get_elem? views by ≡ some v
 
-  -- at one moment of the call, the queue was in order
+  -- there was a moment at which the queue was in order
   abbrev pub WasKept : (T → ℕ) → Hand T → Type 0
   WasKept group v = (items : List (Ranked T)) × KeptWith group v items
 

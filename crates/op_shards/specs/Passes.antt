@@ -141,7 +141,7 @@ module _ {T : Type 0} where
   abbrev pub new_taker : Queues → Taker T
   new_taker queues = record { queues = queues; takers = 1; taken = map (λ _. []) queues.names }
 
-  -- at one moment of the call the shard was in order, and this pass one of its passes
+  -- there was a moment at which the shard was in order, and this pass one of its passes
   abbrev pub SenderWasKept : (T → ℕ) → Sender T → ℕ → Type 0
   SenderWasKept group s shard = WasKept group (sender (shard_of s.queues shard) s.sender (at_shard s.accepted shard))
 

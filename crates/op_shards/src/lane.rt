@@ -106,7 +106,7 @@ impl<T: Op> Dealer<T> {
 }
 
 impl<T: Op> SendLane<T> {
-    /// Puts the operation in. It comes back only if the queue was full at one moment of the call.
+    /// Puts the operation in. It comes back only if the queue was full at one moment.
     pub fn push<R: Wait>(&mut self, rt: &R, queue: &Queue<T>, number: u64, op: T) -> Result<(), T>
         requires queue { self.old.spot.queue ≡ name queue.now }
         requires number { self.old.sender ≡ number }
@@ -151,7 +151,7 @@ impl<T: Op> SendLane<T> {
 }
 
 impl<T: Op> TakeLane<T> {
-    /// Takes the oldest operation. None only if the queue was empty at one moment of the call.
+    /// Takes the oldest operation. None only if the queue was empty at one moment.
     pub fn pop<R: Wait>(&mut self, rt: &R, queue: &Queue<T>) -> Option<Ranked<T>>
         requires queue { self.old.spot.queue ≡ name queue.now }
         requires part { 0 < self.old.parts }

@@ -78,7 +78,8 @@ impl<T: Op, R: Wait> OpShards<T, R> {
         self.queues.len()
     }
 
-    /// Puts the operation at the end of the queue of its group's shard. Full: it comes back, and only if that queue was full at one moment of the call.
+    /// Puts the operation at the end of the queue of its group's shard. Full: it comes back, and only if that queue was full
+    /// at one moment: of the call, which the contract can't say.
     pub fn submit(&self, pass: &mut SendPass<T>, op: T) -> Result<(), T>
         requires { pass.old.queues ≡ self.now.queues }
         ensures queues { pass.new.queues ≡ pass.old.queues }
@@ -93,7 +94,7 @@ impl<T: Op, R: Wait> OpShards<T, R> {
     }
 
     /// Takes the oldest operation of the shard. It is of that shard, and the next of its sender there. None only if the shard's queue was empty at one
-    /// moment of the call.
+    /// moment: of the call, which the contract can't say.
     pub fn take(&self, pass: &mut TakePass<T>, shard: usize) -> Option<T>
         requires pass { pass.old.queues ≡ self.now.queues }
         requires shard { shard < length self.now.queues.names }
