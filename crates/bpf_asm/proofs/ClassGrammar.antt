@@ -231,6 +231,11 @@ pub one_class_if_read : (r : Result (List ClassMethod) AsmError) (text : List �
 one_class_if_read (Err e) text h = tt
 one_class_if_read (Ok v) text h = λ ms t. one_class_reading text v ms h t
 
+-- and what is read is in the grammar
+pub class_text_if_read : (r : Result (List ClassMethod) AsmError) (text : List ℕ) → IfOk r (λ c. read_class_text text ≡ Ok c) → IfOk r (λ c. IsClassText text c)
+class_text_if_read (Err e) text h = tt
+class_text_if_read (Ok v) text h = read_is_class_text text v h
+
 -- the canonical text of a class is in the grammar
 pub class_texts_in_grammar : ClassTextsAreInGrammar
 class_texts_in_grammar ms h = read_is_class_text (class_text ms) ms (class_texts_give_back ms h)

@@ -1,12 +1,12 @@
 -- Lemmas on the reading of classes.
-use Rattle.std.proofs.Common.{◌≡◌, ℕ, ◌+◌, ◌≤◌, ◌<◌, Bool, true, false, ◌&&◌, IsTrue, List, [], ◌∷◌, ◌++◌, length, take, drop, get_or, ◌-◌, Result, Ok, Err, refl, sym, ap, ◌∙◌, arith}
+use Rattle.std.proofs.Common.{◌≡◌, ◌⊎◌, inl, inr, ℕ, ◌+◌, ◌≤◌, ◌<◌, Bool, true, false, ◌&&◌, IsTrue, List, [], ◌∷◌, ◌++◌, length, take, drop, get_or, ◌-◌, Result, Ok, Err, refl, sym, ap, ◌∙◌, arith}
 use Rattle.std.specs.Str.{IsAscii, IsUtf8}
 use Rattle.std.proofs.lemmas.Str.{IsUtf8-from_ascii}
 use Rattle.std.proofs.lemmas.Str.Ascii.{IsAscii-nil, IsAscii-cons}
 use Rattle.std.proofs.lemmas.List.{drop_more, take_all, length-drop}
 use Rattle.std.specs.List.{before_first}
 use Rattle.asm_lines.specs.declared.statement.Statement.{Statement}
-use Rattle.asm_lines.specs.declared.statement.Statement.TheVariants.{Directive}
+use Rattle.asm_lines.specs.declared.statement.Statement.TheVariants.{Empty, Directive}
 use Rattle.std.proofs.lemmas.Bool.Decides.{nat_tests}
 use Rattle.bpf_decode.specs.Instruction.{slot_total}
 use Rattle.bpf_decode.specs.Class.{ClassMethod}
@@ -15,6 +15,8 @@ use Rattle.bpf_decode.specs.Reading.{◌>>=◌}
 use Rattle.bpf_decode.specs.Limits.{between, is_name_byte, are_name_bytes}
 use Rattle.bpf_decode.specs.ImageReading.{after, is_above, method_after, methods_after, class_of}
 use Rattle.asm_lines.specs.declared.fault.AsmFault.{AsmFault}
+use Rattle.asm_lines.specs.declared.fault.AsmError.{AsmError}
+use Rattle.asm_lines.specs.Fault.{no_memory}
 use Rattle.asm_lines.specs.Headers.{MethodHeader, is_header}
 use Rattle.bpf_asm.specs.Classes.{last_name, is_directive, method_at, next_method, class_from}
 use Rattle.bpf_decode.specs.Limits.{is_method_name}
@@ -83,11 +85,29 @@ class_step : (ms : List ClassMethod) (m : ClassMethod) (line : ℕ) (header : Re
 unfolding class_from
 class_step ms m line header rest h = ap (λ r. next_method r (λ n. class_from (ms ++ (n ∷ [])) (line + 1) rest)) h
 
+-- the lines from a place on, by the first of them
+pub line_parts : (lines : List Statement) (i : ℕ) (x y : Statement) → i < length lines → x ≡ get_or lines i x → x ≡ y → drop i lines ≡ y ∷ drop (i + 1) lines
+line_parts lines i x y inside at is = drop_more lines i x inside ∙ ap (λ z. z ∷ drop (i + 1) lines) (sym at ∙ is)
+
+-- reading passes over an empty line
+pub empty_goes_on : (ms : List ClassMethod) (line i : ℕ) (lines : List Statement) (x : Statement) → i < length lines → x ≡ get_or lines i x → x ≡ Empty → class_from ms line (drop i lines) ≡ class_from ms (line + 1) (drop (i + 1) lines)
+unfolding class_from
+empty_goes_on ms line i lines x inside at is = ap (class_from ms line) (line_parts lines i x Empty inside at is)
+
+stopped : (ms : List ClassMethod) (e : AsmError) (line : ℕ) (header : Result MethodHeader AsmFault) (rest : List Statement) → method_at ms line header (before_first is_directive rest) ≡ Err e → class_from ms line (Directive header ∷ rest) ≡ Err e
+unfolding class_from
+stopped ms e line header rest h = ap (λ r. next_method r (λ n. class_from (ms ++ (n ∷ [])) (line + 1) rest)) h
+
+-- reading stops at a method that is refused
+pub class_stops : (ms : List ClassMethod) (e : AsmError) (line i : ℕ) (header : Result MethodHeader AsmFault) (lines : List Statement) (x : Statement) → i < length lines → x ≡ get_or lines i x → x ≡ Directive header → (e ≡ no_memory) ⊎ (method_at ms line header (before_first is_directive (drop (i + 1) lines)) ≡ Err e) → (e ≡ no_memory) ⊎ (class_from ms line (drop i lines) ≡ Err e)
+class_stops ms e line i header lines x inside at is (inl h) = inl h
+class_stops ms e line i header lines x inside at is (inr h) =
+    inr (ap (class_from ms line) (line_parts lines i x (Directive header) inside at is) ∙ stopped ms e line header (drop (i + 1) lines) h)
+
 -- reading goes on behind a method that was read
 pub class_goes_on : (ms : List ClassMethod) (m : ClassMethod) (line i : ℕ) (header : Result MethodHeader AsmFault) (lines : List Statement) (x : Statement) → i < length lines → x ≡ get_or lines i x → x ≡ Directive header → method_at ms line header (before_first is_directive (drop (i + 1) lines)) ≡ Ok m → class_from ms line (drop i lines) ≡ class_from (ms ++ (m ∷ [])) (line + 1) (drop (i + 1) lines)
 class_goes_on ms m line i header lines x inside at is read =
-    let parts : drop i lines ≡ Directive header ∷ drop (i + 1) lines = drop_more lines i x inside ∙ ap (λ y. y ∷ drop (i + 1) lines) (sym at ∙ is) in
-    ap (class_from ms line) parts ∙ class_step ms m line header (drop (i + 1) lines) read
+    ap (class_from ms line) (line_parts lines i x (Directive header) inside at is) ∙ class_step ms m line header (drop (i + 1) lines) read
 
 -- a rest of known length is the rest
 pub rest_whole : (lines : List Statement) (k : ℕ) → take (length lines - k) (drop k lines) ≡ drop k lines

@@ -198,6 +198,11 @@ pub one_if_read : {V : Type 0} (items : V → List Insn) (r : Result V AsmError)
 one_if_read items (Err e) text h = tt
 one_if_read items (Ok v) text h = λ is t. one_reading text (items v) is h t
 
+-- and what is read is in the grammar
+pub text_if_read : {V : Type 0} (items : V → List Insn) (r : Result V AsmError) (text : List ℕ) → IfOk r (λ v. read_text text ≡ Ok (items v)) → IfOk r (λ v. IsMethodText text (items v))
+text_if_read items (Err e) text h = tt
+text_if_read items (Ok v) text h = read_is_text text (items v) h
+
 -- the canonical text is in the grammar
 pub texts_in_grammar : TextsAreInGrammar
 texts_in_grammar is fit some limit = read_is_text (canonical_text is) is (texts_give_back is fit some limit)

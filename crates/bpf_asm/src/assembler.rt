@@ -35,11 +35,19 @@ fn assembled(alloc: Global, lines: &[Statement]) -> Result<Vec<Insn>, AsmError>
     })
 }
 
+/// The instructions of one method's text, as `read_text` reads it.
+#[tactic(auto, unfolding(crate::specs::Bodies::read_text))]
+fn read_text(alloc: Global, text: &str) -> Result<Vec<Insn>, AsmError>
+    ensures { MatchResult result (λ v. read_text text.now ≡ Ok v.items) (λ e. (e ≡ no_memory) ⊎ (read_text text.now ≡ Err e)) }
+{
+    let lines = statements(alloc, text)?;
+    assembled(alloc, &lines)
+}
+
 /// The instructions of one method's text. What is refused is the lowest line that has a fault, with the least fault
 /// there; want of memory may come in place of any answer.
 ///
 /// It costs time by the text's length, and for each label and each jump to one a logarithm of the number of labels.
-#[tactic(auto, using(crate::proofs::GrammarLemmas::read_is_text), unfolding(crate::specs::Bodies::read_text))]
 pub fn assemble(alloc: Global, text: &str) -> Result<Vec<Insn>, AsmError>
     ensures found { IfOk result (λ v. read_text text.now ≡ Ok v.items) }
     ensures refused { IfErr result (λ e. (e ≡ no_memory) ⊎ (read_text text.now ≡ Err e)) }
@@ -50,6 +58,5 @@ pub fn assemble(alloc: Global, text: &str) -> Result<Vec<Insn>, AsmError>
     ensures first { IfErr result (λ e. (e ≡ no_memory) ⊎ RefusesText text.now e) }
     ensures faultless { IfOk result (λ _. IsFaultless text.now) }
 {
-    let lines = statements(alloc, text)?;
-    assembled(alloc, &lines)
+    read_text(alloc, text)
 }

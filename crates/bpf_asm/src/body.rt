@@ -246,5 +246,5 @@ fn is_instruction(line: &Statement) -> bool
 pub(crate) fn has_instruction(lines: &[Statement]) -> bool
     ensures { result ≡ has_instruction lines.now }
 {
-    0 < lines.iter().filter(|line| is_instruction(line)).count()
+    lines.iter().any(is_instruction)
 }

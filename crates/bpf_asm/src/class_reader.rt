@@ -1,12 +1,13 @@
-ghost use Rattle.std.specs.Prelude.{◌≡◌, ◌⊎◌, ◌+◌, ◌<◌, ◌≤◌, ◌^◌, List, [], Ok, Err, IfOk, IfErr, IsTrue, MatchResult, length, string_bytes};
+ghost use Rattle.std.specs.Prelude.{◌≡◌, ◌⊎◌, ◌+◌, ◌<◌, ◌≤◌, ◌^◌, ℕ, true, List, [], Ok, Err, IfOk, OnOk, IfErr, IsTrue, MatchResult, length, drop, string_bytes};
 ghost use Rattle.std.specs.List.{position_or_len};
 ghost use Rattle.bpf_decode.specs.Limits.{are_name_bytes};
-ghost use Rattle.bpf_decode.specs.ImageReading.{method_after, methods_after};
+ghost use Rattle.bpf_decode.specs.ImageReading.{is_above, method_after, methods_after};
 ghost use Rattle.bpf_decode.specs.Class.{ClassMethod};
 ghost use Rattle.bpf_asm.specs.Grammar.{IsClassText};
 ghost use Rattle.asm_lines.specs.Fault.{no_memory};
 ghost use Rattle.bpf_asm.specs.Faults.{RefusesClassText, IsFaultlessClass};
-ghost use Rattle.bpf_asm.specs.Classes.{is_directive, last_name, opening_fault, method_at, class_from, bare_class_fault, class_assembled, read_class_text};
+ghost use Rattle.bpf_asm.specs.Bodies.{body, has_instruction};
+ghost use Rattle.bpf_asm.specs.Classes.{is_directive, last_name, opening_fault, with_body, method_at, class_from, bare_class_fault, class_assembled, read_class_text};
 
 use crate::body::{has_instruction, read_body};
 use asm_lines::{AsmError, AsmFault, Header, Statement, statements};
@@ -28,10 +29,7 @@ fn lines_of_method(lines: &[Statement]) -> usize
     ensures place { result ≡ position_or_len is_directive lines.now }
     ensures bound { result ≤ length lines.now }
 {
-    lines
-        .iter()
-        .position(|line| is_directive(line))
-        .unwrap_or(lines.len())
+    lines.iter().position(is_directive).unwrap_or(lines.len())
 }
 
 /// The last method's name, or none.
@@ -67,8 +65,34 @@ fn text_of(alloc: Global, name: &[u8]) -> Result<String, AllocError>
     String::from_utf8_lossy(alloc, name)
 }
 
-/// The method that begins at a line, with its lines below, behind other methods.
+/// A method of that header, from its lines, of which one at least is an instruction's and whose first has that number.
 #[tactic(auto, using(crate::proofs::ClassLemmas::header_passes))]
+fn with_body(
+    alloc: Global,
+    first: usize,
+    header: &Header,
+    lines: &[Statement],
+) -> Result<Method, AsmError>
+    requires room { first + length lines.now < 2 ^ 64 }
+    requires some { has_instruction lines.now ≡ true }
+    ensures read { MatchResult result (λ m. with_body header.now (body first lines.now) ≡ Ok m) (λ e. (e ≡ no_memory) ⊎ (with_body header.now (body first lines.now) ≡ Err e)) }
+    ensures right { IfOk result (λ m. (before : List ℕ) → is_above before header.now.name ≡ true → method_after before m ≡ Ok m) }
+{
+    let insns = match read_body(alloc, first, lines) {
+        Ok(insns) => insns,
+        Err(error) => return Err(error),
+    };
+    let name = text_of(alloc, header.name())?;
+    Ok(Method::new(
+        name,
+        header.flags(),
+        header.in_cap(),
+        header.out_cap(),
+        insns,
+    ))
+}
+
+/// The method that begins at a line, with its lines below, behind other methods.
 fn method_at(
     alloc: Global,
     done: &[Method],
@@ -81,31 +105,19 @@ fn method_at(
     ensures right { IfOk result (λ m. method_after (last_name [] done.now) m ≡ Ok m) }
     ensures room { IfOk result (λ _. length done.now < METHOD_LIMIT) }
 {
-    let header = match header {
-        Ok(header) => header,
-        Err(fault) => {
-            return Err(AsmError {
-                line,
-                fault: *fault,
-            });
+    match header {
+        Ok(header) => {
+            let bare = !has_instruction(lines);
+            if let Some(fault) = opening_fault(done, bare, header) {
+                return Err(AsmError { line, fault });
+            }
+            with_body(alloc, line + 1, header, lines)
         }
-    };
-    let bare = !has_instruction(lines);
-    if let Some(fault) = opening_fault(done, bare, header) {
-        return Err(AsmError { line, fault });
+        Err(fault) => Err(AsmError {
+            line,
+            fault: *fault,
+        }),
     }
-    let insns = match read_body(alloc, line + 1, lines) {
-        Ok(insns) => insns,
-        Err(error) => return Err(error),
-    };
-    let name = text_of(alloc, header.name())?;
-    Ok(Method::new(
-        name,
-        header.flags(),
-        header.in_cap(),
-        header.out_cap(),
-        insns,
-    ))
 }
 
 /// The fault on the first line of a class's text without instructions.
@@ -122,8 +134,53 @@ fn bare_class_fault(lines: &[Statement]) -> AsmFault
     }
 }
 
+/// Reads the line at a place behind right methods, and puts a method that begins there behind them.
+#[tactic(auto, unfolding(crate::specs::Classes::class_from))]
+fn push_line(
+    alloc: Global,
+    lines: &[Statement],
+    index: usize,
+    methods: &mut Vec<Method>,
+) -> Result<(), AsmError>
+    requires room { length lines.now + 2 < 2 ^ 64 }
+    requires inside { index < length lines.now }
+    requires right { methods_after 0 [] methods.old.items ≡ Ok methods.old.items }
+    requires few { length methods.old.items ≤ METHOD_LIMIT }
+    ensures read { MatchResult result (λ _. class_from methods.old.items (index + 1) (drop index lines.now) ≡ class_from methods.new.items (index + 1 + 1) (drop (index + 1) lines.now)) (λ e. (e ≡ no_memory) ⊎ (class_from methods.old.items (index + 1) (drop index lines.now) ≡ Err e)) }
+    ensures right { OnOk result (methods_after 0 [] methods.new.items ≡ Ok methods.new.items) }
+    ensures few { OnOk result (length methods.new.items ≤ METHOD_LIMIT) }
+{
+    let line = index + 1;
+    match &lines[index] {
+        Statement::Empty => {}
+        Statement::Directive(header) => {
+            let below = &lines[line..];
+            let method = method_at(
+                alloc,
+                methods,
+                line,
+                header,
+                &below[..lines_of_method(below)],
+            );
+            match method {
+                Ok(method) => methods.push(method)?,
+                Err(error) => return Err(error),
+            }
+        }
+        _ => {
+            if methods.is_empty() {
+                return Err(AsmError {
+                    line,
+                    fault: AsmFault::Word,
+                });
+            }
+        }
+    }
+    Ok(())
+}
+
 /// The methods of lines, as `class_from` reads them.
-#[tactic(auto, using(crate::proofs::ClassLemmas::one_more), unfolding(crate::specs::Classes::class_from, bpf_decode::specs::ImageReading::methods_after))]
+#[tactic(auto, unfolding(crate::specs::Classes::class_from, bpf_decode::specs::ImageReading::methods_after))]
 fn methods_of(alloc: Global, lines: &[Statement]) -> Result<Vec<Method>, AsmError>
     requires { length lines.now + 2 < 2 ^ 64 }
     ensures read { MatchResult result (λ v. class_from [] 1 lines.now ≡ Ok v.items) (λ e. (e ≡ no_memory) ⊎ (class_from [] 1 lines.now ≡ Err e)) }
@@ -134,33 +191,8 @@ fn methods_of(alloc: Global, lines: &[Statement]) -> Result<Vec<Method>, AsmErro
     let mut methods = Vec::new(alloc);
     let mut index = 0;
     while index < lines.len() {
-        let line = index + 1;
-        match &lines[index] {
-            Statement::Empty => {}
-            Statement::Directive(header) => {
-                let below = &lines[line..];
-                let method = method_at(
-                    alloc,
-                    &methods,
-                    line,
-                    header,
-                    &below[..lines_of_method(below)],
-                );
-                match method {
-                    Ok(method) => methods.push(method)?,
-                    Err(error) => return Err(error),
-                }
-            }
-            _ => {
-                if methods.is_empty() {
-                    return Err(AsmError {
-                        line,
-                        fault: AsmFault::Word,
-                    });
-                }
-            }
-        }
-        index = line;
+        push_line(alloc, lines, index, &mut methods)?;
+        index += 1;
     }
     if methods.is_empty() {
         return Err(AsmError {
@@ -192,9 +224,17 @@ fn class_assembled(alloc: Global, lines: &[Statement]) -> Result<ClassImage, Asm
     }
 }
 
+/// The class of a text, as `read_class_text` reads it.
+#[tactic(auto, unfolding(crate::specs::Classes::read_class_text))]
+fn read_class_text(alloc: Global, text: &str) -> Result<ClassImage, AsmError>
+    ensures { MatchResult result (λ c. read_class_text text.now ≡ Ok c) (λ e. (e ≡ no_memory) ⊎ (read_class_text text.now ≡ Err e)) }
+{
+    let lines = statements(alloc, text)?;
+    class_assembled(alloc, &lines)
+}
+
 /// The class of a text. What is refused is the lowest line that has a fault, with the least fault there; want of memory
 /// may come in place of any answer. It costs as much as `assemble`.
-#[tactic(auto, using(crate::proofs::ClassGrammar::read_is_class_text), unfolding(crate::specs::Classes::read_class_text))]
 pub fn assemble_class(alloc: Global, text: &str) -> Result<ClassImage, AsmError>
     ensures found { IfOk result (λ c. read_class_text text.now ≡ Ok c) }
     ensures refused { IfErr result (λ e. (e ≡ no_memory) ⊎ (read_class_text text.now ≡ Err e)) }
@@ -205,6 +245,5 @@ pub fn assemble_class(alloc: Global, text: &str) -> Result<ClassImage, AsmError>
     ensures first { IfErr result (λ e. (e ≡ no_memory) ⊎ RefusesClassText text.now e) }
     ensures faultless { IfOk result (λ _. IsFaultlessClass text.now) }
 {
-    let lines = statements(alloc, text)?;
-    class_assembled(alloc, &lines)
+    read_class_text(alloc, text)
 }
