@@ -6,7 +6,9 @@ use Rattle.std.proofs.lemmas.List.{take-append-le, take_at}
 use Rattle.object_store.specs.Names.{PlainObjects}
 use Rattle.pg_log.specs.Requests.{ClientRequest}
 use Rattle.pg_log.specs.Log.{Classes, after, fold, fold_from, reply_to, reply_at}
+use Rattle.pg_log.specs.Refusals.{place_of}
 use Rattle.pg_log.proofs.Lists.{get_before, get_last}
+use Rattle.pg_log.proofs.Standing.{place_of-within}
 
 pub fold_from-append : (classes : Classes) (objects : PlainObjects) (xs ys : List ClientRequest) → fold_from classes objects (xs ++ ys) ≡ fold_from classes (fold_from classes objects xs) ys
 fold_from-append classes objects [] ys = refl
@@ -30,3 +32,10 @@ no_reply classes xs k = (
   λ e. ⊎_elim (λ h. absurd (none-some _ (sym e ∙ ap (reply_to classes (fold classes (take k xs))) h.2))) (λ h. h.0) (slice_get_cases xs k).1,
   λ l. ap (reply_to classes (fold classes (take k xs))) (slice_get_past xs k l),
 )
+
+-- a pair that is logged has a reply
+pub pair_replied : (classes : Classes) (xs : List ClientRequest) (client number place : ℕ) → Some place ≡ place_of client number xs → reply_at classes xs place ≡ None → ⊥
+pair_replied classes xs client number place at none =
+    let within = (place_of-within xs client number place (sym at)).0 in
+    let past = (no_reply classes xs place).0 none in
+    omega (arith, within, past)

@@ -1,5 +1,5 @@
 -- What running a request tells: refusals, one by one, and the outcome.
-use Rattle.std.proofs.Common.{◌≡◌, ℕ, ℤ, ◌<◌, ◌≤◌, true, false, cond, nat_lt, nat_le, List, [], ◌∷◌, ◌++◌, length, Option, Some, None, ap, sym, ◌∙◌, subst, arith}
+use Rattle.std.proofs.Common.{◌≡◌, ℕ, ℤ, ◌<◌, ◌≤◌, true, false, cond, nat_lt, nat_le, List, [], ◌∷◌, ◌++◌, length, Option, Some, None, Result, Ok, Err, IfOk, ap, sym, ◌∙◌, subst, arith}
 use Rattle.std.specs.List.{slice_get, AllByRecursion}
 use Rattle.std.specs.FinMap as fin
 use Rattle.std.specs.Str.{bytes_eq}
@@ -15,6 +15,7 @@ use Rattle.interp.specs.Plain.{method_named}
 use Rattle.interp.specs.declared.outcome.Outcome.{Outcome}
 use Rattle.interp.specs.Plain.{Answers}
 use Rattle.pg_log.specs.declared.group.TheConstants.{LOG_LIMIT}
+use Rattle.pg_log.specs.declared.log_error.LogError.{LogError}
 use Rattle.pg_log.specs.declared.log_error.LogError.TheVariants.{LogFull, StaleNumber, InputTooLong}
 use Rattle.pg_log.specs.declared.entry.Entry.{Entry}
 use Rattle.pg_log.specs.Requests.{ClientRequest}
@@ -116,3 +117,10 @@ entry_made classes xs r o e request code output change legal safe ran =
       safe = subst S (sym request) safe;
       outcome = subst R (sym request) (subst C (sym code) (subst U (sym output) (subst D (sym change) ran)));
     }
+
+-- the same of one that may want memory
+pub entry_copied : (classes : Classes) (xs : List ClientRequest) (r : ClientRequest) (o : Outcome) (made : Result Entry LogError) →
+    IfOk made (λ e. e.request ≡ r) → IfOk made (λ e. e.code ≡ o.code) → IfOk made (λ e. e.output.items ≡ o.output.items) → IfOk made (λ e. e.change ≡ o.change) →
+    Legal classes (xs ++ r ∷ []) → IsSafeRequest classes r → IsOutcomeOn classes (fold classes xs) r o.code o.output.items o.change → IfOk made (λ e. IsNextEntry classes xs e)
+entry_copied classes xs r o (Ok e) request code output change legal safe ran = entry_made classes xs r o e request code output change legal safe ran
+entry_copied classes xs r o (Err e) request code output change legal safe ran = tt

@@ -37,11 +37,7 @@ impl<C: Classes> Group<C> {
         ensures err { IfErr result (λ e. AdoptRefuses table.now self.old list.now e) }
     {
         let common = common_beginning(self.entries(), list);
-        if common == 0 {
-            self.start_over(table, list)?;
-        } else {
-            self.change_from(table, list, common)?;
-        }
+        self.change_from(table, list, common)?;
         Ok(common)
     }
 
@@ -65,42 +61,93 @@ impl<C: Classes> Group<C> {
     ) -> Result<(), LogError>
         requires table { IsPrefix table.now C.classes }
         requires common { take at self.old ≡ take at list.now }
-        requires within { (0 < at) × (at ≤ length self.old) × (at ≤ length list.now) }
+        requires within { (at ≤ length self.old) × (at ≤ length list.now) }
         ensures ok { OnOk result ((self.new ≡ list.now) × (rest_refusal table.now list.now at ≡ None)) }
         ensures refused { OnErr result (self.new ≡ self.old) }
         ensures err { IfErr result (λ e. RestRefuses table.now list.now at e) }
     {
-        let objects = Self::objects_before(self.alloc, &self.entries, &self.objects, at)?;
+        if at == 0 {
+            return self.start_over(table, list);
+        }
         Self::change_end(
             self.alloc,
             table,
             list,
             at,
-            objects,
             &mut self.entries,
             &mut self.objects,
             &mut self.places,
         )
     }
 
-    /// A copy of the objects as they were before the entry of a place, by undoing the changes from the last one back.
-    fn objects_before(
+    /// The same, from a place that isn't the first, of a log's entries, objects and index.
+    fn change_end(
         alloc: Global,
-        entries: &[Entry],
-        objects: &Objects,
+        table: &ClassTable,
+        list: &[Request],
         at: usize,
-    ) -> Result<Objects, LogError>
-        requires within { at ≤ length entries.now }
-        requires kept { AreEntries C.classes fin.empty entries.now }
-        requires folded { objects.now ≡ fold C.classes (requests_of entries.now) }
-        ensures ok { IfOk result (λ o. o ≡ fold C.classes (take at (requests_of entries.now))) }
-        ensures err { IfErr result (λ e. e ≡ LogError.NoMemory) }
+        entries: &mut Vec<Entry>,
+        objects: &mut Objects,
+        places: &mut Places,
+    ) -> Result<(), LogError>
+        requires table { IsPrefix table.now C.classes }
+        requires kept { Keeps C.classes entries.old.items objects.old places.old }
+        requires common { take at (requests_of entries.old.items) ≡ take at list.now }
+        requires within { (0 < at) × (at ≤ length entries.old.items) × (at ≤ length list.now) }
+        ensures ok { OnOk result ((requests_of entries.new.items ≡ list.now) × (rest_refusal table.now list.now at ≡ None)) }
+        ensures refused { OnErr result (entries.new.items ≡ entries.old.items) }
+        ensures err { IfErr result (λ e. RestRefuses table.now list.now at e) }
+        ensures kept { Keeps C.classes entries.new.items objects.new places.new }
     {
         let Ok(mut before) = objects.copy() else {
             return Err(LogError::NoMemory);
         };
-        Self::undo_from(alloc, entries, at, &mut before)?;
-        Ok(before)
+        Self::change_with(
+            alloc,
+            table,
+            list,
+            at,
+            &mut before,
+            entries,
+            objects,
+            places,
+        )
+    }
+
+    /// The same, with a copy of the objects.
+    fn change_with(
+        alloc: Global,
+        table: &ClassTable,
+        list: &[Request],
+        at: usize,
+        before: &mut Objects,
+        entries: &mut Vec<Entry>,
+        objects: &mut Objects,
+        places: &mut Places,
+    ) -> Result<(), LogError>
+        requires table { IsPrefix table.now C.classes }
+        requires kept { Keeps C.classes entries.old.items objects.old places.old }
+        requires common { take at (requests_of entries.old.items) ≡ take at list.now }
+        requires within { (0 < at) × (at ≤ length entries.old.items) × (at ≤ length list.now) }
+        requires copied { before.old ≡ objects.old }
+        ensures ok { OnOk result ((requests_of entries.new.items ≡ list.now) × (rest_refusal table.now list.now at ≡ None)) }
+        ensures refused { OnErr result (entries.new.items ≡ entries.old.items) }
+        ensures err { IfErr result (λ e. RestRefuses table.now list.now at e) }
+        ensures kept { Keeps C.classes entries.new.items objects.new places.new }
+    {
+        Self::undo_from(alloc, entries, at, before)?;
+        let mut tail = entries.split_off(at)?;
+        places.take_back(&tail);
+        match Self::extend(alloc, table, list, at, entries, before, places) {
+            Ok(()) => {
+                mem::swap(objects, before);
+                Ok(())
+            }
+            Err(error) => {
+                put_back(alloc, at, &mut tail, entries, places);
+                Err(error)
+            }
+        }
     }
 
     /// Undoes the changes of the entries from a place on, from the last one back.
@@ -121,41 +168,6 @@ impl<C: Classes> Group<C> {
             undo(alloc, objects, entry.request.object(), &entry.change)?;
         }
         Ok(())
-    }
-
-    /// The same, given the objects before that place, of a log's entries, objects and index.
-    fn change_end(
-        alloc: Global,
-        table: &ClassTable,
-        list: &[Request],
-        at: usize,
-        mut before: Objects,
-        entries: &mut Vec<Entry>,
-        objects: &mut Objects,
-        places: &mut Places,
-    ) -> Result<(), LogError>
-        requires table { IsPrefix table.now C.classes }
-        requires kept { Keeps C.classes entries.old.items objects.old places.old }
-        requires common { take at (requests_of entries.old.items) ≡ take at list.now }
-        requires within { (0 < at) × (at ≤ length entries.old.items) × (at ≤ length list.now) }
-        requires objects { before ≡ fold C.classes (take at (requests_of entries.old.items)) }
-        ensures ok { OnOk result ((requests_of entries.new.items ≡ list.now) × (rest_refusal table.now list.now at ≡ None)) }
-        ensures refused { OnErr result (entries.new.items ≡ entries.old.items) }
-        ensures err { IfErr result (λ e. RestRefuses table.now list.now at e) }
-        ensures kept { Keeps C.classes entries.new.items objects.new places.new }
-    {
-        let mut tail = entries.split_off(at)?;
-        places.take_back(&tail);
-        match Self::extend(alloc, table, list, at, entries, &mut before, places) {
-            Ok(()) => {
-                mem::swap(objects, &mut before);
-                Ok(())
-            }
-            Err(error) => {
-                put_back(alloc, at, &mut tail, entries, places);
-                Err(error)
-            }
-        }
     }
 
     /// Runs the requests of a list from a place on, after those before it. At a refusal those run stay.

@@ -94,8 +94,7 @@ impl<C: Classes> Group<C> {
         ensures err { IfErr result (λ e. Refuses (refusal table.now self.now request.now) e) }
     {
         let outcome = self.run(table, request)?;
-        let entry = entry_of_copy(self.alloc, request, outcome)?;
-        Ok(entry)
+        entry_of_copy(self.alloc, request, outcome)
     }
 
     /// What a request that may follow the log makes of its object. It changes nothing.

@@ -23,3 +23,6 @@ pub returns-clause-stays : goal.returns-clause-stays
 returns-clause-stays g c =
     let R : List Entry → Type 0 = λ w. Keeps g.C.Classes.classes w c.put.new.objects c.put.new.places in
     on_err_weaker c.put.result (λ h. subst R (c.deref.ensures.value ∙ c.reserve.ensures.items) h) c.put.ensures.stays
+
+pub returns-clause-room : goal.returns-clause-room
+returns-clause-room g c = c.put.ensures.room

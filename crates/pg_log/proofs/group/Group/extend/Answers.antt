@@ -1,7 +1,8 @@
-use Rattle.std.proofs.Common.{◌≡◌, ◌∙◌, ap, sym, refl, arith, rules, [], ◌∷◌, ◌++◌, take, Some, None}
+use Rattle.std.proofs.Common.{◌≡◌, ◌∙◌, ap, sym, refl, arith, [], ◌∷◌, ◌++◌, take, Some, None}
 use Rattle.std.proofs.lemmas.Grind.{common_steps}
 use Rattle.std.specs.List.{slice_get}
 use Rattle.std.proofs.lemmas.Option.{slice_get_read}
+use Rattle.std.proofs.lemmas.Result.{err_from_is_err_and}
 use Rattle.pg_log.specs.Refusals.{refusal}
 use Rattle.pg_log.proofs.Lists.{take_get}
 use Rattle.pg_log.proofs.Adopted.{prefix_on, rest_refuses, rest_more}
@@ -15,11 +16,9 @@ returns-in_err-extend_by-clause-err g c =
     let k = c.loop-k.k in
     let r = c.index-list-k.result in
     let at : slice_get list k ≡ Some r = slice_get_read list _ k r refl c.loop-k-test.true c.index-list-k.is in
-    search (
-      rules,
-      rest_refuses table list c.args.at k r c.in_err-extend_by.field-0.0 c.requires.within.0 at c.loop-k.invariant.left
-          (rw (sym c.loop-k.invariant.done) c.in_err-extend_by.ensures.err),
-    )
+    let p = err_from_is_err_and c.from_residual.result c.from_residual.ensures.1 in
+    rw (p.1, p.2) (rest_refuses table list c.args.at k r c.in_err-extend_by.field-0.0 c.requires.within.0 at c.loop-k.invariant.left
+    (rw (sym c.loop-k.invariant.done) c.in_err-extend_by.ensures.err))
 
 pub returns-in_err-extend_by-clause-begun : goal.returns-in_err-extend_by-clause-begun
 returns-in_err-extend_by-clause-begun g c = prefix_on c.args.entries.now.items c.loop-k.entries.items c.extend_by.new.entries.items c.loop-k.invariant.begun c.extend_by.ensures.begun

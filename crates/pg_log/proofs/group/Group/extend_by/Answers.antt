@@ -1,6 +1,6 @@
-use Rattle.std.proofs.Common.{◌∙◌, ap, subst, refl, arith, rules, [], ◌∷◌, ◌++◌, inr}
+use Rattle.std.proofs.Common.{◌∙◌, ap, subst, refl, arith, [], ◌∷◌, ◌++◌, inr}
 use Rattle.std.proofs.lemmas.Grind.{common_steps}
-use Rattle.std.proofs.lemmas.Result.{on_ok_weaker, IfErr-weaker}
+use Rattle.std.proofs.lemmas.Result.{on_ok_weaker, IfErr-weaker, err_from_is_err_and}
 use Rattle.object_store.specs.Names.{PlainObjects}
 use Rattle.pg_log.specs.Log.{fold}
 use Rattle.pg_log.specs.Refusals.{refusal, Refuses}
@@ -16,7 +16,8 @@ returns-in_err-outcome-clause-err g c =
     let kept = c.requires.kept in
     let n = length-requests es (requests_of es) refl in
     let fact : Refuses (refusal c.args.table.now (requests_of es) c.args.request.now) c.in_err-outcome.field-0.0 = c.in_err-outcome.ensures.err (requests_of es) (omega arith) kept.indexed kept.legal.rise in
-    search (rules, fact)
+    let p = err_from_is_err_and c.from_residual.result c.from_residual.ensures.1 in
+    rw (p.1, p.2) fact
 
 pub returns-in_err-entry-clause-err : goal.returns-in_err-entry-clause-err
 returns-in_err-entry-clause-err g c =
@@ -25,7 +26,8 @@ returns-in_err-entry-clause-err g c =
     let n = length-requests es (requests_of es) refl in
     let ran = c.in_ok-outcome.ensures.ok (requests_of es) (omega arith) kept.indexed kept.legal.rise in
     let fact : Refuses (refusal c.args.table.now (requests_of es) c.args.request.now) c.in_err-entry.field-0.0 = inr (c.in_err-entry.ensures.err, ran.0) in
-    search (rules, fact)
+    let p = err_from_is_err_and c.from_residual-in_err-entry.result c.from_residual-in_err-entry.ensures.1 in
+    rw (p.1, p.2) fact
 
 pub add-requires-clause-next : goal.add-requires-clause-next
 add-requires-clause-next g c =

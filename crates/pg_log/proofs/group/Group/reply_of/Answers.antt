@@ -1,27 +1,27 @@
-use Rattle.std.proofs.Common.{◌≡◌, ◌∙◌, ap, sym, subst, List, None, arith}
-use Rattle.std.proofs.lemmas.Grind.{common_steps}
-use Rattle.std.proofs.lemmas.Option.{slice_get_within}
+use Rattle.std.proofs.Common.{◌≡◌, ◌∙◌, ap, sym, subst, List, Some, FitsSigned, w64, rules}
+use Rattle.std.specs.Int.{cast_unsigned}
+use Rattle.std.proofs.lemmas.Int.{to_z-of_z}
 use Rattle.pg_log.specs.Requests.{ClientRequest}
-use Rattle.pg_log.specs.Log.{NumbersRise, reply_at}
+use Rattle.pg_log.specs.Log.{NumbersRise}
 use Rattle.pg_log.specs.Places.{ArePlaces}
-use Rattle.pg_log.specs.Entries.{given_reply}
-use Rattle.pg_log.proofs.Fold.{no_reply}
-use Rattle.pg_log.proofs.Standing.{place_of-has}
+use Rattle.pg_log.proofs.Fold.{pair_replied}
 use Rattle.pg_log.proofs.group.Group.reply_of.Goals as goal
 
 pub returns-in_err-code : goal.returns-in_err-code
 returns-in_err-code g c =
-    let classes = g.C.Classes.classes in
     let xs = c.args.self.now in
     let place = c.in_ok-place.place in
     let P : List ClientRequest → Type 0 = ArePlaces c.self.inside.places in
     let R : List ClientRequest → Type 0 = NumbersRise in
     let at = c.in_ok-place.ensures xs (subst P c.self.view_is c.self.invariant.indexed) (subst R c.self.view_is c.self.invariant.legal.rise) in
-    let w = place_of-has xs c.args.client c.args.number place (sym at) in
-    let within = slice_get_within xs place w.0 w.1 in
-    let none : reply_at classes xs place ≡ None = sym c.reply_at.ensures ∙ ap given_reply c.in_err-code.was in
-    let past = (no_reply classes xs place).0 none in
-    absurd (omega (arith, within, past))
+    absurd (pair_replied g.C.Classes.classes xs c.args.client c.args.number place at (sym c.in_err-code.ensures))
 
 pub returns : goal.returns
-returns g c = grind (arith, common_steps)
+returns g c =
+    let xs = c.args.self.now in
+    let P : List ClientRequest → Type 0 = ArePlaces c.self.inside.places in
+    let R : List ClientRequest → Type 0 = NumbersRise in
+    let at = c.in_ok-place.ensures xs (subst P c.self.view_is c.self.invariant.indexed) (subst R c.self.view_is c.self.invariant.legal.rise) in
+    let code = c.in_ok-code.code in
+    let fits : FitsSigned w64 code = search rules in
+    (sym at, sym c.in_ok-code.ensures ∙ sym (ap (λ n. Some (record { code = cast_unsigned w64 n; output = c.in_ok-code.output.now })) (to_z-of_z w64 code fits)))

@@ -1,6 +1,7 @@
-use Rattle.std.proofs.Common.{◌≡◌, ◌∙◌, ap, refl, Some, None, take, drop, ◌+◌, sym, ◌⊎◌, [], ◌∷◌, ◌++◌, rules}
+use Rattle.std.proofs.Common.{◌≡◌, ◌∙◌, ap, refl, Some, None, take, drop, ◌+◌, sym, ◌⊎◌, [], ◌∷◌, ◌++◌}
 use Rattle.std.specs.List.{slice_get}
 use Rattle.std.proofs.lemmas.Option.{slice_get_read}
+use Rattle.std.proofs.lemmas.Result.{err_from_is_err_and}
 use Rattle.pg_log.specs.declared.log_error.LogError.TheVariants.{NoMemory}
 use Rattle.pg_log.specs.Refusals.{refusal, or_else, first_refusal, first_refusal_from, SomeCanRun, Refuses}
 use Rattle.pg_log.proofs.Lists.{take_get, drop_get}
@@ -18,7 +19,8 @@ returns-in_err-run_next-clause-err g c =
     let at : slice_get list k ≡ Some r = slice_get_read list _ k r refl c.loop-request-test.true c.request-item.is in
     let why : Refuses (refusal table (take k list) r) e = rw (sym c.loop-request.invariant.done) c.in_err-run_next.ensures.err in
     let fact : (first_refusal table list ≡ Some e) ⊎ ((e ≡ NoMemory) × SomeCanRun table list) = list_refuses table list k r e at c.loop-request.invariant.run c.loop-request.invariant.left why in
-    search (rules, fact)
+    let p = err_from_is_err_and c.from_residual.result c.from_residual.ensures.1 in
+    rw (p.1, p.2) fact
 
 pub loop-request-preserved : goal.loop-request-preserved
 loop-request-preserved g c =

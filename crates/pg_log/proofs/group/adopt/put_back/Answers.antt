@@ -1,4 +1,4 @@
-use Rattle.std.proofs.Common.{◌≡◌, ◌∙◌, ap, sym, subst, rules, List, ◌++◌, take, drop, arith}
+use Rattle.std.proofs.Common.{◌≡◌, ◌∙◌, ap, sym, subst, cond, List, ◌++◌, take, drop, arith}
 use Rattle.std.proofs.lemmas.Grind.{common_steps}
 use Rattle.std.proofs.lemmas.List.{take-append-drop}
 use Rattle.pg_log.specs.declared.entry.Entry.{Entry}
@@ -13,7 +13,9 @@ pub give_back-requires-clause-places : goal.give_back-requires-clause-places
 give_back-requires-clause-places c =
     let es = c.args.entries.now.items in
     let k = c.args.at in
-    let all : c.deref-2.result.now ≡ take k es ++ c.args.tail.now.items = search rules in
+    let all : c.deref-2.result.now ≡ take k es ++ c.args.tail.now.items =
+    c.deref-2.ensures.value ∙ c.append.ensures.items ∙ ap (λ b. cond b (c.truncate.new.self.items ++ c.args.tail.now.items) c.truncate.new.self.items) c.if-is_err.ensures.negation
+    ∙ ap (λ (w : List Entry). w ++ c.args.tail.now.items) c.truncate.ensures.items in
     let P : List ClientRequest → Type 0 = ArePlaces c.take_back.new.self in
     let Q : List ClientRequest → Type 0 = ArePlaces c.args.places.now in
     let whole = sym (take-append-drop k (requests_of es)) ∙ ap (λ (w : List ClientRequest). take k (requests_of es) ++ w)
@@ -25,7 +27,9 @@ pub give_back-requires-clause-room : goal.give_back-requires-clause-room
 give_back-requires-clause-room c =
     let es = c.args.entries.now.items in
     let k = c.args.at in
-    let all : c.deref-2.result.now ≡ take k es ++ c.args.tail.now.items = search rules in
+    let all : c.deref-2.result.now ≡ take k es ++ c.args.tail.now.items =
+    c.deref-2.ensures.value ∙ c.append.ensures.items ∙ ap (λ b. cond b (c.truncate.new.self.items ++ c.args.tail.now.items) c.truncate.new.self.items) c.if-is_err.ensures.negation
+    ∙ ap (λ (w : List Entry). w ++ c.args.tail.now.items) c.truncate.ensures.items in
     let P : List ClientRequest → Type 0 = HasRoom c.take_back.new.self in
     subst P (sym (ap requests_of all ∙ requests_of-append (take k es) c.args.tail.now.items ∙ ap (λ (w : List ClientRequest). w ++ requests_of c.args.tail.now.items) (requests_of-take es k)))
     (room_later c.args.places.now c.take_back.new.self _ c.requires.room c.take_back.ensures.room)
@@ -34,7 +38,9 @@ pub returns-clause-places : goal.returns-clause-places
 returns-clause-places c =
     let es = c.args.entries.now.items in
     let k = c.args.at in
-    let all : c.deref-2.result.now ≡ take k es ++ c.args.tail.now.items = search rules in
+    let all : c.deref-2.result.now ≡ take k es ++ c.args.tail.now.items =
+    c.deref-2.ensures.value ∙ c.append.ensures.items ∙ ap (λ b. cond b (c.truncate.new.self.items ++ c.args.tail.now.items) c.truncate.new.self.items) c.if-is_err.ensures.negation
+    ∙ ap (λ (w : List Entry). w ++ c.args.tail.now.items) c.truncate.ensures.items in
     let P : List ClientRequest → Type 0 = ArePlaces c.give_back.new.self in
     subst P (ap requests_of all ∙ requests_of-append (take k es) c.args.tail.now.items ∙ ap (λ (w : List ClientRequest). w ++ requests_of c.args.tail.now.items) (requests_of-take es k))
     c.give_back.ensures

@@ -1,4 +1,4 @@
-use Rattle.std.proofs.Common.{◌≡◌, ◌<◌, ◌∙◌, ap, sym, subst, refl, arith, rules, List, [], ◌∷◌, ◌++◌, length, take, ◌+◌, ◌-◌, Some, append-nil, append_assoc}
+use Rattle.std.proofs.Common.{◌≡◌, ◌<◌, ◌∙◌, ap, sym, subst, refl, arith, List, [], ◌∷◌, ◌++◌, length, take, ◌+◌, ◌-◌, Some, get_or, append-nil, append_assoc}
 use Rattle.std.specs.List.{slice_get}
 use Rattle.std.proofs.lemmas.Option.{slice_get_read}
 use Rattle.pg_log.specs.Requests.{ClientRequest}
@@ -15,7 +15,8 @@ loop-back-preserved c =
     let k = length es - (c.loop-back.back + 1) in
     let e = c.index-entries-entries.result in
     let within : k < length es = omega (arith, c.loop-back-test.true) in
-    let at : slice_get es k ≡ Some e = search (rules, slice_get_read es _ k e refl within) in
+    let less : length es - 1 - c.loop-back.back ≡ k = omega arith in
+    let at : slice_get es k ≡ Some e = slice_get_read es _ k e refl within (c.index-entries-entries.is ∙ ap (λ n. get_or es n e) less) in
     let more : length es - c.loop-back.back ≡ k + 1 = omega (arith, c.loop-back-test.true) in
     let last : requests_of (take (length es - c.loop-back.back) es) ≡ requests_of (take k es) ++ e.request ∷ [] =
     ap (λ n. requests_of (take n es)) more ∙ ap requests_of (take_get es k e at) ∙ requests_of-push (take k es) e in
