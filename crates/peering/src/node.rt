@@ -214,7 +214,11 @@ impl<C: Classes> GroupNode<C> {
                 self.replicate(table, sender, interval, place, request)
             }
             Kind::Ack(interval, length) => self.acknowledge(table, sender, interval, length),
-            Kind::AskActivate(_) | Kind::Reply(_, _, _, _) => Ok(Vec::new(self.alloc)),
+            Kind::AskActivate(_) => Ok(Vec::new(self.alloc)),
+            Kind::Reply(_, _, _, answer) => {
+                drop(answer);
+                Ok(Vec::new(self.alloc))
+            }
         }
     }
 }

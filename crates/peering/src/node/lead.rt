@@ -32,17 +32,14 @@ impl<C: Classes> GroupNode<C> {
         ensures err { OnErr result (self.new ≡ self.old) }
         ensures why { IfErr result (λ e. e ≡ HandleError.NoMemory) }
     {
-        if interval != self.interval || self.status != Status::Asking {
+        if !self.is_at(interval, Status::Asking) {
             return Ok(Vec::new(self.alloc));
         }
         let adopted = installing(self.alloc, self.number, self.interval, &self.members, list)?;
         if !self.take_list(table, list)? {
             return Ok(Vec::new(self.alloc));
         }
-        self.status = Status::Installing;
-        self.joined = adopted.joined;
-        self.acked.clear();
-        Ok(adopted.sent)
+        Ok(adopted.installs(self))
     }
 
     /// Makes the log a received list, where it is usable. Else, and at an error, nothing changes.
@@ -114,7 +111,7 @@ impl<C: Classes> GroupNode<C> {
         ensures err { OnErr result (self.new ≡ self.old) }
         ensures why { IfErr result (λ e. e ≡ HandleError.NoMemory) }
     {
-        if interval != self.interval || self.status != Status::Installing {
+        if !self.is_at(interval, Status::Installing) {
             return Ok(Vec::new(self.alloc));
         }
         let length = self.group.len();

@@ -1,8 +1,10 @@
 //! A node at a map: learning it, and what it does at a Query or an Install that carries one.
-ghost use Rattle.std.specs.Prelude.{◌≡◌, ◌≤◌, ◌++◌, ◌∷◌, [], length, unwrap_or, false, Some, IfOk, IfErr, OnOk, OnErr};
+ghost use Rattle.std.specs.Prelude.{◌≡◌, ◌≤◌, ◌++◌, ◌∷◌, [], length, unwrap_or, false, Some, ◌&&◌, ◌==◌, IfOk, IfErr, OnOk, OnErr};
+ghost use denote.Enum.Bare.{sameb};
 ghost use mathlib.Core.List.{IsPrefix};
 ghost use Rattle.pg_log.specs.Log.{Legal};
 ghost use Rattle.group_world.specs.Node.{is_waiting, packet};
+ghost use Rattle.group_world.specs.contracts.status.Status.{the_type};
 ghost use Rattle.group_world.specs.Rules.{would_forget, ignores, learn_map, answer_query, install};
 ghost use Rattle.peering.specs.Numbered.{IsDone};
 ghost use Rattle.peering_messages.specs.Sending.{adopted_sent};
@@ -16,11 +18,58 @@ use placement::NodeId;
 use std::alloc::Global;
 
 /// What a node is to do at a map: its new status, where it moves, who has installed then, and what it sends.
-#[derive(Drop)]
 pub(crate) struct Arrival {
     pub status: Option<Status>,
     pub joined: Vec<NodeId>,
     pub sent: Vec<Packet>,
+}
+
+// Written out, so that each way out drops it with one call.
+impl Drop for Arrival {
+    fn drop(self) {
+        let Arrival {
+            status: _,
+            joined,
+            sent,
+        } = self;
+        drop(joined);
+        drop(sent);
+    }
+}
+
+impl Arrival {
+    /// Moves a node to the map, or lets it stay, and gives what it sends. It takes no memory.
+    fn moves<C: Classes>(self, node: &mut GroupNode<C>, map: GroupMap) -> Vec<Packet>
+        requires { node.old.state.committed ≤ length (log_after node.old.state self.status) }
+        ensures number { node.new.number ≡ node.old.number }
+        ensures state { node.new.state ≡ after_move node.old.state map self.status self.joined.items }
+        ensures sent { result.items ≡ self.sent.items }
+    {
+        let Arrival {
+            status,
+            joined,
+            sent,
+        } = self;
+        node.move_to(map, status, joined);
+        sent
+    }
+
+    /// Has a node install the list that it took as its log, and gives what it sends. It takes no memory.
+    pub(crate) fn installs<C: Classes>(self, node: &mut GroupNode<C>) -> Vec<Packet>
+        ensures number { node.new.number ≡ node.old.number }
+        ensures state { node.new.state ≡ record (node.old.state) { status = Status.Installing; joined = self.joined.items; acked = [] } }
+        ensures sent { result.items ≡ self.sent.items }
+    {
+        let Arrival {
+            status: _,
+            joined,
+            sent,
+        } = self;
+        node.status = Status::Installing;
+        node.joined = joined;
+        node.acked.clear();
+        sent
+    }
 }
 
 impl<C: Classes> GroupNode<C> {
@@ -34,8 +83,7 @@ impl<C: Classes> GroupNode<C> {
             return Ok(Vec::new(self.alloc));
         }
         let arrival = self.arrival(&map)?;
-        self.move_to(map, arrival.status, arrival.joined);
-        Ok(arrival.sent)
+        Ok(arrival.moves(self, map))
     }
 
     /// Answers a Query: moves to its map first, then sends its list to the asker.
@@ -52,8 +100,7 @@ impl<C: Classes> GroupNode<C> {
             return Ok(Vec::new(self.alloc));
         }
         let arrival = self.answering(asker, &map)?;
-        self.move_to(map, arrival.status, arrival.joined);
-        Ok(arrival.sent)
+        Ok(arrival.moves(self, map))
     }
 
     /// What it is to do at the map of a Query that it doesn't ignore.
@@ -144,9 +191,9 @@ impl<C: Classes> GroupNode<C> {
             return Ok(Vec::new(self.alloc));
         }
         let _ = self.committed();
-        self.move_to(map, arrival.status, arrival.joined);
+        let sent = arrival.moves(self, map);
         self.status = Status::Installed;
-        Ok(arrival.sent)
+        Ok(sent)
     }
 
     /// Says of an Install that it has installed, where it has once it has moved.
@@ -164,8 +211,7 @@ impl<C: Classes> GroupNode<C> {
         if let Status::Installed = self.status_after(arrival.status) {
             self.send_installed(sender, &map, arrival.status, &mut arrival.sent)?;
         }
-        self.move_to(map, arrival.status, arrival.joined);
-        Ok(arrival.sent)
+        Ok(arrival.moves(self, map))
     }
 }
 
@@ -185,6 +231,13 @@ impl<C: Classes> GroupNode<C> {
         ensures { result ≡ ignores self.now.number self.now.state map.now }
     {
         map.interval().get() < self.interval.get() || self.would_forget(map)
+    }
+
+    /// Whether it is in that interval, with that status.
+    pub(crate) fn is_at(&self, interval: Epoch, status: Status) -> bool
+        ensures { result ≡ ((interval == self.now.state.interval) && sameb the_type self.now.state.status status) }
+    {
+        interval == self.interval && self.status == status
     }
 
     /// What it is to do at a map that it doesn't ignore.

@@ -1,10 +1,11 @@
 //! An active primary and its members: requests, their replication, and acknowledgements.
-ghost use Rattle.std.specs.Prelude.{◌≡◌, ◌≤◌, ◌+◌, ◌++◌, ◌∷◌, [], length, max, if◌then◌else◌, is_none, IfOk, IfErr, OnErr, None, Some};
+ghost use Rattle.std.specs.Prelude.{◌≡◌, ◌≤◌, ◌+◌, ◌++◌, ◌∷◌, [], length, max, if◌then◌else◌, is_none, IfOk, IfErr, OnOk, OnErr, None, Some};
 ghost use mathlib.Core.List.{IsPrefix};
 ghost use Rattle.pg_log.specs.Log.{Legal, reply_at};
 ghost use Rattle.std.specs.Int.{w64, cast_unsigned};
 ghost use Rattle.pg_log.specs.Refusals.{place_of, refusal};
-ghost use Rattle.group_world.specs.Rules.{request as request_step, request_at, append_new, replicate, acknowledge, least_of, raised};
+ghost use Rattle.group_world.specs.Node.{nothing};
+ghost use Rattle.group_world.specs.Rules.{request as request_step, request_at, append_new, and_acks, replicate, acknowledge, least_of, raised};
 ghost use Rattle.pg_log.specs.Entries.{IsNextEntry};
 ghost use Rattle.peering.specs.Numbered.{IsDone, IsRefusal};
 ghost use Rattle.peering_messages.specs.Sending.{IsNextReply};
@@ -218,16 +219,36 @@ impl<C: Classes> GroupNode<C> {
         ensures why { IfErr result (λ e. e ≡ HandleError.NoMemory) }
     {
         let mut sent = Vec::with_capacity(self.alloc, 1)?;
-        let length = self.group.len();
-        if interval != self.interval || self.status != Status::Installed || length < place {
-            return Ok(sent);
-        }
-        if place == length && !self.follow(table, request)? {
+        if !self.takes_rep(table, interval, place, request)? {
             return Ok(sent);
         }
         let kind = Kind::Ack(self.interval, self.group.len());
         sent.push_reserved(packet(self.number, sender, kind));
         Ok(sent)
+    }
+
+    /// Appends the request of a Rep where it is the next and may follow, and says whether to acknowledge the Rep.
+    fn takes_rep(
+        &mut self,
+        table: &ClassTable,
+        interval: Epoch,
+        place: Place,
+        request: Request,
+    ) -> Result<bool, HandleError>
+        requires table { IsPrefix table.now C.classes }
+        ensures number { OnOk result (self.new.number ≡ self.old.number) }
+        ensures acks { IfOk result (λ acks. (sender : Party) → (if acks then and_acks self.old.number sender self.new.state else nothing self.new.state) ≡ replicate table.now self.old.number self.old.state sender interval place request) }
+        ensures err { OnErr result (self.new ≡ self.old) }
+        ensures why { IfErr result (λ e. e ≡ HandleError.NoMemory) }
+    {
+        if !self.is_at(interval, Status::Installed) {
+            return Ok(false);
+        }
+        let length = self.group.len();
+        if place == length {
+            return self.follow(table, request);
+        }
+        Ok(place < length)
     }
 
     /// Appends a request where it may follow the log, and says whether. Else, and at an error, nothing changes.
@@ -266,7 +287,7 @@ impl<C: Classes> GroupNode<C> {
         let Party::Node(member) = sender else {
             return Ok(Vec::new(self.alloc));
         };
-        if interval != self.interval || self.status != Status::Active {
+        if !self.is_at(interval, Status::Active) {
             return Ok(Vec::new(self.alloc));
         }
         let acting = self.members.acting();

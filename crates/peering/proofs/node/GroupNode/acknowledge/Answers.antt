@@ -1,11 +1,11 @@
 use Rattle.std.proofs.Common.{◌≡◌, ◌&&◌, refl, false, ℕ, true, List, ap, drop, eqb, length, max, sym, take, ◌∙◌, subst, arith}
+use Rattle.std.proofs.lemmas.Bool.{and_parts}
 use Rattle.std.proofs.lemmas.Grind.{common_steps}
 use Rattle.pg_log.specs.Requests.{ClientRequest}
 use Rattle.pg_log.specs.Log.{Legal}
 use Rattle.group_world.specs.Node.{is_active}
 use Rattle.group_world.specs.Rules.{least_of, raised, replies_from}
-use Rattle.peering.proofs.Statuses.{acknowledges, acknowledges_not, active_is, not_false, not_second, not_true}
-use Rattle.peering.proofs.node.GroupNode.acknowledge.Goals.{then-ne-via-then-ne, then-ne-via-else-ne+then-ne-2}
+use Rattle.peering.proofs.Statuses.{acknowledges, acknowledges_not, active_is}
 use Rattle.peering.proofs.node.GroupNode.acknowledge.Goals as goal
 
 pub replies-requires-clause-legal : goal.replies-requires-clause-legal
@@ -18,10 +18,9 @@ returns-clause-done g c =
     let n = c.args.self.now in
     let s = n.state in
     let lengths : List ℕ = raised c.in-Node.member c.args.length s.members.acting s.acked in
-    let same : eqb c.args.interval s.interval ≡ true =
-    ap (λ z. eqb c.args.interval z.state.interval) (sym c.self.view_is) ∙ not_false (eqb c.args.interval c.self.inside.interval) (sym c.if-ne.false ∙ c.ne.ensures) in
-    let active : is_active s.status ≡ true =
-    ap (λ z. is_active z.state.status) (sym c.self.view_is) ∙ sym (active_is c.self.inside.status) ∙ not_false _ (sym c.if-ne-2.false ∙ c.ne-else-ne.ensures) in
+    let at = and_parts _ _ (sym c.is_at.ensures ∙ c.if-not-is_at.false) in
+    let same : eqb c.args.interval s.interval ≡ true = at.0 in
+    let active : is_active s.status ≡ true = sym (active_is s.status) ∙ at.1 in
     let h = acknowledges c.args.table.now n.number c.in-Node.member s c.args.sender c.args.interval c.args.length c.in-Node.is same active in
     let acked : c.in_ok-acked.acked.items ≡ lengths =
     c.in_ok-acked.ensures.ok ∙ ap (λ w. raised c.in-Node.member c.args.length w c.deref.result.now) c.acting-acting.ensures
@@ -41,24 +40,17 @@ returns-clause-done g c =
       unrefused = ap (λ o. o.refusal) (sym h);
     }
 
-pub returns-then-ne-clause-done : goal.returns-then-ne-clause-done
-returns-then-ne-clause-done g c =
+pub returns-then-not-is_at-clause-done : goal.returns-then-not-is_at-clause-done
+returns-then-not-is_at-clause-done g c =
     let n = c.args.self.now in
     let s = n.state in
     let apart : (eqb c.args.interval s.interval && is_active s.status) ≡ false =
-    elim c.then-ne.branch [
-      | then-ne-via-then-ne w ↦
-          ap (λ v. eqb c.args.interval v.state.interval && is_active s.status) (sym c.self.view_is)
-          ∙ ap (λ b. b && is_active s.status) (not_true (eqb c.args.interval c.self.inside.interval) (sym w.if-ne.true ∙ c.ne.ensures))
-      | then-ne-via-else-ne+then-ne-2 w ↦
-          not_second (eqb c.args.interval s.interval) (is_active s.status)
-          (ap (λ v. is_active v.state.status) (sym c.self.view_is) ∙ sym (active_is c.self.inside.status) ∙ not_true _ (sym w.if-ne-2.true ∙ w.ne-else-ne.ensures))
-    ] in
+    ap (λ b. eqb c.args.interval s.interval && b) (sym (active_is s.status)) ∙ sym c.is_at.ensures ∙ c.if-not-is_at.true in
     let h = acknowledges_not c.args.table.now n.number c.in-Node.member s c.args.sender c.args.interval c.args.length c.in-Node.is apart in
     record {
       number = refl;
       state = ap (λ o. o.node) h;
-      sent = c.new-then-ne.ensures.items ∙ ap (λ o. o.sent) h;
+      sent = c.new-then-not-is_at.ensures.items ∙ ap (λ o. o.sent) h;
       unrefused = ap (λ o. o.refusal) (sym h);
     }
 

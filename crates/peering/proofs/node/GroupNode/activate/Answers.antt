@@ -1,18 +1,17 @@
 use Rattle.std.proofs.Common.{◌≡◌, ◌&&◌, true, false, ap, eqb, length, refl, sym, ◌∙◌}
+use Rattle.std.proofs.lemmas.Bool.{and_parts}
 use Rattle.group_world.specs.Node.{is_installing}
 use Rattle.group_world.specs.Rules.{each_at}
 use Rattle.group_world.specs.declared.status.Status.TheVariants.{Active}
-use Rattle.peering.proofs.Statuses.{activates, activates_not, installing_is, not_false, not_second, not_true}
-use Rattle.peering.proofs.node.GroupNode.activate.Goals.{then-ne-via-then-ne, then-ne-via-else-ne+then-ne-2}
+use Rattle.peering.proofs.Statuses.{activates, activates_not, installing_is}
 use Rattle.peering.proofs.node.GroupNode.activate.Goals as goal
 
 pub returns-clause-done : goal.returns-clause-done
 returns-clause-done g c =
     let s = c.args.self.now.state in
-    let same : eqb c.args.interval s.interval ≡ true =
-    ap (λ z. eqb c.args.interval z.state.interval) (sym c.self.view_is) ∙ not_false (eqb c.args.interval c.self.inside.interval) (sym c.if-ne.false ∙ c.ne.ensures) in
-    let installing : is_installing s.status ≡ true =
-    ap (λ z. is_installing z.state.status) (sym c.self.view_is) ∙ sym (installing_is c.self.inside.status) ∙ not_false _ (sym c.if-ne-2.false ∙ c.ne-else-ne.ensures) in
+    let at = and_parts _ _ (sym c.is_at.ensures ∙ c.if-not-is_at.false) in
+    let same : eqb c.args.interval s.interval ≡ true = at.0 in
+    let installing : is_installing s.status ≡ true = sym (installing_is s.status) ∙ at.1 in
     let h = activates s c.args.interval same installing in
     let all : c.len-length.result ≡ length s.log = c.len-length.ensures.value ∙ ap (λ z. length z.state.log) c.self.view_is in
     let acked : c.in_ok-acked.acked.items ≡ each_at s.members.acting (length s.log) =
@@ -25,18 +24,11 @@ returns-clause-done g c =
       unrefused = ap (λ o. o.refusal) (sym h);
     }
 
-pub returns-then-ne-clause-done : goal.returns-then-ne-clause-done
-returns-then-ne-clause-done g c =
+pub returns-then-not-is_at-clause-done : goal.returns-then-not-is_at-clause-done
+returns-then-not-is_at-clause-done g c =
     let s = c.args.self.now.state in
     let apart : (eqb c.args.interval s.interval && is_installing s.status) ≡ false =
-    elim c.then-ne.branch [
-      | then-ne-via-then-ne w ↦
-          ap (λ v. eqb c.args.interval v.state.interval && is_installing s.status) (sym c.self.view_is)
-          ∙ ap (λ b. b && is_installing s.status) (not_true (eqb c.args.interval c.self.inside.interval) (sym w.if-ne.true ∙ c.ne.ensures))
-      | then-ne-via-else-ne+then-ne-2 w ↦
-          not_second (eqb c.args.interval s.interval) (is_installing s.status)
-          (ap (λ v. is_installing v.state.status) (sym c.self.view_is) ∙ sym (installing_is c.self.inside.status) ∙ not_true _ (sym w.if-ne-2.true ∙ w.ne-else-ne.ensures))
-    ] in
+    ap (λ b. eqb c.args.interval s.interval && b) (sym (installing_is s.status)) ∙ sym c.is_at.ensures ∙ c.if-not-is_at.true in
     let h = activates_not s c.args.interval apart in
     record {
       number = refl;

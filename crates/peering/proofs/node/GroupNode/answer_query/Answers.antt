@@ -14,8 +14,8 @@ returns-clause-done g c =
     let e = c.in_ok-arrival.ensures.ok in
     let o : Outcome = arrive n.number n.state c.args.map in
     let answers = ap (λ b. cond b (nothing n.state) (and_sends o (packet n.number c.args.asker (LogOf o.node.interval o.node.log)))) (sym c.ignores.ensures ∙ c.if-ignores.false) in
-    let P : Outcome → Type 0 = λ w. IsDone n c.move_to.new.self a.sent.items w in
-    subst P (sym answers) (record { number = c.move_to.ensures.number; state = c.move_to.ensures.state ∙ e.0; sent = e.1; unrefused = refl })
+    let P : Outcome → Type 0 = λ w. IsDone n c.moves.new.node c.moves.result.items w in
+    subst P (sym answers) (record { number = c.moves.ensures.number; state = c.moves.ensures.state ∙ e.0; sent = c.moves.ensures.sent ∙ e.1; unrefused = refl })
 
 pub answering-requires : goal.answering-requires
 answering-requires g c =

@@ -3,8 +3,8 @@ use Rattle.std.proofs.lemmas.Grind.{common_steps}
 use Rattle.peering.proofs.Installing.{waiting_within}
 use Rattle.peering.proofs.node.GroupNode.install_first.Goals as goal
 
-pub move_to-requires : goal.move_to-requires
-move_to-requires g c =
+pub moves-sent-requires : goal.moves-sent-requires
+moves-sent-requires g c =
     let st = c.args.arrival.status in
     waiting_within c.take_list.new.self.state st (ap (unwrap_or st) c.take_list.ensures.status ∙ c.requires.waits) c.committed.ensures.within
 

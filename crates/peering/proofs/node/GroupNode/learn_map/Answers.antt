@@ -12,8 +12,8 @@ returns-clause-done g c =
     let a = c.in_ok-arrival.arrival in
     let e = c.in_ok-arrival.ensures.ok in
     let learns = ap (λ b. cond b (nothing n.state) (arrive n.number n.state c.args.map)) (sym c.would_forget.ensures ∙ c.if-would_forget.false) in
-    let P : Outcome → Type 0 = λ o. IsDone n c.move_to.new.self a.sent.items o in
-    subst P (sym learns) (record { number = c.move_to.ensures.number; state = c.move_to.ensures.state ∙ e.0; sent = e.1; unrefused = arrive_unrefused n.number n.state c.args.map })
+    let P : Outcome → Type 0 = λ o. IsDone n c.moves.new.node c.moves.result.items o in
+    subst P (sym learns) (record { number = c.moves.ensures.number; state = c.moves.ensures.state ∙ e.0; sent = c.moves.ensures.sent ∙ e.1; unrefused = arrive_unrefused n.number n.state c.args.map })
 
 pub returns-then-would_forget-clause-done : goal.returns-then-would_forget-clause-done
 returns-then-would_forget-clause-done g c = grind (arith, common_steps)
