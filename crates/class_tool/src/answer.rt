@@ -28,7 +28,7 @@ impl fmt::Display for Answer {
     fn fmt<W: fmt::Write>(&self, f: &mut fmt::Formatter<W>) -> fmt::Result {
         match self {
             Answer::Accepted(class) => write_methods(class, f),
-            Answer::Ran(reply) => write!(f, "{reply}"),
+            Answer::Ran(reply) => reply.fmt(f),
             Answer::Assembled => Ok(()),
             Answer::Disassembled(text) => f.write_str(text),
         }

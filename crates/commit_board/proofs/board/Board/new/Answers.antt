@@ -1,6 +1,7 @@
 use Rattle.std.proofs.Common.{◌≡◌, sym, ◌∙◌, ap, rules, ◌<◌, ℕ, arith, []}
 use Rattle.std.proofs.lemmas.Grind.{common_steps}
 use Rattle.commit_board.specs.Rows.{writes}
+use Rattle.commit_board.specs.Tokens.{writers_of}
 use Rattle.commit_board.proofs.Moves.{begins, deals, freshens}
 use Rattle.commit_board.proofs.board.Board.new.Goals as goal
 
@@ -10,18 +11,23 @@ of_words-requires c = begins c.args.rows _ (search rules)
 pub split_seat-requires : goal.split_seat-requires
 split_seat-requires c =
     let i = c.loop-row.invariant in
-    let key : c.in_ok-table.table.shared.key ≡ c.args.rows = search rules in
-    let words : c.in_ok-table.table.shared.table_id.words ≡ c.args.rows = search rules in
+    let key : c.in_ok-table.table.shared.key ≡ c.args.rows = c.in_ok-table.ensures.5 in
+    let words : c.in_ok-table.table.shared.table_id.words ≡ c.args.rows = c.in_ok-table.ensures.0 ∙ c.as_slice.ensures.len ∙ c.in_ok-words.ensures.len in
     let below : c.loop-row.row < c.in_ok-table.table.shared.key = omega arith in
     (i.1, omega arith, deals c.in_ok-table.table.shared.key _ c.loop-row.row _ below (ap (λ m. m.0) i.2 ∙ ap (λ (k : ℕ). writes c.loop-row.row k []) (sym key)))
 
 pub split_seat-requires-2 : goal.split_seat-requires-2
 split_seat-requires-2 c =
-    let words : c.in_ok-table.table.shared.table_id.words ≡ c.args.rows = search rules in
+    let words : c.in_ok-table.table.shared.table_id.words ≡ c.args.rows = c.in_ok-table.ensures.0 ∙ c.as_slice.ensures.len ∙ c.in_ok-words.ensures.len in
     (c.loop-row.invariant.1, omega arith, freshens c.in_ok-table.table.shared.key _ _)
 
 pub returns-clause-writers : goal.returns-clause-writers
-returns-clause-writers c = grind (arith, common_steps)
+returns-clause-writers c =
+    let all : c.loop-row.row ≡ c.args.rows = omega (arith, c.loop-row-test.false, c.loop-row.auto.row-end) in
+    c.loop-row.invariant.3 ∙ ap (writers_of c.in_ok-table.table.shared.table_id) all
+
+pub returns-clause-rows : goal.returns-clause-rows
+returns-clause-rows c = c.in_ok-table.ensures.0 ∙ c.as_slice.ensures.len ∙ c.in_ok-words.ensures.len
 
 pub loop-row-preserved : goal.loop-row-preserved
 loop-row-preserved c = grind (arith, common_steps)
