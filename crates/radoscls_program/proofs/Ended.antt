@@ -1,13 +1,16 @@
 -- How a task's ending is the program's.
-use Rattle.std.proofs.Common.{◌≡◌, ◌∙◌, inl, inr, sym, arith, List, ℕ, Option, Result, Ok, Err}
-use Rattle.clap.specs.Words.{Text}
+use Rattle.std.proofs.Common.{◌≡◌, ◌≢◌, ◌∙◌, inl, inr, refl, sym, arith, List, ℕ, Option, Result, Ok, Err}
+use Rattle.clap.specs.Words.{Text, kind_of}
+use Rattle.clap.specs.declared.error.Error.{Error}
+use Rattle.clap.specs.declared.error.kind.ErrorKind.TheVariants.{OutOfMemory}
 use Rattle.class_tool.specs.Files.{Disk}
 use Rattle.class_tool.specs.declared.action.Action.{Action}
 use Rattle.class_tool.specs.declared.answer.Answer.{Answer}
 use Rattle.class_tool.specs.declared.failure.Failure.{Failure}
-use Rattle.radoscls_program.specs.Program.{AreFor, Ends, Found, IsRefused, Responds, TaskEnds}
+use Rattle.class_tool.specs.declared.failure.Failure.TheVariants.{NoMemory}
+use Rattle.radoscls_program.specs.Program.{AreFor, AreForNone, Ends, Found, IsRefused, Responds, TaskEnds}
 use Rattle.radoscls_program.specs.Status.{code_of}
-use Rattle.radoscls_program.specs.Streams.{Stream}
+use Rattle.radoscls_program.specs.Streams.{IsPrinted, Stream, failure_line}
 use Rattle.radoscls_program.specs.declared.status.Status.{Status}
 use Rattle.radoscls_program.specs.declared.status.Status.TheVariants.{Done, Refused, Usage}
 use Rattle.radoscls_program.specs.declared.task.Task.{Task}
@@ -32,6 +35,14 @@ ended before after old new words (Class a) status named acts = class_ended befor
 ended before after old new words (Sim s) Done named played = inr (record { simulation = s; named = named; left = played.0; ended = played.1 })
 ended before after old new words (Sim s) Refused named played = inr (inr (inr (record { simulation = s; named = named; left = played.0; ended = played.1 })))
 ended before after old new words (Sim s) Usage named played = absurd played.1
+
+-- where they name none, and why was said
+pub explained : (disk : Option Disk) (old new : Stream) (words : List Text) (e : Error) (status : Status) → (kind_of e ≢ OutOfMemory → AreForNone words)
+    → status ≢ Done → (status ≡ Refused → IsPrinted old new (failure_line NoMemory))
+    → (status ≡ Usage → (kind_of e ≢ OutOfMemory) × (new ≡ old)) → Ends disk disk old new words status
+explained disk old new words e Done none done refused usage = absurd (done refl)
+explained disk old new words e Refused none done refused usage = inr (inr (inl (refl, refused refl)))
+explained disk old new words e Usage none done refused usage = record { unasked = none (usage refl).0; left = refl; silent = (usage refl).1 }
 
 -- what the status 1 says
 pub refused_by : (before after : Option Disk) (old new : Stream) (words : List Text) (status : Status) (n : ℕ)

@@ -77,7 +77,13 @@ fn with_arg<'a>(
 ) -> Result<Command<'a>, AllocError>
     ensures { IfOk result (λ new. (old : ACommand) × (command.entry ≡ Ok old) × AddsArg old arg.entry new) }
 {
-    command?.arg(arg)
+    match command {
+        Ok(command) => command.arg(arg),
+        Err(error) => {
+            drop(arg);
+            Err(error)
+        }
+    }
 }
 
 /// A command with one more subcommand, where there are both.
@@ -87,8 +93,19 @@ fn with_subcommand<'a>(
 ) -> Result<Command<'a>, AllocError>
     ensures { IfOk result (λ new. (old : ACommand) × (sub : ACommand) × (command.entry ≡ Ok old) × (subcommand.entry ≡ Ok sub) × AddsSubcommand old sub new) }
 {
-    let subcommand = subcommand?;
-    command?.subcommand(subcommand)
+    match subcommand {
+        Ok(subcommand) => match command {
+            Ok(command) => command.subcommand(subcommand),
+            Err(error) => {
+                drop(subcommand);
+                Err(error)
+            }
+        },
+        Err(error) => {
+            drop(command);
+            Err(error)
+        }
+    }
 }
 
 fn verify_command<'a>(alloc: Global) -> Result<Command<'a>, AllocError>
@@ -352,7 +369,11 @@ fn parse_by<'a, S: AsStr>(
     ensures unasked { IfErr result (λ e. kind_of e ≢ ErrorKind.OutOfMemory → AreForNone (map S.text words.entry.now)) }
 {
     match command.try_get_matches_from_mut(words) {
-        Ok(matches) => found_task(command, task_of(alloc, &matches)),
+        Ok(matches) => {
+            let task = found_task(command, task_of(alloc, &matches));
+            drop(matches);
+            task
+        }
         Err(error) => Err(error),
     }
 }
@@ -365,5 +386,7 @@ pub fn parse<'a, S: AsStr>(alloc: Global, words: &'a [S]) -> Result<Task<'a>, Er
     ensures unasked { IfErr result (λ e. kind_of e ≢ ErrorKind.OutOfMemory → AreForNone (map S.text words.entry.now)) }
 {
     let mut command = root_command(alloc)?;
-    parse_by(alloc, &mut command, words)
+    let task = parse_by(alloc, &mut command, words);
+    drop(command);
+    task
 }

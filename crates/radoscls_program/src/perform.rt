@@ -1,4 +1,5 @@
-ghost use Rattle.std.specs.Prelude.{◌≡◌, true, false, map};
+ghost use Rattle.std.specs.Prelude.{◌≡◌, ◌≢◌, true, false, map};
+ghost use Rattle.clap.specs.Words.{kind_of};
 ghost use Rattle.radoscls_program.specs.Playing.{SimEnds};
 ghost use Rattle.radoscls_program.specs.Program.{Ends, IsDone, IsRefused, IsUsage, Responds, TaskEnds};
 ghost use Rattle.radoscls_program.specs.Status.{code_of};
@@ -8,7 +9,7 @@ ghost use Rattle.radoscls_program.specs.declared.status.Status.{Status as AStatu
 use crate::arguments::parse;
 use crate::status::Status;
 use crate::task::Task;
-use clap::error::ErrorKind;
+use clap::error::{Error, ErrorKind};
 use class_tool::{Answer, Failure, Files, Output, Reads, find};
 use sim_tool::{Ending, Simulation, simulate};
 use std::alloc::Global;
@@ -70,6 +71,19 @@ fn do_task<F: Files, O: Output>(
     }
 }
 
+/// Prints why the words name no task: a refusal where memory ran out, else usage or help.
+fn explain<O: Output, E: io::Write>(error: &Error, out: &mut O, err: &mut E) -> Status
+    ensures done { result ≢ Status.Done }
+    ensures refused { result ≡ Status.Refused → IsPrinted (stream O.printed O.failed out.old) (stream O.printed O.failed out.new) (failure_line Failure.NoMemory) }
+    ensures usage { result ≡ Status.Usage → (kind_of error.now ≢ ErrorKind.OutOfMemory) × (stream O.printed O.failed out.new ≡ stream O.printed O.failed out.old) }
+{
+    if error.kind() == ErrorKind::OutOfMemory {
+        return refuse(Failure::NoMemory, out);
+    }
+    let _ = write!(err, "{error}");
+    Status::Usage
+}
+
 fn perform<S: AsStr, F: Files, O: Output, E: io::Write>(
     alloc: Global,
     words: &[S],
@@ -80,11 +94,15 @@ fn perform<S: AsStr, F: Files, O: Output, E: io::Write>(
     ensures { Ends (F.disk files.old) (F.disk files.new) (stream O.printed O.failed out.old) (stream O.printed O.failed out.new) (map S.text words.now) result }
 {
     match parse(alloc, words) {
-        Ok(task) => do_task(alloc, files, &task, out),
-        Err(error) if error.kind() == ErrorKind::OutOfMemory => refuse(Failure::NoMemory, out),
+        Ok(task) => {
+            let status = do_task(alloc, files, &task, out);
+            drop(task);
+            status
+        }
         Err(error) => {
-            let _ = write!(err, "{error}");
-            Status::Usage
+            let status = explain(&error, out, err);
+            drop(error);
+            status
         }
     }
 }
