@@ -1,13 +1,37 @@
-//! `bench` measures an instruction of `call`, a call beside an object, a slot of `verify` and an `append` of a group, over
-//! methods of its own.
+//! `bench` measures, a table each: an instruction of `call`, a call beside an object, a slot of `verify` and an `append` of a
+//! group, over methods of its own; what a text of many labels costs to assemble; what a change of a small object costs, beside
+//! the same change of a large one; calls that only read their object, beside none and beside one of full size; and a log that
+//! becomes another list, beside a replay of that list. With `--dry` it leaves the times out.
 #![tactic(auto)]
+
+mod log;
+mod objects;
+mod reads;
+mod texts;
+mod timing;
 
 use anyhow::{Context, Result};
 use bench_table::{Mode, RUNS, WORKLOADS, report};
-use std::env;
+use std::alloc::Global;
+use std::time::Clock;
+use std::{env, io};
 
 fn main(rt: HostRuntime) -> Result<()> {
     let words: Vec<String> = env::args(&rt)?.collect(rt.alloc())?;
     let mode = Mode::of(&words).context("usage: bench [--dry]")?;
-    report(rt.alloc(), &rt, mode, RUNS, &WORKLOADS, &mut rt.stdout())
+    let mut out = rt.stdout();
+    report(rt.alloc(), &rt, mode, RUNS, &WORKLOADS, &mut out)?;
+    parts(rt.alloc(), &rt, mode, &mut out)
+}
+
+/// Prints the tables of parts, an empty line before each, with times where they are taken.
+fn parts<C: Clock, O: io::Write>(alloc: Global, clock: &C, mode: Mode, out: &mut O) -> Result<()> {
+    let clock = match mode {
+        Mode::Dry => None,
+        Mode::Timed => Some(clock),
+    };
+    texts::report(alloc, clock, out)?;
+    objects::report(alloc, clock, out)?;
+    reads::report(alloc, clock, out)?;
+    log::report(alloc, clock, out)
 }

@@ -20,7 +20,7 @@ const LINES: [(Reading, bool); 4] = [
     (Reading::MapGet, true),
 ];
 
-/// Prints a line for each call beside each object, with its time where there is a clock.
+/// Prints an empty line, and a line for each call beside each object, with its time where there is a clock.
 pub fn report<C: Clock, O: io::Write>(alloc: Global, clock: Option<&C>, out: &mut O) -> Result<()> {
     let full = full_object(alloc)?;
     lines(clock, &full, out)
@@ -29,7 +29,7 @@ pub fn report<C: Clock, O: io::Write>(alloc: Global, clock: Option<&C>, out: &mu
 /// Prints the heading, and the lines.
 fn lines<C: Clock, O: io::Write>(clock: Option<&C>, full: &Object, out: &mut O) -> Result<()> {
     let heading = if clock.is_some() { "  ns" } else { "" };
-    writeln!(out, "call      object  answer{heading}")?;
+    writeln!(out, "\ncall      object  answer{heading}")?;
     for (reading, beside) in &LINES {
         let object = if *beside { Some(full) } else { None };
         line(clock, *reading, object, out)?;

@@ -16,12 +16,13 @@ const JUMPS: u32 = 4095;
 /// How often each text is assembled, of which the least time counts.
 const RUNS: usize = 5;
 
-/// Prints a line for each number of labels, with its time where there is a clock, and an empty line.
+/// Prints an empty line, and a line for each number of labels, with its time where there is a clock.
 pub fn report<C: Clock, O: io::Write>(alloc: Global, clock: Option<&C>, out: &mut O) -> Result<()> {
+    writeln!(out)?;
     for labels in &LABELS {
         line(alloc, clock, *labels, out)?;
     }
-    writeln!(out).map_err(Error::from)
+    Ok(())
 }
 
 /// Prints a line.

@@ -1,7 +1,7 @@
 ghost use Rattle.std.specs.Prelude.{◌≡◌, IfOk};
 ghost use Rattle.std.specs.Option.{option_copied};
 ghost use Rattle.helpers.specs.Table.{stat_answer, map_get_answer};
-ghost use Rattle.bench_parts.specs.Subject.{key_512};
+ghost use Rattle.bench.specs.Subject.{key_512};
 
 use anyhow::{Context, Result};
 use helpers::{map_set, map_value, setxattr, stat, write};

@@ -1,8 +1,8 @@
 //! Nodes, their monitor, and all messages that were ever sent.
 ghost use Rattle.std.specs.Prelude.{◌≡◌};
 
-use crate::tests::account::{Asked, request};
-use crate::tests::reached::{Reached, count, count_if};
+use crate::history::account::{Asked, request};
+use crate::history::reached::{Reached, count, count_if};
 use group_world::{
     Answer, Epoch, Event, GroupMap, HandleError, Kind, Message, Messages, Packet, Party, Requests,
     Status,

@@ -1,11 +1,11 @@
 //! What happens next, by chance.
 ghost use Rattle.std.specs.Prelude.{◌≡◌};
 
-use crate::tests::account::{ACCOUNTS, Asked, table};
-use crate::tests::dice::Dice;
-use crate::tests::network::Network;
-use crate::tests::reached::{Reached, count, count_if};
-use crate::tests::witness::Witness;
+use crate::history::account::{ACCOUNTS, Asked, table};
+use crate::history::dice::Dice;
+use crate::history::network::Network;
+use crate::history::reached::{Reached, count, count_if};
+use crate::history::witness::Witness;
 use group_world::GroupMap;
 use pg_log::{ClassTable, Classes, Group, GroupWork, with_group};
 use placement::NodeId;

@@ -1,4 +1,6 @@
-//! Histories on three, four and five nodes.
+//! Long histories of a group on three, four and five nodes, made by chance from a seed, of which a plain program checks after
+//! each event what `agreement` says.
+
 mod account;
 mod dice;
 mod network;

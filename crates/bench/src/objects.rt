@@ -19,12 +19,13 @@ const SUBJECTS: [(Subject, &str); 7] = [
     (Subject::Read { len: 65_536 }, "read 64 bytes of 64 KiB"),
 ];
 
-/// Prints a line for each subject, with its time where there is a clock, and an empty line.
+/// Prints an empty line, and a line for each subject, with its time where there is a clock.
 pub fn report<C: Clock, O: io::Write>(alloc: Global, clock: Option<&C>, out: &mut O) -> Result<()> {
+    writeln!(out)?;
     for (subject, name) in &SUBJECTS {
         line(alloc, clock, *subject, name, out)?;
     }
-    writeln!(out).map_err(Error::from)
+    Ok(())
 }
 
 /// Prints a line.

@@ -1,7 +1,7 @@
 //! A plain program that sees nodes and messages after each event, and keeps the one list that all agree on.
-use crate::tests::account::{Asked, Balances, Said, plain};
-use crate::tests::network::{Network, Sent};
-use crate::tests::reached::{Reached, count_if};
+use crate::history::account::{Asked, Balances, Said, plain};
+use crate::history::network::{Network, Sent};
+use crate::history::reached::{Reached, count_if};
 use group_world::Kind;
 use peering::GroupNode;
 use pg_log::{Classes, Entry};

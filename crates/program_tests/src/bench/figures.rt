@@ -1,4 +1,4 @@
-use crate::ticks::Ticks;
+use crate::bench::ticks::Ticks;
 use bench_table::{Figure, Mode};
 use std::alloc::Global;
 use std::process::Abort;
