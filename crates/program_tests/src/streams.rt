@@ -67,6 +67,78 @@ fn explains_its_use(rt: HostRuntime) {
     }
 }
 
+/// Words, and what stands in the help or the usage that they get: the forms and phrases are clap's, the texts are the
+/// commands' own.
+static TOLD: [(&[&str], &str); 16] = [
+    (
+        &["--help"],
+        "RADOS object classes in verified BPF\n\nUsage: radoscls <COMMAND>\n",
+    ),
+    (
+        &["--help"],
+        "  verify  Tells whether the methods of a class image are safe\n",
+    ),
+    (
+        &["--help"],
+        "  run     Runs a method of a class image beside an absent object\n",
+    ),
+    (
+        &["--help"],
+        "  asm     Writes the image of a class from its text\n",
+    ),
+    (&["--help"], "  dis     Prints the text of a class image\n"),
+    (
+        &["--help"],
+        "  sim     Plays a group of nodes from a file of events\n",
+    ),
+    (&[], "Usage: radoscls <COMMAND>\n"),
+    (&["verify", "--help"], "Usage: radoscls verify <IN>\n"),
+    (
+        &["run", "--help"],
+        "Usage: radoscls run [OPTIONS] <IN> <METHOD>\n",
+    ),
+    (&["asm", "--help"], "Usage: radoscls asm <IN> <OUT>\n"),
+    (&["dis", "--help"], "Usage: radoscls dis <IN>\n"),
+    (&["sim", "--help"], "Usage: radoscls sim [OPTIONS] <FILE>\n"),
+    (&["erase"], "error: unrecognized subcommand 'erase'\n"),
+    (
+        &["verify"],
+        "error: the following required arguments were not provided:\n  <IN>\n",
+    ),
+    (
+        &["run", "image", "f", "--caller", "0"],
+        "error: invalid value '0' for '--caller <N>'",
+    ),
+    (
+        &["sim", "--class", "two", "text"],
+        "error: no such call or class\n",
+    ),
+];
+
+/// Whether that stands in a text.
+fn stands_in(text: &[u8], part: &str) -> bool {
+    match str::from_utf8(text) {
+        Ok(text) => text.contains(part),
+        Err(_) => false,
+    }
+}
+
+/// Whether the program tells that of those words.
+fn tells<R: Abort + AllocGlobal>(rt: &R, words: &[&str], part: &str) -> bool {
+    let mut folder = Folder::of(rt, TWO, b"");
+    let ended = run_on(rt, words, &mut folder);
+    let told = stands_in(&ended.explained, part);
+    drop(ended);
+    told
+}
+
+#[test]
+fn tells_its_use(rt: HostRuntime) {
+    for (words, part) in &TOLD {
+        assert!(rt; tells(&rt, words, part), "{part}");
+    }
+}
+
 /// A writer with room for some bytes, which can let them through or can't.
 #[derive(Drop)]
 struct Limited {

@@ -13,9 +13,9 @@
 //! words ask for none of that, or for help.
 #![tactic(auto)]
 
-use radoscls_program::start;
+use radoscls_program::{Printer, start};
 use std::process::ExitCode;
 
 fn main(rt: HostRuntime) -> ExitCode {
-    start(&rt, &mut rt.stdout(), &mut rt.stderr())
+    start(&rt, &mut Printer::new(rt.stdout()), &mut rt.stderr())
 }

@@ -1,5 +1,5 @@
 -- How a task's ending is the program's.
-use Rattle.std.proofs.Common.{◌≡◌, ◌≢◌, ◌∙◌, inl, inr, refl, sym, arith, List, ℕ, Option, Result, Ok, Err}
+use Rattle.std.proofs.Common.{◌≡◌, ◌≢◌, ◌∙◌, inl, inr, refl, sym, arith, List, ℕ, Option, Result, Ok, Err, IfOk, IfErr}
 use Rattle.clap.specs.Words.{Text, kind_of}
 use Rattle.clap.specs.declared.error.Error.{Error}
 use Rattle.clap.specs.declared.error.kind.ErrorKind.TheVariants.{OutOfMemory}
@@ -8,7 +8,7 @@ use Rattle.class_tool.specs.declared.action.Action.{Action}
 use Rattle.class_tool.specs.declared.answer.Answer.{Answer}
 use Rattle.class_tool.specs.declared.failure.Failure.{Failure}
 use Rattle.class_tool.specs.declared.failure.Failure.TheVariants.{NoMemory}
-use Rattle.radoscls_program.specs.Program.{AreFor, AreForNone, Ends, Found, IsRefused, Responds, TaskEnds}
+use Rattle.radoscls_program.specs.Program.{AreFor, AreForNone, Ends, Found, IsRefused, IsUnstarted, Responds, Starts, TaskEnds}
 use Rattle.radoscls_program.specs.Status.{code_of}
 use Rattle.radoscls_program.specs.Streams.{IsPrinted, Stream, failure_line}
 use Rattle.radoscls_program.specs.declared.status.Status.{Status}
@@ -50,3 +50,10 @@ pub refused_by : (before after : Option Disk) (old new : Stream) (words : List T
 refused_by before after old new words Done n is ends one = let bad : 0 ≡ 1 = sym is ∙ one in absurd (omega arith)
 refused_by before after old new words Refused n is ends one = ends
 refused_by before after old new words Usage n is ends one = let bad : 2 ≡ 1 = sym is ∙ one in absurd (omega arith)
+
+-- where the words were read, or not
+pub started : {A B : Type 0} (words : Result A B) (texts : A → List Text) (before after : Option Disk) (old new : Stream) (status : Status)
+    → IfOk words (λ all. Ends before after old new (texts all) status) → IfErr words (λ _. IsUnstarted before after old new status)
+    → Starts before after old new status
+started (Ok all) texts before after old new status ends none = inl (texts all, ends)
+started (Err e) texts before after old new status none unread = inr unread

@@ -82,6 +82,17 @@ Ends before after old new words Done = IsDone before after old new words
 Ends before after old new words Refused = IsRefused before after old new words
 Ends before after old new words Usage = IsUsage before after old new words
 
+-- The words could not be read; nothing was done, and a line says why.
+pub record IsUnstarted (before after : Option Disk) (old new : Stream) (status : Status) : Type 0 where
+  pub refused : status ≡ Refused
+  pub left : after ≡ before
+  pub failure : Failure
+  pub printed : IsPrinted old new (failure_line failure)
+
+-- how a process ends: as words ask, or without words
+abbrev pub Starts : Option Disk → Option Disk → Stream → Stream → Status → Type 0
+Starts before after old new status = ((words : List Text) × Ends before after old new words status) ⊎ IsUnstarted before after old new status
+
 -- an answer was printed, or a write or a flush failed; a failure's line was printed, or a write or a flush failed
 abbrev pub Responds : Stream → Stream → Result Answer Failure → Status → Type 0
 Responds old new (Ok answer) Done = Took old new (answer_text answer)

@@ -1,6 +1,6 @@
 //! The program `radoscls` on words, files and two writers: reads the command line, does what it asks for by `class_tool`,
 //! and prints it. `program` says what each of its endings means: what was printed, which file was written, and why not.
-//! `start` runs it on the words, files and streams of the process.
+//! `start` runs it on the words and files of the process, and gives what that ends with.
 #![tactic(auto)]
 
 mod arguments;
@@ -10,5 +10,6 @@ mod process;
 mod status;
 mod task;
 
+pub use class_tool::Printer;
 pub use perform::program;
 pub use process::start;

@@ -84,7 +84,8 @@ fn explain<O: Output, E: io::Write>(error: &Error, out: &mut O, err: &mut E) -> 
     Status::Usage
 }
 
-fn perform<S: AsStr, F: Files, O: Output, E: io::Write>(
+/// Does what the words ask for, and says why where they name no task.
+pub(crate) fn perform<S: AsStr, F: Files, O: Output, E: io::Write>(
     alloc: Global,
     words: &[S],
     files: &mut F,

@@ -1,5 +1,13 @@
-use crate::perform::{program, refuse};
-use class_tool::{Failure, Output, Printer, SystemFiles};
+ghost use Rattle.std.specs.Prelude.{◌≡◌, None, IfOk, IfErr, map, string_bytes};
+ghost use Rattle.std.specs.Process.{exit_status};
+ghost use Rattle.radoscls_program.specs.Program.{Ends, IsUnstarted, Starts};
+ghost use Rattle.radoscls_program.specs.Status.{code_of};
+ghost use Rattle.radoscls_program.specs.Streams.{stream};
+ghost use Rattle.radoscls_program.specs.declared.status.Status.{Status as AStatus};
+
+use crate::perform::{perform, refuse};
+use crate::status::Status;
+use class_tool::{Failure, Output, SystemFiles};
 use std::alloc::Global;
 use std::process::ExitCode;
 use std::rt::{Env, Files};
@@ -10,30 +18,35 @@ fn words<R: Env + AllocGlobal>(rt: &R) -> io::Result<Vec<String>> {
     Ok(env::args(rt)?.collect(rt.alloc())?)
 }
 
-/// Runs the program on those words, or says why there are none; what the process ends with.
+/// Runs the program on those words, or says why there are none.
 fn end_of<F: class_tool::Files, O: Output, E: io::Write>(
     alloc: Global,
     words: &io::Result<Vec<String>>,
     files: &mut F,
     out: &mut O,
     err: &mut E,
-) -> u8 {
+) -> Status
+    ensures asked { IfOk words.now (λ all. Ends (F.disk files.old) (F.disk files.new) (stream O.printed O.failed out.old) (stream O.printed O.failed out.new) (map string_bytes all.items) result) }
+    ensures unread { IfErr words.now (λ _. IsUnstarted (F.disk files.old) (F.disk files.new) (stream O.printed O.failed out.old) (stream O.printed O.failed out.new) result) }
+{
     match words {
-        Ok(words) => program(alloc, words, files, out, err),
-        Err(error) => refuse(Failure::of_read(error), out).code(),
+        Ok(words) => perform(alloc, words, files, out, err),
+        Err(error) => refuse(Failure::of_read(error), out),
     }
 }
 
-/// Runs the program on the process's own words and files.
-pub fn start<R: Env + Files + AllocGlobal, O: io::Write, E: io::Write>(
+/// Runs the program on the process's own words and files, and gives what the process ends with: `program`'s answer, or 1
+/// where its words could not be read, of which a line is printed.
+pub fn start<R: Env + Files + AllocGlobal, O: Output, E: io::Write>(
     rt: &R,
     out: &mut O,
     err: &mut E,
-) -> ExitCode {
+) -> ExitCode
+    ensures { (status : AStatus) × (exit_status result ≡ code_of status) × Starts None None (stream O.printed O.failed out.old) (stream O.printed O.failed out.new) status }
+{
     let mut files = SystemFiles::new(rt);
-    let mut out = Printer::new(out);
     let words = words(rt);
-    let status = end_of(rt.alloc(), &words, &mut files, &mut out, err);
+    let status = end_of(rt.alloc(), &words, &mut files, out, err);
     drop(words);
-    ExitCode::from(status)
+    ExitCode::from(status.code())
 }

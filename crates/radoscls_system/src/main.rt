@@ -126,5 +126,5 @@ fn main(rt: HostRuntime) -> ExitCode {
         return ExitCode::from(3);
     }
     // The words that the process was started with: a refused call.
-    start(&rt, &mut out, &mut rt.stderr())
+    start(&rt, &mut Printer::new(out), &mut rt.stderr())
 }

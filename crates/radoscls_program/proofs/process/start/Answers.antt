@@ -1,0 +1,11 @@
+use Rattle.std.proofs.Common.{map, string_bytes, ◌∙◌, None}
+use Rattle.radoscls_program.specs.Streams.{stream}
+use Rattle.radoscls_program.proofs.Ended.{started}
+use Rattle.radoscls_program.proofs.process.start.Goals as goal
+
+pub returns : goal.returns
+returns g c =
+    let out = stream g.O.Output.printed g.O.Output.failed in
+    let status = c.end_of-status.result in
+    let how = started c.words-words.result (λ all. map string_bytes all.items) None None (out c.args.out.now) (out c.end_of-status.new.out) status c.end_of-status.ensures.asked c.end_of-status.ensures.unread in
+    (status, c.from.ensures ∙ c.code.ensures, how)
