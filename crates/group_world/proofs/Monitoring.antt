@@ -4,9 +4,9 @@ use Rattle.std.specs.Prelude.{is_none, ◌^◌, ◌-◌}
 use Rattle.std.specs.List.{slice_get}
 use Rattle.std.proofs.lemmas.Option.{none-some, same_Some}
 use Rattle.std.proofs.lemmas.Bool.{cond-true, eq-eqb, eqb-true, and_parts, cond_both, false≢true}
-use Rattle.placement.specs.Placement.{has}
+use Rattle.placement.specs.Placement.{has, is_acting}
 use Rattle.group_world.specs.Maps.{GroupMap, is_same_list}
-use Rattle.group_world.specs.Monitor.{MonitorState, is_acting, map_refusal, is_newest, activation_refusal, with_activated}
+use Rattle.group_world.specs.Monitor.{MonitorState, map_refusal, is_newest, activation_refusal, with_activated}
 use Rattle.group_world.specs.World.{World, WorldEvent, make_map, activated_for, activate_for}
 use Rattle.group_world.specs.declared.party.Party.{Party}
 use Rattle.group_world.specs.declared.monitor_error.MonitorError.{MonitorError}

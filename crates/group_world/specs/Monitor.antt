@@ -1,6 +1,6 @@
 -- The monitor of a group: it makes maps and activates intervals. Its state has a constant size.
-use Rattle.std.specs.Prelude.{ℕ, suc, ◌-◌, ◌^◌, List, length, Bool, not, ◌&&◌, ◌==◌, nat_lt, nat_le, if◌then◌else◌, Option, Some, None}
-use Rattle.placement.specs.Placement.{are_nodes}
+use Rattle.std.specs.Prelude.{ℕ, suc, ◌-◌, ◌^◌, List, Bool, not, ◌&&◌, ◌==◌, nat_lt, nat_le, if◌then◌else◌, Option, Some, None}
+use Rattle.placement.specs.Placement.{is_acting}
 use Rattle.group_world.specs.Maps.{GroupMap, no_map, is_same_list}
 use Rattle.group_world.specs.declared.monitor_error.MonitorError.{MonitorError}
 use Rattle.group_world.specs.declared.monitor_error.MonitorError.TheVariants.{BadActing, NotNewest, EpochsUsedUp}
@@ -14,10 +14,6 @@ pub record MonitorState : Type 0 where
 -- the monitor before its first map
 abbrev pub no_maps : MonitorState
 no_maps = record { newest = no_map; activated = no_map }
-
--- one to three nodes, none twice
-abbrev pub is_acting : List ℕ → Bool
-is_acting acting = nat_lt 0 (length acting) && (nat_le (length acting) 3 && are_nodes acting)
 
 -- why the monitor makes no map of this acting list, if it doesn't
 abbrev pub map_refusal : MonitorState → List ℕ → Option MonitorError

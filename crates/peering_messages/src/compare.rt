@@ -1,7 +1,6 @@
 //! Tests of lists of nodes, and of requests.
 ghost use Rattle.std.specs.Prelude.{◌≡◌};
-ghost use Rattle.placement.specs.Placement.{has, are_nodes};
-ghost use Rattle.group_world.specs.Monitor.{is_acting};
+ghost use Rattle.placement.specs.Placement.{has, are_nodes, is_acting};
 ghost use Rattle.group_world.specs.Maps.{all_among, is_same_list, is_first};
 ghost use Rattle.group_world.specs.Rules.{is_same_request};
 
