@@ -1,0 +1,2 @@
+-- A reader must believe Words.
+pub mod Words
