@@ -13,9 +13,9 @@ use std::env;
 fn main(rt: HostRuntime) -> Result<()> {
     let alloc = rt.alloc();
     let mode = mode_of(&rt)?;
-    let one = pairs_in_one_thread(rt, alloc, mode);
+    let one = pairs_in_one_thread(&rt, alloc, mode);
     line(&rt, "submit and take, one thread", one)?;
-    let four = pairs_in_four_threads(rt, alloc, mode);
+    let four = pairs_in_four_threads(&rt, alloc, mode);
     line(&rt, "submit and take, four threads", four)?;
     line(&rt, "commit", commits(&rt, alloc, mode))?;
     line(&rt, "look", looks(&rt, alloc, mode))

@@ -26,8 +26,8 @@ impl Op for Asked {
 }
 
 /// One thread submits and takes each operation in turn.
-pub fn pairs_in_one_thread<R: Wait + Clock + Copy + Drop>(
-    rt: R,
+pub fn pairs_in_one_thread<R: Wait + Clock>(
+    rt: &R,
     alloc: Global,
     mode: Mode,
 ) -> Result<Figure> {
@@ -39,25 +39,25 @@ pub fn pairs_in_one_thread<R: Wait + Clock + Copy + Drop>(
 }
 
 /// A run of one thread.
-fn one_thread<R: Wait + Clock + Copy + Drop>(
-    rt: R,
+fn one_thread<R: Wait + Clock>(
+    rt: &R,
     alloc: Global,
     figure: &mut Figure,
 ) -> Result<()> {
-    let (shards, mut sends, mut takes) = OpShards::new(alloc, rt, 1, 64, 1, 1)?;
+    let (shards, mut sends, mut takes) = OpShards::new(alloc, 1, 64, 1, 1)?;
     let Some(send) = sends.pop() else {
         return Err(Error::msg("a sender"));
     };
     let Some(take) = takes.pop() else {
         return Err(Error::msg("a taker"));
     };
-    time_one(&rt, &shards, send, take, figure)
+    time_one(rt, &shards, send, take, figure)
 }
 
 /// Times a run of one thread.
 fn time_one<R: Wait + Clock>(
     rt: &R,
-    shards: &OpShards<Asked, R>,
+    shards: &OpShards<Asked>,
     send: SendPass<Asked>,
     take: TakePass<Asked>,
     figure: &mut Figure,
@@ -67,12 +67,13 @@ fn time_one<R: Wait + Clock>(
     requires shard { 0 < length shards.now.queues.names }
 {
     let start = Instant::now(rt)?;
-    let taken = pairs(shards, send, take);
+    let taken = pairs(rt, shards, send, take);
     figure.note(rt, start, taken)
 }
 
 fn pairs<R: Wait>(
-    shards: &OpShards<Asked, R>,
+    rt: &R,
+    shards: &OpShards<Asked>,
     mut send: SendPass<Asked>,
     mut take: TakePass<Asked>,
 ) -> usize
@@ -82,8 +83,8 @@ fn pairs<R: Wait>(
 {
     let mut taken: usize = 0;
     for group in 0..PAIRS {
-        let sent = shards.submit(&mut send, Asked { group });
-        if sent.is_ok() && shards.take(&mut take, 0).is_some() {
+        let sent = shards.submit(rt, &mut send, Asked { group });
+        if sent.is_ok() && shards.take(rt, &mut take, 0).is_some() {
             taken = taken.wrapping_add(1);
         }
     }
@@ -91,8 +92,8 @@ fn pairs<R: Wait>(
 }
 
 /// Two threads submit to two shards, and two take of one each.
-pub fn pairs_in_four_threads<R: Threads + Wait + Clock + Copy + Sync + Drop>(
-    rt: R,
+pub fn pairs_in_four_threads<R: Threads + Wait + Clock + Sync>(
+    rt: &R,
     alloc: Global,
     mode: Mode,
 ) -> Result<Figure> {
@@ -104,25 +105,25 @@ pub fn pairs_in_four_threads<R: Threads + Wait + Clock + Copy + Sync + Drop>(
 }
 
 /// A run of four threads.
-fn four_threads<R: Threads + Wait + Clock + Copy + Sync + Drop>(
-    rt: R,
+fn four_threads<R: Threads + Wait + Clock + Sync>(
+    rt: &R,
     alloc: Global,
     figure: &mut Figure,
 ) -> Result<()> {
-    let (shards, mut sends, mut takes) = OpShards::new(alloc, rt, 2, 64, 2, 2)?;
+    let (shards, mut sends, mut takes) = OpShards::new(alloc, 2, 64, 2, 2)?;
     let (Some(one), Some(two)) = (sends.pop(), sends.pop()) else {
         return Err(Error::msg("a sender"));
     };
     let (Some(first), Some(second)) = (takes.pop(), takes.pop()) else {
         return Err(Error::msg("a taker"));
     };
-    time_four(&rt, &shards, (one, two), (first, second), figure)
+    time_four(rt, &shards, (one, two), (first, second), figure)
 }
 
 /// Times a run of four threads.
 fn time_four<R: Threads + Wait + Clock + Sync>(
     rt: &R,
-    shards: &OpShards<Asked, R>,
+    shards: &OpShards<Asked>,
     sends: (SendPass<Asked>, SendPass<Asked>),
     takes: (TakePass<Asked>, TakePass<Asked>),
     figure: &mut Figure,
@@ -141,7 +142,7 @@ fn time_four<R: Threads + Wait + Clock + Sync>(
 /// Sends and takes at once.
 fn four<R: Threads + Wait + Sync>(
     rt: &R,
-    shards: &OpShards<Asked, R>,
+    shards: &OpShards<Asked>,
     sends: (SendPass<Asked>, SendPass<Asked>),
     takes: (TakePass<Asked>, TakePass<Asked>),
 ) -> usize
@@ -170,7 +171,7 @@ fn four<R: Threads + Wait + Sync>(
 
 fn send_two<R: Threads + Wait + Sync>(
     rt: &R,
-    shards: &OpShards<Asked, R>,
+    shards: &OpShards<Asked>,
     one: SendPass<Asked>,
     two: SendPass<Asked>,
 )
@@ -186,7 +187,7 @@ fn send_two<R: Threads + Wait + Sync>(
 
 fn take_two<R: Threads + Wait + Sync>(
     rt: &R,
-    shards: &OpShards<Asked, R>,
+    shards: &OpShards<Asked>,
     first: TakePass<Asked>,
     second: TakePass<Asked>,
 ) -> usize
@@ -209,7 +210,7 @@ fn take_two<R: Threads + Wait + Sync>(
 }
 
 /// Half of the operations, every other one to each shard.
-fn send_half<R: Wait>(rt: &R, shards: &OpShards<Asked, R>, mut send: SendPass<Asked>)
+fn send_half<R: Wait>(rt: &R, shards: &OpShards<Asked>, mut send: SendPass<Asked>)
     requires { send.queues ≡ shards.now.queues }
 {
     let mut group = 0;
@@ -217,7 +218,7 @@ fn send_half<R: Wait>(rt: &R, shards: &OpShards<Asked, R>, mut send: SendPass<As
         if group >= PAIRS / 2 {
             break;
         }
-        match shards.submit(&mut send, Asked { group }) {
+        match shards.submit(rt, &mut send, Asked { group }) {
             Ok(()) => group += 1,
             Err(_) => yield_now(),
         }
@@ -227,7 +228,7 @@ fn send_half<R: Wait>(rt: &R, shards: &OpShards<Asked, R>, mut send: SendPass<As
 /// All operations of a shard.
 fn take_half<R: Wait>(
     rt: &R,
-    shards: &OpShards<Asked, R>,
+    shards: &OpShards<Asked>,
     mut take: TakePass<Asked>,
     shard: usize,
 ) -> usize
@@ -239,7 +240,7 @@ fn take_half<R: Wait>(
         if taken >= PAIRS / 2 {
             break;
         }
-        match shards.take(&mut take, shard) {
+        match shards.take(rt, &mut take, shard) {
             Some(_) => taken += 1,
             None => yield_now(),
         }

@@ -3,3 +3,4 @@ pub mod Keeps
 pub mod Lanes
 pub mod Dealt
 pub mod Gathered
+pub mod Sent

@@ -1,5 +1,6 @@
 -- What callers see of all queues, and of the passes.
-use Rattle.std.specs.Prelude.{ℕ, suc, ◌+◌, List, [], ◌∷◌, ◌++◌, length, map, slice_set, slice_index_or}
+use Rattle.std.specs.Prelude.{◌≡◌, ℕ, suc, ◌+◌, ◌≤◌, List, [], ◌∷◌, ◌++◌, length, map, Some, slice_get, slice_set, slice_index_or}
+use mathlib.Core.List.{IsPrefix}
 use Rattle.crossbeam_queue.specs.Fifo.{Held}
 use Rattle.crossbeam_queue.specs.declared.array_queue.Slotted.{Slotted}
 use Rattle.atomic_table.specs.Seated.{TableId}
@@ -154,3 +155,16 @@ module _ {T : Type 0} where
 
   abbrev pub TakerWasKeptAt : (T → ℕ) → ℕ → Taker T → ℕ → Type 0
   TakerWasKeptAt group n t shard = Held n (KeptWith group (taker (shard_of t.queues shard) t.takers (at_shard t.taken shard)))
+
+  -- what the queue of each shard had accepted of the sender is the beginning of what it accepted since
+  abbrev pub Grew : Sender T → Sender T → Type 0
+  Grew s t = (i : ℕ) → IsPrefix (at_shard s.accepted i) (at_shard t.accepted i)
+
+  -- from the one state of a pass to the other an operation was accepted of which P holds
+  pub record WasSent (s t : Sender T) (P : T → Type 0) : Type 0 where
+    pub shard : ℕ
+    pub rank : ℕ
+    pub x : Ranked T
+    pub new : length (at_shard s.accepted shard) ≤ rank
+    pub there : slice_get (at_shard t.accepted shard) rank ≡ Some x
+    pub so : P x.op

@@ -5,12 +5,14 @@
 #![tactic(auto)]
 
 mod lane;
+mod laws;
 mod no_memory;
 mod op;
 mod pass;
 mod rule;
 mod shards;
 
+pub use laws::{Property, sending_goes_on};
 pub use no_memory::NoMemory;
 pub use op::Op;
 pub use pass::{SendPass, TakePass};

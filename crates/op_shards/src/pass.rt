@@ -53,7 +53,7 @@ impl<T> Model for TakePass<T> {
 }
 
 impl<T: Op> SendPass<T> {
-    /// Puts the operation into the queue of this shard.
+    /// Puts the operation into the queue of this shard. The pass has a list for each shard.
     pub(crate) fn push<R: Wait>(
         &mut self,
         rt: &R,
@@ -63,7 +63,8 @@ impl<T: Op> SendPass<T> {
     ) -> Result<(), T>
         requires queue { slice_get self.old.queues.names shard ≡ Some (name queue.now) }
         requires here { T.group op % length self.old.queues.names ≡ shard }
-        ensures { MatchResult result
+        ensures lists { length self.old.accepted ≡ length self.old.queues.names }
+        ensures answer { MatchResult result
             (λ _. (self.new ≡ after_submit self.old shard op) × SenderWasKept T.group self.new shard)
             (λ x. (x ≡ op) × (self.new ≡ self.old) × SenderWasKeptAt T.group (ruled_capacity queue.now) self.old shard) }
     {

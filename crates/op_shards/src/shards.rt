@@ -1,10 +1,10 @@
 // All queues.
-ghost use Rattle.std.specs.Prelude.{◌≡◌, ◌<◌, ◌%◌, length, map, All, IfOk, MatchOption, MatchResult};
+ghost use Rattle.std.specs.Prelude.{◌≡◌, ◌<◌, ◌%◌, length, map, All, IfOk, OnOk, MatchOption, MatchResult};
 ghost use Rattle.crossbeam_queue.specs.Passes.{ruled_capacity};
 ghost use Rattle.std.specs.List.{range_with_len};
 ghost use Rattle.op_shards.specs.declared.rule.Ranked.{Ranked};
 ghost use Rattle.op_shards.specs.Order.{place_at, of, IsPartOf, AreFirstOf, IsHere, IsNextAfter};
-ghost use Rattle.op_shards.specs.Passes.{name, names, queues_of, spots, spot_of, shard_of, at_shard, dealing, new_sender, new_taker, after_submit, after_take, after_gather, SenderWasKept, SenderWasKeptAt, TakerWasKept, TakerWasKeptAt};
+ghost use Rattle.op_shards.specs.Passes.{name, names, queues_of, spots, spot_of, shard_of, at_shard, dealing, new_sender, new_taker, after_submit, after_take, after_gather, Grew, WasSent, SenderWasKept, SenderWasKeptAt, TakerWasKept, TakerWasKeptAt};
 
 use crate::lane::Dealer;
 use crate::no_memory::NoMemory;
@@ -19,15 +19,14 @@ use std::sync::Wait;
 /// A bounded queue for each shard. An operation's shard is the number of its group modulo the number of shards. To a contract it is the queues by
 /// shard, how many senders and takers have passes of them, and how many operations each holds at most.
 #[derive(Drop)]
-pub struct OpShards<T: Op, R: Wait> {
-    rt: R,
+pub struct OpShards<T: Op> {
     places: usize,
     senders: usize,
     takers: usize,
     queues: Vec<Queue<T>>,
 }
 
-impl<T: Op, R: Wait> Model for OpShards<T, R> {
+impl<T: Op> Model for OpShards<T> {
     ghost use Rattle.std.specs.Prelude.{◌≡◌, ◌<◌, length, All};
     ghost use Rattle.crossbeam_queue.specs.Passes.{ruled_capacity};
     ghost use Rattle.op_shards.specs.Passes.{names, queues_of, Shards};
@@ -39,18 +38,15 @@ impl<T: Op, R: Wait> Model for OpShards<T, R> {
     ghost invariant = { λ s. (0 < length s.queues.items) × All (λ q. ruled_capacity q ≡ s.places) s.queues.items };
 }
 
-impl<T: Op, R: Wait> OpShards<T, R> {
+impl<T: Op> OpShards<T> {
     /// Empty queues of so many places, and a pass of all of them for each sender and each taker.
     pub fn new(
         alloc: Global,
-        rt: R,
         shards: usize,
         places: usize,
         senders: usize,
         takers: usize,
-    ) -> Result<(OpShards<T, R>, Vec<SendPass<T>>, Vec<TakePass<T>>), NoMemory>
-    where
-        R: Drop,
+    ) -> Result<(OpShards<T>, Vec<SendPass<T>>, Vec<TakePass<T>>), NoMemory>
         requires shards { 0 < shards }
         requires places { 0 < places }
         ensures shards { IfOk result (λ r. (length r.0.queues.names ≡ shards) × (r.0.queues.senders ≡ senders) × (r.0.queues.takers ≡ takers) × (r.0.places ≡ places)) }
@@ -61,7 +57,6 @@ impl<T: Op, R: Wait> OpShards<T, R> {
         let send_passes = deal_passes(alloc, &queues, &mut dealers, senders, takers)?;
         let take_passes = hire_passes(alloc, &queues, &mut dealers, senders, takers)?;
         let shards = OpShards {
-            rt,
             places,
             senders,
             takers,
@@ -79,23 +74,26 @@ impl<T: Op, R: Wait> OpShards<T, R> {
     }
 
     /// Puts the operation at the end of the queue of its group's shard. Full: it comes back, and only if that queue was full
-    /// at one moment: of the call, which the contract can't say.
-    pub fn submit(&self, pass: &mut SendPass<T>, op: T) -> Result<(), T>
+    /// at one moment: of the call, which the contract can't say. The pass has all that it had, and with an accepted operation one more:
+    /// `sending_goes_on` says how this adds up over many calls.
+    pub fn submit<R: Wait>(&self, rt: &R, pass: &mut SendPass<T>, op: T) -> Result<(), T>
         requires { pass.old.queues ≡ self.now.queues }
         ensures queues { pass.new.queues ≡ pass.old.queues }
         ensures answer { let shard = T.group op % length self.now.queues.names in
             MatchResult result
             (λ _. (pass.new ≡ after_submit pass.old shard op) × SenderWasKept T.group pass.new shard)
             (λ x. (x ≡ op) × (pass.new ≡ pass.old) × SenderWasKeptAt T.group self.now.places pass.old shard) }
+        ensures grew { Grew pass.old pass.new }
+        ensures sent { OnOk result (WasSent pass.old pass.new (λ x. x ≡ op)) }
     {
         let shard = op.group() % self.queues.len();
         let queue = &self.queues[shard];
-        pass.push(&self.rt, queue, shard, op)
+        pass.push(rt, queue, shard, op)
     }
 
     /// Takes the oldest operation of the shard. It is of that shard, and the next of its sender there. None only if the shard's queue was empty at one
     /// moment: of the call, which the contract can't say.
-    pub fn take(&self, pass: &mut TakePass<T>, shard: usize) -> Option<T>
+    pub fn take<R: Wait>(&self, rt: &R, pass: &mut TakePass<T>, shard: usize) -> Option<T>
         requires pass { pass.old.queues ≡ self.now.queues }
         requires shard { shard < length self.now.queues.names }
         ensures queues { pass.new.queues ≡ pass.old.queues }
@@ -106,7 +104,7 @@ impl<T: Op, R: Wait> OpShards<T, R> {
             × IsHere T.group (shard_of self.now.queues shard) x × IsNextAfter (at_shard pass.old.taken shard) x × TakerWasKept T.group pass.new shard) }
     {
         let queue = &self.queues[shard];
-        match pass.pop(&self.rt, queue, shard) {
+        match pass.pop(rt, queue, shard) {
             Some(ranked) => Some(ranked.op),
             None => None,
         }

@@ -39,7 +39,7 @@ fn request(group: usize) -> Job {
 }
 
 /// Sends to seventeen groups in turn, each operation until it is accepted.
-fn send_all<R: Wait>(rt: &R, shards: &OpShards<Job, R>, mut pass: SendPass<Job>, sender: usize)
+fn send_all<R: Wait>(rt: &R, shards: &OpShards<Job>, mut pass: SendPass<Job>, sender: usize)
     requires { pass.queues ≡ shards.now.queues }
 {
     let mut number = 0;
@@ -52,7 +52,7 @@ fn send_all<R: Wait>(rt: &R, shards: &OpShards<Job, R>, mut pass: SendPass<Job>,
             sender,
             number,
         };
-        match shards.submit(&mut pass, job) {
+        match shards.submit(rt, &mut pass, job) {
             Ok(()) => number += 1,
             Err(_) => yield_now(),
         }
@@ -63,7 +63,7 @@ fn send_all<R: Wait>(rt: &R, shards: &OpShards<Job, R>, mut pass: SendPass<Job>,
 fn take_all<R: Wait + Abort>(
     rt: &R,
     alloc: Global,
-    shards: &OpShards<Job, R>,
+    shards: &OpShards<Job>,
     mut pass: TakePass<Job>,
     taken: &AtomicU64,
 ) -> Vec<Job>
@@ -77,7 +77,7 @@ fn take_all<R: Wait + Abort>(
 /// Puts what it takes behind the operations that there are.
 fn take_into<R: Wait + Abort>(
     rt: &R,
-    shards: &OpShards<Job, R>,
+    shards: &OpShards<Job>,
     pass: &mut TakePass<Job>,
     taken: &AtomicU64,
     jobs: &mut Vec<Job>,
@@ -92,7 +92,7 @@ fn take_into<R: Wait + Abort>(
         if shard >= shards.count() {
             shard = 0;
         }
-        match shards.take(pass, shard) {
+        match shards.take(rt, pass, shard) {
             Some(job) => {
                 taken.fetch_add(1, Ordering::SeqCst);
                 jobs.push(job).expect(rt, "memory");
@@ -105,7 +105,7 @@ fn take_into<R: Wait + Abort>(
 
 fn send_two<R: Threads + Wait + Sync>(
     rt: &R,
-    shards: &OpShards<Job, R>,
+    shards: &OpShards<Job>,
     first: SendPass<Job>,
     second: SendPass<Job>,
     sender: usize,
@@ -133,7 +133,7 @@ struct Crew {
 fn run_crew<R: Threads + Wait + Abort + Sync>(
     rt: &R,
     alloc: Global,
-    shards: &OpShards<Job, R>,
+    shards: &OpShards<Job>,
     crew: Crew,
     taken: &AtomicU64,
 ) -> Vec<Job>
@@ -162,7 +162,7 @@ fn run_crew<R: Threads + Wait + Abort + Sync>(
 fn run_crews<R: Threads + Wait + Abort + Sync>(
     rt: &R,
     alloc: Global,
-    shards: &OpShards<Job, R>,
+    shards: &OpShards<Job>,
     one: Crew,
     two: Crew,
     taken: &AtomicU64,
@@ -263,7 +263,7 @@ fn is_complete(
 #[test]
 fn each_once_and_in_order(rt: HostRuntime) {
     let alloc = rt.alloc();
-    let (shards, mut sends, mut takes) = OpShards::new(alloc, rt, SHARDS, 64, 4, 3).expect(
+    let (shards, mut sends, mut takes) = OpShards::new(alloc, SHARDS, 64, 4, 3).expect(
         &rt, "memory",
     );
     let third = takes.pop().expect(&rt, "a taker");
@@ -297,14 +297,15 @@ fn each_once_and_in_order(rt: HostRuntime) {
 
 /// The group of the operation that comes back; none where it is accepted.
 fn given_back<R: Wait>(
-    shards: &OpShards<Job, R>,
+    rt: &R,
+    shards: &OpShards<Job>,
     pass: &mut SendPass<Job>,
     group: usize,
 ) -> Option<usize>
     requires { pass.old.queues ≡ shards.now.queues }
     ensures { pass.new.queues ≡ pass.old.queues }
 {
-    match shards.submit(pass, request(group)) {
+    match shards.submit(rt, pass, request(group)) {
         Ok(()) => None,
         Err(job) => Some(job.group),
     }
@@ -312,7 +313,8 @@ fn given_back<R: Wait>(
 
 /// The group of the operation that is taken of a shard.
 fn taken_of<R: Wait>(
-    shards: &OpShards<Job, R>,
+    rt: &R,
+    shards: &OpShards<Job>,
     pass: &mut TakePass<Job>,
     shard: usize,
 ) -> Option<usize>
@@ -320,34 +322,35 @@ fn taken_of<R: Wait>(
     requires shard { shard < length shards.now.queues.names }
     ensures { pass.new.queues ≡ pass.old.queues }
 {
-    match shards.take(pass, shard) {
+    match shards.take(rt, pass, shard) {
         None => None,
         Some(job) => Some(job.group),
     }
 }
 
 /// Whether the second of two operations of one shard comes back, and one of the other shard doesn't.
-fn gives_back_nine<R: Wait>(shards: &OpShards<Job, R>, mut send: SendPass<Job>) -> bool
+fn gives_back_nine<R: Wait>(rt: &R, shards: &OpShards<Job>, mut send: SendPass<Job>) -> bool
     requires { send.queues ≡ shards.now.queues }
 {
-    let first = given_back(shards, &mut send, 7);
-    let back = given_back(shards, &mut send, 9);
-    let other = given_back(shards, &mut send, 8);
+    let first = given_back(rt, shards, &mut send, 7);
+    let back = given_back(rt, shards, &mut send, 9);
+    let other = given_back(rt, shards, &mut send, 8);
     first.is_none() && back == Some(9) && other.is_none()
 }
 
 #[test]
 fn a_full_queue_gives_back(rt: HostRuntime) {
-    let (shards, mut sends, _takes) = OpShards::new(rt.alloc(), rt, 2, 1, 1, 1).expect(
+    let (shards, mut sends, _takes) = OpShards::new(rt.alloc(), 2, 1, 1, 1).expect(
         &rt, "memory",
     );
     let send = sends.pop().expect(&rt, "a sender");
-    assert!(rt; gives_back_nine(&shards, send));
+    assert!(rt; gives_back_nine(&rt, &shards, send));
 }
 
 /// Whether an operation of group 7 that was sent is taken once of shard 1 of two, and not of shard 0.
 fn takes_seven_once<R: Wait>(
-    shards: &OpShards<Job, R>,
+    rt: &R,
+    shards: &OpShards<Job>,
     mut send: SendPass<Job>,
     mut take: TakePass<Job>,
 ) -> bool
@@ -355,26 +358,27 @@ fn takes_seven_once<R: Wait>(
     requires take { take.queues ≡ shards.now.queues }
     requires shards { 1 < length shards.now.queues.names }
 {
-    let _ = given_back(shards, &mut send, 7);
-    let before = taken_of(shards, &mut take, 0);
-    let seven = taken_of(shards, &mut take, 1);
-    let behind = taken_of(shards, &mut take, 1);
+    let _ = given_back(rt, shards, &mut send, 7);
+    let before = taken_of(rt, shards, &mut take, 0);
+    let seven = taken_of(rt, shards, &mut take, 1);
+    let behind = taken_of(rt, shards, &mut take, 1);
     before.is_none() && seven == Some(7) && behind.is_none()
 }
 
 #[test]
 fn an_empty_queue_gives_none(rt: HostRuntime) {
-    let (shards, mut sends, mut takes) = OpShards::new(rt.alloc(), rt, 2, 1, 1, 1).expect(
+    let (shards, mut sends, mut takes) = OpShards::new(rt.alloc(), 2, 1, 1, 1).expect(
         &rt, "memory",
     );
     let send = sends.pop().expect(&rt, "a sender");
     let take = takes.pop().expect(&rt, "a taker");
-    assert!(rt; takes_seven_once(&shards, send, take));
+    assert!(rt; takes_seven_once(&rt, &shards, send, take));
 }
 
 /// Whether two takers take operations of groups 1 and 2 that were sent, one before and one after they are put together.
 fn take_one_each<R: Wait>(
-    shards: &OpShards<Job, R>,
+    rt: &R,
+    shards: &OpShards<Job>,
     mut send: SendPass<Job>,
     mut take: TakePass<Job>,
     mut other: TakePass<Job>,
@@ -384,22 +388,22 @@ fn take_one_each<R: Wait>(
     requires other { other.queues ≡ shards.now.queues }
     requires shards { 0 < length shards.now.queues.names }
 {
-    let _ = given_back(shards, &mut send, 1);
-    let _ = given_back(shards, &mut send, 2);
-    let first = taken_of(shards, &mut other, 0);
+    let _ = given_back(rt, shards, &mut send, 1);
+    let _ = given_back(rt, shards, &mut send, 2);
+    let first = taken_of(rt, shards, &mut other, 0);
     shards.gather(&mut take, other);
     shards.compare(&mut send, &mut take, 0);
-    let second = taken_of(shards, &mut take, 0);
+    let second = taken_of(rt, shards, &mut take, 0);
     first == Some(1) && second == Some(2) && shards.count() == 1
 }
 
 #[test]
 fn takers_put_together(rt: HostRuntime) {
-    let (shards, mut sends, mut takes) = OpShards::new(rt.alloc(), rt, 1, 4, 1, 2).expect(
+    let (shards, mut sends, mut takes) = OpShards::new(rt.alloc(), 1, 4, 1, 2).expect(
         &rt, "memory",
     );
     let send = sends.pop().expect(&rt, "a sender");
     let other = takes.pop().expect(&rt, "a taker");
     let take = takes.pop().expect(&rt, "a taker");
-    assert!(rt; take_one_each(&shards, send, take, other));
+    assert!(rt; take_one_each(&rt, &shards, send, take, other));
 }

@@ -3,6 +3,7 @@ use Rattle.std.proofs.lemmas.List.Elements.{All-set}
 use Rattle.atomic_table.specs.Seated.{TableId}
 use Rattle.op_shards.specs.declared.rule.Place.{Place}
 use Rattle.op_shards.proofs.Lanes.{in_range, queue_at, one_of_all, send_place, send_place_still, sends}
+use Rattle.op_shards.proofs.Sent.{by_shard}
 use Rattle.op_shards.proofs.pass.SendPass.push.Goals as goal
 
 pub index_mut-lane-requires : goal.index_mut-lane-requires
@@ -43,8 +44,12 @@ invariant_of-self g c =
       All-set (λ l. l.sender ≡ p) lanes k c.push.new.self (told.lane.1 ∙ own) c.self.invariant.1,
     )
 
-pub returns : goal.returns
-returns g c =
+pub returns-clause-lists : goal.returns-clause-lists
+returns-clause-lists g c =
+    ap (λ s. length s.accepted) (sym c.self.view_is) ∙ by_shard (λ l. l.accepted) (λ l. l.spot.queue) c.self.inside.lanes.items ∙ ap (λ s. length s.queues.names) c.self.view_is
+
+pub returns-clause-answer : goal.returns-clause-answer
+returns-clause-answer g c =
     let lane = c.index_mut-lane in
     let told = c.push.ensures in
     let lt = in_range (λ l. l.spot.queue) c.self.inside.lanes.items _ c.args.shard _ (ap (λ s. s.queues.names) c.self.view_is) c.requires.queue in
