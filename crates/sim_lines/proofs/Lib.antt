@@ -1,3 +1,1 @@
-pub mod Gathered
 pub mod Listed
-pub mod Numbers

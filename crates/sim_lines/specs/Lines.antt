@@ -1,69 +1,12 @@
--- What a line says: its words, numbers, and the event or question that they name.
-use Rattle.std.specs.Prelude.{ℕ, suc, ◌-◌, ◌^◌, ◌==◌, ◌&&◌, ◌||◌, nat_le, nat_lt, not, min, Bool, List, [], ◌∷◌, ◌++◌, length, slice_index, slice_get, Option, Some, None, if◌then◌else◌, codes}
-use Rattle.std.specs.List.{list_all, slice_split, flat_map, filter}
+-- What a line says: the event or question that its words name. Words, numbers, names and bytes are file_words'.
+use Rattle.std.specs.Prelude.{ℕ, ◌-◌, ◌==◌, List, [], ◌∷◌, slice_index, slice_get, Option, Some, None, if◌then◌else◌, codes}
 use Rattle.std.specs.Option.{option_map, option_and_then, unwrap_or}
-use Rattle.std.specs.Result.{result_ok}
-use Rattle.std.specs.Char.{is_digit}
 use Rattle.std.specs.Str.{bytes_eq}
-use Rattle.std.specs.Str.Parse.{digits_value}
-use Rattle.hex.specs.Hex.{decode_of}
 use Rattle.pg_log.specs.Requests.{ClientRequest}
+use Rattle.file_words.specs.Words.{words, number_in, numbers_in, id_in, object_in, bytes_in, class_of}
+pub use Rattle.file_words.specs.Words.{lines_of}
 use Rattle.sim_lines.specs.declared.line.Line.{Line}
 use Rattle.sim_lines.specs.declared.line.Line.TheVariants.{Empty, Map, See, Ask, Deliver, Show, Stop, Go, Resend, Bad}
-
--- the words of a line: what stands between spaces and tabs, where something does
-abbrev pub words_in : List ℕ → List (List ℕ)
-words_in piece = filter (λ w. not (length w == 0)) (slice_split (λ b. b == 9) piece)
-
-abbrev pub words : List ℕ → List (List ℕ)
-words line = flat_map words_in (slice_split (λ b. b == 32) line)
-
--- the lines of a text: what stands between line feeds, so that an empty one may be the last
-abbrev pub lines_of : List ℕ → List (List ℕ)
-lines_of text = slice_split (λ b. b == 10) text
-
--- one decimal digit or more, without a leading zero, and nothing else
-abbrev pub is_number : List ℕ → Bool
-is_number word = not (length word == 0) && (list_all (λ c. is_digit c 10) word && (length word == 1 || not (slice_index word 0 == 48)))
-
--- The number that a word writes. One above 2 ^ 64 - 1 counts as that: no node, map, message, client or request has it.
-abbrev pub number_in : List ℕ → Option ℕ
-number_in word = if is_number word then Some (min (digits_value 10 word) (2 ^ 64 - 1)) else None
-
--- each word's number, where each is one
-abbrev pub onto : ℕ → Option (List ℕ) → Option (List ℕ)
-onto n None = None
-onto n (Some ns) = Some (n ∷ ns)
-
-abbrev pub before : Option ℕ → Option (List ℕ) → Option (List ℕ)
-before None ns = None
-before (Some n) ns = onto n ns
-
-abbrev pub numbers_in : List (List ℕ) → Option (List ℕ)
-numbers_in [] = Some []
-numbers_in (word ∷ words) = before (number_in word) (numbers_in words)
-
--- numbers before those
-abbrev pub with_all : List ℕ → Option (List ℕ) → Option (List ℕ)
-with_all ns None = None
-with_all ns (Some ms) = Some (ns ++ ms)
-
--- a client's or a request's number: 1 to 2 ^ 32 - 1
-abbrev pub id_in : List ℕ → Option ℕ
-id_in word = option_and_then (λ n. if nat_le 1 n && nat_lt n (2 ^ 32) then Some n else None) (number_in word)
-
--- an object's name: 1 to 255 bytes
-abbrev pub object_in : List ℕ → Option (List ℕ)
-object_in word = if nat_le 1 (length word) && nat_le (length word) 255 then Some word else None
-
--- an input: pairs of hexadecimal digits, or `-` for none
-abbrev pub input_in : List ℕ → Option (List ℕ)
-input_in word = if bytes_eq word (codes "-") then Some [] else result_ok (decode_of word)
-
--- the id of the class of that name: its place among the names, from one on, or 64, which no class has
-abbrev pub class_of : ℕ → List (List ℕ) → List ℕ → ℕ
-class_of id [] word = 64
-class_of id (name ∷ names) word = if bytes_eq name word then id else class_of (suc id) names word
 
 abbrev pub or_bad : Option Line → Line
 or_bad o = unwrap_or o Bad
@@ -84,7 +27,7 @@ ids_in client number = option_and_then (λ c. option_map (λ n. (c, n)) (id_in n
 -- and its words in their order: client and number, object and class, method and input; too few or too many are none
 abbrev pub request_of : ℕ → ℕ → List ℕ → ℕ → List (List ℕ) → Option ClientRequest
 request_of client number object class (method ∷ input ∷ []) =
-    option_map (λ bytes. record { client = client; number = number; object = object; class = class; method = method; input = bytes }) (input_in input)
+    option_map (λ bytes. record { client = client; number = number; object = object; class = class; method = method; input = bytes }) (bytes_in input)
 request_of client number object class _ = None
 
 abbrev pub object_of : List (List ℕ) → ℕ → ℕ → List (List ℕ) → Option ClientRequest

@@ -1,11 +1,10 @@
 ghost use Rattle.std.specs.Prelude.{◌≡◌, ◌==◌, ◌∷◌, IfOk, map, slice_index};
 ghost use Rattle.std.specs.Option.{option_map};
-ghost use Rattle.sim_lines.specs.Lines.{line_of, says, or_bad, of_one, one_in, two_in, numbers_in};
+ghost use Rattle.file_words.specs.Words.{numbers_in};
+ghost use Rattle.sim_lines.specs.Lines.{line_of, says, or_bad, of_one, one_in, two_in};
 
-use crate::nodes::Nodes;
-use crate::number::number_in;
 use crate::request::asks;
-use crate::words::words;
+use file_words::{Nodes, nodes_in, number_in, words};
 use pg_log::Request;
 use placement::NodeId;
 use std::alloc::{AllocError, Global};
@@ -59,20 +58,6 @@ fn two_in(args: &[&str]) -> Option<(u64, u64)>
     }
 }
 
-/// Each word's number, as a node's, where each is one.
-fn numbers_in(alloc: Global, args: &[&str]) -> Result<Option<Nodes>, AllocError>
-    ensures { IfOk result (λ ns. ns ≡ numbers_in (map (λ w. w.now) args.now)) }
-{
-    let mut nodes = Vec::new(alloc);
-    for word in args {
-        match number_in(word) {
-            Some(number) => nodes.push(NodeId::new(number))?,
-            None => return Ok(None),
-        }
-    }
-    Ok(Some(Nodes::new(nodes)))
-}
-
 /// A word with one number.
 fn of_one(word: &str, number: u64) -> Line
     ensures { result ≡ of_one word.now number }
@@ -97,7 +82,7 @@ fn of_one(word: &str, number: u64) -> Line
 fn map_of(alloc: Global, args: &[&str]) -> Result<Line, AllocError>
     ensures { IfOk result (λ l. l ≡ or_bad (option_map Line.Map (numbers_in (map (λ w. w.now) args.now)))) }
 {
-    match numbers_in(alloc, args)? {
+    match nodes_in(alloc, args)? {
         Some(nodes) => Ok(Line::Map(nodes)),
         None => Ok(Line::Bad),
     }

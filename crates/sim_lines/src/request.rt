@@ -1,85 +1,13 @@
-//! Requests as a line's words write them.
+//! Requests as a line's words spell them.
 ghost use Rattle.std.specs.Prelude.{◌≡◌, IfOk, map};
-ghost use Rattle.sim_lines.specs.Lines.{ask_at, asks, class_of, ids_in, object_in, input_in, request_of, object_of, client_of};
+ghost use Rattle.sim_lines.specs.Lines.{ask_at, asks, ids_in, request_of, object_of, client_of};
 
 use crate::line::Line;
-use crate::number::{id_in, number_in};
-use hex::FromHexError;
-use object_store::{ObjectName, StoreError};
+use file_words::{bytes_in, class_of, id_in, number_in, object_in};
+use object_store::ObjectName;
 use pg_log::{ClientId, Request, RequestNumber};
 use placement::NodeId;
 use std::alloc::{AllocError, Global};
-use std::marker::Model;
-
-/// The id that no class has.
-const NO_CLASS: usize = 64;
-
-/// The id of the class of that name: its place among the names.
-fn class_of(names: &[&str], word: &str) -> usize
-    ensures { result ≡ class_of 0 (map (λ n. n.now) names.now) word.now }
-{
-    let mut id = 0;
-    for name in names {
-        if *name == word {
-            return id;
-        }
-        id += 1;
-    }
-    NO_CLASS
-}
-
-/// An object's name.
-fn object_in(alloc: Global, word: &str) -> Result<Option<ObjectName>, AllocError>
-    ensures { IfOk result (λ o. o ≡ object_in word.now) }
-{
-    match ObjectName::new(alloc, word) {
-        Ok(name) => Ok(Some(name)),
-        Err(StoreError::Range) => Ok(None),
-        Err(_) => Err(AllocError),
-    }
-}
-
-/// A list of bytes, as a line has it.
-#[derive(Drop)]
-struct Input {
-    bytes: Vec<u8>,
-}
-
-impl Model for Input {
-    ghost use Rattle.std.specs.Prelude.{List, ℕ};
-
-    ghost Value = { List ℕ };
-
-    ghost view = { λ i. i.bytes.items };
-}
-
-impl Input {
-    fn new(bytes: Vec<u8>) -> Input
-        ensures { result ≡ bytes.items }
-    {
-        Input { bytes }
-    }
-
-    fn into_bytes(self) -> Vec<u8>
-        ensures { result.items ≡ self }
-    {
-        self.bytes
-    }
-}
-
-/// An input: pairs of hexadecimal digits, or `-` for none.
-fn input_in(alloc: Global, word: &str) -> Result<Option<Input>, AllocError>
-    ensures { IfOk result (λ i. i ≡ input_in word.now) }
-{
-    if word == "-" {
-        return Ok(Some(Input::new(Vec::new(alloc))));
-    }
-    match hex::decode(alloc, word) {
-        Ok(bytes) => Ok(Some(Input::new(bytes))),
-        Err(FromHexError::OutOfMemory) => Err(AllocError),
-        Err(_) => Ok(None),
-    }
-}
 
 /// A client and a request's number.
 fn ids_in(client: &str, number: &str) -> Option<(ClientId, RequestNumber)>
@@ -102,10 +30,10 @@ fn request_of(
     ensures { IfOk result (λ r. r ≡ request_of client number object class (map (λ w. w.now) args.now)) }
 {
     match args {
-        [method, input] => match input_in(alloc, *input)? {
+        [method, input] => match bytes_in(alloc, *input)? {
             Some(input) => {
                 let method = String::from_str(alloc, *method)?;
-                let bytes = input.into_bytes();
+                let bytes = input.into_items();
                 Ok(Some(Request::new(client, number, object, class, method, bytes)))
             }
             None => Ok(None),

@@ -1,5 +1,6 @@
 use Rattle.std.proofs.Common.{[], ℕ, List, Bor, get_or, map, sym, ap, ◌∙◌}
-use Rattle.sim_lines.specs.Lines.{ask_at, asks, number_in}
+use Rattle.file_words.specs.Words.{number_in}
+use Rattle.sim_lines.specs.Lines.{ask_at, asks}
 use Rattle.sim_lines.proofs.Listed.{first_word}
 use Rattle.sim_lines.proofs.request.asks.Goals as goal
 

@@ -1,9 +1,0 @@
-use Rattle.std.proofs.Common.{◌≡◌, drop, map, Bor, List, ℕ}
-use Rattle.sim_lines.specs.Lines.{class_of}
-use Rattle.sim_lines.proofs.request.class_of.Given as goal
-
--- the names that are left give the id that all give
-abbrev pub invariant-loop-name : goal.invariant-loop-name
-invariant-loop-name l =
-    let text : Bor (List ℕ) → List ℕ = λ n. n.now in
-    record { id : l.id ≡ l.name-index; same : class_of l.id (map text (drop l.name-index l.names)) l.word ≡ class_of 0 (map text l.names) l.word }

@@ -1,9 +1,0 @@
-use Rattle.std.proofs.Common.{arith}
-use Rattle.std.proofs.lemmas.Grind.{common_steps}
-use Rattle.sim_lines.proofs.words.push_words.Goals as goal
-
-pub returns : goal.returns
-returns c = grind (arith, common_steps)
-
-pub loop-piece-preserved : goal.loop-piece-preserved
-loop-piece-preserved c = grind (arith, common_steps)
