@@ -4,6 +4,7 @@
 //! it, each once (`OpShards::compare`). What a pass has exists in the proofs alone.
 #![tactic(auto)]
 
+mod crossing;
 mod lane;
 mod laws;
 mod no_memory;
@@ -12,6 +13,7 @@ mod pass;
 mod rule;
 mod shards;
 
+pub use crossing::queues_cross;
 pub use laws::{Property, sending_goes_on};
 pub use no_memory::NoMemory;
 pub use op::Op;
