@@ -12,3 +12,4 @@ pub mod Carried
 pub mod Within
 pub mod Room
 pub mod Adopted
+pub mod Crosses

@@ -10,7 +10,7 @@ use Rattle.object_store.specs.Object.{PlainObject}
 use Rattle.object_store.specs.Names.{PlainObjects}
 use Rattle.txn.specs.declared.change.Change.{Change}
 use Rattle.bpf_decode.specs.Class.{ClassMethod, IsMethod, IsClass}
-use Rattle.bpf_machine.specs.Safe.{OutcomesAreOne}
+use Rattle.bpf_machine.specs.Safe.{IsSafe, OutcomesAreOne}
 use Rattle.interp.specs.Plain.{method_named}
 use Rattle.interp.specs.declared.outcome.Outcome.{Outcome}
 use Rattle.interp.specs.Plain.{Answers}
@@ -46,14 +46,20 @@ pub refusal-class : (classes : Classes) (xs : List ClientRequest) (r : ClientReq
 refusal-class classes xs r h e =
     refusal-room classes xs r h ∙ ap (λ b. cond b (Some StaleNumber) (refusal_of_class (slice_get classes r.class) r)) e
 
-pub method_named-is : (class : List ClassMethod) (name : List ℕ) (m : ClassMethod) → AllByRecursion IsMethod class → method_named class name ≡ Some m → IsMethod m
-method_named-is [] name m h e = absurd (none-some m e)
-method_named-is (x ∷ class) name m h e =
-    let P : ClassMethod → Type 0 = IsMethod in
-    elim (bytes_eq x.name name) as (λ b. cond b (Some x) (method_named class name) ≡ Some m → IsMethod m) [
+-- what holds of each method of a class holds of that of a name
+method_named-all : (P : ClassMethod → Type 0) (class : List ClassMethod) (name : List ℕ) (m : ClassMethod) → AllByRecursion P class → method_named class name ≡ Some m → P m
+method_named-all P [] name m h e = absurd (none-some m e)
+method_named-all P (x ∷ class) name m h e =
+    elim (bytes_eq x.name name) as (λ b. cond b (Some x) (method_named class name) ≡ Some m → P m) [
       | true ↦ λ q. subst P (same_Some x m q) h.0
-      | false ↦ λ q. method_named-is class name m h.1 q
+      | false ↦ λ q. method_named-all P class name m h.1 q
     ] e
+
+pub method_named-is : (class : List ClassMethod) (name : List ℕ) (m : ClassMethod) → AllByRecursion IsMethod class → method_named class name ≡ Some m → IsMethod m
+method_named-is class name m h e = method_named-all IsMethod class name m h e
+
+pub method_named-safe : (class : List ClassMethod) (name : List ℕ) (m : ClassMethod) → AllByRecursion IsSafe class → method_named class name ≡ Some m → IsSafe m
+method_named-safe class name m h e = method_named-all IsSafe class name m h e
 
 unrefused-method : (o : Option ClassMethod) (m : ClassMethod) (r : ClientRequest) → o ≡ Some m → length r.input ≤ m.in_cap → refusal_of_method o r ≡ None
 unrefused-method o m r e h =

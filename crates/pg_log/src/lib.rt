@@ -6,8 +6,10 @@
 //! The laws of legal lists, of their objects and of their replies are contracts of functions that do nothing.
 #![tactic(auto)]
 
+mod class_test;
 mod classes;
 mod client_id;
+mod crossing;
 mod entry;
 mod group;
 mod group_work;
@@ -16,10 +18,13 @@ mod log_error;
 mod object_limits;
 mod places;
 mod request;
+mod request_list;
 mod request_number;
 
+pub use class_test::class_refusal;
 pub use classes::Classes;
 pub use client_id::ClientId;
+pub use crossing::{entry_crosses, group_crosses, request_crosses, table_crosses};
 pub use entry::Entry;
 pub use group::{Group, LOG_LIMIT};
 pub use group_work::{GroupWork, go_on, go_on_as, start, with_group};
@@ -28,4 +33,6 @@ pub use laws::{adopting, classes_added, folds, legal_lists, pairs, refusals, rep
 pub use log_error::LogError;
 pub use object_limits::objects_within_limits;
 pub use request::Request;
+pub use request_list::{are_same_requests, copy_log, copy_requests};
 pub use request_number::RequestNumber;
+pub use txn::NoMemory;

@@ -11,6 +11,7 @@ ghost use Rattle.pg_log.specs.Places.{ArePlaces, RoomStays};
 ghost use Rattle.pg_log.specs.Refusals.{place_of, refusal, refusal_of_method, Refuses, append_answer, list_after};
 ghost use Rattle.pg_log.specs.Entries.{IsOutcome, IsOutcomeOn, IsSafeRequest, IsNextEntry, Keeps, requests_of};
 
+use crate::class_test::class_of;
 use crate::classes::Classes;
 use crate::entry::Entry;
 use crate::group::{Group, LOG_LIMIT};
@@ -223,9 +224,7 @@ pub(crate) fn run_after(
     if places.is_reached(request.client(), request.number()) {
         return Err(LogError::StaleNumber);
     }
-    let Some(class) = table.get(request.class()) else {
-        return Err(LogError::NoClass);
-    };
+    let class = class_of(table, request)?;
     run_method(alloc, class, objects.get(request.object()), request)
 }
 
@@ -274,15 +273,10 @@ fn run_method(
 {
     outcomes();
     let _ = class.methods();
-    let name = request.method();
-    let Some(method) = class.method(name) else {
-        return Err(LogError::NoMethod);
-    };
-    let _ = method.ops();
     match call(
         alloc,
         class,
-        name,
+        request.method(),
         object,
         request.client().get(),
         request.input(),

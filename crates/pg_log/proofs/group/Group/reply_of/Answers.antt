@@ -1,4 +1,4 @@
-use Rattle.std.proofs.Common.{◌≡◌, ◌∙◌, ap, sym, subst, List, Some, FitsSigned, w64, rules}
+use Rattle.std.proofs.Common.{◌∙◌, ap, sym, subst, List, Some, FitsSigned, w64, rules}
 use Rattle.std.specs.Int.{cast_unsigned}
 use Rattle.std.proofs.lemmas.Int.{to_z-of_z}
 use Rattle.pg_log.specs.Requests.{ClientRequest}

@@ -1,12 +1,8 @@
-use Rattle.std.proofs.Common.{◌∙◌, ap, ℕ, List, subst, arith}
+use Rattle.std.proofs.Common.{◌∙◌, ℕ, List, subst, arith}
 use Rattle.std.proofs.lemmas.Grind.{common_steps}
 use Rattle.std.specs.Option.{option_copied}
-use Rattle.std.proofs.lemmas.Option.{same_Some}
-use Rattle.bpf_decode.specs.Class.{ClassMethod}
-use Rattle.bpf_machine.specs.Safe.{IsSafe}
-use Rattle.interp.specs.Plain.{method_named}
 use Rattle.interp.specs.Plain.{Answers}
-use Rattle.pg_log.proofs.Ran.{ran}
+use Rattle.pg_log.proofs.Ran.{method_named-safe, ran}
 use Rattle.pg_log.proofs.group.append.run_method.Goals as goal
 
 pub returns-in-Ok-clause-ok : goal.returns-in-Ok-clause-ok
@@ -19,13 +15,10 @@ returns-in-Ok-clause-ok c =
     let Q : ℕ → Type 0 = λ w. Answers class r.method object w c.input.result.now o in
     let R : List ℕ → Type 0 = λ w. Answers class r.method object r.client w o in
     ran c.outcomes.ensures class c.methods.ensures.class object r o
-    (subst R c.input.ensures (subst Q (c.get.ensures.value ∙ c.client.ensures) (subst P c.method-name.ensures c.in-Ok.ensures.ok)))
+    (subst R c.input.ensures (subst Q (c.get.ensures.value ∙ c.client.ensures) (subst P c.method.ensures c.in-Ok.ensures.ok)))
 
 pub returns-in-Ok-clause-safe : goal.returns-in-Ok-clause-safe
-returns-in-Ok-clause-safe c = λ m e.
-    let P : ClassMethod → Type 0 = IsSafe in
-    let found = c.in-Some.ensures ∙ ap (method_named c.args.class.now) c.method-name.ensures in
-    subst P (same_Some c.in-Some.method.now m (found ∙ e)) c.ops.ensures.verified.safe
+returns-in-Ok-clause-safe c = λ m e. method_named-safe c.args.class.now c.args.request.now.method m c.methods.ensures.safe e
 
 pub returns-in-Err-InputTooLong-clause-err : goal.returns-in-Err-InputTooLong-clause-err
 returns-in-Err-InputTooLong-clause-err c = grind (arith, common_steps)

@@ -1,0 +1,57 @@
+//! Lists of requests.
+ghost use Rattle.std.specs.Prelude.{◌≡◌, ◌∷◌, ◌++◌, [], ◌↔◌, IfOk, IfErr, OnOk, IsTrue};
+ghost use Rattle.pg_log.specs.Entries.{requests_of};
+
+use crate::entry::Entry;
+use crate::log_error::LogError;
+use crate::request::Request;
+use std::alloc::Global;
+
+/// Adds an equal request.
+fn add_copy(alloc: Global, request: &Request, copies: &mut Vec<Request>) -> Result<(), LogError>
+    ensures ok { OnOk result (copies.new.items ≡ copies.old.items ++ request.now ∷ []) }
+    ensures err { IfErr result (λ e. e ≡ LogError.NoMemory) }
+{
+    let copy = request.copy(alloc)?;
+    copies.push(copy)?;
+    Ok(())
+}
+
+/// Equal requests. It refuses by `NoMemory` alone, and costs their bytes.
+pub fn copy_requests(alloc: Global, list: &[Request]) -> Result<Vec<Request>, LogError>
+    ensures ok { IfOk result (λ v. v.items ≡ list.now) }
+    ensures err { IfErr result (λ e. e ≡ LogError.NoMemory) }
+{
+    let mut copies = Vec::new(alloc);
+    for request in list {
+        add_copy(alloc, request, &mut copies)?;
+    }
+    Ok(copies)
+}
+
+/// The requests of these entries. It refuses by `NoMemory` alone, and costs their bytes.
+pub fn copy_log(alloc: Global, entries: &[Entry]) -> Result<Vec<Request>, LogError>
+    ensures ok { IfOk result (λ v. v.items ≡ requests_of entries.now) }
+    ensures err { IfErr result (λ e. e ≡ LogError.NoMemory) }
+{
+    let mut copies = Vec::new(alloc);
+    for entry in entries {
+        add_copy(alloc, &entry.request, &mut copies)?;
+    }
+    Ok(copies)
+}
+
+/// Whether the lists are equal.
+pub fn are_same_requests(list: &[Request], other: &[Request]) -> bool
+    ensures { IsTrue result ↔ (list.now ≡ other.now) }
+{
+    if list.len() != other.len() {
+        return false;
+    }
+    for place in 0..list.len() {
+        if !list[place].is(&other[place]) {
+            return false;
+        }
+    }
+    true
+}
