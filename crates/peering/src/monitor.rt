@@ -1,6 +1,7 @@
 ghost use Rattle.std.specs.Prelude.{◌≡◌, ◌⊎◌, ◌<◌, ◌-◌, ◌^◌, IfOk, IfErr, OnOk, OnErr, MatchResult, Some, None};
 ghost use Rattle.group_world.specs.Maps.{no_map};
 ghost use Rattle.group_world.specs.Monitor.{no_maps, map_refusal, next_map, with_map, activation_refusal, with_activated};
+ghost use Rattle.peering.specs.Mapping.{IsNextMap};
 
 use group_world::{Epoch, GroupMap, MonitorError};
 use peering_messages::{are_same, is_acting};
@@ -88,22 +89,33 @@ impl Monitor {
         ensures refused { OnErr result (self.new ≡ self.old) }
         ensures err { IfErr result (λ e. (map_refusal self.old acting.now ≡ Some e) ⊎ ((e ≡ MonitorError.NoMemory) × (map_refusal self.old acting.now ≡ None))) }
     {
+        let next = self.next_map(self.alloc, acting)?;
+        let kept = next.copy(self.alloc)?;
+        self.keep(kept);
+        Ok(next)
+    }
+
+    /// The map that it would make next, which is `new_map`'s first half: all that grows. It changes nothing, and refuses
+    /// as `new_map` does. The map's lists are of the given allocator.
+    pub fn next_map(&self, alloc: Global, acting: &[NodeId]) -> Result<GroupMap, MonitorError>
+        ensures ok { IfOk result (λ m. (m ≡ next_map self.now acting.now) × (map_refusal self.now acting.now ≡ None)) }
+        ensures next { IfOk result (λ m. IsNextMap self.now m) }
+        ensures err { IfErr result (λ e. (map_refusal self.now acting.now ≡ Some e) ⊎ ((e ≡ MonitorError.NoMemory) × (map_refusal self.now acting.now ≡ None))) }
+    {
         if !is_acting(acting) {
             return Err(MonitorError::BadActing);
         }
         if self.newest.epoch().get() == u32::MAX {
             return Err(MonitorError::EpochsUsedUp);
         }
-        let next = self.next_map(acting)?;
-        let kept = next.copy(self.alloc)?;
-        self.keep(kept);
-        Ok(next)
+        let map = self.map_after(alloc, acting)?;
+        Ok(map)
     }
 
-    /// Keeps a map as the newest.
-    fn keep(&mut self, map: GroupMap)
-        ensures newest { self.new.newest ≡ map }
-        ensures activated { self.new.activated ≡ self.old.activated }
+    /// Keeps its next map as the newest, which is `new_map`'s second half. It takes no memory, and can't be refused.
+    pub fn keep(&mut self, map: GroupMap)
+        requires { IsNextMap self.old map }
+        ensures { self.new ≡ with_map self.old map.acting }
     {
         let before = mem::replace(&mut self.newest, map);
         if self.is_activated {
@@ -113,7 +125,7 @@ impl Monitor {
     }
 
     /// The next map of an acting list.
-    fn next_map(&self, acting: &[NodeId]) -> Result<GroupMap, AllocError>
+    fn map_after(&self, alloc: Global, acting: &[NodeId]) -> Result<GroupMap, AllocError>
         requires { self.now.newest.epoch < 2 ^ 32 - 1 }
         ensures { IfOk result (λ m. m ≡ next_map self.now acting.now) }
     {
@@ -121,17 +133,24 @@ impl Monitor {
         if are_same(self.newest.acting(), acting) {
             let (interval, prev) = (self.newest.interval(), self.newest.prev());
             let prev_acting = self.newest.prev_acting();
-            return map_of(self.alloc, epoch, interval, acting, prev, prev_acting);
+            return map_of(alloc, epoch, interval, acting, prev, prev_acting);
         }
         let last = self.last_activated();
         map_of(
-            self.alloc,
+            alloc,
             epoch,
             epoch,
             acting,
             last.interval(),
             last.acting(),
         )
+    }
+
+    /// The newest map, `no_map` before the first.
+    pub fn newest(&self) -> &GroupMap
+        ensures { result.now ≡ self.now.newest }
+    {
+        &self.newest
     }
 
     /// The map that was the newest at the last activation.

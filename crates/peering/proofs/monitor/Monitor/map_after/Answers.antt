@@ -1,5 +1,5 @@
 use Rattle.std.proofs.Common.{rules}
-use Rattle.peering.proofs.monitor.Monitor.next_map.Goals as goal
+use Rattle.peering.proofs.monitor.Monitor.map_after.Goals as goal
 
 -- turned by compared_with_the_activated_map
 pub returns-then-are_same : goal.returns-then-are_same
