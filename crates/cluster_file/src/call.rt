@@ -1,0 +1,79 @@
+ghost use Rattle.std.specs.Prelude.{◌≡◌, string_bytes};
+
+use object_store::ObjectName;
+use pg_log::ClientId;
+use std::marker::Model;
+
+/// A call as a file plans it: which client makes it, on which object, of which class and method, with which input.
+#[derive(Drop)]
+pub struct Call {
+    client: ClientId,
+    object: ObjectName,
+    class: usize,
+    method: String,
+    input: Vec<u8>,
+}
+
+impl Model for Call {
+    ghost use Rattle.std.specs.Prelude.{string_bytes};
+    ghost use Rattle.cluster_file.specs.Planned.{PlannedCall};
+
+    ghost Value = { PlannedCall };
+
+    ghost view = { λ c. record { client = c.client; object = c.object; class = c.class; method = string_bytes c.method; input = c.input.items } };
+}
+
+impl Call {
+    pub(crate) fn new(
+        client: ClientId,
+        object: ObjectName,
+        class: usize,
+        method: String,
+        input: Vec<u8>,
+    ) -> Call
+        ensures { result ≡ record { client = client; object = object; class = class; method = string_bytes method; input = input.items } }
+    {
+        Call {
+            client,
+            object,
+            class,
+            method,
+            input,
+        }
+    }
+
+    /// Its client, 1 to 64.
+    pub fn client(&self) -> ClientId
+        ensures { result ≡ self.now.client }
+    {
+        self.client
+    }
+
+    /// The object that it runs on.
+    pub fn object(&self) -> &ObjectName
+        ensures { result.now ≡ self.now.object }
+    {
+        &self.object
+    }
+
+    /// The id of its class, or 64, which no class has.
+    pub fn class(&self) -> usize
+        ensures { result ≡ self.now.class }
+    {
+        self.class
+    }
+
+    /// The name of its method.
+    pub fn method(&self) -> &str
+        ensures { result.now ≡ self.now.method }
+    {
+        &self.method
+    }
+
+    /// Its input.
+    pub fn input(&self) -> &[u8]
+        ensures { result.now ≡ self.now.input }
+    {
+        &self.input
+    }
+}

@@ -1,0 +1,17 @@
+//! Cluster files as text: `read_plan` reads a file whole, its cluster, its clients' calls and its maps, or finds its first
+//! malformed line; `call_lines`, `bad_line` and `refused_line` give what is printed. The rules are `specs/Plan.antt` and
+//! `specs/Text.antt`; each call's result is pinned by them, and it fails for want of memory alone. What a plan does in
+//! threads is `cluster_tool`'s.
+#![tactic(auto)]
+
+mod call;
+mod config;
+mod plan;
+mod step;
+mod text;
+
+pub use call::Call;
+pub use config::Numbers;
+pub use plan::{Plan, Reading, read_plan};
+pub use step::Step;
+pub use text::{bad_line, push_refused, push_replied, refused_line};

@@ -1,0 +1,96 @@
+ghost use Rattle.std.specs.Prelude.{◌≡◌, IfOk, map};
+ghost use Rattle.cluster_file.specs.Reading.{IsReading};
+ghost use Rattle.cluster_file.specs.Plan.{StepsRead, plan_of};
+
+use crate::config::{Numbers, first_line};
+use crate::step::{Step, read_step};
+use file_words::{ended_lines, words};
+use std::alloc::{AllocError, Global};
+use std::marker::Model;
+
+/// What a file says: the numbers of its first line, and what each further line does, in their order.
+#[derive(Drop)]
+pub struct Plan {
+    numbers: Numbers,
+    steps: Vec<Step>,
+}
+
+impl Model for Plan {
+    ghost use Rattle.cluster_file.specs.Plan.{FilePlan};
+
+    ghost Value = { FilePlan };
+
+    ghost view = { λ p. record { numbers = p.numbers; steps = p.steps.items } };
+}
+
+impl Plan {
+    fn new(numbers: Numbers, steps: Vec<Step>) -> Plan
+        ensures { result ≡ record { numbers = numbers; steps = steps.items } }
+    {
+        Plan { numbers, steps }
+    }
+
+    /// The numbers of the first line.
+    pub fn numbers(&self) -> Numbers
+        ensures { result ≡ self.now.numbers }
+    {
+        self.numbers
+    }
+
+    /// What each further line does.
+    pub fn steps(&self) -> &[Step]
+        ensures { result.now ≡ self.now.steps }
+    {
+        &self.steps
+    }
+}
+
+/// What reading a file came to.
+#[derive(Drop)]
+pub enum Reading {
+    /// It is well-formed.
+    Plan(Plan),
+    /// The first malformed line, by its number from 1.
+    Bad(usize),
+}
+
+/// The lines after the first, up to the first that is malformed.
+fn read_steps(
+    alloc: Global,
+    names: &[&str],
+    lines: &[&str],
+    steps: &mut Vec<Step>,
+) -> Result<Option<usize>, AllocError>
+    ensures { IfOk result (λ bad. StepsRead (map (λ n. n.now) names.now) (map (λ l. l.now) lines.now) steps.old.items steps.new.items bad) }
+{
+    let mut clients = 0;
+    let mut number = 1;
+    for line in lines {
+        number += 1;
+        let Some(step) = read_step(alloc, names, number, clients, *line)? else {
+            return Ok(Some(number));
+        };
+        clients = step.clients_after(clients);
+        steps.push(step)?;
+    }
+    Ok(None)
+}
+
+/// Reads a file whole, where the classes go by these names, the one of id 0 first.
+pub fn read_plan(alloc: Global, names: &[&str], text: &str) -> Result<Reading, AllocError>
+    ensures { IfOk result (λ r. IsReading (plan_of (map (λ n. n.now) names.now) text.now) r) }
+{
+    let lines = ended_lines(alloc, text)?;
+    let [first, rest @ ..] = lines.as_slice() else {
+        return Ok(Reading::Bad(1));
+    };
+    let first_words = words(alloc, *first)?;
+    let Some(numbers) = first_line(&first_words) else {
+        return Ok(Reading::Bad(1));
+    };
+    let mut steps = Vec::new(alloc);
+    match read_steps(alloc, names, rest, &mut steps)? {
+        Some(bad) => Ok(Reading::Bad(bad)),
+        None => Ok(Reading::Plan(Plan::new(numbers, steps))),
+    }
+}
