@@ -55,7 +55,7 @@ goes_on names ws at after clients number next old new d step h a n going is =
           ∙ behind_one going.done step (rest step);
     } in
     subst (λ k. Going names ws k (clients_after clients step) next old (new ++ step ∷ [])) (sym a)
-        (subst (λ k. Going names ws (suc at) (clients_after clients step) k old (new ++ step ∷ [])) (sym n) one)
+    (subst (λ k. Going names ws (suc at) (clients_after clients step) k old (new ++ step ∷ [])) (sym n) one)
 
 -- all lines were read
 pub all_read : (names : List (List ℕ)) (ws : List (Bor (List ℕ))) (at clients number : ℕ) (old new : List Step) → length ws ≤ at

@@ -26,14 +26,14 @@ ended numbers (word ∷ words) = None
 abbrev pub last_in : ℕ → ℕ → ℕ → List (List ℕ) → Option Numbers
 last_in nodes replicas groups words =
     option_and_then (λ shards. option_and_then (λ workers. option_and_then
-        (λ tries. ended record { nodes = nodes; replicas = replicas; groups = groups; shards = shards.0; workers = workers.0; tries = tries.0 } tries.1)
-        (field_in (codes "tries") workers.1)) (field_in (codes "workers") shards.1)) (field_in (codes "shards") words)
+    (λ tries. ended record { nodes = nodes; replicas = replicas; groups = groups; shards = shards.0; workers = workers.0; tries = tries.0 } tries.1)
+    (field_in (codes "tries") workers.1)) (field_in (codes "workers") shards.1)) (field_in (codes "shards") words)
 
 abbrev pub numbers_in_line : List (List ℕ) → Option Numbers
 numbers_in_line words =
     option_and_then (λ nodes. option_and_then (λ replicas. option_and_then
-        (λ groups. last_in nodes.0 replicas.0 groups.0 groups.1)
-        (field_in (codes "groups") replicas.1)) (field_in (codes "replicas") nodes.1)) (field_in (codes "nodes") words)
+    (λ groups. last_in nodes.0 replicas.0 groups.0 groups.1)
+    (field_in (codes "groups") replicas.1)) (field_in (codes "replicas") nodes.1)) (field_in (codes "nodes") words)
 
 abbrev pub first_line : List (List ℕ) → Option Numbers
 first_line [] = None
@@ -47,8 +47,8 @@ client_in clients word = option_and_then (λ n. if nat_le n (suc clients) && nat
 abbrev pub call_of : List (List ℕ) → ℕ → List (List ℕ) → Option PlannedCall
 call_of names client (object ∷ class ∷ method ∷ input ∷ []) =
     option_and_then
-        (λ o. option_map (λ bytes. record { client = client; object = o; class = class_of 0 names class; method = method; input = bytes }) (bytes_in input))
-        (object_in object)
+    (λ o. option_map (λ bytes. record { client = client; object = o; class = class_of 0 names class; method = method; input = bytes }) (bytes_in input))
+    (object_in object)
 call_of names client _ = None
 
 abbrev pub call_in : List (List ℕ) → ℕ → List (List ℕ) → Option PlannedCall

@@ -19,11 +19,7 @@ pub struct Numbers {
 fn value_in(key: &str, word: &str, value: &str) -> Option<u64>
     ensures { result ≡ value_in key.now word.now value.now }
 {
-    if word == key {
-        number_in(value)
-    } else {
-        None
-    }
+    if word == key { number_in(value) } else { None }
 }
 
 /// A key's number, and the words that are left.

@@ -13,7 +13,11 @@ pub fn bad_line(alloc: Global, number: usize) -> Result<String, AllocError>
 }
 
 /// The line that says why a line is refused, which is printed as number and name.
-pub fn refused_line<E: Display + Drop>(alloc: Global, number: usize, why: E) -> Result<String, AllocError>
+pub fn refused_line<E: Display + Drop>(
+    alloc: Global,
+    number: usize,
+    why: E,
+) -> Result<String, AllocError>
     ensures { IfOk result (λ t. IfSome (E.output why) (λ reason. string_bytes t ≡ refused_line number reason)) }
 {
     format!(in alloc; "line {number}: refused {why}\n")
@@ -40,7 +44,9 @@ pub fn push_replied(
 {
     let digits = hex::encode(alloc, output)?;
     let shown = or_dash(&digits);
-    let line = format!(in alloc; "client {client} call {number} place {place} code {code} output {shown}\n")?;
+    let line = format!(in alloc;
+        "client {client} call {number} place {place} code {code} output {shown}\n"
+    )?;
     text.push_str(&line)
 }
 

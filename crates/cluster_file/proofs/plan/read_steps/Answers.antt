@@ -21,8 +21,8 @@ loop-line-preserved c =
     record {
       going = subst (λ n. Going names c.args.lines.now at n number old c.push.new.self.items) (sym c.clients_after-clients.ensures)
           (subst (λ l. Going names c.args.lines.now at (clients_after c.loop-line.clients c.in-Some.step) number old l) (sym c.in_ok-push.ensures.items)
-              (goes_on names c.args.lines.now c.loop-line.line-index at c.loop-line.clients c.loop-line.number number old c.loop-line.steps.items _ c.in-Some.step
-                  c.loop-line-test.true (omega arith) (omega arith) c.loop-line.invariant.going (sym c.in_ok-step.ensures ∙ c.in-Some.is)));
+          (goes_on names c.args.lines.now c.loop-line.line-index at c.loop-line.clients c.loop-line.number number old c.loop-line.steps.items _ c.in-Some.step
+          c.loop-line-test.true (omega arith) (omega arith) c.loop-line.invariant.going (sym c.in_ok-step.ensures ∙ c.in-Some.is)));
       number = omega (arith, c.loop-line.invariant.number);
     }
 
