@@ -40,6 +40,24 @@ impl PackedLog {
     {
         &self.rest
     }
+
+    /// Those that follow, of which nothing is kept here. It takes no memory.
+    pub fn into_rest(self) -> Vec<Request>
+        ensures { result.items ≡ self.rest }
+    {
+        self.rest
+    }
+
+    /// An equal one. It costs a copy of the rest.
+    pub fn copy(&self, alloc: Global) -> Result<PackedLog, NoMemory>
+        ensures { IfOk result (λ p. p ≡ self.now) }
+    {
+        let rest = copied(alloc, &self.rest)?;
+        Ok(PackedLog {
+            common: self.common,
+            rest,
+        })
+    }
 }
 
 /// Leaves out of a list the first requests, as many as the receiver has told that it has, or all of them where the list

@@ -1,0 +1,2 @@
+-- A reader must believe Carried.
+pub mod Carried

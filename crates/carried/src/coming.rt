@@ -1,0 +1,70 @@
+ghost use Rattle.std.specs.Prelude.{◌≡◌, ◌≤◌, length, take, IfOk};
+ghost use Rattle.pg_log.specs.Entries.{requests_of};
+ghost use Rattle.replication.specs.Packed.{spread};
+ghost use Rattle.carried.specs.Carried.{comes_as, whole_list};
+
+use crate::operation::{Carried, ShortLog};
+use group_world::{Event, Kind, Message, Requests};
+use pg_log::{Entry, NoMemory, Request, copy_log};
+use replication::PackedLog;
+use std::alloc::Global;
+
+/// The first requests of a log.
+fn beginning(alloc: Global, own: &[Entry], count: usize) -> Result<Vec<Request>, NoMemory>
+    requires { count ≤ length own.now }
+    ensures { IfOk result (λ v. v.items ≡ take count (requests_of own.now)) }
+{
+    match copy_log(alloc, &own[..count]) {
+        Ok(list) => Ok(list),
+        Err(_) => Err(NoMemory),
+    }
+}
+
+/// The list that was packed, by the own log. It copies of that what was left out, and nothing else.
+fn spread(alloc: Global, own: &[Entry], log: PackedLog) -> Result<Vec<Request>, NoMemory>
+    requires { log.common ≤ length own.now }
+    ensures { IfOk result (λ v. v.items ≡ spread (requests_of own.now) log) }
+{
+    let mut list = beginning(alloc, own, log.common())?;
+    let mut rest = log.into_rest();
+    match list.append(&mut rest) {
+        Ok(()) => Ok(list),
+        Err(_) => Err(NoMemory),
+    }
+}
+
+/// The message of a list, whole; nothing where the own log is too short.
+fn whole_list(alloc: Global, own: &[Entry], short: ShortLog) -> Result<Option<Event>, NoMemory>
+    ensures { IfOk result (λ e. e ≡ whole_list (requests_of own.now) short) }
+{
+    let ShortLog {
+        sender,
+        interval,
+        log,
+    } = short;
+    if own.len() < log.common() {
+        return Ok(None);
+    }
+    let list = Requests::new(spread(alloc, own, log)?);
+    let kind = Kind::Log(interval, list);
+    Ok(Some(Event::Message(Message { sender, kind })))
+}
+
+/// The event that comes to a node whose log is `own`. A list gets its beginning from there; where that is too short it is
+/// lost, and nothing comes. It fails for want of memory alone, and that for a list alone, of which it copies the beginning.
+pub fn event_of(alloc: Global, own: &[Entry], carried: Carried) -> Result<Option<Event>, NoMemory>
+    ensures { IfOk result (λ e. e ≡ comes_as (requests_of own.now) carried) }
+{
+    match carried {
+        Carried::Plain(event) => Ok(Some(event)),
+        Carried::Query {
+            sender,
+            map,
+            told: _,
+        } => {
+            let kind = Kind::Query(map);
+            Ok(Some(Event::Message(Message { sender, kind })))
+        }
+        Carried::Log(short) => whole_list(alloc, own, short),
+    }
+}

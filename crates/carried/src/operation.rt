@@ -1,0 +1,121 @@
+ghost use Rattle.std.specs.Prelude.{◌≡◌, IfOk};
+ghost use Rattle.carried.specs.Carried.{told_of};
+
+use group_world::{Epoch, Event, GroupMap, Party};
+use pg_log::NoMemory;
+use placement::NodeId;
+use replication::PackedLog;
+use std::alloc::Global;
+
+/// An operation for a group at a node.
+#[derive(Drop)]
+pub struct Operation {
+    /// The group.
+    pub group: usize,
+    /// The node that it is for.
+    pub node: NodeId,
+    /// What comes to the group there.
+    pub carried: Carried,
+}
+
+/// A message with a list of which its receiver has the beginning.
+#[derive(Drop)]
+pub struct ShortLog {
+    /// Who sends it.
+    pub sender: Party,
+    /// The interval that it is of.
+    pub interval: Epoch,
+    /// The list, without its beginning.
+    pub log: PackedLog,
+}
+
+/// What comes to a node.
+#[derive(Drop)]
+pub enum Carried {
+    /// A request, a map, or a message that carries no list of a log's entries.
+    Plain(Event),
+    /// The primary of the map asks for a list.
+    Query {
+        /// Who asks.
+        sender: Party,
+        /// The map.
+        map: GroupMap,
+        /// How many entries the sender has committed: they are left out of the list that answers.
+        told: usize,
+    },
+    /// A list, for the primary that asked for it.
+    Log(ShortLog),
+}
+
+impl Carried {
+    /// How many entries a question says that its sender has committed; 0 of anything else.
+    pub fn told(&self) -> usize
+        ensures { result ≡ told_of self.now }
+    {
+        match self {
+            Carried::Query { told, .. } => *told,
+            Carried::Plain(_) => 0,
+            Carried::Log(_) => 0,
+        }
+    }
+
+    /// An equal one. It costs a copy of what is carried.
+    pub fn copy(&self, alloc: Global) -> Result<Carried, NoMemory>
+        ensures { IfOk result (λ c. c ≡ self.now) }
+    {
+        match self {
+            Carried::Plain(event) => copy_plain(alloc, event),
+            Carried::Query { sender, map, told } => copy_query(alloc, *sender, map, *told),
+            Carried::Log(short) => copy_short(alloc, short),
+        }
+    }
+}
+
+/// An equal request, map or message.
+fn copy_plain(alloc: Global, event: &Event) -> Result<Carried, NoMemory>
+    ensures { IfOk result (λ c. c ≡ Carried.Plain event.now) }
+{
+    match event {
+        Event::Request(request) => {
+            let Ok(request) = request.copy(alloc) else {
+                return Err(NoMemory);
+            };
+            Ok(Carried::Plain(Event::Request(request)))
+        }
+        Event::Map(map) => {
+            let map = map.copy(alloc)?;
+            Ok(Carried::Plain(Event::Map(map)))
+        }
+        Event::Message(message) => {
+            let message = message.copy(alloc)?;
+            Ok(Carried::Plain(Event::Message(message)))
+        }
+    }
+}
+
+/// An equal question.
+fn copy_query(
+    alloc: Global,
+    sender: Party,
+    map: &GroupMap,
+    told: usize,
+) -> Result<Carried, NoMemory>
+    ensures { IfOk result (λ c. c ≡ Carried.Query sender map.now told) }
+{
+    let map = map.copy(alloc)?;
+    Ok(Carried::Query { sender, map, told })
+}
+
+/// An equal list.
+fn copy_short(alloc: Global, short: &ShortLog) -> Result<Carried, NoMemory>
+    ensures { IfOk result (λ c. c ≡ Carried.Log short.now) }
+{
+    let Ok(log) = short.log.copy(alloc) else {
+        return Err(NoMemory);
+    };
+    Ok(Carried::Log(ShortLog {
+        sender: short.sender,
+        interval: short.interval,
+        log,
+    }))
+}

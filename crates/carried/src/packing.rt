@@ -1,0 +1,87 @@
+ghost use Rattle.std.specs.Prelude.{◌≡◌, ℕ, IfOk, IfErr};
+ghost use Rattle.carried.specs.Carried.{carried_as, packed_as, IsLog};
+
+use crate::operation::{Carried, ShortLog};
+use group_world::{Epoch, Event, Kind, Message, Packet, Party, Requests};
+use pg_log::NoMemory;
+use replication::pack_log;
+use std::alloc::Global;
+
+/// A list without its first requests, as many as its receiver told, or without all where that is more.
+fn pack_list(
+    alloc: Global,
+    told: usize,
+    sender: Party,
+    interval: Epoch,
+    list: Requests,
+) -> Result<Carried, NoMemory>
+    ensures { (committed : ℕ) → IfOk result (λ c. c ≡ carried_as committed told sender (Kind.Log interval list)) }
+{
+    let Ok(log) = pack_log(alloc, list.items(), told) else {
+        return Err(NoMemory);
+    };
+    Ok(Carried::Log(ShortLog {
+        sender,
+        interval,
+        log,
+    }))
+}
+
+/// A message that is carried as it is.
+fn plain(sender: Party, kind: Kind) -> Carried
+    ensures { result ≡ Carried.Plain (Event.Message (record { sender = sender; kind = kind })) }
+{
+    Carried::Plain(Event::Message(Message { sender, kind }))
+}
+
+/// What a message says, as it is carried.
+fn carry(
+    alloc: Global,
+    committed: usize,
+    told: usize,
+    sender: Party,
+    kind: Kind,
+) -> Result<Carried, NoMemory>
+    ensures ok { IfOk result (λ c. c ≡ carried_as committed told sender kind) }
+    ensures err { IfErr result (λ _. IsLog kind) }
+{
+    match kind {
+        Kind::Query(map) => Ok(Carried::Query {
+            sender,
+            map,
+            told: committed,
+        }),
+        Kind::Log(interval, list) => pack_list(alloc, told, sender, interval, list),
+        Kind::Install(map, list) => Ok(plain(sender, Kind::Install(map, list))),
+        Kind::Installed(interval) => Ok(plain(sender, Kind::Installed(interval))),
+        Kind::AskActivate(interval) => Ok(plain(sender, Kind::AskActivate(interval))),
+        Kind::Activated(interval) => Ok(plain(sender, Kind::Activated(interval))),
+        Kind::Rep(interval, place, request) => {
+            Ok(plain(sender, Kind::Rep(interval, place, request)))
+        }
+        Kind::Ack(interval, length) => Ok(plain(sender, Kind::Ack(interval, length))),
+        Kind::Reply(client, number, place, answer) => {
+            Ok(plain(sender, Kind::Reply(client, number, place, answer)))
+        }
+    }
+}
+
+/// A message of a node as it is carried, and its receiver. A question for a list says how much the sender has committed; a
+/// list goes without its first `told` requests, which its receiver has. It fails for want of memory, and that for a list
+/// alone, of which it copies what isn't left out; anything else costs nothing.
+pub fn pack(
+    alloc: Global,
+    committed: usize,
+    told: usize,
+    packet: Packet,
+) -> Result<(Party, Carried), NoMemory>
+    ensures ok { IfOk result (λ p. p ≡ packed_as committed told packet) }
+    ensures err { IfErr result (λ _. IsLog packet.message.kind) }
+{
+    let Packet { receiver, message } = packet;
+    let Message { sender, kind } = message;
+    match carry(alloc, committed, told, sender, kind) {
+        Ok(carried) => Ok((receiver, carried)),
+        Err(error) => Err(error),
+    }
+}
