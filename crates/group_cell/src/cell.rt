@@ -1,0 +1,169 @@
+ghost use Rattle.std.specs.Prelude.{◌≡◌, ◌≢◌, ℕ, ◌≤◌, [], length, take, IfOk, IfErr, OnErr, MatchOption};
+ghost use mathlib.Core.List.{IsPrefix};
+ghost use Rattle.pg_log.specs.declared.group.TheConstants.{LOG_LIMIT};
+ghost use Rattle.pg_log.specs.Entries.{requests_of};
+ghost use Rattle.group_world.specs.Node.{committed_list, fresh};
+ghost use Rattle.group_world.specs.Rules.{local_step};
+ghost use Rattle.peering.specs.Numbered.{IsDone, IsRefusal};
+ghost use Rattle.commit_board.specs.Lists.{list_at};
+ghost use Rattle.commit_board.specs.Tokens.{writer_of};
+ghost use Rattle.group_cell.specs.Posts.{IsReplyOf};
+
+use crate::board_name::BoardName;
+use crate::reply::Reply;
+use commit_board::{Board, Note, Writer};
+use group_world::{Answer, Event, HandleError, Messages, Place};
+use peering::{GroupNode, nothing_is_cut};
+use pg_log::{ClassTable, Entry, NoMemory, legal_lists, pairs, replies};
+use std::alloc::Global;
+use std::marker::{Model, PhantomData};
+
+/// A node of a group, and the writer of its row on the board. The row's list is the list that the node has committed.
+/// Contracts see the node, the row and its list.
+#[derive(Drop)]
+pub struct GroupCell<N: BoardName> {
+    node: GroupNode<N>,
+    writer: Writer,
+    of: PhantomData<N>,
+}
+
+impl<N: BoardName> Model for GroupCell<N> {
+    ghost use Rattle.std.specs.Prelude.{◌≡◌};
+    ghost use Rattle.group_world.specs.Node.{committed_list};
+    ghost use Rattle.group_cell.specs.Cell.{CellState};
+
+    ghost Value = { CellState };
+
+    ghost view = { λ c. record {
+      node = c.node;
+      row = c.writer.row;
+      written = c.writer.list;
+    } };
+
+    ghost invariant = { λ c. (c.writer.board ≡ N.board) × (c.writer.list ≡ committed_list c.node.state) };
+}
+
+impl<N: BoardName> GroupCell<N> {
+    /// The cell of a node that has nothing, with the writer of an empty row of the named board. It takes no memory.
+    pub fn new(node: GroupNode<N>, writer: Writer) -> GroupCell<N>
+        requires node { node.state ≡ fresh }
+        requires writer { (writer.board ≡ N.board) × (writer.list ≡ []) }
+        ensures { result ≡ record {
+          node = node;
+          row = writer.row;
+          written = [];
+        } }
+    {
+        GroupCell {
+            node,
+            writer,
+            of: PhantomData,
+        }
+    }
+
+    /// The node, to be read.
+    pub fn node(&self) -> &GroupNode<N>
+        ensures node { result.now ≡ self.now.node }
+        ensures written { self.now.written ≡ committed_list self.now.node.state }
+    {
+        &self.node
+    }
+
+    /// Takes an event as `GroupNode::handle` does: the same state, exactly its messages, its refusal. It adds to the row's
+    /// list exactly the requests that became committed, in their order, each by one `commit`. A refusal leaves the cell as
+    /// if the event never came.
+    ///
+    /// The board and the table are the named ones.
+    pub fn handle(
+        &mut self,
+        board: &Board,
+        table: &ClassTable,
+        event: Event,
+    ) -> Result<Messages, HandleError>
+        requires board { board.now ≡ N.board }
+        requires table { table.now ≡ N.classes }
+        ensures done { IfOk result (λ sent. IsDone self.old.node self.new.node sent (local_step N.classes self.old.node.number self.old.node.state event)) }
+        ensures why { IfErr result (λ e. IsRefusal (local_step N.classes self.old.node.number self.old.node.state event) e) }
+        ensures refused { OnErr result (self.new ≡ self.old) }
+        ensures written { self.new.written ≡ committed_list self.new.node.state }
+        ensures grew { IsPrefix self.old.written self.new.written }
+        ensures row { self.new.row ≡ self.old.row }
+    {
+        nothing_is_cut();
+        let before = self.node.committed();
+        let _ = self.node.group().entries();
+        let sent = self.node.handle(table, event)?;
+        let after = self.node.committed();
+        let _ = self.node.group().len();
+        commit_all(
+            board,
+            &mut self.writer,
+            self.node.group().entries(),
+            before,
+            after,
+        );
+        Ok(sent)
+    }
+
+    /// The answer to the request at a committed place, with a note of the row's list; none exactly where the place isn't
+    /// committed. It costs a copy of the request and of the answer. Only memory may be refused.
+    ///
+    /// The board is the named one.
+    pub fn reply(
+        &mut self,
+        alloc: Global,
+        board: &Board,
+        place: Place,
+    ) -> Result<Option<Reply<N>>, NoMemory>
+        requires { board.now ≡ N.board }
+        ensures same { self.new ≡ self.old }
+        ensures reply { IfOk result (λ o. MatchOption o (length self.old.written ≤ place) (IsReplyOf self.old place)) }
+    {
+        legal_lists();
+        pairs();
+        replies();
+        if place >= self.node.committed() {
+            return Ok(None);
+        }
+        let Some((code, output)) = self.node.group().reply_at(place) else {
+            return Ok(None);
+        };
+        let answer = Answer::new(code, Vec::from_slice(alloc, output)?);
+        let Ok(request) = self.node.group().entries()[place].request.copy(alloc) else {
+            return Err(NoMemory);
+        };
+        Ok(Some(Reply {
+            request,
+            row: self.writer.row(),
+            place,
+            answer,
+            note: board.share(&mut self.writer),
+            of: PhantomData,
+        }))
+    }
+
+    /// A note of the row's list, which is what the node has committed. It takes no memory, and reads nothing of the board.
+    ///
+    /// The board is the named one.
+    pub fn note(&mut self, board: &Board) -> Note
+        requires { board.now ≡ N.board }
+        ensures board { result.board ≡ N.board }
+        ensures row { list_at result.lists self.old.row ≡ committed_list self.old.node.state }
+        ensures others { (i : ℕ) → i ≢ self.old.row → list_at result.lists i ≡ [] }
+        ensures same { self.new ≡ self.old }
+    {
+        board.share(&mut self.writer)
+    }
+}
+
+/// Commits the requests of the entries from one place up to another, each by one `commit`.
+fn commit_all(board: &Board, writer: &mut Writer, entries: &[Entry], from: usize, to: usize)
+    requires board { writer.old.board ≡ board.now }
+    requires places { (from ≤ to) × (to ≤ length entries.now) × (length entries.now ≤ LOG_LIMIT) }
+    requires begun { writer.old.list ≡ take from (requests_of entries.now) }
+    ensures { writer.new ≡ writer_of writer.old.board writer.old.row (take to (requests_of entries.now)) }
+{
+    for place in from..to {
+        board.commit(writer, &entries[place].request);
+    }
+}
