@@ -2,7 +2,7 @@
 use Rattle.std.proofs.Common.{◌≡◌, ◌<◌, ◌≤◌, ℕ, suc, List, [], ◌∷◌, ◌++◌, length, map, Bor, Option, Some, None, refl, sym, ap, subst, ◌∙◌, append_assoc, append-nil, drop, drop-cons, get_or}
 use Rattle.std.proofs.Math.ListN.{drop_of_length-le}
 use Rattle.std.specs.Prelude.{Result, Ok, Err}
-use Rattle.cluster_file.specs.Plan.{before_steps, go_on, steps_of, step_of, clients_after}
+use Rattle.cluster_file.specs.Plan.{before_steps, go_on, steps_of, step_of, clients_after, clients_in}
 use Rattle.cluster_file.specs.declared.step.Step.{Step}
 
 -- steps before those of the rest
@@ -18,14 +18,20 @@ behind_one : (done : List Step) (step : Step) (rest : Result (List Step) ℕ) �
 behind_one done step (Ok steps) = ap Ok (sym (append_assoc done (step ∷ []) steps))
 behind_one done step (Err line) = refl
 
+-- one step more
+counted_one : (clients : ℕ) (done : List Step) (step : Step) → clients_after (clients_in clients done) step ≡ clients_in clients (done ++ step ∷ [])
+counted_one clients [] step = refl
+counted_one clients (first ∷ done) step = counted_one (clients_after clients first) done step
+
 -- what was read of the lines, the last of which had that number
 pub record Going (names : List (List ℕ)) (ws : List (Bor (List ℕ))) (at clients number : ℕ) (old new : List Step) : Type 0 where
   pub done : List Step
   pub grew : new ≡ old ++ done
+  pub counted : clients ≡ clients_in 0 done
   pub rest : steps_of names 1 0 (map (λ w. w.now) ws) ≡ behind done (steps_of names number clients (map (λ w. w.now) (drop at ws)))
 
 pub starts : (names : List (List ℕ)) (ws : List (Bor (List ℕ))) (old : List Step) → Going names ws 0 0 1 old old
-starts names ws old = record { done = []; grew = sym (append-nil old); rest = behind_none _ }
+starts names ws old = record { done = []; grew = sym (append-nil old); counted = refl; rest = behind_none _ }
 
 -- the rest begins with the line
 at_line : (names : List (List ℕ)) (ws : List (Bor (List ℕ))) (at clients number : ℕ) (d : Bor (List ℕ)) → at < length ws
@@ -50,6 +56,7 @@ goes_on names ws at after clients number next old new d step h a n going is =
     let one : Going names ws (suc at) (clients_after clients step) (suc number) old (new ++ step ∷ []) = record {
       done = going.done ++ step ∷ [];
       grew = ap (λ l. l ++ step ∷ []) going.grew ∙ append_assoc old going.done (step ∷ []);
+      counted = ap (λ k. clients_after k step) going.counted ∙ counted_one 0 going.done step;
       rest = going.rest
           ∙ ap (behind going.done) (at_line names ws at clients number d h ∙ ap (λ o. go_on (suc number) rest o) some)
           ∙ behind_one going.done step (rest step);
@@ -59,6 +66,6 @@ goes_on names ws at after clients number next old new d step h a n going is =
 
 -- all lines were read
 pub all_read : (names : List (List ℕ)) (ws : List (Bor (List ℕ))) (at clients number : ℕ) (old new : List Step) → length ws ≤ at
-    → Going names ws at clients number old new → (steps : List Step) × (steps_of names 1 0 (map (λ w. w.now) ws) ≡ Ok steps) × (new ≡ old ++ steps)
+    → Going names ws at clients number old new → (steps : List Step) × (steps_of names 1 0 (map (λ w. w.now) ws) ≡ Ok steps) × (new ≡ old ++ steps) × (clients ≡ clients_in 0 steps)
 all_read names ws at clients number old new h going =
-    (going.done, going.rest ∙ ap (λ ls. behind going.done (steps_of names number clients (map (λ (w : Bor (List ℕ)). w.now) ls))) (drop_of_length-le ws h) ∙ ap Ok (append-nil going.done), going.grew)
+    (going.done, going.rest ∙ ap (λ ls. behind going.done (steps_of names number clients (map (λ (w : Bor (List ℕ)). w.now) ls))) (drop_of_length-le ws h) ∙ ap Ok (append-nil going.done), going.grew, going.counted)

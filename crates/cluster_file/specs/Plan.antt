@@ -111,8 +111,3 @@ calls_of client (Call call ∷ steps) = if nat_le call.client client && nat_le c
 abbrev pub clients_in : ℕ → List Step → ℕ
 clients_in clients [] = clients
 clients_in clients (step ∷ steps) = clients_in (clients_after clients step) steps
-
--- steps grew by those of the lines, up to the first malformed one
-abbrev pub StepsRead : List (List ℕ) → List (List ℕ) → List Step → List Step → Option ℕ → Type 0
-StepsRead names lines old new (Some bad) = steps_of names 1 0 lines ≡ Err bad
-StepsRead names lines old new None = (steps : List Step) × (steps_of names 1 0 lines ≡ Ok steps) × (new ≡ old ++ steps)

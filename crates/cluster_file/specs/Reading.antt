@@ -1,6 +1,9 @@
 -- What reading a file came to.
-use Rattle.std.specs.Prelude.{◌≡◌, ℕ, Result, Ok, Err}
-use Rattle.cluster_file.specs.Plan.{FilePlan}
+use Rattle.std.specs.Prelude.{◌≡◌, ◌++◌, ℕ, List, Result, Ok, Err}
+use Rattle.cluster_file.specs.Plan.{FilePlan, steps_of, clients_in}
+use Rattle.cluster_file.specs.declared.step.Step.{Step}
+use Rattle.cluster_file.specs.declared.plan.Ended.{Ended}
+use Rattle.cluster_file.specs.declared.plan.Ended.TheVariants.{All, Bad as AtBad}
 use Rattle.cluster_file.specs.declared.plan.Reading.{Reading}
 use Rattle.cluster_file.specs.declared.plan.Reading.TheVariants.{Plan as APlan, Bad as ABad}
 
@@ -10,3 +13,8 @@ IsReading (Ok plan) (APlan p) = p ≡ plan
 IsReading (Err line) (ABad n) = n ≡ line
 IsReading (Ok plan) (ABad n) = ⊥
 IsReading (Err line) (APlan p) = ⊥
+
+-- steps grew by those of the lines, which name so many clients; or a line is malformed
+abbrev pub StepsRead : List (List ℕ) → List (List ℕ) → List Step → List Step → Ended → Type 0
+StepsRead names lines old new (AtBad line) = steps_of names 1 0 lines ≡ Err line
+StepsRead names lines old new (All clients) = (steps : List Step) × (steps_of names 1 0 lines ≡ Ok steps) × (new ≡ old ++ steps) × (clients ≡ clients_in 0 steps)

@@ -1,6 +1,6 @@
 ghost use Rattle.std.specs.Prelude.{◌≡◌, IfOk, map};
-ghost use Rattle.cluster_file.specs.Reading.{IsReading};
-ghost use Rattle.cluster_file.specs.Plan.{StepsRead, plan_of};
+ghost use Rattle.cluster_file.specs.Reading.{IsReading, StepsRead};
+ghost use Rattle.cluster_file.specs.Plan.{clients_in, plan_of};
 
 use crate::config::{Numbers, first_line};
 use crate::step::{Step, read_step};
@@ -13,6 +13,8 @@ use std::marker::Model;
 pub struct Plan {
     numbers: Numbers,
     steps: Vec<Step>,
+    clients: u32,
+    ghost counted: { clients ≡ clients_in 0 steps.items },
 }
 
 impl Model for Plan {
@@ -24,10 +26,15 @@ impl Model for Plan {
 }
 
 impl Plan {
-    fn new(numbers: Numbers, steps: Vec<Step>) -> Plan
+    fn new(numbers: Numbers, steps: Vec<Step>, clients: u32) -> Plan
+        requires { clients ≡ clients_in 0 steps.items }
         ensures { result ≡ record { numbers = numbers; steps = steps.items } }
     {
-        Plan { numbers, steps }
+        Plan {
+            numbers,
+            steps,
+            clients,
+        }
     }
 
     /// The numbers of the first line.
@@ -43,6 +50,13 @@ impl Plan {
     {
         &self.steps
     }
+
+    /// How many clients it names, 0 to 64.
+    pub fn clients(&self) -> u32
+        ensures { result ≡ clients_in 0 self.now.steps }
+    {
+        self.clients
+    }
 }
 
 /// What reading a file came to.
@@ -54,26 +68,34 @@ pub enum Reading {
     Bad(usize),
 }
 
+/// Where reading the lines after the first ended.
+enum Ended {
+    /// All are well-formed, and name so many clients.
+    All(u32),
+    /// The first malformed line, by its number.
+    Bad(usize),
+}
+
 /// The lines after the first, up to the first that is malformed.
 fn read_steps(
     alloc: Global,
     names: &[&str],
     lines: &[&str],
     steps: &mut Vec<Step>,
-) -> Result<Option<usize>, AllocError>
-    ensures { IfOk result (λ bad. StepsRead (map (λ n. n.now) names.now) (map (λ l. l.now) lines.now) steps.old.items steps.new.items bad) }
+) -> Result<Ended, AllocError>
+    ensures { IfOk result (λ e. StepsRead (map (λ n. n.now) names.now) (map (λ l. l.now) lines.now) steps.old.items steps.new.items e) }
 {
     let mut clients = 0;
     let mut number = 1;
     for line in lines {
         number += 1;
         let Some(step) = read_step(alloc, names, number, clients, *line)? else {
-            return Ok(Some(number));
+            return Ok(Ended::Bad(number));
         };
         clients = step.clients_after(clients);
         steps.push(step)?;
     }
-    Ok(None)
+    Ok(Ended::All(clients))
 }
 
 /// Reads a file whole, where the classes go by these names, the one of id 0 first.
@@ -90,7 +112,7 @@ pub fn read_plan(alloc: Global, names: &[&str], text: &str) -> Result<Reading, A
     };
     let mut steps = Vec::new(alloc);
     match read_steps(alloc, names, rest, &mut steps)? {
-        Some(bad) => Ok(Reading::Bad(bad)),
-        None => Ok(Reading::Plan(Plan::new(numbers, steps))),
+        Ended::Bad(line) => Ok(Reading::Bad(line)),
+        Ended::All(clients) => Ok(Reading::Plan(Plan::new(numbers, steps, clients))),
     }
 }

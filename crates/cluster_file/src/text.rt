@@ -34,7 +34,7 @@ fn or_dash(digits: &str) -> &str
 pub fn push_replied(
     alloc: Global,
     text: &mut String,
-    client: u32,
+    client: usize,
     number: usize,
     place: usize,
     code: i64,
@@ -54,7 +54,7 @@ pub fn push_replied(
 pub fn push_refused<E: Display + Drop>(
     alloc: Global,
     text: &mut String,
-    client: u32,
+    client: usize,
     number: usize,
     why: E,
 ) -> Result<(), AllocError>
