@@ -1,6 +1,8 @@
 -- Beginnings of one list, and lists of lists.
-use Rattle.std.proofs.Common.{◌≡◌, ◌≢◌, ◌⊎◌, inl, inr, ⊎_elim, ℕ, zero, suc, List, [], ◌∷◌, ◌++◌, refl, ap, sym, ◌∙◌, append_assoc}
+use Rattle.std.proofs.Common.{◌≡◌, ◌≢◌, ◌⊎◌, inl, inr, ⊎_elim, ℕ, zero, suc, ◌+◌, List, [], ◌∷◌, ◌++◌, map, refl, ap, sym, ◌∙◌, append_assoc, arith}
 use Rattle.std.proofs.lemmas.List.{append-nil}
+use Rattle.std.proofs.lemmas.List.FromFn.{map-range_with_len_more}
+use Rattle.std.specs.List.{range_with_len}
 use mathlib.Core.List.{IsPrefix}
 use Rattle.pg_log.specs.Requests.{ClientRequest}
 use Rattle.commit_board.specs.Lists.{list_at, put_at, longer, merged}
@@ -72,3 +74,7 @@ list_at-merged [] ys i = refl
 list_at-merged (x ∷ xs) [] i = sym (longer-nil (list_at (x ∷ xs) i))
 list_at-merged (x ∷ xs) (y ∷ ys) zero = refl
 list_at-merged (x ∷ xs) (y ∷ ys) (suc i) = list_at-merged xs ys i
+
+-- one row more
+pub more_rows : {B : Type 0} (f : ℕ → B) (n : ℕ) (xs ys : List B) (y : B) → xs ≡ map f (range_with_len 0 n) → y ≡ f n → ys ≡ xs ++ y ∷ [] → ys ≡ map f (range_with_len 0 (n + 1))
+more_rows f n xs ys y is so more = more ∙ (λ k. is k ++ so k ∷ []) ∙ sym (map-range_with_len_more f 0 n n (omega arith))

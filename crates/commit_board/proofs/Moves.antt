@@ -1,5 +1,5 @@
 -- Each step keeps the rule of the board.
-use Rattle.std.proofs.Common.{◌≡◌, ◌≢◌, ◌⊎◌, ℕ, zero, suc, ◌+◌, ◌%◌, ◌^◌, ◌<◌, List, [], ◌∷◌, ◌++◌, length, set, replicate, eqb, eq-eqb, ne_eqb, Bool, cond, refl, sym, ap, ◌∙◌, subst, ⊎_elim, arith, length-append, length-set}
+use Rattle.std.proofs.Common.{◌≡◌, ◌≢◌, ◌⊎◌, ℕ, zero, suc, ◌+◌, ◌%◌, ◌^◌, ◌<◌, ◌≤◌, List, [], ◌∷◌, ◌++◌, length, set, replicate, eqb, eq-eqb, ne_eqb, Bool, cond, refl, sym, ap, ◌∙◌, subst, ⊎_elim, arith, length-append, length-set}
 use Rattle.std.specs.Prelude.{slice_index}
 use mathlib.Core.List.{IsPrefix}
 use mathlib.Core.Logic.{dite}
@@ -7,11 +7,11 @@ use native.Mathlib.Decide.{ℕ_discrete}
 use mathlib.Core.Option.{some, none, some-ne-none, some-injective}
 use lib.ListN.{get_elem?}
 use Rattle.atomic_table.specs.Table.{State, Me, keeps, step, opening, Allows, Splits, Joins}
-use Rattle.atomic_table.proofs.Lists.{at_set, set_again}
+use Rattle.atomic_table.proofs.Lists.{at_last, at_longer, at_set, set_again, set_else, set_here}
 use Rattle.pg_log.specs.Requests.{ClientRequest}
 use Rattle.commit_board.specs.declared.view.View.{View}
 use Rattle.commit_board.specs.Lists.{list_at, put_at, longer, merged}
-use Rattle.commit_board.specs.Rows.{Fits, Kept, Adds, Looks, Merges, Compares, view_of, writes, owner, sees, other_rows, one_row, shared, told_of, newcomer, informed}
+use Rattle.commit_board.specs.Rows.{HasRow, Fits, Kept, Adds, Looks, Merges, Compares, view_of, writes, owner, sees, other_rows, one_row, shared, told_of, newcomer, informed}
 use Rattle.commit_board.proofs.Lists.{prefix_self, prefix_none, prefix_trans, longer_left, longer_right, longer_of, longer_either, list_at-put, list_at-put_else, list_at-merged}
 
 -- f, but x at k
@@ -52,6 +52,24 @@ all_more F [] w mine others (suc j) u e = absurd (some-ne-none u (sym e))
 all_more F (x ∷ xs) w mine others zero u e = others zero u e
 all_more F (x ∷ xs) w mine others (suc j) u e = all_more (λ k. F (suc k)) xs w mine (λ k. others (suc k)) j u e
 
+-- who has a row has it still after a seat's view changed, if that view keeps the row or didn't have it
+has_after : (views : List View) (by : ℕ) (v w : View) → get_elem? views by ≡ some v → (j i : ℕ) → (v.first ≤ i → i < v.end → (w.first ≤ i) × (i < w.end)) → HasRow views j i → HasRow (set views by w) j i
+has_after views by v w at j i still h =
+    dite (ℕ_discrete j by)
+    (λ e.
+    let same : h.0 ≡ v = some-injective h.0 v (sym h.1 ∙ ap (get_elem? views) e ∙ at) in
+    let kept = still (subst (λ (u : View). u.first ≤ i) same h.2) (subst (λ (u : View). i < u.end) same h.3) in
+    (w, ap (get_elem? (set views by w)) e ∙ set_here views by w (below_length views by v at), kept.0, kept.1))
+    (λ ne. (h.0, set_else views by j w ne ∙ h.1, h.2, h.3))
+
+-- so after it changed but for its rows
+has_set : (views : List View) (by : ℕ) (v w : View) → get_elem? views by ≡ some v → w.first ≡ v.first → w.end ≡ v.end → (j i : ℕ) → HasRow views j i → HasRow (set views by w) j i
+has_set views by v w at first end j i = has_after views by v w at j i (λ lo hi. (omega (arith, first, lo), omega (arith, end, hi)))
+
+-- and where another seat comes
+has_more : (views : List View) (w : View) (j i : ℕ) → HasRow views j i → HasRow (views ++ w ∷ []) j i
+has_more views w j i h = (h.0, at_longer views (w ∷ []) j h.0 h.1, h.2, h.3)
+
 -- a view that writes nothing fits where what it knows does
 reads : (rows : ℕ) (logs : ℕ → List ClientRequest) (seat : ℕ → ℕ) (by : ℕ) (known told : List (List ClientRequest)) → ((i : ℕ) → IsPrefix (list_at known i) (logs i)) → ((i : ℕ) → IsPrefix (list_at told i) (logs i)) → Fits rows logs seat by (sees known told)
 reads rows logs seat by known told k t = record { owns = λ i lo hi. absurd (omega arith); knows = k; told = t }
@@ -71,6 +89,7 @@ begins rows words is = record {
   seat = λ i. 0;
   count = ap length is ∙ length_replicate rows;
   words = λ i h. ap (λ (ws : List ℕ). slice_index ws i) is ∙ index_replicate rows i;
+  writers = λ i lt. (owner rows, refl, omega arith, lt);
   views = all_more (Fits rows (λ i. []) (λ i. 0)) [] (owner rows) (record { owns = λ i lo hi. (hi, refl, refl); knows = λ i. prefix_none []; told = λ i. prefix_none [] }) (λ j u e. absurd (no_view j u e));
 }
 
@@ -112,6 +131,7 @@ grown rows id row own request s lt room kept at =
       words = λ i h. dite (ℕ_discrete i row)
           (λ e. ap (λ (k : ℕ). slice_index (set s.words row n) k) e ∙ index_set s.words row n within ∙ grew ∙ ap length (sym here ∙ ap logs' (sym e)))
           (λ ne. index_set_else s.words row i n ne ∙ kept.words i h ∙ ap length (sym (swapped_else kept.logs row i more ne)));
+      writers = λ i h. has_set s.views id (writes row (suc row) own) (writes row (suc row) more) at refl refl (kept.seat i) i (kept.writers i h);
       views = all_set (Fits rows logs' kept.seat) s.views id (writes row (suc row) more)
           record {
             owns = λ i lo hi. let e : i ≡ row = omega arith in (subst (λ (k : ℕ). k < rows) (sym e) lt, ap kept.seat e ∙ owned.1, sym here ∙ ap logs' (sym e));
@@ -125,13 +145,15 @@ grown rows id row own request s lt room kept at =
           });
     }
 
--- the view of one seat changes, and nothing else
-abbrev changed : (rows id : ℕ) (s : State ℕ View) (w : View) (words : List ℕ) → words ≡ s.words → (kept : Kept rows s) → Fits rows kept.logs kept.seat id w → Kept rows record { words = words; homes = s.homes; views = set s.views id w }
-changed rows id s w words is kept fits = record {
+-- the view of one seat changes, but for its rows, and nothing else
+abbrev changed : (rows id : ℕ) (s : State ℕ View) (v w : View) (words : List ℕ) → words ≡ s.words → (kept : Kept rows s) → get_elem? s.views id ≡ some v → w.first ≡ v.first → w.end ≡ v.end → Fits rows kept.logs kept.seat id w
+    → Kept rows record { words = words; homes = s.homes; views = set s.views id w }
+changed rows id s v w words is kept at first end fits = record {
   logs = kept.logs;
   seat = kept.seat;
   count = ap length is ∙ kept.count;
   words = λ i h. ap (λ (ws : List ℕ). slice_index ws i) is ∙ kept.words i h;
+  writers = λ i lt. has_set s.views id v w at first end (kept.seat i) i (kept.writers i lt);
   views = all_set (Fits rows kept.logs kept.seat) s.views id w fits (λ j u apart e. kept.views j u e);
 }
 
@@ -160,7 +182,7 @@ module _ (rows slots id : ℕ) where
       dite (ℕ_discrete i row)
       (λ e. subst (λ (x : List ClientRequest). IsPrefix x (kept.logs i)) (ap kept.logs e ∙ sym (list_at-put known row l) ∙ ap (list_at put) (sym e)) (prefix_self (kept.logs i)))
       (λ ne. subst (λ (x : List ClientRequest). IsPrefix x (kept.logs i)) (sym (list_at-put_else known row i l ne)) (mine.knows i)) in
-      (sees put [], keeps, tt, changed rows id s (sees put []) (set s.words row (slice_index s.words row)) (set_index s.words row) kept (reads rows kept.logs kept.seat id put [] fits (λ i. prefix_none (kept.logs i))), (l, sym (kept.words row lt), mine.knows row, refl)) in
+      (sees put [], keeps, tt, changed rows id s (sees known []) (sees put []) (set s.words row (slice_index s.words row)) (set_index s.words row) kept at refl refl (reads rows kept.logs kept.seat id put [] fits (λ i. prefix_none (kept.logs i))), (l, sym (kept.words row lt), mine.knows row, refl)) in
       subst (λ (m : Me ℕ View). Allows (Kept rows) slots id m row (λ n. n) (Looks (step slots row 0 0 none) m)) (sym is) here
 
   pub unites : (row : ℕ) (me : Me ℕ View) (known told : List (List ClientRequest)) → me ≡ (sees known told, [])
@@ -174,7 +196,7 @@ module _ (rows slots id : ℕ) where
         sees all [],
         keeps,
         tt,
-        changed rows id s (sees all []) (set s.words row (slice_index s.words row)) (set_index s.words row) kept
+        changed rows id s (sees known told) (sees all []) (set s.words row (slice_index s.words row)) (set_index s.words row) kept at refl refl
             (reads rows kept.logs kept.seat id all [] (λ i. subst (λ (x : List ClientRequest). IsPrefix x (kept.logs i)) (at_all i) (longer_of (list_at known i) (list_at told i) (kept.logs i) (mine.knows i) (mine.told i))) (λ i. prefix_none (kept.logs i))),
         (
           (λ i. (
@@ -199,7 +221,7 @@ module _ (rows slots id : ℕ) where
         w,
         keeps,
         tt,
-        changed rows id s w (set s.words row (slice_index s.words row)) (set_index s.words row) kept
+        changed rows id s v w (set s.words row (slice_index s.words row)) (set_index s.words row) kept at refl refl
             (record { owns = mine.owns; knows = λ i. prefix_none (kept.logs i); told = λ i. prefix_none (kept.logs i) }),
         (subst (λ (l : List ClientRequest). IsPrefix (list_at told row) l) (sym owned.2) (mine.told row), refl),
       ) in
@@ -213,6 +235,7 @@ gives rows id v known part s kept at =
       seat = kept.seat;
       count = kept.count;
       words = kept.words;
+      writers = λ i lt. has_more (set s.views id v) (sees known []) (kept.seat i) i (has_set s.views id v v at refl refl (kept.seat i) i (kept.writers i lt));
       views = subst (λ (l : List View). (j : ℕ) (u : View) → get_elem? (l ++ sees known [] ∷ []) j ≡ some u → Fits rows kept.logs kept.seat j u) (sym same)
           (all_more (Fits rows kept.logs kept.seat) s.views (sees known []) (reads rows kept.logs kept.seat (length s.views) known [] (part kept.logs kept.seat (kept.views id v at)) (λ i. prefix_none (kept.logs i))) (λ j u e. kept.views j u e));
     }
@@ -239,8 +262,8 @@ informs rows id other v u told is = subst (λ (x : View). Joins (Kept rows) id v
         let mine = kept.views id v at in
         let was : get_elem? s.views other ≡ some (sees told []) = ⊎_elim (λ (x : (other ≡ id) × (w ≡ sees told [])). absurd (apart x.0)) (λ (x : (other ≢ id) × (get_elem? s.views other ≡ some (sees told []))). x.1) (at_set s.views id other w (sees told []) there) in
         let theirs = kept.views other (sees told []) was in
-        let once = changed rows id s w s.words refl kept (record { owns = mine.owns; knows = mine.knows; told = theirs.knows }) in
-        changed rows other record { words = s.words; homes = s.homes; views = set s.views id w } (sees [] []) s.words refl once (reads rows kept.logs kept.seat other [] [] (λ i. prefix_none (kept.logs i)) (λ i. prefix_none (kept.logs i)))
+        let once = changed rows id s v w s.words refl kept at refl refl (record { owns = mine.owns; knows = mine.knows; told = theirs.knows }) in
+        changed rows other record { words = s.words; homes = s.homes; views = set s.views id w } (sees told []) (sees [] []) s.words refl once there refl refl (reads rows kept.logs kept.seat other [] [] (λ i. prefix_none (kept.logs i)) (λ i. prefix_none (kept.logs i)))
 
 pub deals : (rows id first : ℕ) (v : View) → first < rows → v ≡ writes first rows [] → Splits (Kept rows) id v (other_rows v) (one_row v)
 deals rows id first v lt is = subst (λ (x : View). Splits (Kept rows) id x (other_rows x) (one_row x)) (sym is) here
@@ -257,6 +280,10 @@ deals rows id first v lt is = subst (λ (x : View). Splits (Kept rows) id x (oth
           seat = seat';
           count = kept.count;
           words = kept.words;
+          writers = λ i h. dite (ℕ_discrete i first)
+              (λ e. (new, ap (get_elem? (views' ++ new ∷ [])) (swapped_here kept.seat first i (length views') e) ∙ at_last views' new (length views') refl, omega (arith, e), omega (arith, e)))
+              (λ ne. subst (λ (j : ℕ). HasRow (views' ++ new ∷ []) j i) (sym (swapped_else kept.seat first i (length views') ne))
+              (has_more views' new (kept.seat i) i (has_after s.views id (writes first rows []) v' at (kept.seat i) i (λ lo hi. (omega (arith, lo, ne), hi)) (kept.writers i h))));
           views = all_more (Fits rows kept.logs seat') views' new
               record {
                 owns = λ i lo hi. let e : i ≡ first = omega arith in (subst (λ (k : ℕ). k < rows) (sym e) lt, swapped_here kept.seat first i (length views') e, owned.2 ∙ ap kept.logs (sym e));

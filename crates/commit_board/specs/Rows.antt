@@ -30,12 +30,17 @@ pub record Fits (rows : ℕ) (logs : ℕ → List ClientRequest) (seat : ℕ →
   pub knows : (i : ℕ) → IsPrefix (list_at v.known i) (logs i)
   pub told : (i : ℕ) → IsPrefix (list_at v.told i) (logs i)
 
--- each row has a list, and its word is the list's length
+-- the seat with this number has the row among its own
+abbrev pub HasRow : List View → ℕ → ℕ → Type 0
+HasRow views by i = (v : View) × (get_elem? views by ≡ some v) × (v.first ≤ i) × (i < v.end)
+
+-- each row has a list and a seat that writes it, and its word is the list's length
 pub record Kept (rows : ℕ) (s : State ℕ View) : Type 0 where
   pub logs : ℕ → List ClientRequest
   pub seat : ℕ → ℕ
   pub count : length s.words ≡ rows
   pub words : (i : ℕ) → i < rows → slice_index s.words i ≡ length (logs i)
+  pub writers : (i : ℕ) → i < rows → HasRow s.views (seat i) i
   pub views : (by : ℕ) (v : View) → get_elem? s.views by ≡ some v → Fits rows logs seat by v
 
 -- the request was added to the row's list

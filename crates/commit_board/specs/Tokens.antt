@@ -1,5 +1,5 @@
 -- What contracts see of the tokens of a board.
-use Rattle.std.specs.Prelude.{ℕ, zero, suc, List, [], ◌∷◌, ◌++◌}
+use Rattle.std.specs.Prelude.{ℕ, List, []}
 use Rattle.atomic_table.specs.Seated.{TableId}
 use Rattle.pg_log.specs.Requests.{ClientRequest}
 
@@ -17,10 +17,9 @@ pub record Knows : Type 0 where
 abbrev pub writer_of : TableId → ℕ → List ClientRequest → Row
 writer_of board row list = record { board = board; row = row; list = list }
 
--- a writer for each of n rows, with an empty list
-abbrev pub writers_of : TableId → ℕ → List Row
-writers_of board zero = []
-writers_of board (suc n) = writers_of board n ++ writer_of board n [] ∷ []
+-- the writer of a row that has no request yet
+abbrev pub new_writer : TableId → ℕ → Row
+new_writer board row = writer_of board row []
 
 abbrev pub knows : TableId → List (List ClientRequest) → Knows
 knows board lists = record { board = board; lists = lists }

@@ -1,16 +1,16 @@
 // The board.
-ghost use Rattle.std.specs.Prelude.{◌≡◌, ◌≢◌, ◌⊎◌, ℕ, ◌<◌, [], ◌∷◌, ◌++◌, length, IfOk};
+ghost use Rattle.std.specs.Prelude.{◌≡◌, ◌≢◌, ◌⊎◌, ℕ, ◌<◌, [], ◌∷◌, ◌++◌, length, map, IfOk};
+ghost use Rattle.std.specs.List.{range_with_len};
 ghost use mathlib.Core.List.{IsPrefix};
 ghost use Rattle.commit_board.specs.Lists.{list_at};
-ghost use Rattle.commit_board.specs.Tokens.{writer_of, writers_of, knows};
+ghost use Rattle.commit_board.specs.Tokens.{writer_of, new_writer, knows};
 ghost use Rattle.pg_log.specs.declared.group.TheConstants.{LOG_LIMIT};
 
-use crate::no_memory::NoMemory;
 use crate::steps::{Add, Compare, Deal, Fresh, Inform, Look, Merge, Said, Share, Tell};
 use crate::tokens::{Note, Seen, Writer};
 use crate::view::{Rows, View};
 use atomic_table::{Seat, Table};
-use pg_log::Request;
+use pg_log::{NoMemory, Request};
 use std::alloc::Global;
 use std::marker::{Brand, Model};
 
@@ -36,7 +36,7 @@ impl Board {
     pub fn new(alloc: Global, rows: usize) -> Result<(Board, Vec<Writer>, Seen), NoMemory>
         requires { 0 < rows }
         ensures rows { IfOk result (λ b. b.0.words ≡ rows) }
-        ensures writers { IfOk result (λ b. b.1.items ≡ writers_of b.0 rows) }
+        ensures writers { IfOk result (λ b. b.1.items ≡ map (new_writer b.0) (range_with_len 0 rows)) }
         ensures seen { IfOk result (λ b. b.2 ≡ knows b.0 []) }
     {
         let mut writers = Vec::new(alloc);

@@ -5,12 +5,11 @@
 
 mod board;
 mod crossing;
-mod no_memory;
 mod steps;
 mod tokens;
 mod view;
 
 pub use board::Board;
 pub use crossing::board_crosses;
-pub use no_memory::NoMemory;
+pub use pg_log::NoMemory;
 pub use tokens::{Note, Seen, Writer};

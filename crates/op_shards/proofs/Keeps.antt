@@ -8,11 +8,12 @@ use mathlib.Core.Option.{some, some-ne-none}
 use lib.ListN.{get_elem?}
 use Rattle.crossbeam_queue.specs.Fifo.{Pushes, Pops, Forks, Merges, Learns}
 use Rattle.crossbeam_queue.proofs.Lists.{at_set}
+use Rattle.atomic_table.proofs.Lists.{at_last}
 use Rattle.op_shards.specs.declared.rule.Place.{Place}
 use Rattle.op_shards.specs.declared.rule.Ranked.{Ranked}
 use Rattle.op_shards.specs.declared.rule.Hand.{Hand}
-use Rattle.op_shards.specs.Order.{hand, unopened, spent, sender, taker, dealer, other_senders, one_sender, put_alone, got_alone, together, of, IsRanked, Each, weigh, total, IsHere, Fits, Kept, IsUnopened, Rule, KeptWith, Puts, Takes, Accounts}
-use Rattle.op_shards.proofs.Operations.{swapped, swapped_here, swapped_else, all_set, all_more, set_here, only_one, of_append, of_here, of_else, length_of_more, length_of_own, ranked_snoc, ranked_at, each_snoc, each_append, each_so, weigh_append, weigh_ones, total_set, total_add, part_of_total, total_alone, weight_of, weigh_of}
+use Rattle.op_shards.specs.Order.{hand, unopened, spent, sender, taker, dealer, other_senders, one_sender, put_alone, got_alone, together, of, IsRanked, Each, weigh, total, IsHere, HasSender, Fits, Kept, IsUnopened, Rule, KeptWith, Puts, Takes, Accounts}
+use Rattle.op_shards.proofs.Operations.{swapped, swapped_here, swapped_else, all_set, all_more, set_here, has_set, has_more, has_rest, has_still, only_one, of_append, of_here, of_else, length_of_more, length_of_own, ranked_snoc, ranked_at, each_snoc, each_at, each_append, each_so, weigh_append, weigh_ones, total_set, total_add, part_of_total, total_alone, weight_of, weigh_of}
 
 module _ {T : Type 0} (group : T → ℕ) where
   -- a queue one of whose passes knows its place is in order
@@ -30,9 +31,10 @@ module _ {T : Type 0} (group : T → ℕ) where
   changed : (items : List (Ranked T)) (views views' : List (Hand T)) (kept : Kept group items views) (seat' : ℕ → ℕ)
       → ((h : Ranked T → ℕ) → total (λ (v : Hand T). weigh h v.got) views' ≡ total (λ (v : Hand T). weigh h v.got) views)
       → total (λ (v : Hand T). v.parts) views' ≡ total (λ (v : Hand T). v.parts) views
+      → ((p : ℕ) → p < kept.place.senders → HasSender views' (seat' p) p)
       → ((by : ℕ) (v : Hand T) → get_elem? views' by ≡ some v → Fits kept.place kept.taken kept.sent seat' by v)
       → Kept group items views'
-  changed items views views' kept seat' once parts passes = record {
+  changed items views views' kept seat' once parts seats passes = record {
     place = kept.place;
     taken = kept.taken;
     sent = kept.sent;
@@ -43,6 +45,7 @@ module _ {T : Type 0} (group : T → ℕ) where
     here = kept.here;
     once = λ h. kept.once h ∙ sym (once h);
     parts = parts ∙ kept.parts;
+    seats = seats;
     passes = passes;
   }
 
@@ -73,10 +76,11 @@ module _ {T : Type 0} (group : T → ℕ) where
         ranks = λ q. dite (ℕ_discrete q p)
             (λ e. subst (IsRanked 0) (sym (here q e)) (ranked_snoc 0 v.put x (subst (IsRanked 0) (sym mine.2) (kept.ranks p)) (omega (arith, rank))))
             (λ ne. subst (IsRanked 0) (sym (swapped_else kept.sent p q put' ne)) (kept.ranks q));
-        here = each_snoc (IsHere group kept.place) items x kept.here
-            (subst (λ (q : Place). group x.op % q.shards ≡ q.shard) (fits.placed some_shards) lies, subst (λ (k : ℕ). k < kept.place.senders) (sym from) mine.0);
+        here = subst (Each (IsHere group kept.place)) (append_assoc kept.taken items (x ∷ [])) (each_snoc (IsHere group kept.place) (kept.taken ++ items) x kept.here
+            (subst (λ (q : Place). group x.op % q.shards ≡ q.shard) (fits.placed some_shards) lies, subst (λ (k : ℕ). k < kept.place.senders) (sym from) mine.0));
         once = λ h. let t = total_set (λ (u : Hand T). weigh h u.got) views by v w at in let o = kept.once h in omega (arith, t, o);
         parts = let t = total_set (λ (u : Hand T). u.parts) views by v w at in let o = kept.parts in omega (arith, t, o);
+        seats = λ q lt. has_set views by v w at refl refl (kept.seat q) q (kept.seats q lt);
         passes = all_set (Fits kept.place kept.taken sent' kept.seat) views by w
             (record {
               opened = fits.opened;
@@ -124,7 +128,7 @@ module _ {T : Type 0} (group : T → ℕ) where
         some_shards = kept.some_shards;
         order = λ p. ap (of p) (append_assoc kept.taken (x ∷ []) items) ∙ kept.order p;
         ranks = kept.ranks;
-        here = kept.here.1;
+        here = subst (Each (IsHere group kept.place)) (sym (append_assoc kept.taken (x ∷ []) items)) kept.here;
         once = λ h.
             let t = total_set (λ (u : Hand T). weigh h u.got) views by v w at in
             let a = weigh_append h kept.taken (x ∷ []) in
@@ -132,6 +136,7 @@ module _ {T : Type 0} (group : T → ℕ) where
             let o = kept.once h in
             omega (arith, t, a, b, o);
         parts = let t = total_set (λ (u : Hand T). u.parts) views by v w at in let o = kept.parts in omega (arith, t, o);
+        seats = λ q lt. has_set views by v w at refl refl (kept.seat q) q (kept.seats q lt);
         passes = all_set (Fits kept.place taken' kept.sent kept.seat) views by w
             (record {
               opened = fits.opened;
@@ -154,7 +159,7 @@ module _ {T : Type 0} (group : T → ℕ) where
         inr kept',
         (
           refl,
-          subst (λ (q : Place). IsHere group q x) (sym (fits.placed some_shards)) kept.here.0,
+          subst (λ (q : Place). IsHere group q x) (sym (fits.placed some_shards)) (each_at (IsHere group kept.place) kept.taken items x kept.here),
           each_so (λ y. y.rank < length (of y.sender kept.taken)) (λ y. y.sender ≡ x.sender → y.rank < x.rank) v.got
               (λ y lt same. let e : length (of y.sender kept.taken) ≡ length (of x.sender kept.taken) = ap (λ (p : ℕ). length (of p kept.taken)) same in omega (arith, lt, e, next))
               fits.past,
@@ -177,6 +182,7 @@ module _ {T : Type 0} (group : T → ℕ) where
     here = tt;
     once = λ h. omega arith;
     parts = omega arith;
+    seats = λ q lt. (dealer p 0 p.takers, refl, omega arith, lt);
     passes = all_more (Fits p [] (λ q. []) (λ q. 0)) (dealer p 0 p.takers ∷ []) (taker p 0 [])
         (fits_idle p [] (λ q. []) (λ q. 0) 1 p (λ z. some_shards) (λ z. refl) 0)
         (all_more (Fits p [] (λ q. []) (λ q. 0)) [] (dealer p 0 p.takers)
@@ -203,6 +209,7 @@ module _ {T : Type 0} (group : T → ℕ) where
       inr (changed items views (views' ++ r ∷ []) kept kept.seat
       (λ h. let t = total_set (λ (u : Hand T). weigh h u.got) views by v l at in let m = total_add (λ (u : Hand T). weigh h u.got) views' r in omega (arith, t, m))
       (let t = total_set (λ (u : Hand T). u.parts) views by v l at in let m = total_add (λ (u : Hand T). u.parts) views' r in omega (arith, t, m, part))
+      (λ p lt. has_more views' r (kept.seat p) p (has_set views by v l at refl refl (kept.seat p) p (kept.seats p lt)))
       (all_more (Fits kept.place kept.taken kept.sent kept.seat) views' r
       (fits_idle kept.place kept.taken kept.sent kept.seat (length views') v.place fits.opened fits.placed 1)
       (all_set (Fits kept.place kept.taken kept.sent kept.seat) views by l
@@ -225,6 +232,9 @@ module _ {T : Type 0} (group : T → ℕ) where
           inr (changed items views (views' ++ r ∷ []) kept seat'
           (λ h. let t = total_set (λ (u : Hand T). weigh h u.got) views by v0 l at in let m = total_add (λ (u : Hand T). weigh h u.got) views' r in omega (arith, t, m))
           (let t = total_set (λ (u : Hand T). u.parts) views by v0 l at in let m = total_add (λ (u : Hand T). u.parts) views' r in omega (arith, t, m))
+          (λ p lt. dite (ℕ_discrete p first)
+          (λ e. (r, ap (get_elem? (views' ++ r ∷ [])) (swapped_here kept.seat first p (length views') e) ∙ at_last views' r (length views') refl, omega (arith, e), omega (arith, e)))
+          (λ ne. subst (λ (j : ℕ). HasSender (views' ++ r ∷ []) j p) (sym (swapped_else kept.seat first p (length views') ne)) (has_more views' r (kept.seat p) p (has_rest views by v0 l at (kept.seat p) p (λ lo. omega (arith, lo, ne)) refl (kept.seats p lt)))))
           (all_more (Fits kept.place kept.taken kept.sent seat') views' r
           (record {
             opened = fits.opened;
@@ -259,14 +269,15 @@ module _ {T : Type 0} (group : T → ℕ) where
       inr (changed items views (views' ++ r ∷ []) kept kept.seat
       (λ h. let t = total_set (λ (u : Hand T). weigh h u.got) views by v l at in let m = total_add (λ (u : Hand T). weigh h u.got) views' r in omega (arith, t, m))
       (let t = total_set (λ (u : Hand T). u.parts) views by v l at in let m = total_add (λ (u : Hand T). u.parts) views' r in omega (arith, t, m))
+      (λ p lt. has_more views' r (kept.seat p) p (has_set views by v l at refl refl (kept.seat p) p (kept.seats p lt)))
       (all_more (Fits kept.place kept.taken kept.sent kept.seat) views' r
       (record { opened = fits.opened; placed = fits.placed; senders = λ p lo hi. absurd (omega (arith, hi)); past = fits.past; idle = fits.idle })
       (all_set (Fits kept.place kept.taken kept.sent kept.seat) views by l
       (record { opened = fits.opened; placed = fits.placed; senders = fits.senders; past = tt; idle = λ z. refl })
       (λ j u apart e. kept.passes j u e))))
 
-  pub meets : (by : ℕ) (v : Hand T) (other : ℕ) (w : Hand T) → 0 < v.place.shards → Merges (Rule group) by v other w (together v w) spent
-  meets by v other w some_shards items views rule at apart at' =
+  pub meets : (by : ℕ) (v : Hand T) (other : ℕ) (w : Hand T) → 0 < v.place.shards → w.end ≡ 0 → Merges (Rule group) by v other w (together v w) spent
+  meets by v other w some_shards none items views rule at apart at' =
       let kept = opened items views by v rule at some_shards in
       let fits = kept.passes by v at in
       let both : Hand T = together v w in
@@ -281,6 +292,7 @@ module _ {T : Type 0} (group : T → ℕ) where
       let a = weigh_append h v.got w.got in
       omega (arith, t, u, a))
       (let t = total_set (λ (u : Hand T). u.parts) views by v both at in let u = total_set (λ (u : Hand T). u.parts) views' other w spent at' in omega (arith, t, u))
+      (λ p lt. has_still views' other w spent at' none (kept.seat p) p (has_set views by v both at refl refl (kept.seat p) p (kept.seats p lt)))
       (all_set (Fits kept.place kept.taken kept.sent kept.seat) views' other spent
       (fits_idle kept.place kept.taken kept.sent kept.seat other (spent {T = T}).place (λ z. absurd (omega (arith, z))) (λ z. absurd (omega (arith, z))) 0)
       (λ j u apart' e. all_set (Fits kept.place kept.taken kept.sent kept.seat) views by both
@@ -289,7 +301,7 @@ module _ {T : Type 0} (group : T → ℕ) where
         placed = fits.placed;
         senders = fits.senders;
         past = each_append (λ y. y.rank < length (of y.sender kept.taken)) v.got w.got fits.past theirs.past;
-        idle = λ none. (λ i. fits.idle (omega (arith, none)) i ++ theirs.idle (omega (arith, none)) i);
+        idle = λ no_part. (λ i. fits.idle (omega (arith, no_part)) i ++ theirs.idle (omega (arith, no_part)) i);
       })
       (λ j u apart'' e. kept.passes j u e) j u e)))
 

@@ -1,12 +1,15 @@
 -- Lists of operations, and lists of passes.
-use Rattle.std.proofs.Common.{◌≡◌, ◌≢◌, ℕ, zero, suc, ◌+◌, ◌≤◌, List, [], ◌∷◌, ◌++◌, length, set, eqb, eq-eqb, ne_eqb, Bool, true, false, cond, refl, sym, ap, subst, ⊎_elim, arith, length-append}
+use Rattle.std.proofs.Common.{◌≡◌, ◌≢◌, ℕ, zero, suc, ◌+◌, ◌<◌, ◌≤◌, List, [], ◌∷◌, ◌++◌, length, set, eqb, eq-eqb, ne_eqb, Bool, true, false, cond, refl, sym, ap, ◌∙◌, subst, ⊎_elim, arith, length-append}
 use Rattle.std.specs.Prelude.{◌==◌}
 use mathlib.Core.Option.{some, some-ne-none, some-injective}
 use lib.ListN.{get_elem?}
+use native.Mathlib.Decide.{ℕ_discrete}
+use mathlib.Core.Logic.{dite}
 use Rattle.crossbeam_queue.proofs.Lists.{at_set}
+use Rattle.atomic_table.proofs.Lists.{at_longer, set_else}
 use Rattle.op_shards.specs.declared.rule.Ranked.{Ranked}
 use Rattle.op_shards.specs.declared.rule.Hand.{Hand}
-use Rattle.op_shards.specs.Order.{of, IsRanked, Each, weigh, total}
+use Rattle.op_shards.specs.Order.{of, IsRanked, Each, weigh, total, HasSender}
 
 -- f, but x at k
 pub swapped : {A : Type 0} → (ℕ → A) → ℕ → A → ℕ → A
@@ -44,6 +47,32 @@ module _ {V : Type 0} where
   only_one x v (suc by) e = absurd (some-ne-none v (sym e))
 
 module _ {T : Type 0} where
+  -- who has a sender has it still after a pass changed, if that pass keeps the sender or didn't have it
+  has_after : (views : List (Hand T)) (by : ℕ) (v w : Hand T) → get_elem? views by ≡ some v → (j p : ℕ) → (v.first ≤ p → p < v.end → (w.first ≤ p) × (p < w.end)) → HasSender views j p → HasSender (set views by w) j p
+  has_after views by v w at j p keeps h =
+      dite (ℕ_discrete j by)
+      (λ e.
+      let same : h.0 ≡ v = some-injective h.0 v (sym h.1 ∙ ap (get_elem? views) e ∙ at) in
+      let kept = keeps (subst (λ (u : Hand T). u.first ≤ p) same h.2) (subst (λ (u : Hand T). p < u.end) same h.3) in
+      (w, ap (get_elem? (set views by w)) e ∙ set_here views by v w at, kept.0, kept.1))
+      (λ ne. (h.0, set_else views by j w ne ∙ h.1, h.2, h.3))
+
+  -- so after a pass changed but for its senders
+  pub has_set : (views : List (Hand T)) (by : ℕ) (v w : Hand T) → get_elem? views by ≡ some v → w.first ≡ v.first → w.end ≡ v.end → (j p : ℕ) → HasSender views j p → HasSender (set views by w) j p
+  has_set views by v w at first end j p = has_after views by v w at j p (λ lo hi. (omega (arith, first, lo), omega (arith, end, hi)))
+
+  -- after a pass gave away another sender
+  pub has_rest : (views : List (Hand T)) (by : ℕ) (v w : Hand T) → get_elem? views by ≡ some v → (j p : ℕ) → (v.first ≤ p → w.first ≤ p) → w.end ≡ v.end → HasSender views j p → HasSender (set views by w) j p
+  has_rest views by v w at j p later end = has_after views by v w at j p (λ lo hi. (later lo, omega (arith, end, hi)))
+
+  -- and after a pass without senders changed
+  pub has_still : (views : List (Hand T)) (by : ℕ) (v w : Hand T) → get_elem? views by ≡ some v → v.end ≡ 0 → (j p : ℕ) → HasSender views j p → HasSender (set views by w) j p
+  has_still views by v w at none j p = has_after views by v w at j p (λ lo hi. absurd (omega (arith, none, hi)))
+
+  -- and where another pass comes
+  pub has_more : (views : List (Hand T)) (w : Hand T) (j p : ℕ) → HasSender views j p → HasSender (views ++ w ∷ []) j p
+  has_more views w j p h = (h.0, at_longer views (w ∷ []) j h.0 h.1, h.2, h.3)
+
   pub of_append : (p : ℕ) (xs ys : List (Ranked T)) → of p (xs ++ ys) ≡ of p xs ++ of p ys
   of_append p [] ys = refl
   of_append p (x ∷ xs) ys = elim (x.sender == p) as (λ b. cond b (x ∷ of p (xs ++ ys)) (of p (xs ++ ys)) ≡ cond b (x ∷ of p xs) (of p xs) ++ of p ys) [ true ↦ ap (λ (l : List (Ranked T)). x ∷ l) (of_append p xs ys) | false ↦ of_append p xs ys ]
@@ -80,6 +109,10 @@ module _ {T : Type 0} where
   pub each_append : (P : Ranked T → Type 0) (xs ys : List (Ranked T)) → Each P xs → Each P ys → Each P (xs ++ ys)
   each_append P [] ys a b = b
   each_append P (x ∷ xs) ys a b = (a.0, each_append P xs ys a.1 b)
+
+  pub each_at : (P : Ranked T → Type 0) (xs ys : List (Ranked T)) (x : Ranked T) → Each P (xs ++ x ∷ ys) → P x
+  each_at P [] ys x a = a.0
+  each_at P (y ∷ xs) ys x a = each_at P xs ys x a.1
 
   pub each_so : (P Q : Ranked T → Type 0) (xs : List (Ranked T)) → ((x : Ranked T) → P x → Q x) → Each P xs → Each Q xs
   each_so P Q [] f a = tt

@@ -92,6 +92,10 @@ module _ {T : Type 0} where
   abbrev pub IsHere : (T → ℕ) → Place → Ranked T → Type 0
   IsHere group place x = (group x.op % place.shards ≡ place.shard) × (x.sender < place.senders)
 
+  -- the pass with this number has the sender among its own
+  abbrev pub HasSender : List (Hand T) → ℕ → ℕ → Type 0
+  HasSender views by p = (v : Hand T) × (get_elem? views by ≡ some v) × (v.first ≤ p) × (p < v.end)
+
   -- The pass with this number is of this queue, unless it is spent. It knows all that the queue accepted of the senders that are its own. What it took was taken before
   -- what comes next of each sender, and without a part it took nothing
   pub record Fits (place : Place) (taken : List (Ranked T)) (sent : ℕ → List (Ranked T)) (seat : ℕ → ℕ) (by : ℕ) (v : Hand T) : Type 0 where
@@ -102,7 +106,8 @@ module _ {T : Type 0} where
     pub idle : v.parts ≡ 0 → v.got ≡ []
 
   -- What was taken, and then what the queue holds, is of each sender what the queue accepted of it, by rank from 0 on. So what was taken of a sender has
-  -- the ranks below some number, and what the queue holds of it those from there on, in order. What was taken is what the passes took, each once
+  -- the ranks below some number, and what the queue holds of it those from there on, in order. Each of these operations is of a sender and of the queue's
+  -- shard. What was taken is what the passes took, each once. Each sender has a pass
   pub record Kept (group : T → ℕ) (items : List (Ranked T)) (views : List (Hand T)) : Type 0 where
     pub place : Place
     pub taken : List (Ranked T)
@@ -111,9 +116,10 @@ module _ {T : Type 0} where
     pub some_shards : 0 < place.shards
     pub order : (p : ℕ) → of p (taken ++ items) ≡ sent p
     pub ranks : (p : ℕ) → IsRanked 0 (sent p)
-    pub here : Each (IsHere group place) items
+    pub here : Each (IsHere group place) (taken ++ items)
     pub once : (h : Ranked T → ℕ) → weigh h taken ≡ total (λ v. weigh h v.got) views
     pub parts : total (λ v. v.parts) views ≡ place.takers
+    pub seats : (p : ℕ) → p < place.senders → HasSender views (seat p) p
     pub passes : (by : ℕ) (v : Hand T) → get_elem? views by ≡ some v → Fits place taken sent seat by v
 
   -- the queue's place isn't known yet, it is empty, and it has one pass

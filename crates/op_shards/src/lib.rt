@@ -7,7 +7,6 @@
 mod crossing;
 mod lane;
 mod laws;
-mod no_memory;
 mod op;
 mod pass;
 mod rule;
@@ -15,8 +14,8 @@ mod shards;
 
 pub use crossing::queues_cross;
 pub use laws::{Property, sending_goes_on};
-pub use no_memory::NoMemory;
 pub use op::Op;
 pub use pass::{SendPass, TakePass};
 pub use rule::{Place, Ranked};
 pub use shards::OpShards;
+pub use txn::NoMemory;

@@ -7,7 +7,6 @@ ghost use Rattle.op_shards.specs.Order.{place_at, of, IsPartOf, AreFirstOf, IsHe
 ghost use Rattle.op_shards.specs.Passes.{name, names, queues_of, spots, spot_of, shard_of, at_shard, dealing, new_sender, new_taker, after_submit, after_take, after_gather, Grew, WasSent, SenderWasKept, SenderWasKeptAt, TakerWasKept, TakerWasKeptAt};
 
 use crate::lane::Dealer;
-use crate::no_memory::NoMemory;
 use crate::op::Op;
 use crate::pass::{SendPass, TakePass, deal_passes, hire_passes};
 use crate::rule::{Placed, Queue};
@@ -15,6 +14,7 @@ use crossbeam_queue::RuledArrayQueue;
 use std::alloc::{AllocError, Global};
 use std::marker::{Brand, Model};
 use std::sync::Wait;
+use txn::NoMemory;
 
 /// A bounded queue for each shard. An operation's shard is the number of its group modulo the number of shards. To a contract it is the queues by
 /// shard, how many senders and takers have passes of them, and how many operations each holds at most.
@@ -91,8 +91,9 @@ impl<T: Op> OpShards<T> {
         pass.push(rt, queue, shard, op)
     }
 
-    /// Takes the oldest operation of the shard. It is of that shard, and the next of its sender there. None only if the shard's queue was empty at one
-    /// moment: of the call, which the contract can't say.
+    /// Takes an operation from the front of the shard's queue, and adds it to the pass. It is of one of the senders and of that shard, and behind all
+    /// operations of its sender that the pass has there. None, and the pass as it was, only if that queue was empty at one moment: of the call, which the
+    /// contract can't say.
     pub fn take<R: Wait>(&self, rt: &R, pass: &mut TakePass<T>, shard: usize) -> Option<T>
         requires pass { pass.old.queues ≡ self.now.queues }
         requires shard { shard < length self.now.queues.names }

@@ -4,7 +4,6 @@ ghost use Rattle.std.specs.Prelude.{◌≡◌, ◌<◌, ◌≤◌, [], length};
 use crate::locks::request;
 use commit_board::{Board, NoMemory, Note, Seen, Writer};
 use std::alloc::Global;
-use std::fmt::Display;
 use std::process::Abort;
 use std::thread::{Threads, join};
 
@@ -87,15 +86,10 @@ fn a_thousand_rows(rt: HostRuntime) {
     assert!(rt; writers.len() == 1000 && board.look(&mut seen, 999) == 0);
 }
 
-/// Whether a refusal prints as its name.
-fn prints_its_name<T: Display, R: Abort>(rt: &R, alloc: Global, error: &T) -> bool {
-    error.to_string(alloc).expect(rt, "memory").as_str() == "NoMemory"
-}
-
 #[test]
-fn refusals_print_their_name(rt: HostRuntime) {
-    assert!(rt; prints_its_name(&rt, rt.alloc(), &NoMemory));
-    assert!(rt; prints_its_name(&rt, rt.alloc(), &op_shards::NoMemory));
+fn the_refusal_prints_its_name(rt: HostRuntime) {
+    let name = NoMemory.to_string(rt.alloc()).expect(&rt, "memory");
+    assert!(rt; name.as_str() == "NoMemory");
 }
 
 /// Whether two rows have counts of their own, once the second was committed five times and the first twice.

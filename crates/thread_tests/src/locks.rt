@@ -1,19 +1,12 @@
 //! Eight threads that append to one group under one lock.
 
 ghost use mathlib.Core.List.{IsPrefix};
-ghost use denote.Param.Send.{IsSend, IsSync};
-ghost use Rattle.interp.specs.contracts.class_table.ClassTable as table;
-ghost use Rattle.object_store.specs.contracts.object.Object as object;
-ghost use Rattle.object_store.specs.contracts.objects.Objects as objects;
-ghost use Rattle.pg_log.specs.contracts.entry.Entry as entry;
-ghost use Rattle.shared_map.specs.contracts.shared_map.SharedMap as map;
-ghost use Rattle.std.specs.contracts.sync.Barrier as barrier;
 
 use builtin_classes::load_lock;
-use interp::ClassTable;
-use object_store::{Object, ObjectName, Objects};
-use pg_log::{Classes, ClientId, Entry, Group, Request, RequestNumber};
-use shared_map::SharedMap;
+use object_store::ObjectName;
+use pg_log::{
+    ClassTable, Classes, ClientId, Entry, Group, Request, RequestNumber, group_crosses, table_crosses,
+};
 use std::alloc::Global;
 use std::marker::Brand;
 use std::process::Abort;
@@ -28,65 +21,6 @@ const EACH: u32 = 100;
 
 /// What `lock` answers a client while another has the lock.
 const EBUSY: i64 = -16;
-
-// What may go from thread to thread, and what threads may share, is known of each part of a group by itself: a search for
-// the whole of it at once is too long. These functions do nothing, and say it.
-
-/// Values of the type may go to another thread.
-fn sends<T: Send>()
-    ensures { IsSend T.row }
-{}
-
-/// Threads may share values of the type.
-fn shares<T: Sync>()
-    ensures { IsSync T.row }
-{}
-
-fn object_sends()
-    ensures { IsSend object.the_row }
-{
-    sends::<Object>()
-}
-
-fn object_shares()
-    ensures { IsSync object.the_row }
-{
-    shares::<Object>()
-}
-
-fn entry_sends()
-    ensures { IsSend entry.the_row }
-{
-    object_sends();
-    sends::<Entry>()
-}
-
-fn map_sends<V: Send + Sync>()
-    ensures { IsSend (map.the_row V.row) }
-{
-    sends::<SharedMap<V>>()
-}
-
-fn objects_sends()
-    ensures { IsSend objects.the_row }
-{
-    object_sends();
-    object_shares();
-    map_sends::<Object>();
-    sends::<Objects>()
-}
-
-fn barrier_shares()
-    ensures { IsSync barrier.the_row }
-{
-    shares::<Barrier>()
-}
-
-fn table_shares()
-    ensures { IsSync table.the_row }
-{
-    shares::<ClassTable>()
-}
 
 /// A client's request for the lock of the one object.
 pub fn request<R: Abort>(rt: &R, alloc: Global, client: u32, number: u32) -> Request {
@@ -128,10 +62,8 @@ fn appended<C: Classes + Send + Sync, R: Threads + Wait + Abort + Sync>(
 ) -> bool
     requires { IsPrefix table.now C.classes }
 {
-    entry_sends();
-    objects_sends();
-    table_shares();
-    barrier_shares();
+    group_crosses::<C>();
+    table_crosses();
     let group = Mutex::new(Group::<C>::new(alloc));
     let start = Barrier::new(THREADS as usize);
     let thread = |index: usize|

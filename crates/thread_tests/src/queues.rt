@@ -1,9 +1,11 @@
 //! Queues of operations among threads.
 
-ghost use Rattle.std.specs.Prelude.{◌≡◌, ◌<◌, length};
+ghost use Rattle.std.specs.Prelude.{◌≡◌, ◌<◌, length, IsTrue};
+ghost use Rattle.op_shards.specs.Passes.{Grew, WasSent};
 
-use op_shards::{Op, OpShards, SendPass, TakePass};
+use op_shards::{Op, OpShards, SendPass, TakePass, sending_goes_on};
 use std::alloc::Global;
+use std::marker::Brand;
 use std::process::Abort;
 use std::sync::Wait;
 use std::sync::atomic::{AtomicU64, Ordering};
@@ -345,6 +347,39 @@ fn a_full_queue_gives_back(rt: HostRuntime) {
     );
     let send = sends.pop().expect(&rt, "a sender");
     assert!(rt; gives_back_nine(&rt, &shards, send));
+}
+
+/// Sends an operation of the group, and before each time one of group 1, until it is accepted or comes back so often. Whether
+/// it was accepted.
+fn is_sent_within<R: Wait>(
+    rt: &R,
+    shards: &OpShards<Job>,
+    pass: &mut SendPass<Job>,
+    group: usize,
+    tries: usize,
+) -> bool
+    requires { pass.old.queues ≡ shards.now.queues }
+    ensures queues { pass.new.queues ≡ pass.old.queues }
+    ensures grew { Grew pass.old pass.new }
+    ensures sent { IsTrue result → WasSent pass.old pass.new (λ job. job.group ≡ group) }
+{
+    sending_goes_on::<Job, Brand>();
+    for _ in 0..tries {
+        let _ = shards.submit(rt, pass, request(1));
+        if shards.submit(rt, pass, request(group)).is_ok() {
+            return true;
+        }
+    }
+    false
+}
+
+#[test]
+fn a_loop_says_what_it_sent(rt: HostRuntime) {
+    let (shards, mut sends, _takes) = OpShards::new(rt.alloc(), 2, 1, 1, 1).expect(&rt, "memory");
+    let mut send = sends.pop().expect(&rt, "a sender");
+    let first = is_sent_within(&rt, &shards, &mut send, 8, 3);
+    let again = is_sent_within(&rt, &shards, &mut send, 8, 3);
+    assert!(rt; first && !again);
 }
 
 /// Whether an operation of group 7 that was sent is taken once of shard 1 of two, and not of shard 0.

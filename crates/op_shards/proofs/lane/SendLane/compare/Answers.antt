@@ -7,7 +7,7 @@ pub another-took-requires-clause-rule : goal.another-took-requires-clause-rule
 another-took-requires-clause-rule g c = parts g.T.Op.group _ _ c.other.invariant.1
 
 pub absorb-requires-clause-rule : goal.absorb-requires-clause-rule
-absorb-requires-clause-rule g c = meets g.T.Op.group _ _ _ _ c.self.invariant.1
+absorb-requires-clause-rule g c = meets g.T.Op.group _ _ _ _ c.self.invariant.1 (ap (λ v. v.end) c.another-took.ensures.rule.1)
 
 pub learn_as-requires-clause-rule : goal.learn_as-requires-clause-rule
 learn_as-requires-clause-rule g c =
