@@ -30,22 +30,22 @@ module _ {A : Type 0} where
 
 module _ {T : Type 0} where
   pub grew_none : (s : Sender T) → Grew s s
-  grew_none s i = prefix_self (at_shard s.accepted i)
+  grew_none s = record { begins = λ i. prefix_self (at_shard s.accepted i) }
 
   pub grew_several : (s t u : Sender T) → Grew s t → Grew t u → Grew s u
-  grew_several s t u g h i = prefix_trans (at_shard s.accepted i) (at_shard t.accepted i) (at_shard u.accepted i) (g i) (h i)
+  grew_several s t u g h = record { begins = λ i. prefix_trans (at_shard s.accepted i) (at_shard t.accepted i) (at_shard u.accepted i) (g.begins i) (h.begins i) }
 
   pub sent_property : (P : T → Type 0) (s t : Sender T) (op : T) → WasSent s t (λ x. x ≡ op) → P op → WasSent s t P
   sent_property P s t op w p = record { shard = w.shard; rank = w.rank; x = w.x; new = w.new; there = w.there; so = subst P (sym w.so) p }
 
   pub sent_further : (P : T → Type 0) (r s t u : Sender T) → WasSent s t P → Grew r s → Grew t u → WasSent r u P
   sent_further P r s t u w g h =
-      let before = prefix_length (at_shard r.accepted w.shard) (at_shard s.accepted w.shard) (g w.shard) in record {
+      let before = prefix_length (at_shard r.accepted w.shard) (at_shard s.accepted w.shard) (g.begins w.shard) in record {
         shard = w.shard;
         rank = w.rank;
         x = w.x;
         new = omega (arith, before, w.new);
-        there = prefix_get (at_shard t.accepted w.shard) (at_shard u.accepted w.shard) w.rank w.x (h w.shard) w.there;
+        there = prefix_get (at_shard t.accepted w.shard) (at_shard u.accepted w.shard) w.rank w.x (h.begins w.shard) w.there;
         so = w.so;
       }
 
@@ -63,7 +63,7 @@ module _ {T : Type 0} where
 
   -- an accepted operation is one more, and it is there
   pub submit_grew : (s : Sender T) (shard : ℕ) (op : T) → Grew s (after_submit s shard op)
-  submit_grew s shard op i = one_more s.accepted shard i (ranked s.sender (next_rank s shard) op)
+  submit_grew s shard op = record { begins = λ i. one_more s.accepted shard i (ranked s.sender (next_rank s shard) op) }
 
   pub submit_sent : (s : Sender T) (shard : ℕ) (op : T) → shard < length s.accepted → WasSent s (after_submit s shard op) (λ x. x ≡ op)
   submit_sent s shard op lt = record {

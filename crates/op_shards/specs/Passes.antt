@@ -157,8 +157,8 @@ module _ {T : Type 0} where
   TakerWasKeptAt group n t shard = Held n (KeptWith group (taker (shard_of t.queues shard) t.takers (at_shard t.taken shard)))
 
   -- what the queue of each shard had accepted of the sender is the beginning of what it accepted since
-  abbrev pub Grew : Sender T → Sender T → Type 0
-  Grew s t = (i : ℕ) → IsPrefix (at_shard s.accepted i) (at_shard t.accepted i)
+  pub record Grew (s t : Sender T) : Type 0 where
+    pub begins : (shard : ℕ) → IsPrefix (at_shard s.accepted shard) (at_shard t.accepted shard)
 
   -- from the one state of a pass to the other an operation was accepted of which P holds
   pub record WasSent (s t : Sender T) (P : T → Type 0) : Type 0 where

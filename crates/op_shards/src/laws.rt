@@ -14,10 +14,13 @@ impl<T> Property<T> for Brand {
 }
 
 /// From a state of a pass to itself nothing is lost, nor over several steps of each of which this is so. Where an operation
-/// was sent, one was sent that has each property of it; and what was sent in one step was sent in that step together with steps before and after it.
-pub fn sending_goes_on<T, P: Property<T>>()
+/// was sent, one was sent that has each property of it; and what was sent in one step was sent in that step together with steps
+/// before and after it. The property may speak of `about`.
+pub fn sending_goes_on<T, A, P: Property<T>>(about: &A)
     ensures none { (s : Sender T) → Grew s s }
     ensures several { (s t u : Sender T) → Grew s t → Grew t u → Grew s u }
     ensures property { (s t : Sender T) (op : T) → WasSent s t (λ x. x ≡ op) → P.holds op → WasSent s t P.holds }
     ensures further { (r s t u : Sender T) → WasSent s t P.holds → Grew r s → Grew t u → WasSent r u P.holds }
-{}
+{
+    let _ = about;
+}

@@ -32,7 +32,9 @@ impl Op for Job {
     }
 }
 
-fn request(group: usize) -> Job {
+fn request(group: usize) -> Job
+    ensures { result.group ≡ group }
+{
     Job {
         group,
         sender: 0,
@@ -363,11 +365,12 @@ fn is_sent_within<R: Wait>(
     ensures grew { Grew pass.old pass.new }
     ensures sent { IsTrue result → WasSent pass.old pass.new (λ job. job.group ≡ group) }
 {
-    sending_goes_on::<Job, Brand>();
+    sending_goes_on::<Job, usize, Brand>(&group);
     for _ in 0..tries {
         let _ = shards.submit(rt, pass, request(1));
-        if shards.submit(rt, pass, request(group)).is_ok() {
-            return true;
+        match shards.submit(rt, pass, request(group)) {
+            Ok(()) => return true,
+            Err(_) => {}
         }
     }
     false
