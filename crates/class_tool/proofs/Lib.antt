@@ -1,4 +1,5 @@
 mod Called
+mod Packed
 mod Refused
 mod Reported
 pub mod Longer

@@ -4,13 +4,14 @@ use Rattle.std.specs.List.{flat_map}
 use Rattle.std.specs.Fmt.{decimal}
 use Rattle.bpf_decode.specs.Class.{ClassMethod}
 use Rattle.class_tool.specs.declared.action.Action.{Action}
-use Rattle.class_tool.specs.declared.action.Action.TheVariants.{Verify, Run, Assemble, Disassemble}
+use Rattle.class_tool.specs.declared.action.Action.TheVariants.{Verify, Run, Assemble, Pack, Disassemble}
 use Rattle.class_tool.specs.declared.answer.Answer.{Answer}
 use Rattle.class_tool.specs.declared.answer.Answer.TheVariants.{Accepted, Ran, Assembled, Disassembled}
 use Rattle.class_tool.specs.declared.failure.Failure.{Failure}
 use Rattle.class_tool.specs.Assembly.{AssembleFails, Assembles, IsTextOf}
 use Rattle.class_tool.specs.Files.{Disk}
 use Rattle.class_tool.specs.Image.{IsSafeIn, LoadFails, ReadFails}
+use Rattle.class_tool.specs.Packing.{PackFails, Packs}
 use Rattle.class_tool.specs.Reply.{Reports, reply_text}
 use Rattle.class_tool.specs.Run.{RunFails}
 
@@ -26,11 +27,12 @@ answer_text Assembled = []
 answer_text (Disassembled text) = string_bytes text
 
 -- The answer is one to that action, true of the files as they were; none was written but the one that is named for the
--- image of a text.
+-- image of a text or of raw code.
 abbrev pub Settles : Option Disk → Option Disk → Action → Answer → Type 0
 Settles before after (Verify image) (Accepted class) = (after ≡ before) × IsSafeIn before image.now class
 Settles before after (Run call) (Ran reply) = (after ≡ before) × Reports before call reply
 Settles before after (Assemble text image) Assembled = Assembles before after text.now image.now
+Settles before after (Pack asked) Assembled = Packs before after asked
 Settles before after (Disassemble image) (Disassembled text) = (after ≡ before) × IsTextOf before image.now (string_bytes text)
 Settles before after action answer = ⊥
 
@@ -39,4 +41,5 @@ abbrev pub Fails : Option Disk → Option Disk → Action → Failure → Type 0
 Fails before after (Verify image) failure = (after ≡ before) × LoadFails before image.now failure
 Fails before after (Run call) failure = (after ≡ before) × RunFails before call failure
 Fails before after (Assemble text image) failure = AssembleFails before after text.now image.now failure
+Fails before after (Pack asked) failure = PackFails before after asked failure
 Fails before after (Disassemble image) failure = (after ≡ before) × ReadFails before image.now failure

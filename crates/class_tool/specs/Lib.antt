@@ -5,5 +5,6 @@ pub mod Files
 pub mod Image
 pub mod Log
 pub mod Output
+pub mod Packing
 pub mod Reply
 pub mod Run

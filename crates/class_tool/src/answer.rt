@@ -14,7 +14,7 @@ pub enum Answer {
     Accepted(VerifiedClass),
     /// The method ran.
     Ran(Reply),
-    /// The image was written.
+    /// The image of the text or of the raw code was written.
     Assembled,
     /// The class has that text.
     Disassembled(String),

@@ -4,7 +4,7 @@ ghost use Rattle.class_tool.specs.Files.{Disk, Holds, IsBeginning, IsUnreadable,
 
 use std::alloc::Global;
 use std::fs::{self, File};
-use std::io::{self, ErrorKind, Read};
+use std::io::{self, ErrorKind, Input, Read};
 
 /// The files that can be read.
 pub trait Reads {
@@ -30,7 +30,7 @@ pub trait Files: Reads {
         ensures others { OthersStay (Self.disk self.old) (Self.disk self.new) name.now };
 }
 
-/// The files of the system. Nothing is claimed of what they hold.
+/// The files of the system, and standard input under the name `-`, where it is read. Nothing is claimed of what they hold.
 #[derive(Drop)]
 pub struct SystemFiles<'a, R> {
     rt: &'a R,
@@ -43,20 +43,30 @@ impl<'a, R> SystemFiles<'a, R> {
     }
 }
 
-impl<R: std::rt::Files + AllocGlobal> Reads for SystemFiles<'_, R> {
-    fn read(&self, _alloc: Global, name: &str) -> io::Result<Vec<u8>> {
+/// All bytes that come from there.
+fn read_all<S: Read + Drop>(alloc: Global, mut source: S) -> io::Result<Vec<u8>> {
+    let mut bytes = Vec::new(alloc);
+    source.read_to_end(&mut bytes)?;
+    Ok(bytes)
+}
+
+impl<R: std::rt::Files + AllocGlobal + Input> Reads for SystemFiles<'_, R> {
+    fn read(&self, alloc: Global, name: &str) -> io::Result<Vec<u8>> {
+        if name == "-" {
+            return read_all(alloc, self.rt.reader());
+        }
         fs::read(self.rt, name)
     }
 
     fn read_first(&self, alloc: Global, name: &str, most: usize) -> io::Result<Vec<u8>> {
-        let mut beginning = fs::open(self.rt, name)?.take(most as u64);
-        let mut bytes = Vec::new(alloc);
-        beginning.read_to_end(&mut bytes)?;
-        Ok(bytes)
+        if name == "-" {
+            return read_all(alloc, self.rt.reader().take(most as u64));
+        }
+        read_all(alloc, fs::open(self.rt, name)?.take(most as u64))
     }
 }
 
-impl<R: std::rt::Files + AllocGlobal> Files for SystemFiles<'_, R> {
+impl<R: std::rt::Files + AllocGlobal + Input> Files for SystemFiles<'_, R> {
     fn write(&mut self, name: &str, bytes: &[u8]) -> io::Result<()> {
         fs::write(self.rt, name, bytes)
     }

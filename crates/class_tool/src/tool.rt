@@ -7,11 +7,12 @@ use crate::assembly::{assemble, disassemble};
 use crate::failure::Failure;
 use crate::files::Files;
 use crate::image::load;
+use crate::packing::pack;
 use crate::run::run;
 use std::alloc::Global;
 
 /// Does what is asked for. The answer is true of the files as they were. No file is written but the one that is named
-/// for the image of a text, and that one only where the text is right; a failure says why, the first reason in the
+/// for the image of a text or of raw code, and that one only where it is right; a failure says why, the first reason in the
 /// order of `Fails`.
 pub fn find<F: Files>(alloc: Global, files: &mut F, action: &Action<'_>) -> Result<Answer, Failure>
     ensures settles { IfOk result (Settles (F.disk files.old) (F.disk files.new) action.now) }
@@ -27,6 +28,10 @@ pub fn find<F: Files>(alloc: Global, files: &mut F, action: &Action<'_>) -> Resu
             Err(failure) => Err(failure),
         },
         Action::Assemble { text, image } => match assemble(alloc, files, text, image) {
+            Ok(()) => Ok(Answer::Assembled),
+            Err(failure) => Err(failure),
+        },
+        Action::Pack(asked) => match pack(alloc, files, asked) {
             Ok(()) => Ok(Answer::Assembled),
             Err(failure) => Err(failure),
         },

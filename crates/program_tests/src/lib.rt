@@ -16,6 +16,10 @@ mod images;
 #[cfg(test)]
 mod lines;
 #[cfg(test)]
+mod packs;
+#[cfg(test)]
+mod pages;
+#[cfg(test)]
 mod runs;
 #[cfg(test)]
 mod script;

@@ -5,7 +5,7 @@ use std::io::{self, ErrorKind, Write};
 use std::process::Abort;
 
 /// Words that ask for nothing that the program does, or for help.
-static USAGES: [&[&str]; 26] = [
+static USAGES: [&[&str]; 36] = [
     &[],
     &["--help"],
     &["help"],
@@ -15,6 +15,17 @@ static USAGES: [&[&str]; 26] = [
     &["asm", "image"],
     &["asm", "image", "out", "more"],
     &["dis"],
+    &["--version"],
+    // no method; one that lacks a field; flags and capacities that are none; a good one behind a bad one
+    &["pack", "out"],
+    &["pack", "out", "f:r:0:0"],
+    &["pack", "out", "f"],
+    &["pack", "out", "f:x:0:0:image"],
+    &["pack", "out", "f::0:0:image"],
+    &["pack", "out", "f:r::0:image"],
+    &["pack", "out", "f:r:65536:0:image"],
+    &["pack", "out", "f:r:0:-1:image"],
+    &["pack", "out", "f:r:0:0", "g:r:0:0:image"],
     &["run", "image", "f", "--caller", "0"],
     &["run", "image", "f", "--caller", "4294967296"],
     &["run", "image", "f", "--caller", "one"],
@@ -69,7 +80,7 @@ fn explains_its_use(rt: HostRuntime) {
 
 /// Words, and what stands in the help or the usage that they get: the forms and phrases are clap's, the texts are the
 /// commands' own.
-static TOLD: [(&[&str], &str); 16] = [
+static TOLD: [(&[&str], &str); 19] = [
     (
         &["--help"],
         "RADOS object classes in verified BPF\n\nUsage: radoscls <COMMAND>\n",
@@ -86,7 +97,12 @@ static TOLD: [(&[&str], &str); 16] = [
         &["--help"],
         "  asm     Writes the image of a class from its text\n",
     ),
+    (
+        &["--help"],
+        "  pack    Writes the image of a class from raw code\n",
+    ),
     (&["--help"], "  dis     Prints the text of a class image\n"),
+    (&["--version"], "radoscls 0.1.0\n"),
     (
         &["--help"],
         "  sim     Plays a group of nodes from a file of events\n",
@@ -98,6 +114,10 @@ static TOLD: [(&[&str], &str); 16] = [
         "Usage: radoscls run [OPTIONS] <IN> <METHOD>\n",
     ),
     (&["asm", "--help"], "Usage: radoscls asm <IN> <OUT>\n"),
+    (
+        &["pack", "--help"],
+        "Usage: radoscls pack <OUT> <METHOD>...\n",
+    ),
     (&["dis", "--help"], "Usage: radoscls dis <IN>\n"),
     (&["sim", "--help"], "Usage: radoscls sim [OPTIONS] <FILE>\n"),
     (&["erase"], "error: unrecognized subcommand 'erase'\n"),

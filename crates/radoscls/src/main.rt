@@ -5,6 +5,8 @@
 //! - `radoscls run IN METHOD [--input HEX] [--caller N]`: a call of that method beside an absent object, by client N (1 to
 //!   4294967295; else client 1): its code, its output, the object that it leaves, and its steps.
 //! - `radoscls asm IN OUT`: the image of the class text in the file IN, written to the file OUT.
+//! - `radoscls pack OUT NAME:FLAGS:IN:OUT:FILE ..`: the image of a class of those methods, each with the raw code in its
+//!   FILE, written to the file OUT.
 //! - `radoscls dis IN`: the text of the class image in the file IN.
 //! - `radoscls sim FILE [--class NAME=IMAGE ..] [--trace]`: what each event of the file FILE comes to, or a drawing of the
 //!   run; a request asks `lock`, `obj` or one of those classes by name.

@@ -1,15 +1,16 @@
 -- What the subcommand that a parse entered asks for.
-use Rattle.std.proofs.Common.{◌≡◌, ◌∙◌, ap₂, sym, List, Option, Some, None, option_map, codes}
+use Rattle.std.proofs.Common.{◌≡◌, ◌∙◌, ap₂, refl, subst, sym, List, Option, Some, None, option_map, codes}
 use Rattle.std.specs.Prelude.{IfSome}
 use Rattle.std.proofs.lemmas.Option.{none-some, same_Some}
-use Rattle.clap.specs.Words.{Row, Text, first_value, found_of, rows_of, subcommand_name_of, subcommand_rows_of}
+use Rattle.clap.specs.Words.{Row, Text, all_of, first_value, found_of, rows_of, subcommand_name_of, subcommand_rows_of}
 use Rattle.clap.specs.declared.parser.matches.ArgMatches.{ArgMatches}
 use Rattle.clap.specs.declared.parser.matches.ArgMatches.TheViews.{out-ArgMatches}
 use Rattle.clap.proofs.WalkLemmas.{first_value-rows}
-use Rattle.radoscls_program.specs.Arguments.{AsksBy, Takes}
+use Rattle.radoscls_program.specs.Arguments.{AsksBy, Takes, texts_of}
+use Rattle.radoscls_program.specs.Raw.{AreRaw}
 use Rattle.radoscls_program.specs.CommandLine.{Asks}
 use Rattle.class_tool.specs.declared.action.Action.{Action}
-use Rattle.class_tool.specs.declared.action.Action.TheVariants.{Verify, Run, Assemble, Disassemble}
+use Rattle.class_tool.specs.declared.action.Action.TheVariants.{Verify, Run, Assemble, Pack, Disassemble}
 
 -- two parts of an optional value make the pair of them
 both_parts : {A B C : Type 0} (f : C → A) (g : C → B) (o : Option C) (a : A) (b : B) → option_map f o ≡ Some a
@@ -25,25 +26,30 @@ pub entered : (m : ArgMatches) (name : Text) (rows : List Row) → subcommand_na
 entered m name rows named found = both_parts _ _ (out-ArgMatches m).subcommand name rows named found
 
 -- values that are read in two ways ask for the same
-pub same_values : (u v : Text → Option Text) → ((id : Text) → u id ≡ v id) → (a : Action) → Takes u a → Takes v a
-same_values u v same (Verify image) takes = sym (same (codes "IN")) ∙ takes
-same_values u v same (Run call) takes = (
+pub same_values : (u v : Text → Option Text) (us vs : Text → Option (List Text)) → ((id : Text) → u id ≡ v id) → ((id : Text) → us id ≡ vs id)
+    → (a : Action) → Takes u us a → Takes v vs a
+same_values u v us vs same also (Verify image) takes = sym (same (codes "IN")) ∙ takes
+same_values u v us vs same also (Run call) takes = (
   sym (same (codes "IN")) ∙ takes.0,
   sym (same (codes "METHOD")) ∙ takes.1,
   sym (same (codes "input")) ∙ takes.2,
   (takes.3.0, sym (same (codes "caller")) ∙ takes.3.1, takes.3.2, takes.3.3),
 )
-same_values u v same (Assemble text image) takes = (sym (same (codes "IN")) ∙ takes.0, sym (same (codes "OUT")) ∙ takes.1)
-same_values u v same (Disassemble image) takes = sym (same (codes "IN")) ∙ takes
+same_values u v us vs same also (Assemble text image) takes = (sym (same (codes "IN")) ∙ takes.0, sym (same (codes "OUT")) ∙ takes.1)
+same_values u v us vs same also (Pack asked) takes = record {
+  image = sym (same (codes "OUT")) ∙ takes.image;
+  methods = subst (λ (texts : Option (List Text)). AreRaw (texts_of texts) asked.methods.items) (also (codes "METHOD")) takes.methods;
+}
+same_values u v us vs same also (Disassemble image) takes = sym (same (codes "IN")) ∙ takes
 
 -- the action of the subcommand that was entered
 pub Asks-entered : (name : Text) (m found : ArgMatches) → subcommand_name_of m ≡ Some name
     → option_map (λ (p : Text × List Row). p.1) (subcommand_rows_of m) ≡ Some (rows_of (found_of found))
-    → (o : Option Action) → IfSome o (AsksBy name (first_value (found_of found))) → IfSome o (Asks (subcommand_rows_of m))
+    → (o : Option Action) → IfSome o (AsksBy name (first_value (found_of found)) (λ id. all_of id (rows_of (found_of found)))) → IfSome o (Asks (subcommand_rows_of m))
 Asks-entered name m found named rows None asks = tt
 Asks-entered name m found named rows (Some a) asks = record {
   name = name;
   rows = rows_of (found_of found);
   entered = entered m name (rows_of (found_of found)) named rows;
-  asked = (asks.0, same_values (first_value (found_of found)) _ (first_value-rows (found_of found)) a asks.1);
+  asked = (asks.0, same_values (first_value (found_of found)) _ (λ id. all_of id (rows_of (found_of found))) _ (first_value-rows (found_of found)) (λ id. refl) a asks.1);
 }

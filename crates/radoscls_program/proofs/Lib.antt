@@ -1,7 +1,9 @@
 mod Built
 mod Ended
 mod Entered
+mod Packing
 mod Parsed
+mod Raws
 mod Simulated
 mod Tenants
 mod Unasked

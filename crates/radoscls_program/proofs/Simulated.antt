@@ -7,12 +7,12 @@ use Rattle.clap.specs.declared.parser.matches.ArgMatches.TheViews.{out-ArgMatche
 use Rattle.clap.proofs.WalkLemmas.{first_value-rows}
 use Rattle.sim_tool.specs.declared.asked.Simulation.{Simulation}
 use Rattle.class_tool.specs.declared.action.Action.{Action}
-use Rattle.class_tool.specs.declared.action.Action.TheVariants.{Verify, Run, Assemble, Disassemble}
+use Rattle.class_tool.specs.declared.action.Action.TheVariants.{Verify, Run, Assemble, Pack, Disassemble}
 use Rattle.radoscls_program.specs.Arguments.{AsksBy, NamesSim, TakesSim, is_set}
 use Rattle.radoscls_program.specs.CommandLine.{AsksNoTask, AsksNothing, AsksTask}
 use Rattle.radoscls_program.specs.declared.task.Task.TheVariants.{Class, Sim}
 use Rattle.radoscls_program.proofs.Entered.{entered}
-use Rattle.radoscls_program.proofs.Unasked.{other}
+use Rattle.radoscls_program.proofs.Unasked.{first_part, other}
 
 -- the values by the rows
 same_taken : (f : ArgMatches) (s : Simulation) → TakesSim (first_value (found_of f)) (λ id. all_of id (rows_of (found_of f))) s
@@ -34,11 +34,12 @@ asks_sim m found named rows s takes = record {
 }
 
 -- no action has the subcommand `sim`
-no_action : (value : Text → Option Text) (a : Action) → AsksBy (codes "sim") value a → ⊥
-no_action value (Verify image) asks = other (codes "sim") (codes "verify") refl asks.0
-no_action value (Run call) asks = other (codes "sim") (codes "run") refl asks.0
-no_action value (Assemble text image) asks = other (codes "sim") (codes "asm") refl asks.0
-no_action value (Disassemble image) asks = other (codes "sim") (codes "dis") refl asks.0
+no_action : (value : Text → Option Text) (values : Text → Option (List Text)) (a : Action) → AsksBy (codes "sim") value values a → ⊥
+no_action value values (Verify image) asks = other (codes "sim") (codes "verify") refl asks.0
+no_action value values (Run call) asks = other (codes "sim") (codes "run") refl asks.0
+no_action value values (Assemble text image) asks = other (codes "sim") (codes "asm") refl asks.0
+no_action value values (Pack asked) asks = other (codes "sim") (codes "pack") refl asks.0
+no_action value values (Disassemble image) asks = other (codes "sim") (codes "dis") refl asks.0
 
 -- `sim`, whose values ask for nothing
 pub sim_asks_nothing : (m found : ArgMatches) → subcommand_name_of m ≡ Some (codes "sim")
@@ -46,16 +47,11 @@ pub sim_asks_nothing : (m found : ArgMatches) → subcommand_name_of m ≡ Some 
     → (NamesSim (first_value (found_of found)) (λ id. all_of id (rows_of (found_of found))) → ⊥) → AsksNoTask (subcommand_rows_of m)
 sim_asks_nothing m found named rows none (Class a) asks =
     let same = some_pair_parts asks.name (codes "sim") asks.rows (rows_of (found_of found)) (sym asks.entered ∙ entered m (codes "sim") (rows_of (found_of found)) named rows) in
-    no_action (λ id. first_of id asks.rows) a (sym same.0 ∙ asks.asked.0, asks.asked.1)
+    no_action (λ id. first_of id asks.rows) (λ id. all_of id asks.rows) a (sym same.0 ∙ asks.asked.0, asks.asked.1)
 sim_asks_nothing m found named rows none (Sim s) asks =
     let same = some_pair_parts (codes "sim") (codes "sim") asks.rows (rows_of (found_of found)) (sym asks.entered ∙ entered m (codes "sim") (rows_of (found_of found)) named rows) in
     let takes = subst (λ (rs : List Row). TakesSim (λ id. first_of id rs) (λ id. all_of id rs) s) same.1 asks.asked in
     none (record { file = ap is_some (first_value-rows (found_of found) (codes "FILE") ∙ takes.file); own = takes.own.may })
-
--- the name of a pair that is there
-first_part : {A B C : Type 0} (f : C → A) (g : C → B) (o : Option C) (a : A) (b : B) → option_map {U = A × B} (λ c. (f c, g c)) o ≡ Some (a, b) → option_map f o ≡ Some a
-first_part f g None a b same = absurd (none-some (a, b) same)
-first_part {A} {B} f g (Some c) a b same = ap (option_map (λ (p : A × B). p.0)) same
 
 -- another subcommand asks for no simulation, nor for an action where it asks for none
 pub no_task : (m : ArgMatches) → (subcommand_name_of m ≡ Some (codes "sim") → ⊥) → AsksNothing (subcommand_rows_of m) → AsksNoTask (subcommand_rows_of m)

@@ -4,9 +4,11 @@ use Rattle.std.specs.Option.{unwrap_or}
 use Rattle.std.specs.Str.{bytes_eq}
 use Rattle.std.specs.Str.Parse.{IsNumeral, digits_value, without_leading_plus}
 use Rattle.class_tool.specs.declared.action.Action.{Action}
-use Rattle.class_tool.specs.declared.action.Action.TheVariants.{Verify, Run, Assemble, Disassemble}
+use Rattle.class_tool.specs.declared.action.Action.TheVariants.{Verify, Run, Assemble, Pack, Disassemble}
+use Rattle.class_tool.specs.declared.action.Packing.{Packing}
 use Rattle.sim_tool.specs.declared.asked.Simulation.{Simulation}
 use Rattle.radoscls_program.specs.Own.{Owns, are_own}
+use Rattle.radoscls_program.specs.Raw.{AreRaw}
 
 -- the number that a text writes in decimal digits, behind a plus or none
 abbrev pub number_in : List ℕ → ℕ
@@ -21,23 +23,34 @@ abbrev pub subcommand_for : Action → List ℕ
 subcommand_for (Verify image) = codes "verify"
 subcommand_for (Run call) = codes "run"
 subcommand_for (Assemble text image) = codes "asm"
+subcommand_for (Pack asked) = codes "pack"
 subcommand_for (Disassemble image) = codes "dis"
+
+-- the texts of an argument that may stand more than once
+abbrev pub texts_of : Option (List (List ℕ)) → List (List ℕ)
+texts_of texts = unwrap_or texts []
+
+-- what `pack` takes from the values: the file OUT of the image, and a method of each METHOD
+pub record TakesPacking (value : List ℕ → Option (List ℕ)) (values : List ℕ → Option (List (List ℕ))) (asked : Packing) : Type 0 where
+  pub image : value (codes "OUT") ≡ Some asked.image.now
+  pub methods : AreRaw (texts_of (values (codes "METHOD"))) asked.methods.items
 
 -- What each action takes from the values: whether the class in the file IN is safe; a call of METHOD by the client
 -- --caller, of the class in the file IN, on what --input spells; the image of the text in the file IN, into the file
--- OUT; the text of the class in the file IN.
-abbrev pub Takes : (List ℕ → Option (List ℕ)) → Action → Type 0
-Takes value (Verify image) = value (codes "IN") ≡ Some image.now
-Takes value (Run call) =
+-- OUT; the image of raw code; the text of the class in the file IN. `values` gives all texts of an argument.
+abbrev pub Takes : (List ℕ → Option (List ℕ)) → (List ℕ → Option (List (List ℕ))) → Action → Type 0
+Takes value values (Verify image) = value (codes "IN") ≡ Some image.now
+Takes value values (Run call) =
     (value (codes "IN") ≡ Some call.image.now) × (value (codes "METHOD") ≡ Some call.method.now)
     × (value (codes "input") ≡ Some call.input.now)
     × ((text : List ℕ) × (value (codes "caller") ≡ Some text) × IsClientNumber text × (call.caller ≡ number_in text))
-Takes value (Assemble text image) = (value (codes "IN") ≡ Some text.now) × (value (codes "OUT") ≡ Some image.now)
-Takes value (Disassemble image) = value (codes "IN") ≡ Some image.now
+Takes value values (Assemble text image) = (value (codes "IN") ≡ Some text.now) × (value (codes "OUT") ≡ Some image.now)
+Takes value values (Pack asked) = TakesPacking value values asked
+Takes value values (Disassemble image) = value (codes "IN") ≡ Some image.now
 
 -- the action of the subcommand of that name and its values
-abbrev pub AsksBy : List ℕ → (List ℕ → Option (List ℕ)) → Action → Type 0
-AsksBy name value action = (name ≡ subcommand_for action) × Takes value action
+abbrev pub AsksBy : List ℕ → (List ℕ → Option (List ℕ)) → (List ℕ → Option (List (List ℕ))) → Action → Type 0
+AsksBy name value values action = (name ≡ subcommand_for action) × Takes value values action
 
 -- the values that a call needs are there, and the caller is a client's number
 abbrev pub NamesCall : (List ℕ → Option (List ℕ)) → Type 0
@@ -53,10 +66,6 @@ NamesFiles value = IsSome (value (codes "IN")) × IsSome (value (codes "OUT"))
 abbrev pub is_set : Option (List ℕ) → Bool
 is_set None = false
 is_set (Some text) = bytes_eq text (codes "true")
-
--- the texts of an option that may stand more than once
-abbrev pub texts_of : Option (List (List ℕ)) → List (List ℕ)
-texts_of texts = unwrap_or texts []
 
 -- What `sim` takes from the values: the file of events FILE, a tenant's class of each --class, and whether --trace is there.
 -- `values` gives all texts of an option.

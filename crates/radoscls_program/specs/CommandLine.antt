@@ -1,6 +1,7 @@
--- The command line: `verify IN`, `run IN METHOD [--input HEX] [--caller N]`, `asm IN OUT`, `dis IN`, and
+-- The command line: `verify IN`, `run IN METHOD [--input HEX] [--caller N]`, `asm IN OUT`, `pack OUT METHOD ..`, `dis IN`, and
 -- `sim FILE [--class NAME=IMAGE ..] [--trace]`.
 use Rattle.std.specs.Prelude.{◌≡◌, List, [], ◌∷◌, Option, Some, true, pos, codes}
+use Rattle.clap.specs.Lexer.{usize_max}
 use Rattle.clap.specs.Words.{App, Row, Rule, Text, all_of, first_of, new_app, new_rule, with_rule, with_subcommand}
 use Rattle.clap.specs.declared.builder.action.ArgAction.TheVariants as argument
 use Rattle.clap.specs.declared.builder.value_parser.ValueParser.TheVariants as parser
@@ -33,6 +34,13 @@ run_line =
 abbrev pub asm_line : App
 asm_line = with_rule (with_rule (new_app (codes "asm")) (required_rule (codes "IN"))) (required_rule (codes "OUT"))
 
+-- the methods that are packed, one or more
+abbrev pub methods_rule : Rule
+methods_rule = record (required_rule (codes "METHOD")) { range = Some (record { start_inclusive = 1; end_inclusive = usize_max }) }
+
+abbrev pub pack_line : App
+pack_line = with_rule (with_rule (new_app (codes "pack")) (required_rule (codes "OUT"))) methods_rule
+
 abbrev pub dis_line : App
 dis_line = with_rule (new_app (codes "dis")) (required_rule (codes "IN"))
 
@@ -50,7 +58,7 @@ sim_line = with_rule (with_rule (with_rule (new_app (codes "sim")) (required_rul
 -- the program's name, which wants a subcommand
 abbrev pub plain_line : App
 plain_line = let named = new_app (codes "radoscls") in
-    record named { top = record named.top { arg_required_else_help = true; subcommand_required = true } }
+    record named { top = record named.top { has_version = true; arg_required_else_help = true; subcommand_required = true } }
 
 -- with the subcommands of images alone
 abbrev pub image_line : App
@@ -58,7 +66,7 @@ image_line = with_subcommand (with_subcommand plain_line verify_line.top) run_li
 
 -- with those of texts too
 abbrev pub class_line : App
-class_line = with_subcommand (with_subcommand image_line asm_line.top) dis_line.top
+class_line = with_subcommand (with_subcommand (with_subcommand image_line asm_line.top) pack_line.top) dis_line.top
 
 -- the whole of it
 abbrev pub command_line : App
@@ -69,7 +77,7 @@ pub record Asks (subcommand : Option (Text × List Row)) (action : Action) : Typ
   pub name : Text
   pub rows : List Row
   pub entered : subcommand ≡ Some (name, rows)
-  pub asked : AsksBy name (λ id. first_of id rows) action
+  pub asked : AsksBy name (λ id. first_of id rows) (λ id. all_of id rows) action
 
 -- the subcommand and its values ask for no action
 abbrev pub AsksNothing : Option (Text × List Row) → Type 0

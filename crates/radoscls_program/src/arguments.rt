@@ -1,18 +1,22 @@
-ghost use Rattle.std.specs.Prelude.{◌≡◌, ◌≢◌, ◌↔◌, ◌≤◌, [], false, length, IfErr, IfNone, IfOk, IfSome, IsNone, IsSome, None, Ok, Some, codes, map};
+ghost use Rattle.std.specs.Prelude.{◌≡◌, ◌≢◌, ◌↔◌, ◌≤◌, List, [], false, length, IfErr, IfNone, IfOk, IfSome, IsNone, IsSome, None, Ok, Some, codes, map};
 ghost use Rattle.clap.specs.declared.builder.command.Command.{Command as ACommand};
 ghost use Rattle.clap.specs.declared.builder.command.Command.TheViews.{out-Command};
-ghost use Rattle.clap.specs.Words.{AddsArg, AddsSubcommand, all_of, app_of, fault_of, first_value, found_of, kind_of, new_app, rows_of, rule_of, subcommand_of, subcommand_rows_of, with_rule};
+ghost use Rattle.clap.specs.Words.{AddsArg, AddsSubcommand, all_of, app_of, fault_of, first_value, found_of, kind_of, new_app, rows_of, rule_of, subcommand_name_of, subcommand_of, subcommand_rows_of, with_rule};
 ghost use Rattle.sim_tool.specs.declared.asked.TheConstants.{OWN_LIMIT};
-ghost use Rattle.radoscls_program.specs.CommandLine.{Asks, AsksNoTask, AsksNothing, AsksTask, asm_line, caller_rule, class_rule, command_line, dis_line, image_line, option_rule, plain_line, required_rule, run_line, sim_line, trace_rule, verify_line};
-ghost use Rattle.radoscls_program.specs.Arguments.{AsksBy, IsClientNumber, NamesCall, NamesFiles, NamesSim, TakesSim, is_set, number_in, texts_of};
+ghost use Rattle.radoscls_program.specs.CommandLine.{Asks, AsksNoTask, AsksNothing, AsksTask, asm_line, caller_rule, class_rule, command_line, dis_line, image_line, methods_rule, option_rule, pack_line, plain_line, required_rule, run_line, sim_line, trace_rule, verify_line};
+ghost use Rattle.radoscls_program.specs.Arguments.{AsksBy, IsClientNumber, NamesCall, NamesFiles, NamesSim, TakesPacking, TakesSim, is_set, number_in, texts_of};
 ghost use Rattle.radoscls_program.specs.Own.{Owns, are_own};
+ghost use Rattle.radoscls_program.specs.Raw.{AreRaw};
+ghost use Rattle.class_tool.specs.declared.action.Packing.{Packing as APacking};
+ghost use Rattle.class_tool.specs.declared.action.RawMethod.{RawMethod as ARawMethod};
 ghost use Rattle.radoscls_program.specs.Program.{AreForNone};
 
 use crate::own_class::own_classes;
+use crate::raw_method::raw_methods;
 use crate::task::Task;
 use clap::error::{Error, ErrorKind};
 use clap::{Arg, ArgAction, ArgMatches, Command, value_parser};
-use class_tool::{Action, Call};
+use class_tool::{Action, Call, Packing, RawMethod};
 use pg_log::ClientId;
 use sim_tool::{OwnClass, Simulation};
 use std::alloc::{AllocError, Global};
@@ -139,6 +143,24 @@ fn asm_command<'a>(alloc: Global) -> Result<Command<'a>, AllocError>
     with_arg(of_text, required(alloc, "OUT", "The file of the image"))
 }
 
+/// The methods that are packed, one or more.
+fn methods_argument<'a>(alloc: Global) -> Arg<'a>
+    ensures rule { rule_of result ≡ methods_rule }
+    ensures local { result.global ≡ false }
+{
+    let help = "A method: NAME:FLAGS:IN:OUT:FILE, with FLAGS r, w or rw, and its raw code in FILE";
+    required(alloc, "METHOD", help).num_args(1..)
+}
+
+fn pack_command<'a>(alloc: Global) -> Result<Command<'a>, AllocError>
+    ensures line { IfOk result (λ c. app_of c ≡ pack_line) }
+    ensures local { IfOk result (λ c. (out-Command c).has_globals ≡ false) }
+{
+    let about = "Writes the image of a class from raw code";
+    let of_image = file_command(alloc, "pack", about, "OUT", "The file of the image");
+    with_arg(of_image, methods_argument(alloc))
+}
+
 fn dis_command<'a>(alloc: Global) -> Result<Command<'a>, AllocError>
     ensures line { IfOk result (λ c. app_of c ≡ dis_line) }
     ensures local { IfOk result (λ c. (out-Command c).has_globals ≡ false) }
@@ -185,6 +207,7 @@ fn plain_command<'a>(alloc: Global) -> Command<'a>
 {
     Command::new(alloc, "radoscls")
         .about("RADOS object classes in verified BPF")
+        .version("0.1.0")
         .subcommand_required(true)
         .arg_required_else_help(true)
 }
@@ -204,10 +227,11 @@ fn root_command<'a>(alloc: Global) -> Result<Command<'a>, AllocError>
     ensures { IfOk result (λ c. app_of c ≡ command_line) }
 {
     let of_images = image_command(alloc);
-    let of_texts = with_subcommand(
+    let of_code = with_subcommand(
         with_subcommand(of_images, asm_command(alloc)),
-        dis_command(alloc),
+        pack_command(alloc),
     );
+    let of_texts = with_subcommand(of_code, dis_command(alloc));
     with_subcommand(of_texts, sim_command(alloc))
 }
 
@@ -224,7 +248,7 @@ fn caller_of(text: &str) -> Option<ClientId>
 
 /// What `verify` asks for.
 fn verify_action<'a>(matches: &ArgMatches<'a>) -> Option<Action<'a>>
-    ensures value { IfSome result (AsksBy (codes "verify") (first_value (found_of matches.now))) }
+    ensures value { IfSome result (AsksBy (codes "verify") (first_value (found_of matches.now)) (λ id. all_of id (rows_of (found_of matches.now)))) }
     ensures missing { IsNone result ↔ (first_value (found_of matches.now) (codes "IN") ≡ None) }
 {
     Some(Action::Verify {
@@ -234,7 +258,7 @@ fn verify_action<'a>(matches: &ArgMatches<'a>) -> Option<Action<'a>>
 
 /// What `run` asks for, where its caller is a client's number.
 fn run_action<'a>(matches: &ArgMatches<'a>) -> Option<Action<'a>>
-    ensures value { IfSome result (AsksBy (codes "run") (first_value (found_of matches.now))) }
+    ensures value { IfSome result (AsksBy (codes "run") (first_value (found_of matches.now)) (λ id. all_of id (rows_of (found_of matches.now)))) }
     ensures answered { IsSome result ↔ NamesCall (first_value (found_of matches.now)) }
 {
     Some(Action::Run(Call {
@@ -247,7 +271,7 @@ fn run_action<'a>(matches: &ArgMatches<'a>) -> Option<Action<'a>>
 
 /// What `asm` asks for.
 fn asm_action<'a>(matches: &ArgMatches<'a>) -> Option<Action<'a>>
-    ensures value { IfSome result (AsksBy (codes "asm") (first_value (found_of matches.now))) }
+    ensures value { IfSome result (AsksBy (codes "asm") (first_value (found_of matches.now)) (λ id. all_of id (rows_of (found_of matches.now)))) }
     ensures answered { IsSome result ↔ NamesFiles (first_value (found_of matches.now)) }
 {
     Some(Action::Assemble {
@@ -258,7 +282,7 @@ fn asm_action<'a>(matches: &ArgMatches<'a>) -> Option<Action<'a>>
 
 /// What `dis` asks for.
 fn dis_action<'a>(matches: &ArgMatches<'a>) -> Option<Action<'a>>
-    ensures value { IfSome result (AsksBy (codes "dis") (first_value (found_of matches.now))) }
+    ensures value { IfSome result (AsksBy (codes "dis") (first_value (found_of matches.now)) (λ id. all_of id (rows_of (found_of matches.now)))) }
     ensures missing { IsNone result ↔ (first_value (found_of matches.now) (codes "IN") ≡ None) }
 {
     Some(Action::Disassemble {
@@ -266,10 +290,41 @@ fn dis_action<'a>(matches: &ArgMatches<'a>) -> Option<Action<'a>>
     })
 }
 
-/// What the subcommand that was entered asks of a class.
+/// The texts of the methods that are packed.
+fn methods_of<'a>(
+    alloc: Global,
+    matches: &ArgMatches<'a>,
+) -> Result<Option<Vec<RawMethod<'a>>>, AllocError>
+    ensures some { IfOk result (λ found. IfSome found (λ ms. AreRaw (texts_of (all_of (codes "METHOD") (rows_of (found_of matches.now)))) ms.items)) }
+    ensures none { IfOk result (λ found. IfNone found ((ms : List ARawMethod) → AreRaw (texts_of (all_of (codes "METHOD") (rows_of (found_of matches.now)))) ms → ⊥)) }
+{
+    match matches.get_strs("METHOD") {
+        Some(texts) => raw_methods(alloc, texts),
+        None => raw_methods(alloc, &[]),
+    }
+}
+
+/// What `pack` asks for.
+fn packing_of<'a>(
+    alloc: Global,
+    matches: &ArgMatches<'a>,
+) -> Result<Option<Packing<'a>>, AllocError>
+    ensures some { IfOk result (λ found. IfSome found (TakesPacking (first_value (found_of matches.now)) (λ id. all_of id (rows_of (found_of matches.now))))) }
+    ensures none { IfOk result (λ found. IfNone found ((asked : APacking) → TakesPacking (first_value (found_of matches.now)) (λ id. all_of id (rows_of (found_of matches.now))) asked → ⊥)) }
+{
+    let Some(image) = matches.get_str("OUT") else {
+        return Ok(None);
+    };
+    match methods_of(alloc, matches)? {
+        Some(methods) => Ok(Some(Packing { image, methods })),
+        None => Ok(None),
+    }
+}
+
+/// What the subcommand that was entered asks of a class, where it isn't `pack`.
 fn action_of<'a>(matches: &ArgMatches<'a>) -> Option<Action<'a>>
     ensures asked { IfSome result (Asks (subcommand_rows_of matches.now)) }
-    ensures unasked { IsNone result → AsksNothing (subcommand_rows_of matches.now) }
+    ensures unasked { IsNone result → (subcommand_name_of matches.now ≡ Some (codes "pack") → ⊥) → AsksNothing (subcommand_rows_of matches.now) }
 {
     if let Some(found) = matches.subcommand_matches("verify") {
         return verify_action(found);
@@ -334,6 +389,12 @@ fn task_of<'a>(alloc: Global, matches: &ArgMatches<'a>) -> Result<Option<Task<'a
     if let Some(found) = matches.subcommand_matches("sim") {
         return match sim_of(alloc, found)? {
             Some(simulation) => Ok(Some(Task::Sim(simulation))),
+            None => Ok(None),
+        };
+    }
+    if let Some(found) = matches.subcommand_matches("pack") {
+        return match packing_of(alloc, found)? {
+            Some(packing) => Ok(Some(Task::Class(Action::Pack(packing)))),
             None => Ok(None),
         };
     }

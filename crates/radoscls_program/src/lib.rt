@@ -7,6 +7,7 @@ mod arguments;
 mod own_class;
 mod perform;
 mod process;
+mod raw_method;
 mod status;
 mod task;
 

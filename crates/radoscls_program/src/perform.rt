@@ -113,7 +113,7 @@ pub(crate) fn perform<S: AsStr, F: Files, O: Output, E: io::Write>(
 ///
 /// The answer is what the process ends with: 0 where it was done and printed, 1 where it was refused, or a write or a flush
 /// of `out` failed, 2 after usage or help, where the words name no task without a fault. No file is written but the one
-/// that `asm` names for the image, and that one only where the text is right. `sim` prints of each line of its file what it
+/// that `asm` or `pack` names for the image, and that one only where the text or the raw code is right. `sim` prints of each line of its file what it
 /// comes to before the next is done.
 pub fn program<S: AsStr, F: Files, O: Output, E: io::Write>(
     alloc: Global,

@@ -9,6 +9,7 @@ use crate::perform::{perform, refuse};
 use crate::status::Status;
 use class_tool::{Failure, Output, SystemFiles};
 use std::alloc::Global;
+use std::io::Input;
 use std::process::ExitCode;
 use std::rt::{Env, Files};
 use std::{env, io};
@@ -37,7 +38,7 @@ fn end_of<F: class_tool::Files, O: Output, E: io::Write>(
 
 /// Runs the program on the process's own words and files, and gives what the process ends with: `program`'s answer, or 1
 /// where its words could not be read, of which a line is printed.
-pub fn start<R: Env + Files + AllocGlobal, O: Output, E: io::Write>(
+pub fn start<R: Env + Files + AllocGlobal + Input, O: Output, E: io::Write>(
     rt: &R,
     out: &mut O,
     err: &mut E,

@@ -5,7 +5,7 @@
 use class_tool::{Files, Printer, Reads, SystemFiles};
 use radoscls_program::{program, start};
 use std::alloc::Global;
-use std::io;
+use std::io::{self, Input};
 use std::process::ExitCode;
 use std::rt::Files as Granted;
 
@@ -16,7 +16,7 @@ const LONG: usize = 5_000;
 const MOST: usize = 4_999;
 
 /// Words behind the program's name.
-static CALLS: [&[&str]; 12] = [
+static CALLS: [&[&str]; 15] = [
     // each status
     &["radoscls", "verify", "keep.img"],
     &["radoscls", "verify", "missing.img"],
@@ -50,6 +50,11 @@ static CALLS: [&[&str]; 12] = [
         "--input=7A",
     ],
     &["radoscls", "run", "keep.img", "keep", "--caller", "0"],
+    // raw code that is packed, and a call of it
+    &["radoscls", "pack", "out.img", "sum:r:16:8:sum.bin"],
+    &["radoscls", "run", "out.img", "sum", "--input", "010203"],
+    // an image on standard input
+    &["radoscls", "verify", "-"],
 ];
 
 /// So many bytes.
@@ -88,7 +93,7 @@ fn keeps_count<F: Files>(alloc: Global, files: &mut F, count: usize) -> io::Resu
 }
 
 /// Tells of a long file and of the short one that takes its place.
-fn tell_of_files<R: Granted + AllocGlobal + Print>(rt: &R) -> io::Result<()> {
+fn tell_of_files<R: Granted + AllocGlobal + Input + Print>(rt: &R) -> io::Result<()> {
     let mut files = SystemFiles::new(rt);
     for count in [LONG, 2, 0] {
         let kept = keeps_count(rt.alloc(), &mut files, count)?;
@@ -100,7 +105,11 @@ fn tell_of_files<R: Granted + AllocGlobal + Print>(rt: &R) -> io::Result<()> {
 }
 
 /// Runs the program on those words: its status, and whether it explained its use.
-fn call<R: Granted + AllocGlobal, O: io::Write>(rt: &R, words: &[&str], out: &mut O) -> (u8, bool) {
+fn call<R: Granted + AllocGlobal + Input, O: io::Write>(
+    rt: &R,
+    words: &[&str],
+    out: &mut O,
+) -> (u8, bool) {
     let mut files = SystemFiles::new(rt);
     let mut err = Vec::new(rt.alloc());
     let mut printer = Printer::new(out);
@@ -109,7 +118,7 @@ fn call<R: Granted + AllocGlobal, O: io::Write>(rt: &R, words: &[&str], out: &mu
 }
 
 /// Runs the program on each of the words, and tells the status.
-fn tell_of_calls<R: Granted + AllocGlobal + Print, O: io::Write>(
+fn tell_of_calls<R: Granted + AllocGlobal + Input + Print, O: io::Write>(
     rt: &R,
     out: &mut O,
 ) -> io::Result<()> {

@@ -1,4 +1,5 @@
 use Rattle.std.proofs.Common.{refl}
+use Rattle.radoscls_program.proofs.Packing.{asks_packing, packing_asks_nothing}
 use Rattle.radoscls_program.proofs.Simulated.{asks_sim, sim_asks_nothing}
 use Rattle.radoscls_program.proofs.arguments.task_of.Goals as goal
 
@@ -13,3 +14,15 @@ returns-in-None-clause-unasked c =
     let entered = c.in-Some.ensures in
     let unnamed = c.in_ok-simulation.ensures.none in
     sim_asks_nothing c.args.matches.now c.in-Some.found.now (entered.found.0 refl) entered.rows (rw c.in-None.is at unnamed)
+
+pub returns-in-Some-3-clause-asked : goal.returns-in-Some-3-clause-asked
+returns-in-Some-3-clause-asked c =
+    let entered = c.in-Some-subcommand_matches.ensures in
+    let takes = c.in_ok-packing.ensures.some in
+    asks_packing c.args.matches.now c.in-Some-subcommand_matches.found.now (entered.found.0 refl) entered.rows c.in-Some-3.packing (rw c.in-Some-3.is at takes)
+
+pub returns-in-None-2-clause-unasked : goal.returns-in-None-2-clause-unasked
+returns-in-None-2-clause-unasked c =
+    let entered = c.in-Some-subcommand_matches.ensures in
+    let unnamed = c.in_ok-packing.ensures.none in
+    packing_asks_nothing c.args.matches.now c.in-Some-subcommand_matches.found.now (entered.found.0 refl) entered.rows (rw c.in-None-2.is at unnamed)

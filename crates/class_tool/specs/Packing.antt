@@ -1,0 +1,104 @@
+-- What `pack` writes, and why it does not.
+use Rattle.std.specs.Prelude.{◌≡◌, ◌⊎◌, ⊤, ℕ, List, [], ◌∷◌, ◌++◌, Option, Err, length}
+use Rattle.bpf_decode.specs.Class.{ClassMethod, IsImage}
+use Rattle.bpf_decode.specs.ImageReading.{class_of}
+use Rattle.bpf_decode.specs.Instruction.{IsCode}
+use Rattle.bpf_decode.specs.Reading.{code_of}
+use Rattle.bpf_decode.specs.declared.decode_error.DecodeError.{DecodeError}
+use Rattle.bpf_decode.specs.declared.decode_error.DecodeError.TheVariants as decode
+use Rattle.bpf_decode.specs.declared.insn.Insn.{Insn}
+use Rattle.class_tool.specs.Files.{Disk, Holds, IsUnreadable, IsWritten, OthersStay}
+use Rattle.class_tool.specs.declared.action.Packing.{Packing}
+use Rattle.class_tool.specs.declared.action.RawMethod.{RawMethod}
+use Rattle.class_tool.specs.declared.failure.Failure.{Failure}
+use Rattle.class_tool.specs.declared.failure.Failure.TheVariants.{CannotRead, CannotWrite, NoMemory, Text, Image, Verdict, InputNotHex, Call}
+
+-- the file holds the raw code of those instructions
+pub record IsCodeIn (disk : Option Disk) (name : List ℕ) (instructions : List Insn) : Type 0 where
+  pub bytes : List ℕ
+  pub held : Holds disk name bytes
+  pub code : IsCode bytes instructions
+
+-- the method has the name, the flags and the capacities that were asked for, and the code that the file holds
+pub record IsMethodIn (disk : Option Disk) (raw : RawMethod) (method : ClassMethod) : Type 0 where
+  pub code : IsCodeIn disk raw.code.now method.instructions
+  pub name : method.name ≡ raw.name.now
+  pub flags : method.flags ≡ raw.flags
+  pub in_cap : method.in_cap ≡ raw.in_cap
+  pub out_cap : method.out_cap ≡ raw.out_cap
+
+-- a method for each that was asked for, in their order
+abbrev pub AreMethodsIn : Option Disk → List RawMethod → List ClassMethod → Type 0
+AreMethodsIn disk [] [] = ⊤
+AreMethodsIn disk [] (method ∷ methods) = ⊥
+AreMethodsIn disk (raw ∷ raws) [] = ⊥
+AreMethodsIn disk (raw ∷ raws) (method ∷ methods) = IsMethodIn disk raw method × AreMethodsIn disk raws methods
+
+-- the bytes are the image of the class of those methods
+pub record IsPackedOf (disk : Option Disk) (raws : List RawMethod) (bytes : List ℕ) : Type 0 where
+  pub class : List ClassMethod
+  pub methods : AreMethodsIn disk raws class
+  pub image : IsImage bytes class
+
+-- The image is written, and every other file is as it was.
+pub record Packs (before after : Option Disk) (asked : Packing) : Type 0 where
+  pub bytes : List ℕ
+  pub packed : IsPackedOf before asked.methods.items bytes
+  pub written : IsWritten after asked.image.now bytes
+  pub others : OthersStay before after asked.image.now
+
+-- the file's bytes are refused as code, by the first refusal in reading order
+pub record IsCodeRefusedIn (disk : Option Disk) (name : List ℕ) (error : DecodeError) : Type 0 where
+  pub bytes : List ℕ
+  pub held : Holds disk name bytes
+  pub refused : code_of bytes ≡ Err error
+
+-- Why a method's code was not read, after so many methods.
+abbrev pub CodeFails : Option Disk → List ℕ → ℕ → Failure → Type 0
+CodeFails disk name done CannotRead = IsUnreadable disk name
+CodeFails disk name done CannotWrite = ⊥
+CodeFails disk name done NoMemory = ⊤
+CodeFails disk name done (Text error) = ⊥
+CodeFails disk name done (Image error) = (error.methods ≡ done) × ((error.error ≡ decode.NoMemory) ⊎ IsCodeRefusedIn disk name error.error)
+CodeFails disk name done (Verdict refusal) = ⊥
+CodeFails disk name done InputNotHex = ⊥
+CodeFails disk name done (Call error) = ⊥
+
+-- the first methods were read, and the next one's code was not
+pub record MethodsFail (disk : Option Disk) (raws : List RawMethod) (failure : Failure) : Type 0 where
+  pub first : List RawMethod
+  pub next : RawMethod
+  pub rest : List RawMethod
+  pub split : raws ≡ first ++ next ∷ rest
+  pub methods : List ClassMethod
+  pub read : AreMethodsIn disk first methods
+  pub why : CodeFails disk next.code.now (length first) failure
+
+-- Why methods have no image: memory was refused, or they are no class, by the first refusal in the order of its fields.
+abbrev pub ClassFails : List ClassMethod → Failure → Type 0
+ClassFails methods CannotRead = ⊥
+ClassFails methods CannotWrite = ⊥
+ClassFails methods NoMemory = ⊤
+ClassFails methods (Text error) = ⊥
+ClassFails methods (Image error) = class_of methods ≡ Err error
+ClassFails methods (Verdict refusal) = ⊥
+ClassFails methods InputNotHex = ⊥
+ClassFails methods (Call error) = ⊥
+
+-- all methods were read, and have no image
+pub record PackedFails (disk : Option Disk) (raws : List RawMethod) (failure : Failure) : Type 0 where
+  pub methods : List ClassMethod
+  pub read : AreMethodsIn disk raws methods
+  pub why : ClassFails methods failure
+
+-- the class was right, and the image could not be written
+pub record PackWriteFails (before after : Option Disk) (asked : Packing) (failure : Failure) : Type 0 where
+  pub failed : failure ≡ CannotWrite
+  pub bytes : List ℕ
+  pub packed : IsPackedOf before asked.methods.items bytes
+  pub others : OthersStay before after asked.image.now
+
+-- Why no image was written, in the order in which it is tried. Before the write every file is as it was.
+abbrev pub PackFails : Option Disk → Option Disk → Packing → Failure → Type 0
+PackFails before after asked failure =
+    ((after ≡ before) × (MethodsFail before asked.methods.items failure ⊎ PackedFails before asked.methods.items failure)) ⊎ PackWriteFails before after asked failure

@@ -1,0 +1,101 @@
+ghost use Rattle.std.specs.Prelude.{◌⊎◌, IfOk, IfErr};
+ghost use Rattle.bpf_decode.specs.Class.{IsImage};
+ghost use Rattle.class_tool.specs.Packing.{AreMethodsIn, ClassFails, CodeFails, IsCodeIn, IsMethodIn, IsPackedOf, MethodsFail, PackFails, PackedFails, Packs};
+
+use crate::action::{Packing, RawMethod};
+use crate::failure::Failure;
+use crate::files::{Files, Reads};
+use bpf_decode::{ClassImage, ImageError, Insn, Method, decode, write_image};
+use std::alloc::Global;
+
+/// The instructions of the raw code that a file holds. A refusal of the code is an image's, after so many methods.
+fn code_in<F: Reads>(
+    alloc: Global,
+    files: &F,
+    name: &str,
+    done: usize,
+) -> Result<Vec<Insn>, Failure>
+    ensures code { IfOk result (λ code. IsCodeIn (F.disk files.now) name.now code.items) }
+    ensures fails { IfErr result (CodeFails (F.disk files.now) name.now done) }
+{
+    let bytes = match files.read(alloc, name) {
+        Ok(bytes) => bytes,
+        Err(error) => return Err(Failure::of_read(&error)),
+    };
+    match decode(alloc, &bytes) {
+        Ok(code) => Ok(code),
+        Err(error) => Err(Failure::Image(ImageError {
+            methods: done,
+            error,
+        })),
+    }
+}
+
+/// The method whose raw code a file holds, after so many methods.
+fn method_in<F: Reads>(
+    alloc: Global,
+    files: &F,
+    raw: &RawMethod<'_>,
+    done: usize,
+) -> Result<Method, Failure>
+    ensures method { IfOk result (IsMethodIn (F.disk files.now) raw.now) }
+    ensures fails { IfErr result (CodeFails (F.disk files.now) raw.now.code.now done) }
+{
+    let code = code_in(alloc, files, raw.code, done)?;
+    let name = String::from_str(alloc, raw.name)?;
+    Ok(Method::new(name, raw.flags, raw.in_cap, raw.out_cap, code))
+}
+
+/// The methods whose raw code files hold, in their order.
+fn methods_in<F: Reads>(
+    alloc: Global,
+    files: &F,
+    raws: &[RawMethod<'_>],
+) -> Result<Vec<Method>, Failure>
+    ensures methods { IfOk result (λ methods. AreMethodsIn (F.disk files.now) raws.now methods.items) }
+    ensures fails { IfErr result (MethodsFail (F.disk files.now) raws.now) }
+{
+    let mut methods = Vec::new(alloc);
+    for raw in raws {
+        let method = method_in(alloc, files, raw, methods.len())?;
+        methods.push(method)?;
+    }
+    Ok(methods)
+}
+
+/// The image of the class of those methods.
+fn image_of(alloc: Global, methods: Vec<Method>) -> Result<Vec<u8>, Failure>
+    ensures image { IfOk result (λ bytes. IsImage bytes.items methods.items) }
+    ensures fails { IfErr result (ClassFails methods.items) }
+{
+    let class = match ClassImage::new(methods) {
+        Ok(class) => class,
+        Err(error) => return Err(Failure::Image(error)),
+    };
+    match write_image(alloc, &class) {
+        Ok(bytes) => Ok(bytes),
+        Err(_) => Err(Failure::NoMemory),
+    }
+}
+
+/// The image of the class of the methods whose raw code files hold.
+fn packed<F: Reads>(alloc: Global, files: &F, raws: &[RawMethod<'_>]) -> Result<Vec<u8>, Failure>
+    ensures packed { IfOk result (λ bytes. IsPackedOf (F.disk files.now) raws.now bytes.items) }
+    ensures fails { IfErr result (λ e. MethodsFail (F.disk files.now) raws.now e ⊎ PackedFails (F.disk files.now) raws.now e) }
+{
+    let methods = methods_in(alloc, files, raws)?;
+    image_of(alloc, methods)
+}
+
+/// Writes the image of the class of those methods, whose raw code files hold. Nothing is written before all files are
+/// read and the class is known to be right; the image may take the place of one of them.
+pub fn pack<F: Files>(alloc: Global, files: &mut F, asked: &Packing<'_>) -> Result<(), Failure>
+    ensures ok { IfOk result (λ _. Packs (F.disk files.old) (F.disk files.new) asked.now) }
+    ensures err { IfErr result (PackFails (F.disk files.old) (F.disk files.new) asked.now) }
+{
+    let bytes = packed(alloc, files, &asked.methods)?;
+    match files.write(asked.image, &bytes) {
+        Ok(()) => Ok(()),
+        Err(_) => Err(Failure::CannotWrite),
+    }
+}

@@ -1,0 +1,54 @@
+-- The methods that `pack` is given, each spelled `NAME:FLAGS:IN:OUT:FILE`.
+use Rattle.std.specs.Prelude.{◌≡◌, ◌==◌, ◌<◌, ◌^◌, ⊤, ℕ, Bool, true, List, [], ◌∷◌, Option, Some, None, codes, if◌then◌else◌}
+use Rattle.std.specs.List.{after_first, before_first, list_any}
+use Rattle.std.specs.Str.{bytes_eq}
+use Rattle.std.specs.Str.Parse.{IsNumeral, digits_value, without_leading_plus}
+use Rattle.clap.specs.Words.{Text}
+use Rattle.class_tool.specs.declared.action.RawMethod.{RawMethod}
+
+-- a `:`
+abbrev pub is_colon : ℕ → Bool
+is_colon b = b == 58
+
+-- a field ends with the first `:`, and the others stand after it
+abbrev pub has_field : Text → Bool
+has_field text = list_any is_colon text
+
+abbrev pub field_in : Text → Text
+field_in text = before_first is_colon text
+
+abbrev pub after_field : Text → Text
+after_field text = after_first is_colon text
+
+-- r reads, w writes, rw both
+abbrev pub flags_in : Text → Option ℕ
+flags_in text =
+    if bytes_eq text (codes "r") then Some 1 else (if bytes_eq text (codes "w") then Some 2 else (if bytes_eq text (codes "rw") then Some 3 else None))
+
+-- a text is that number of 16 bits, in decimal digits
+pub record IsShort (text : Text) (n : ℕ) : Type 0 where
+  pub numeral : IsNumeral 10 (without_leading_plus text)
+  pub value : n ≡ digits_value 10 (without_leading_plus text)
+  pub short : n < 2 ^ 16
+
+-- what a text says of a capacity, and what stands after it
+pub record IsCapacity (text : Text) (n : ℕ) : Type 0 where
+  pub ends : has_field text ≡ true
+  pub number : IsShort (field_in text) n
+
+-- a text spells that method: the file of its code is all that stands after the fourth `:`
+pub record IsRaw (text : Text) (m : RawMethod) : Type 0 where
+  pub name_ends : has_field text ≡ true
+  pub name : m.name.now ≡ field_in text
+  pub flags_end : has_field (after_field text) ≡ true
+  pub flags : flags_in (field_in (after_field text)) ≡ Some m.flags
+  pub in_cap : IsCapacity (after_field (after_field text)) m.in_cap
+  pub out_cap : IsCapacity (after_field (after_field (after_field text))) m.out_cap
+  pub code : m.code.now ≡ after_field (after_field (after_field (after_field text)))
+
+-- the texts spell those methods, in their order
+abbrev pub AreRaw : List Text → List RawMethod → Type 0
+AreRaw [] [] = ⊤
+AreRaw [] (m ∷ ms) = ⊥
+AreRaw (text ∷ texts) [] = ⊥
+AreRaw (text ∷ texts) (m ∷ ms) = IsRaw text m × AreRaw texts ms

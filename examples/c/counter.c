@@ -1,0 +1,17 @@
+#include "class.h"
+
+/* Adds 1 to the 8-byte counter in the xattr "count", and gives the new number as output. */
+METHOD(inc)
+{
+    char name[5] = {'c', 'o', 'u', 'n', 't'};
+    u64 count = 0;
+    s64 got = cls_getxattr(name, sizeof name, &count, sizeof count);
+    if (got < 0 && got != -ENOENT && got != -ENODATA)
+        return got;
+    count++;
+    s64 set = cls_setxattr(name, sizeof name, &count, sizeof count);
+    if (set < 0)
+        return set;
+    *(u64 *)out = count;
+    return cls_out_len(8);
+}
