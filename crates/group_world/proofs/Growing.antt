@@ -29,7 +29,7 @@ use Rattle.group_world.proofs.LogFacts.{LogLaws}
 use Rattle.group_world.proofs.Nodes.{NodeOk}
 use Rattle.group_world.proofs.Steps.{Usable, usable_true}
 use Rattle.group_world.proofs.Leading.{least_of_le}
-use Rattle.group_world.proofs.Moving.{forgets_nothing}
+use Rattle.group_world.proofs.Moving.{forgets_nothing, arrive_committed}
 use Rattle.group_world.proofs.Reach.{Inv, inv_start}
 use Rattle.group_world.proofs.Running.{inv_run}
 
@@ -102,12 +102,10 @@ grown_usable s t xs u e f =
     let j : length t.log ≡ length xs = ap length f in
     record { point = omega arith; same = ap (take s.committed) f ∙ u.same; within = omega arith }
 
-pub grown_install : (cl : Classes) (n : ℕ) (s : NodeState) (from : Party) (xs : List ClientRequest) (o : Outcome) → s.committed ≤ length s.log → Grown s o.node → Grown s (install_after cl n s from xs o).node
-grown_install cl n s from xs o w g =
+pub grown_install : (n : ℕ) (s : NodeState) (from : Party) (xs : List ClientRequest) (o : Outcome) → Usable s xs → o.node.committed ≡ s.committed → Grown s o.node → Grown s (install_after n from xs o).node
+grown_install n s from xs o u e g =
     cond_both (is_waiting o.node.status) _ _ (λ (x : Outcome). Grown s x.node)
-    (λ a. cond_both (is_usable cl o.node xs) _ _ (λ (x : Outcome). Grown s x.node)
-    (λ u. grown_trans s o.node (record (o.node) { status = Installed; log = xs }) g (grown_usable o.node (record (o.node) { status = Installed; log = xs }) xs (usable_true cl o.node xs g.within u) refl refl))
-    (λ u. grown_refl s w))
+    (λ a. grown_usable s (record (o.node) { status = Installed; log = xs }) xs u e refl)
     (λ a. cond_both (is_installed o.node.status) _ _ (λ (x : Outcome). Grown s x.node) (λ b. g) (λ b. g))
 
 pub grown_noted : (n : ℕ) (s : NodeState) (from : Party) (e : ℕ) → s.committed ≤ length s.log → Grown s (note_installed n s from e).node
@@ -127,7 +125,9 @@ grown_message cl n s from (Query m) w = cond_both (ltb m.interval s.interval || 
 grown_message cl n s from (LogOf e xs) w = cond_both ((eqb e s.interval) && (is_asking s.status && is_usable cl s xs)) _ _ (λ (o : Outcome). Grown s o.node)
     (λ t. grown_usable s (adopt n s xs).node xs (usable_true cl s xs w (and_parts _ _ (and_parts _ _ t).1).1) refl refl) (λ t. grown_refl s w)
 grown_message cl n s from (Install m xs) w = cond_both (ltb m.interval s.interval || would_forget n s m) _ _ (λ (o : Outcome). Grown s o.node) (λ t. grown_refl s w)
-    (λ t. grown_install cl n s from xs (arrive n s m) w (grown_arrive n s m w (or_parts _ _ t).1))
+    (λ t. cond_both (is_usable cl s xs) _ _ (λ (o : Outcome). Grown s o.node)
+    (λ u. grown_install n s from xs (arrive n s m) (usable_true cl s xs w u) (arrive_committed n s m) (grown_arrive n s m w (or_parts _ _ t).1))
+    (λ u. grown_refl s w))
 grown_message cl n s from (InstalledIn e) w = grown_noted n s from e w
 grown_message cl n s from (AskActivate e) w = grown_refl s w
 grown_message cl n s from (Activated e) w = cond_both ((eqb e s.interval) && is_installing s.status) _ _ (λ (o : Outcome). Grown s o.node) (λ t. record { point = w; same = refl; within = omega arith }) (λ t. grown_refl s w)

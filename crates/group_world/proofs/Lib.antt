@@ -16,3 +16,6 @@ pub mod Agreeing
 pub mod Growing
 pub mod Sending
 pub mod Resending
+pub mod Answering
+pub mod Deserving
+pub mod Activating

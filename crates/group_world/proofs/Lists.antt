@@ -1,7 +1,7 @@
 -- Beginnings of lists, members of lists, and cells of a table.
-use Rattle.std.proofs.Common.{◌≡◌, ℕ, zero, suc, ◌+◌, ◌<◌, ◌≤◌, true, false, cond, ◌&&◌, ◌||◌, eqb, List, [], ◌∷◌, ◌++◌, length, take, drop, get_or, Some, ◌⊎◌, inl, inr, sym, ◌∙◌, refl, ap, subst, arith, append_assoc}
+use Rattle.std.proofs.Common.{◌≡◌, ℕ, zero, suc, ◌+◌, ◌≤◌, true, false, cond, ◌&&◌, ◌||◌, eqb, List, [], ◌∷◌, ◌++◌, length, take, drop, Some, ◌⊎◌, inl, inr, sym, ◌∙◌, refl, ap, subst, arith, append_assoc}
 use Rattle.std.specs.List.{slice_get}
-use Rattle.std.proofs.lemmas.List.{append-nil, take-append-drop, take_at, take_more, take-append-le, length-take-le, length-append}
+use Rattle.std.proofs.lemmas.List.{append-nil, take-append-drop, take_at, take-append-le, length-take-le, length-append}
 use Rattle.std.proofs.lemmas.Option.{none-some}
 use Rattle.std.proofs.lemmas.Bool.{cond-true, eq-eqb, eqb-true, eqb-false, and_parts, and_from, or_cases, true≢false, false≢true}
 use Rattle.std.proofs.lemmas.Bool.Decides.{nat_tests}
@@ -163,12 +163,3 @@ cell_same e k x y = cond-true _ x y (and_from _ _ (eq-eqb e e refl) (eq-eqb k k 
 pub spot_cases : {X : Type 0} (e e' : ℕ) (x y : X)
     → ((e ≡ e') × (cond (eqb e e') x y ≡ x)) ⊎ ((e ≡ e' → ⊥) × (cond (eqb e e') x y ≡ y))
 spot_cases e e' x y = grind (arith, nat_tests)
-
--- the front of a list, one longer
-pub requests_more : (list : List ClientRequest) (i : ℕ) (r : ClientRequest) (items grown : List ClientRequest) → i < length list → r ≡ get_or list i r
-    → grown ≡ items ++ r ∷ [] → items ≡ take i list → grown ≡ take (i + 1) list
-requests_more list i r items grown h here more so_far =
-    more
-    ∙ ap (λ (rs : List ClientRequest). rs ++ r ∷ []) so_far
-    ∙ ap (λ (q : ClientRequest). take i list ++ q ∷ []) here
-    ∙ sym (take_more list i r h)

@@ -14,7 +14,7 @@ use Rattle.group_world.specs.declared.monitor_error.MonitorError.TheVariants.{Ba
 use Rattle.group_world.proofs.Lists.{first_of, has_head, is_same_list_true}
 use Rattle.group_world.proofs.View.{View, acting, HeldFrom, Sound, Later}
 use Rattle.group_world.proofs.Moves.{map_view, Makes, map_later, map_at_new, map_sound, activate_view, activate_later, activate_sound}
-use Rattle.group_world.proofs.Nodes.{MapOk, AllHold, map_ok_later, packets_later, node_later}
+use Rattle.group_world.proofs.Nodes.{MapOk, ActedOk, AllHold, map_ok_later, acted_of_map, acted_ok_later, packets_later, node_later}
 use Rattle.group_world.proofs.Steps.{all_packets_append}
 use Rattle.group_world.proofs.Reach.{Inv}
 
@@ -65,7 +65,7 @@ inv_activate past w from interval i h =
       bound = i.bound;
       newest_ok = inr (map_ok_later i.view (activate_view i.view) w.monitor.newest l ok);
       maps = λ k m e. map_ok_later i.view (activate_view i.view) m l (i.maps k m e);
-      last_ok = inr (ap (activate_view i.view).active (sym ez) ∙ now, map_ok_later i.view (activate_view i.view) w.monitor.newest l ok);
+      last_ok = inr (ap (activate_view i.view).active (sym ez) ∙ now, acted_of_map (activate_view i.view) w.monitor.newest (map_ok_later i.view (activate_view i.view) w.monitor.newest l ok));
       last = λ a b. elim (l.activated a b) [
         | inl old ↦ (let q : (1 ≤ a) × (a ≤ i.view.newest) = i.sound.active_made a old in omega arith)
         | inr new ↦ (let q : (1 ≤ a) × (a ≤ i.view.newest) = du.active_made a b in omega arith)
@@ -135,10 +135,10 @@ inv_begun past w ns i t =
     let mk : Makes i.view (begun w.monitor ns) = record {
       interval = new;
       first_acts = acting_first ns t;
-      prev_made = elim i.last_ok [ inl z ↦ omega arith | inr z ↦ (let q : MapOk i.view w.monitor.activated = z.1 in q.made) ];
+      prev_made = elim i.last_ok [ inl z ↦ omega arith | inr z ↦ (let q : ActedOk i.view w.monitor.activated = z.1 in q.made) ];
       prev_active = elim i.last_ok [ inl z ↦ inl z | inr z ↦ inr z.0 ];
       prev_last = i.last;
-      prev_acting = λ one. elim i.last_ok [ inl z ↦ absurd (omega arith) | inr z ↦ (let q : MapOk i.view w.monitor.activated = z.1 in ap (λ (x : GroupMap). x.acting) q.is) ];
+      prev_acting = λ one. elim i.last_ok [ inl z ↦ absurd (omega arith) | inr z ↦ (let q : ActedOk i.view w.monitor.activated = z.1 in q.is) ];
     } in
     let l : Later i.view (map_view i.view (begun w.monitor ns)) = map_later i.view (begun w.monitor ns) new in
     let du : Sound (map_view i.view (begun w.monitor ns)) = map_sound i.view (begun w.monitor ns) i.sound mk in
@@ -154,7 +154,7 @@ inv_begun past w ns i t =
         | inl o ↦ map_ok_later i.view (map_view i.view (begun w.monitor ns)) x l (i.maps k x o)
         | inr o ↦ subst (MapOk (map_view i.view (begun w.monitor ns))) (sym o.1) ok
       ];
-      last_ok = elim i.last_ok [ inl z ↦ inl z | inr z ↦ inr (z.0, map_ok_later i.view (map_view i.view (begun w.monitor ns)) w.monitor.activated l z.1) ];
+      last_ok = elim i.last_ok [ inl z ↦ inl z | inr z ↦ inr (z.0, acted_ok_later i.view (map_view i.view (begun w.monitor ns)) w.monitor.activated l z.1) ];
       last = i.last;
       asked = i.asked;
       nodes = λ n. node_later i.view (map_view i.view (begun w.monitor ns)) n (w.nodes n) i.sound l refl refl (i.nodes n);

@@ -6,7 +6,7 @@ use mathlib.Core.List.{IsPrefix}
 use Rattle.placement.specs.Placement.{has}
 use Rattle.pg_log.specs.Requests.{ClientRequest}
 use Rattle.group_world.specs.Maps.{GroupMap, is_primary}
-use Rattle.group_world.specs.Node.{NodeState, Outcome, nothing, and_sends, packet, to_all}
+use Rattle.group_world.specs.Node.{NodeState, Outcome, nothing, and_sends, packet, to_all, is_waiting}
 use Rattle.group_world.specs.Rules.{adopt, at_map, move_to, arrive, would_forget, learn_map, answer_query}
 use Rattle.group_world.specs.declared.status.Status.{Status}
 use Rattle.group_world.specs.declared.status.Status.TheVariants.{Out, Waiting, Installed, Asking, Installing, Active}
@@ -205,6 +205,25 @@ kept_learn_map v n s m d k ok =
     cond_both (would_forget n s m) (nothing s) _ (λ o. Kept v n o) (λ t. kept_nothing v n s d k) (λ t. kept_arrive v n s m d k ok t)
 
 -- where the node is after it learned the map of a message that it doesn't ignore
+-- a move keeps what is committed, and the log of a node that waits after it
+pub arrive_committed : (n : ℕ) (s : NodeState) (m : GroupMap) → (arrive n s m).node.committed ≡ s.committed
+arrive_committed n s m =
+    let P : Outcome → Type 0 = λ o. o.node.committed ≡ s.committed in
+    cond_both (ltb s.interval m.interval) (move_to n s m) (nothing s) P
+    (λ t. cond_both (is_primary n m) _ _ P
+    (λ p. cond_both (eqb m.prev 0) _ _ P (λ z. refl) (λ z. refl))
+    (λ p. cond_both (has n m.acting) _ _ P (λ a. refl) (λ a. refl)))
+    (λ t. refl)
+
+pub arrive_log : (n : ℕ) (s : NodeState) (m : GroupMap) → is_waiting (arrive n s m).node.status ≡ true → (arrive n s m).node.log ≡ s.log
+arrive_log n s m =
+    let P : Outcome → Type 0 = λ o. is_waiting o.node.status ≡ true → o.node.log ≡ s.log in
+    cond_both (ltb s.interval m.interval) (move_to n s m) (nothing s) P
+    (λ t. cond_both (is_primary n m) _ _ P
+    (λ p. cond_both (eqb m.prev 0) _ _ P (λ z w. absurd (false≢true w)) (λ z w. refl))
+    (λ p. cond_both (has n m.acting) _ _ P (λ a w. refl) (λ a w. refl)))
+    (λ t w. refl)
+
 pub arrive_interval : (n : ℕ) (s : NodeState) (m : GroupMap) → s.interval ≤ m.interval → (arrive n s m).node.interval ≡ m.interval
 arrive_interval n s m le =
     let P : Outcome → Type 0 = λ o. o.node.interval ≡ m.interval in

@@ -3,7 +3,7 @@ use Rattle.std.proofs.Common.{◌≡◌, ℕ, ◌<◌, ◌≤◌, true, List, []
 use Rattle.std.specs.List.{Contains, AllByRecursion, AllZip}
 use Rattle.placement.specs.Placement.{has}
 use Rattle.pg_log.specs.Requests.{ClientRequest}
-use Rattle.group_world.specs.Maps.{GroupMap}
+use Rattle.group_world.specs.Maps.{GroupMap, ActingInterval, interval_of}
 use Rattle.group_world.specs.Node.{NodeState, Outcome, nothing}
 use Rattle.group_world.specs.World.{IsTrueOf}
 use Rattle.group_world.specs.declared.status.Status.{Status}
@@ -31,6 +31,14 @@ pub record MapOk (v : View) (m : GroupMap) : Type 0 where
   pub one : 1 ≤ m.interval
   pub made : m.interval ≤ v.newest
   pub is : of_interval m ≡ v.map_at m.interval
+
+-- an interval is one of which a map was made, and who acts in it is as that map says
+pub record ActedOk (v : View) (a : ActingInterval) : Type 0 where
+  pub made : a.interval ≤ v.newest
+  pub is : a.acting ≡ acting v a.interval
+
+pub acted_of_map : (v : View) (m : GroupMap) → MapOk v m → ActedOk v (interval_of m)
+acted_of_map v m h = record { made = h.made; is = ap (λ (x : GroupMap). x.acting) h.is }
 
 pub record IsHolding (v : View) (n : ℕ) (s : NodeState) : Type 0 where
   pub held : v.held s.interval n ≡ Some s.log
@@ -129,6 +137,12 @@ map_ok_later v w m l h =
     let a : m.interval ≤ v.newest = h.made in
     let b : v.newest ≤ w.newest = l.newest in
     record { one = h.one; made = omega arith; is = h.is ∙ sym (l.maps m.interval h.made) }
+
+pub acted_ok_later : (v w : View) (a : ActingInterval) → Later v w → ActedOk v a → ActedOk w a
+acted_ok_later v w a l h =
+    let p : a.interval ≤ v.newest = h.made in
+    let q : v.newest ≤ w.newest = l.newest in
+    record { made = omega arith; is = h.is ∙ sym (ap (λ (x : GroupMap). x.acting) (l.maps a.interval h.made)) }
 
 pub to_node_later : (to : Party) (P Q : ℕ → Type 0) → ((k : ℕ) → P k → Q k) → ToNode to P → ToNode to Q
 to_node_later (ANode n) P Q f h = f n h

@@ -19,7 +19,7 @@ use Rattle.group_world.proofs.Lists.{spot_cases}
 use Rattle.group_world.proofs.LogFacts.{LogLaws}
 use Rattle.group_world.proofs.View.{View, Sound, Later}
 use Rattle.group_world.proofs.Moves.{ask_view, ask_later, ask_sound}
-use Rattle.group_world.proofs.Nodes.{MapOk, NodeOk, MessageOk, PacketOk, map_ok_later, packets_later, node_later, Kept, kept_nothing}
+use Rattle.group_world.proofs.Nodes.{MapOk, ActedOk, NodeOk, MessageOk, PacketOk, map_ok_later, acted_ok_later, packets_later, node_later, Kept, kept_nothing}
 use Rattle.group_world.proofs.Steps.{all_packets_append}
 use Rattle.group_world.proofs.Following.{kept_log, kept_installed, kept_activated, kept_rep}
 use Rattle.group_world.proofs.Leading.{kept_ack}
@@ -35,7 +35,7 @@ pub record Inv (past : List WorldEvent) (w : World) : Type 0 where
   pub newest_ok : ((w.monitor.newest.acting ≡ []) × (w.monitor.newest.interval ≡ 0)) ⊎ MapOk view w.monitor.newest
   pub maps : (k : ℕ) (m : GroupMap) → slice_get w.maps k ≡ Some m → MapOk view m
   -- the last activated interval
-  pub last_ok : (w.monitor.activated.interval ≡ 0) ⊎ ((view.active w.monitor.activated.interval ≡ true) × MapOk view w.monitor.activated)
+  pub last_ok : (w.monitor.activated.interval ≡ 0) ⊎ ((view.active w.monitor.activated.interval ≡ true) × ActedOk view w.monitor.activated)
   pub last : (a : ℕ) → view.active a ≡ true → a ≤ w.monitor.activated.interval
   pub asked : view.asked ≡ brought past
   pub nodes : (n : ℕ) → NodeOk view n (w.nodes n)
@@ -100,7 +100,7 @@ inv_ask past e w i =
       bound = i.bound;
       newest_ok = elim i.newest_ok [ inl z ↦ inl z | inr z ↦ inr (map_ok_later i.view (ask_view i.view (brought_by e)) w.monitor.newest l z) ];
       maps = λ k m h. map_ok_later i.view (ask_view i.view (brought_by e)) m l (i.maps k m h);
-      last_ok = elim i.last_ok [ inl z ↦ inl z | inr z ↦ inr (l.active w.monitor.activated.interval z.0, map_ok_later i.view (ask_view i.view (brought_by e)) w.monitor.activated l z.1) ];
+      last_ok = elim i.last_ok [ inl z ↦ inl z | inr z ↦ inr (l.active w.monitor.activated.interval z.0, acted_ok_later i.view (ask_view i.view (brought_by e)) w.monitor.activated l z.1) ];
       last = λ a h. i.last a (h);
       asked = ap (λ x. x ++ brought_by e) i.asked ∙ sym (brought_more past e);
       nodes = λ n. node_later i.view (ask_view i.view (brought_by e)) n (w.nodes n) i.sound l refl refl (i.nodes n);
@@ -120,7 +120,7 @@ inv_node past w n e i g0 =
       bound = i.bound;
       newest_ok = elim i.newest_ok [ inl z ↦ inl z | inr z ↦ inr (map_ok_later i.view (g.after) w.monitor.newest g.later z) ];
       maps = λ k m h. map_ok_later i.view (g.after) m g.later (i.maps k m h);
-      last_ok = elim i.last_ok [ inl z ↦ inl z | inr z ↦ inr (g.later.active w.monitor.activated.interval z.0, map_ok_later i.view (g.after) w.monitor.activated g.later z.1) ];
+      last_ok = elim i.last_ok [ inl z ↦ inl z | inr z ↦ inr (g.later.active w.monitor.activated.interval z.0, acted_ok_later i.view (g.after) w.monitor.activated g.later z.1) ];
       last = λ a h. i.last a (sym (g.only.active a) ∙ h);
       asked = g.only.asked ∙ i.asked;
       nodes = λ k. elim (spot_cases k n (local_step w.classes n (w.nodes n) e).node (w.nodes k)) [

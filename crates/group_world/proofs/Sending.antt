@@ -194,10 +194,11 @@ resends_message cl sent n s from (LogOf e xs) h = cond_both ((eqb e s.interval) 
     (λ t. resends_adopt sent n s xs) (λ t. resends_nothing sent n s h)
 resends_message cl sent n s from (Install m xs) h = cond_both (ltb m.interval s.interval || would_forget n s m) (nothing s) _ (λ (o : Outcome). Resends sent n o)
     (λ t. resends_nothing sent n s h)
-    (λ t. cond_both (is_waiting (arrive n s m).node.status) _ _ (λ (o : Outcome). Resends sent n o)
-    (λ a. cond_both (is_usable cl (arrive n s m).node xs) _ (nothing s) (λ (o : Outcome). Resends sent n o) (λ u. tt) (λ u. resends_nothing sent n s h))
+    (λ t. cond_both (is_usable cl s xs) _ (nothing s) (λ (o : Outcome). Resends sent n o)
+    (λ u. cond_both (is_waiting (arrive n s m).node.status) _ _ (λ (o : Outcome). Resends sent n o) (λ a. tt)
     (λ a. cond_both (is_installed (arrive n s m).node.status) _ (arrive n s m) (λ (o : Outcome). Resends sent n o)
     (λ b. resends_and sent n (arrive n s m) _ (resends_arrive sent n s m h)) (λ b. resends_arrive sent n s m h)))
+    (λ u. resends_nothing sent n s h))
 resends_message cl sent n s from (InstalledIn e) h = resends_noted sent n s from e h
 resends_message cl sent n s from (AskActivate e) h = resends_nothing sent n s h
 resends_message cl sent n s from (Activated e) h = cond_both ((eqb e s.interval) && is_installing s.status) _ (nothing s) (λ (o : Outcome). Resends sent n o)

@@ -6,4 +6,5 @@ pub mod Rules
 pub mod Unanswered
 pub mod Monitor
 pub mod World
+pub mod Told
 pub mod Runs

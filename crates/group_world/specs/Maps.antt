@@ -15,6 +15,18 @@ pub record GroupMap : Type 0 where
 abbrev pub no_map : GroupMap
 no_map = record { epoch = 0; interval = 0; acting = []; prev = 0; prev_acting = [] }
 
+-- an interval, and who acts in it
+pub record ActingInterval : Type 0 where
+  pub interval : ℕ
+  pub acting : List ℕ
+
+-- stands for an interval where there is none
+abbrev pub no_interval : ActingInterval
+no_interval = record { interval = 0; acting = [] }
+
+abbrev pub interval_of : GroupMap → ActingInterval
+interval_of m = record { interval = m.interval; acting = m.acting }
+
 -- the node is the map's primary, which is the first of the acting list
 abbrev pub is_first : ℕ → List ℕ → Bool
 is_first n [] = false

@@ -1,19 +1,19 @@
 -- The monitor of a group: it makes maps and activates intervals. Its state has a constant size.
-use Rattle.std.specs.Prelude.{ℕ, suc, ◌-◌, ◌^◌, List, Bool, not, ◌&&◌, ◌==◌, nat_lt, nat_le, if◌then◌else◌, Option, Some, None}
+use Rattle.std.specs.Prelude.{◌≡◌, ℕ, suc, ◌-◌, ◌^◌, List, Bool, true, not, ◌&&◌, ◌==◌, nat_lt, nat_le, if◌then◌else◌, Option, Some, None}
 use Rattle.placement.specs.Placement.{is_acting}
-use Rattle.group_world.specs.Maps.{GroupMap, no_map, is_same_list}
+use Rattle.group_world.specs.Maps.{GroupMap, ActingInterval, no_map, no_interval, interval_of, is_same_list}
 use Rattle.group_world.specs.declared.monitor_error.MonitorError.{MonitorError}
 use Rattle.group_world.specs.declared.monitor_error.MonitorError.TheVariants.{BadActing, NotNewest, EpochsUsedUp}
 
 pub record MonitorState : Type 0 where
   -- the newest map; its epoch is the number of maps made
   pub newest : GroupMap
-  -- the newest map at the last activation
-  pub activated : GroupMap
+  -- the newest map's interval at the last activation
+  pub activated : ActingInterval
 
 -- the monitor before its first map
 abbrev pub no_maps : MonitorState
-no_maps = record { newest = no_map; activated = no_map }
+no_maps = record { newest = no_map; activated = no_interval }
 
 -- why the monitor makes no map of this acting list, if it doesn't
 abbrev pub map_refusal : MonitorState → List ℕ → Option MonitorError
@@ -40,4 +40,9 @@ activation_refusal m interval = if is_newest m interval then None else Some NotN
 
 -- the monitor after it activated its newest interval
 abbrev pub with_activated : MonitorState → MonitorState
-with_activated m = record { newest = m.newest; activated = m.newest }
+with_activated m = record { newest = m.newest; activated = interval_of m.newest }
+
+-- An activated interval that the next map keeps stays activated: a further activation changes nothing.
+abbrev pub KeptStaysActivated : Type 0
+KeptStaysActivated = (m : MonitorState) (acting : List ℕ) → is_same_list m.newest.acting acting ≡ true →
+    with_activated (with_map (with_activated m) acting) ≡ with_map (with_activated m) acting

@@ -85,22 +85,21 @@ abbrev pub adopt_log : Classes → ℕ → NodeState → ℕ → List ClientRequ
 adopt_log classes n s interval list =
     if (interval == s.interval) && (is_asking s.status && is_usable classes s list) then adopt n s list else nothing s
 
--- INSTALL. The node first moves to the map. Where it waits it takes the list as its log and says so; a list that it can't
--- use is ignored whole, and so is the move. Where it has installed already it only says so again.
+-- INSTALL. A list that the node can't use is ignored whole, and so is the move. Else it first moves to the map: where it
+-- waits then it takes the list as its log and says so, and where it has installed already it only says so again.
 abbrev pub says_installed : ℕ → Party → NodeState → Packet
 says_installed n receiver s = packet n receiver (InstalledIn s.interval)
 
--- o is what the move made of the node s
-abbrev pub install_after : Classes → ℕ → NodeState → Party → List ClientRequest → Outcome → Outcome
-install_after classes n s sender list o =
-    if is_waiting o.node.status then
-    (if is_usable classes o.node list
+-- o is what the move made of the node
+abbrev pub install_after : ℕ → Party → List ClientRequest → Outcome → Outcome
+install_after n sender list o =
+    if is_waiting o.node.status
     then and_sends (record { node = record (o.node) { status = Installed; log = list }; sent = o.sent; refusal = None }) (says_installed n sender o.node)
-    else nothing s)
     else if is_installed o.node.status then and_sends o (says_installed n sender o.node) else o
 
 abbrev pub install : Classes → ℕ → NodeState → Party → GroupMap → List ClientRequest → Outcome
-install classes n s sender m list = if ignores n s m then nothing s else install_after classes n s sender list (arrive n s m)
+install classes n s sender m list = if ignores n s m then nothing s else
+    if is_usable classes s list then install_after n sender list (arrive n s m) else nothing s
 
 -- NOTE AN INSTALLED. An installing primary notes each other member of its interval once; with the last it asks the monitor.
 abbrev pub note_installed : ℕ → NodeState → Party → ℕ → Outcome

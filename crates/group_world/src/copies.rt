@@ -23,11 +23,10 @@ fn copy_request(alloc: Global, request: &Request) -> Result<Request, AllocError>
 fn copy_requests(alloc: Global, list: &[Request]) -> Result<Requests, AllocError>
     ensures { IfOk result (λ l. l ≡ list.now) }
 {
-    let mut items = Vec::new(alloc);
-    for request in list {
-        items.push(copy_request(alloc, request)?)?;
+    match pg_log::copy_requests(alloc, list) {
+        Ok(items) => Ok(Requests::new(items)),
+        Err(_) => Err(AllocError),
     }
-    Ok(Requests::new(items))
 }
 
 /// An equal answer.

@@ -1,7 +1,8 @@
 ghost use Rattle.std.specs.Prelude.{◌≡◌};
-ghost use Rattle.group_world.specs.Refusal.{handle_error_number, handle_error_name};
+ghost use Rattle.group_world.specs.Refusal.{handle_error_number, handle_error_name, of_log};
 ghost use Rattle.group_world.specs.declared.handle_error.HandleError.TheVariants.{NoMemory};
 
+use pg_log::LogError;
 use std::alloc::{AllocError, AllocFailed};
 use std::error::Error;
 use std::fmt;
@@ -88,5 +89,21 @@ impl<T: Drop> From<AllocFailed<T>> for HandleError {
 
     fn from(_error: AllocFailed<T>) -> HandleError {
         HandleError::NoMemory
+    }
+}
+
+impl From<LogError> for HandleError {
+    ghost from_gives = { λ e h. h ≡ of_log e };
+
+    /// The log's refusal as a node gives it.
+    fn from(error: LogError) -> HandleError {
+        match error {
+            LogError::LogFull => HandleError::LogFull,
+            LogError::StaleNumber => HandleError::StaleNumber,
+            LogError::NoMemory => HandleError::NoMemory,
+            LogError::NoClass => HandleError::NoClass,
+            LogError::NoMethod => HandleError::NoMethod,
+            LogError::InputTooLong => HandleError::InputTooLong,
+        }
     }
 }

@@ -6,6 +6,7 @@
 
 mod answer;
 mod copies;
+mod crossing;
 mod epoch;
 mod event;
 mod group_map;
@@ -20,11 +21,14 @@ mod runs;
 mod status;
 
 pub use answer::Answer;
+pub use crossing::{event_crosses, map_crosses, message_crosses};
 pub use epoch::Epoch;
 pub use event::Event;
 pub use group_map::GroupMap;
 pub use handle_error::HandleError;
-pub use laws::{agreement, nothing_is_cut};
+pub use laws::{
+    agreement, kept_stays_activated, nothing_is_cut, refusals_are_deserved, replies_are_committed,
+};
 pub use message::{Kind, Message, Packet, Place};
 pub use messages::Messages;
 pub use monitor_error::MonitorError;
