@@ -186,8 +186,7 @@ fn is_placed<C: Classes, R: Abort>(
     requires { IsPrefix table.now C.classes }
 {
     let rep = rep_of(rt, alloc, line.said);
-    let answer = append_at(group, table, &rep);
-    drop(rep.request);
+    let answer = append_at(group, table, rep);
     is_place(answer, line.wanted)
 }
 

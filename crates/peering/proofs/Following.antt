@@ -10,10 +10,14 @@ use Rattle.pg_log.specs.Laws.{AppendIsAStep, RefusalsAreExact, ClassesAdded}
 use Rattle.group_world.specs.Node.{NodeState, nothing, and_sends}
 use Rattle.group_world.specs.Rules.{append_new, append_unless, request_at, reply_packet}
 use Rattle.peering_messages.specs.Sending.{IsNextReply}
-use Rattle.peering_messages.proofs.Committed.{same_reply}
 
 pub next_legal : AppendIsAStep → RefusalsAreExact → (classes : Classes) (log : List ClientRequest) (r : ClientRequest) → Legal classes log → refusal classes log r ≡ None → Legal classes (log ++ r ∷ [])
 next_legal append exact classes log r l u = (append classes log r).1 (l, (exact classes log r).0 u)
+
+-- the replies of a list that is legal by the table are the same by all classes
+same_reply : ClassesAdded → (classes all : Classes) (log : List ClientRequest) (k : ℕ) → IsPrefix classes all → Legal classes log → reply_at all log k ≡ reply_at classes log k
+same_reply added classes all log k p l =
+    ap (λ w. reply_at w log k) (sym p.1) ∙ (added classes p.0 log l).same_replies k
 
 pub next_reply : AppendIsAStep → RefusalsAreExact → ClassesAdded → (classes all : Classes) (log : List ClientRequest) (r : ClientRequest) (e : Entry) (reply : Reply) →
     IsPrefix classes all → e.request ≡ r → refusal classes log r ≡ None → reply_at all (log ++ r ∷ []) (length log) ≡ Some reply →

@@ -18,10 +18,11 @@ use Rattle.group_world.specs.Rules.{is_usable, says_installed, install_after, ar
 use Rattle.group_world.specs.declared.status.Status.{Status}
 use Rattle.group_world.specs.declared.status.Status.TheVariants.{Out, Waiting, Installed, Asking, Installing, Active}
 use Rattle.group_world.specs.declared.party.Party.{Party}
-use Rattle.group_world.specs.declared.message.Kind.TheVariants.{Query, Log as LogOf}
+use Rattle.group_world.specs.declared.message.Kind.TheVariants.{Query, Log as LogOf, Installed as InstalledIn}
 use Rattle.group_world.specs.declared.message.Packet.{Packet}
 use Rattle.group_world.specs.declared.handle_error.HandleError.{HandleError}
-use Rattle.peering.specs.Arriving.{after_move, interval_after, log_after, install_first, install_again, with_log, is_memory}
+use Rattle.peering.specs.declared.node.moves.Arrival.{Arrival}
+use Rattle.peering.specs.Arriving.{after_move, interval_after, log_after, Makes, install_first, install_again, with_log, is_memory}
 use Rattle.peering.specs.Numbered.{NumberedNode}
 
 pub waits : (st : Status) → is_waiting st ≡ true → st ≡ Waiting
@@ -32,10 +33,14 @@ waits Asking h = absurd (false≢true h)
 waits Installing h = absurd (false≢true h)
 waits Active h = absurd (false≢true h)
 
--- what an Install makes of a node that waits
+-- what an Install that the node doesn't ignore makes of it, where o is what the move made of it
+abbrev pub install_at : Classes → ℕ → NodeState → Party → List ClientRequest → Outcome → Outcome
+install_at classes n s sender list o = cond (is_usable classes s list) (install_after n sender list o) (nothing s)
+
+-- of a node that waits
 abbrev taken : Classes → ℕ → NodeState → Party → List ClientRequest → NodeState → List Packet → Outcome
 taken classes n s sender list node sent =
-    cond (is_usable classes node list) (and_sends (record { node = record node { status = Installed; log = list }; sent = sent; refusal = None }) (says_installed n sender node)) (nothing s)
+    cond (is_usable classes s list) (and_sends (record { node = record node { status = Installed; log = list }; sent = sent; refusal = None }) (says_installed n sender node)) (nothing s)
 
 -- and of one that doesn't
 abbrev said : ℕ → Party → NodeState → List Packet → Option HandleError → Outcome
@@ -43,48 +48,68 @@ said n sender node sent refusal =
     cond (is_installed node.status) (record { node = node; sent = sent ++ says_installed n sender node ∷ []; refusal = None }) (record { node = node; sent = sent; refusal = refusal })
 
 after_waiting : (classes : Classes) (n : ℕ) (s : NodeState) (sender : Party) (list : List ClientRequest) (o : Outcome) → is_waiting o.node.status ≡ true →
-    install_after classes n s sender list o ≡ taken classes n s sender list o.node o.sent
+    install_at classes n s sender list o ≡ taken classes n s sender list o.node o.sent
 after_waiting classes n s sender list o h =
-    ap (λ b. cond b (taken classes n s sender list o.node o.sent) (said n sender o.node o.sent o.refusal)) h
+    ap (λ b. cond (is_usable classes s list) (cond b (and_sends (record { node = record (o.node) { status = Installed; log = list }; sent = o.sent; refusal = None }) (says_installed n sender o.node))
+    (said n sender o.node o.sent o.refusal)) (nothing s)) h
 
-after_other : (classes : Classes) (n : ℕ) (s : NodeState) (sender : Party) (list : List ClientRequest) (o : Outcome) → is_waiting o.node.status ≡ false →
-    install_after classes n s sender list o ≡ said n sender o.node o.sent o.refusal
-after_other classes n s sender list o h =
-    ap (λ b. cond b (taken classes n s sender list o.node o.sent) (said n sender o.node o.sent o.refusal)) h
+after_other : (classes : Classes) (n : ℕ) (s : NodeState) (sender : Party) (list : List ClientRequest) (o : Outcome) → is_usable classes s list ≡ true → is_waiting o.node.status ≡ false →
+    install_at classes n s sender list o ≡ said n sender o.node o.sent o.refusal
+after_other classes n s sender list o u h =
+    ap (λ b. cond b (install_after n sender list o) (nothing s)) u
+    ∙ ap (λ b. cond b (and_sends (record { node = record (o.node) { status = Installed; log = list }; sent = o.sent; refusal = None }) (says_installed n sender o.node))
+    (said n sender o.node o.sent o.refusal)) h
+
+-- install_first of an arrival by its parts
+abbrev first_by : Classes → ℕ → NodeState → Party → GroupMap → List ClientRequest → Option Status → List ℕ → List Packet → Outcome
+first_by classes n s sender m list status joined sent =
+    cond (is_usable classes s list) (record {
+      node = record (after_move (record s { log = list }) m status joined) { status = Installed };
+      sent = sent ++ packet n sender (InstalledIn (interval_after s m status)) ∷ [];
+      refusal = None;
+    }) (nothing s)
 
 first_is : (classes : Classes) (n : ℕ) (s : NodeState) (sender : Party) (m : GroupMap) (list : List ClientRequest) (status : Option Status) (joined : List ℕ) (sent : List Packet) →
     unwrap_or status s.status ≡ Waiting →
-    install_first classes n s sender m list status joined sent ≡ taken classes n s sender list (after_move s m status joined) sent
+    first_by classes n s sender m list status joined sent ≡ taken classes n s sender list (after_move s m status joined) sent
 first_is classes n s sender m list None joined sent h = refl
 first_is classes n s sender m list (Some st) joined sent h =
-    let P : Status → Type 0 = λ w. install_first classes n s sender m list (Some w) joined sent ≡ taken classes n s sender list (after_move s m (Some w) joined) sent in
+    let P : Status → Type 0 = λ w. first_by classes n s sender m list (Some w) joined sent ≡ taken classes n s sender list (after_move s m (Some w) joined) sent in
     subst P (sym h) refl
+
+-- and install_again
+abbrev again_by : ℕ → NodeState → Party → GroupMap → Option Status → List ℕ → List Packet → Outcome
+again_by n s sender m status joined sent =
+    cond (is_installed (unwrap_or status s.status))
+    (record { node = after_move s m status joined; sent = sent ++ packet n sender (InstalledIn (interval_after s m status)) ∷ []; refusal = None })
+    (record { node = after_move s m status joined; sent = sent; refusal = None })
 
 waiting_is : (s : NodeState) (m : GroupMap) (status : Option Status) (joined : List ℕ) → (after_move s m status joined).status ≡ unwrap_or status s.status
 waiting_is s m None joined = refl
 waiting_is s m (Some st) joined = refl
 
 -- the first Install, where the node waits
-pub first_install : (classes : Classes) (n : ℕ) (s : NodeState) (sender : Party) (m : GroupMap) (list : List ClientRequest) (status : Option Status) (joined : List ℕ) (sent : List Packet) (o : Outcome) →
-    after_move s m status joined ≡ o.node → sent ≡ o.sent → is_waiting (unwrap_or status s.status) ≡ true →
-    install_first classes n s sender m list status joined sent ≡ install_after classes n s sender list o
-first_install classes n s sender m list status joined sent o a b h =
-    let w : is_waiting o.node.status ≡ true = ap (λ x. is_waiting x.status) (sym a) ∙ ap is_waiting (waiting_is s m status joined) ∙ h in
-    let e : taken classes n s sender list (after_move s m status joined) sent ≡ taken classes n s sender list o.node o.sent = λ i. taken classes n s sender list (a i) (b i) in
-    first_is classes n s sender m list status joined sent (waits _ h) ∙ e ∙ sym (after_waiting classes n s sender list o w)
+pub first_install : (classes : Classes) (n : ℕ) (s : NodeState) (sender : Party) (m : GroupMap) (list : List ClientRequest) (a : Arrival) (o : Outcome) →
+    Makes s m a o → is_waiting (unwrap_or a.status s.status) ≡ true →
+    install_first classes n s sender m list a ≡ install_at classes n s sender list o
+first_install classes n s sender m list a o h st =
+    let w : is_waiting o.node.status ≡ true = ap (λ x. is_waiting x.status) (sym h.node) ∙ ap is_waiting (waiting_is s m a.status a.joined.items) ∙ st in
+    let e : taken classes n s sender list (after_move s m a.status a.joined.items) a.sent.items ≡ taken classes n s sender list o.node o.sent = λ i. taken classes n s sender list (h.node i) (h.sent i) in
+    first_is classes n s sender m list a.status a.joined.items a.sent.items (waits _ st) ∙ e ∙ sym (after_waiting classes n s sender list o w)
 
 again_is : (n : ℕ) (s : NodeState) (sender : Party) (m : GroupMap) (status : Option Status) (joined : List ℕ) (sent : List Packet) →
-    install_again n s sender m status joined sent ≡ said n sender (after_move s m status joined) sent None
+    again_by n s sender m status joined sent ≡ said n sender (after_move s m status joined) sent None
 again_is n s sender m None joined sent = refl
 again_is n s sender m (Some st) joined sent = refl
 
-pub other_install : (classes : Classes) (n : ℕ) (s : NodeState) (sender : Party) (m : GroupMap) (list : List ClientRequest) (status : Option Status) (joined : List ℕ) (sent : List Packet) (o : Outcome) →
-    after_move s m status joined ≡ o.node → sent ≡ o.sent → o.refusal ≡ None → is_waiting (unwrap_or status s.status) ≡ false →
-    install_again n s sender m status joined sent ≡ install_after classes n s sender list o
-other_install classes n s sender m list status joined sent o a b r h =
-    let w : is_waiting o.node.status ≡ false = ap (λ x. is_waiting x.status) (sym a) ∙ ap is_waiting (waiting_is s m status joined) ∙ h in
-    let e : said n sender (after_move s m status joined) sent None ≡ said n sender o.node o.sent o.refusal = λ i. said n sender (a i) (b i) (sym r i) in
-    again_is n s sender m status joined sent ∙ e ∙ sym (after_other classes n s sender list o w)
+-- a further one, where it doesn't
+pub other_install : (classes : Classes) (n : ℕ) (s : NodeState) (sender : Party) (m : GroupMap) (list : List ClientRequest) (a : Arrival) (o : Outcome) →
+    Makes s m a o → is_usable classes s list ≡ true → is_waiting (unwrap_or a.status s.status) ≡ false →
+    install_again n s sender m a ≡ install_at classes n s sender list o
+other_install classes n s sender m list a o h u st =
+    let w : is_waiting o.node.status ≡ false = ap (λ x. is_waiting x.status) (sym h.node) ∙ ap is_waiting (waiting_is s m a.status a.joined.items) ∙ st in
+    let e : said n sender (after_move s m a.status a.joined.items) a.sent.items None ≡ said n sender o.node o.sent o.refusal = λ i. said n sender (h.node i) (h.sent i) (sym h.unrefused i) in
+    again_is n s sender m a.status a.joined.items a.sent.items ∙ e ∙ sym (after_other classes n s sender list o u w)
 
 -- a log that becomes a list shows that the list is legal
 pub adopted : AdoptingIsReplaying → (classes : Classes) (own list : List ClientRequest) (k : ℕ) → Legal classes own → IsCommonBeginning own list k →
@@ -144,13 +169,13 @@ interval_is s m None joined = refl
 interval_is s m (Some st) joined = refl
 
 -- the list that goes to the asker is that of the node once it has moved
-pub answer_is : (n : ℕ) (s : NodeState) (asker : Party) (m : GroupMap) (status : Option Status) (joined : List ℕ) (before sent : List Packet) (o : Outcome) →
-    after_move s m status joined ≡ o.node → before ≡ o.sent → sent ≡ before ++ packet n asker (LogOf (interval_after s m status) (log_after s status)) ∷ [] →
+pub answer_is : (n : ℕ) (s : NodeState) (asker : Party) (m : GroupMap) (a : Arrival) (sent : List Packet) (o : Outcome) →
+    Makes s m a o → sent ≡ a.sent.items ++ packet n asker (LogOf (interval_after s m a.status) (log_after s a.status)) ∷ [] →
     sent ≡ o.sent ++ packet n asker (LogOf o.node.interval o.node.log) ∷ []
-answer_is n s asker m status joined before sent o a b q =
-    let p = sym (interval_is s m status joined) ∙ ap (λ x. x.interval) a in
-    let l = sym (log_is s m status joined) ∙ ap (λ x. x.log) a in
-    q ∙ (λ i. b i ++ packet n asker (LogOf (p i) (l i)) ∷ [])
+answer_is n s asker m a sent o h q =
+    let p = sym (interval_is s m a.status a.joined.items) ∙ ap (λ x. x.interval) h.node in
+    let l = sym (log_is s m a.status a.joined.items) ∙ ap (λ x. x.log) h.node in
+    q ∙ (λ i. h.sent i ++ packet n asker (LogOf (p i) (l i)) ∷ [])
 
 pub and_true : (a b : Bool) → b ≡ true → a ≡ (a && b)
 and_true true b h = sym h

@@ -73,20 +73,21 @@ adopt_kept laws classes n s interval list l =
     either (IsKept classes) (eqb interval s.interval && (is_asking s.status && is_usable classes s list)) (adopt n s list) (nothing s)
     (λ h. (refl, usable_legal laws classes s list (and_parts _ _ (and_parts _ _ h).1).1)) (λ _. (refl, l))
 
-after_kept : Laws → (classes : Classes) (n : ℕ) (s : NodeState) (sender : Party) (list : List ClientRequest) (o : Outcome) →
-    Legal classes s.log → IsKept classes o → IsKept classes (install_after classes n s sender list o)
-after_kept laws classes n s sender list o l k =
+after_kept : (classes : Classes) (n : ℕ) (sender : Party) (list : List ClientRequest) (o : Outcome) →
+    Legal classes list → IsKept classes o → IsKept classes (install_after n sender list o)
+after_kept classes n sender list o l k =
     let taken : Outcome = and_sends (record { node = record (o.node) { status = Installed; log = list }; sent = o.sent; refusal = None }) (says_installed n sender o.node) in
     let said : Outcome = and_sends o (says_installed n sender o.node) in
-    either (IsKept classes) (is_waiting o.node.status) (cond (is_usable classes o.node list) taken (nothing s)) (cond (is_installed o.node.status) said o)
-    (λ _. either (IsKept classes) (is_usable classes o.node list) taken (nothing s) (λ h. (refl, usable_legal laws classes o.node list h)) (λ _. (refl, l)))
+    either (IsKept classes) (is_waiting o.node.status) taken (cond (is_installed o.node.status) said o) (λ _. (refl, l))
     (λ _. either (IsKept classes) (is_installed o.node.status) said o (λ _. (refl, k.1)) (λ _. k))
 
 install_kept : Laws → (classes : Classes) (n : ℕ) (s : NodeState) (sender : Party) (m : GroupMap) (list : List ClientRequest) →
     Legal classes s.log → IsKept classes (install classes n s sender m list)
 install_kept laws classes n s sender m list l =
-    either (IsKept classes) (ignores n s m) (nothing s) (install_after classes n s sender list (arrive n s m))
-    (λ _. (refl, l)) (λ _. after_kept laws classes n s sender list (arrive n s m) l (arrive_kept laws classes n s m l))
+    let o : Outcome = install_after n sender list (arrive n s m) in
+    either (IsKept classes) (ignores n s m) (nothing s) (cond (is_usable classes s list) o (nothing s)) (λ _. (refl, l))
+    (λ _. either (IsKept classes) (is_usable classes s list) o (nothing s)
+    (λ h. after_kept classes n sender list (arrive n s m) (usable_legal laws classes s list h) (arrive_kept laws classes n s m l)) (λ _. (refl, l)))
 
 noted_kept : (classes : Classes) (n : ℕ) (s : NodeState) (sender : Party) (interval : ℕ) → Legal classes s.log → IsKept classes (note_installed n s sender interval)
 noted_kept classes n s (ANode m) interval l =

@@ -5,3 +5,5 @@ pub mod Keeping
 pub mod Installing
 pub mod Growing
 pub mod Statuses
+pub mod Placing
+pub mod Crosses

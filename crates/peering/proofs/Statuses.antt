@@ -1,4 +1,4 @@
--- A primary that asks, with the list that it adopts, and a member that refuses a Rep.
+-- A primary that asks, installs or is active.
 use Rattle.std.proofs.Common.{◌≡◌, ◌≢◌, ◌<◌, ℕ, Bool, true, false, ◌&&◌, cond, eqb, nat_lt, length, is_none, arith, List, ◌++◌, ◌∷◌, [], Result, Ok, Err, IfOk, ap, sym, ◌∙◌, refl}
 use Rattle.std.specs.Prelude.{OnOk}
 use denote.Enum.Bare.{sameb}
@@ -11,7 +11,7 @@ use Rattle.group_world.specs.contracts.status.Status.{the_type}
 use Rattle.group_world.specs.declared.status.Status.{Status}
 use Rattle.group_world.specs.declared.status.Status.TheVariants.{Out, Waiting, Installed, Asking, Installing, Active}
 use Rattle.group_world.specs.Node.{NodeState, Outcome, nothing, is_active, is_asking, is_installed, is_installing}
-use Rattle.group_world.specs.Rules.{acknowledge, activate, each_at, is_usable, adopt, adopt_log, and_acks, commit, raised, replicate}
+use Rattle.group_world.specs.Rules.{acknowledge, activate, each_at, is_usable, adopt, adopt_log, commit, raised}
 use Rattle.group_world.specs.declared.handle_error.HandleError.{HandleError}
 use Rattle.group_world.specs.declared.party.Party.{Party}
 use Rattle.group_world.specs.declared.party.Party.TheVariants.{Node as ANode}
@@ -50,24 +50,6 @@ adopts_not classes n s interval list u =
     sym (ap (λ x. cond (eqb interval s.interval && (is_asking s.status && x)) (adopt n s list) (nothing s)) u
     ∙ ap (λ x. cond x (adopt n s list) (nothing s)) (neither (eqb interval s.interval) (is_asking s.status)))
 
-at_end : (a b : ℕ) → a ≡ b → nat_lt a b ≡ false
-at_end a b h = grind (arith, nat_tests)
-
-inside_not : {X : Type 0} (a e : Bool) (x y : X) → cond a (cond (e && false) x y) y ≡ y
-inside_not true true x y = refl
-inside_not true false x y = refl
-inside_not false e x y = refl
-
--- a request that may not follow changes nothing
-replicates_not : (classes : Classes) (n : ℕ) (s : NodeState) (sender : Party) (interval place : ℕ) (r : ClientRequest) → nat_lt place (length s.log) ≡ false →
-    is_none (refusal classes s.log r) ≡ false → nothing s ≡ replicate classes n s sender interval place r
-replicates_not classes n s sender interval place r l u =
-    let at : Bool = eqb interval s.interval && is_installed s.status in
-    let longer : Outcome = and_acks n sender (record s { log = s.log ++ r ∷ [] }) in
-    let last : Bool = eqb place (length s.log) in
-    sym (ap (λ x. cond at (cond x (and_acks n sender s) (cond (last && is_none (refusal classes s.log r)) longer (nothing s))) (nothing s)) l
-    ∙ ap (λ x. cond at (cond (last && x) longer (nothing s)) (nothing s)) u ∙ inside_not at last longer (nothing s))
-
 -- an active primary raises the member's length and then the commit point
 pub acknowledges : (classes : Classes) (n m : ℕ) (s : NodeState) (sender : Party) (interval k : ℕ) → sender ≡ ANode m → eqb interval s.interval ≡ true → is_active s.status ≡ true →
     commit classes n (record s { acked = raised m k s.members.acting s.acked }) ≡ acknowledge classes n s sender interval k
@@ -84,28 +66,6 @@ acknowledges_not classes n m s sender interval k e a =
 
 pub below : (a b : ℕ) → a < b → nat_lt a b ≡ true
 below a b h = grind (arith, nat_tests)
-
-same_number : (a b : ℕ) → a ≡ b → eqb a b ≡ true
-same_number a b h = eq-eqb a b h
-
--- the next is appended and acknowledged, where its request may follow
-replicates_next : (classes : Classes) (n : ℕ) (s : NodeState) (sender : Party) (interval place : ℕ) (r : ClientRequest) → eqb interval s.interval ≡ true → is_installed s.status ≡ true →
-    place ≡ length s.log → is_none (refusal classes s.log r) ≡ true → and_acks n sender (record s { log = s.log ++ r ∷ [] }) ≡ replicate classes n s sender interval place r
-replicates_next classes n s sender interval place r a b l u =
-    let longer : Outcome = and_acks n sender (record s { log = s.log ++ r ∷ [] }) in
-    let next : Outcome = cond (eqb place (length s.log) && is_none (refusal classes s.log r)) longer (nothing s) in
-    sym (ap (λ x. cond (x && is_installed s.status) (cond (nat_lt place (length s.log)) (and_acks n sender s) next) (nothing s)) a
-    ∙ ap (λ x. cond x (cond (nat_lt place (length s.log)) (and_acks n sender s) next) (nothing s)) b
-    ∙ ap (λ x. cond x (and_acks n sender s) next) (at_end place (length s.log) l)
-    ∙ ap (λ x. cond (x && is_none (refusal classes s.log r)) longer (nothing s)) (same_number place (length s.log) l)
-    ∙ ap (λ x. cond x longer (nothing s)) u)
-
--- elsewhere nothing happens
-pub replicates_nowhere : (classes : Classes) (n : ℕ) (s : NodeState) (sender : Party) (interval place : ℕ) (r : ClientRequest) → (eqb interval s.interval && is_installed s.status) ≡ false →
-    nothing s ≡ replicate classes n s sender interval place r
-replicates_nowhere classes n s sender interval place r a =
-    let next : Outcome = cond (eqb place (length s.log) && is_none (refusal classes s.log r)) (and_acks n sender (record s { log = s.log ++ r ∷ [] })) (nothing s) in
-    sym (ap (λ x. cond x (cond (nat_lt place (length s.log)) (and_acks n sender s) next) (nothing s)) a)
 
 pub installed_is : (st : Status) → sameb the_type st Installed ≡ is_installed st
 installed_is Out = refl
@@ -133,30 +93,3 @@ activates s interval a b =
 pub activates_not : (s : NodeState) (interval : ℕ) → (eqb interval s.interval && is_installing s.status) ≡ false → nothing s ≡ activate s interval
 activates_not s interval a =
     sym (ap (λ x. cond x (nothing (record s { status = Active; committed = length s.log; acked = each_at s.members.acting (length s.log) })) (nothing s)) a)
-
--- a place that isn't the next is acknowledged where it is logged
-pub replicates_elsewhere : (classes : Classes) (n : ℕ) (s : NodeState) (sender : Party) (interval place : ℕ) (r : ClientRequest) → eqb interval s.interval ≡ true → is_installed s.status ≡ true →
-    place ≢ length s.log → cond (nat_lt place (length s.log)) (and_acks n sender s) (nothing s) ≡ replicate classes n s sender interval place r
-replicates_elsewhere classes n s sender interval place r a b h =
-    let other : eqb place (length s.log) ≡ false = grind (arith, nat_tests) in
-    let longer : Outcome = and_acks n sender (record s { log = s.log ++ r ∷ [] }) in
-    let next : Outcome = cond (eqb place (length s.log) && is_none (refusal classes s.log r)) longer (nothing s) in
-    sym (ap (λ x. cond (x && is_installed s.status) (cond (nat_lt place (length s.log)) (and_acks n sender s) next) (nothing s)) a
-    ∙ ap (λ x. cond x (cond (nat_lt place (length s.log)) (and_acks n sender s) next) (nothing s)) b
-    ∙ ap (λ x. cond (nat_lt place (length s.log)) (and_acks n sender s) (cond (x && is_none (refusal classes s.log r)) longer (nothing s))) other)
-
--- what becomes of the next, whether or not it was kept
-pub replicates_at_end : (kept : Result Bool HandleError) (classes : Classes) (old new : NumberedNode) (interval place : ℕ) (r : ClientRequest) → eqb interval old.state.interval ≡ true →
-    is_installed old.state.status ≡ true → place ≡ length old.state.log → IfOk kept (λ b. b ≡ is_none (refusal classes old.state.log r)) →
-    IfOk kept (λ b. new ≡ cond b (with_log old (old.state.log ++ r ∷ [])) old) →
-    IfOk kept (λ b. (sender : Party) → cond b (and_acks old.number sender new.state) (nothing new.state) ≡ replicate classes old.number old.state sender interval place r)
-replicates_at_end (Err e) classes old new interval place r a b l may kept = kept
-replicates_at_end (Ok true) classes old new interval place r a b l may kept =
-    λ sender. ap (λ w. and_acks old.number sender w.state) kept ∙ replicates_next classes old.number old.state sender interval place r a b l (sym may)
-replicates_at_end (Ok false) classes old new interval place r a b l may kept =
-    λ sender. ap (λ w. nothing w.state) kept ∙ replicates_not classes old.number old.state sender interval place r (at_end place (length old.state.log) l) (sym may)
-
-pub number_kept : (kept : Result Bool HandleError) (old new : NumberedNode) (log : List ClientRequest) → IfOk kept (λ b. new ≡ cond b (with_log old log) old) → OnOk kept (new.number ≡ old.number)
-number_kept (Err e) old new log h = h
-number_kept (Ok true) old new log h = ap (λ w. w.number) h
-number_kept (Ok false) old new log h = ap (λ w. w.number) h

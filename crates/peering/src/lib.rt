@@ -3,9 +3,11 @@
 //! (`local_step`, `unanswered`, `next_map`), so that the theorem, `agreement`, speaks of them.
 #![tactic(auto)]
 
+mod crossing;
 mod monitor;
 mod node;
 
+pub use crossing::{monitor_crosses, node_crosses};
 pub use group_world::{agreement, nothing_is_cut};
 pub use monitor::Monitor;
 pub use node::GroupNode;

@@ -1,36 +1,37 @@
 ghost use Rattle.std.specs.Prelude.{◌≡◌, ◌⊎◌, ◌<◌, ◌-◌, ◌^◌, IfOk, IfErr, OnOk, OnErr, MatchResult, Some, None};
-ghost use Rattle.group_world.specs.Maps.{no_map};
+ghost use Rattle.group_world.specs.Maps.{no_map, interval_of};
 ghost use Rattle.group_world.specs.Monitor.{no_maps, map_refusal, next_map, with_map, activation_refusal, with_activated};
 ghost use Rattle.peering.specs.Mapping.{IsNextMap};
 
 use group_world::{Epoch, GroupMap, MonitorError};
-use peering_messages::{are_same, is_acting};
-use placement::NodeId;
+use peering_messages::are_same;
+use placement::{NodeId, is_acting};
 use std::alloc::{AllocError, Global};
 use std::marker::Model;
 use std::mem;
 
 /// The monitor of a group: it makes maps and activates intervals. It keeps two maps, however many it made. Contracts see
-/// the newest map, and the one that was newest at the last activation.
+/// the newest map, and of what was activated last the interval and who acts in it.
 #[derive(Drop)]
 pub struct Monitor {
     alloc: Global,
     newest: GroupMap,
-    /// The newest interval is the last activated one.
+    /// The newest map was the newest at the last activation.
     is_activated: bool,
-    /// Where it isn't, the last activated one.
+    /// Where it wasn't, the one that was.
     activated: GroupMap,
 }
 
 impl Model for Monitor {
     ghost use Rattle.std.specs.Prelude.{if◌then◌else◌};
+    ghost use Rattle.group_world.specs.Maps.{interval_of};
     ghost use Rattle.group_world.specs.Monitor.{MonitorState};
 
     ghost Value = { MonitorState };
 
     ghost view = { λ m. record {
       newest = m.newest;
-      activated = if m.is_activated then m.newest else m.activated;
+      activated = if m.is_activated then interval_of m.newest else interval_of m.activated;
     } };
 }
 
@@ -136,14 +137,7 @@ impl Monitor {
             return map_of(alloc, epoch, interval, acting, prev, prev_acting);
         }
         let last = self.last_activated();
-        map_of(
-            alloc,
-            epoch,
-            epoch,
-            acting,
-            last.interval(),
-            last.acting(),
-        )
+        map_of(alloc, epoch, epoch, acting, last.interval(), last.acting())
     }
 
     /// The newest map, `no_map` before the first.
@@ -155,7 +149,7 @@ impl Monitor {
 
     /// The map that was the newest at the last activation.
     fn last_activated(&self) -> &GroupMap
-        ensures { result.now ≡ self.now.activated }
+        ensures { interval_of result.now ≡ self.now.activated }
     {
         if self.is_activated {
             &self.newest
@@ -165,7 +159,7 @@ impl Monitor {
     }
 
     /// Activates an interval. It refuses by `NotNewest` where it isn't the newest map's, and is then as it was. A second
-    /// time changes nothing. It takes no memory.
+    /// time changes nothing, also after a map that kept the interval. It takes no memory.
     pub fn activate(&mut self, interval: Epoch) -> Result<(), MonitorError>
         ensures answer { MatchResult result (λ _. activation_refusal self.old interval ≡ None) (λ e. activation_refusal self.old interval ≡ Some e) }
         ensures ok { OnOk result (self.new ≡ with_activated self.old) }

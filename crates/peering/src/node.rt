@@ -2,7 +2,8 @@ ghost use Rattle.std.specs.Prelude.{◌≡◌, ◌≤◌, length, IfOk, IfErr, O
 ghost use mathlib.Core.List.{IsPrefix};
 ghost use Rattle.pg_log.specs.Log.{Legal};
 ghost use Rattle.group_world.specs.Node.{fresh};
-ghost use Rattle.group_world.specs.Rules.{local_step, receive};
+ghost use Rattle.group_world.specs.Rules.{acknowledge, local_step, receive};
+ghost use Rattle.peering_messages.specs.Sending.{IsLegalBy};
 ghost use Rattle.peering.specs.Numbered.{IsDone, IsRefusal};
 
 mod lead;
@@ -13,6 +14,7 @@ mod serve;
 use group_world::{Epoch, Event, GroupMap, HandleError, Kind, Messages, Packet, Party, Status};
 use pg_log::{ClassTable, Classes, Group, legal_lists, refusals};
 use placement::NodeId;
+use replication::{Ack, Rep};
 use std::alloc::Global;
 use std::marker::Model;
 
@@ -156,9 +158,14 @@ impl<C: Classes> GroupNode<C> {
     /// request by the first that applies of 1 to 8, another event by `NoMemory` alone. A refusal leaves the node as if the
     /// event never came.
     ///
-    /// The table is that of the earlier calls, or that one with classes added. A request at the primary costs its call
-    /// and a logarithm, an Ack a constant and a Reply for each newly committed entry, and a list that is the node's own
-    /// save for its end the comparison, and what undoing and running the ends costs.
+    /// The table is that of the earlier calls, or that one with classes added.
+    ///
+    /// What each event costs, beside what it sends: a request at the primary its call, a logarithm and a copy of the
+    /// request for each other member; a Rep its call; an Ack a constant and a Reply for each newly committed entry; a
+    /// Query a copy of the whole log. The list of a Log at an asking primary is tested before anything is copied or run,
+    /// which costs a comparison with what is committed and a logarithm for each request. A usable one costs a copy for
+    /// each other member, a comparison with the log, and what undoing and running the ends costs. The list of an Install
+    /// costs that comparison and the ends where the node waits, else the test alone.
     pub fn handle(&mut self, table: &ClassTable, event: Event) -> Result<Messages, HandleError>
         requires table { IsPrefix table.now C.classes }
         requires legal { Legal table.now self.old.state.log }
@@ -176,8 +183,7 @@ impl<C: Classes> GroupNode<C> {
 
     /// Takes an event.
     fn take(&mut self, table: &ClassTable, event: Event) -> Result<Vec<Packet>, HandleError>
-        requires table { IsPrefix table.now C.classes }
-        requires legal { Legal table.now self.old.state.log }
+        requires { IsLegalBy table.now C.classes self.old.state.log }
         ensures done { IfOk result (λ sent. IsDone self.old self.new sent.items (local_step table.now self.old.number self.old.state event)) }
         ensures refused { OnErr result (self.new ≡ self.old) }
         ensures why { IfErr result (λ e. IsRefusal (local_step table.now self.old.number self.old.state event) e) }
@@ -198,8 +204,7 @@ impl<C: Classes> GroupNode<C> {
         sender: Party,
         kind: Kind,
     ) -> Result<Vec<Packet>, HandleError>
-        requires table { IsPrefix table.now C.classes }
-        requires legal { Legal table.now self.old.state.log }
+        requires { IsLegalBy table.now C.classes self.old.state.log }
         ensures done { IfOk result (λ sent. IsDone self.old self.new sent.items (receive table.now self.old.number self.old.state sender kind)) }
         ensures refused { OnErr result (self.new ≡ self.old) }
         ensures why { IfErr result (λ e. e ≡ HandleError.NoMemory) }
@@ -211,14 +216,50 @@ impl<C: Classes> GroupNode<C> {
             Kind::Installed(interval) => self.note_installed(sender, interval),
             Kind::Activated(interval) => self.activate(interval),
             Kind::Rep(interval, place, request) => {
-                self.replicate(table, sender, interval, place, request)
+                let epoch = interval.get();
+                self.replicate(
+                    table,
+                    sender,
+                    Rep {
+                        epoch,
+                        place,
+                        request,
+                    },
+                )
             }
-            Kind::Ack(interval, length) => self.acknowledge(table, sender, interval, length),
+            Kind::Ack(interval, length) => self.take_ack(table, sender, interval, length),
             Kind::AskActivate(_) => Ok(Vec::new(self.alloc)),
             Kind::Reply(_, _, _, answer) => {
                 drop(answer);
                 Ok(Vec::new(self.alloc))
             }
+        }
+    }
+
+    /// Takes an Ack, of which one of a node counts.
+    fn take_ack(
+        &mut self,
+        table: &ClassTable,
+        sender: Party,
+        interval: Epoch,
+        length: usize,
+    ) -> Result<Vec<Packet>, HandleError>
+        requires { IsLegalBy table.now C.classes self.old.state.log }
+        ensures done { IfOk result (λ sent. IsDone self.old self.new sent.items (acknowledge table.now self.old.number self.old.state sender interval length)) }
+        ensures refused { OnErr result (self.new ≡ self.old) }
+        ensures why { IfErr result (λ e. e ≡ HandleError.NoMemory) }
+    {
+        let epoch = interval.get();
+        match sender {
+            Party::Node(sender) => self.acknowledge(
+                table,
+                Ack {
+                    epoch,
+                    sender,
+                    length,
+                },
+            ),
+            Party::Monitor | Party::Client(_) => Ok(Vec::new(self.alloc)),
         }
     }
 }

@@ -1,6 +1,7 @@
 -- Lists of numbers, equal requests, and the requests of entries.
-use Rattle.std.proofs.Common.{◌≡◌, ◌≢◌, ◌<◌, ℕ, suc, zero, Bool, true, false, List, [], ◌∷◌, ◌++◌, length, eqb, ap, sym, ◌∙◌, refl, arith, get_or}
+use Rattle.std.proofs.Common.{◌≡◌, ◌≢◌, ◌<◌, ℕ, suc, zero, Bool, true, false, List, [], ◌∷◌, ◌++◌, length, Some, eqb, ap, sym, ◌∙◌, refl, arith}
 use Rattle.std.specs.Bool.{IsTrue}
+use Rattle.std.specs.List.{slice_get}
 use Rattle.std.proofs.lemmas.Bool.{eq-eqb, eqb-true, and_parts, and_from, false≢true}
 use Rattle.pg_log.specs.declared.entry.Entry.{Entry}
 use Rattle.pg_log.specs.Entries.{requests_of}
@@ -21,10 +22,18 @@ pub requests_end : (es : List Entry) (e : Entry) → requests_of (es ++ e ∷ []
 requests_end [] e = refl
 requests_end (x ∷ es) e = ap (λ rs. x.request ∷ rs) (requests_end es e)
 
-pub get_request : (es : List Entry) (k : ℕ) (e : Entry) (d : ClientRequest) → k < length es → (get_or es k e).request ≡ get_or (requests_of es) k d
-get_request [] k e d h = absurd (omega arith)
-get_request (x ∷ es) zero e d h = refl
-get_request (x ∷ es) (suc k) e d h = get_request es k e d (omega arith)
+pub length_requests : (es : List Entry) → length (requests_of es) ≡ length es
+length_requests [] = refl
+length_requests (e ∷ es) = ap suc (length_requests es)
+
+pub get_before : (xs ys : List ClientRequest) (k : ℕ) → k < length xs → slice_get (xs ++ ys) k ≡ slice_get xs k
+get_before [] ys k h = absurd (omega arith)
+get_before (x ∷ xs) ys zero h = refl
+get_before (x ∷ xs) ys (suc k) h = get_before xs ys k (omega arith)
+
+pub get_last : (xs : List ClientRequest) (x : ClientRequest) → slice_get (xs ++ x ∷ []) (length xs) ≡ Some x
+get_last [] x = refl
+get_last (y ∷ xs) x = get_last xs x
 
 itself : (xs : List ℕ) → is_same_list xs xs ≡ true
 itself [] = refl

@@ -1,30 +1,17 @@
 //! Tests of lists of nodes, and of requests.
 ghost use Rattle.std.specs.Prelude.{◌≡◌};
-ghost use Rattle.placement.specs.Placement.{has, are_nodes, is_acting};
 ghost use Rattle.group_world.specs.Maps.{all_among, is_same_list, is_first};
 ghost use Rattle.group_world.specs.Rules.{is_same_request};
 
 use pg_log::Request;
-use placement::{NODE_LIMIT, NodeId, REPLICA_LIMIT};
-
-/// Whether the node is among these.
-pub fn is_among(nodes: &[NodeId], node: NodeId) -> bool
-    ensures { result ≡ has node nodes.now }
-{
-    for other in nodes {
-        if node == *other {
-            return true;
-        }
-    }
-    false
-}
+use placement::{NodeId, has};
 
 /// Whether each of the first nodes is among the second.
 pub fn are_among(nodes: &[NodeId], others: &[NodeId]) -> bool
     ensures { result ≡ all_among nodes.now others.now }
 {
     for node in nodes {
-        if !is_among(others, *node) {
+        if !has(*node, others) {
             return false;
         }
     }
@@ -54,26 +41,6 @@ pub fn are_same(nodes: &[NodeId], others: &[NodeId]) -> bool
         }
     }
     true
-}
-
-/// Whether these are numbers of nodes, none twice.
-pub fn are_nodes(nodes: &[NodeId]) -> bool
-    ensures { result ≡ are_nodes nodes.now }
-{
-    for place in 0..nodes.len() {
-        let node = nodes[place];
-        if node.get() >= NODE_LIMIT || is_among(&nodes[place + 1..], node) {
-            return false;
-        }
-    }
-    true
-}
-
-/// Whether the list may act: it has one to three nodes, none twice.
-pub fn is_acting(nodes: &[NodeId]) -> bool
-    ensures { result ≡ is_acting nodes.now }
-{
-    0 < nodes.len() && nodes.len() <= REPLICA_LIMIT && are_nodes(nodes)
 }
 
 /// Whether the requests are equal.

@@ -1,16 +1,14 @@
-//! The messages of a group's node: Queries, Installs, Reps and Replies to whom they go, copies of requests for them, and
-//! tests of lists of nodes and of requests. When a node sends which is `peering`'s. Each fails for want of memory alone; what was to grow is
+//! The messages of a group's node: Queries, Installs, Reps and Replies to whom they go, and tests of lists of nodes and of
+//! requests. When a node sends which is `peering`'s. Each fails for want of memory alone; what was to grow is
 //! then of no further use.
 #![tactic(auto)]
 
 mod compare;
-mod copies;
 mod packets;
 mod replying;
 
-pub use compare::{are_among, are_same, is_acting, is_among, is_same_request, leads};
-pub use copies::{copy_log, refusal_of};
+pub use compare::{are_among, are_same, is_same_request, leads};
 pub use packets::{
     adoption, ask_if, install_to_missing, packet, query_to_all, rep_to_others, reps_to, send,
 };
-pub use replying::{replies, replies_with, reply, same_reply};
+pub use replying::{replies, replies_with, reply_again};

@@ -5,11 +5,10 @@ ghost use Rattle.group_world.specs.Node.{packet, to_all, to_others};
 ghost use Rattle.group_world.specs.Unanswered.{to_missing, reps_from};
 ghost use Rattle.peering_messages.specs.Sending.{adopted_sent, asked_if};
 
-use crate::compare::{are_among, is_among};
-use crate::copies::{copy_request, copy_requests};
+use crate::compare::are_among;
 use group_world::{Epoch, GroupMap, HandleError, Kind, Message, Packet, Party, Place, Requests};
-use pg_log::{Entry, Request};
-use placement::NodeId;
+use pg_log::{Entry, Request, copy_requests};
+use placement::{NodeId, has};
 use std::alloc::Global;
 
 /// A message of a node.
@@ -81,7 +80,7 @@ pub fn install_to_missing(
 {
     let mut sent = Vec::new(alloc);
     for node in nodes {
-        if is_among(joined, *node) {
+        if has(*node, joined) {
             continue;
         }
         if *node == number {
@@ -144,7 +143,7 @@ fn send_rep(
     ensures ok { OnOk result (sent.new.items ≡ sent.old.items ++ packet number (Party.Node node) (Kind.Rep interval place request.now) ∷ []) }
     ensures err { IfErr result (λ e. e ≡ HandleError.NoMemory) }
 {
-    let kind = Kind::Rep(interval, place, copy_request(alloc, request)?);
+    let kind = Kind::Rep(interval, place, request.copy(alloc)?);
     send(sent, packet(number, Party::Node(node), kind))
 }
 

@@ -1,5 +1,6 @@
 -- The laws of legal lists, of their objects and of their replies.
 use Rattle.std.specs.Prelude.{◌≡◌, ℕ, ◌<◌, ◌≤◌, List, [], ◌∷◌, ◌++◌, ◌↔◌, Some, None, slice_get, take, length}
+use Rattle.std.specs.Int.{w64, cast_unsigned}
 use Rattle.std.specs.FinMap as map
 use Rattle.pg_log.specs.declared.entry.Entry.{Entry}
 use Rattle.pg_log.specs.Requests.{ClientRequest}
@@ -48,6 +49,12 @@ LastReply = (classes : Classes) (xs : List ClientRequest) (r : ClientRequest) �
 -- there is a reply at each place of a list, and at no other
 abbrev pub RepliesAreThere : Type 0
 RepliesAreThere = (classes : Classes) (xs : List ClientRequest) (k : ℕ) → (reply_at classes xs k ≡ None) ↔ (length xs ≤ k)
+
+-- what an entry says that its request was answered is the reply of its place
+abbrev pub EntriesHaveReplies : Type 0
+EntriesHaveReplies =
+    (classes : Classes) (es : List Entry) (k : ℕ) (e : Entry) → AreEntries classes map.empty es → slice_get es k ≡ Some e →
+    reply_at classes (requests_of es) k ≡ Some (record { code = cast_unsigned w64 e.code; output = e.output.items })
 
 -- each pair of client and number stands at most once in a legal list
 abbrev pub PairsStandOnce : Type 0

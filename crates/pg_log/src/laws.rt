@@ -1,5 +1,5 @@
 //! Laws of legal lists, of their objects and of their replies, for the proofs of the crates above. Each function does nothing.
-ghost use Rattle.pg_log.specs.Laws.{BeginningsAreLegal, EmptyIsLegal, AppendIsAStep, FoldIsAStep, FoldGoesOn, FoldsStay, UndoingGoesBack, RepliesStay, LastReply, RepliesAreThere, PairsStandOnce, PlaceIsThePairs, PlaceHasThePair, ClassesAdded, RefusalsAreExact, ListsAreExact, AdoptingIsReplaying};
+ghost use Rattle.pg_log.specs.Laws.{BeginningsAreLegal, EmptyIsLegal, AppendIsAStep, FoldIsAStep, FoldGoesOn, FoldsStay, UndoingGoesBack, RepliesStay, LastReply, RepliesAreThere, EntriesHaveReplies, PairsStandOnce, PlaceIsThePairs, PlaceHasThePair, ClassesAdded, RefusalsAreExact, ListsAreExact, AdoptingIsReplaying};
 
 /// Every beginning of a legal list is legal, the empty list too; a list with one request more is legal exactly where
 /// the list is and the request may follow it.
@@ -23,11 +23,12 @@ pub fn undoing()
 {}
 
 /// The replies of a list: one at each place, that of the last request on the objects before it, and the same whatever
-/// follows.
+/// follows. What an entry of a log says is the reply of its place.
 pub fn replies()
     ensures there { RepliesAreThere }
     ensures last { LastReply }
     ensures stay { RepliesStay }
+    ensures entries { EntriesHaveReplies }
 {}
 
 /// A pair of client and number stands at most once in a legal list, and its place is the one at which it stands, in range.

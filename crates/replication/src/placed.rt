@@ -15,17 +15,17 @@ use pg_log::{ClassTable, Classes, Group, LogError};
 /// A refusal leaves the group as it was.
 ///
 /// The table is that of the earlier calls, or that one with classes added. A place that isn't the length costs the same
-/// however long the log is; one that is costs what `Group::append` costs.
+/// however long the log is; one that is costs what `Group::append` costs. The request is never copied.
 pub fn append_at<C: Classes>(
     group: &mut Group<C>,
     table: &ClassTable,
-    rep: &Rep,
+    rep: Rep,
 ) -> Result<Option<usize>, LogError>
     requires { IsPrefix table.now C.classes }
     // The answer by the list; want of memory only where the request would be added.
-    ensures answer { (result ≡ append_at_answer table.now group.old rep.now.place rep.now.request)
-        ⊎ ((result ≡ Err NoMemory) × (rep.now.place ≡ length group.old) × (refusal table.now group.old rep.now.request ≡ None)) }
-    ensures ok { OnOk result (group.new ≡ list_with group.old rep.now.place rep.now.request) }
+    ensures answer { (result ≡ append_at_answer table.now group.old rep.place rep.request)
+        ⊎ ((result ≡ Err NoMemory) × (rep.place ≡ length group.old) × (refusal table.now group.old rep.request ≡ None)) }
+    ensures ok { OnOk result (group.new ≡ list_with group.old rep.place rep.request) }
     ensures refused { OnErr result (group.new ≡ group.old) }
 {
     let length = group.len();
@@ -35,7 +35,7 @@ pub fn append_at<C: Classes>(
     if length < rep.place {
         return Ok(None);
     }
-    let entry = group.next_entry_of(table, &rep.request)?;
+    let entry = group.next_entry(table, rep.request)?;
     let place = group.keep(entry)?;
     Ok(Some(place + 1))
 }

@@ -1,21 +1,20 @@
 //! A primary before it is active: it adopts a list, notes who has installed it, and becomes active.
 ghost use Rattle.std.specs.Prelude.{◌≡◌, length, IfOk, IfErr, OnErr, if◌then◌else◌, ◌&&◌, ◌==◌, not, is_none, true, ◌≤◌};
-ghost use mathlib.Core.List.{IsPrefix};
 ghost use Rattle.placement.specs.Placement.{has};
-ghost use Rattle.pg_log.specs.Log.{Legal};
 ghost use Rattle.pg_log.specs.Entries.{requests_of};
 ghost use Rattle.pg_log.specs.Refusals.{first_refusal};
 ghost use Rattle.group_world.specs.Node.{committed_list, is_installing};
 ghost use Rattle.group_world.specs.Rules.{adopt_log, note_installed, activate, each_at, is_usable, begins};
 ghost use Rattle.peering.specs.Numbered.{IsDone};
+ghost use Rattle.peering_messages.specs.Sending.{IsLegalBy};
 ghost use Rattle.peering.specs.Arriving.{with_log, is_memory};
 
 use crate::node::GroupNode;
 use crate::node::moves::installing;
 use group_world::{Epoch, HandleError, Kind, Packet, Party, Status};
-use peering_messages::{are_among, is_among, is_same_request, packet};
-use pg_log::{ClassTable, Classes, Entry, Group, LogError, Request, adopting};
-use placement::NodeId;
+use peering_messages::{are_among, is_same_request, packet};
+use pg_log::{ClassTable, Classes, Entry, Group, LogError, Request, adopting, list_refusal};
+use placement::{NodeId, has};
 use std::alloc::Global;
 
 impl<C: Classes> GroupNode<C> {
@@ -26,8 +25,7 @@ impl<C: Classes> GroupNode<C> {
         interval: Epoch,
         list: &[Request],
     ) -> Result<Vec<Packet>, HandleError>
-        requires table { IsPrefix table.now C.classes }
-        requires legal { Legal table.now self.old.state.log }
+        requires { IsLegalBy table.now C.classes self.old.state.log }
         ensures done { IfOk result (λ sent. IsDone self.old self.new sent.items (adopt_log table.now self.old.number self.old.state interval list.now)) }
         ensures err { OnErr result (self.new ≡ self.old) }
         ensures why { IfErr result (λ e. e ≡ HandleError.NoMemory) }
@@ -35,11 +33,26 @@ impl<C: Classes> GroupNode<C> {
         if !self.is_at(interval, Status::Asking) {
             return Ok(Vec::new(self.alloc));
         }
-        let adopted = installing(self.alloc, self.number, self.interval, &self.members, list)?;
-        if !self.take_list(table, list)? {
+        if !self.can_take(table, list)? {
             return Ok(Vec::new(self.alloc));
         }
+        let adopted = installing(self.alloc, self.number, self.interval, &self.members, list)?;
+        let _ = self.take_list(table, list)?;
         Ok(adopted.installs(self))
+    }
+
+    /// Whether it can take a list: the list can be run, and begins with what is committed. It runs and changes nothing.
+    pub(crate) fn can_take(&self, table: &ClassTable, list: &[Request]) -> Result<bool, HandleError>
+        ensures ok { IfOk result (λ can. can ≡ is_usable table.now self.now.state list.now) }
+        ensures err { IfErr result (λ e. e ≡ HandleError.NoMemory) }
+    {
+        if !self.keeps_committed(list) {
+            return Ok(false);
+        }
+        match list_refusal(self.alloc, table, list) {
+            Ok(why) => Ok(why.is_none()),
+            Err(_) => Err(HandleError::NoMemory),
+        }
     }
 
     /// Makes the log a received list, where it is usable. Else, and at an error, nothing changes.
@@ -48,8 +61,7 @@ impl<C: Classes> GroupNode<C> {
         table: &ClassTable,
         list: &[Request],
     ) -> Result<bool, HandleError>
-        requires table { IsPrefix table.now C.classes }
-        requires legal { Legal table.now self.old.state.log }
+        requires { IsLegalBy table.now C.classes self.old.state.log }
         ensures usable { IfOk result (λ taken. taken ≡ is_usable table.now self.old.state list.now) }
         ensures taken { IfOk result (λ taken. self.new ≡ (if taken then with_log self.old list.now else self.old)) }
         ensures status { self.new.state.status ≡ self.old.state.status }
@@ -101,8 +113,8 @@ impl<C: Classes> GroupNode<C> {
     {
         interval == self.interval
             && self.status == Status::Installing
-            && is_among(self.members.acting(), member)
-            && !is_among(&self.joined, member)
+            && has(member, self.members.acting())
+            && !has(member, &self.joined)
     }
 
     /// Becomes active, where the monitor has activated its interval.
@@ -143,8 +155,7 @@ fn become_list<C: Classes>(
     committed: usize,
     list: &[Request],
 ) -> Result<bool, HandleError>
-    requires table { IsPrefix table.now C.classes }
-    requires legal { Legal table.now group.old }
+    requires legal { IsLegalBy table.now C.classes group.old }
     requires own { committed ≤ length group.old }
     requires list { committed ≤ length list.now }
     ensures legal { IfOk result (λ taken. taken ≡ is_none (first_refusal table.now list.now)) }
@@ -166,7 +177,7 @@ fn become_list<C: Classes>(
 }
 
 /// Whether memory was refused.
-fn is_memory(error: LogError) -> bool
+pub(crate) fn is_memory(error: LogError) -> bool
     ensures { result ≡ is_memory error }
 {
     match error {

@@ -1,20 +1,18 @@
 //! A node at a map: learning it, and what it does at a Query or an Install that carries one.
 ghost use Rattle.std.specs.Prelude.{◌≡◌, ◌≤◌, ◌++◌, ◌∷◌, [], length, unwrap_or, false, Some, ◌&&◌, ◌==◌, IfOk, IfErr, OnOk, OnErr};
 ghost use denote.Enum.Bare.{sameb};
-ghost use mathlib.Core.List.{IsPrefix};
-ghost use Rattle.pg_log.specs.Log.{Legal};
-ghost use Rattle.group_world.specs.Node.{is_waiting, packet};
+ghost use Rattle.group_world.specs.Node.{and_sends, is_waiting, packet};
 ghost use Rattle.group_world.specs.contracts.status.Status.{the_type};
-ghost use Rattle.group_world.specs.Rules.{would_forget, ignores, learn_map, answer_query, install};
+ghost use Rattle.group_world.specs.Rules.{would_forget, ignores, arrive, lead, learn_map, answer_query, install};
 ghost use Rattle.peering.specs.Numbered.{IsDone};
-ghost use Rattle.peering_messages.specs.Sending.{adopted_sent};
-ghost use Rattle.peering.specs.Arriving.{after_move, IsArrival, IsAnswering, IsLeading, log_after, interval_after, install_first, install_again};
+ghost use Rattle.peering_messages.specs.Sending.{IsLegalBy, adopted_sent};
+ghost use Rattle.peering.specs.Arriving.{after_move, Makes, log_after, interval_after, install_first, install_again};
 
 use crate::node::GroupNode;
 use group_world::{Epoch, GroupMap, HandleError, Kind, Packet, Party, Requests, Status};
-use peering_messages::{adoption, copy_log, is_among, leads, packet, query_to_all, send};
-use pg_log::{ClassTable, Classes, Group, LogError, Request};
-use placement::NodeId;
+use peering_messages::{adoption, leads, packet, query_to_all, send};
+use pg_log::{ClassTable, Classes, Group, Request, copy_log};
+use placement::{NodeId, has};
 use std::alloc::Global;
 
 /// What a node is to do at a map: its new status, where it moves, who has installed then, and what it sends.
@@ -106,7 +104,7 @@ impl<C: Classes> GroupNode<C> {
     /// What it is to do at the map of a Query that it doesn't ignore.
     fn answering(&self, asker: Party, map: &GroupMap) -> Result<Arrival, HandleError>
         requires { would_forget self.now.number self.now.state map.now ≡ false }
-        ensures ok { IfOk result (λ a. IsAnswering self.now.number self.now.state asker map.now a.status a.joined.items a.sent.items) }
+        ensures ok { IfOk result (λ a. Makes self.now.state map.now a (and_sends (arrive self.now.number self.now.state map.now) (packet self.now.number asker (Kind.Log (arrive self.now.number self.now.state map.now).node.interval (arrive self.now.number self.now.state map.now).node.log)))) }
         ensures within { IfOk result (λ a. self.now.state.committed ≤ length (log_after self.now.state a.status)) }
         ensures err { IfErr result (λ e. e ≡ HandleError.NoMemory) }
     {
@@ -146,7 +144,7 @@ impl<C: Classes> GroupNode<C> {
         send(sent, packet(self.number, receiver, kind))
     }
 
-    /// Takes the list of an Install: moves to its map first.
+    /// Takes the list of an Install, or says again that it has: moves to its map first.
     pub(crate) fn install(
         &mut self,
         table: &ClassTable,
@@ -154,8 +152,7 @@ impl<C: Classes> GroupNode<C> {
         map: GroupMap,
         list: &[Request],
     ) -> Result<Vec<Packet>, HandleError>
-        requires table { IsPrefix table.now C.classes }
-        requires legal { Legal table.now self.old.state.log }
+        requires { IsLegalBy table.now C.classes self.old.state.log }
         ensures done { IfOk result (λ sent. IsDone self.old self.new sent.items (install table.now self.old.number self.old.state sender map list.now)) }
         ensures err { OnErr result (self.new ≡ self.old) }
         ensures why { IfErr result (λ e. e ≡ HandleError.NoMemory) }
@@ -166,6 +163,9 @@ impl<C: Classes> GroupNode<C> {
         let arrival = self.arrival(&map)?;
         if is_waiting(self.status_after(arrival.status)) {
             return self.install_first(table, sender, map, list, arrival);
+        }
+        if !self.can_take(table, list)? {
+            return Ok(Vec::new(self.alloc));
         }
         self.install_again(sender, map, arrival)
     }
@@ -179,10 +179,9 @@ impl<C: Classes> GroupNode<C> {
         list: &[Request],
         mut arrival: Arrival,
     ) -> Result<Vec<Packet>, HandleError>
-        requires table { IsPrefix table.now C.classes }
-        requires legal { Legal table.now self.old.state.log }
+        requires legal { IsLegalBy table.now C.classes self.old.state.log }
         requires waits { unwrap_or arrival.status self.old.state.status ≡ Status.Waiting }
-        ensures done { IfOk result (λ sent. IsDone self.old self.new sent.items (install_first table.now self.old.number self.old.state sender map list.now arrival.status arrival.joined.items arrival.sent.items)) }
+        ensures done { IfOk result (λ sent. IsDone self.old self.new sent.items (install_first table.now self.old.number self.old.state sender map list.now arrival)) }
         ensures err { OnErr result (self.new ≡ self.old) }
         ensures why { IfErr result (λ e. e ≡ HandleError.NoMemory) }
     {
@@ -196,7 +195,7 @@ impl<C: Classes> GroupNode<C> {
         Ok(sent)
     }
 
-    /// Says of an Install that it has installed, where it has once it has moved.
+    /// Says of an Install that it has installed, where it has once it has moved. It takes nothing of the list.
     fn install_again(
         &mut self,
         sender: Party,
@@ -204,7 +203,7 @@ impl<C: Classes> GroupNode<C> {
         mut arrival: Arrival,
     ) -> Result<Vec<Packet>, HandleError>
         requires { self.old.state.committed ≤ length (log_after self.old.state arrival.status) }
-        ensures done { IfOk result (λ sent. IsDone self.old self.new sent.items (install_again self.old.number self.old.state sender map arrival.status arrival.joined.items arrival.sent.items)) }
+        ensures done { IfOk result (λ sent. IsDone self.old self.new sent.items (install_again self.old.number self.old.state sender map arrival)) }
         ensures err { OnErr result (self.new ≡ self.old) }
         ensures why { IfErr result (λ e. e ≡ HandleError.NoMemory) }
     {
@@ -243,7 +242,7 @@ impl<C: Classes> GroupNode<C> {
     /// What it is to do at a map that it doesn't ignore.
     fn arrival(&self, map: &GroupMap) -> Result<Arrival, HandleError>
         requires { would_forget self.now.number self.now.state map.now ≡ false }
-        ensures ok { IfOk result (λ a. IsArrival self.now.number self.now.state map.now a.status a.joined.items a.sent.items) }
+        ensures ok { IfOk result (λ a. Makes self.now.state map.now a (arrive self.now.number self.now.state map.now)) }
         ensures within { IfOk result (λ a. self.now.state.committed ≤ length (log_after self.now.state a.status)) }
         ensures err { IfErr result (λ e. e ≡ HandleError.NoMemory) }
     {
@@ -254,7 +253,7 @@ impl<C: Classes> GroupNode<C> {
 
     /// What it is to do at a map.
     fn decided(&self, map: &GroupMap) -> Result<Arrival, HandleError>
-        ensures ok { IfOk result (λ a. IsArrival self.now.number self.now.state map.now a.status a.joined.items a.sent.items) }
+        ensures ok { IfOk result (λ a. Makes self.now.state map.now a (arrive self.now.number self.now.state map.now)) }
         ensures err { IfErr result (λ e. e ≡ HandleError.NoMemory) }
     {
         if map.interval().get() <= self.interval.get() {
@@ -263,7 +262,7 @@ impl<C: Classes> GroupNode<C> {
         if leads(map.acting(), self.number) {
             return self.leading(map);
         }
-        if is_among(map.acting(), self.number) {
+        if has(self.number, map.acting()) {
             return Ok(quiet(self.alloc, Some(Status::Waiting)));
         }
         Ok(quiet(self.alloc, Some(Status::Out)))
@@ -271,7 +270,7 @@ impl<C: Classes> GroupNode<C> {
 
     /// What the primary of a map is to do.
     fn leading(&self, map: &GroupMap) -> Result<Arrival, HandleError>
-        ensures ok { IfOk result (λ a. IsLeading self.now.number self.now.state map.now a.status a.joined.items a.sent.items) }
+        ensures ok { IfOk result (λ a. Makes self.now.state map.now a (lead self.now.number self.now.state map.now)) }
         ensures err { IfErr result (λ e. e ≡ HandleError.NoMemory) }
     {
         if map.prev().get() == 0 {
@@ -311,7 +310,7 @@ impl<C: Classes> GroupNode<C> {
     {
         match status {
             Some(Status::Installing) => Ok(Vec::new(self.alloc)),
-            _ => copy_log(self.alloc, self.group.entries()),
+            _ => Ok(copy_log(self.alloc, self.group.entries())?),
         }
     }
 

@@ -6,8 +6,8 @@ ghost use Rattle.peering.specs.Arriving.{at_interval, reps_for};
 
 use crate::node::GroupNode;
 use group_world::{Epoch, HandleError, Messages, Packet, Place, Status};
-use peering_messages::{are_among, ask_if, copy_log, install_to_missing, query_to_all, reps_to};
-use pg_log::{Classes, Entry};
+use peering_messages::{are_among, ask_if, install_to_missing, query_to_all, reps_to};
+use pg_log::{Classes, Entry, copy_log};
 use placement::NodeId;
 use std::alloc::Global;
 

@@ -1,24 +1,20 @@
 //! An active primary and its members: requests, their replication, and acknowledgements.
 ghost use Rattle.std.specs.Prelude.{◌≡◌, ◌≤◌, ◌+◌, ◌++◌, ◌∷◌, [], length, max, if◌then◌else◌, is_none, IfOk, IfErr, OnOk, OnErr, None, Some};
 ghost use mathlib.Core.List.{IsPrefix};
-ghost use Rattle.pg_log.specs.Log.{Legal, reply_at};
-ghost use Rattle.std.specs.Int.{w64, cast_unsigned};
 ghost use Rattle.pg_log.specs.Refusals.{place_of, refusal};
-ghost use Rattle.group_world.specs.Node.{nothing};
-ghost use Rattle.group_world.specs.Rules.{request as request_step, request_at, append_new, and_acks, replicate, acknowledge, least_of, raised};
+ghost use Rattle.group_world.specs.Rules.{request as request_step, request_at, append_new, replicate, acknowledge, least_of, raised};
 ghost use Rattle.pg_log.specs.Entries.{IsNextEntry};
 ghost use Rattle.peering.specs.Numbered.{IsDone, IsRefusal};
-ghost use Rattle.peering_messages.specs.Sending.{IsNextReply};
-ghost use Rattle.peering.specs.Arriving.{sent_with, grown, with_log};
+ghost use Rattle.peering_messages.specs.Sending.{IsLegalBy, IsNextReply};
+ghost use Rattle.peering.specs.Arriving.{acks_if, sent_with, grown};
 
 use crate::node::GroupNode;
+use crate::node::lead::is_memory;
 use group_world::{Epoch, HandleError, Kind, Packet, Party, Place, Status};
-use peering_messages::{
-    packet, refusal_of, rep_to_others, replies, replies_with, reply, same_reply, send,
-};
-use pg_log::{ClassTable, Classes, Entry, LogError, Request, classes_added, legal_lists, refusals};
+use peering_messages::{packet, rep_to_others, replies, replies_with, reply_again};
+use pg_log::{ClassTable, Classes, Entry, Request, classes_added, legal_lists, pairs, refusals};
 use placement::NodeId;
-use replication::commit_point;
+use replication::{Ack, Rep, append_at, commit_point};
 use std::alloc::Global;
 
 /// What a primary has acknowledged and committed after an event, and sends.
@@ -36,8 +32,7 @@ impl<C: Classes> GroupNode<C> {
         table: &ClassTable,
         request: Request,
     ) -> Result<Vec<Packet>, HandleError>
-        requires table { IsPrefix table.now C.classes }
-        requires legal { Legal table.now self.old.state.log }
+        requires legal { IsLegalBy table.now C.classes self.old.state.log }
         ensures done { IfOk result (λ sent. IsDone self.old self.new sent.items (request_step table.now self.old.number self.old.state request)) }
         ensures err { OnErr result (self.new ≡ self.old) }
         ensures why { IfErr result (λ e. IsRefusal (request_step table.now self.old.number self.old.state request) e) }
@@ -51,17 +46,14 @@ impl<C: Classes> GroupNode<C> {
 
     /// A client's request at an active primary.
     fn serve(&mut self, table: &ClassTable, request: Request) -> Result<Vec<Packet>, HandleError>
-        requires table { IsPrefix table.now C.classes }
-        requires legal { Legal table.now self.old.state.log }
+        requires legal { IsLegalBy table.now C.classes self.old.state.log }
         ensures done { IfOk result (λ sent. IsDone self.old self.new sent.items (request_at table.now self.old.number self.old.state request (place_of request.client request.number self.old.state.log))) }
         ensures err { OnErr result (self.new ≡ self.old) }
         ensures why { IfErr result (λ e. IsRefusal (request_at table.now self.old.number self.old.state request (place_of request.client request.number self.old.state.log)) e) }
     {
         match self.group().reply_of(request.client(), request.number()) {
             None => self.append(table, request),
-            Some((place, code, output)) => {
-                self.answer_again(table, &request, place, code, output)
-            }
+            Some((place, _, _)) => self.answer_again(table, &request, place),
         }
     }
 
@@ -71,29 +63,25 @@ impl<C: Classes> GroupNode<C> {
         table: &ClassTable,
         request: &Request,
         place: Place,
-        code: i64,
-        output: &[u8],
     ) -> Result<Vec<Packet>, HandleError>
-        requires table { IsPrefix table.now C.classes }
-        requires legal { Legal table.now self.now.state.log }
-        requires reply { reply_at C.classes self.now.state.log place ≡ Some (record { code = cast_unsigned w64 code; output = output.now }) }
+        requires legal { IsLegalBy table.now C.classes self.now.state.log }
+        requires logged { place_of request.now.client request.now.number self.now.state.log ≡ Some place }
         ensures done { IfOk result (λ sent. IsDone self.now self.now sent.items (request_at table.now self.now.number self.now.state request.now (Some place))) }
         ensures why { IfErr result (λ e. e ≡ HandleError.NoMemory) }
     {
+        pairs();
         if place >= self.committed() {
             return Ok(Vec::new(self.alloc));
         }
-        same_reply(table, self.group(), place);
-        let said = reply(self.alloc, self.number, place, request, code, output)?;
-        let mut sent = Vec::new(self.alloc);
-        send(&mut sent, said)?;
+        let said = reply_again(self.alloc, table, self.number, &self.group, place)?;
+        let mut sent = Vec::with_capacity(self.alloc, 1)?;
+        sent.push_reserved(said);
         Ok(sent)
     }
 
     /// Appends a request that isn't logged.
     fn append(&mut self, table: &ClassTable, request: Request) -> Result<Vec<Packet>, HandleError>
-        requires table { IsPrefix table.now C.classes }
-        requires legal { Legal table.now self.old.state.log }
+        requires legal { IsLegalBy table.now C.classes self.old.state.log }
         ensures done { IfOk result (λ sent. IsDone self.old self.new sent.items (request_at table.now self.old.number self.old.state request None)) }
         ensures err { OnErr result (self.new ≡ self.old) }
         ensures why { IfErr result (λ e. IsRefusal (request_at table.now self.old.number self.old.state request None) e) }
@@ -104,8 +92,7 @@ impl<C: Classes> GroupNode<C> {
 
     /// Keeps the entry that a new request is, and sends it to the others.
     fn keep_next(&mut self, table: &ClassTable, entry: Entry) -> Result<Vec<Packet>, HandleError>
-        requires table { IsPrefix table.now C.classes }
-        requires legal { Legal table.now self.old.state.log }
+        requires legal { IsLegalBy table.now C.classes self.old.state.log }
         requires next { IsNextEntry C.classes self.old.state.log entry }
         requires reply { IsNextReply table.now self.old.state.log entry }
         ensures done { IfOk result (λ sent. IsDone self.old self.new sent.items (append_new table.now self.old.number self.old.state entry.request)) }
@@ -118,10 +105,9 @@ impl<C: Classes> GroupNode<C> {
 
     /// What it has acknowledged and committed, and sends, with the entry of a new request.
     fn commit_new(&self, table: &ClassTable, entry: &Entry) -> Result<Commit, HandleError>
-        requires table { IsPrefix table.now C.classes }
-        requires legal { Legal table.now self.now.state.log }
+        requires legal { IsLegalBy table.now C.classes self.now.state.log }
         requires reply { IsNextReply table.now self.now.state.log entry.now }
-        ensures ok { IfOk result (λ w. grown self.now.state entry.now.request w.acked.items w.point w.sent.items ≡ append_new table.now self.now.number self.now.state entry.now.request) }
+        ensures ok { IfOk result (λ w. grown self.now.state entry.now.request w ≡ append_new table.now self.now.number self.now.state entry.now.request) }
         ensures within { IfOk result (λ w. w.point ≤ length self.now.state.log + 1) }
         ensures err { IfErr result (λ e. e ≡ HandleError.NoMemory) }
     {
@@ -140,8 +126,7 @@ impl<C: Classes> GroupNode<C> {
         entry: &Entry,
         point: Place,
     ) -> Result<Vec<Packet>, HandleError>
-        requires table { IsPrefix table.now C.classes }
-        requires legal { Legal table.now self.now.state.log }
+        requires legal { IsLegalBy table.now C.classes self.now.state.log }
         requires reply { IsNextReply table.now self.now.state.log entry.now }
         requires within { point ≤ length self.now.state.log + 1 }
         ensures ok { IfOk result (λ v. v.items ≡ sent_with table.now self.now.number self.now.state entry.now.request point) }
@@ -172,7 +157,7 @@ impl<C: Classes> GroupNode<C> {
     fn grow(&mut self, entry: Entry, commit: Commit) -> Result<Vec<Packet>, HandleError>
         requires next { IsNextEntry C.classes self.old.state.log entry }
         requires within { commit.point ≤ length self.old.state.log + 1 }
-        ensures done { IfOk result (λ sent. IsDone self.old self.new sent.items (grown self.old.state entry.request commit.acked.items commit.point commit.sent.items)) }
+        ensures done { IfOk result (λ sent. IsDone self.old self.new sent.items (grown self.old.state entry.request commit)) }
         ensures err { OnErr result (self.new ≡ self.old) }
         ensures why { IfErr result (λ e. e ≡ HandleError.NoMemory) }
     {
@@ -186,11 +171,11 @@ impl<C: Classes> GroupNode<C> {
 
     /// The entry that a new request would be. It changes nothing.
     fn next(&self, table: &ClassTable, request: Request) -> Result<Entry, HandleError>
-        requires { IsPrefix table.now C.classes }
+        requires { IsLegalBy table.now C.classes self.now.state.log }
         ensures next { IfOk result (λ e. IsNextEntry C.classes self.now.state.log e) }
         ensures request { IfOk result (λ e. e.request ≡ request) }
         ensures unrefused { IfOk result (λ _. refusal table.now self.now.state.log request ≡ None) }
-        ensures reply { Legal table.now self.now.state.log → IfOk result (λ e. IsNextReply table.now self.now.state.log e) }
+        ensures reply { IfOk result (λ e. IsNextReply table.now self.now.state.log e) }
         ensures why { IfErr result (λ e. IsRefusal (request_at table.now self.now.number self.now.state request None) e) }
     {
         legal_lists();
@@ -198,7 +183,7 @@ impl<C: Classes> GroupNode<C> {
         classes_added();
         match self.group.next_entry(table, request) {
             Ok(entry) => Ok(entry),
-            Err(error) => Err(refusal_of(error)),
+            Err(error) => Err(HandleError::from(error)),
         }
     }
 }
@@ -209,89 +194,63 @@ impl<C: Classes> GroupNode<C> {
         &mut self,
         table: &ClassTable,
         sender: Party,
-        interval: Epoch,
-        place: Place,
-        request: Request,
+        rep: Rep,
     ) -> Result<Vec<Packet>, HandleError>
-        requires table { IsPrefix table.now C.classes }
-        ensures done { IfOk result (λ sent. IsDone self.old self.new sent.items (replicate table.now self.old.number self.old.state sender interval place request)) }
+        requires { IsPrefix table.now C.classes }
+        ensures done { IfOk result (λ sent. IsDone self.old self.new sent.items (replicate table.now self.old.number self.old.state sender rep.epoch rep.place rep.request)) }
         ensures err { OnErr result (self.new ≡ self.old) }
         ensures why { IfErr result (λ e. e ≡ HandleError.NoMemory) }
     {
         let mut sent = Vec::with_capacity(self.alloc, 1)?;
-        if !self.takes_rep(table, interval, place, request)? {
-            return Ok(sent);
+        match self.takes_rep(table, rep)? {
+            None => Ok(sent),
+            Some(length) => {
+                let kind = Kind::Ack(self.interval, length);
+                sent.push_reserved(packet(self.number, sender, kind));
+                Ok(sent)
+            }
         }
-        let kind = Kind::Ack(self.interval, self.group.len());
-        sent.push_reserved(packet(self.number, sender, kind));
-        Ok(sent)
     }
 
-    /// Appends the request of a Rep where it is the next and may follow, and says whether to acknowledge the Rep.
-    fn takes_rep(
-        &mut self,
-        table: &ClassTable,
-        interval: Epoch,
-        place: Place,
-        request: Request,
-    ) -> Result<bool, HandleError>
-        requires table { IsPrefix table.now C.classes }
+    /// Puts the request of a Rep at its place, where it has installed and the request may follow, and gives the length to
+    /// acknowledge, if any.
+    fn takes_rep(&mut self, table: &ClassTable, rep: Rep) -> Result<Option<usize>, HandleError>
+        requires { IsPrefix table.now C.classes }
         ensures number { OnOk result (self.new.number ≡ self.old.number) }
-        ensures acks { IfOk result (λ acks. (sender : Party) → (if acks then and_acks self.old.number sender self.new.state else nothing self.new.state) ≡ replicate table.now self.old.number self.old.state sender interval place request) }
+        ensures acks { IfOk result (λ length. (sender : Party) → acks_if self.old.number sender self.new.state length ≡ replicate table.now self.old.number self.old.state sender rep.epoch rep.place rep.request) }
         ensures err { OnErr result (self.new ≡ self.old) }
         ensures why { IfErr result (λ e. e ≡ HandleError.NoMemory) }
     {
-        if !self.is_at(interval, Status::Installed) {
-            return Ok(false);
+        if !self.is_at(Epoch::new(rep.epoch), Status::Installed) {
+            return Ok(None);
         }
-        let length = self.group.len();
-        if place == length {
-            return self.follow(table, request);
+        match append_at(&mut self.group, table, rep) {
+            Ok(length) => Ok(length),
+            Err(error) => {
+                if is_memory(error) {
+                    return Err(HandleError::NoMemory);
+                }
+                Ok(None)
+            }
         }
-        Ok(place < length)
-    }
-
-    /// Appends a request where it may follow the log, and says whether. Else, and at an error, nothing changes.
-    fn follow(&mut self, table: &ClassTable, request: Request) -> Result<bool, HandleError>
-        requires table { IsPrefix table.now C.classes }
-        ensures may { IfOk result (λ kept. kept ≡ is_none (refusal table.now self.old.state.log request)) }
-        ensures kept { IfOk result (λ kept. self.new ≡ (if kept then with_log self.old (self.old.state.log ++ request ∷ []) else self.old)) }
-        ensures err { OnErr result (self.new ≡ self.old) }
-        ensures why { IfErr result (λ e. e ≡ HandleError.NoMemory) }
-    {
-        let entry = match self.group.next_entry(table, request) {
-            Ok(entry) => entry,
-            Err(LogError::NoMemory) => return Err(HandleError::NoMemory),
-            Err(_) => return Ok(false),
-        };
-        if self.group.keep(entry).is_err() {
-            return Err(HandleError::NoMemory);
-        }
-        Ok(true)
     }
 
     /// An Ack at the primary.
     pub(crate) fn acknowledge(
         &mut self,
         table: &ClassTable,
-        sender: Party,
-        interval: Epoch,
-        length: usize,
+        ack: Ack,
     ) -> Result<Vec<Packet>, HandleError>
-        requires table { IsPrefix table.now C.classes }
-        requires legal { Legal table.now self.old.state.log }
-        ensures done { IfOk result (λ sent. IsDone self.old self.new sent.items (acknowledge table.now self.old.number self.old.state sender interval length)) }
+        requires { IsLegalBy table.now C.classes self.old.state.log }
+        ensures done { IfOk result (λ sent. IsDone self.old self.new sent.items (acknowledge table.now self.old.number self.old.state (Party.Node ack.sender) ack.epoch ack.length)) }
         ensures err { OnErr result (self.new ≡ self.old) }
         ensures why { IfErr result (λ e. e ≡ HandleError.NoMemory) }
     {
-        let Party::Node(member) = sender else {
-            return Ok(Vec::new(self.alloc));
-        };
-        if !self.is_at(interval, Status::Active) {
+        if !self.is_at(Epoch::new(ack.epoch), Status::Active) {
             return Ok(Vec::new(self.alloc));
         }
         let acting = self.members.acting();
-        let acked = raised(self.alloc, &self.acked, acting, member, length)?;
+        let acked = raised(self.alloc, &self.acked, acting, ack.sender, ack.length)?;
         let point = self.committed.max(least_of(self.group.len(), &acked));
         let sent = replies(
             self.alloc,

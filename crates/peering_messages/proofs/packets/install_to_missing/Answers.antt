@@ -22,7 +22,7 @@ loop-node-preserved c =
     let t : List Packet = to_missing n js (drop (k + 1) ns) kind in
     let step : to_missing n js (drop k ns) kind ≡ packet n (ANode m) kind ∷ t =
     ap (λ w. to_missing n js w kind) (drop_more ns k 0 c.loop-node-test.true ∙ ap (λ w. w ∷ drop (k + 1) ns) (sym node))
-    ∙ missing_not n m js (drop (k + 1) ns) kind false (sym c.if-is_among.false ∙ c.is_among.ensures) c.if-eq.ensures in
+    ∙ missing_not n m js (drop (k + 1) ns) kind false (sym c.if-has.false ∙ c.has.ensures) c.if-eq.ensures in
     ap (λ x. x ++ t) c.in_ok-send_install.ensures.ok ∙ append_assoc c.loop-node.sent.items (packet n (ANode m) kind ∷ []) t
     ∙ ap (λ x. c.loop-node.sent.items ++ x) (sym step) ∙ c.loop-node.invariant
 
@@ -37,11 +37,11 @@ loop-node-preserved-then-eq c =
     let node : m ≡ get_or ns k 0 = get_or_read ns k m c.loop-node-test.true c.node-item.is 0 in
     let step : to_missing n js (drop k ns) kind ≡ to_missing n js (drop (k + 1) ns) kind =
     ap (λ w. to_missing n js w kind) (drop_more ns k 0 c.loop-node-test.true ∙ ap (λ w. w ∷ drop (k + 1) ns) (sym node))
-    ∙ missing_not n m js (drop (k + 1) ns) kind true (sym c.if-is_among.false ∙ c.is_among.ensures) c.if-eq.ensures in
+    ∙ missing_not n m js (drop (k + 1) ns) kind true (sym c.if-has.false ∙ c.has.ensures) c.if-eq.ensures in
     ap (λ x. c.loop-node.sent.items ++ x) (sym step) ∙ c.loop-node.invariant
 
-pub loop-node-preserved-then-is_among : goal.loop-node-preserved-then-is_among
-loop-node-preserved-then-is_among c =
+pub loop-node-preserved-then-has : goal.loop-node-preserved-then-has
+loop-node-preserved-then-has c =
     let n : ℕ = c.args.number in
     let k : ℕ = c.loop-node.node-index in
     let ns : List ℕ = c.args.nodes.now in
@@ -51,7 +51,7 @@ loop-node-preserved-then-is_among c =
     let node : m ≡ get_or ns k 0 = get_or_read ns k m c.loop-node-test.true c.node-item.is 0 in
     let step : to_missing n js (drop k ns) kind ≡ to_missing n js (drop (k + 1) ns) kind =
     ap (λ w. to_missing n js w kind) (drop_more ns k 0 c.loop-node-test.true ∙ ap (λ w. w ∷ drop (k + 1) ns) (sym node))
-    ∙ missing_joined n m js (drop (k + 1) ns) kind (sym c.if-is_among.true ∙ c.is_among.ensures) in
+    ∙ missing_joined n m js (drop (k + 1) ns) kind (sym c.if-has.true ∙ c.has.ensures) in
     ap (λ x. c.loop-node.sent.items ++ x) (sym step) ∙ c.loop-node.invariant
 
 pub returns-clause-ok : goal.returns-clause-ok

@@ -1,4 +1,4 @@
-use Rattle.std.proofs.Common.{◌∙◌, ap, sym, refl, subst, cond, nat_lt, arith}
+use Rattle.std.proofs.Common.{◌∙◌, ap, sym, subst, cond, nat_lt, arith}
 use Rattle.std.proofs.lemmas.Grind.{common_steps}
 use Rattle.group_world.specs.Node.{Outcome, nothing, and_sends, packet}
 use Rattle.group_world.specs.declared.message.Kind.TheVariants.{Log as LogOf}
@@ -10,12 +10,11 @@ use Rattle.peering.proofs.node.GroupNode.answer_query.Goals as goal
 pub returns-clause-done : goal.returns-clause-done
 returns-clause-done g c =
     let n = c.args.self.now in
-    let a = c.in_ok-arrival.arrival in
     let e = c.in_ok-arrival.ensures.ok in
     let o : Outcome = arrive n.number n.state c.args.map in
     let answers = ap (λ b. cond b (nothing n.state) (and_sends o (packet n.number c.args.asker (LogOf o.node.interval o.node.log)))) (sym c.ignores.ensures ∙ c.if-ignores.false) in
     let P : Outcome → Type 0 = λ w. IsDone n c.moves.new.node c.moves.result.items w in
-    subst P (sym answers) (record { number = c.moves.ensures.number; state = c.moves.ensures.state ∙ e.0; sent = c.moves.ensures.sent ∙ e.1; unrefused = refl })
+    subst P (sym answers) (record { number = c.moves.ensures.number; state = c.moves.ensures.state ∙ e.node; sent = c.moves.ensures.sent ∙ e.sent; unrefused = e.unrefused })
 
 pub answering-requires : goal.answering-requires
 answering-requires g c =

@@ -16,7 +16,7 @@ returns-clause-ok g c =
     let point : c.max-point.result ≡ max n.state.committed (least_of k c.in_ok-acked.acked.items) =
     c.max-point.ensures ∙ ap (max c.self.inside.committed) (c.least_of.ensures.value ∙ ap (least_of k) c.deref-2.ensures.value)
     ∙ ap (λ z. max z.state.committed (least_of k c.in_ok-acked.acked.items)) c.self.view_is in
-    grown_is c.args.table.now n.number k n.state c.args.entry.now.request c.in_ok-acked.acked.items c.max-point.result c.in_ok-sent.sent.items longer acked point c.in_ok-sent.ensures.ok
+    grown_is c.args.table.now n.number k n.state c.args.entry.now.request (record { acked = c.in_ok-acked.acked; point = c.max-point.result; sent = c.in_ok-sent.sent }) longer acked point c.in_ok-sent.ensures.ok
 
 pub sent_with-requires-clause-within : goal.sent_with-requires-clause-within
 sent_with-requires-clause-within g c = grind (arith, common_steps)

@@ -12,8 +12,8 @@ returns-in-Ok-clause-reply g c =
     let P : List ClientRequest → Type 0 = λ w. IsNextReply table w c.in-Ok.entry in
     let L : List ClientRequest → Type 0 = Legal table in
     let log : c.self.inside.group ≡ c.args.self.now.state.log = ap (λ n. n.state.log) c.self.view_is in
-    λ l. subst P log (next_reply c.legal_lists.ensures.append c.refusals.ensures.requests c.classes_added.ensures table g.C.Classes.classes c.self.inside.group c.args.request c.in-Ok.entry _
-    c.requires c.in-Ok.ensures.request c.in-Ok.ensures.unrefused c.in-Ok.ensures.reply (subst L (sym log) l) refl)
+    subst P log (next_reply c.legal_lists.ensures.append c.refusals.ensures.requests c.classes_added.ensures table g.C.Classes.classes c.self.inside.group c.args.request c.in-Ok.entry _
+    c.requires.first c.in-Ok.ensures.request c.in-Ok.ensures.unrefused c.in-Ok.ensures.reply (subst L (sym log) c.requires.legal) refl)
 
 pub returns-in-Ok-clause-next : goal.returns-in-Ok-clause-next
 returns-in-Ok-clause-next g c = grind (arith, common_steps)

@@ -1,7 +1,6 @@
 use Rattle.std.proofs.Common.{List, ap, drop, sym, subst, take, ◌∙◌, ◌++◌, ◌∷◌, []}
 use Rattle.pg_log.specs.Requests.{ClientRequest}
-use Rattle.pg_log.specs.Log.{Legal}
-use Rattle.peering_messages.specs.Sending.{IsNextReply}
+use Rattle.peering_messages.specs.Sending.{IsLegalBy, IsNextReply}
 use Rattle.group_world.specs.Node.{to_others}
 use Rattle.group_world.specs.Rules.{replies_from}
 use Rattle.group_world.specs.declared.message.Kind.TheVariants.{Rep}
@@ -11,7 +10,7 @@ use Rattle.peering.proofs.node.GroupNode.sent_with.Goals as goal
 
 pub replies_with-requires-clause-legal : goal.replies_with-requires-clause-legal
 replies_with-requires-clause-legal g c =
-    let L : List ClientRequest → Type 0 = Legal c.args.table.now in
+    let L : List ClientRequest → Type 0 = IsLegalBy c.args.table.now g.C.Classes.classes in
     subst L (sym (ap (λ n. n.state.log) c.self.view_is)) c.requires.legal
 
 pub replies_with-requires-clause-next : goal.replies_with-requires-clause-next

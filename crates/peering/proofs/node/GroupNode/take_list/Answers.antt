@@ -1,6 +1,6 @@
 use Rattle.std.proofs.Common.{ℕ, List, Bool, ◌≡◌, ◌≤◌, length, is_none, ap, sym, ◌∙◌, subst, IfOk}
 use Rattle.pg_log.specs.Requests.{ClientRequest}
-use Rattle.pg_log.specs.Log.{Legal}
+use Rattle.peering_messages.specs.Sending.{IsLegalBy}
 use Rattle.pg_log.specs.Refusals.{first_refusal}
 use Rattle.group_world.specs.Node.{committed_list}
 use Rattle.group_world.specs.Rules.{begins}
@@ -22,8 +22,8 @@ returns-clause-status g c = ap (λ n. n.state.status) c.self.view_is
 
 pub become_list-requires-clause-legal : goal.become_list-requires-clause-legal
 become_list-requires-clause-legal g c =
-    let L : List ClientRequest → Type 0 = Legal c.args.table.now in
-    subst L (sym (ap (λ n. n.state.log) c.self.view_is)) c.requires.legal
+    let L : List ClientRequest → Type 0 = IsLegalBy c.args.table.now g.C.Classes.classes in
+    subst L (sym (ap (λ n. n.state.log) c.self.view_is)) c.requires
 
 pub become_list-requires-clause-list : goal.become_list-requires-clause-list
 become_list-requires-clause-list g c =

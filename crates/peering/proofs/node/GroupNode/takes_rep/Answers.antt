@@ -1,34 +1,47 @@
-use Rattle.std.proofs.Common.{◌≡◌, ◌&&◌, false, eqb, length, nat_lt, cond, ap, sym, ◌∙◌}
+use Rattle.std.proofs.Common.{◌≡◌, ◌&&◌, ℕ, Option, Result, IfOk, false, eqb, ap, sym, ◌∙◌, subst}
+use denote.Enum.Bare.{sameb}
 use Rattle.std.proofs.lemmas.Bool.{and_parts}
-use Rattle.group_world.specs.Node.{is_installed, nothing}
-use Rattle.group_world.specs.Rules.{and_acks}
-use Rattle.peering.proofs.Statuses.{installed_is, number_kept, replicates_at_end, replicates_elsewhere, replicates_nowhere}
+use Rattle.group_world.specs.contracts.status.Status.{the_type}
+use Rattle.group_world.specs.declared.status.Status.TheVariants.{Installed}
+use Rattle.group_world.specs.Node.{NodeState, is_installed, nothing}
+use Rattle.group_world.specs.Rules.{replicate}
+use Rattle.group_world.specs.declared.handle_error.HandleError.{HandleError}
+use Rattle.group_world.specs.declared.party.Party.{Party}
+use Rattle.peering.specs.Arriving.{acks_if}
+use Rattle.peering.proofs.Statuses.{installed_is}
+use Rattle.peering.proofs.Placing.{placed_ok, placed_not, placed_nowhere}
 use Rattle.peering.proofs.node.GroupNode.takes_rep.Goals as goal
+use Rattle.peering.proofs.node.GroupNode.takes_rep.Goals.{in-Ok, in-Err+else-is_memory}
 
 pub returns-then-not-is_at-clause-acks : goal.returns-then-not-is_at-clause-acks
 returns-then-not-is_at-clause-acks g c =
     let n = c.args.self.now in
     let s = n.state in
-    let apart : (eqb c.args.interval s.interval && is_installed s.status) ≡ false =
-    ap (λ b. eqb c.args.interval s.interval && b) (sym (installed_is s.status)) ∙ sym c.is_at.ensures ∙ c.if-not-is_at.true in
-    λ sender. replicates_nowhere c.args.table.now n.number s sender c.args.interval c.args.place c.args.request apart
-
-pub returns-then-place-length-clause-acks : goal.returns-then-place-length-clause-acks
-returns-then-place-length-clause-acks g c =
-    let n = c.args.self.now in
-    let at = and_parts _ _ (sym c.is_at.ensures ∙ c.if-not-is_at.false) in
-    let last : c.args.place ≡ length n.state.log = c.if-place-length.true ∙ c.len-length.ensures.value ∙ ap (λ v. length v.state.log) c.self.view_is in
-    replicates_at_end c.follow.result c.args.table.now n c.follow.new.self c.args.interval c.args.place c.args.request at.0 (sym (installed_is n.state.status) ∙ at.1) last c.follow.ensures.may c.follow.ensures.kept
-
-pub returns-then-place-length-clause-number : goal.returns-then-place-length-clause-number
-returns-then-place-length-clause-number g c = number_kept c.follow.result c.args.self.now c.follow.new.self _ c.follow.ensures.kept
+    let rep = c.args.rep in
+    let tested = c.is_at.ensures ∙ ap (λ e. eqb e s.interval && sameb the_type s.status Installed) c.new.ensures in
+    let apart : (eqb rep.epoch s.interval && is_installed s.status) ≡ false =
+    ap (λ b. eqb rep.epoch s.interval && b) (sym (installed_is s.status)) ∙ sym tested ∙ c.if-not-is_at.true in
+    λ sender. placed_nowhere c.args.table.now n.number s sender rep.epoch rep.place rep.request apart
 
 pub returns-clause-acks : goal.returns-clause-acks
 returns-clause-acks g c =
     let n = c.args.self.now in
     let s = n.state in
-    let at = and_parts _ _ (sym c.is_at.ensures ∙ c.if-not-is_at.false) in
-    let long : c.len-length.result ≡ length s.log = c.len-length.ensures.value ∙ ap (λ v. length v.state.log) c.self.view_is in
-    λ sender.
-    ap (λ j. cond (nat_lt c.args.place j) (and_acks n.number sender s) (nothing s)) long
-    ∙ replicates_elsewhere c.args.table.now n.number s sender c.args.interval c.args.place c.args.request at.0 (sym (installed_is s.status) ∙ at.1) (λ e. c.if-place-length.false (e ∙ sym long))
+    let rep = c.args.rep in
+    let own = c.self.inside in
+    let new : NodeState = record { interval = own.interval; members = own.members; status = own.status; log = c.append_at.new.group; committed = own.committed; joined = own.joined.items; acked = own.acked.items } in
+    let P : Result (Option ℕ) HandleError → Type 0 = λ w. IfOk w (λ length. (sender : Party) → acks_if n.number sender new length ≡ replicate c.args.table.now n.number s sender rep.epoch rep.place rep.request) in
+    let tested = c.is_at.ensures ∙ ap (λ e. eqb e s.interval && sameb the_type s.status Installed) c.new.ensures in
+    let at = and_parts _ _ (sym tested ∙ c.if-not-is_at.false) in
+    let installed = sym (installed_is s.status) ∙ at.1 in
+    let log = ap (λ v. v.state.log) c.self.view_is in
+    elim c.match-append_at.branch [
+      | in-Ok w ↦ subst P (sym w.result-is) (λ sender.
+          placed_ok c.args.table.now n.number s new own.group sender rep.epoch rep.place rep.request w.in-Ok.length log at.0 installed
+          (λ i. record ((c.self.view_is i).state) { log = w.in-Ok.ensures.ok i }) w.in-Ok.ensures.answer)
+      | in-Err+else-is_memory w ↦ subst P (sym w.result-is) (λ sender.
+          let kept = w.in-Err.ensures.refused ∙ log in
+          (λ i. nothing (record ((c.self.view_is i).state) { log = kept i }))
+          ∙ placed_not c.args.table.now n.number s own.group sender rep.epoch rep.place rep.request w.in-Err.error log at.0 installed
+          (sym w.is_memory.ensures ∙ w.if-is_memory.false) w.in-Err.ensures.answer)
+    ]

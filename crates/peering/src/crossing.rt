@@ -1,0 +1,29 @@
+//! Which of the values here may go to another thread, for the proofs of the crates above. Each function does nothing.
+ghost use denote.Param.Send.{IsSend};
+ghost use Rattle.peering.specs.contracts.monitor.Monitor as monitor;
+ghost use Rattle.peering.specs.contracts.node.GroupNode as node;
+
+use crate::monitor::Monitor;
+use group_world::map_crosses;
+use pg_log::{Classes, group_crosses};
+
+/// Values of the type may go to another thread.
+fn sends<T: Send>()
+    ensures { IsSend T.row }
+{}
+
+/// A monitor may go to another thread. So threads may share a lock on it.
+pub fn monitor_crosses()
+    ensures { IsSend monitor.the_row }
+{
+    map_crosses();
+    sends::<Monitor>()
+}
+
+/// A node may go to another thread where the name of its classes may. So threads may share a lock on it.
+pub fn node_crosses<C: Classes + Send>()
+    ensures { IsSend (node.the_row C.row (record { classes = C.classes })) }
+{
+    group_crosses::<C>();
+    map_crosses()
+}
