@@ -1,0 +1,2 @@
+-- A reader must believe Classes.
+pub mod Classes
