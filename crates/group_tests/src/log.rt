@@ -1,7 +1,9 @@
 mod added;
 mod adopt;
 mod append;
+mod class_tests;
 mod full;
+mod lists;
 mod replay;
 mod undone;
 
@@ -12,8 +14,9 @@ use super::requests::{client, number, request};
 use super::script::go_through;
 use interp::ClassTable;
 use pg_log::{
-    ClientId, LogError, Request, RequestNumber, adopting, classes_added, folds, legal_lists,
-    objects_within_limits, pairs, refusals, replies, undoing,
+    ClientId, LogError, Request, RequestNumber, adopting, classes_added, entry_crosses, folds,
+    legal_lists, objects_within_limits, pairs, refusals, replies, request_crosses, table_crosses,
+    undoing,
 };
 use std::alloc::Global;
 use std::process::Abort;
@@ -123,5 +126,8 @@ fn laws_do_nothing(rt: HostRuntime) {
     adopting();
     refusals();
     objects_within_limits();
+    request_crosses();
+    entry_crosses();
+    table_crosses();
     assert!(rt; LogError::InputTooLong.number() == 6 && LogError::NoClass.name() == "NoClass");
 }

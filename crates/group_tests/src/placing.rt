@@ -3,7 +3,8 @@ use super::nodes::{are_nodes, nodes};
 use super::printed::are_printed;
 use super::words::{halves, next_long, next_number};
 use placement::{
-    ClusterMap, GROUP_LIMIT, NodeId, PlacementError, acting, group_of, ranking, score,
+    ClusterMap, GROUP_LIMIT, NodeId, PlacementError, acting, acting_sets as acting_sets_act,
+    group_of, has, is_acting, ranking, score,
 };
 use std::alloc::Global;
 use std::process::Abort;
@@ -138,4 +139,35 @@ fn printed(rt: HostRuntime) {
     let text = "1 NoneUp\n2 Limit\n3 NoMemory";
     assert!(rt; are_printed(&rt, rt.alloc(), &REFUSALS, text));
     ranking();
+    acting_sets_act();
+}
+
+/// Nodes, and whether they may act: one to three, each below 16, none twice.
+const MAY_ACT: &str = "| no
+0 | yes
+15 | yes
+16 | no
+2 4 1 | yes
+2 4 2 | no
+3 18446744073709551615 | no
+1 2 3 4 | no";
+
+#[test]
+fn lists_that_may_act(rt: HostRuntime) {
+    for line in MAY_ACT.lines() {
+        let (list, wanted) = halves(line, '|');
+        let may_act = is_acting(&nodes(&rt, rt.alloc(), list));
+        see(&rt, may_act == (wanted == "yes"), line);
+    }
+}
+
+/// Whether the number of a node is among those, of which none stands twice.
+fn is_among(nodes: &[NodeId], number: u64) -> bool {
+    placement::are_nodes(nodes) && has(NodeId::new(number), nodes)
+}
+
+#[test]
+fn among_nodes(rt: HostRuntime) {
+    let nodes = nodes(&rt, rt.alloc(), "1 2 3 4");
+    assert!(rt; is_among(&nodes, 1) && is_among(&nodes, 4) && !is_among(&nodes, 0));
 }

@@ -10,7 +10,9 @@ use super::verb::{Verb, verb_of};
 use super::words::{halves, is_code, is_number, number_of};
 use interp::ClassTable;
 use object_store::ObjectName;
-use pg_log::{Classes, Group, GroupWork, LogError, Request, with_group};
+use pg_log::{
+    Classes, Group, GroupWork, LogError, Request, copy_log, copy_requests, list_refusal, with_group,
+};
 use replication::{Rep, append_at};
 use std::alloc::Global;
 use std::mem::replace;
@@ -136,11 +138,17 @@ fn is_found<C: Classes, R: Abort>(
     line: &Line<'_>,
 ) -> bool {
     match line.verb {
-        Verb::Length => is_number(line.wanted, group.len() as u64),
+        Verb::Length => has_length(rt, alloc, group, line.wanted),
         Verb::Code => has_code(group, number_of(rt, line.said) as usize, line.wanted),
         Verb::Reply => is_logged(rt, group, line),
         _ => has_object(rt, alloc, group, line.wanted),
     }
+}
+
+/// Whether the log has that length, and so has its copied list.
+fn has_length<C: Classes, R: Abort>(rt: &R, alloc: Global, group: &Group<C>, wanted: &str) -> bool {
+    let list = copy_log(alloc, group.entries()).expect(rt, "memory");
+    is_number(wanted, group.len() as u64) & is_number(wanted, list.len() as u64)
 }
 
 /// Whether an answer is that one: a place or a length, or a refusal's name.
@@ -227,7 +235,23 @@ fn is_taken<C: Classes, R: Abort>(
     requires { IsPrefix table.now C.classes }
 {
     let list = list_of(rt, alloc, line.first, line.said);
-    is_answer(take(rt, alloc, table, group, line.verb, &list), line.wanted)
+    let is_tested = !matches!(line.verb, Verb::Replay)
+        || is_tested(rt, alloc, table, &list, line.wanted);
+    is_tested & is_answer(take(rt, alloc, table, group, line.verb, &list), line.wanted)
+}
+
+/// Whether the test of a list tells the refusal that its replay answers, or none where that answers a length.
+fn is_tested<R: Abort>(
+    rt: &R,
+    alloc: Global,
+    table: &ClassTable,
+    list: &[Request],
+    wanted: &str,
+) -> bool {
+    match list_refusal(alloc, table, list).expect(rt, "memory") {
+        Some(why) => why.name() == wanted,
+        None => is_number(wanted, list.len() as u64),
+    }
 }
 
 /// Appends copies of the requests of a list. It gives the log's length.
@@ -240,8 +264,7 @@ fn fill<C: Classes, R: Abort>(
 ) -> Result<usize, LogError>
     requires { IsPrefix table.now C.classes }
 {
-    for request in list {
-        let request = request.copy(alloc).expect(rt, "memory");
+    for request in copy_requests(alloc, list).expect(rt, "memory") {
         let _ = group.append(table, request).expect(rt, "room");
     }
     Ok(group.len())

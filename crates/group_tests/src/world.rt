@@ -4,9 +4,10 @@ use super::nodes::nodes;
 use super::printed::are_printed;
 use group_world::{
     Answer, Epoch, GroupMap, HandleError, Kind, Message, Messages, MonitorError, Packet, Party,
-    Requests, agreement, nothing_is_cut, worked_runs,
+    Requests, agreement, event_crosses, kept_stays_activated, map_crosses, message_crosses,
+    nothing_is_cut, refusals_are_deserved, replies_are_committed, worked_runs,
 };
-use pg_log::Request;
+use pg_log::{LogError, Request};
 use placement::NodeId;
 use std::alloc::Global;
 use std::process::Abort;
@@ -140,6 +141,24 @@ fn are_named() -> bool {
         && MonitorError::BadActing.name() == "BadActing"
 }
 
+/// The log's refusals, in the order of their numbers.
+const LOG_REFUSALS: [LogError; 6] = [
+    LogError::LogFull,
+    LogError::StaleNumber,
+    LogError::NoMemory,
+    LogError::NoClass,
+    LogError::NoMethod,
+    LogError::InputTooLong,
+];
+
+/// A node gives the log's refusals by the same names.
+#[test]
+fn refusals_of_the_log(rt: HostRuntime) {
+    for why in LOG_REFUSALS {
+        see(&rt, HandleError::from(why).name() == why.name(), why.name());
+    }
+}
+
 #[test]
 fn numbers_and_names(rt: HostRuntime) {
     assert!(rt; are_named());
@@ -150,5 +169,11 @@ fn laws_do_nothing(rt: HostRuntime) {
     agreement();
     nothing_is_cut();
     worked_runs();
+    replies_are_committed();
+    refusals_are_deserved();
+    kept_stays_activated();
+    map_crosses();
+    message_crosses();
+    event_crosses();
     assert!(rt; Epoch::new(u32::MAX).get() == 4_294_967_295);
 }
