@@ -1,4 +1,4 @@
-use Rattle.std.proofs.Common.{rules, arith, ◌∙◌}
+use Rattle.std.proofs.Common.{rules}
 use Rattle.class_tool.specs.Packing.{MethodsFail}
 use Rattle.class_tool.specs.declared.failure.Failure.TheVariants.{NoMemory}
 use Rattle.class_tool.proofs.Packed.{if_err, next_fails, next_read}
