@@ -23,4 +23,6 @@ mod table;
 #[cfg(test)]
 mod theorem;
 #[cfg(test)]
+mod unusable;
+#[cfg(test)]
 mod words;

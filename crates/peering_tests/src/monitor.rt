@@ -1,8 +1,8 @@
-//! The monitor's refusals, and copies.
+//! The monitor's refusals, copies, and maps that are made apart from keeping them.
 use super::checks::see;
 use super::nodes::nodes;
 use group_world::{Epoch, MonitorError};
-use peering::Monitor;
+use peering::{Monitor, monitor_crosses};
 use placement::NodeId;
 use std::alloc::Global;
 use std::process::Abort;
@@ -99,4 +99,61 @@ fn copies(rt: HostRuntime) {
         is_made && is_copied(&rt, rt.alloc(), &monitor),
         "a copy",
     );
+}
+
+/// The nodes of a map, its epoch, its interval, and the interval that was activated before it. After each of the first
+/// two maps its interval is activated.
+const APART: &str = "
+1 2 = 1 1 0
+1 2 = 2 1 0
+2 1 = 3 3 1
+2 1 = 4 3 1
+1 2 = 5 5 1";
+
+/// Whether the newest map has those numbers.
+fn is_newest(monitor: &Monitor, numbers: &[NodeId]) -> bool {
+    let map = monitor.newest();
+    match numbers {
+        [epoch, interval, prev] => {
+            u64::from(map.epoch().get()) == epoch.get()
+                && u64::from(map.interval().get()) == interval.get()
+                && u64::from(map.prev().get()) == prev.get()
+        }
+        _ => false,
+    }
+}
+
+/// Whether making the monitor's next map changes nothing, and keeping it makes it the newest.
+fn is_kept(alloc: Global, monitor: &mut Monitor, acting: &[NodeId], numbers: &[NodeId]) -> bool {
+    let before = monitor.newest().epoch();
+    let Ok(map) = monitor.next_map(alloc, acting) else {
+        return false;
+    };
+    let is_apart = monitor.newest().epoch() == before;
+    monitor.keep(map);
+    is_apart && is_newest(monitor, numbers)
+}
+
+/// Whether a line's map is made so.
+fn is_as_said<R: Abort>(rt: &R, alloc: Global, monitor: &mut Monitor, line: &str) -> bool {
+    match line.split_once(" = ") {
+        None => false,
+        Some((acting, numbers)) => {
+            let acting = nodes(rt, alloc, acting);
+            let numbers = nodes(rt, alloc, numbers);
+            is_kept(alloc, monitor, &acting, &numbers)
+        }
+    }
+}
+
+#[test]
+fn maps_made_apart(rt: HostRuntime) {
+    let mut monitor = Monitor::new(rt.alloc());
+    for line in APART.trim_start().lines() {
+        see(&rt, is_as_said(&rt, rt.alloc(), &mut monitor, line), line);
+        if monitor.newest().epoch().get() <= 2 {
+            see(&rt, activates(&mut monitor, 1).is_none(), "interval 1");
+        }
+    }
+    monitor_crosses();
 }
