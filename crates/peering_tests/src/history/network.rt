@@ -8,7 +8,7 @@ use group_world::{
     Status,
 };
 use peering::{GroupNode, Monitor};
-use pg_log::{ClassTable, Classes, Request};
+use pg_log::{ClassTable, Classes, Request, are_same_requests};
 use placement::NodeId;
 use replication::{PackedLog, pack_log, unpack_log};
 use std::alloc::Global;
@@ -410,8 +410,8 @@ fn is_wanted<C: Classes>(node: &GroupNode<C>, kind: &Kind) -> bool {
 /// Whether a message has that list.
 fn has_list(kind: &Kind, list: &[Request]) -> bool {
     match kind {
-        Kind::Log(_, whole) => are_same(list, whole.items()),
-        Kind::Install(_, whole) => are_same(list, whole.items()),
+        Kind::Log(_, whole) => are_same_requests(list, whole.items()),
+        Kind::Install(_, whole) => are_same_requests(list, whole.items()),
         _ => false,
     }
 }
@@ -463,19 +463,6 @@ fn copy<R: Abort>(rt: &R, alloc: Global, kind: &Kind) -> Kind {
     }
 }
 
-/// Whether the lists have equal requests.
-fn are_same(list: &[Request], other: &[Request]) -> bool {
-    if list.len() != other.len() {
-        return false;
-    }
-    for place in 0..list.len() {
-        if !list[place].is(&other[place]) {
-            return false;
-        }
-    }
-    true
-}
-
 /// Whether the messages are equal; of those that a node sends again.
 fn is_same(packet: &Packet, other: &Packet) -> bool {
     let parties = packet.receiver == other.receiver
@@ -487,7 +474,7 @@ fn is_same_kind(kind: &Kind, other: &Kind) -> bool {
     match (kind, other) {
         (Kind::Query(map), Kind::Query(of)) => is_same_map(map, of),
         (Kind::Install(map, list), Kind::Install(of, others)) => {
-            is_same_map(map, of) && are_same(list.items(), others.items())
+            is_same_map(map, of) && are_same_requests(list.items(), others.items())
         }
         (Kind::AskActivate(interval), Kind::AskActivate(of)) => *interval == *of,
         (Kind::Rep(interval, place, request), Kind::Rep(of, at, wanted)) => {
