@@ -2,3 +2,4 @@
 pub mod Cell
 pub mod Posts
 pub mod Answering
+pub mod Turns

@@ -2,10 +2,7 @@
 use Rattle.std.specs.Prelude.{◌≡◌, ℕ, List, Some, slice_get}
 use Rattle.pg_log.specs.Requests.{ClientRequest}
 use Rattle.pg_log.specs.Log.{Classes, Legal, Reply, reply_at}
-use Rattle.pg_log.specs.Refusals.{refusal_of_class}
-use Rattle.pg_log.specs.declared.log_error.LogError.TheVariants as log
 use Rattle.group_world.specs.declared.handle_error.HandleError.{HandleError}
-use Rattle.group_world.specs.declared.handle_error.HandleError.TheVariants as node
 use Rattle.commit_board.specs.Lists.{list_at}
 use Rattle.group_cell.specs.Cell.{CellState}
 
@@ -15,12 +12,6 @@ pub record Stands (classes : Classes) (list : List ClientRequest) (place : ℕ) 
   pub there : slice_get list place ≡ Some request
   pub once : (k : ℕ) → slice_get list k ≡ Some request → k ≡ place
   pub gives : reply_at classes list place ≡ Some answer
-
--- What a refusal by class, method or input says of the request is so by the loaded classes. Of other refusals nothing is said.
-pub record IsDeserved (classes : Classes) (request : ClientRequest) (why : HandleError) : Type 0 where
-  pub class : why ≡ node.NoClass → refusal_of_class (slice_get classes request.class) request ≡ Some log.NoClass
-  pub method : why ≡ node.NoMethod → refusal_of_class (slice_get classes request.class) request ≡ Some log.NoMethod
-  pub input : why ≡ node.InputTooLong → refusal_of_class (slice_get classes request.class) request ≡ Some log.InputTooLong
 
 -- a reply: the request, its row and place, the answer, and what the reply's note knows of each row
 pub record PostedReply : Type 0 where

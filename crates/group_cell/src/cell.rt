@@ -1,9 +1,13 @@
-ghost use Rattle.std.specs.Prelude.{◌≡◌, ◌≢◌, ℕ, ◌≤◌, [], length, take, IfOk, IfErr, OnErr, MatchOption};
+ghost use Rattle.std.specs.Prelude.{◌≡◌, ◌≢◌, ℕ, ◌<◌, ◌≤◌, [], length, take, slice_get, Some, IfOk, IfErr, OnErr, MatchOption};
+ghost use Rattle.std.specs.List.{Contains};
 ghost use mathlib.Core.List.{IsPrefix};
 ghost use Rattle.pg_log.specs.declared.group.TheConstants.{LOG_LIMIT};
 ghost use Rattle.pg_log.specs.Entries.{requests_of};
+ghost use Rattle.pg_log.specs.Log.{reply_at};
 ghost use Rattle.group_world.specs.Node.{committed_list, fresh};
 ghost use Rattle.group_world.specs.Rules.{local_step};
+ghost use Rattle.group_world.specs.World.{IsTrueOf};
+ghost use Rattle.group_world.specs.declared.message.Packet.{Packet};
 ghost use Rattle.peering.specs.Numbered.{IsDone, IsRefusal};
 ghost use Rattle.commit_board.specs.Lists.{list_at};
 ghost use Rattle.commit_board.specs.Tokens.{writer_of};
@@ -12,7 +16,7 @@ ghost use Rattle.group_cell.specs.Posts.{IsReplyOf};
 use crate::board_name::BoardName;
 use crate::reply::Reply;
 use commit_board::{Board, Note, Writer};
-use group_world::{Answer, Event, HandleError, Messages, Place};
+use group_world::{Answer, Event, HandleError, Messages, Place, replies_are_committed};
 use peering::{GroupNode, nothing_is_cut};
 use pg_log::{ClassTable, Entry, NoMemory, legal_lists, pairs, replies};
 use std::alloc::Global;
@@ -85,11 +89,13 @@ impl<N: BoardName> GroupCell<N> {
         ensures done { IfOk result (λ sent. IsDone self.old.node self.new.node sent (local_step N.classes self.old.node.number self.old.node.state event)) }
         ensures why { IfErr result (λ e. IsRefusal (local_step N.classes self.old.node.number self.old.node.state event) e) }
         ensures refused { OnErr result (self.new ≡ self.old) }
+        ensures replies { IfOk result (λ sent. (p : Packet) → Contains sent p → IsTrueOf N.classes self.new.written p.message.kind) }
         ensures written { self.new.written ≡ committed_list self.new.node.state }
         ensures grew { IsPrefix self.old.written self.new.written }
         ensures row { self.new.row ≡ self.old.row }
     {
         nothing_is_cut();
+        replies_are_committed();
         let before = self.node.committed();
         let _ = self.node.group().entries();
         let sent = self.node.handle(table, event)?;
@@ -119,8 +125,6 @@ impl<N: BoardName> GroupCell<N> {
         ensures same { self.new ≡ self.old }
         ensures reply { IfOk result (λ o. MatchOption o (length self.old.written ≤ place) (IsReplyOf self.old place)) }
     {
-        legal_lists();
-        pairs();
         replies();
         if place >= self.node.committed() {
             return Ok(None);
@@ -129,17 +133,39 @@ impl<N: BoardName> GroupCell<N> {
             return Ok(None);
         };
         let answer = Answer::new(code, Vec::from_slice(alloc, output)?);
+        self.reply_with(alloc, board, place, answer).map(Some)
+    }
+
+    /// The reply of a committed place, of which the answer is known. It costs a copy of the request.
+    pub(crate) fn reply_with(
+        &mut self,
+        alloc: Global,
+        board: &Board,
+        place: Place,
+        answer: Answer,
+    ) -> Result<Reply<N>, NoMemory>
+        requires board { board.now ≡ N.board }
+        requires committed { place < length self.old.written }
+        requires answer { reply_at N.classes self.old.written place ≡ Some answer }
+        ensures same { self.new ≡ self.old }
+        ensures reply { IfOk result (IsReplyOf self.old place) }
+        ensures answer { IfOk result (λ r. r.answer ≡ answer) }
+        ensures request { IfOk result (λ r. slice_get self.old.written place ≡ Some r.request) }
+    {
+        legal_lists();
+        pairs();
+        let _ = self.node.committed();
         let Ok(request) = self.node.group().entries()[place].request.copy(alloc) else {
             return Err(NoMemory);
         };
-        Ok(Some(Reply {
+        Ok(Reply {
             request,
             row: self.writer.row(),
             place,
             answer,
             note: board.share(&mut self.writer),
             of: PhantomData,
-        }))
+        })
     }
 
     /// A note of the row's list, which is what the node has committed. It takes no memory, and reads nothing of the board.

@@ -4,16 +4,21 @@
 //! commits to the row exactly what became committed. A `Reply` is made of a cell alone: by its type the whole request
 //! stands at the named place, once, in a legal list that its note knows of the row, and is answered so there. A
 //! `Refused` is true of its request and the loaded classes. A `Post` is either, and tells which request it answers.
+//! `turn` is what a worker does with one operation while it holds the lock: what goes out is exactly what the step sent,
+//! packed, or the refusal.
 #![tactic(auto)]
 
 mod board_name;
 mod cell;
+mod outgoing;
 mod post;
 mod refused;
 mod reply;
+mod turn;
 
 pub use board_name::BoardName;
 pub use cell::GroupCell;
+pub use outgoing::Outgoing;
 pub use post::Post;
 pub use refused::Refused;
 pub use reply::Reply;

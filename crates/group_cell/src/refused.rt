@@ -1,5 +1,5 @@
 ghost use Rattle.std.specs.Prelude.{◌≡◌};
-ghost use Rattle.group_cell.specs.Posts.{IsDeserved};
+ghost use Rattle.group_world.specs.Told.{IsDeserved};
 
 use crate::board_name::BoardName;
 use group_world::HandleError;
@@ -16,7 +16,8 @@ pub struct Refused<N: BoardName> {
 }
 
 impl<N: BoardName> Model for Refused<N> {
-    ghost use Rattle.group_cell.specs.Posts.{PostedRefusal, IsDeserved};
+    ghost use Rattle.group_cell.specs.Posts.{PostedRefusal};
+    ghost use Rattle.group_world.specs.Told.{IsDeserved};
 
     ghost Value = { PostedRefusal };
 

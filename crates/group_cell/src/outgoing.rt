@@ -1,0 +1,17 @@
+use crate::board_name::BoardName;
+use crate::post::Post;
+use carried::Carried;
+use group_world::Epoch;
+use pg_log::ClientId;
+use placement::NodeId;
+
+/// What goes out of a cell.
+#[derive(Drop)]
+pub enum Outgoing<N: BoardName> {
+    /// A message for another node of the group, or for the node itself.
+    ToNode(NodeId, Carried),
+    /// The node asks the monitor to activate that interval.
+    ToMonitor(Epoch),
+    /// A client is answered or refused.
+    ToClient(ClientId, Post<N>),
+}

@@ -1,0 +1,231 @@
+//! What a worker does with an operation while it holds the lock.
+ghost use Rattle.std.specs.Prelude.{◌≡◌, ℕ, Some, IfOk, OnErr};
+ghost use Rattle.std.specs.List.{Contains};
+ghost use Rattle.group_world.specs.World.{IsTrueOf};
+ghost use Rattle.group_world.specs.Unanswered.{unanswered};
+ghost use Rattle.group_world.specs.declared.message.Packet.{Packet};
+ghost use Rattle.carried.specs.Carried.{comes_as, told_of};
+ghost use Rattle.group_cell.specs.Cell.{CellState};
+ghost use Rattle.group_cell.specs.Turns.{GoOutAs, MayGoOutAs, IsTurn, IsCutShort, IsQuiet, SendsNoRequest};
+
+use crate::board_name::BoardName;
+use crate::cell::GroupCell;
+use crate::outgoing::Outgoing;
+use crate::post::Post;
+use crate::refused::Refused;
+use carried::{Carried, event_of, pack};
+use commit_board::Board;
+use group_world::{Event, Kind, Message, Messages, Packet, Party, refusals_are_deserved};
+use pg_log::{ClassTable, ClientId, NoMemory, Request};
+use placement::NodeId;
+use std::alloc::Global;
+
+impl<N: BoardName> GroupCell<N> {
+    /// Does what an operation carries to this node. The node takes the event that comes, as `handle` says, or refuses it.
+    /// Each message of its step goes out, in their order: packed to a node, as a question to the monitor, as a `Reply` to a
+    /// client. A refused request goes out as a `Refused`. A list whose beginning the node doesn't have is lost, and then
+    /// nothing happens.
+    ///
+    /// `None` stands for a message that memory was refused to, which is a list or a reply. Where there was no memory for
+    /// the event itself it never came; where there was none for the list of what goes out, all of it is lost.
+    ///
+    /// The board and the table are the named ones.
+    pub fn turn(
+        &mut self,
+        alloc: Global,
+        board: &Board,
+        table: &ClassTable,
+        carried: Carried,
+    ) -> Result<Vec<Option<Outgoing<N>>>, NoMemory>
+        requires board { board.now ≡ N.board }
+        requires table { table.now ≡ N.classes }
+        ensures turn { IfOk result (λ v. IsTurn N.classes self.old self.new (told_of carried) (comes_as self.old.node.state.log carried) v.items) }
+        ensures lost { OnErr result (IsCutShort N.classes self.old self.new (comes_as self.old.node.state.log carried)) }
+    {
+        let told = carried.told();
+        match event_of(alloc, self.node().group().entries(), carried)? {
+            None => Ok(Vec::new(alloc)),
+            Some(Event::Request(request)) => self.ask(alloc, board, table, told, request),
+            Some(Event::Map(map)) => self.take(alloc, board, table, told, Event::Map(map)),
+            Some(Event::Message(message)) => {
+                self.take(alloc, board, table, told, Event::Message(message))
+            }
+        }
+    }
+
+    /// What the node sends again, packed.
+    pub fn resend(
+        &mut self,
+        alloc: Global,
+        board: &Board,
+    ) -> Result<Vec<Option<Outgoing<N>>>, NoMemory>
+        requires { board.now ≡ N.board }
+        ensures same { self.new ≡ self.old }
+        ensures out { IfOk result (λ v. GoOutAs self.old 0 (unanswered self.old.node.number self.old.node.state) v.items) }
+    {
+        let Ok(sent) = self.node().resend() else {
+            return Err(NoMemory);
+        };
+        self.all_out(alloc, board, 0, sent)
+    }
+
+    /// Takes a request.
+    fn ask(
+        &mut self,
+        alloc: Global,
+        board: &Board,
+        table: &ClassTable,
+        told: usize,
+        request: Request,
+    ) -> Result<Vec<Option<Outgoing<N>>>, NoMemory>
+        requires board { board.now ≡ N.board }
+        requires table { table.now ≡ N.classes }
+        ensures turn { IfOk result (λ v. IsTurn N.classes self.old self.new told (Some (Event.Request request)) v.items) }
+        ensures lost { OnErr result (IsCutShort N.classes self.old self.new (Some (Event.Request request))) }
+    {
+        refusals_are_deserved();
+        // A refusal bears the request, which `handle` takes.
+        let Ok(copy) = request.copy(alloc) else {
+            return Err(NoMemory);
+        };
+        let mut out = Vec::new(alloc);
+        out.reserve(1)?;
+        match self.handle(board, table, Event::Request(request)) {
+            Ok(sent) => self.all_out(alloc, board, told, sent),
+            Err(why) => {
+                let client = copy.client();
+                let post = Post::Refused(Refused::new(copy, why));
+                out.push_reserved(Some(Outgoing::ToClient(client, post)));
+                Ok(out)
+            }
+        }
+    }
+
+    /// Takes a map or a message.
+    fn take(
+        &mut self,
+        alloc: Global,
+        board: &Board,
+        table: &ClassTable,
+        told: usize,
+        event: Event,
+    ) -> Result<Vec<Option<Outgoing<N>>>, NoMemory>
+        requires board { board.now ≡ N.board }
+        requires table { table.now ≡ N.classes }
+        requires quiet { IsQuiet event }
+        ensures turn { IfOk result (λ v. IsTurn N.classes self.old self.new told (Some event) v.items) }
+        ensures lost { OnErr result (IsCutShort N.classes self.old self.new (Some event)) }
+    {
+        match self.handle(board, table, event) {
+            Ok(sent) => self.all_out(alloc, board, told, sent),
+            Err(_) => Ok(Vec::new(alloc)),
+        }
+    }
+
+    /// What goes out for each of the messages.
+    fn all_out(
+        &mut self,
+        alloc: Global,
+        board: &Board,
+        told: usize,
+        sent: Messages,
+    ) -> Result<Vec<Option<Outgoing<N>>>, NoMemory>
+        requires board { board.now ≡ N.board }
+        requires replies { (p : Packet) → Contains sent p → IsTrueOf N.classes self.old.written p.message.kind }
+        ensures same { self.new ≡ self.old }
+        ensures out { IfOk result (λ v. GoOutAs self.old told sent v.items) }
+    {
+        let packets = sent.into_items();
+        let mut out = Vec::new(alloc);
+        out.reserve(packets.len())?;
+        for packet in packets {
+            out.push_reserved(self.one_out(alloc, board, told, packet));
+        }
+        Ok(out)
+    }
+
+    /// What goes out for a message.
+    fn one_out(
+        &mut self,
+        alloc: Global,
+        board: &Board,
+        told: usize,
+        packet: Packet,
+    ) -> Option<Outgoing<N>>
+        requires board { board.now ≡ N.board }
+        requires reply { IsTrueOf N.classes self.old.written packet.message.kind }
+        ensures same { self.new ≡ self.old }
+        ensures out { MayGoOutAs self.old told packet result }
+    {
+        let receiver = packet.receiver;
+        match receiver {
+            Party::Node(node) => self.to_node(alloc, told, node, packet),
+            Party::Monitor => to_monitor(packet),
+            Party::Client(client) => self.to_client(alloc, board, client, packet),
+        }
+    }
+}
+
+impl<N: BoardName> GroupCell<N> {
+    /// A message to a node of the group.
+    fn to_node(
+        &self,
+        alloc: Global,
+        told: usize,
+        node: NodeId,
+        packet: Packet,
+    ) -> Option<Outgoing<N>>
+        requires { packet.receiver ≡ Party.Node node }
+        ensures { MayGoOutAs self.now told packet result }
+    {
+        let committed = self.node().committed();
+        match pack(alloc, committed, told, packet) {
+            Ok((_, carried)) => Some(Outgoing::ToNode(node, carried)),
+            Err(_) => None,
+        }
+    }
+
+    /// A message to a client.
+    fn to_client(
+        &mut self,
+        alloc: Global,
+        board: &Board,
+        client: ClientId,
+        packet: Packet,
+    ) -> Option<Outgoing<N>>
+        requires board { board.now ≡ N.board }
+        requires receiver { packet.receiver ≡ Party.Client client }
+        requires reply { IsTrueOf N.classes self.old.written packet.message.kind }
+        ensures same { self.new ≡ self.old }
+        ensures out { (told : ℕ) → MayGoOutAs self.old told packet result }
+    {
+        let Packet {
+            receiver: _,
+            message,
+        } = packet;
+        let Message { sender: _, kind } = message;
+        let Kind::Reply(_, _, place, answer) = kind else {
+            return None;
+        };
+        match self.reply_with(alloc, board, place, answer) {
+            Ok(reply) => Some(Outgoing::ToClient(client, Post::Reply(reply))),
+            Err(_) => None,
+        }
+    }
+}
+
+/// A message to the monitor.
+fn to_monitor<N: BoardName>(packet: Packet) -> Option<Outgoing<N>>
+    requires { packet.receiver ≡ Party.Monitor }
+    ensures { (cell : CellState) (told : ℕ) → MayGoOutAs cell told packet result }
+{
+    let Packet {
+        receiver: _,
+        message,
+    } = packet;
+    let Message { sender: _, kind } = message;
+    let Kind::AskActivate(interval) = kind else {
+        return None;
+    };
+    Some(Outgoing::ToMonitor(interval))
+}
