@@ -13,8 +13,6 @@ use Rattle.group_world.specs.declared.event.Event.TheVariants.{Request as AReque
 use Rattle.group_world.specs.declared.handle_error.HandleError.{HandleError}
 use Rattle.peering.specs.Numbered.{IsDone, IsRefusal}
 use Rattle.carried.specs.Carried.{packed_as}
-use Rattle.carried.specs.declared.operation.Carried.{Carried}
-use Rattle.carried.specs.declared.operation.Carried.TheVariants.{Plain, Query as QueryOf, Log as ShortLogOf}
 use Rattle.group_cell.specs.Cell.{CellState}
 use Rattle.group_cell.specs.Posts.{PostedReply, IsReplyOf}
 use Rattle.group_cell.specs.declared.post.Post.TheVariants as post
@@ -70,20 +68,6 @@ MayGoOutAs cell told p (Some o) = GoesOutAs cell told p o
 -- messages go out one by one, in their order
 abbrev pub GoOutAs : {N : Type 0} → CellState → ℕ → List Packet → List (Option (Outgoing N)) → Type 0
 GoOutAs cell told sent out = AllZip (MayGoOutAs cell told) sent out
-
--- no request goes out
-abbrev pub IsNoRequest : Carried → Type 0
-IsNoRequest (Plain (ARequest r)) = ⊥
-IsNoRequest (Plain (AMap m)) = Unit {0}
-IsNoRequest (Plain (AMessage m)) = Unit {0}
-IsNoRequest (QueryOf sender m told) = Unit {0}
-IsNoRequest (ShortLogOf log) = Unit {0}
-
-abbrev pub SendsNoRequest : {N : Type 0} → Option (Outgoing N) → Type 0
-SendsNoRequest None = Unit {0}
-SendsNoRequest (Some (ToNode n carried)) = IsNoRequest carried
-SendsNoRequest (Some (ToMonitor interval)) = Unit {0}
-SendsNoRequest (Some (ToClient client p)) = Unit {0}
 
 -- A TURN. The node takes the event: its step is done, and its messages go out.
 pub record IsTaken {N : Type 0} (classes : Classes) (old new : CellState) (told : ℕ) (event : Event) (went : List (Option (Outgoing N))) : Type 0 where

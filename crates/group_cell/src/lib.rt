@@ -10,6 +10,7 @@
 
 mod board_name;
 mod cell;
+mod crossing;
 mod outgoing;
 mod post;
 mod refused;
@@ -18,6 +19,7 @@ mod turn;
 
 pub use board_name::BoardName;
 pub use cell::GroupCell;
+pub use crossing::{cell_crosses, post_crosses};
 pub use outgoing::Outgoing;
 pub use post::Post;
 pub use refused::Refused;

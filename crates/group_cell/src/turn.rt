@@ -6,7 +6,7 @@ ghost use Rattle.group_world.specs.Unanswered.{unanswered};
 ghost use Rattle.group_world.specs.declared.message.Packet.{Packet};
 ghost use Rattle.carried.specs.Carried.{comes_as, told_of};
 ghost use Rattle.group_cell.specs.Cell.{CellState};
-ghost use Rattle.group_cell.specs.Turns.{GoOutAs, MayGoOutAs, IsTurn, IsCutShort, IsQuiet, SendsNoRequest};
+ghost use Rattle.group_cell.specs.Turns.{GoOutAs, MayGoOutAs, IsTurn, IsCutShort, IsQuiet};
 
 use crate::board_name::BoardName;
 use crate::cell::GroupCell;
