@@ -6,9 +6,11 @@
 #![tactic(auto)]
 
 mod book;
+mod crossing;
 mod map_error;
 mod new_map;
 
 pub use book::MapBook;
+pub use crossing::book_crosses;
 pub use map_error::MapError;
 pub use new_map::NewMap;
