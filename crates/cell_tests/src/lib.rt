@@ -1,0 +1,9 @@
+//! Tests alone, of what lies under the locks of a cluster: a group's cell, and the book of maps.
+#![tactic(auto)]
+
+#[cfg(test)]
+mod cells;
+#[cfg(test)]
+mod maps;
+#[cfg(test)]
+mod turns;

@@ -1,0 +1,143 @@
+//! What goes out of a cell by one operation.
+ghost use Rattle.std.specs.Prelude.{◌≡◌, []};
+
+use crate::cells::{activated, request, table};
+use carried::Carried;
+use commit_board::{Board, Writer};
+use group_cell::{BoardName, GroupCell, Outgoing, Post};
+use group_world::{Epoch, Event, GroupMap, HandleError};
+use peering::GroupNode;
+use pg_log::ClassTable;
+use placement::NodeId;
+use std::alloc::Global;
+use std::marker::Brand;
+use std::process::Abort;
+
+/// What went out.
+#[derive(Clone, Copy, PartialEq, Eq, Drop)]
+enum Out {
+    Nothing,
+    Node(u64),
+    Monitor(u32),
+    Answered(u32, usize),
+    Refused(u32, HandleError),
+}
+
+/// An item of what went out.
+fn out_of<N: BoardName>(item: &Option<Outgoing<N>>) -> Out {
+    match item {
+        None => Out::Nothing,
+        Some(Outgoing::ToNode(node, _)) => Out::Node(node.get()),
+        Some(Outgoing::ToMonitor(interval)) => Out::Monitor(interval.get()),
+        Some(Outgoing::ToClient(client, Post::Reply(reply))) => {
+            Out::Answered(client.get(), reply.place())
+        }
+        Some(Outgoing::ToClient(client, Post::Refused(refused))) => {
+            Out::Refused(client.get(), refused.why())
+        }
+    }
+}
+
+/// Whether these items went out, and no others.
+fn are<N: BoardName>(items: &[Option<Outgoing<N>>], wanted: &[Out]) -> bool {
+    items.len() == wanted.len()
+        && items
+            .iter()
+            .zip(wanted)
+            .all(|(item, out)| out_of(item) == *out)
+}
+
+/// Whether a turn with this event sends that.
+fn sends<N: BoardName, R: Abort>(
+    rt: &R,
+    alloc: Global,
+    board: &Board,
+    table: &ClassTable,
+    cell: &mut GroupCell<N>,
+    event: Event,
+    wanted: &[Out],
+) -> bool
+    requires board { board.now ≡ N.board }
+    requires table { table.now ≡ N.classes }
+{
+    let items = cell
+        .turn(alloc, board, table, Carried::Plain(event))
+        .expect(rt, "memory");
+    are(&items, wanted)
+}
+
+/// The map of epoch 1 with these acting nodes.
+fn first_map<R: Abort>(rt: &R, alloc: Global, acting: &[u64]) -> Event {
+    let one = Epoch::new(1);
+    let mut nodes = Vec::new(alloc);
+    for number in acting {
+        nodes.push(NodeId::new(*number)).expect(rt, "memory");
+    }
+    Event::Map(GroupMap::new(one, one, nodes, Epoch::new(0), Vec::new(alloc)))
+}
+
+/// Whether a node that acts alone asks the monitor, again where nobody answered, and answers its client.
+fn works_alone<N: BoardName, R: Abort>(
+    rt: &R,
+    alloc: Global,
+    board: &Board,
+    table: &ClassTable,
+    writer: Writer,
+) -> bool
+    requires board { board.now ≡ N.board }
+    requires table { table.now ≡ N.classes }
+    requires writer { (writer.board ≡ board.now) × (writer.list ≡ []) }
+{
+    let mut cell = GroupCell::new(GroupNode::<N>::new(alloc, NodeId::new(0)), writer);
+    let map = first_map(rt, alloc, &[0]);
+    let asked = [Out::Monitor(1)];
+    let mut right = sends(rt, alloc, board, table, &mut cell, map, &asked);
+    right = right && are(&cell.resend(alloc, board).expect(rt, "memory"), &asked);
+    right = right && sends(rt, alloc, board, table, &mut cell, activated(), &[]);
+    let lock = Event::Request(request(rt, alloc, 7, 1, "lock"));
+    right = right
+        && sends(
+            rt,
+            alloc,
+            board,
+            table,
+            &mut cell,
+            lock,
+            &[Out::Answered(7, 0)],
+        );
+    let unknown = Event::Request(request(rt, alloc, 7, 2, "unknown"));
+    let refused = [Out::Refused(7, HandleError::NoMethod)];
+    right && sends(rt, alloc, board, table, &mut cell, unknown, &refused)
+}
+
+/// Whether the first of three acting nodes sends its empty list to the others, and refuses a client until they have it.
+fn leads_three<N: BoardName, R: Abort>(
+    rt: &R,
+    alloc: Global,
+    board: &Board,
+    table: &ClassTable,
+    writer: Writer,
+) -> bool
+    requires board { board.now ≡ N.board }
+    requires table { table.now ≡ N.classes }
+    requires writer { (writer.board ≡ board.now) × (writer.list ≡ []) }
+{
+    let mut cell = GroupCell::new(GroupNode::<N>::new(alloc, NodeId::new(1)), writer);
+    let map = first_map(rt, alloc, &[1, 2, 3]);
+    let installs = [Out::Node(2), Out::Node(3)];
+    let right = sends(rt, alloc, board, table, &mut cell, map, &installs);
+    let early = Event::Request(request(rt, alloc, 7, 1, "lock"));
+    let refused = [Out::Refused(7, HandleError::Peering)];
+    right && sends(rt, alloc, board, table, &mut cell, early, &refused)
+}
+
+#[test]
+fn a_turn_sends_what_the_step_sent(rt: HostRuntime) {
+    let alloc = rt.alloc();
+    let table = table(&rt, alloc);
+    let (board, mut writers, _) = Board::new(alloc, 2).expect(&rt, "memory");
+    let second = writers.pop().expect(&rt, "a writer");
+    let first = writers.pop().expect(&rt, "a writer");
+    assert!(rt; works_alone::<Brand, HostRuntime>(&rt, alloc, &board, &table, first));
+    assert!(rt; leads_three::<Brand, HostRuntime>(&rt, alloc, &board, &table, second));
+}
