@@ -2,7 +2,7 @@
 use crate::folder::holds;
 use pg_log::Request;
 use placement::NodeId;
-use sim_lines::{Line, lines, numbered, read_line};
+use sim_text::{Line, lines, numbered, read_line};
 use std::process::Abort;
 
 /// Lines, with a letter for what each says and its last number: of a list of nodes how many there are, of a request its

@@ -242,6 +242,27 @@ m13 1->2 Query 4
 m14 1->3 Query 4
 ";
 
+/// What an asking and an installing primary send again, and an activation that isn't the newest.
+const PEERING_AGAIN: &str = "> map 3 2
+map 2 prev 1
+> see 3 2
+m7 3->1 Query 2
+m8 3->2 Query 2
+m9 3->3 Query 2
+> resend 3
+again m7
+again m8
+again m9
+> deliver 9
+m10 3->3 Log 2 0
+> deliver 10
+m11 3->2 Install 2 0
+> resend 3
+again m11
+> deliver 5
+refused 2 NotNewest
+";
+
 /// Requests that are refused leave no entry; so do maps without a member, and of a node that there can't be.
 const REFUSED: &str = "> req 1 1 1 a lock lock 00
 refused 7 InputTooLong
@@ -281,7 +302,7 @@ node 1 epoch 1 active length 2 committed 2
 ";
 
 /// Runs of a group: how it opens, what happens then, and what happens at last.
-static RUNS: [[&str; 3]; 11] = [
+static RUNS: [[&str; 3]; 12] = [
     [ALONE, LOCK_CHANGES_HANDS, ""],
     [OPENED, LOGGED, REPLIED_TWICE],
     [OPENED, LOGGED, PRIMARY_CHANGES],
@@ -290,6 +311,7 @@ static RUNS: [[&str; 3]; 11] = [
     [OPENED, LOGGED, DIVERGENT_END],
     [OPENED, STOPPED_MEMBER, ""],
     [OPENED, SAME_MEMBERS, ""],
+    [OPENED, PEERING_AGAIN, ""],
     [ALONE, REFUSED, ""],
     [ALONE, LOOSELY_WRITTEN, ""],
     ["", "", ""],

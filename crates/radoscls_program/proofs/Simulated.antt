@@ -5,7 +5,7 @@ use Rattle.clap.specs.Words.{Row, Text, all_of, first_of, first_value, found_of,
 use Rattle.clap.specs.declared.parser.matches.ArgMatches.{ArgMatches}
 use Rattle.clap.specs.declared.parser.matches.ArgMatches.TheViews.{out-ArgMatches}
 use Rattle.clap.proofs.WalkLemmas.{first_value-rows}
-use Rattle.sim_tool.specs.declared.asked.Simulation.{Simulation}
+use Rattle.sim.specs.declared.asked.Simulation.{Simulation}
 use Rattle.class_tool.specs.declared.action.Action.{Action}
 use Rattle.class_tool.specs.declared.action.Action.TheVariants.{Verify, Run, Assemble, Pack, Disassemble}
 use Rattle.radoscls_program.specs.Arguments.{AsksBy, NamesSim, TakesSim, is_set}

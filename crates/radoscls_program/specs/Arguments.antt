@@ -6,7 +6,7 @@ use Rattle.std.specs.Str.Parse.{IsNumeral, digits_value, without_leading_plus}
 use Rattle.class_tool.specs.declared.action.Action.{Action}
 use Rattle.class_tool.specs.declared.action.Action.TheVariants.{Verify, Run, Assemble, Pack, Disassemble}
 use Rattle.class_tool.specs.declared.action.Packing.{Packing}
-use Rattle.sim_tool.specs.declared.asked.Simulation.{Simulation}
+use Rattle.sim.specs.declared.asked.Simulation.{Simulation}
 use Rattle.radoscls_program.specs.Own.{Owns, are_own}
 use Rattle.radoscls_program.specs.Raw.{AreRaw}
 

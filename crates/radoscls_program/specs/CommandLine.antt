@@ -6,7 +6,7 @@ use Rattle.clap.specs.Words.{App, Row, Rule, Text, all_of, first_of, new_app, ne
 use Rattle.clap.specs.declared.builder.action.ArgAction.TheVariants as argument
 use Rattle.clap.specs.declared.builder.value_parser.ValueParser.TheVariants as parser
 use Rattle.class_tool.specs.declared.action.Action.{Action}
-use Rattle.sim_tool.specs.declared.asked.Simulation.{Simulation}
+use Rattle.sim.specs.declared.asked.Simulation.{Simulation}
 use Rattle.radoscls_program.specs.Arguments.{AsksBy, TakesSim}
 use Rattle.radoscls_program.specs.declared.task.Task.{Task}
 use Rattle.radoscls_program.specs.declared.task.Task.TheVariants.{Class, Sim}

@@ -3,9 +3,9 @@ use Rattle.std.specs.Prelude.{◌≡◌, ◌==◌, ◌&&◌, ℕ, nat_le, not, B
 use Rattle.std.specs.List.{after_first, before_first, list_any}
 use Rattle.std.specs.Str.{bytes_eq}
 use Rattle.clap.specs.Words.{Text}
-use Rattle.sim_tool.specs.Classes.{names_of}
-use Rattle.sim_tool.specs.declared.asked.OwnClass.{OwnClass}
-use Rattle.sim_tool.specs.declared.asked.TheConstants.{OWN_LIMIT}
+use Rattle.tenant_classes.specs.Classes.{names_of}
+use Rattle.tenant_classes.specs.declared.own_class.OwnClass.{OwnClass}
+use Rattle.tenant_classes.specs.declared.own_class.TheConstants.{OWN_LIMIT}
 
 -- a `=`
 abbrev pub is_equals : ℕ → Bool

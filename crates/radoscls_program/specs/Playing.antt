@@ -3,9 +3,10 @@ use Rattle.std.specs.Prelude.{◌⊎◌, Option}
 use Rattle.class_tool.specs.Files.{Disk}
 use Rattle.class_tool.specs.declared.failure.Failure.{Failure}
 use Rattle.class_tool.specs.declared.failure.Failure.TheVariants.{NoMemory}
-use Rattle.sim_tool.specs.Simulating as ending
-use Rattle.sim_tool.specs.Simulating.{Ending, Simulates, SimulationFails}
-use Rattle.sim_tool.specs.declared.asked.Simulation.{Simulation}
+use Rattle.sim.specs.Simulating.{Simulates, SimulationFails}
+use Rattle.sim.specs.declared.file.Ending.{Ending}
+use Rattle.sim.specs.declared.file.Ending.TheVariants as ending
+use Rattle.sim.specs.declared.asked.Simulation.{Simulation}
 use Rattle.radoscls_program.specs.Streams.{Stream, IsPrinted, failure_line}
 use Rattle.radoscls_program.specs.declared.status.Status.{Status}
 use Rattle.radoscls_program.specs.declared.status.Status.TheVariants.{Done, Refused, Usage}

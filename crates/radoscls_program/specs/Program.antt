@@ -7,7 +7,7 @@ use Rattle.class_tool.specs.declared.action.Action.{Action}
 use Rattle.class_tool.specs.declared.answer.Answer.{Answer}
 use Rattle.class_tool.specs.declared.failure.Failure.{Failure}
 use Rattle.class_tool.specs.declared.failure.Failure.TheVariants.{NoMemory}
-use Rattle.sim_tool.specs.declared.asked.Simulation.{Simulation}
+use Rattle.sim.specs.declared.asked.Simulation.{Simulation}
 use Rattle.radoscls_program.specs.CommandLine.{AsksTask, command_line}
 use Rattle.radoscls_program.specs.Playing.{SimEnds}
 use Rattle.radoscls_program.specs.Streams.{Stream, Took, IsPrinted, failure_line}

@@ -2,7 +2,7 @@ ghost use Rattle.std.specs.Prelude.{◌≡◌, ◌≢◌, ◌↔◌, ◌≤◌, 
 ghost use Rattle.clap.specs.declared.builder.command.Command.{Command as ACommand};
 ghost use Rattle.clap.specs.declared.builder.command.Command.TheViews.{out-Command};
 ghost use Rattle.clap.specs.Words.{AddsArg, AddsSubcommand, all_of, app_of, fault_of, first_value, found_of, kind_of, new_app, rows_of, rule_of, subcommand_name_of, subcommand_of, subcommand_rows_of, with_rule};
-ghost use Rattle.sim_tool.specs.declared.asked.TheConstants.{OWN_LIMIT};
+ghost use Rattle.tenant_classes.specs.declared.own_class.TheConstants.{OWN_LIMIT};
 ghost use Rattle.radoscls_program.specs.CommandLine.{Asks, AsksNoTask, AsksNothing, AsksTask, asm_line, caller_rule, class_rule, command_line, dis_line, image_line, methods_rule, option_rule, pack_line, plain_line, required_rule, run_line, sim_line, trace_rule, verify_line};
 ghost use Rattle.radoscls_program.specs.Arguments.{AsksBy, IsClientNumber, NamesCall, NamesFiles, NamesSim, TakesPacking, TakesSim, is_set, number_in, texts_of};
 ghost use Rattle.radoscls_program.specs.Own.{Owns, are_own};
@@ -18,9 +18,10 @@ use clap::error::{Error, ErrorKind};
 use clap::{Arg, ArgAction, ArgMatches, Command, value_parser};
 use class_tool::{Action, Call, Packing, RawMethod};
 use pg_log::ClientId;
-use sim_tool::{OwnClass, Simulation};
+use sim::Simulation;
 use std::alloc::{AllocError, Global};
 use std::convert::AsStr;
+use tenant_classes::OwnClass;
 
 /// An argument that has to be there, by its place.
 fn required<'a>(alloc: Global, id: &'a str, help: &'a str) -> Arg<'a>

@@ -2,12 +2,12 @@
 ghost use Rattle.std.specs.Prelude.{◌≡◌, ◌≤◌, false, true, length, map, IfOk, IfNone, IfSome};
 ghost use Rattle.std.specs.List.{list_any};
 ghost use Rattle.std.specs.Str.{bytes_eq};
-ghost use Rattle.sim_tool.specs.Classes.{names_of};
-ghost use Rattle.sim_tool.specs.declared.asked.TheConstants.{OWN_LIMIT};
+ghost use Rattle.tenant_classes.specs.Classes.{names_of};
+ghost use Rattle.tenant_classes.specs.declared.own_class.TheConstants.{OWN_LIMIT};
 ghost use Rattle.radoscls_program.specs.Own.{Owns, are_own, image_in, is_equals, is_free, is_own, is_word, name_in};
 
-use sim_tool::{OWN_LIMIT, OwnClass};
 use std::alloc::{AllocError, Global};
+use tenant_classes::{OWN_LIMIT, OwnClass};
 
 /// Whether a word of a file of events may be that: it is not empty, and no blank stands in it.
 fn is_word(name: &str) -> bool

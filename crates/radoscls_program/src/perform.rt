@@ -11,7 +11,7 @@ use crate::status::Status;
 use crate::task::Task;
 use clap::error::{Error, ErrorKind};
 use class_tool::{Answer, Failure, Files, Output, Reads, find};
-use sim_tool::{Ending, Simulation, simulate};
+use sim::{Ending, Simulation, simulate};
 use std::alloc::Global;
 use std::convert::AsStr;
 use std::io;

@@ -1,5 +1,5 @@
 use class_tool::Action;
-use sim_tool::Simulation;
+use sim::Simulation;
 
 /// What the words ask for.
 #[derive(Drop)]

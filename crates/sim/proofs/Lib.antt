@@ -1,2 +1,2 @@
-pub mod Joining
-pub mod Reaching
+mod Noting
+mod Reaching

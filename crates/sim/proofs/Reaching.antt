@@ -1,109 +1,148 @@
 -- Lines that were done, and how the run of a file goes on from there.
-use Rattle.std.proofs.Common.{◌≡◌, ◌<◌, ◌≤◌, ℕ, zero, suc, List, [], ◌∷◌, ◌++◌, length, map, Bor, Bool, true, false, Option, Some, None, refl, sym, ap, subst, ◌∙◌, append_assoc, append-nil, take, drop, arith, get_or}
+use Rattle.std.proofs.Common.{◌≡◌, ◌<◌, ◌≤◌, ℕ, zero, suc, List, [], ◌∷◌, ◌++◌, length, map, Bor, Bool, true, false, if◌then◌else◌, Option, Some, None, refl, sym, ap, subst, ◌∙◌, append_assoc, append-nil, take, drop, arith, get_or}
 use Rattle.std.specs.Io.KnownBytes.{Appends}
 use Rattle.std.specs.Prelude.{OnOk, IsOk, Result, Ok, Err, is_err}
 use Rattle.pg_log.specs.Log.{Classes}
-use Rattle.sim_lines.specs.Lines.{line_of}
-use Rattle.sim.specs.Run.{bad_line, Printed, before_rest, go_on, run_from, run_lines, Grew, Prints, Stops, IsLine}
-use Rattle.sim_world.specs.Step.{SimWorld, Happened, opening, step}
+use Rattle.group_world.specs.World.{World}
+use Rattle.sim_text.specs.Lines.{line_of}
+use Rattle.sim_text.specs.Texts.{is_bad, taken_text}
+use Rattle.sim_text.specs.declared.line.Line.{Line}
+use Rattle.sim_text.specs.declared.taken.Taken.{Taken}
+use Rattle.sim.specs.Run.{Printed, SaysOf, Takes, IsLine, bad_line, before_rest, go_on, line_text, run_from, run_lines, Grew, Prints, Stops}
+use Rattle.sim_world.specs.Step.{Played, Happened, beginning, step}
+use Rattle.sim_world.specs.Holds.{Holds, IsReached, IsAgreedWorld, IsStep, ReachedAgree, Says, Steps}
+use Rattle.sim_world.specs.inner.Parts.{Parts}
 
--- these lines lead to a world, and that text is printed
-pub record Reached (classes : Classes) (names above : List (List ℕ)) (number : ℕ) (w : SimWorld) (text : List ℕ) : Type 0 where
-  pub goes_on : (more : List (List ℕ)) → run_lines classes names (above ++ more) ≡ before_rest text (run_from classes names number w more)
+-- what came of a line is printed, by whether it is bad
+pub says_bad : (classes : Classes) (parts : Parts) (number : ℕ) (taken : Taken) (text : List ℕ) → is_bad taken ≡ true → text ≡ bad_line number → SaysOf classes parts number taken text
+says_bad classes parts number taken text bad e = λ p held. e ∙ sym (ap (λ (b : Bool). if b then bad_line number else taken_text p.world.sent taken) bad)
 
-pub reached_none : (classes : Classes) (names : List (List ℕ)) → Reached classes names [] 0 opening []
+pub says_good : (classes : Classes) (parts : Parts) (number : ℕ) (taken : Taken) (text : List ℕ) → is_bad taken ≡ false → Says classes parts taken text → SaysOf classes parts number taken text
+says_good classes parts number taken text good says = λ p held. says p held ∙ sym (ap (λ (b : Bool). if b then bad_line number else taken_text p.world.sent taken) good)
+
+-- a line was done and its text made
+pub line_taken : (classes : Classes) (names : List (List ℕ)) (line : List ℕ) (number : ℕ) (old new : Parts) (l : Line) (taken : Taken) (text : List ℕ) (bad : Bool)
+    → l ≡ line_of names line → Steps classes old new l taken → bad ≡ is_bad taken → SaysOf classes new number taken text → Takes classes names line number old new text bad
+line_taken classes names line number old new l taken text bad e steps b says = λ p held.
+    let h = step p (line_of names line) in
+    let is : IsStep classes new p (line_of names line) taken = subst (λ (m : Line). IsStep classes new p m taken) e (steps p held) in
+    record {
+      held = is.held;
+      says = says h.played is.held ∙ ap (λ (t : Taken). line_text number h.played.world.sent t) is.came;
+      is = b ∙ ap is_bad is.came;
+    }
+
+-- what is printed of a line
+abbrev said_of : List (List ℕ) → ℕ → Played → List ℕ → List ℕ
+said_of names number p line = let h = step p (line_of names line) in line_text number h.played.world.sent h.taken
+
+-- these lines lead to a played world, and that text is printed
+pub record Reached (classes : Classes) (names above : List (List ℕ)) (number : ℕ) (p : Played) (text : List ℕ) : Type 0 where
+  pub goes_on : (more : List (List ℕ)) → run_lines classes names (above ++ more) ≡ before_rest text (run_from names number p more)
+
+reached_none : (classes : Classes) (names : List (List ℕ)) → Reached classes names [] 0 (beginning classes) []
 reached_none classes names = record { goes_on = λ more. refl }
 
 -- a line more
-pub reached_more : (classes : Classes) (names above : List (List ℕ)) (number : ℕ) (w : SimWorld) (text line : List ℕ) (h : Happened)
-    → Reached classes names above number w text → step classes w (line_of names line) ≡ Some h
-    → Reached classes names (above ++ line ∷ []) (suc number) h.world (text ++ h.printed)
-reached_more classes names above number w text line h reached came = record {
+reached_more : (classes : Classes) (names above : List (List ℕ)) (number : ℕ) (p : Played) (text line : List ℕ)
+    → Reached classes names above number p text → is_bad (step p (line_of names line)).taken ≡ false
+    → Reached classes names (above ++ line ∷ []) (suc number) (step p (line_of names line)).played (text ++ said_of names (suc number) p line)
+reached_more classes names above number p text line reached good = record {
   goes_on = λ more.
+      let h = step p (line_of names line) in
+      let said = said_of names (suc number) p line in
+      let rest = run_from names (suc number) h.played more in
       ap (run_lines classes names) (append_assoc above (line ∷ []) more) ∙ reached.goes_on (line ∷ more)
-      ∙ ap (λ o. before_rest text (go_on (suc number) (λ v. run_from classes names (suc number) v more) o)) came
-      ∙ ap (λ t. record { text = t; bad = (run_from classes names (suc number) h.world more).bad }) (sym (append_assoc text h.printed (run_from classes names (suc number) h.world more).text));
+      ∙ ap (λ (b : Bool). before_rest text (if b then record { text = said; bad = true; played = h.played } else before_rest said rest)) good
+      ∙ ap (λ (t : List ℕ). record { text = t; bad = rest.bad; played = rest.played }) (sym (append_assoc text said rest.text));
 }
 
 -- all lines were done
-pub reached_all : (classes : Classes) (names above : List (List ℕ)) (number : ℕ) (w : SimWorld) (text : List ℕ)
-    → Reached classes names above number w text → run_lines classes names above ≡ record { text = text; bad = false }
-reached_all classes names above number w text reached =
-    ap (run_lines classes names) (sym (append-nil above)) ∙ reached.goes_on [] ∙ ap (λ t. record { text = t; bad = false }) (append-nil text)
+reached_all : (classes : Classes) (names above : List (List ℕ)) (number : ℕ) (p : Played) (text : List ℕ)
+    → Reached classes names above number p text → run_lines classes names above ≡ record { text = text; bad = false; played = p }
+reached_all classes names above number p text reached =
+    ap (run_lines classes names) (sym (append-nil above)) ∙ reached.goes_on [] ∙ ap (λ (t : List ℕ). record { text = t; bad = false; played = p }) (append-nil text)
 
 -- the next one is bad
-pub reached_bad : (classes : Classes) (names above : List (List ℕ)) (number : ℕ) (w : SimWorld) (text line : List ℕ) (rest : List (List ℕ))
-    → Reached classes names above number w text → step classes w (line_of names line) ≡ None
-    → run_lines classes names (above ++ line ∷ rest) ≡ record { text = text ++ bad_line (suc number); bad = true }
-reached_bad classes names above number w text line rest reached bad =
-    reached.goes_on (line ∷ rest) ∙ ap (λ o. before_rest text (go_on (suc number) (λ v. run_from classes names (suc number) v rest) o)) bad
+reached_bad : (classes : Classes) (names above : List (List ℕ)) (number : ℕ) (p : Played) (text line : List ℕ) (rest : List (List ℕ))
+    → Reached classes names above number p text → is_bad (step p (line_of names line)).taken ≡ true
+    → run_lines classes names (above ++ line ∷ rest) ≡ record { text = text ++ said_of names (suc number) p line; bad = true; played = (step p (line_of names line)).played }
+reached_bad classes names above number p text line rest reached bad =
+    let h = step p (line_of names line) in
+    let said = said_of names (suc number) p line in
+    reached.goes_on (line ∷ rest)
+    ∙ ap (λ (b : Bool). before_rest text (if b then record { text = said; bad = true; played = h.played } else before_rest said (run_from names (suc number) h.played rest))) bad
 
 -- what is printed in two pieces
-pub appends_none : (a : Option (List ℕ)) → Appends a a []
+appends_none : (a : Option (List ℕ)) → Appends a a []
 appends_none None = tt
 appends_none (Some s) = sym (append-nil s)
 
-pub appends_more : (a b c : Option (List ℕ)) (x y : List ℕ) → Appends a b x → Appends b c y → Appends a c (x ++ y)
+appends_more : (a b c : Option (List ℕ)) (x y : List ℕ) → Appends a b x → Appends b c y → Appends a c (x ++ y)
 appends_more None b c x y p q = tt
 appends_more (Some s) None c x y p q = absurd p
 appends_more (Some s) (Some t) None x y p q = absurd q
 appends_more (Some s) (Some t) (Some u) x y p q = q ∙ ap (λ z. z ++ y) p ∙ append_assoc s x y
 
 -- where a run stands: so many lines were done, and what they come to was printed
-pub record Going (classes : Classes) (names above : List (List ℕ)) (number : ℕ) (w : SimWorld) (old new : Option (List ℕ)) (failed fails : Bool) : Type 0 where
+pub record Going (classes : Classes) (names above : List (List ℕ)) (number : ℕ) (w : Parts) (old new : Option (List ℕ)) (failed fails : Bool) : Type 0 where
+  pub played : Played
+  pub held : Holds classes w played
   pub text : List ℕ
-  pub reached : Reached classes names above number w text
+  pub reached : Reached classes names above number played text
   pub shown : Grew old new failed fails text
 
-pub going_none : (classes : Classes) (names : List (List ℕ)) (old : Option (List ℕ)) (failed : Bool) → Going classes names [] 0 opening old old failed failed
-going_none classes names old failed = record { text = []; reached = reached_none classes names; shown = record { grew = appends_none old; well = refl } }
-
--- all of them were done
-pub going_all : {classes : Classes} {names above : List (List ℕ)} {number : ℕ} {w : SimWorld} {old new : Option (List ℕ)} {failed fails : Bool}
-    → Going classes names above number w old new failed fails → Prints (run_lines classes names above) false old new failed fails
-going_all {classes} {names} {above} {number} {w} {old} {new} {failed} {fails} going =
-    let all = reached_all classes names above number w going.text going.reached in
-    record { shown = record { grew = rw all going.shown.grew; well = going.shown.well }; is = ap (λ (p : Printed). p.bad) all }
-
-apart : {b : Bool} → b ≡ false → b ≡ true → ⊥
-apart p q = let bad : false ≡ true = sym p ∙ q in absurd cc
-
--- a line was done, and what it comes to was printed
-going_on : (classes : Classes) (names above : List (List ℕ)) (number : ℕ) (w : SimWorld) (old new : Option (List ℕ)) (failed fails : Bool)
-    (line : List ℕ) (v : SimWorld) (text : List ℕ) (bad : Bool) (next : Option (List ℕ)) (fails_now : Bool) (o : Option Happened) → step classes w (line_of names line) ≡ o
-    → Going classes names above number w old new failed fails → IsLine o (suc number) v text bad → bad ≡ false
-    → Appends new next text → fails_now ≡ fails → Going classes names (above ++ line ∷ []) (suc number) v old next failed fails_now
-going_on classes names above number w old new failed fails line v text bad next fails_now None e going is good more well = absurd (apart good is.1)
-going_on classes names above number w old new failed fails line v text bad next fails_now (Some h) e going is good more well = record {
-  text = going.text ++ text;
-  reached = rw (is.0, is.1) (reached_more classes names above number w going.text line h going.reached e);
-  shown = record { grew = appends_more old new next going.text text going.shown.grew more; well = well ∙ going.shown.well };
+-- what was printed is of the agreed world that was reached
+prints : (classes : Classes) (printed : Printed) (text : List ℕ) (bad : Bool) (p : Played) (old new : Option (List ℕ)) (failed fails : Bool)
+    → printed ≡ record { text = text; bad = bad; played = p } → Grew old new failed fails text → IsAgreedWorld classes p.world → Prints classes printed bad old new failed fails
+prints classes printed text bad p old new failed fails is shown agreed = record {
+  shown = record { grew = subst (λ (t : List ℕ). Appends old new t) (sym (ap (λ (r : Printed). r.text) is)) shown.grew; well = shown.well };
+  is = ap (λ (r : Printed). r.bad) is;
+  agreed = subst (λ (w : World). IsAgreedWorld classes w) (sym (ap (λ (r : Printed). r.played.world) is)) agreed;
 }
 
-pub going_more : (classes : Classes) (names above : List (List ℕ)) (number : ℕ) (w : SimWorld) (old new : Option (List ℕ)) (failed fails : Bool)
-    (line : List ℕ) (v : SimWorld) (text : List ℕ) (bad : Bool) (next : Option (List ℕ)) (fails_now : Bool)
-    → Going classes names above number w old new failed fails → IsLine (step classes w (line_of names line)) (suc number) v text bad → bad ≡ false
+-- all of them were done
+going_all : ReachedAgree → (classes : Classes) (names above : List (List ℕ)) (number : ℕ) (w : Parts) (old new : Option (List ℕ)) (failed fails : Bool)
+    → Going classes names above number w old new failed fails → Prints classes (run_lines classes names above) false old new failed fails
+going_all agree classes names above number w old new failed fails going =
+    prints classes (run_lines classes names above) going.text false going.played old new failed fails
+    (reached_all classes names above number going.played going.text going.reached) going.shown (agree classes going.played.world going.held.reached)
+
+-- a line was done, and what it comes to was printed
+going_more : (classes : Classes) (names above : List (List ℕ)) (number : ℕ) (w : Parts) (old new : Option (List ℕ)) (failed fails : Bool)
+    (line : List ℕ) (v : Parts) (text : List ℕ) (bad : Bool) (next : Option (List ℕ)) (fails_now : Bool)
+    → Going classes names above number w old new failed fails → Takes classes names line (suc number) w v text bad → bad ≡ false
     → Appends new next text → fails_now ≡ fails → Going classes names (above ++ line ∷ []) (suc number) v old next failed fails_now
-going_more classes names above number w old new failed fails line v text bad next fails_now going is good more well =
-    going_on classes names above number w old new failed fails line v text bad next fails_now _ refl going is good more well
+going_more classes names above number w old new failed fails line v text bad next fails_now going takes good more well =
+    let is = takes going.played going.held in
+    let said = said_of names (suc number) going.played line in
+    record {
+      played = (step going.played (line_of names line)).played;
+      held = is.held;
+      text = going.text ++ said;
+      reached = reached_more classes names above number going.played going.text line going.reached (sym is.is ∙ good);
+      shown = record {
+        grew = appends_more old new next going.text said going.shown.grew (subst (λ (t : List ℕ). Appends new next t) is.says more);
+        well = well ∙ going.shown.well;
+      };
+    }
 
 -- or it is bad, and that was printed
-ends_bad : (classes : Classes) (names above : List (List ℕ)) (number : ℕ) (w : SimWorld) (old new : Option (List ℕ)) (failed fails : Bool)
-    (line : List ℕ) (rest : List (List ℕ)) (v : SimWorld) (text : List ℕ) (bad : Bool) (next : Option (List ℕ)) (fails_now : Bool) (o : Option Happened) → step classes w (line_of names line) ≡ o
-    → Going classes names above number w old new failed fails → IsLine o (suc number) v text bad → bad ≡ true
-    → Appends new next text → fails_now ≡ fails → Prints (run_lines classes names (above ++ line ∷ rest)) true old next failed fails_now
-ends_bad classes names above number w old new failed fails line rest v text bad next fails_now None e going is was more well =
-    let all = reached_bad classes names above number w going.text line rest going.reached e in
-    let shown : Appends old next (going.text ++ bad_line (suc number)) = rw (sym is.0) (appends_more old new next going.text text going.shown.grew more) in
-    record { shown = record { grew = rw all shown; well = well ∙ going.shown.well }; is = ap (λ (p : Printed). p.bad) all }
-ends_bad classes names above number w old new failed fails line rest v text bad next fails_now (Some h) e going is was more well = absurd (apart is.2 was)
-
-pub going_bad : (classes : Classes) (names above : List (List ℕ)) (number : ℕ) (w : SimWorld) (old new : Option (List ℕ)) (failed fails : Bool)
-    (line : List ℕ) (rest : List (List ℕ)) (v : SimWorld) (text : List ℕ) (bad : Bool) (next : Option (List ℕ)) (fails_now : Bool)
-    → Going classes names above number w old new failed fails → IsLine (step classes w (line_of names line)) (suc number) v text bad → bad ≡ true
-    → Appends new next text → fails_now ≡ fails → Prints (run_lines classes names (above ++ line ∷ rest)) true old next failed fails_now
-going_bad classes names above number w old new failed fails line rest v text bad next fails_now going is was more well =
-    ends_bad classes names above number w old new failed fails line rest v text bad next fails_now _ refl going is was more well
+going_bad : ReachedAgree → (classes : Classes) (names above : List (List ℕ)) (number : ℕ) (w : Parts) (old new : Option (List ℕ)) (failed fails : Bool)
+    (line : List ℕ) (rest : List (List ℕ)) (v : Parts) (text : List ℕ) (bad : Bool) (next : Option (List ℕ)) (fails_now : Bool)
+    → Going classes names above number w old new failed fails → Takes classes names line (suc number) w v text bad → bad ≡ true
+    → Appends new next text → fails_now ≡ fails → Prints classes (run_lines classes names (above ++ line ∷ rest)) true old next failed fails_now
+going_bad agree classes names above number w old new failed fails line rest v text bad next fails_now going takes was more well =
+    let is = takes going.played going.held in
+    let h = step going.played (line_of names line) in
+    let said = said_of names (suc number) going.played line in
+    prints classes (run_lines classes names (above ++ line ∷ rest)) (going.text ++ said) true h.played old next failed fails_now
+    (reached_bad classes names above number going.played going.text line rest going.reached (sym is.is ∙ was))
+    (record {
+      grew = appends_more old new next going.text said going.shown.grew (subst (λ (t : List ℕ). Appends new next t) is.says more);
+      well = well ∙ going.shown.well;
+    })
+    (agree classes h.played.world is.held.reached)
 
 -- the lines up to one, and all of them around it
 front_more : (ws : List (Bor (List ℕ))) (i : ℕ) (d : Bor (List ℕ)) → i < length ws → take (suc i) (map (λ (l : Bor (List ℕ)). l.now) ws) ≡ take i (map (λ l. l.now) ws) ++ (get_or ws i d).now ∷ []
@@ -126,28 +165,41 @@ all_lines [] = refl
 all_lines (x ∷ xs) = ap (λ ls. x.now ∷ ls) (all_lines xs)
 
 -- a run before its first line
-pub starts : (classes : Classes) (names : List (List ℕ)) (ws : List (Bor (List ℕ))) (old : Option (List ℕ)) (failed : Bool)
-    → Going classes names (take 0 (map (λ (l : Bor (List ℕ)). l.now) ws)) 0 opening old old failed failed
-starts classes names ws old failed = going_none classes names old failed
-
-pub starts_at : (classes : Classes) (names : List (List ℕ)) (ws : List (Bor (List ℕ))) (w : SimWorld) (old : Option (List ℕ)) (failed : Bool) → w ≡ opening
+pub starts : (classes : Classes) (names : List (List ℕ)) (ws : List (Bor (List ℕ))) (w : Parts) (old : Option (List ℕ)) (failed : Bool) → Holds classes w (beginning classes)
     → Going classes names (take 0 (map (λ (l : Bor (List ℕ)). l.now) ws)) 0 w old old failed failed
-starts_at classes names ws w old failed e =
-    let S : SimWorld → Type 0 = λ v. Going classes names (take 0 (map (λ (l : Bor (List ℕ)). l.now) ws)) 0 v old old failed failed in
-    subst S (sym e) (starts classes names ws old failed)
+starts classes names ws w old failed held = record {
+  played = beginning classes;
+  held = held;
+  text = [];
+  reached = reached_none classes names;
+  shown = record { grew = appends_none old; well = refl };
+}
 
--- memory was refused at a line, or before the first
-pub stops : (classes : Classes) (names : List (List ℕ)) (ws : List (Bor (List ℕ))) (i number : ℕ) (w : SimWorld) (old new : Option (List ℕ)) (failed fails : Bool) → i ≤ length ws
+-- memory was refused at a line
+pub stops : ReachedAgree → (classes : Classes) (names : List (List ℕ)) (ws : List (Bor (List ℕ))) (i number : ℕ) (w : Parts) (old new : Option (List ℕ)) (failed fails : Bool) → i ≤ length ws
     → Going classes names (take i (map (λ (l : Bor (List ℕ)). l.now) ws)) number w old new failed fails → Stops classes names (map (λ l. l.now) ws) old new failed fails
-stops classes names ws i number w old new failed fails h going = record { above = i; within = rw (length_lines ws) h; printed = going_all going }
+stops agree classes names ws i number w old new failed fails h going = record {
+  above = i;
+  within = rw (length_lines ws) h;
+  printed = going_all agree classes names (take i (map (λ l. l.now) ws)) number w old new failed fails going;
+}
+
+-- or before the first
+pub stops_first : ReachedAgree → (classes : Classes) (names lines : List (List ℕ)) (old : Option (List ℕ)) (failed : Bool) → Stops classes names lines old old failed failed
+stops_first agree classes names lines old failed = record {
+  above = 0;
+  within = omega arith;
+  printed = prints classes (run_lines classes names []) [] false (beginning classes) old old failed failed refl
+      (record { grew = appends_none old; well = refl }) (agree classes (beginning classes).world (record { events = []; leads = refl }));
+}
 
 -- a line was done
-pub next_line : (classes : Classes) (names : List (List ℕ)) (ws : List (Bor (List ℕ))) (i j : ℕ) (d : Bor (List ℕ)) (number m : ℕ) (w v : SimWorld) (old new next : Option (List ℕ)) (failed fails fails_now : Bool) (text : List ℕ) (bad : Bool)
+pub next_line : (classes : Classes) (names : List (List ℕ)) (ws : List (Bor (List ℕ))) (i j : ℕ) (d : Bor (List ℕ)) (number m : ℕ) (w v : Parts) (old new next : Option (List ℕ)) (failed fails fails_now : Bool) (text : List ℕ) (bad : Bool)
     → i < length ws → j ≡ suc i → m ≡ suc number → Going classes names (take i (map (λ (l : Bor (List ℕ)). l.now) ws)) number w old new failed fails
-    → IsLine (step classes w (line_of names (get_or ws i d).now)) m v text bad → bad ≡ false → Appends new next text → fails_now ≡ fails
+    → Takes classes names (get_or ws i d).now m w v text bad → bad ≡ false → Appends new next text → fails_now ≡ fails
     → Going classes names (take j (map (λ (l : Bor (List ℕ)). l.now) ws)) m v old next failed fails_now
 next_line classes names ws i j d number m w v old new next failed fails fails_now text bad h f e going is good more well =
-    let P : ℕ → Type 0 = λ n. IsLine (step classes w (line_of names (get_or ws i d).now)) n v text bad in
+    let P : ℕ → Type 0 = λ n. Takes classes names (get_or ws i d).now n w v text bad in
     let Q : ℕ → Type 0 = λ n. Going classes names (take j (map (λ (l : Bor (List ℕ)). l.now) ws)) n v old next failed fails_now in
     let S : ℕ → Type 0 = λ k. Going classes names (take k (map (λ (l : Bor (List ℕ)). l.now) ws)) (suc number) v old next failed fails_now in
     let R : List (List ℕ) → Type 0 = λ ls. Going classes names ls (suc number) v old next failed fails_now in
@@ -155,22 +207,26 @@ next_line classes names ws i j d number m w v old new next failed fails fails_no
     (going_more classes names (take i (map (λ l. l.now) ws)) number w old new failed fails (get_or ws i d).now v text bad next fails_now going (subst P e is) good more well)))
 
 -- a line is bad
-pub bad_end : (classes : Classes) (names : List (List ℕ)) (ws : List (Bor (List ℕ))) (i : ℕ) (d : Bor (List ℕ)) (number m : ℕ) (w v : SimWorld) (old new next : Option (List ℕ)) (failed fails fails_now : Bool) (text : List ℕ) (bad : Bool)
+pub bad_end : ReachedAgree → (classes : Classes) (names : List (List ℕ)) (ws : List (Bor (List ℕ))) (i : ℕ) (d : Bor (List ℕ)) (number m : ℕ) (w v : Parts) (old new next : Option (List ℕ)) (failed fails fails_now : Bool) (text : List ℕ) (bad : Bool)
     → i < length ws → m ≡ suc number → Going classes names (take i (map (λ (l : Bor (List ℕ)). l.now) ws)) number w old new failed fails
-    → IsLine (step classes w (line_of names (get_or ws i d).now)) m v text bad → bad ≡ true → Appends new next text → fails_now ≡ fails
-    → Prints (run_lines classes names (map (λ (l : Bor (List ℕ)). l.now) ws)) true old next failed fails_now
-bad_end classes names ws i d number m w v old new next failed fails fails_now text bad h e going is was more well =
-    let P : ℕ → Type 0 = λ n. IsLine (step classes w (line_of names (get_or ws i d).now)) n v text bad in
-    let Q : List (List ℕ) → Type 0 = λ ls. Prints (run_lines classes names ls) true old next failed fails_now in
+    → Takes classes names (get_or ws i d).now m w v text bad → bad ≡ true → Appends new next text → fails_now ≡ fails
+    → Prints classes (run_lines classes names (map (λ (l : Bor (List ℕ)). l.now) ws)) true old next failed fails_now
+bad_end agree classes names ws i d number m w v old new next failed fails fails_now text bad h e going is was more well =
+    let P : ℕ → Type 0 = λ n. Takes classes names (get_or ws i d).now n w v text bad in
+    let Q : List (List ℕ) → Type 0 = λ ls. Prints classes (run_lines classes names ls) true old next failed fails_now in
     subst Q (split_at ws i d h)
-    (going_bad classes names (take i (map (λ l. l.now) ws)) number w old new failed fails (get_or ws i d).now (drop (suc i) (map (λ l. l.now) ws)) v text bad next fails_now going (subst P e is) was more well)
+    (going_bad agree classes names (take i (map (λ l. l.now) ws)) number w old new failed fails (get_or ws i d).now (drop (suc i) (map (λ l. l.now) ws)) v text bad next fails_now going (subst P e is) was more well)
 
 -- all lines were done
-pub all_done : (classes : Classes) (names : List (List ℕ)) (ws : List (Bor (List ℕ))) (i number : ℕ) (w : SimWorld) (old new : Option (List ℕ)) (failed fails : Bool) → i ≡ length ws
-    → Going classes names (take i (map (λ (l : Bor (List ℕ)). l.now) ws)) number w old new failed fails → Prints (run_lines classes names (map (λ l. l.now) ws)) false old new failed fails
-all_done classes names ws i number w old new failed fails e going =
-    let Q : List (List ℕ) → Type 0 = λ ls. Prints (run_lines classes names ls) false old new failed fails in
-    subst Q (ap (λ k. take k (map (λ (l : Bor (List ℕ)). l.now) ws)) e ∙ all_lines ws) (going_all going)
+pub all_done : ReachedAgree → (classes : Classes) (names : List (List ℕ)) (ws : List (Bor (List ℕ))) (i number : ℕ) (w : Parts) (old new : Option (List ℕ)) (failed fails : Bool) → i ≡ length ws
+    → Going classes names (take i (map (λ (l : Bor (List ℕ)). l.now) ws)) number w old new failed fails → Prints classes (run_lines classes names (map (λ l. l.now) ws)) false old new failed fails
+all_done agree classes names ws i number w old new failed fails e going =
+    let Q : List (List ℕ) → Type 0 = λ ls. Prints classes (run_lines classes names ls) false old new failed fails in
+    subst Q (ap (λ k. take k (map (λ (l : Bor (List ℕ)). l.now) ws)) e ∙ all_lines ws)
+    (going_all agree classes names (take i (map (λ l. l.now) ws)) number w old new failed fails going)
+
+apart : {b : Bool} → b ≡ false → b ≡ true → ⊥
+apart p q = let bad : false ≡ true = sym p ∙ q in absurd cc
 
 -- where a print isn't an error, what it promises holds
 pub printed_if : {T E : Type 0} (r : Result T E) (b : Bool) (P : Type 0) → b ≡ is_err r → b ≡ false → OnOk r P → P

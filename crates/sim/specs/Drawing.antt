@@ -1,85 +1,100 @@
 -- The run of a file as it is drawn: what each line makes happen, and every message. What a line comes to is `step`, as where
 -- the lines are printed; how steps and messages look is sim_trace's `drawn`.
-use Rattle.std.specs.Prelude.{◌≡◌, ℕ, suc, ◌+◌, ◌-◌, ◌==◌, ◌&&◌, not, min, Bool, true, false, List, [], ◌∷◌, ◌++◌, length, map, Option, Some, None, is_some, if◌then◌else◌, codes, string_bytes}
-use Rattle.std.specs.List.{filter}
-use Rattle.std.specs.Str.{bytes_eq}
+use Rattle.std.specs.Prelude.{◌≡◌, ℕ, suc, min, Bool, true, false, List, [], ◌∷◌, ◌++◌, map, Option, Some, None, is_some, if◌then◌else◌, codes, string_bytes}
+use Rattle.std.specs.Fmt.{decimal}
 use Rattle.pg_log.specs.Log.{Classes}
 use Rattle.group_world.specs.declared.party.Party.{Party}
 use Rattle.group_world.specs.declared.party.Party.TheVariants.{Node as ANode, Monitor as TheMonitor, Client as AClient}
 use Rattle.sim.specs.Run.{bad_line, Grew}
-use Rattle.sim_lines.specs.Lines.{line_of, lines_of}
-use Rattle.sim_lines.specs.declared.line.Line.{Line}
-use Rattle.sim_lines.specs.declared.line.Line.TheVariants as lines
+use Rattle.sim_text.specs.Lines.{line_of, lines_of}
+use Rattle.sim_text.specs.Texts.{is_bad, said_text}
+use Rattle.sim_text.specs.declared.line.Line.{Line}
+use Rattle.sim_text.specs.declared.line.Line.TheVariants as lines
+use Rattle.sim_text.specs.declared.taken.Taken.{Taken}
+use Rattle.sim_text.specs.declared.taken.Taken.TheVariants as taken
 use Rattle.sim_trace.specs.Drawing.{drawn}
-use Rattle.sim_trace.specs.declared.lane.Lane.{Lane}
+use Rattle.sim_trace.specs.declared.lane.Lane.{Lane as Column}
 use Rattle.sim_trace.specs.declared.lane.Lane.TheVariants.{Client, Node, Monitor}
-use Rattle.sim_trace.specs.declared.letter.Letter.{Letter}
+use Rattle.sim_trace.specs.declared.letter.Letter.{Letter as Message}
 use Rattle.sim_trace.specs.declared.step.What.{What}
 use Rattle.sim_trace.specs.declared.step.What.TheVariants.{At, Asked, Arrived, Bounced}
 use Rattle.sim_trace.specs.declared.step.Step.{Step}
-use Rattle.sim_world.specs.Output.{kind_text, with_two}
-use Rattle.sim_world.specs.Step.{SimWorld, Happened, Kept, Short, Whole, opening, step}
+use Rattle.sim_world.specs.Step.{Played, Happened, beginning, step}
+use Rattle.sim_world.specs.Holds.{Holds, IsAgreedWorld, MessageShown, message_shown}
+use Rattle.sim_world.specs.inner.Parts.{Parts}
 
 -- WHO HAS A COLUMN: each party; a node's number past 255, which no node has, counts as that.
-abbrev pub lane_of_node : ℕ → Lane
-lane_of_node n = Node (min n 255)
+abbrev pub column_of_node : ℕ → Column
+column_of_node n = Node (min n 255)
 
-abbrev pub lane_of : Party → Lane
-lane_of (ANode n) = lane_of_node n
-lane_of TheMonitor = Monitor
-lane_of (AClient c) = Client c
+abbrev pub column_of : Party → Column
+column_of (ANode n) = column_of_node n
+column_of TheMonitor = Monitor
+column_of (AClient c) = Client c
 
 -- A MESSAGE as it is drawn: between whom, and what it says.
-pub record Sent : Type 0 where
-  pub from : Lane
-  pub to : Lane
+pub record Drawn : Type 0 where
+  pub from : Column
+  pub to : Column
   pub text : List ℕ
 
-abbrev pub sent_as : Letter → Sent
-sent_as l = record { from = l.from; to = l.to; text = string_bytes l.text }
+abbrev pub drawn_as : Message → Drawn
+drawn_as m = record { from = m.from; to = m.to; text = string_bytes m.text }
 
-abbrev pub sent_of : Kept → Sent
-sent_of (Whole p) = record { from = lane_of p.message.sender; to = lane_of p.receiver; text = kind_text p.message.kind }
-sent_of (Short m) = record { from = lane_of m.sender; to = lane_of_node m.receiver; text = with_two (codes "Log") m.interval (m.log.common + length m.log.rest) }
+abbrev pub drawn_of : MessageShown → Drawn
+drawn_of m = record { from = column_of m.sender; to = column_of m.receiver; text = m.text }
 
 -- WHAT A LINE MAKES HAPPEN, if anything: at the monitor, between a client and a node, at a node; or a message arrives, or
 -- comes to a node that is stopped.
-abbrev pub delivery_of : ℕ → List ℕ → What
-delivery_of number printed = if bytes_eq printed (codes "stopped\n") then Bounced number else Arrived number
+abbrev pub delivery_of : ℕ → Taken → What
+delivery_of number taken.Stopped = Bounced number
+delivery_of number _ = Arrived number
 
-abbrev pub what_of : Line → List ℕ → Option What
-what_of lines.Empty printed = None
-what_of (lines.Map acting) printed = Some (At Monitor)
-what_of (lines.See n epoch) printed = Some (At (lane_of_node n))
-what_of (lines.Ask n r) printed = Some (Asked (Client r.client) (lane_of_node n))
-what_of (lines.Deliver number) printed = Some (delivery_of number printed)
-what_of (lines.Show n) printed = Some (At (lane_of_node n))
-what_of (lines.Stop n) printed = Some (At (lane_of_node n))
-what_of (lines.Go n) printed = Some (At (lane_of_node n))
-what_of (lines.Resend n) printed = Some (At (lane_of_node n))
-what_of lines.Bad printed = None
+abbrev pub what_of : Line → Taken → Option What
+what_of lines.Empty t = None
+what_of (lines.Map acting) t = Some (At Monitor)
+what_of (lines.See n epoch) t = Some (At (column_of_node n))
+what_of (lines.Ask n r) t = Some (Asked (Client r.client) (column_of_node n))
+what_of (lines.Deliver number) t = Some (delivery_of number t)
+what_of (lines.Show n) t = Some (At (column_of_node n))
+what_of (lines.Stop n) t = Some (At (column_of_node n))
+what_of (lines.Go n) t = Some (At (column_of_node n))
+what_of (lines.Resend n) t = Some (At (column_of_node n))
+what_of lines.Bad t = None
 
 -- WHAT IS SAID OF IT: its line, but none of a delivery
 abbrev pub line_of_step : What → List ℕ → List ℕ
-line_of_step (At lane) line = line
+line_of_step (At column) line = line
 line_of_step (Asked client node) line = line
 line_of_step (Arrived number) line = []
 line_of_step (Bounced number) line = []
 
--- lines after each other, with that before the first
-abbrev pub joined : List ℕ → List (List ℕ) → List ℕ
-joined before [] = []
-joined before (line ∷ lines) = before ++ line ++ joined (codes ", ") lines
+-- and what came of it, where that is neither messages nor that there are none
+abbrev pub again_after : List ℕ → List ℕ → List ℕ
+again_after before [] = []
+again_after before (number ∷ numbers) = before ++ codes "again m" ++ decimal number ++ again_after (codes ", ") numbers
 
-abbrev pub full_lines : List (List ℕ) → List (List ℕ)
-full_lines lines = filter (λ l. not (length l == 0)) lines
+abbrev pub after_colon : List ℕ → List ℕ
+after_colon text = codes ": " ++ text
 
--- and what was printed, where that is neither messages nor that there are none
-abbrev pub printed_of_step : ℕ → List ℕ → List ℕ
-printed_of_step sent printed = if sent == 0 && not (bytes_eq printed (codes "nothing\n")) then joined (codes ": ") (full_lines (lines_of printed)) else []
+abbrev pub said_after : Taken → List ℕ
+said_after taken.Bad = []
+said_after taken.Skipped = []
+said_after taken.Stopped = after_colon (said_text taken.Stopped)
+said_after (taken.Sent count) = []
+said_after (taken.Refused why) = after_colon (said_text (taken.Refused why))
+said_after (taken.MonitorRefused why) = after_colon (said_text (taken.MonitorRefused why))
+said_after (taken.Made m) = after_colon (said_text (taken.Made m))
+said_after (taken.Shown s) = after_colon (said_text (taken.Shown s))
+said_after (taken.Again numbers) = again_after (codes ": ") numbers
 
-abbrev pub said : List ℕ → What → ℕ → List ℕ → List ℕ
-said line what sent printed = line_of_step what line ++ printed_of_step sent printed
+abbrev pub said : List ℕ → What → Taken → List ℕ
+said line what t = line_of_step what line ++ said_after t
+
+-- how many messages it sent
+abbrev pub sent_by : Taken → ℕ
+sent_by (taken.Sent count) = count
+sent_by _ = 0
 
 -- A STEP as it is drawn: what happened, what is said of it, and how many messages it sent.
 pub record Noted : Type 0 where
@@ -90,45 +105,34 @@ pub record Noted : Type 0 where
 abbrev pub noted_as : Step → Noted
 noted_as s = record { what = s.what; text = string_bytes s.text; sent = s.sent }
 
-abbrev pub noted_if : List ℕ → ℕ → List ℕ → Option What → List Noted
-noted_if line sent printed None = []
-noted_if line sent printed (Some what) = record { what = what; text = said line what sent printed; sent = sent } ∷ []
+abbrev pub noted_if : List ℕ → Taken → Option What → List Noted
+noted_if line t None = []
+noted_if line t (Some what) = record { what = what; text = said line what t; sent = sent_by t } ∷ []
 
-abbrev pub noted : List (List ℕ) → List ℕ → ℕ → List ℕ → List Noted
-noted names line sent printed = noted_if line sent printed (what_of (line_of names line) printed)
+abbrev pub noted : List (List ℕ) → List ℕ → Taken → List Noted
+noted names line t = noted_if line t (what_of (line_of names line) t)
 
--- A LINE: the world after it, its step, if it is one, and whether it is bad; a bad one leaves all as it was.
-pub record Turn : Type 0 where
-  pub world : SimWorld
-  pub steps : List Noted
-  pub bad : Bool
-
-abbrev pub turn_of : List (List ℕ) → List ℕ → SimWorld → Option Happened → Turn
-turn_of names line w None = record { world = w; steps = []; bad = true }
-turn_of names line w (Some h) = record { world = h.world; steps = noted names line (length h.world.sent - length w.sent) h.printed; bad = false }
-
-abbrev pub turn : Classes → List (List ℕ) → SimWorld → List ℕ → Turn
-turn classes names w line = turn_of names line w (step classes w (line_of names line))
-
--- A RUN: its steps, the world behind them with all messages, and the number of the bad line, if one is.
+-- A RUN: its steps, the played world after them with all messages, and the number of the bad line, if one is.
 pub record Course : Type 0 where
   pub steps : List Noted
-  pub world : SimWorld
+  pub played : Played
   pub bad : Option ℕ
 
 abbrev pub ahead : List Noted → Course → Course
-ahead steps course = record { steps = steps ++ course.steps; world = course.world; bad = course.bad }
+ahead steps course = record { steps = steps ++ course.steps; played = course.played; bad = course.bad }
 
-abbrev pub follow : ℕ → Turn → (SimWorld → Course) → Course
-follow number t rest = if t.bad then record { steps = t.steps; world = t.world; bad = Some number } else ahead t.steps (rest t.world)
+-- a line, and the rest from the world after it; where it is bad, there is no step and no rest
+abbrev pub follow : List (List ℕ) → List ℕ → ℕ → (Played → Course) → Happened → Course
+follow names line number rest h = if is_bad h.taken then record { steps = []; played = h.played; bad = Some number }
+    else ahead (noted names line h.taken) (rest h.played)
 
--- from a world, below so many lines
-abbrev pub course_from : Classes → List (List ℕ) → ℕ → SimWorld → List (List ℕ) → Course
-course_from classes names number w [] = record { steps = []; world = w; bad = None }
-course_from classes names number w (line ∷ lines) = follow (suc number) (turn classes names w line) (λ v. course_from classes names (suc number) v lines)
+-- from a played world, below so many lines
+abbrev pub course_from : List (List ℕ) → ℕ → Played → List (List ℕ) → Course
+course_from names number p [] = record { steps = []; played = p; bad = None }
+course_from names number p (line ∷ lines) = follow names line (suc number) (λ q. course_from names (suc number) q lines) (step p (line_of names line))
 
 abbrev pub course : Classes → List (List ℕ) → List (List ℕ) → Course
-course classes names lines = course_from classes names 0 opening lines
+course classes names lines = course_from names 0 (beginning classes) lines
 
 -- below the drawing, the line that is bad
 abbrev pub bad_of : Option ℕ → List ℕ
@@ -137,15 +141,38 @@ bad_of (Some number) = bad_line number
 
 -- THE DRAWING OF A RUN: its steps and messages, drawn, and the bad line, if one is.
 pub record Draws (run : Course) (text : List ℕ) (bad : Bool) : Type 0 where
-  pub letters : List Letter
+  pub messages : List Message
   pub steps : List Step
-  pub messages : map sent_as letters ≡ map sent_of run.world.sent
+  pub sent : map drawn_as messages ≡ map drawn_of (map message_shown run.played.world.sent)
   pub lines : map noted_as steps ≡ run.steps
-  pub text_is : text ≡ drawn letters steps ++ bad_of run.bad
+  pub text_is : text ≡ drawn messages steps ++ bad_of run.bad
   pub bad_is : bad ≡ is_some run.bad
 
--- it was printed, with a bad line or none, and no write or flush failed
-pub record Shows (run : Course) (bad : Bool) (old new : Option (List ℕ)) (failed fails : Bool) : Type 0 where
-  pub text : List ℕ
+-- and the group's world after its lines is an agreed one
+pub record DrawsRun (classes : Classes) (run : Course) (text : List ℕ) (bad : Bool) : Type 0 where
   pub drawing : Draws run text bad
+  pub agreed : IsAgreedWorld classes run.played.world
+
+-- It was printed, with a bad line or none, and no write or flush failed.
+pub record Shows (classes : Classes) (run : Course) (bad : Bool) (old new : Option (List ℕ)) (failed fails : Bool) : Type 0 where
+  pub text : List ℕ
+  pub drawing : DrawsRun classes run text bad
   pub shown : Grew old new failed fails text
+
+-- THE CODE'S OWN: a line was done, and the steps grew by its own
+pub record IsNoted (classes : Classes) (names : List (List ℕ)) (line : List ℕ) (h : Happened) (new : Parts) (before after : List Noted) (bad : Bool) : Type 0 where
+  pub held : Holds classes new h.played
+  pub steps : after ≡ (if is_bad h.taken then before else before ++ noted names line h.taken)
+  pub is : bad ≡ is_bad h.taken
+
+abbrev pub Notes : Classes → List (List ℕ) → List ℕ → Parts → Parts → List Noted → List Noted → Bool → Type 0
+Notes classes names line old new before after bad = (p : Played) → Holds classes old p → IsNoted classes names line (step p (line_of names line)) new before after bad
+
+-- lines were done from a played world on, up to one that is bad, and the steps grew by theirs
+pub record IsCourse (classes : Classes) (new : Parts) (before after : List Noted) (bad : Option ℕ) (run : Course) : Type 0 where
+  pub played : Played
+  pub held : Holds classes new played
+  pub same : record { steps = after; played = played; bad = bad } ≡ ahead before run
+
+abbrev pub Courses : Classes → List (List ℕ) → List (List ℕ) → Parts → Parts → List Noted → List Noted → Option ℕ → Type 0
+Courses classes names lines old new before after bad = (p : Played) → Holds classes old p → IsCourse classes new before after bad (course_from names 0 p lines)

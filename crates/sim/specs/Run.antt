@@ -1,67 +1,82 @@
--- The lines of a file, one after another, up to the first that is bad.
-use Rattle.std.specs.Prelude.{◌≡◌, ℕ, suc, ◌≤◌, List, [], ◌∷◌, ◌++◌, length, take, Bool, true, false, Option, Some, None, codes}
+-- The lines of a file, one after another, up to the first that is bad: what is printed of them, in the group's world.
+use Rattle.std.specs.Prelude.{◌≡◌, ℕ, suc, ◌≤◌, List, [], ◌∷◌, ◌++◌, length, take, Bool, true, false, Option, if◌then◌else◌, codes}
 use Rattle.std.specs.Fmt.{decimal}
 use Rattle.std.specs.Io.KnownBytes.{Appends}
 use Rattle.pg_log.specs.Log.{Classes}
+use Rattle.group_world.specs.declared.message.Packet.{Packet}
 use Rattle.sim.specs.declared.file.Ending.{Ending}
 use Rattle.sim.specs.declared.file.Ending.TheVariants.{Done, Bad, NoMemory, Unprinted}
-use Rattle.sim_lines.specs.Lines.{line_of, lines_of}
-use Rattle.sim_world.specs.Step.{SimWorld, Happened, opening, step}
+use Rattle.sim_text.specs.Lines.{line_of, lines_of}
+use Rattle.sim_text.specs.Texts.{is_bad, taken_text}
+use Rattle.sim_text.specs.declared.taken.Taken.{Taken}
+use Rattle.sim_world.specs.Step.{Played, Happened, beginning, step}
+use Rattle.sim_world.specs.Holds.{Holds, IsAgreedWorld}
+use Rattle.sim_world.specs.inner.Parts.{Parts}
 
 -- a line that can't be done, by its number from 1
 abbrev pub bad_line : ℕ → List ℕ
 bad_line number = codes "line " ++ decimal number ++ codes ": bad\n"
 
--- What is printed of lines, and whether one is bad.
+-- what is printed of a line, by the messages that were sent up to it
+abbrev pub line_text : ℕ → List Packet → Taken → List ℕ
+line_text number sent taken = if is_bad taken then bad_line number else taken_text sent taken
+
+-- What is printed of lines, whether one is bad, and the played world after them.
 pub record Printed : Type 0 where
   pub text : List ℕ
   pub bad : Bool
+  pub played : Played
 
 abbrev pub before_rest : List ℕ → Printed → Printed
-before_rest text rest = record { text = text ++ rest.text; bad = rest.bad }
+before_rest text rest = record { text = text ++ rest.text; bad = rest.bad; played = rest.played }
 
--- after a line: nothing more where it is bad, else the rest from the world after it
-abbrev pub go_on : ℕ → (SimWorld → Printed) → Option Happened → Printed
-go_on number rest None = record { text = bad_line number; bad = true }
-go_on number rest (Some h) = before_rest h.printed (rest h.world)
+-- a line, and the rest from the world after it; nothing more where it is bad
+abbrev pub go_on : ℕ → (Played → Printed) → Happened → Printed
+go_on number rest h = let text = line_text number h.played.world.sent h.taken in
+    if is_bad h.taken then record { text = text; bad = true; played = h.played } else before_rest text (rest h.played)
 
--- from a world, below so many lines
-abbrev pub run_from : Classes → List (List ℕ) → ℕ → SimWorld → List (List ℕ) → Printed
-run_from classes names number w [] = record { text = []; bad = false }
-run_from classes names number w (line ∷ lines) =
-    go_on (suc number) (λ v. run_from classes names (suc number) v lines) (step classes w (line_of names line))
+-- from a played world, below so many lines
+abbrev pub run_from : List (List ℕ) → ℕ → Played → List (List ℕ) → Printed
+run_from names number p [] = record { text = []; bad = false; played = p }
+run_from names number p (line ∷ lines) = go_on (suc number) (λ q. run_from names (suc number) q lines) (step p (line_of names line))
 
 -- THE LINES OF A FILE, with these classes and their names.
 abbrev pub run_lines : Classes → List (List ℕ) → List (List ℕ) → Printed
-run_lines classes names lines = run_from classes names 0 opening lines
-
-abbrev pub run : Classes → List (List ℕ) → List ℕ → Printed
-run classes names text = run_lines classes names (lines_of text)
+run_lines classes names lines = run_from names 0 (beginning classes) lines
 
 -- what is known of what was printed grew by that text, and no write or flush failed
 pub record Grew (old new : Option (List ℕ)) (failed fails : Bool) (text : List ℕ) : Type 0 where
   pub grew : Appends old new text
   pub well : fails ≡ failed
 
--- all lines were printed that the lines of the file come to, and none is bad, or one is
-pub record Prints (printed : Printed) (bad : Bool) (old new : Option (List ℕ)) (failed fails : Bool) : Type 0 where
+-- All lines were printed that the lines of the file come to, and none is bad, or one is; and the group's world after them is
+-- an agreed one.
+pub record Prints (classes : Classes) (printed : Printed) (bad : Bool) (old new : Option (List ℕ)) (failed fails : Bool) : Type 0 where
   pub shown : Grew old new failed fails printed.text
   pub is : printed.bad ≡ bad
+  pub agreed : IsAgreedWorld classes printed.played.world
 
 -- Memory was refused at a line: those above it were done and printed, and none of them is bad.
 pub record Stops (classes : Classes) (names lines : List (List ℕ)) (old new : Option (List ℕ)) (failed fails : Bool) : Type 0 where
   pub above : ℕ
   pub within : above ≤ length lines
-  pub printed : Prints (run_lines classes names (take above lines)) false old new failed fails
+  pub printed : Prints classes (run_lines classes names (take above lines)) false old new failed fails
 
 -- How a run ended.
 abbrev pub EndsBy : Classes → List (List ℕ) → List (List ℕ) → Option (List ℕ) → Option (List ℕ) → Bool → Bool → Ending → Type 0
-EndsBy classes names lines old new failed fails Done = Prints (run_lines classes names lines) false old new failed fails
-EndsBy classes names lines old new failed fails Bad = Prints (run_lines classes names lines) true old new failed fails
+EndsBy classes names lines old new failed fails Done = Prints classes (run_lines classes names lines) false old new failed fails
+EndsBy classes names lines old new failed fails Bad = Prints classes (run_lines classes names lines) true old new failed fails
 EndsBy classes names lines old new failed fails NoMemory = Stops classes names lines old new failed fails
 EndsBy classes names lines old new failed fails Unprinted = fails ≡ true
 
--- what is printed of a line, and whether it is bad
-abbrev pub IsLine : Option Happened → ℕ → SimWorld → List ℕ → Bool → Type 0
-IsLine None number w text bad = (text ≡ bad_line number) × (bad ≡ true)
-IsLine (Some h) number w text bad = (w ≡ h.world) × (text ≡ h.printed) × (bad ≡ false)
+-- a line was done: what is held after it, what is printed of it, and whether it is bad
+pub record IsLine (classes : Classes) (h : Happened) (number : ℕ) (new : Parts) (text : List ℕ) (bad : Bool) : Type 0 where
+  pub held : Holds classes new h.played
+  pub says : text ≡ line_text number h.played.world.sent h.taken
+  pub is : bad ≡ is_bad h.taken
+
+abbrev pub Takes : Classes → List (List ℕ) → List ℕ → ℕ → Parts → Parts → List ℕ → Bool → Type 0
+Takes classes names line number old new text bad = (p : Played) → Holds classes old p → IsLine classes (step p (line_of names line)) number new text bad
+
+abbrev pub SaysOf : Classes → Parts → ℕ → Taken → List ℕ → Type 0
+SaysOf classes parts number taken text = (p : Played) → Holds classes parts p → text ≡ line_text number p.world.sent taken

@@ -1,13 +1,14 @@
 ghost use Rattle.std.specs.Prelude.{◌≡◌, IfOk, map, string_bytes};
-ghost use Rattle.sim_lines.specs.Lines.{line_of, lines_of};
-ghost use Rattle.sim.specs.Run.{EndsBy, IsLine};
-ghost use Rattle.sim_world.specs.Step.{opening, step};
+ghost use Rattle.sim_text.specs.Lines.{lines_of};
+ghost use Rattle.sim.specs.Run.{EndsBy, SaysOf, Takes};
+ghost use Rattle.sim_world.specs.Holds.{Holds};
+ghost use Rattle.sim_world.specs.Step.{beginning};
 
 use crate::bad_line::bad_line;
 use class_tool::Output;
 use pg_log::{ClassTable, Classes};
-use sim_lines::{lines, read_line};
-use sim_world::World;
+use sim_text::{Taken, lines, read_line};
+use sim_world::{World, reached_worlds_agree};
 use std::alloc::{AllocError, Global};
 use std::marker::Brand;
 
@@ -24,13 +25,28 @@ pub enum Ending {
     Unprinted,
 }
 
-/// What came of a line.
+/// What is printed of a line.
 #[derive(Drop)]
-struct Taken {
-    /// What is printed.
+struct Line {
+    /// The text.
     text: String,
     /// The line is bad.
     is_bad: bool,
+}
+
+/// What is printed of what came of a line.
+fn line_text<C: Classes>(
+    alloc: Global,
+    world: &World<C>,
+    number: usize,
+    taken: &Taken,
+) -> Result<String, AllocError>
+    ensures { IfOk result (λ t. SaysOf C.classes world.now number taken.now (string_bytes t)) }
+{
+    if taken.is_bad() {
+        return bad_line(alloc, number);
+    }
+    world.text(taken)
 }
 
 /// Does a line, and gives what is printed of it, and whether it is bad.
@@ -41,21 +57,15 @@ fn take_line<C: Classes>(
     world: &mut World<C>,
     number: usize,
     line: &str,
-) -> Result<Taken, AllocError>
+) -> Result<Line, AllocError>
     requires { table.now ≡ C.classes }
-    ensures { IfOk result (λ p. IsLine (step table.now world.old (line_of (map (λ n. n.now) names.now) line.now)) number world.new (string_bytes p.text) p.is_bad) }
+    ensures { IfOk result (λ p. Takes C.classes (map (λ n. n.now) names.now) line.now number world.old world.new (string_bytes p.text) p.is_bad) }
 {
     let line = read_line(alloc, names, line)?;
-    match world.take(table, line)? {
-        Some(text) => Ok(Taken {
-            text,
-            is_bad: false,
-        }),
-        None => Ok(Taken {
-            text: bad_line(alloc, number)?,
-            is_bad: true,
-        }),
-    }
+    let taken = world.take(table, line)?;
+    let is_bad = taken.is_bad();
+    let text = line_text(alloc, world, number, &taken)?;
+    Ok(Line { text, is_bad })
 }
 
 /// Does lines, one after the other, from the first world on.
@@ -68,9 +78,10 @@ fn run_from<C: Classes, O: Output>(
     out: &mut O,
 ) -> Ending
     requires classes { table.now ≡ C.classes }
-    requires first { world.old ≡ opening }
+    requires first { Holds C.classes world.old (beginning C.classes) }
     ensures { EndsBy table.now (map (λ n. n.now) names.now) (map (λ l. l.now) lines.now) (O.printed out.old) (O.printed out.new) (O.failed out.old) (O.failed out.new) result }
 {
+    reached_worlds_agree();
     let mut number = 0;
     for line in lines {
         number += 1;
@@ -101,6 +112,7 @@ fn run_lines<C: Classes, O: Output>(
     requires { table.now ≡ C.classes }
     ensures { EndsBy table.now (map (λ n. n.now) names.now) (map (λ l. l.now) lines.now) (O.printed out.old) (O.printed out.new) (O.failed out.old) (O.failed out.new) result }
 {
+    reached_worlds_agree();
     match World::<C>::new(alloc) {
         Ok(mut world) => run_from(alloc, table, names, lines, &mut world, out),
         Err(_) => Ending::NoMemory,
@@ -125,7 +137,7 @@ fn run_named<O: Output>(
 ///
 /// It ends with `Bad` at the first bad line, whose number is printed; with `NoMemory` where memory is refused, and then
 /// prints nothing of that line; and where a write or a flush fails.
-pub fn run<O: Output>(
+pub(crate) fn run<O: Output>(
     alloc: Global,
     table: &ClassTable,
     names: &[&str],
@@ -134,6 +146,7 @@ pub fn run<O: Output>(
 ) -> Ending
     ensures { EndsBy table.now (map (λ n. n.now) names.now) (lines_of text.now) (O.printed out.old) (O.printed out.new) (O.failed out.old) (O.failed out.new) result }
 {
+    reached_worlds_agree();
     match lines(alloc, text) {
         Ok(lines) => run_named(alloc, table, names, &lines, out),
         Err(_) => Ending::NoMemory,

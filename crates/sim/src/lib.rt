@@ -1,11 +1,17 @@
-//! What a file of events comes to: `run` reads its lines, has `sim_world` take what they say, a line of the file after the
-//! other, and prints what each comes to; `trace` draws the same. `run`'s output is that of `specs/Run.antt`, `trace`'s that
-//! of `specs/Drawing.antt`.
+//! What the command `radoscls sim` does once its words are read: `simulate` loads the built-in classes and the tenants', reads
+//! a file of events, and plays it: it prints what each line comes to, or draws the whole. What is printed of a file is
+//! `specs/Run.antt`, its drawing `specs/Drawing.antt`, both of the group's world, and that world is an agreed one. A failure
+//! says why nothing was done, the first reason in a stated order.
 #![tactic(auto)]
 
+mod asked;
 mod bad_line;
 mod drawing;
 mod file;
+mod note;
+mod play;
+mod tool;
 
-pub use drawing::{Traced, trace};
-pub use file::{Ending, run};
+pub use asked::Simulation;
+pub use file::Ending;
+pub use tool::simulate;

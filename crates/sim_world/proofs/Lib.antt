@@ -1,1 +1,6 @@
+mod Bucketing
+pub mod Equal
 pub mod Grown
+pub mod Messages
+pub mod Reaching
+pub mod Stepping

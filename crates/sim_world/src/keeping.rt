@@ -1,72 +1,56 @@
 //! Messages are kept as they are sent, without what their receivers have of a list.
-ghost use Rattle.std.specs.Prelude.{◌≡◌, ◌++◌, suc, length, IfOk, OnOk, map, slice_get, string_bytes};
-ghost use Rattle.sim_messages.specs.Texts.{sent_text};
-ghost use Rattle.sim_world.specs.Step.{committed_of, kept, kept_for};
+ghost use Rattle.std.specs.Prelude.{◌≡◌, ◌++◌, IfOk, OnOk, length, map};
+ghost use Rattle.sim_world.specs.inner.Parts.{committed_of, kept};
 
-use group_world::{Epoch, Kind, Message, Messages, Packet, Party, Requests};
+use crate::kept::KeptMessage;
+use crate::sent::Sent;
+use carried::pack;
+use group_world::{Messages, Packet, Party};
 use peering::GroupNode;
 use pg_log::Classes;
-use placement::NodeId;
-use replication::pack_log;
-use sim_messages::{Kept, Sent, ShortLog, next_number, sent_text};
 use std::alloc::{AllocError, Global};
 
-/// How many requests a node has committed; of none 0.
-fn committed_of<C: Classes>(nodes: &[GroupNode<C>], node: NodeId) -> usize
-    ensures { result ≡ committed_of (slice_get nodes.now node) }
+/// How many requests a party has committed; one that is no node here has none.
+fn committed_of<C: Classes>(nodes: &[GroupNode<C>], party: Party) -> usize
+    ensures { result ≡ committed_of nodes.now party }
 {
-    match nodes.get(node.get() as usize) {
-        Some(node) => node.committed(),
-        None => 0,
+    match party {
+        Party::Node(node) => match nodes.get(node.get() as usize) {
+            Some(node) => node.committed(),
+            None => 0,
+        },
+        Party::Monitor => 0,
+        Party::Client(_) => 0,
     }
 }
 
-/// A message of a list, with what its receiver hasn't committed.
-fn keep_log<C: Classes>(
-    alloc: Global,
-    nodes: &[GroupNode<C>],
-    receiver: Party,
-    sender: Party,
-    interval: Epoch,
-    list: Requests,
-) -> Result<Kept, AllocError>
-    ensures { IfOk result (λ k. k ≡ kept_for nodes.now receiver sender (Kind.Log interval list)) }
+/// How many requests the sender of a message has committed.
+fn sender_has<C: Classes>(nodes: &[GroupNode<C>], packet: &Packet) -> usize
+    ensures { result ≡ committed_of nodes.now packet.now.message.sender }
 {
-    if let Party::Node(receiver) = receiver {
-        let told = committed_of(nodes, receiver);
-        let Ok(log) = pack_log(alloc, list.items(), told) else {
-            return Err(AllocError);
-        };
-        return Ok(Kept::Short(ShortLog {
-            receiver,
-            sender,
-            interval,
-            log,
-        }));
-    }
-    let kind = Kind::Log(interval, list);
-    Ok(Kept::Whole(Packet {
-        receiver,
-        message: Message { sender, kind },
-    }))
+    committed_of(nodes, packet.message.sender)
+}
+
+/// How many its receiver has.
+fn receiver_has<C: Classes>(nodes: &[GroupNode<C>], packet: &Packet) -> usize
+    ensures { result ≡ committed_of nodes.now packet.now.receiver }
+{
+    committed_of(nodes, packet.receiver)
 }
 
 /// A message as it is kept.
-fn keep<C: Classes>(
+pub(crate) fn keep<C: Classes>(
     alloc: Global,
     nodes: &[GroupNode<C>],
     packet: Packet,
-) -> Result<Kept, AllocError>
+) -> Result<KeptMessage, AllocError>
     ensures { IfOk result (λ k. k ≡ kept nodes.now packet) }
 {
-    let Packet { receiver, message } = packet;
-    let Message { sender, kind } = message;
-    match kind {
-        Kind::Log(interval, list) => keep_log(alloc, nodes, receiver, sender, interval, list),
-        kind => Ok(Kept::Whole(Packet {
-            receiver,
-            message: Message { sender, kind },
-        })),
+    let committed = sender_has(nodes, &packet);
+    let told = receiver_has(nodes, &packet);
+    match pack(alloc, committed, told, packet) {
+        Ok((receiver, carried)) => Ok(KeptMessage { receiver, carried }),
+        Err(_) => Err(AllocError),
     }
 }
 
@@ -86,18 +70,17 @@ fn keep_all<C: Classes>(
     Ok(())
 }
 
-/// Keeps what a node sent behind what was sent before, and gives what is printed of it.
+/// Keeps what a node sent behind what was sent before, and says how many messages that is.
 pub(crate) fn keep_sent<C: Classes>(
     alloc: Global,
     nodes: &[GroupNode<C>],
     packets: Messages,
     sent: &mut Sent,
-) -> Result<String, AllocError>
+) -> Result<usize, AllocError>
     ensures kept { OnOk result (sent.new ≡ sent.old ++ map (kept nodes.now) packets) }
-    ensures text { IfOk result (λ t. string_bytes t ≡ sent_text (suc (length sent.old)) packets) }
+    ensures count { IfOk result (λ n. n ≡ length packets) }
 {
-    let number = next_number(sent.len())?;
-    let text = sent_text(alloc, number, packets.items())?;
+    let count = packets.items().len();
     keep_all(alloc, nodes, packets.into_items(), sent)?;
-    Ok(text)
+    Ok(count)
 }

@@ -1,12 +1,18 @@
-//! The nodes, the monitor and the messages of a file of events, and what a line of it makes of them: `World::take`. What a
-//! line says is `sim_lines`, what it makes of nodes, monitor and messages `specs/Step.antt` (by group_world's definitions),
-//! and what is printed of it `specs/Output.antt`, with the texts of messages from `sim_messages`.
+//! The played world of a file of events: `World::take` does a line of it, and gives what came of it. What a line does in the
+//! group's world, and what comes of it, is `specs/Step.antt`: the world is always one that events of the group lead to, so
+//! that it is an agreed one (`reached_worlds_agree`). What a line says is `sim_text`, and so is what is printed (`World::text`).
 #![tactic(auto)]
 
 mod deliver;
 mod keeping;
-mod print;
+mod kept;
+mod laws;
+mod parts;
+mod same;
+mod sent;
+mod text;
 mod world;
 
-pub use sim_messages::{Kept, kind_text, with_two};
+pub use kept::KeptMessage;
+pub use laws::reached_worlds_agree;
 pub use world::World;

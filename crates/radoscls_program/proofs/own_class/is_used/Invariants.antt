@@ -1,7 +1,7 @@
 use Rattle.std.proofs.Common.{◌≡◌, drop, map, List, ℕ}
 use Rattle.std.specs.List.{list_any}
 use Rattle.std.specs.Str.{bytes_eq}
-use Rattle.sim_tool.specs.declared.asked.OwnClass.{OwnClass}
+use Rattle.tenant_classes.specs.declared.own_class.OwnClass.{OwnClass}
 use Rattle.radoscls_program.proofs.own_class.is_used.Given as goal
 
 -- those that are left decide

@@ -1,5 +1,5 @@
 use Rattle.std.proofs.Common.{◌≡◌, ◌≤◌, [], drop, length, map, take, Bor, List, ℕ}
-use Rattle.sim_tool.specs.Classes.{names_of}
+use Rattle.tenant_classes.specs.Classes.{names_of}
 use Rattle.radoscls_program.specs.Own.{are_behind, parts_of, parts_in}
 use Rattle.radoscls_program.proofs.own_class.own_classes.Given as goal
 

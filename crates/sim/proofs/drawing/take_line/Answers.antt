@@ -1,18 +1,13 @@
-use Rattle.std.proofs.Common.{arith}
-use Rattle.std.proofs.lemmas.Grind.{common_steps}
+use Rattle.std.proofs.Common.{Bor, List, ℕ, map, refl, sym, ◌∙◌}
+use Rattle.sim.proofs.Noting.{line_noted, line_unnoted}
 use Rattle.sim.proofs.drawing.take_line.Goals as goal
 
-pub returns-clause-world : goal.returns-clause-world
-returns-clause-world g c = grind (arith, common_steps)
+pub returns-then-is_bad : goal.returns-then-is_bad
+returns-then-is_bad g c =
+    line_unnoted _ (map (λ (n : Bor (List ℕ)). n.now) c.args.names.now) c.args.text.now _ _ _ _ _ _
+    c.in_ok-line.ensures c.in_ok-taken.ensures (sym c.if-is_bad.true ∙ c.is_bad.ensures) refl
 
-pub returns-clause-steps : goal.returns-clause-steps
-returns-clause-steps g c = grind (arith, common_steps)
-
-pub returns-in_default-clause-steps : goal.returns-in_default-clause-steps
-returns-in_default-clause-steps g c = grind (arith, common_steps)
-
-pub returns-clause-bad : goal.returns-clause-bad
-returns-clause-bad g c = grind (arith, common_steps)
-
-pub returns-in_default-clause-world : goal.returns-in_default-clause-world
-returns-in_default-clause-world g c = grind (arith, common_steps)
+pub returns : goal.returns
+returns g c =
+    line_noted _ (map (λ (n : Bor (List ℕ)). n.now) c.args.names.now) c.args.text.now _ _ _ _ _ _ _
+    c.in_ok-line.ensures c.in_ok-taken.ensures (sym c.if-is_bad.false ∙ c.is_bad.ensures) refl c.in_ok-note.ensures

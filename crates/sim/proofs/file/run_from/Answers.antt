@@ -1,11 +1,11 @@
 use Rattle.std.proofs.Common.{◌+◌, ℕ, List, arith, refl, subst}
 use Rattle.std.specs.Io.KnownBytes.{Appends}
-use Rattle.sim.proofs.Reaching.{all_done, bad_end, next_line, ok_if, printed_if, starts_at, stops}
+use Rattle.sim.proofs.Reaching.{all_done, bad_end, next_line, ok_if, printed_if, starts, stops}
 use Rattle.sim.proofs.file.run_from.Goals as goal
 
 pub loop-line-init : goal.loop-line-init
 loop-line-init g c = record {
-  going = starts_at _ _ c.args.lines.now c.args.world.now _ _ c.requires.first;
+  going = starts _ _ c.args.lines.now c.args.world.now _ _ c.requires.first;
   number = refl;
 }
 
@@ -14,12 +14,14 @@ returns-then-is_bad g c =
     let P : List ℕ → Type 0 = λ t. Appends (g.O.Output.printed c.loop-line.out) (g.O.Output.printed c.print.new.self) t in
     let grew = subst P c.as_str.ensures.value (printed_if c.print.result c.is_err.result _ c.is_err.ensures.value c.if-is_err.false c.print.ensures.printed) in
     let well = c.print.ensures.took (ok_if c.print.result c.is_err.result c.is_err.ensures.value c.if-is_err.false) in
-    bad_end _ _ c.args.lines.now c.loop-line.line-index _ c.loop-line.number (c.loop-line.number + 1) _ _ _ _ _ _ _ _ _ _ c.loop-line-test.true (omega arith) c.loop-line.invariant.going
-    c.in-Ok.ensures c.if-is_bad.true grew well
+    rw c.requires.classes
+    (bad_end c.reached_worlds_agree.ensures _ _ c.args.lines.now c.loop-line.line-index _ c.loop-line.number (c.loop-line.number + 1) _ _ _ _ _ _ _ _ _ _ c.loop-line-test.true (omega arith) c.loop-line.invariant.going
+    c.in-Ok.ensures c.if-is_bad.true grew well)
 
 pub returns-in-Err : goal.returns-in-Err
 returns-in-Err g c =
-    stops _ _ c.args.lines.now c.loop-line.line-index c.loop-line.number c.loop-line.world _ _ _ _ (omega arith) c.loop-line.invariant.going
+    rw c.requires.classes
+    (stops c.reached_worlds_agree.ensures _ _ c.args.lines.now c.loop-line.line-index c.loop-line.number c.loop-line.world _ _ _ _ (omega arith) c.loop-line.invariant.going)
 
 pub loop-line-preserved : goal.loop-line-preserved
 loop-line-preserved g c =
@@ -34,4 +36,5 @@ loop-line-preserved g c =
 
 pub returns : goal.returns
 returns g c =
-    all_done _ _ c.args.lines.now c.loop-line.line-index c.loop-line.number c.loop-line.world _ _ _ _ (omega arith) c.loop-line.invariant.going
+    rw c.requires.classes
+    (all_done c.reached_worlds_agree.ensures _ _ c.args.lines.now c.loop-line.line-index c.loop-line.number c.loop-line.world _ _ _ _ (omega arith) c.loop-line.invariant.going)

@@ -1,9 +1,8 @@
-use Rattle.std.proofs.Common.{arith}
-use Rattle.std.proofs.lemmas.Grind.{common_steps}
+use Rattle.std.proofs.Common.{Bor, List, ℕ, map}
+use Rattle.sim.proofs.Reaching.{line_taken}
 use Rattle.sim.proofs.file.take_line.Goals as goal
 
-pub returns-in-Some : goal.returns-in-Some
-returns-in-Some g c = grind (arith, common_steps)
-
-pub returns-in_ok-bad_line-in-None : goal.returns-in_ok-bad_line-in-None
-returns-in_ok-bad_line-in-None g c = grind (arith, common_steps)
+pub returns : goal.returns
+returns g c =
+    line_taken _ (map (λ (n : Bor (List ℕ)). n.now) c.args.names.now) c.args.line.now _ _ _ _ _ _ _
+    c.in_ok-line.ensures c.in_ok-taken.ensures c.is_bad-is_bad.ensures c.in_ok-text.ensures

@@ -1,5 +1,5 @@
 use Rattle.std.specs.Vec.Iter.{into_iter_items}
-use Rattle.sim_world.specs.Step.{kept}
+use Rattle.sim_world.specs.inner.Parts.{kept}
 use Rattle.sim_world.proofs.Grown.{kept_more}
 use Rattle.sim_world.proofs.keeping.keep_all.Goals as goal
 

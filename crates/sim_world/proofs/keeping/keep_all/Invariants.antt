@@ -1,6 +1,6 @@
 use Rattle.std.proofs.Common.{◌≡◌, ◌++◌, map}
 use Rattle.std.specs.Vec.Iter.{into_iter_items, into_iter_len}
-use Rattle.sim_world.specs.Step.{kept}
+use Rattle.sim_world.specs.inner.Parts.{kept}
 use Rattle.sim_world.proofs.keeping.keep_all.Given as goal
 
 -- what is kept so far and what is left to keep

@@ -1,0 +1,166 @@
+//! What is noted of a line for a drawing.
+ghost use Rattle.std.specs.Prelude.{◌≡◌, ◌++◌, IfOk, OnOk, codes, map, string_bytes};
+ghost use Rattle.sim.specs.Drawing.{after_colon, again_after, column_of, column_of_node, delivery_of, line_of_step, noted, noted_as, said, said_after, sent_by, what_of};
+ghost use Rattle.sim_text.specs.Lines.{line_of};
+ghost use Rattle.sim_text.specs.Texts.{said_text};
+
+use group_world::Party;
+use placement::NodeId;
+use sim_text::{Line, Taken, read_line, said_text};
+use sim_trace::{Lane as Column, Step, What};
+use std::alloc::{AllocError, Global};
+
+/// The column of a node; a number past 255 counts as that, and no node has it.
+fn column_of_node(node: NodeId) -> Column
+    ensures { result ≡ column_of_node node }
+{
+    Column::Node(node.get().min(255) as u8)
+}
+
+/// The column of a party.
+pub(crate) fn column(party: Party) -> Column
+    ensures { result ≡ column_of party }
+{
+    match party {
+        Party::Node(node) => column_of_node(node),
+        Party::Monitor => Column::Monitor,
+        Party::Client(client) => Column::Client(client.get()),
+    }
+}
+
+/// What a line makes happen, if anything does.
+fn what(line: &Line, taken: &Taken) -> Option<What>
+    ensures { result ≡ what_of line.now taken.now }
+{
+    match line {
+        Line::Empty => None,
+        Line::Bad => None,
+        Line::Map(_) => Some(What::At(Column::Monitor)),
+        Line::Ask(node, request) => Some(What::Asked(
+            Column::Client(request.client().get()),
+            column_of_node(*node),
+        )),
+        Line::Deliver(number) => Some(delivery(*number as usize, taken)),
+        Line::See(node, _) => Some(What::At(column_of_node(*node))),
+        Line::Show(node) => Some(What::At(column_of_node(*node))),
+        Line::Stop(node) => Some(What::At(column_of_node(*node))),
+        Line::Go(node) => Some(What::At(column_of_node(*node))),
+        Line::Resend(node) => Some(What::At(column_of_node(*node))),
+    }
+}
+
+/// A message comes to its receiver, or to one that is stopped.
+fn delivery(number: usize, taken: &Taken) -> What
+    ensures { result ≡ delivery_of number taken.now }
+{
+    if let Taken::Stopped = taken {
+        return What::Bounced(number);
+    }
+    What::Arrived(number)
+}
+
+/// How many messages a line sent.
+fn sent_by(taken: &Taken) -> usize
+    ensures { result ≡ sent_by taken.now }
+{
+    if let Taken::Sent(count) = taken {
+        return *count;
+    }
+    0
+}
+
+/// Messages that are sent again, after each other, with `: ` before the first and `, ` before each further one.
+fn again_after(alloc: Global, numbers: &[usize]) -> Result<String, AllocError>
+    ensures { IfOk result (λ t. string_bytes t ≡ again_after (codes ": ") numbers.now) }
+{
+    let mut text = String::new(alloc);
+    let mut before = ": ";
+    for number in numbers {
+        let again = format!(in alloc; "{before}again m{number}")?;
+        text.push_str(again.as_str())?;
+        before = ", ";
+    }
+    Ok(text)
+}
+
+/// What is said in a line, after a colon.
+fn after_colon(alloc: Global, taken: &Taken) -> Result<String, AllocError>
+    ensures { IfOk result (λ t. string_bytes t ≡ after_colon (said_text taken.now)) }
+{
+    let said = said_text(alloc, taken)?;
+    format!(in alloc; ": {said}")
+}
+
+/// What came of a line, where that is neither messages nor that there are none.
+fn said_after(alloc: Global, taken: &Taken) -> Result<String, AllocError>
+    ensures { IfOk result (λ t. string_bytes t ≡ said_after taken.now) }
+{
+    match taken {
+        Taken::Bad => Ok(String::new(alloc)),
+        Taken::Skipped => Ok(String::new(alloc)),
+        Taken::Stopped => after_colon(alloc, taken),
+        Taken::Sent(_) => Ok(String::new(alloc)),
+        Taken::Refused(_) => after_colon(alloc, taken),
+        Taken::MonitorRefused(_) => after_colon(alloc, taken),
+        Taken::Made(_) => after_colon(alloc, taken),
+        Taken::Shown(_) => after_colon(alloc, taken),
+        Taken::Again(numbers) => again_after(alloc, numbers.items()),
+    }
+}
+
+/// The line of a step, but none of a delivery.
+fn line_of_step(what: What, line: &str) -> &str
+    ensures { result.now ≡ line_of_step what line.now }
+{
+    match what {
+        What::At(_) => line,
+        What::Asked(_, _) => line,
+        What::Arrived(_) => "",
+        What::Bounced(_) => "",
+    }
+}
+
+/// What is said of a step.
+fn said(alloc: Global, line: &str, what: What, taken: &Taken) -> Result<String, AllocError>
+    ensures { IfOk result (λ t. string_bytes t ≡ said line.now what taken.now) }
+{
+    let mut text = String::from_str(alloc, line_of_step(what, line))?;
+    let after = said_after(alloc, taken)?;
+    text.push_str(after.as_str())?;
+    Ok(text)
+}
+
+/// What a line of a file made happen, if anything did.
+fn what_of(
+    alloc: Global,
+    names: &[&str],
+    text: &str,
+    taken: &Taken,
+) -> Result<Option<What>, AllocError>
+    ensures { IfOk result (λ w. w ≡ what_of (line_of (map (λ n. n.now) names.now) text.now) taken.now) }
+{
+    let line = read_line(alloc, names, text)?;
+    Ok(what(&line, taken))
+}
+
+/// Notes what a line made happen.
+pub(crate) fn note(
+    alloc: Global,
+    names: &[&str],
+    text: &str,
+    taken: &Taken,
+    steps: &mut Vec<Step>,
+) -> Result<(), AllocError>
+    ensures { OnOk result (map noted_as steps.new.items ≡ map noted_as steps.old.items ++ noted (map (λ n. n.now) names.now) text.now taken.now) }
+{
+    if let Some(what) = what_of(alloc, names, text, taken)? {
+        let said = said(alloc, text, what, taken)?;
+        let sent = sent_by(taken);
+        steps.push(Step {
+            what,
+            text: said,
+            sent,
+        })?;
+    }
+    Ok(())
+}

@@ -1,0 +1,31 @@
+ghost use Rattle.std.specs.Prelude.{◌≡◌, IfOk, IfErr, OnErr};
+ghost use Rattle.sim.specs.Simulating.{Simulates, SimulationFails};
+
+use crate::asked::Simulation;
+use crate::file::Ending;
+use crate::play::play;
+use class_tool::{Failure, Output, Reads, read_text};
+use std::alloc::Global;
+use tenant_classes::{class_names, classes};
+
+/// Loads the classes, reads the file of events, and does its lines: prints of each what it comes to before the next is
+/// done, or draws them all. Requests go to `lock` (0), `obj` (1) and the tenants' classes, by their names.
+///
+/// A failure says why no line was done, the first reason in this order: a built-in class can't be had, which memory alone
+/// is known to cause; the image of a tenant's class can't be loaded, the first one in their order; the file can't be read
+/// or is no text. Nothing was printed then.
+pub fn simulate<F: Reads, O: Output>(
+    alloc: Global,
+    files: &F,
+    simulation: &Simulation<'_>,
+    out: &mut O,
+) -> Result<Ending, Failure>
+    ensures ends { IfOk result (Simulates (F.disk files.now) simulation.now (O.printed out.old) (O.printed out.new) (O.failed out.old) (O.failed out.new)) }
+    ensures fails { IfErr result (SimulationFails (F.disk files.now) simulation.now) }
+    ensures silent { OnErr result (out.new ≡ out.old) }
+{
+    let table = classes(alloc, files, &simulation.own)?;
+    let names = class_names(alloc, &simulation.own)?;
+    let text = read_text(alloc, files, simulation.file)?;
+    Ok(play(alloc, &table, &names, &text, simulation.is_drawn, out))
+}

@@ -1,2 +1,0 @@
--- A reader must believe Lines.
-pub mod Lines

@@ -1,9 +1,0 @@
-use Rattle.std.proofs.lemmas.Result.{IfOk-weaker}
-use Rattle.sim_messages.proofs.Shelving.{number_found}
-use Rattle.sim_messages.proofs.sent.lowest_equal.Goals as goal
-
-pub returns : goal.returns
-returns c =
-    IfOk-weaker c.first_equal.result _ _
-    (λ n is. number_found c.args.packet.now c.args.kept.now c.args.shelves.now.items c.shelf-at.result n c.index.result.now c.items.result.now c.requires c.shelf-at.ensures.value c.shelf-at.ensures.below c.index.ensures c.items.ensures is)
-    c.first_equal.ensures

@@ -1,0 +1,73 @@
+-- What a line says: the event or question that its words name. Words, numbers, names and bytes are file_words'.
+use Rattle.std.specs.Prelude.{ℕ, ◌-◌, ◌==◌, List, [], ◌∷◌, slice_index, slice_get, Option, Some, None, if◌then◌else◌, codes}
+use Rattle.std.specs.Option.{option_map, option_and_then, unwrap_or}
+use Rattle.std.specs.Str.{bytes_eq}
+use Rattle.pg_log.specs.Requests.{ClientRequest}
+use Rattle.file_words.specs.Words.{words, number_in, numbers_in, id_in, object_in, bytes_in, class_of}
+pub use Rattle.file_words.specs.Words.{lines_of}
+use Rattle.sim_text.specs.declared.line.Line.{Line}
+use Rattle.sim_text.specs.declared.line.Line.TheVariants.{Empty, Map, See, Ask, Deliver, Show, Stop, Go, Resend, Bad}
+
+abbrev pub or_bad : Option Line → Line
+or_bad o = unwrap_or o Bad
+
+-- one number, and two
+abbrev pub one_in : List (List ℕ) → Option ℕ
+one_in (a ∷ []) = number_in a
+one_in _ = None
+
+abbrev pub two_in : List (List ℕ) → Option (ℕ × ℕ)
+two_in (a ∷ b ∷ []) = option_and_then (λ m. option_map (λ n. (m, n)) (number_in b)) (number_in a)
+two_in _ = None
+
+-- a request's parts
+abbrev pub ids_in : List ℕ → List ℕ → Option (ℕ × ℕ)
+ids_in client number = option_and_then (λ c. option_map (λ n. (c, n)) (id_in number)) (id_in client)
+
+-- and its words in their order: client and number, object and class, method and input; too few or too many are none
+abbrev pub request_of : ℕ → ℕ → List ℕ → ℕ → List (List ℕ) → Option ClientRequest
+request_of client number object class (method ∷ input ∷ []) =
+    option_map (λ bytes. record { client = client; number = number; object = object; class = class; method = method; input = bytes }) (bytes_in input)
+request_of client number object class _ = None
+
+abbrev pub object_of : List (List ℕ) → ℕ → ℕ → List (List ℕ) → Option ClientRequest
+object_of names client number (object ∷ class ∷ args) = option_and_then (λ name. request_of client number name (class_of 0 names class) args) (object_in object)
+object_of names client number _ = None
+
+abbrev pub client_of : List (List ℕ) → List (List ℕ) → Option ClientRequest
+client_of names (client ∷ number ∷ args) = option_and_then (λ ids. object_of names ids.0 ids.1 args) (ids_in client number)
+client_of names _ = None
+
+abbrev pub ask_at : Option ℕ → Option ClientRequest → Line
+ask_at None r = Bad
+ask_at (Some n) None = Bad
+ask_at (Some n) (Some r) = Ask n r
+
+abbrev pub asks : List (List ℕ) → List (List ℕ) → Line
+asks names [] = Bad
+asks names (node ∷ args) = ask_at (number_in node) (client_of names args)
+
+-- the words with one number
+abbrev pub of_one : List ℕ → ℕ → Line
+of_one word n =
+    if bytes_eq word (codes "deliver") then Deliver n else
+    if bytes_eq word (codes "show") then Show n else
+    if bytes_eq word (codes "stop") then Stop n else
+    if bytes_eq word (codes "go") then Go n else
+    if bytes_eq word (codes "resend") then Resend n else Bad
+
+-- what the words say; too few or too many are bad
+abbrev pub says : List (List ℕ) → List (List ℕ) → Line
+says names [] = Empty
+says names (word ∷ args) =
+    if bytes_eq word (codes "map") then or_bad (option_map Map (numbers_in args)) else
+    if bytes_eq word (codes "see") then or_bad (option_map (λ p. See p.0 p.1) (two_in args)) else
+    if bytes_eq word (codes "req") then asks names args else or_bad (option_map (of_one word) (one_in args))
+
+-- What a line says: nothing where it has no word or begins with `#`.
+abbrev pub line_of : List (List ℕ) → List ℕ → Line
+line_of names line = if slice_index line 0 == 35 then Empty else says names (words line)
+
+-- maps and messages are numbered from 1
+abbrev pub numbered : {A : Type 0} → List A → ℕ → Option A
+numbered xs number = if number == 0 then None else slice_get xs (number - 1)

@@ -1,0 +1,20 @@
+//! What a file of events says, and what is printed of what comes of it. `read_line` gives the event or question of a line
+//! (`specs/Lines.antt`). `Taken` is what comes of a line, and the texts of that and of messages are `specs/Texts.antt`. What a
+//! line does is `sim_world`'s.
+#![tactic(auto)]
+
+mod counted;
+mod line;
+mod message_text;
+mod numbers;
+mod request;
+mod taken;
+mod taken_text;
+
+pub use counted::numbered;
+pub use file_words::{Nodes, lines};
+pub use line::{Line, read_line};
+pub use message_text::{carried_text, message_line, sender_of};
+pub use numbers::Numbers;
+pub use taken::{MapMade, NodeShown, Taken};
+pub use taken_text::{again_text, said_text};

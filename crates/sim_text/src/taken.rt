@@ -1,0 +1,75 @@
+ghost use Rattle.std.specs.Prelude.{◌≡◌};
+
+use crate::numbers::Numbers;
+use group_world::{Epoch, HandleError, MonitorError, Status};
+use placement::NodeId;
+
+/// A map that the monitor made.
+#[derive(Clone, Copy, Drop)]
+pub struct MapMade {
+    /// Its number.
+    pub epoch: Epoch,
+    /// The epoch since which its acting list is the same.
+    pub interval: Epoch,
+    /// The interval that was activated last before that one, 0 where none was.
+    pub prev: Epoch,
+}
+
+/// A node as it stands.
+#[derive(Clone, Copy, Drop)]
+pub struct NodeShown {
+    /// Its number.
+    pub node: NodeId,
+    /// The interval that it is in, 0 before the first.
+    pub interval: Epoch,
+    /// What it does in that interval.
+    pub status: Status,
+    /// How many entries its log has.
+    pub length: usize,
+    /// How many of them are committed.
+    pub committed: usize,
+}
+
+/// What comes of a line.
+#[derive(Drop)]
+pub enum Taken {
+    /// The line is bad, and nothing happened.
+    Bad,
+    /// The line says nothing.
+    Skipped,
+    /// Its node is stopped, and nothing happened.
+    Stopped,
+    /// It happened, and so many messages were sent, by the highest numbers.
+    Sent(usize),
+    /// The node refused it.
+    Refused(HandleError),
+    /// The monitor refused it.
+    MonitorRefused(MonitorError),
+    /// The monitor made a map.
+    Made(MapMade),
+    /// A node was asked for.
+    Shown(NodeShown),
+    /// A node sends these messages again.
+    Again(Numbers),
+}
+
+impl Taken {
+    ghost use Rattle.sim_text.specs.Texts.{is_bad};
+
+    /// Whether the line is bad.
+    pub fn is_bad(&self) -> bool
+        ensures { result ≡ is_bad self.now }
+    {
+        match self {
+            Taken::Bad => true,
+            Taken::Skipped => false,
+            Taken::Stopped => false,
+            Taken::Sent(_) => false,
+            Taken::Refused(_) => false,
+            Taken::MonitorRefused(_) => false,
+            Taken::Made(_) => false,
+            Taken::Shown(_) => false,
+            Taken::Again(_) => false,
+        }
+    }
+}

@@ -1,6 +1,0 @@
-use Rattle.std.proofs.Common.{arith}
-use Rattle.std.proofs.lemmas.Grind.{common_steps}
-use Rattle.sim_tool.proofs.classes.built_in.Goals as goal
-
-pub returns-clause-loaded : goal.returns-clause-loaded
-returns-clause-loaded c = grind (arith, common_steps)

@@ -1,6 +1,0 @@
-use Rattle.std.proofs.Common.{rules}
-use Rattle.sim_tool.proofs.classes.classes.Goals as goal
-
--- turned by refused_image_is_passed_over
-pub returns-clause-loaded : goal.returns-clause-loaded
-returns-clause-loaded g c = search rules

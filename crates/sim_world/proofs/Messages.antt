@@ -1,0 +1,234 @@
+-- Messages as they are kept, at the numbers of the messages that were sent.
+use Rattle.std.proofs.Common.{◌≡◌, ◌≤◌, ◌<◌, ◌-◌, ◌+◌, ◌==◌, ◌&&◌, ℕ, zero, suc, min, Bool, true, false, if◌then◌else◌, List, [], ◌∷◌, ◌++◌, length, map, drop, take, Option, Some, None, refl, sym, ap, ◌∙◌, subst, arith, slice_get}
+use Rattle.std.proofs.lemmas.List.{length-drop}
+use Rattle.std.specs.Prelude.{codes}
+use Rattle.std.specs.List.{Contains}
+use Rattle.pg_log.specs.Requests.{ClientRequest}
+use Rattle.carried.specs.Carried.{carried_as}
+use Rattle.group_world.specs.Node.{NodeState}
+use Rattle.group_world.specs.declared.party.Party.{Party}
+use Rattle.group_world.specs.declared.party.Party.TheVariants.{Node as ANode, Monitor as TheMonitor, Client as AClient}
+use Rattle.group_world.specs.declared.message.Kind.{Kind}
+use Rattle.group_world.specs.declared.message.Kind.TheVariants.{Query, Log as LogOf, Install, Installed as InstalledIn, AskActivate, Activated, Rep, Ack, Reply as ReplyTo}
+use Rattle.group_world.specs.declared.message.Packet.{Packet}
+use Rattle.peering.specs.Numbered.{NumberedNode}
+use Rattle.sim_text.specs.Kept.{carried_text, sender_of}
+use Rattle.sim_text.specs.Lines.{numbered}
+use Rattle.sim_text.specs.Texts.{kind_text, with_two, text_between, message_lines, sent_text, last_text, taken_text}
+use Rattle.sim_text.specs.declared.taken.Taken.{Taken}
+use Rattle.sim_text.specs.declared.taken.Taken.TheVariants.{Bad, Skipped, Stopped, Sent, Refused, MonitorRefused, Made, Shown, Again}
+use Rattle.sim_world.specs.Holds.{HasCommitted, IsKept, AreKept, MessageShown, kept_as, kept_shown, message_shown}
+use Rattle.sim_world.specs.Same.{is_same_kind, is_same_packet, is_same_party, number_from, number_of}
+use Rattle.sim_world.specs.declared.kept.KeptMessage.{KeptMessage}
+use Rattle.sim_world.specs.inner.Buckets.{is_kept_as, is_same_carried, kept_number, kept_number_from}
+use Rattle.sim_world.specs.inner.Parts.{committed_of, kept, kept_lines, kept_taken, kept_text, last_kept}
+
+-- MORE MESSAGES
+
+new_kept : (nodes : ℕ → NodeState) (list : List NumberedNode) (qs : List Packet) → ((q : Packet) → HasCommitted nodes q.receiver (committed_of list q.receiver))
+    → AreKept nodes (map (kept list) qs) qs
+new_kept nodes list [] h = tt
+new_kept nodes list (q ∷ qs) h = (
+  record {
+    committed = committed_of list q.message.sender;
+    told = committed_of list q.receiver;
+    same = refl;
+    enough = h q;
+  },
+  new_kept nodes list qs h,
+)
+
+pub more_kept : (nodes : ℕ → NodeState) (list : List NumberedNode) (ks : List KeptMessage) (ps qs : List Packet) → AreKept nodes ks ps
+    → ((q : Packet) → HasCommitted nodes q.receiver (committed_of list q.receiver)) → AreKept nodes (ks ++ map (kept list) qs) (ps ++ qs)
+more_kept nodes list [] [] qs are h = new_kept nodes list qs h
+more_kept nodes list [] (p ∷ ps) qs are h = absurd are
+more_kept nodes list (k ∷ ks) [] qs are h = absurd are
+more_kept nodes list (k ∷ ks) (p ∷ ps) qs are h = (are.0, more_kept nodes list ks ps qs are.1 h)
+
+-- nodes that have committed more
+still_has : (nodes next : ℕ → NodeState) → ((n : ℕ) → (nodes n).committed ≤ (next n).committed) → (receiver : Party) (told : ℕ)
+    → HasCommitted nodes receiver told → HasCommitted next receiver told
+still_has nodes next grown (ANode n) told h = omega (arith, h, grown n)
+still_has nodes next grown TheMonitor told h = tt
+still_has nodes next grown (AClient client) told h = tt
+
+pub still_kept : (nodes next : ℕ → NodeState) → ((n : ℕ) → (nodes n).committed ≤ (next n).committed) → (ks : List KeptMessage) (ps : List Packet)
+    → AreKept nodes ks ps → AreKept next ks ps
+still_kept nodes next grown [] [] are = tt
+still_kept nodes next grown [] (p ∷ ps) are = absurd are
+still_kept nodes next grown (k ∷ ks) [] are = absurd are
+still_kept nodes next grown (k ∷ ks) (p ∷ ps) are = (
+  record {
+    committed = are.0.committed;
+    told = are.0.told;
+    same = are.0.same;
+    enough = still_has nodes next grown p.receiver are.0.told are.0.enough;
+  },
+  still_kept nodes next grown ks ps are.1,
+)
+
+-- BY NUMBER
+abbrev pub Both : (ℕ → NodeState) → Option KeptMessage → Option Packet → Type 0
+Both nodes None None = Unit {0}
+Both nodes None (Some p) = ⊥
+Both nodes (Some k) None = ⊥
+Both nodes (Some k) (Some p) = IsKept nodes k p
+
+both_at : (nodes : ℕ → NodeState) (ks : List KeptMessage) (ps : List Packet) (i : ℕ) → AreKept nodes ks ps → Both nodes (slice_get ks i) (slice_get ps i)
+both_at nodes [] [] i are = tt
+both_at nodes [] (p ∷ ps) i are = absurd are
+both_at nodes (k ∷ ks) [] i are = absurd are
+both_at nodes (k ∷ ks) (p ∷ ps) zero are = are.0
+both_at nodes (k ∷ ks) (p ∷ ps) (suc i) are = both_at nodes ks ps i are.1
+
+both_unless : (nodes : ℕ → NodeState) (b : Bool) (o : Option KeptMessage) (q : Option Packet) → Both nodes o q → Both nodes (if b then None else o) (if b then None else q)
+both_unless nodes true o q h = tt
+both_unless nodes false o q h = h
+
+pub both_numbered : (nodes : ℕ → NodeState) (ks : List KeptMessage) (ps : List Packet) (number : ℕ) → AreKept nodes ks ps → Both nodes (numbered ks number) (numbered ps number)
+both_numbered nodes ks ps number are = both_unless nodes (number == 0) _ _ (both_at nodes ks ps (number - 1) are)
+
+some_unless : {A : Type 0} (b : Bool) (o : Option A) (x : A) → (if b then None else o) ≡ Some x → o ≡ Some x
+some_unless true o x e = absurd cc
+some_unless false o x e = e
+
+pub numbered_at : {A : Type 0} (xs : List A) (number : ℕ) (x : A) → numbered xs number ≡ Some x → slice_get xs (number - 1) ≡ Some x
+numbered_at xs number x e = some_unless (number == 0) (slice_get xs (number - 1)) x e
+
+same_some : {A : Type 0} (x y : A) → Some x ≡ Some y → x ≡ y
+same_some x y e = cc
+
+pub contains_at : {A : Type 0} (xs : List A) (i : ℕ) (x : A) → slice_get xs i ≡ Some x → Contains xs x
+contains_at [] i x e = absurd cc
+contains_at (y ∷ ys) zero x e = (0, omega arith, same_some y x e)
+contains_at (y ∷ ys) (suc i) x e = let c = contains_at ys i x e in (suc c.0, omega (arith, c.1), c.2)
+
+-- HOW MANY
+pub as_many : (nodes : ℕ → NodeState) (ks : List KeptMessage) (ps : List Packet) → AreKept nodes ks ps → length ks ≡ length ps
+as_many nodes [] [] are = refl
+as_many nodes [] (p ∷ ps) are = absurd are
+as_many nodes (k ∷ ks) [] are = absurd are
+as_many nodes (k ∷ ks) (p ∷ ps) are = ap suc (as_many nodes ks ps are.1)
+
+last_of : (nodes : ℕ → NodeState) (i : ℕ) (ks : List KeptMessage) (ps : List Packet) → AreKept nodes ks ps → AreKept nodes (drop i ks) (drop i ps)
+last_of nodes zero ks ps are = are
+last_of nodes (suc i) [] [] are = tt
+last_of nodes (suc i) [] (p ∷ ps) are = absurd are
+last_of nodes (suc i) (k ∷ ks) [] are = absurd are
+last_of nodes (suc i) (k ∷ ks) (p ∷ ps) are = last_of nodes i ks ps are.1
+
+-- EQUAL MESSAGES
+never_again : (kind : Kind) (interval : ℕ) (list : List ClientRequest) → false ≡ is_same_kind kind (LogOf interval list)
+never_again (Query m) interval list = refl
+never_again (LogOf i l) interval list = refl
+never_again (Install m l) interval list = refl
+never_again (InstalledIn i) interval list = refl
+never_again (AskActivate i) interval list = refl
+never_again (Activated i) interval list = refl
+never_again (Rep i place r) interval list = refl
+never_again (Ack i k) interval list = refl
+never_again (ReplyTo client number place answer) interval list = refl
+
+same_carried : (kind : Kind) (committed told : ℕ) (sender : Party) (other : Kind) → is_same_carried kind (carried_as committed told sender other) ≡ is_same_kind kind other
+same_carried kind committed told sender (Query m) = refl
+same_carried kind committed told sender (LogOf interval list) = never_again kind interval list
+same_carried kind committed told sender (Install m list) = refl
+same_carried kind committed told sender (InstalledIn interval) = refl
+same_carried kind committed told sender (AskActivate interval) = refl
+same_carried kind committed told sender (Activated interval) = refl
+same_carried kind committed told sender (Rep interval place r) = refl
+same_carried kind committed told sender (Ack interval k) = refl
+same_carried kind committed told sender (ReplyTo client number place answer) = refl
+
+pub same_sender : (committed told : ℕ) (sender : Party) (kind : Kind) → sender_of (carried_as committed told sender kind) ≡ sender
+same_sender committed told sender (Query m) = refl
+same_sender committed told sender (LogOf interval list) = refl
+same_sender committed told sender (Install m list) = refl
+same_sender committed told sender (InstalledIn interval) = refl
+same_sender committed told sender (AskActivate interval) = refl
+same_sender committed told sender (Activated interval) = refl
+same_sender committed told sender (Rep interval place r) = refl
+same_sender committed told sender (Ack interval k) = refl
+same_sender committed told sender (ReplyTo client number place answer) = refl
+
+equal_as : (q : Packet) (committed told : ℕ) (p : Packet) → is_kept_as q (kept_as committed told p) ≡ is_same_packet q p
+equal_as q committed told p =
+    ap (λ (s : Party). is_same_party q.receiver p.receiver && (is_same_party q.message.sender s && is_same_carried q.message.kind (carried_as committed told p.message.sender p.message.kind)))
+    (same_sender committed told p.message.sender p.message.kind)
+    ∙ ap (λ (b : Bool). is_same_party q.receiver p.receiver && (is_same_party q.message.sender p.message.sender && b))
+    (same_carried q.message.kind committed told p.message.sender p.message.kind)
+
+number_among : (nodes : ℕ → NodeState) (q : Packet) (n : ℕ) (ks : List KeptMessage) (ps : List Packet) → AreKept nodes ks ps → kept_number_from n q ks ≡ number_from n q ps
+number_among nodes q n [] [] are = refl
+number_among nodes q n [] (p ∷ ps) are = absurd are
+number_among nodes q n (k ∷ ks) [] are = absurd are
+number_among nodes q n (k ∷ ks) (p ∷ ps) are =
+    ap (λ (b : Bool). if b then n else kept_number_from (suc n) q ks) (ap (is_kept_as q) are.0.same ∙ equal_as q are.0.committed are.0.told p)
+    ∙ ap (λ (m : ℕ). if is_same_packet q p then n else m) (number_among nodes q (suc n) ks ps are.1)
+
+pub numbers_among : (nodes : ℕ → NodeState) (ks : List KeptMessage) (ps : List Packet) (qs : List Packet) → AreKept nodes ks ps → map (kept_number ks) qs ≡ map (number_of ps) qs
+numbers_among nodes ks ps [] are = refl
+numbers_among nodes ks ps (q ∷ qs) are =
+    ap (λ (n : ℕ). n ∷ map (kept_number ks) qs) (number_among nodes q 1 ks ps are)
+    ∙ ap (λ (ns : List ℕ). number_of ps q ∷ ns) (numbers_among nodes ks ps qs are)
+
+-- TEXTS
+whole_length : (told n l : ℕ) → n ≡ l - min told l → min told l + n ≡ l
+whole_length told n l e = omega (arith, e)
+
+same_text : (committed told : ℕ) (sender : Party) (kind : Kind) → carried_text (carried_as committed told sender kind) ≡ kind_text kind
+same_text committed told sender (Query m) = refl
+same_text committed told sender (LogOf interval list) =
+    ap (λ (n : ℕ). with_two (codes "Log") interval n) (whole_length told _ (length list) (length-drop (min told (length list)) list))
+same_text committed told sender (Install m list) = refl
+same_text committed told sender (InstalledIn interval) = refl
+same_text committed told sender (AskActivate interval) = refl
+same_text committed told sender (Activated interval) = refl
+same_text committed told sender (Rep interval place r) = refl
+same_text committed told sender (Ack interval k) = refl
+same_text committed told sender (ReplyTo client number place answer) = refl
+
+same_lines : (nodes : ℕ → NodeState) (n : ℕ) (ks : List KeptMessage) (ps : List Packet) → AreKept nodes ks ps → kept_lines n ks ≡ message_lines n ps
+same_lines nodes n [] [] are = refl
+same_lines nodes n [] (p ∷ ps) are = absurd are
+same_lines nodes n (k ∷ ks) [] are = absurd are
+same_lines nodes n (k ∷ ks) (p ∷ ps) are =
+    let c = carried_as are.0.committed are.0.told p.message.sender p.message.kind in
+    ap (λ (x : KeptMessage). text_between n (sender_of x.carried) x.receiver (carried_text x.carried) ++ kept_lines (suc n) ks) are.0.same
+    ∙ ap (λ (s : Party). text_between n s p.receiver (carried_text c) ++ kept_lines (suc n) ks) (same_sender are.0.committed are.0.told p.message.sender p.message.kind)
+    ∙ ap (λ (t : List ℕ). text_between n p.message.sender p.receiver t ++ kept_lines (suc n) ks) (same_text are.0.committed are.0.told p.message.sender p.message.kind)
+    ∙ ap (λ (t : List ℕ). text_between n p.message.sender p.receiver (kind_text p.message.kind) ++ t) (same_lines nodes (suc n) ks ps are.1)
+
+same_sent : (nodes : ℕ → NodeState) (n : ℕ) (ks : List KeptMessage) (ps : List Packet) → AreKept nodes ks ps → kept_text n ks ≡ sent_text n ps
+same_sent nodes n [] [] are = refl
+same_sent nodes n [] (p ∷ ps) are = absurd are
+same_sent nodes n (k ∷ ks) [] are = absurd are
+same_sent nodes n (k ∷ ks) (p ∷ ps) are = same_lines nodes n (k ∷ ks) (p ∷ ps) are
+
+same_last : (nodes : ℕ → NodeState) (ks : List KeptMessage) (ps : List Packet) (count : ℕ) → AreKept nodes ks ps → last_kept ks count ≡ last_text ps count
+same_last nodes ks ps count are =
+    ap (λ (l : ℕ). kept_text (suc (l - count)) (drop (l - count) ks)) (as_many nodes ks ps are)
+    ∙ same_sent nodes (suc (length ps - count)) (drop (length ps - count) ks) (drop (length ps - count) ps) (last_of nodes (length ps - count) ks ps are)
+
+pub same_taken : (nodes : ℕ → NodeState) (ks : List KeptMessage) (ps : List Packet) (taken : Taken) → AreKept nodes ks ps → kept_taken ks taken ≡ taken_text ps taken
+same_taken nodes ks ps Bad are = refl
+same_taken nodes ks ps Skipped are = refl
+same_taken nodes ks ps Stopped are = refl
+same_taken nodes ks ps (Sent count) are = same_last nodes ks ps count are
+same_taken nodes ks ps (Refused why) are = refl
+same_taken nodes ks ps (MonitorRefused why) are = refl
+same_taken nodes ks ps (Made m) are = refl
+same_taken nodes ks ps (Shown s) are = refl
+same_taken nodes ks ps (Again numbers) are = refl
+
+-- MESSAGES AS THEY ARE SHOWN
+pub same_shown : (nodes : ℕ → NodeState) (ks : List KeptMessage) (ps : List Packet) → AreKept nodes ks ps → map kept_shown ks ≡ map message_shown ps
+same_shown nodes [] [] are = refl
+same_shown nodes [] (p ∷ ps) are = absurd are
+same_shown nodes (k ∷ ks) [] are = absurd are
+same_shown nodes (k ∷ ks) (p ∷ ps) are =
+    let c = carried_as are.0.committed are.0.told p.message.sender p.message.kind in
+    ap (λ (x : KeptMessage). kept_shown x ∷ map kept_shown ks) are.0.same
+    ∙ ap (λ (s : Party). record { sender = s; receiver = p.receiver; text = carried_text c } ∷ map kept_shown ks) (same_sender are.0.committed are.0.told p.message.sender p.message.kind)
+    ∙ ap (λ (t : List ℕ). record { sender = p.message.sender; receiver = p.receiver; text = t } ∷ map kept_shown ks) (same_text are.0.committed are.0.told p.message.sender p.message.kind)
+    ∙ ap (λ (ms : List MessageShown). message_shown p ∷ ms) (same_shown nodes ks ps are.1)

@@ -1,0 +1,101 @@
+-- Worlds that events lead to: one event more, and what holds of each.
+use Rattle.std.proofs.Common.{◌≡◌, ◌≤◌, ◌==◌, ℕ, Bool, true, false, if◌then◌else◌, List, [], ◌∷◌, ◌++◌, length, Option, Some, None, refl, sym, ap, ◌∙◌, subst, arith, slice_get}
+use Rattle.std.specs.Prelude.{is_none}
+use Rattle.std.specs.List.{Contains}
+use Rattle.pg_log.specs.Log.{Classes}
+use Rattle.group_world.specs.Maps.{GroupMap}
+use Rattle.group_world.specs.Node.{NodeState}
+use Rattle.group_world.specs.Monitor.{map_refusal, next_map, with_map, activation_refusal}
+use Rattle.group_world.specs.Rules.{local_step}
+use Rattle.group_world.specs.World.{World, WorldEvent, RequestAt, MapMade, MapSeen, Delivered, WithoutMemory, opening, happens, run, at_node, at_monitor, make_map, activate_for, deliver, deliver_to, show_map, with_node, StepsCutNothing, AllAgree, KeepsCommitted, IsAgreed}
+use Rattle.group_world.specs.declared.party.Party.{Party}
+use Rattle.group_world.specs.declared.party.Party.TheVariants.{Node as ANode, Monitor as TheMonitor, Client as AClient}
+use Rattle.group_world.specs.declared.message.Kind.{Kind}
+use Rattle.group_world.specs.declared.message.Kind.TheVariants.{Query, Log as LogOf, Install, Installed as InstalledIn, AskActivate, Activated, Rep, Ack, Reply as ReplyTo}
+use Rattle.group_world.specs.declared.message.Message.{Message}
+use Rattle.group_world.specs.declared.message.Packet.{Packet}
+use Rattle.group_world.specs.declared.event.Event.{Event}
+use Rattle.group_world.specs.declared.event.Event.TheVariants.{Request as ARequest, Map as AMap, Message as AMessage}
+use Rattle.sim_world.specs.Holds.{IsReached, IsAgreedWorld}
+
+run_more : (events : List WorldEvent) (event : WorldEvent) (w : World) → run (events ++ event ∷ []) w ≡ happens (run events w) event
+run_more [] event w = refl
+run_more (e ∷ es) event w = run_more es event (happens w e)
+
+-- one event more
+pub reached_more : (classes : Classes) (w : World) (event : WorldEvent) → IsReached classes w → IsReached classes (happens w event)
+reached_more classes w event r = record {
+  events = r.events ++ event ∷ [];
+  leads = ap (λ (v : World). happens v event) r.leads ∙ sym (run_more r.events event (opening classes));
+}
+
+-- one of two, as a test says
+pub either : {A : Type 0} (P : A → Type 0) (b : Bool) (s t : A) → P s → P t → P (if b then s else t)
+either P true s t p q = p
+either P false s t p q = q
+
+-- Of each such world: its classes are those, and each node has committed no more than it has logged.
+pub record Sound (classes : Classes) (w : World) : Type 0 where
+  pub named : w.classes ≡ classes
+  pub within : (n : ℕ) → (w.nodes n).committed ≤ length (w.nodes n).log
+
+sound_node : (classes : Classes) → StepsCutNothing → (w : World) (n : ℕ) (event : Event) → Sound classes w → Sound classes (at_node w n event)
+sound_node classes cut w n event h = record {
+  named = h.named;
+  within = λ m. either (λ (s : NodeState). s.committed ≤ length s.log) (m == n) (local_step w.classes n (w.nodes n) event).node (w.nodes m)
+      (cut w.classes n (w.nodes n) event (h.within n)).0 (h.within m);
+}
+
+sound_asked : (classes : Classes) (w : World) (sender : Party) (kind : Kind) → Sound classes w → Sound classes (at_monitor w sender kind)
+sound_asked classes w sender (AskActivate interval) h =
+    either (Sound classes) (is_none (activation_refusal w.monitor interval)) _ w (record { named = h.named; within = h.within }) h
+sound_asked classes w sender (Query m) h = h
+sound_asked classes w sender (LogOf interval list) h = h
+sound_asked classes w sender (Install m list) h = h
+sound_asked classes w sender (InstalledIn interval) h = h
+sound_asked classes w sender (Activated interval) h = h
+sound_asked classes w sender (Rep interval place r) h = h
+sound_asked classes w sender (Ack interval k) h = h
+sound_asked classes w sender (ReplyTo client number place answer) h = h
+
+sound_to : (classes : Classes) → StepsCutNothing → (w : World) (receiver : Party) (m : Message) → Sound classes w → Sound classes (deliver_to w receiver m)
+sound_to classes cut w (ANode n) m h = sound_node classes cut w n (AMessage m) h
+sound_to classes cut w TheMonitor m h = sound_asked classes w m.sender m.kind h
+sound_to classes cut w (AClient client) m h = h
+
+sound_delivered : (classes : Classes) → StepsCutNothing → (w : World) (o : Option Packet) → Sound classes w → Sound classes (deliver w o)
+sound_delivered classes cut w None h = h
+sound_delivered classes cut w (Some p) h = sound_to classes cut w p.receiver p.message h
+
+sound_seen : (classes : Classes) → StepsCutNothing → (w : World) (n : ℕ) (o : Option GroupMap) → Sound classes w → Sound classes (show_map w n o)
+sound_seen classes cut w n None h = h
+sound_seen classes cut w n (Some m) h = sound_node classes cut w n (AMap m) h
+
+sound_after : (classes : Classes) → StepsCutNothing → (event : WorldEvent) (w : World) → Sound classes w → Sound classes (happens w event)
+sound_after classes cut (RequestAt n r) w h = sound_node classes cut w n (ARequest r) h
+sound_after classes cut (MapMade acting) w h =
+    either (Sound classes) (is_none (map_refusal w.monitor acting))
+    (record { classes = w.classes; maps = w.maps ++ next_map w.monitor acting ∷ []; monitor = with_map w.monitor acting; nodes = w.nodes; sent = w.sent })
+    w (record { named = h.named; within = h.within }) h
+sound_after classes cut (MapSeen n place) w h = sound_seen classes cut w n (slice_get w.maps place) h
+sound_after classes cut (Delivered place) w h = sound_delivered classes cut w (slice_get w.sent place) h
+sound_after classes cut (WithoutMemory event) w h = h
+
+sound_run : (classes : Classes) → StepsCutNothing → (events : List WorldEvent) (w : World) → Sound classes w → Sound classes (run events w)
+sound_run classes cut [] w h = h
+sound_run classes cut (event ∷ events) w h = sound_run classes cut events (happens w event) (sound_after classes cut event w h)
+
+pub sound : (classes : Classes) → StepsCutNothing → (w : World) → IsReached classes w → Sound classes w
+sound classes cut w r =
+    subst (Sound classes) (sym r.leads) (sound_run classes cut r.events (opening classes) (record { named = refl; within = λ n. omega arith }))
+
+-- and it is an agreed one
+pub agreed_world : AllAgree → (classes : Classes) (w : World) → IsReached classes w → IsAgreedWorld classes w
+agreed_world all classes w r = record {
+  reached = r;
+  agreed = subst (λ (v : World). IsAgreed r.events v) (sym r.leads) (all classes r.events);
+}
+
+-- what a node would take keeps what it has committed
+pub keeps : AllAgree → (classes : Classes) (w : World) → IsReached classes w → (n : ℕ) (p : Packet) → Contains w.sent p → KeepsCommitted (w.nodes n) p.message.kind
+keeps all classes w r n p there = (agreed_world all classes w r).agreed.kept n p there

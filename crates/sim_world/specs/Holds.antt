@@ -1,0 +1,94 @@
+-- How a played world is held: the nodes 0 to 15 alone, and of each list that was sent no more than its receiver lacks.
+use Rattle.std.specs.Prelude.{◌≡◌, ℕ, ◌≤◌, ◌<◌, List, [], ◌∷◌, ◌++◌, length, map, slice_index_or}
+use Rattle.pg_log.specs.Log.{Classes}
+use Rattle.carried.specs.Carried.{carried_as}
+use Rattle.group_world.specs.Node.{NodeState, fresh}
+use Rattle.group_world.specs.World.{World, WorldEvent, IsAgreed, opening, run}
+use Rattle.group_world.specs.declared.party.Party.{Party}
+use Rattle.group_world.specs.declared.party.Party.TheVariants.{Node as ANode, Monitor as TheMonitor, Client as AClient}
+use Rattle.group_world.specs.declared.message.Packet.{Packet}
+use Rattle.sim_text.specs.Kept.{carried_text, sender_of}
+use Rattle.sim_text.specs.Texts.{kind_text, taken_text}
+use Rattle.sim_text.specs.declared.line.Line.{Line}
+use Rattle.sim_text.specs.declared.taken.Taken.{Taken}
+use Rattle.sim_world.specs.Step.{Played, step}
+use Rattle.sim_world.specs.inner.Parts.{Parts, nth_node}
+use Rattle.sim_world.specs.declared.kept.KeptMessage.{KeptMessage}
+
+-- A MESSAGE IS KEPT as it is carried; of a list a node told no more than it has committed now.
+abbrev pub HasCommitted : (ℕ → NodeState) → Party → ℕ → Type 0
+HasCommitted nodes (ANode n) told = told ≤ (nodes n).committed
+HasCommitted nodes TheMonitor told = Unit {0}
+HasCommitted nodes (AClient client) told = Unit {0}
+
+abbrev pub kept_as : ℕ → ℕ → Packet → KeptMessage
+kept_as committed told p = record { receiver = p.receiver; carried = carried_as committed told p.message.sender p.message.kind }
+
+pub record IsKept (nodes : ℕ → NodeState) (k : KeptMessage) (p : Packet) : Type 0 where
+  pub committed : ℕ
+  pub told : ℕ
+  pub same : k ≡ kept_as committed told p
+  pub enough : HasCommitted nodes p.receiver told
+
+-- each message, at the same number
+abbrev pub AreKept : (ℕ → NodeState) → List KeptMessage → List Packet → Type 0
+AreKept nodes [] [] = Unit {0}
+AreKept nodes [] (p ∷ ps) = ⊥
+AreKept nodes (k ∷ ks) [] = ⊥
+AreKept nodes (k ∷ ks) (p ∷ ps) = IsKept nodes k p × AreKept nodes ks ps
+
+-- the events of a list lead to the group's world
+pub record IsReached (classes : Classes) (w : World) : Type 0 where
+  pub events : List WorldEvent
+  pub leads : w ≡ run events (opening classes)
+
+-- these are the parts of a played world, which is reached by events
+pub record Holds (classes : Classes) (parts : Parts) (p : Played) : Type 0 where
+  pub reached : IsReached classes p.world
+  pub maps : parts.maps ≡ p.world.maps
+  pub monitor : parts.monitor ≡ p.world.monitor
+  pub count : length parts.nodes ≡ 16
+  pub nodes : (n : ℕ) → n < 16 → nth_node parts.nodes n ≡ record { number = n; state = p.world.nodes n }
+  pub stopped : parts.stopped ≡ p.stopped
+  pub flags : length p.stopped ≡ 16
+  pub sent : AreKept p.world.nodes parts.sent p.world.sent
+
+-- there is such a played world
+abbrev pub IsPlayed : Classes → Parts → Type 0
+IsPlayed classes parts = (p : Played) × Holds classes parts p
+
+-- A LINE WAS DONE: what was held is what the line makes of it, and that came of it.
+pub record IsStep (classes : Classes) (new : Parts) (p : Played) (line : Line) (taken : Taken) : Type 0 where
+  pub held : Holds classes new (step p line).played
+  pub came : taken ≡ (step p line).taken
+
+abbrev pub Steps : Classes → Parts → Parts → Line → Taken → Type 0
+Steps classes old new line taken = (p : Played) → Holds classes old p → IsStep classes new p line taken
+
+-- that is printed of what came of a line
+abbrev pub Says : Classes → Parts → Taken → List ℕ → Type 0
+Says classes parts taken text = (p : Played) → Holds classes parts p → text ≡ taken_text p.world.sent taken
+
+-- AN AGREED WORLD: events lead to it, and of those it is agreed.
+pub record IsAgreedWorld (classes : Classes) (w : World) : Type 0 where
+  pub reached : IsReached classes w
+  pub agreed : IsAgreed reached.events w
+
+-- each world that events lead to is one
+abbrev pub ReachedAgree : Type 0
+ReachedAgree = (classes : Classes) (w : World) → IsReached classes w → IsAgreedWorld classes w
+
+-- A MESSAGE AS IT IS SHOWN: between whom, and what it says; of one that was sent, and of one as it is kept.
+pub record MessageShown : Type 0 where
+  pub sender : Party
+  pub receiver : Party
+  pub text : List ℕ
+
+abbrev pub message_shown : Packet → MessageShown
+message_shown p = record { sender = p.message.sender; receiver = p.receiver; text = kind_text p.message.kind }
+
+abbrev pub kept_shown : KeptMessage → MessageShown
+kept_shown k = record { sender = sender_of k.carried; receiver = k.receiver; text = carried_text k.carried }
+
+abbrev pub AreShown : Classes → Parts → List KeptMessage → Type 0
+AreShown classes parts sent = (p : Played) → Holds classes parts p → map kept_shown sent ≡ map message_shown p.world.sent

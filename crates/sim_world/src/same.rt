@@ -1,0 +1,193 @@
+//! Whether two messages are equal: of the kinds that are sent again.
+ghost use Rattle.std.specs.Prelude.{◌≡◌, map, IfOk};
+ghost use Rattle.sim_world.specs.Same.{is_same_map, are_same_requests, is_same_kind, is_same_party};
+ghost use Rattle.sim_world.specs.inner.Buckets.{is_kept_as, is_same_carried, is_same_event, kept_number};
+
+use crate::kept::KeptMessage;
+use crate::sent::Sent;
+use carried::Carried;
+use group_world::{Epoch, Event, GroupMap, Kind, Packet, Party, Place, Requests};
+use peering_messages::{are_same, is_same_request};
+use pg_log::{ClientId, Request};
+use placement::NodeId;
+use sim_text::{Numbers, sender_of};
+use std::alloc::{AllocError, Global};
+
+fn is_same_map(map: &GroupMap, other: &GroupMap) -> bool
+    ensures { result ≡ is_same_map map.now other.now }
+{
+    map.epoch() == other.epoch()
+        && map.interval() == other.interval()
+        && are_same(map.acting(), other.acting())
+        && map.prev() == other.prev()
+        && are_same(map.prev_acting(), other.prev_acting())
+}
+
+fn are_same_requests(list: &[Request], other: &[Request]) -> bool
+    ensures { result ≡ are_same_requests list.now other.now }
+{
+    if list.len() != other.len() {
+        return false;
+    }
+    for place in 0..list.len() {
+        if !is_same_request(&list[place], &other[place]) {
+            return false;
+        }
+    }
+    true
+}
+
+/// Whether it is a Query of that map.
+fn is_query(kind: &Kind, map: &GroupMap) -> bool
+    ensures { result ≡ is_same_kind (Kind.Query map.now) kind.now }
+{
+    if let Kind::Query(other) = kind {
+        return is_same_map(map, other);
+    }
+    false
+}
+
+/// Whether it is that map's Query.
+fn is_asked(kind: &Kind, map: &GroupMap) -> bool
+    ensures { result ≡ is_same_kind kind.now (Kind.Query map.now) }
+{
+    if let Kind::Query(other) = kind {
+        return is_same_map(other, map);
+    }
+    false
+}
+
+/// Whether it is an Install of that map and list.
+fn is_install(kind: &Kind, map: &GroupMap, list: &Requests) -> bool
+    ensures { result ≡ is_same_kind (Kind.Install map.now list.now) kind.now }
+{
+    if let Kind::Install(other, same) = kind {
+        return is_same_map(map, other) && are_same_requests(list.items(), same.items());
+    }
+    false
+}
+
+/// Whether it asks for that interval.
+fn is_ask(kind: &Kind, interval: Epoch) -> bool
+    ensures { result ≡ is_same_kind (Kind.AskActivate interval) kind.now }
+{
+    if let Kind::AskActivate(other) = kind {
+        return interval == *other;
+    }
+    false
+}
+
+/// Whether it is a Rep of that interval, place and request.
+fn is_rep(kind: &Kind, interval: Epoch, place: Place, request: &Request) -> bool
+    ensures { result ≡ is_same_kind (Kind.Rep interval place request.now) kind.now }
+{
+    if let Kind::Rep(other, at, same) = kind {
+        return interval == *other && place == *at && is_same_request(request, same);
+    }
+    false
+}
+
+fn is_same_kind(kind: &Kind, other: &Kind) -> bool
+    ensures { result ≡ is_same_kind kind.now other.now }
+{
+    match kind {
+        Kind::Query(map) => is_query(other, map),
+        Kind::Install(map, list) => is_install(other, map, list),
+        Kind::AskActivate(interval) => is_ask(other, *interval),
+        Kind::Rep(interval, place, request) => is_rep(other, *interval, *place, request),
+        Kind::Log(_, _) => false,
+        Kind::Installed(_) => false,
+        Kind::Activated(_) => false,
+        Kind::Ack(_, _) => false,
+        Kind::Reply(_, _, _, _) => false,
+    }
+}
+
+/// Whether it is that node.
+fn is_node(party: Party, node: NodeId) -> bool
+    ensures { result ≡ is_same_party (Party.Node node) party }
+{
+    match party {
+        Party::Node(other) => node == other,
+        Party::Monitor => false,
+        Party::Client(_) => false,
+    }
+}
+
+/// Whether it is the monitor.
+fn is_monitor(party: Party) -> bool
+    ensures { result ≡ is_same_party Party.Monitor party }
+{
+    match party {
+        Party::Node(_) => false,
+        Party::Monitor => true,
+        Party::Client(_) => false,
+    }
+}
+
+/// Whether it is that client.
+fn is_client(party: Party, client: ClientId) -> bool
+    ensures { result ≡ is_same_party (Party.Client client) party }
+{
+    match party {
+        Party::Node(_) => false,
+        Party::Monitor => false,
+        Party::Client(other) => client == other,
+    }
+}
+
+fn is_same_party(party: Party, other: Party) -> bool
+    ensures { result ≡ is_same_party party other }
+{
+    match party {
+        Party::Node(node) => is_node(other, node),
+        Party::Monitor => is_monitor(other),
+        Party::Client(client) => is_client(other, client),
+    }
+}
+
+/// Whether a message that is kept says the same.
+fn is_same_event(kind: &Kind, event: &Event) -> bool
+    ensures { result ≡ is_same_event kind.now event.now }
+{
+    match event {
+        Event::Request(_) => false,
+        Event::Map(_) => false,
+        Event::Message(message) => is_same_kind(kind, &message.kind),
+    }
+}
+
+/// Whether what is kept of a message says the same. A list is never sent again.
+fn is_same_carried(kind: &Kind, carried: &Carried) -> bool
+    ensures { result ≡ is_same_carried kind.now carried.now }
+{
+    match carried {
+        Carried::Plain(event) => is_same_event(kind, event),
+        Carried::Query { map, .. } => is_asked(kind, map),
+        Carried::Log(_) => false,
+    }
+}
+
+/// Whether a message is equal to one that is kept.
+pub(crate) fn is_kept_as(packet: &Packet, kept: &KeptMessage) -> bool
+    ensures { result ≡ is_kept_as packet.now kept.now }
+{
+    is_same_party(packet.receiver, kept.receiver)
+        && is_same_party(packet.message.sender, sender_of(&kept.carried))
+        && is_same_carried(&packet.message.kind, &kept.carried)
+}
+
+/// The lowest numbers of messages equal to these.
+pub(crate) fn numbers_of(
+    alloc: Global,
+    sent: &Sent,
+    packets: &[Packet],
+) -> Result<Numbers, AllocError>
+    ensures { IfOk result (λ v. v ≡ map (kept_number sent.now) packets.now) }
+{
+    let mut numbers = Numbers::new(alloc);
+    for packet in packets {
+        numbers.push(sent.number_of(packet)?)?;
+    }
+    Ok(numbers)
+}

@@ -1,0 +1,216 @@
+//! The messages that were sent.
+ghost use Rattle.std.specs.Prelude.{◌≡◌, ◌≤◌, ◌<◌, ◌++◌, ◌∷◌, [], length, suc, IfOk, OnOk, OnErr, slice_index_or, slice_set};
+ghost use Rattle.sim_text.specs.Lines.{numbered};
+ghost use Rattle.sim_world.specs.inner.Buckets.{AreInBuckets, bucket, bucket_in, bucket_of, first_equal, is_equal_to, kept_number};
+
+use crate::kept::KeptMessage;
+use crate::same::is_kept_as;
+use carried::Carried;
+use group_world::{Event, Kind, Packet};
+use sim_text::{Numbers, numbered};
+use std::alloc::{AllocError, Global};
+use std::marker::Model;
+
+/// How many buckets are for messages that may be sent again. One more is for the others.
+const SPREAD: usize = 1024;
+
+/// How many buckets there are.
+const BUCKETS: usize = 1025;
+
+/// The bucket of a message.
+fn bucket(kind: &Kind) -> usize
+    ensures value { result ≡ bucket kind.now }
+    ensures below { result ≤ SPREAD }
+{
+    match kind {
+        Kind::Query(map) => map.interval().get() as usize % SPREAD,
+        Kind::Install(map, _) => map.interval().get() as usize % SPREAD,
+        Kind::AskActivate(interval) => interval.get() as usize % SPREAD,
+        Kind::Rep(_, place, _) => *place % SPREAD,
+        Kind::Log(_, _) => SPREAD,
+        Kind::Installed(_) => SPREAD,
+        Kind::Activated(_) => SPREAD,
+        Kind::Ack(_, _) => SPREAD,
+        Kind::Reply(_, _, _, _) => SPREAD,
+    }
+}
+
+fn bucket_in(event: &Event) -> usize
+    ensures value { result ≡ bucket_in event.now }
+    ensures below { result ≤ SPREAD }
+{
+    match event {
+        Event::Request(_) => SPREAD,
+        Event::Map(_) => SPREAD,
+        Event::Message(message) => bucket(&message.kind),
+    }
+}
+
+fn bucket_of(carried: &Carried) -> usize
+    ensures value { result ≡ bucket_of carried.now }
+    ensures below { result ≤ SPREAD }
+{
+    match carried {
+        Carried::Plain(event) => bucket_in(event),
+        Carried::Query { map, .. } => map.interval().get() as usize % SPREAD,
+        Carried::Log(_) => SPREAD,
+    }
+}
+
+/// Empty buckets.
+fn fresh_buckets(alloc: Global) -> Result<Vec<Numbers>, AllocError>
+    ensures { IfOk result (λ v. AreInBuckets [] v.items) }
+{
+    let mut buckets = Vec::new(alloc);
+    for _at in 0..BUCKETS {
+        buckets.push(Numbers::new(alloc))?;
+    }
+    Ok(buckets)
+}
+
+/// Puts a number into a bucket.
+fn put(buckets: &mut Vec<Numbers>, at: usize, number: usize) -> Result<(), AllocError>
+    requires { at < length buckets.old.items }
+    ensures ok { OnOk result (buckets.new.items ≡ slice_set buckets.old.items at (slice_index_or buckets.old.items at [] ++ number ∷ [])) }
+    ensures err { OnErr result (buckets.new.items ≡ buckets.old.items) }
+{
+    buckets[at].push(number)
+}
+
+/// The number behind that one. There is no memory for more messages than there are numbers.
+pub(crate) fn next_number(number: usize) -> Result<usize, AllocError>
+    ensures { IfOk result (λ n. n ≡ suc number) }
+{
+    number.checked_add(1).ok_or(AllocError)
+}
+
+/// The number of the last message.
+fn last_number(kept: &Vec<KeptMessage>) -> usize
+    ensures { result ≡ length kept.now.items }
+{
+    kept.len()
+}
+
+/// Keeps a message behind the others, and its number in its bucket. Where memory is refused, both are as before.
+fn keep_numbered(
+    kept: &mut Vec<KeptMessage>,
+    buckets: &mut Vec<Numbers>,
+    message: KeptMessage,
+) -> Result<(), AllocError>
+    requires { AreInBuckets kept.old.items buckets.old.items }
+    ensures ok { OnOk result (kept.new.items ≡ kept.old.items ++ message ∷ []) }
+    ensures err { OnErr result (kept.new.items ≡ kept.old.items) }
+    ensures in_buckets { AreInBuckets kept.new.items buckets.new.items }
+{
+    let before = kept.len();
+    let at = bucket_of(&message.carried);
+    kept.push(message)?;
+    match put(buckets, at, last_number(kept)) {
+        Ok(()) => Ok(()),
+        Err(error) => {
+            kept.truncate(before);
+            Err(error)
+        }
+    }
+}
+
+/// Whether the message of a number is equal to that one.
+fn is_equal_to(packet: &Packet, kept: &[KeptMessage], number: usize) -> bool
+    ensures { result ≡ is_equal_to packet.now (numbered kept.now number) }
+{
+    match numbered(kept, number as u64) {
+        Some(kept) => is_kept_as(packet, kept),
+        None => false,
+    }
+}
+
+/// The first of these numbers whose message is equal to that one; the one past the last where there is none.
+fn first_equal(
+    packet: &Packet,
+    kept: &[KeptMessage],
+    numbers: &[usize],
+) -> Result<usize, AllocError>
+    ensures { IfOk result (λ n. n ≡ first_equal packet.now kept.now numbers.now) }
+{
+    for number in numbers {
+        if is_equal_to(packet, kept, *number) {
+            return Ok(*number);
+        }
+    }
+    next_number(kept.len())
+}
+
+/// The lowest number of a message equal to that one.
+fn lowest_equal(
+    packet: &Packet,
+    kept: &[KeptMessage],
+    buckets: &Vec<Numbers>,
+) -> Result<usize, AllocError>
+    requires { AreInBuckets kept.now buckets.now.items }
+    ensures { IfOk result (λ n. n ≡ kept_number kept.now packet.now) }
+{
+    let at = bucket(&packet.message.kind);
+    first_equal(packet, kept, buckets[at].items())
+}
+
+/// The messages that were sent, as they are kept, by numbers from 1. One that is equal to another is found among few.
+/// Contracts see the list of them.
+#[derive(Drop)]
+pub(crate) struct Sent {
+    kept: Vec<KeptMessage>,
+    buckets: Vec<Numbers>,
+}
+
+impl Model for Sent {
+    ghost use Rattle.std.specs.Prelude.{List};
+    ghost use Rattle.sim_world.specs.declared.kept.KeptMessage.{KeptMessage};
+    ghost use Rattle.sim_world.specs.inner.Buckets.{AreInBuckets};
+
+    ghost Value = { List KeptMessage };
+
+    ghost view = { λ s. s.kept.items };
+
+    ghost invariant = { λ s. AreInBuckets s.kept.items s.buckets.items };
+}
+
+impl Sent {
+    /// No message.
+    pub(crate) fn new(alloc: Global) -> Result<Sent, AllocError>
+        ensures { IfOk result (λ s. s ≡ []) }
+    {
+        let buckets = fresh_buckets(alloc)?;
+        Ok(Sent {
+            kept: Vec::new(alloc),
+            buckets,
+        })
+    }
+
+    /// All of them.
+    pub(crate) fn items(&self) -> &[KeptMessage]
+        ensures { result.now ≡ self.now }
+    {
+        &self.kept
+    }
+
+    /// How many there are.
+    pub(crate) fn len(&self) -> usize
+        ensures { result ≡ length self.now }
+    {
+        self.kept.len()
+    }
+
+    /// Keeps a message behind the others. It fails for want of memory alone; all is then as before.
+    pub(crate) fn push(&mut self, message: KeptMessage) -> Result<(), AllocError>
+        ensures ok { OnOk result (self.new ≡ self.old ++ message ∷ []) }
+        ensures err { OnErr result (self.new ≡ self.old) }
+    {
+        keep_numbered(&mut self.kept, &mut self.buckets, message)
+    }
+
+    /// The lowest number of a message equal to that one. It looks at the messages of one bucket.
+    pub(crate) fn number_of(&self, packet: &Packet) -> Result<usize, AllocError>
+        ensures { IfOk result (λ n. n ≡ kept_number self.now packet.now) }
+    {
+        lowest_equal(packet, &self.kept, &self.buckets)
+    }
+}
