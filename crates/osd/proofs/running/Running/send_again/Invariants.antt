@@ -1,0 +1,5 @@
+use Rattle.osd.specs.Sent.{OnlySent, IsOf}
+use Rattle.osd.proofs.running.Running.send_again.Given as goal
+
+abbrev pub invariant-loop-outgoing : goal.invariant-loop-outgoing
+invariant-loop-outgoing g l = OnlySent l.initial.sends l.sends (IsOf l.group)

@@ -1,0 +1,67 @@
+use std::sync::atomic::{AtomicBool, Ordering};
+use std::sync::{Condvar, Mutex, Wait};
+
+/// What the workers wait on.
+#[derive(Drop)]
+struct Rings {
+    /// How often the bell was rung, modulo 2^64.
+    count: u64,
+    /// A worker waits.
+    has_waiting: bool,
+}
+
+/// The bell that wakes the workers. It is rung at each submit, and at the end.
+#[derive(Drop)]
+pub(crate) struct Bell {
+    finished: AtomicBool,
+    rings: Mutex<Rings>,
+    rung: Condvar,
+}
+
+impl Bell {
+    pub fn new() -> Bell {
+        Bell {
+            finished: AtomicBool::new(false),
+            rings: Mutex::new(Rings {
+                count: 0,
+                has_waiting: false,
+            }),
+            rung: Condvar::new(),
+        }
+    }
+
+    /// Whether the workers are to end.
+    pub fn is_finished(&self) -> bool {
+        self.finished.load(Ordering::SeqCst)
+    }
+
+    /// Has the workers end.
+    pub fn finish<R: Wait>(&self, rt: &R) {
+        self.finished.store(true, Ordering::SeqCst);
+        self.ring(rt);
+    }
+
+    /// Raises the count, and wakes all workers that wait.
+    pub fn ring<R: Wait>(&self, rt: &R) {
+        let mut rings = self.rings.lock(rt);
+        rings.count = rings.count.wrapping_add(1);
+        if rings.has_waiting {
+            rings.has_waiting = false;
+            self.rung.notify_all();
+        }
+    }
+
+    /// The count.
+    pub fn count<R: Wait>(&self, rt: &R) -> u64 {
+        self.rings.lock(rt).count
+    }
+
+    /// Waits while the count is still this one.
+    pub fn wait<R: Wait>(&self, rt: &R, count: u64) {
+        let mut rings = self.rings.lock(rt);
+        if rings.count == count {
+            rings.has_waiting = true;
+            drop(self.rung.wait_while(rt, rings, |r| r.count == count));
+        }
+    }
+}

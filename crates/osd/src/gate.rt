@@ -1,0 +1,14 @@
+/// What a worker asks before each operation. It may keep the worker there; no lock is held meanwhile.
+pub trait Gate {
+    /// Comes before an operation is handled: for a client's request its client's number times 2^32 and its own number, else
+    /// 0.
+    fn before(&self, number: u64);
+}
+
+/// A gate at which nobody is kept.
+#[derive(Clone, Copy)]
+pub struct Open;
+
+impl Gate for Open {
+    fn before(&self, _number: u64) {}
+}

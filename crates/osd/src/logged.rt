@@ -1,0 +1,23 @@
+use thiserror::Error;
+
+/// An entry of a node's log.
+#[derive(Clone, Copy, Debug, PartialEq, Eq)]
+pub struct LoggedEntry {
+    /// The client of its request.
+    pub client: u32,
+    /// The request's number.
+    pub number: u32,
+    /// What the call answered; a negative code is an error.
+    pub code: i64,
+}
+
+/// Why a node's log isn't told. It prints as number and name, as `1 NoSuch`.
+#[derive(Clone, Copy, Debug, PartialEq, Eq, Error)]
+pub enum LoggedError {
+    /// There is no such node, or no such group.
+    #[error("1 NoSuch")]
+    NoSuch,
+    /// Memory was refused.
+    #[error("2 NoMemory")]
+    NoMemory,
+}

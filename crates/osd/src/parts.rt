@@ -1,0 +1,144 @@
+ghost use Rattle.std.specs.Prelude.{◌≡◌, ◌*◌, ◌+◌, IsTrue, IfOk, All, length, vec_len};
+ghost use Rattle.osd.specs.Limits.{is_within_limits};
+ghost use Rattle.osd.specs.Maps.{HasPrimary, IsBookOf};
+ghost use Rattle.osd.specs.Unnamed.{IsUnused};
+
+use crate::config::Config;
+use crate::desk::SESSION_LIMIT;
+use crate::queued::Queued;
+use commit_board::{Board, NoMemory, Seen, Writer};
+use map_book::{MapBook, NewMap};
+use op_shards::{OpShards, SendPass, TakePass};
+use placement::NodeId;
+use std::alloc::{AllocError, Global};
+use std::marker::Model;
+
+/// The places of a queue.
+const QUEUE_PLACES: usize = 1024;
+
+/// A cluster that has no name yet: all of it but the classes, with a map of each group by which all nodes are up. Contracts
+/// see its board, its queues and what it is made of.
+#[derive(Drop)]
+pub struct Parts {
+    pub(crate) config: Config,
+    pub(crate) rows: Rows,
+    pub(crate) queues: AllQueues,
+    pub(crate) maps: Maps,
+}
+
+/// The board, an unused writer for each node of each group, and a token that knows nothing.
+#[derive(Drop)]
+pub(crate) struct Rows {
+    pub board: Board,
+    pub writers: Vec<Writer>,
+    pub seen: Seen,
+}
+
+/// The queues, and a pass for each sender and each taker.
+#[derive(Drop)]
+pub(crate) struct AllQueues {
+    pub shards: OpShards<Queued>,
+    pub sends: Vec<SendPass<Queued>>,
+    pub takes: Vec<TakePass<Queued>>,
+}
+
+/// The monitors, and the newest map of each group.
+#[derive(Drop)]
+pub(crate) struct Maps {
+    pub book: MapBook,
+    pub newest: Vec<NewMap>,
+}
+
+impl Model for Parts {
+    ghost use Rattle.std.specs.Prelude.{◌≡◌, ◌*◌, ◌+◌, IsTrue, All, length, vec_len};
+    ghost use Rattle.osd.specs.Limits.{is_within_limits};
+    ghost use Rattle.osd.specs.Maps.{HasPrimary, IsBookOf};
+    ghost use Rattle.osd.specs.Unnamed.{Unnamed, IsUnused};
+
+    ghost Value = { Unnamed };
+
+    ghost view = { λ p. record { board = p.rows.board; queues = p.queues.shards.queues; config = p.config } };
+
+    ghost invariant = { λ p. IsTrue (is_within_limits p.config)
+        × (vec_len p.rows.writers ≡ p.config.nodes * p.config.groups) × All (IsUnused p.rows.board) p.rows.writers.items
+        × (p.rows.seen.board ≡ p.rows.board)
+        × (vec_len p.queues.sends ≡ 65 + p.config.workers) × All (λ s. s.queues ≡ p.queues.shards.queues) p.queues.sends.items
+        × (vec_len p.queues.takes ≡ p.config.workers) × All (λ t. t.queues ≡ p.queues.shards.queues) p.queues.takes.items
+        × IsBookOf p.config p.maps.book × (length p.maps.newest.items ≡ p.config.groups) × All HasPrimary p.maps.newest.items };
+}
+
+impl Parts {
+    /// The parts of a cluster whose numbers are within their limits. It makes the first map of each group, with all nodes up.
+    pub fn new(alloc: Global, config: Config) -> Result<Parts, NoMemory>
+        requires { IsTrue (is_within_limits config) }
+        ensures { IfOk result (λ p. p.config ≡ config) }
+    {
+        let rows = rows_of(alloc, &config)?;
+        let queues = queues_of(alloc, &config)?;
+        let maps = maps_of(alloc, &config)?;
+        Ok(Parts {
+            config,
+            rows,
+            queues,
+            maps,
+        })
+    }
+}
+
+/// The board and its tokens.
+fn rows_of(alloc: Global, config: &Config) -> Result<Rows, NoMemory>
+    requires { IsTrue (is_within_limits config.now) }
+    ensures { IfOk result (λ r. (vec_len r.writers ≡ config.now.nodes * config.now.groups) × All (IsUnused r.board) r.writers.items × (r.seen.board ≡ r.board)) }
+{
+    let rows = (config.nodes * config.groups) as usize;
+    let (board, writers, seen) = Board::new(alloc, rows)?;
+    Ok(Rows {
+        board,
+        writers,
+        seen,
+    })
+}
+
+/// The queues and their passes.
+fn queues_of(alloc: Global, config: &Config) -> Result<AllQueues, NoMemory>
+    requires { IsTrue (is_within_limits config.now) }
+    ensures sends { IfOk result (λ q. (vec_len q.sends ≡ 65 + config.now.workers) × All (λ s. s.queues ≡ q.shards.queues) q.sends.items) }
+    ensures takes { IfOk result (λ q. (vec_len q.takes ≡ config.now.workers) × All (λ t. t.queues ≡ q.shards.queues) q.takes.items) }
+{
+    let senders = SESSION_LIMIT + 1 + config.workers;
+    let made = OpShards::new(alloc, config.shards, QUEUE_PLACES, senders, config.workers);
+    let Ok((shards, sends, takes)) = made else {
+        return Err(NoMemory);
+    };
+    Ok(AllQueues {
+        shards,
+        sends,
+        takes,
+    })
+}
+
+/// The monitors, with a first map of each group.
+fn maps_of(alloc: Global, config: &Config) -> Result<Maps, NoMemory>
+    requires { IsTrue (is_within_limits config.now) }
+    ensures book { IfOk result (λ m. IsBookOf config.now m.book) }
+    ensures newest { IfOk result (λ m. (length m.newest.items ≡ config.now.groups) × All HasPrimary m.newest.items) }
+{
+    let all = all_nodes(alloc, config.nodes)?;
+    let made = MapBook::new(alloc, config.nodes, config.replicas, config.groups);
+    let Ok(mut book) = made else {
+        return Err(NoMemory);
+    };
+    match book.new_map(&all) {
+        Ok(newest) => Ok(Maps { book, newest }),
+        Err(_) => Err(NoMemory),
+    }
+}
+
+/// The nodes with the numbers below this.
+fn all_nodes(alloc: Global, nodes: u64) -> Result<Vec<NodeId>, AllocError> {
+    let mut all = Vec::new(alloc);
+    for number in 0..nodes {
+        all.push(NodeId::new(number))?;
+    }
+    Ok(all)
+}

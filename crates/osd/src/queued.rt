@@ -1,0 +1,43 @@
+ghost use Rattle.std.specs.Prelude.{◌≡◌};
+
+use carried::Operation;
+use op_shards::Op;
+use std::marker::Model;
+
+/// An operation in a queue. A place of a queue holds its box, so that queues are small. Contracts see the operation.
+#[derive(Drop)]
+pub struct Queued {
+    operation: Box<Operation>,
+}
+
+impl Model for Queued {
+    ghost use Rattle.carried.specs.declared.operation.Operation.{Operation};
+
+    ghost Value = { Operation };
+
+    ghost view = { λ q. q.operation.value };
+}
+
+impl Op for Queued {
+    ghost group = { λ o. o.group };
+
+    fn group(&self) -> usize {
+        self.operation.group
+    }
+}
+
+impl Queued {
+    /// An operation in its box.
+    pub fn new(operation: Box<Operation>) -> Queued
+        ensures { result ≡ operation.value }
+    {
+        Queued { operation }
+    }
+
+    /// The operation, out of its box.
+    pub fn into_operation(self) -> Operation
+        ensures { result ≡ self }
+    {
+        Box::into_inner(self.operation)
+    }
+}

@@ -1,0 +1,124 @@
+ghost use Rattle.std.specs.Prelude.{◌≡◌, ◌<◌, ◌≤◌, [], IfSome, MatchOption};
+ghost use Rattle.commit_board.specs.Tokens.{knows};
+ghost use Rattle.placement.specs.Placement.{group_of};
+ghost use Rattle.osd.specs.Places.{IsThere, IsMissing};
+
+mod asking;
+mod delivering;
+mod mapping;
+mod naming;
+mod nudging;
+mod reading;
+mod serving;
+
+use crate::bell::Bell;
+use crate::config::Config;
+use crate::desk::{Desk, Opened};
+use crate::monitors::Monitors;
+use crate::name::ClusterName;
+use crate::newest::Newest;
+use crate::node::Node;
+use crate::queued::Queued;
+use crate::worker::Worker;
+use commit_board::Board;
+use group_cell::{GroupCell, Post};
+use object_store::ObjectName;
+use op_shards::OpShards;
+use pg_log::{ClassTable, ClientId};
+use placement::{NodeId, group_of};
+use std::alloc::Global;
+use std::marker::Model;
+use std::sync::{Mutex, Wait};
+
+/// A cluster that any number of threads play on, by shared references to it. Contracts see what it is made of.
+///
+/// A thread holds at most one lock at a time; only `new_map` holds two, the monitors' and then the newest maps'.
+#[derive(Drop)]
+pub struct Running<N: ClusterName, R> {
+    alloc: Global,
+    rt: R,
+    config: Config,
+    board: Board,
+    table: ClassTable,
+    shards: OpShards<Queued>,
+    nodes: Vec<Node<N>>,
+    mail: Vec<Mutex<Option<Post<N>>>>,
+    desk: Mutex<Desk<N>>,
+    monitors: Mutex<Monitors<N>>,
+    newest: Mutex<Newest<N>>,
+    workers: Vec<Mutex<Option<Worker<N>>>>,
+    bell: Bell,
+}
+
+impl<N: ClusterName, R> Model for Running<N, R> {
+    ghost use Rattle.std.specs.Prelude.{◌≡◌, IsTrue, vec_len};
+    ghost use Rattle.osd.specs.declared.config.Config.{Config};
+    ghost use Rattle.osd.specs.Limits.{is_within_limits};
+
+    ghost Value = { Config };
+
+    ghost view = { λ r. r.config };
+
+    ghost invariant = { λ r. (r.config ≡ N.config) × IsTrue (is_within_limits r.config) × (r.board ≡ N.board)
+        × (r.table ≡ N.classes) × (r.shards.queues ≡ N.queues) × (vec_len r.nodes ≡ r.config.nodes) };
+}
+
+impl<N: ClusterName, R: Wait> Running<N, R> {
+    /// The runtime that its calls wait by.
+    pub fn runtime(&self) -> &R {
+        &self.rt
+    }
+
+    /// What it is made of.
+    pub fn config(&self) -> &Config
+        ensures value { result.now ≡ self.now }
+        ensures name { result.now ≡ N.config }
+    {
+        &self.config
+    }
+
+    /// Its board.
+    pub fn board(&self) -> &Board
+        ensures { result.now ≡ N.board }
+    {
+        &self.board
+    }
+
+    /// Its classes.
+    pub fn table(&self) -> &ClassTable
+        ensures { result.now ≡ N.classes }
+    {
+        &self.table
+    }
+
+    /// The group of an object.
+    pub fn group_of(&self, object: &ObjectName) -> usize
+        ensures value { result ≡ group_of object.now N.config.groups }
+        ensures within { result < N.config.groups }
+    {
+        group_of(object.text().as_bytes(), self.config.groups) as usize
+    }
+
+    /// Opens a session: the first is client 1, the next 2, and so on. None after 64.
+    pub fn open(&self) -> Option<Opened<N>>
+        ensures { IfSome result (λ o. (o.client ≤ 64) × (o.seen ≡ knows N.board [])) }
+    {
+        let opened = self.desk.lock(&self.rt).open(&self.board)?;
+        // An answer that came before the session is lost.
+        drop(self.mail(opened.client));
+        Some(opened)
+    }
+
+    /// Takes the newest answer out of the client's mailbox.
+    pub fn mail(&self, client: ClientId) -> Option<Post<N>> {
+        let place = (client.get() - 1) as usize;
+        self.mail.get(place)?.lock(&self.rt).take()
+    }
+
+    /// A node's part in a group, if there is one.
+    fn cell(&self, node: NodeId, group: usize) -> Option<&Mutex<GroupCell<N>>>
+        ensures { MatchOption result (IsMissing N.config node group) (λ _. IsThere N.config node group) }
+    {
+        self.nodes.get(node.get() as usize)?.cell(group)
+    }
+}

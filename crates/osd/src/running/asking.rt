@@ -1,0 +1,61 @@
+ghost use Rattle.std.specs.Prelude.{◌≡◌, OnOk, OnErr};
+ghost use Rattle.op_shards.specs.Passes.{Grew, WasSent};
+ghost use Rattle.group_world.specs.declared.event.Event.TheVariants.{Request as ARequest};
+ghost use Rattle.carried.specs.declared.operation.Carried.TheVariants.{Plain};
+ghost use Rattle.osd.specs.Sent.{OnlySent, IsOf};
+
+use crate::ask_error::AskError;
+use crate::name::ClusterName;
+use crate::queued::Queued;
+use crate::running::Running;
+use crate::sends::Sends;
+use carried::{Carried, Operation};
+use group_world::Event;
+use pg_log::Request;
+use std::sync::Wait;
+
+impl<N: ClusterName, R: Wait> Running<N, R> {
+    /// Submits a copy of the request to the newest map's primary of its object's group. Full: the queue gave it back.
+    /// NoMemory: nothing was submitted.
+    pub fn ask(&self, sends: &mut Sends<N>, request: &Request) -> Result<(), AskError>
+        ensures grew { Grew sends.old sends.new }
+        ensures sent { OnOk result (WasSent sends.old sends.new (λ op. op.carried ≡ Plain (ARequest request.now))) }
+        ensures kept { OnErr result (sends.new ≡ sends.old) }
+    {
+        let Ok(copy) = request.copy(self.alloc) else {
+            return Err(AskError::NoMemory);
+        };
+        let group = self.group_of(request.object());
+        let node = self.newest.lock(&self.rt).primary(group);
+        let carried = Carried::Plain(Event::Request(copy));
+        self.submit(
+            sends,
+            Operation {
+                group,
+                node,
+                carried,
+            },
+        )
+    }
+
+    /// Submits an operation, and wakes the workers where its queue took it.
+    pub(crate) fn submit(&self, sends: &mut Sends<N>, operation: Operation) -> Result<(), AskError>
+        ensures only { OnlySent sends.old sends.new (IsOf operation.group) }
+        ensures sent { OnOk result (WasSent sends.old sends.new (λ op. op ≡ operation)) }
+        ensures kept { OnErr result (sends.new ≡ sends.old) }
+    {
+        let Ok(boxed) = Box::new(self.alloc, operation) else {
+            return Err(AskError::NoMemory);
+        };
+        match sends.submit(&self.rt, &self.shards, Queued::new(boxed)) {
+            Ok(()) => {
+                self.bell.ring(&self.rt);
+                Ok(())
+            }
+            Err(queued) => {
+                drop(queued);
+                Err(AskError::Full)
+            }
+        }
+    }
+}

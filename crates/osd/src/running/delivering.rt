@@ -1,0 +1,77 @@
+ghost use Rattle.std.specs.Prelude.{◌<◌};
+ghost use Rattle.osd.specs.Sent.{OnlySent, IsOf, IsAny};
+
+use crate::delivery::Delivery;
+use crate::name::ClusterName;
+use crate::running::Running;
+use crate::sends::Sends;
+use carried::{Carried, Operation};
+use group_cell::{Outgoing, Post};
+use group_world::{Epoch, Event, Kind, Message, Party};
+use pg_log::ClientId;
+use placement::NodeId;
+use std::sync::Wait;
+
+impl<N: ClusterName, R: Wait> Running<N, R> {
+    /// Brings what a node sends to whom it is for. It is lost where a queue is full, or memory is refused.
+    pub(crate) fn deliver(&self, sends: &mut Sends<N>, delivery: Delivery<N>)
+        ensures { OnlySent sends.old sends.new (IsOf delivery.group) }
+    {
+        let Delivery {
+            group,
+            sender,
+            outgoing,
+        } = delivery;
+        match outgoing {
+            Outgoing::ToNode(node, carried) => {
+                let _ = self.submit(
+                    sends,
+                    Operation {
+                        group,
+                        node,
+                        carried,
+                    },
+                );
+            }
+            Outgoing::ToMonitor(interval) => self.activate(sends, group, sender, interval),
+            Outgoing::ToClient(client, post) => self.post(client, post),
+        }
+    }
+
+    /// Asks the group's monitor to activate the interval, and tells the node where it did.
+    fn activate(&self, sends: &mut Sends<N>, group: usize, node: NodeId, interval: Epoch)
+        ensures { OnlySent sends.old sends.new (IsOf group) }
+    {
+        if group >= self.config.groups as usize || !self.is_activated(group, interval) {
+            return;
+        }
+        let carried = Carried::Plain(Event::Message(Message {
+            sender: Party::Monitor,
+            kind: Kind::Activated(interval),
+        }));
+        let _ = self.submit(
+            sends,
+            Operation {
+                group,
+                node,
+                carried,
+            },
+        );
+    }
+
+    /// Has the group's monitor activate the interval. Answers whether it did.
+    fn is_activated(&self, group: usize, interval: Epoch) -> bool
+        requires { group < N.config.groups }
+    {
+        let mut monitors = self.monitors.lock(&self.rt);
+        monitors.activate(group, interval).is_ok()
+    }
+
+    /// Puts an answer into the client's mailbox, over the one that is there. It is lost where the client has no mailbox.
+    fn post(&self, client: ClientId, post: Post<N>) {
+        let place = (client.get() - 1) as usize;
+        if let Some(mailbox) = self.mail.get(place) {
+            *mailbox.lock(&self.rt) = Some(post);
+        }
+    }
+}

@@ -1,0 +1,203 @@
+ghost use Rattle.std.specs.Prelude.{◌≡◌, ◌*◌, ◌+◌, ◌<◌, ◌≤◌, IfOk, OnOk, All, vec_len};
+ghost use Rattle.osd.specs.Unnamed.{IsUnused};
+
+use crate::bell::Bell;
+use crate::config::Config;
+use crate::desk::{Desk, SESSION_LIMIT};
+use crate::monitors::Monitors;
+use crate::name::ClusterName;
+use crate::newest::Newest;
+use crate::node::Node;
+use crate::parts::{AllQueues, Maps, Parts, Rows};
+use crate::queued::Queued;
+use crate::running::Running;
+use crate::sends::{Sends, Takes};
+use crate::worker::Worker;
+use commit_board::{NoMemory, Writer};
+use group_cell::{GroupCell, Post};
+use op_shards::{SendPass, TakePass};
+use peering::GroupNode;
+use pg_log::ClassTable;
+use placement::NodeId;
+use std::alloc::{AllocError, Global};
+use std::sync::{Mutex, Wait};
+
+impl<N: ClusterName, R: Wait + Drop> Running<N, R> {
+    /// A cluster by its parts, with the classes that are loaded. Each acting node of each group is handed its map.
+    pub(crate) fn named(
+        alloc: Global,
+        rt: R,
+        parts: Parts,
+        table: ClassTable,
+    ) -> Result<Running<N, R>, NoMemory>
+        requires board { parts.board ≡ N.board }
+        requires queues { parts.queues ≡ N.queues }
+        requires config { parts.config ≡ N.config }
+        requires table { table ≡ N.classes }
+    {
+        let Parts {
+            config,
+            rows,
+            queues,
+            maps,
+        } = parts;
+        let Rows {
+            board,
+            mut writers,
+            seen,
+        } = rows;
+        let AllQueues {
+            shards,
+            sends,
+            takes,
+        } = queues;
+        let Maps { book, newest } = maps;
+        let nodes = nodes_of::<N>(alloc, &config, &mut writers)?;
+        let mail = mailboxes::<N>(alloc)?;
+        let mut senders = senders_of::<N>(alloc, sends)?;
+        let monitors = Monitors::new(book, senders.pop().unwrap());
+        let workers = workers_of::<N>(alloc, &mut senders, takes)?;
+        let running = Running {
+            alloc,
+            rt,
+            config,
+            board,
+            table,
+            shards,
+            nodes,
+            mail,
+            desk: Mutex::new(Desk::new(seen, senders)),
+            monitors: Mutex::new(monitors),
+            newest: Mutex::new(Newest::new(newest)),
+            workers,
+            bell: Bell::new(),
+        };
+        running.tell_first();
+        Ok(running)
+    }
+
+    /// Hands each group's first map to its acting nodes.
+    fn tell_first(&self) {
+        let mut monitors = self.monitors.lock(&self.rt);
+        self.tell_all(&mut monitors.sends);
+    }
+}
+
+/// The nodes, each with a cell for each group, which takes one of the writers.
+fn nodes_of<N: ClusterName>(
+    alloc: Global,
+    config: &Config,
+    writers: &mut Vec<Writer>,
+) -> Result<Vec<Node<N>>, AllocError>
+    requires config { config.now ≡ N.config }
+    requires writers { vec_len writers.old ≡ config.now.nodes * config.now.groups }
+    requires unused { All (IsUnused N.board) writers.old.items }
+    ensures { IfOk result (λ v. vec_len v ≡ config.now.nodes) }
+{
+    let mut nodes = Vec::new(alloc);
+    for number in 0..config.nodes {
+        let node = NodeId::new(number);
+        let cells = cells_of::<N>(alloc, node, config.groups as usize, writers)?;
+        nodes.push(Node::new(cells))?;
+    }
+    Ok(nodes)
+}
+
+/// A node's cells.
+fn cells_of<N: ClusterName>(
+    alloc: Global,
+    node: NodeId,
+    groups: usize,
+    writers: &mut Vec<Writer>,
+) -> Result<Vec<Mutex<GroupCell<N>>>, AllocError>
+    requires writers { groups ≤ vec_len writers.old }
+    requires unused { All (IsUnused N.board) writers.old.items }
+    ensures cells { IfOk result (λ v. vec_len v ≡ groups) }
+    ensures writers { OnOk result (vec_len writers.new + groups ≡ vec_len writers.old) }
+    ensures unused { All (IsUnused N.board) writers.new.items }
+{
+    let mut cells = Vec::new(alloc);
+    for group in 0..groups {
+        let writer = next_writer::<N>(writers);
+        let cell = GroupCell::new(GroupNode::new(alloc, node), writer);
+        cells.push(Mutex::new(cell))?;
+    }
+    Ok(cells)
+}
+
+/// The next of the writers.
+fn next_writer<N: ClusterName>(writers: &mut Vec<Writer>) -> Writer
+    requires some { 0 < vec_len writers.old }
+    requires unused { All (IsUnused N.board) writers.old.items }
+    ensures writer { IsUnused N.board result }
+    ensures unused { All (IsUnused N.board) writers.new.items }
+    ensures rest { vec_len writers.new + 1 ≡ vec_len writers.old }
+{
+    writers.pop().unwrap()
+}
+
+/// An empty mailbox for each session.
+fn mailboxes<N: ClusterName>(alloc: Global) -> Result<Vec<Mutex<Option<Post<N>>>>, AllocError> {
+    let mut mail = Vec::new(alloc);
+    for _ in 0..SESSION_LIMIT {
+        mail.push(Mutex::new(None))?;
+    }
+    Ok(mail)
+}
+
+/// The senders by their passes.
+fn senders_of<N: ClusterName>(
+    alloc: Global,
+    mut passes: Vec<SendPass<Queued>>,
+) -> Result<Vec<Sends<N>>, AllocError>
+    requires { All (λ p. p.queues ≡ N.queues) passes.items }
+    ensures { IfOk result (λ v. vec_len v ≡ vec_len passes) }
+{
+    let mut senders = Vec::new(alloc);
+    let count = passes.len();
+    for sender in 0..count {
+        senders.push(next_sender::<N>(&mut passes))?;
+    }
+    Ok(senders)
+}
+
+/// A sender by the next of the passes.
+fn next_sender<N: ClusterName>(passes: &mut Vec<SendPass<Queued>>) -> Sends<N>
+    requires some { 0 < vec_len passes.old }
+    requires passes { All (λ p. p.queues ≡ N.queues) passes.old.items }
+    ensures passes { All (λ p. p.queues ≡ N.queues) passes.new.items }
+    ensures rest { vec_len passes.new + 1 ≡ vec_len passes.old }
+{
+    Sends::new(passes.pop().unwrap())
+}
+
+/// The workers by their passes. Each takes one of the senders.
+fn workers_of<N: ClusterName>(
+    alloc: Global,
+    senders: &mut Vec<Sends<N>>,
+    mut passes: Vec<TakePass<Queued>>,
+) -> Result<Vec<Mutex<Option<Worker<N>>>>, AllocError>
+    requires passes { All (λ p. p.queues ≡ N.queues) passes.items }
+    requires senders { vec_len passes ≤ vec_len senders.old }
+    ensures senders { OnOk result (vec_len senders.new + vec_len passes ≡ vec_len senders.old) }
+{
+    let mut workers = Vec::new(alloc);
+    let count = passes.len();
+    for number in 0..count {
+        let takes = next_taker::<N>(&mut passes);
+        let sends = senders.pop().unwrap();
+        let worker = Worker::new(number, takes, sends);
+        workers.push(Mutex::new(Some(worker)))?;
+    }
+    Ok(workers)
+}
+
+/// A taker by the next of the passes.
+fn next_taker<N: ClusterName>(passes: &mut Vec<TakePass<Queued>>) -> Takes<N>
+    requires some { 0 < vec_len passes.old }
+    requires passes { All (λ p. p.queues ≡ N.queues) passes.old.items }
+    ensures passes { All (λ p. p.queues ≡ N.queues) passes.new.items }
+    ensures rest { vec_len passes.new + 1 ≡ vec_len passes.old }
+{
+    Takes::new(passes.pop().unwrap())
+}

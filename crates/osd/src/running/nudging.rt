@@ -1,0 +1,130 @@
+ghost use Rattle.std.specs.Prelude.{◌<◌};
+ghost use Rattle.op_shards.specs.Passes.{Grew};
+ghost use Rattle.osd.specs.Sent.{OnlySent, IsOf};
+
+use crate::delivery::Delivery;
+use crate::name::ClusterName;
+use crate::running::Running;
+use crate::sends::Sends;
+use carried::{Carried, Operation};
+use group_cell::Outgoing;
+use group_world::Event;
+use placement::{NodeId, REPLICA_LIMIT};
+use std::sync::Wait;
+
+impl<N: ClusterName, R: Wait> Running<N, R> {
+    /// Hands the newest map of the group to each acting node of a lower interval, then submits what each acting node sends
+    /// again. A stopped node sends nothing. It does nothing where there is no such group.
+    pub fn nudge(&self, sends: &mut Sends<N>, group: usize)
+        ensures grew { Grew sends.old sends.new }
+        ensures only { OnlySent sends.old sends.new (IsOf group) }
+    {
+        if group >= self.config.groups as usize {
+            return;
+        }
+        for place in 0..REPLICA_LIMIT {
+            self.tell_late(sends, group, place);
+        }
+        for place in 0..REPLICA_LIMIT {
+            self.send_again(sends, group, place);
+        }
+    }
+
+    /// The node that acts at that place of the group's newest map.
+    pub(crate) fn acting(&self, group: usize, place: usize) -> Option<NodeId>
+        requires { group < N.config.groups }
+    {
+        self.newest.lock(&self.rt).acting(group, place)
+    }
+
+    /// Hands the newest map to the node that acts at that place, if its interval is lower.
+    fn tell_late(&self, sends: &mut Sends<N>, group: usize, place: usize)
+        requires { group < N.config.groups }
+        ensures { OnlySent sends.old sends.new (IsOf group) }
+    {
+        let Some(node) = self.acting(group, place) else {
+            return;
+        };
+        if !self.is_late(group, node) {
+            return;
+        }
+        self.tell_map(sends, group, node);
+    }
+
+    /// Whether a node's interval is lower than the newest map's.
+    fn is_late(&self, group: usize, node: NodeId) -> bool
+        requires { group < N.config.groups }
+    {
+        let Some(cell) = self.cell(node, group) else {
+            return false;
+        };
+        let reached = cell.lock(&self.rt).node().epoch();
+        reached.get() < self.newest.lock(&self.rt).interval(group).get()
+    }
+
+    /// Hands the newest map to a node. It is lost where memory is refused.
+    pub(crate) fn tell_map(&self, sends: &mut Sends<N>, group: usize, node: NodeId)
+        requires { group < N.config.groups }
+        ensures { OnlySent sends.old sends.new (IsOf group) }
+    {
+        let Ok(map) = self.newest.lock(&self.rt).map(self.alloc, group) else {
+            return;
+        };
+        let carried = Carried::Plain(Event::Map(map));
+        let _ = self.submit(
+            sends,
+            Operation {
+                group,
+                node,
+                carried,
+            },
+        );
+    }
+
+    /// Submits what the node that acts at that place sends again.
+    fn send_again(&self, sends: &mut Sends<N>, group: usize, place: usize)
+        requires { group < N.config.groups }
+        ensures { OnlySent sends.old sends.new (IsOf group) }
+    {
+        let Some(node) = self.acting(group, place) else {
+            return;
+        };
+        for outgoing in self.unanswered(group, node) {
+            self.deliver_some(sends, group, node, outgoing);
+        }
+    }
+
+    /// What a node sent and still waits for, if it isn't stopped. Memory refused is a message lost.
+    fn unanswered(&self, group: usize, node: NodeId) -> Vec<Option<Outgoing<N>>> {
+        let nothing = Vec::new(self.alloc);
+        if self.is_stopped(node) {
+            return nothing;
+        }
+        let Some(cell) = self.cell(node, group) else {
+            return nothing;
+        };
+        let sent = cell.lock(&self.rt).resend(self.alloc, &self.board);
+        sent.unwrap_or(nothing)
+    }
+
+    /// Brings what a node sends to whom it is for, if memory for it was there.
+    fn deliver_some(
+        &self,
+        sends: &mut Sends<N>,
+        group: usize,
+        sender: NodeId,
+        outgoing: Option<Outgoing<N>>,
+    )
+        ensures { OnlySent sends.old sends.new (IsOf group) }
+    {
+        let Some(outgoing) = outgoing else {
+            return;
+        };
+        let delivery = Delivery {
+            group,
+            sender,
+            outgoing,
+        };
+        self.deliver(sends, delivery);
+    }
+}

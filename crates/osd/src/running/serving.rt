@@ -1,0 +1,213 @@
+ghost use Rattle.std.specs.Prelude.{◌≡◌, ◌<◌, length};
+ghost use Rattle.osd.specs.Gates.{gate_number};
+ghost use Rattle.osd.specs.Sent.{OnlySent, IsOf, IsAny};
+
+use crate::delivery::Delivery;
+use crate::fate::{Deal, Fate, PassAll};
+use crate::gate::Gate;
+use crate::name::ClusterName;
+use crate::running::Running;
+use crate::sends::Sends;
+use crate::worker::Worker;
+use carried::{Carried, Operation};
+use group_cell::Outgoing;
+use group_world::Event;
+use placement::NodeId;
+use std::sync::Wait;
+
+/// What a gate gets of an operation: for a client's request the client's number times 2^32 and the request's number, else
+/// 0.
+fn gate_number(carried: &Carried) -> u64
+    ensures { result ≡ gate_number carried.now }
+{
+    match carried {
+        Carried::Plain(Event::Request(request)) => {
+            (u64::from(request.client().get()) << 32) + u64::from(request.number().get())
+        }
+        Carried::Plain(Event::Map(_))
+        | Carried::Plain(Event::Message(_))
+        | Carried::Query { .. }
+        | Carried::Log(_) => 0,
+    }
+}
+
+/// The shard after this one, in rotation.
+fn next_shard(shard: usize, shards: usize) -> usize
+    requires { shard < shards }
+    ensures { result < shards }
+{
+    if shard + 1 == shards { 0 } else { shard + 1 }
+}
+
+impl<N: ClusterName, R: Wait> Running<N, R> {
+    /// Serves as a worker until `finish`. It returns at once where the number is no worker's, or was served already.
+    pub fn serve<G: Gate>(&self, worker: usize, gate: &G) {
+        self.serve_with(worker, gate, &PassAll);
+    }
+
+    /// Serves as a worker until `finish`, under a fate. It returns at once where the number is no worker's, or was served
+    /// already.
+    pub fn serve_with<G: Gate, F: Fate>(&self, worker: usize, gate: &G, fate: &F) {
+        let Some(mut worker) = self.worker(worker) else {
+            return;
+        };
+        for _ in self.rt.forever() {
+            if self.bell.is_finished() {
+                break;
+            }
+            let count = self.bell.count(&self.rt);
+            if !self.round(&mut worker, gate, fate) {
+                self.bell.wait(&self.rt, count);
+            }
+        }
+    }
+
+    /// Has all workers end.
+    pub fn finish(&self) {
+        self.bell.finish(&self.rt);
+    }
+
+    /// What the worker of that number serves by, once.
+    fn worker(&self, number: usize) -> Option<Worker<N>> {
+        self.workers.get(number)?.lock(&self.rt).take()
+    }
+
+    /// Takes an operation of each shard, beginning at the worker's own number modulo the number of shards. Answers whether
+    /// there was one.
+    fn round<G: Gate, F: Fate>(&self, worker: &mut Worker<N>, gate: &G, fate: &F) -> bool
+        ensures { OnlySent worker.old.sends worker.new.sends IsAny }
+    {
+        let shards = self.shards.count();
+        let mut shard = worker.number % shards;
+        let mut found = false;
+        for _ in 0..shards {
+            let taken = self.take_turn(worker, gate, fate, shard);
+            found = found || taken;
+            shard = next_shard(shard, shards);
+        }
+        found
+    }
+
+    /// Takes an operation of a shard and serves it. Answers whether there was one.
+    fn take_turn<G: Gate, F: Fate>(
+        &self,
+        worker: &mut Worker<N>,
+        gate: &G,
+        fate: &F,
+        shard: usize,
+    ) -> bool
+        requires { shard < length N.queues.names }
+        ensures { OnlySent worker.old.sends worker.new.sends IsAny }
+    {
+        match worker.takes.take(&self.rt, &self.shards, shard) {
+            Some(operation) => {
+                self.turn(worker, gate, fate, operation);
+                true
+            }
+            None => false,
+        }
+    }
+
+    /// Serves one operation.
+    fn turn<G: Gate, F: Fate>(
+        &self,
+        worker: &mut Worker<N>,
+        gate: &G,
+        fate: &F,
+        operation: Operation,
+    )
+        ensures { OnlySent worker.old.sends worker.new.sends IsAny }
+    {
+        let Operation {
+            group,
+            node,
+            carried,
+        } = operation;
+        gate.before(gate_number(&carried));
+        for outgoing in self.handle(group, node, carried) {
+            self.send_some(worker, fate, group, node, outgoing);
+        }
+    }
+
+    /// Sends what a node sends, if memory for it was there.
+    fn send_some<F: Fate>(
+        &self,
+        worker: &mut Worker<N>,
+        fate: &F,
+        group: usize,
+        sender: NodeId,
+        outgoing: Option<Outgoing<N>>,
+    )
+        ensures { OnlySent worker.old.sends worker.new.sends IsAny }
+    {
+        let Some(outgoing) = outgoing else {
+            return;
+        };
+        let delivery = Delivery {
+            group,
+            sender,
+            outgoing,
+        };
+        self.send(worker, fate, delivery);
+    }
+
+    /// What a node's part in a group makes of what reaches it: nothing where the node is stopped.
+    fn handle(&self, group: usize, node: NodeId, carried: Carried) -> Vec<Option<Outgoing<N>>> {
+        let nothing = Vec::new(self.alloc);
+        if self.is_stopped(node) {
+            return nothing;
+        }
+        let Some(cell) = self.cell(node, group) else {
+            return nothing;
+        };
+        let sent = cell
+            .lock(&self.rt)
+            .turn(self.alloc, &self.board, &self.table, carried);
+        sent.unwrap_or(nothing)
+    }
+
+    /// Sends it once more, if memory for the copy is there.
+    fn deliver_twice(&self, sends: &mut Sends<N>, delivery: Delivery<N>)
+        ensures { OnlySent sends.old sends.new IsAny }
+    {
+        let again = delivery.again(self.alloc);
+        self.deliver_any(sends, Some(delivery));
+        self.deliver_any(sends, again);
+    }
+
+    /// Sends what a node sends, as the fate has it.
+    fn send<F: Fate>(&self, worker: &mut Worker<N>, fate: &F, delivery: Delivery<N>)
+        ensures { OnlySent worker.old.sends worker.new.sends IsAny }
+    {
+        if delivery.is_refusal() {
+            self.deliver(&mut worker.sends, delivery);
+            return;
+        }
+        let deal = fate.of(worker.number, worker.messages);
+        worker.messages = worker.messages.wrapping_add(1);
+        let late = worker.late.take();
+        self.deal(worker, deal, delivery);
+        self.deliver_any(&mut worker.sends, late);
+    }
+
+    /// Does with what a node sends what the fate says.
+    fn deal(&self, worker: &mut Worker<N>, deal: Deal, delivery: Delivery<N>)
+        ensures { OnlySent worker.old.sends worker.new.sends IsAny }
+    {
+        match deal {
+            Deal::Pass => self.deliver_any(&mut worker.sends, Some(delivery)),
+            Deal::Drop => drop(delivery),
+            Deal::Twice => self.deliver_twice(&mut worker.sends, delivery),
+            Deal::Late => worker.late = Some(delivery),
+        }
+    }
+
+    /// Brings what a node sends to whom it is for, if there is something.
+    fn deliver_any(&self, sends: &mut Sends<N>, delivery: Option<Delivery<N>>)
+        ensures { OnlySent sends.old sends.new IsAny }
+    {
+        if let Some(delivery) = delivery {
+            self.deliver(sends, delivery);
+        }
+    }
+}

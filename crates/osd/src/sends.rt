@@ -1,0 +1,102 @@
+ghost use Rattle.std.specs.Prelude.{◌≡◌, ◌<◌, length, OnOk, OnErr};
+ghost use Rattle.op_shards.specs.Passes.{WasSent};
+ghost use Rattle.osd.specs.Sent.{OnlySent, IsOf};
+
+use crate::name::ClusterName;
+use crate::queued::Queued;
+use carried::Operation;
+use op_shards::{OpShards, SendPass, TakePass};
+use std::marker::{Model, PhantomData};
+use std::sync::Wait;
+
+/// What a sender holds: a pass of the cluster's queues. Contracts see the pass.
+#[derive(Drop)]
+pub struct Sends<N: ClusterName> {
+    pass: SendPass<Queued>,
+    of: PhantomData<N>,
+}
+
+impl<N: ClusterName> Model for Sends<N> {
+    ghost use Rattle.std.specs.Prelude.{◌≡◌};
+    ghost use Rattle.op_shards.specs.Passes.{Sender};
+    ghost use Rattle.carried.specs.declared.operation.Operation.{Operation};
+
+    ghost Value = { Sender Operation };
+
+    ghost view = { λ s. s.pass };
+
+    ghost invariant = { λ s. s.pass.queues ≡ N.queues };
+}
+
+impl<N: ClusterName> Sends<N> {
+    /// A sender by its pass.
+    pub(crate) fn new(pass: SendPass<Queued>) -> Sends<N>
+        requires { pass.queues ≡ N.queues }
+        ensures { result ≡ pass }
+    {
+        Sends {
+            pass,
+            of: PhantomData,
+        }
+    }
+
+    /// Puts the operation into its group's queue, or drops it where that is full, and tells which.
+    pub(crate) fn submit<R: Wait>(
+        &mut self,
+        rt: &R,
+        shards: &OpShards<Queued>,
+        queued: Queued,
+    ) -> Result<(), Queued>
+        requires { shards.now.queues ≡ N.queues }
+        ensures only { OnlySent self.old self.new (IsOf queued.group) }
+        ensures sent { OnOk result (WasSent self.old self.new (λ op. op ≡ queued)) }
+        ensures kept { OnErr result (self.new ≡ self.old) }
+    {
+        shards.submit(rt, &mut self.pass, queued)
+    }
+}
+
+/// What a worker takes by: a pass of the cluster's queues.
+#[derive(Drop)]
+pub(crate) struct Takes<N: ClusterName> {
+    pass: TakePass<Queued>,
+    of: PhantomData<N>,
+}
+
+impl<N: ClusterName> Model for Takes<N> {
+    ghost use Rattle.std.specs.Prelude.{◌≡◌};
+    ghost use Rattle.op_shards.specs.Passes.{Taker};
+    ghost use Rattle.carried.specs.declared.operation.Operation.{Operation};
+
+    ghost Value = { Taker Operation };
+
+    ghost view = { λ t. t.pass };
+
+    ghost invariant = { λ t. t.pass.queues ≡ N.queues };
+}
+
+impl<N: ClusterName> Takes<N> {
+    /// A taker by its pass.
+    pub fn new(pass: TakePass<Queued>) -> Takes<N>
+        requires { pass.queues ≡ N.queues }
+    {
+        Takes {
+            pass,
+            of: PhantomData,
+        }
+    }
+
+    /// Takes the oldest operation of the shard.
+    pub fn take<R: Wait>(
+        &mut self,
+        rt: &R,
+        shards: &OpShards<Queued>,
+        shard: usize,
+    ) -> Option<Operation>
+        requires queues { shards.now.queues ≡ N.queues }
+        requires shard { shard < length shards.now.queues.names }
+    {
+        let queued = shards.take(rt, &mut self.pass, shard)?;
+        Some(queued.into_operation())
+    }
+}
