@@ -26,11 +26,7 @@ impl Op for Asked {
 }
 
 /// One thread submits and takes each operation in turn.
-pub fn pairs_in_one_thread<R: Wait + Clock>(
-    rt: &R,
-    alloc: Global,
-    mode: Mode,
-) -> Result<Figure> {
+pub fn pairs_in_one_thread<R: Wait + Clock>(rt: &R, alloc: Global, mode: Mode) -> Result<Figure> {
     let mut figure = Figure::new(mode);
     for _ in 0..mode.runs() {
         one_thread(rt, alloc, &mut figure)?;
@@ -39,11 +35,7 @@ pub fn pairs_in_one_thread<R: Wait + Clock>(
 }
 
 /// A run of one thread.
-fn one_thread<R: Wait + Clock>(
-    rt: &R,
-    alloc: Global,
-    figure: &mut Figure,
-) -> Result<()> {
+fn one_thread<R: Wait + Clock>(rt: &R, alloc: Global, figure: &mut Figure) -> Result<()> {
     let (shards, mut sends, mut takes) = OpShards::new(alloc, 1, 64, 1, 1)?;
     let Some(send) = sends.pop() else {
         return Err(Error::msg("a sender"));

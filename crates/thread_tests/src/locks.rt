@@ -5,7 +5,8 @@ ghost use mathlib.Core.List.{IsPrefix};
 use builtin_classes::load_lock;
 use object_store::ObjectName;
 use pg_log::{
-    ClassTable, Classes, ClientId, Entry, Group, Request, RequestNumber, group_crosses, table_crosses,
+    ClassTable, Classes, ClientId, Entry, Group, Request, RequestNumber, group_crosses,
+    table_crosses,
 };
 use std::alloc::Global;
 use std::marker::Brand;

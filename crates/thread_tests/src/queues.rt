@@ -344,9 +344,7 @@ fn gives_back_nine<R: Wait>(rt: &R, shards: &OpShards<Job>, mut send: SendPass<J
 
 #[test]
 fn a_full_queue_gives_back(rt: HostRuntime) {
-    let (shards, mut sends, _takes) = OpShards::new(rt.alloc(), 2, 1, 1, 1).expect(
-        &rt, "memory",
-    );
+    let (shards, mut sends, _takes) = OpShards::new(rt.alloc(), 2, 1, 1, 1).expect(&rt, "memory");
     let send = sends.pop().expect(&rt, "a sender");
     assert!(rt; gives_back_nine(&rt, &shards, send));
 }
