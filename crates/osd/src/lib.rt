@@ -4,7 +4,7 @@
 //! - Every token of the board, every pass and every answer is of the one cluster, by type (`ClusterName`).
 //! - A worker takes operations (`Running::serve`), and does with each what `GroupCell::turn` does under the group's lock.
 //! - A client asks by `Running::ask`, and finds the newest answer by `Running::mail`.
-//! - A pass only grows: `ask` says that the whole request was submitted, `nudge` that nothing else than what it names was.
+//! - A pass only grows: `ask` says that the whole request was submitted, `nudge` that only operations of its group were.
 #![tactic(auto)]
 
 mod ask_error;
