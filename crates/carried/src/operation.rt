@@ -110,9 +110,7 @@ fn copy_query(
 fn copy_short(alloc: Global, short: &ShortLog) -> Result<Carried, NoMemory>
     ensures { IfOk result (λ c. c ≡ Carried.Log short.now) }
 {
-    let Ok(log) = short.log.copy(alloc) else {
-        return Err(NoMemory);
-    };
+    let log = short.log.copy(alloc)?;
     Ok(Carried::Log(ShortLog {
         sender: short.sender,
         interval: short.interval,

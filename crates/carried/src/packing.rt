@@ -17,9 +17,7 @@ fn pack_list(
 ) -> Result<Carried, NoMemory>
     ensures { (committed : ℕ) → IfOk result (λ c. c ≡ carried_as committed told sender (Kind.Log interval list)) }
 {
-    let Ok(log) = pack_log(alloc, list.items(), told) else {
-        return Err(NoMemory);
-    };
+    let log = pack_log(alloc, list.items(), told)?;
     Ok(Carried::Log(ShortLog {
         sender,
         interval,

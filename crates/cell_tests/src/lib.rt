@@ -4,6 +4,8 @@
 #[cfg(test)]
 mod cells;
 #[cfg(test)]
+mod crossing;
+#[cfg(test)]
 mod maps;
 #[cfg(test)]
 mod turns;

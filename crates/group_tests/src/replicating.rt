@@ -2,8 +2,9 @@ mod at_places;
 mod packed;
 
 use super::printed::are_printed;
+use pg_log::NoMemory;
 use placement::NodeId;
-use replication::{Ack, NoMemory, UnpackError, commit_point, packed_lists};
+use replication::{Ack, UnpackError, commit_point, packed_lists};
 
 /// Whether the least of three members' acknowledged lengths is that one.
 fn is_least(lengths: [usize; 3], least: usize) -> bool {

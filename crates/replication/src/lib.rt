@@ -7,7 +7,6 @@
 mod ack;
 mod committed;
 mod laws;
-mod no_memory;
 mod packed_log;
 mod placed;
 mod rep;
@@ -16,7 +15,6 @@ mod unpack_error;
 pub use ack::Ack;
 pub use committed::commit_point;
 pub use laws::packed_lists;
-pub use no_memory::NoMemory;
 pub use packed_log::{PackedLog, pack_log, unpack_log};
 pub use placed::append_at;
 pub use rep::Rep;

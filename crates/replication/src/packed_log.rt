@@ -1,10 +1,9 @@
-ghost use Rattle.std.specs.Prelude.{◌≡◌, ◌<◌, ◌++◌, ◌↔◌, ◌⊎◌, Err, IfOk, IfErr, OnOk, length};
+ghost use Rattle.std.specs.Prelude.{◌≡◌, ◌≤◌, ◌<◌, ◌↔◌, ◌⊎◌, Err, IfOk, IfErr, length};
 ghost use Rattle.replication.specs.Packed.{packed, spread};
 ghost use Rattle.replication.specs.declared.unpack_error.UnpackError.TheVariants.{TooShort, NoMemory as NoRoom};
 
-use crate::no_memory::NoMemory;
 use crate::unpack_error::UnpackError;
-use pg_log::Request;
+use pg_log::{NoMemory, Request, copy_requests};
 use std::alloc::Global;
 use std::marker::Model;
 
@@ -52,7 +51,9 @@ impl PackedLog {
     pub fn copy(&self, alloc: Global) -> Result<PackedLog, NoMemory>
         ensures { IfOk result (λ p. p ≡ self.now) }
     {
-        let rest = copied(alloc, &self.rest)?;
+        let Ok(rest) = copy_requests(alloc, &self.rest) else {
+            return Err(NoMemory);
+        };
         Ok(PackedLog {
             common: self.common,
             rest,
@@ -66,8 +67,27 @@ pub fn pack_log(alloc: Global, list: &[Request], told: usize) -> Result<PackedLo
     ensures { IfOk result (λ p. p ≡ packed list.now told) }
 {
     let common = told.min(list.len());
-    let rest = copied(alloc, &list[common..])?;
+    let Ok(rest) = copy_requests(alloc, &list[common..]) else {
+        return Err(NoMemory);
+    };
     Ok(PackedLog { common, rest })
+}
+
+/// The beginning of the own list that was left out, and what was packed.
+fn unpacked(alloc: Global, own: &[Request], log: &PackedLog) -> Result<Vec<Request>, NoMemory>
+    requires { log.now.common ≤ length own.now }
+    ensures { IfOk result (λ list. list.items ≡ spread own.now log.now) }
+{
+    let Ok(mut list) = copy_requests(alloc, &own[..log.common]) else {
+        return Err(NoMemory);
+    };
+    let Ok(mut rest) = copy_requests(alloc, &log.rest) else {
+        return Err(NoMemory);
+    };
+    match list.append(&mut rest) {
+        Ok(()) => Ok(list),
+        Err(_) => Err(NoMemory),
+    }
 }
 
 /// The list that was packed, where the own list begins with what was left out. It costs a copy of the list. It refuses
@@ -84,34 +104,8 @@ pub fn unpack_log(
     if own.len() < log.common {
         return Err(UnpackError::TooShort);
     }
-    let Ok(mut list) = copied(alloc, &own[..log.common]) else {
-        return Err(UnpackError::NoMemory);
-    };
-    if add_copies(alloc, &log.rest, &mut list).is_err() {
-        return Err(UnpackError::NoMemory);
+    match unpacked(alloc, own, log) {
+        Ok(list) => Ok(list),
+        Err(_) => Err(UnpackError::NoMemory),
     }
-    Ok(list)
-}
-
-/// Equal requests.
-fn copied(alloc: Global, list: &[Request]) -> Result<Vec<Request>, NoMemory>
-    ensures { IfOk result (λ copies. copies.items ≡ list.now) }
-{
-    let mut copies = Vec::new(alloc);
-    add_copies(alloc, list, &mut copies)?;
-    Ok(copies)
-}
-
-/// Adds equal requests.
-fn add_copies(alloc: Global, list: &[Request], copies: &mut Vec<Request>) -> Result<(), NoMemory>
-    ensures { OnOk result (copies.new.items ≡ copies.old.items ++ list.now) }
-{
-    copies.reserve(list.len())?;
-    for request in list {
-        let Ok(request) = request.copy(alloc) else {
-            return Err(NoMemory);
-        };
-        copies.push_reserved(request);
-    }
-    Ok(())
 }
