@@ -1,0 +1,14 @@
+-- What a look into the mailbox says.
+use Rattle.std.specs.Prelude.{⊤, List}
+use Rattle.pg_log.specs.Requests.{ClientRequest}
+use Rattle.pg_log.specs.Log.{Classes}
+use Rattle.rados_client.specs.declared.found.Found.{Found}
+use Rattle.rados_client.specs.declared.found.Found.TheVariants as found
+use Rattle.rados_client.specs.Promise.{IsAnswered, Says}
+
+-- of the request, by the lists that are known then: a reply is true, and so is a refusal, which is a node's
+abbrev pub IsFound : Classes → List (List ClientRequest) → ClientRequest → Found → Type 0
+IsFound classes lists r found.Nothing = ⊤
+IsFound classes lists r found.Later = ⊤
+IsFound classes lists r (found.Refused e) = Says classes r ⊥ e
+IsFound classes lists r (found.Reply reply) = IsAnswered classes lists r reply

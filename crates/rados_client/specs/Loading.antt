@@ -1,0 +1,71 @@
+-- The classes of a cluster that hasn't run, and why a class isn't loaded.
+use Rattle.std.specs.Prelude.{◌≡◌, ℕ, suc, List, [], ◌∷◌, ◌++◌, length, ◌==◌, Option, Some, None, Result, Ok, Err, Bool, true, false}
+use Rattle.bpf_decode.specs.Class.{ClassMethod}
+use Rattle.bpf_decode.specs.ImageReading.{image_of}
+use Rattle.bpf_decode.specs.declared.image_error.ImageError.{ImageError}
+use Rattle.verifier.specs.Verdict.{class_verdict}
+use Rattle.verifier.specs.declared.refusal.Refusal.{Refusal}
+use Rattle.interp.specs.declared.limits.TheConstants.{CLASS_LIMIT}
+use Rattle.builtin_classes.specs.BuiltIn.{AreLoaded}
+use Rattle.builtin_classes.specs.declared.lock.TheConstants.{LOCK}
+use Rattle.builtin_classes.specs.declared.obj.TheConstants.{OBJ}
+use Rattle.pg_log.specs.Log.{Classes}
+use Rattle.rados_client.specs.declared.load_error.LoadError.{LoadError}
+use Rattle.rados_client.specs.declared.load_error.LoadError.TheVariants as load
+
+-- a cluster: how many classes are loaded, and which, by id; none where it has run
+pub record ClusterState : Type 0 where
+  pub count : ℕ
+  pub classes : Option Classes
+
+-- `lock` and `obj`, in this order
+abbrev pub IsBuiltIn : Classes → Type 0
+IsBuiltIn classes = AreLoaded LOCK.now OBJ.now classes
+
+-- the cluster has these two classes
+pub record HasBuiltIn (s : ClusterState) : Type 0 where
+  pub table : Classes
+  pub is : s ≡ record { count = 2; classes = Some table }
+  pub built_in : IsBuiltIn table
+
+-- the class is the image's, and it is accepted
+pub record IsVerified (image : List ℕ) (class : List ClassMethod) : Type 0 where
+  pub read : image_of image ≡ Ok class
+  pub accepted : class_verdict class ≡ None
+
+-- the image's class, which is accepted, is one more at the end, and its id is that place
+pub record IsAdded (image : List ℕ) (old new : ClusterState) (id : ℕ) : Type 0 where
+  pub class : List ClassMethod
+  pub verified : IsVerified image class
+  pub before : Classes
+  pub had : old ≡ record { count = id; classes = Some before }
+  pub place : id ≡ length before
+  pub has : new ≡ record { count = suc id; classes = Some (before ++ class ∷ []) }
+
+abbrev pub verdict_refusal : Option Refusal → Option LoadError
+verdict_refusal None = None
+verdict_refusal (Some refusal) = Some (load.Verdict refusal)
+
+abbrev pub refusal_of_read : Result (List ClassMethod) ImageError → Option LoadError
+refusal_of_read (Ok class) = verdict_refusal (class_verdict class)
+refusal_of_read (Err e) = Some (load.Image e)
+
+-- why an image gives no class, if it gives none: it is no image, else a method isn't safe
+abbrev pub class_refusal : List ℕ → Option LoadError
+class_refusal image = refusal_of_read (image_of image)
+
+abbrev pub refusal_of_start : Option Classes → Option LoadError
+refusal_of_start None = Some load.Started
+refusal_of_start (Some classes) = None
+
+abbrev pub refusal_of_room : Bool → Option LoadError → Option LoadError
+refusal_of_room true later = Some load.TooMany
+refusal_of_room false later = later
+
+abbrev pub first_of : Option LoadError → Option LoadError → Option LoadError
+first_of None later = later
+first_of (Some e) later = Some e
+
+-- Why a class isn't loaded, memory aside: by its image, else for want of room, else since the cluster has run.
+abbrev pub load_refusal : List ℕ → ClusterState → Option LoadError
+load_refusal image s = first_of (class_refusal image) (refusal_of_room (s.count == CLASS_LIMIT) (refusal_of_start s.classes))

@@ -1,0 +1,6 @@
+-- What the class `obj` reads of its input.
+use Rattle.std.specs.Prelude.{ℕ, ◌++◌, ◌∷◌, List, length, min}
+
+-- a byte with the name's length, at most 255, the name and the value
+abbrev pub attr_input : List ℕ → List ℕ → List ℕ
+attr_input name value = (min (length name) 255 ∷ name) ++ value

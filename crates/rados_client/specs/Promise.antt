@@ -1,0 +1,112 @@
+-- What a call promises of its reply or its refusal.
+use Rattle.std.specs.Prelude.{◌≡◌, ◌⊎◌, ◌↔◌, ⊤, ℕ, suc, ◌-◌, ◌^◌, List, Option, Some, None, Result, Err, IfOk, IfErr, slice_get}
+use mathlib.Core.List.{IsPrefix}
+use Rattle.pg_log.specs.Requests.{ClientRequest}
+use Rattle.pg_log.specs.Log.{Classes}
+use Rattle.pg_log.specs.Refusals.{refusal_of_class}
+use Rattle.pg_log.specs.declared.log_error.LogError.TheVariants as log
+use Rattle.group_world.specs.declared.event.Event.TheVariants.{Request as ARequest}
+use Rattle.commit_board.specs.Lists.{list_at}
+use Rattle.group_cell.specs.Posts.{Stands}
+use Rattle.op_shards.specs.Passes.{Sender, Grew, WasSent}
+use Rattle.carried.specs.declared.operation.Operation.{Operation}
+use Rattle.carried.specs.declared.operation.Carried.TheVariants.{Plain}
+use Rattle.rados_client.specs.declared.exec_error.ExecError.{ExecError}
+use Rattle.rados_client.specs.declared.exec_error.ExecError.TheVariants as exec
+use Rattle.rados_client.specs.Session.{Contact, SessionState, PlacedReply, KnowsMore}
+
+-- The lists that are known have one, of some row, with a legal beginning in which the whole request stands once, at the
+-- reply's place, and is answered there as the reply says.
+pub record IsAnswered (classes : Classes) (lists : List (List ClientRequest)) (r : ClientRequest) (reply : PlacedReply) : Type 0 where
+  pub row : ℕ
+  pub begun : List ClientRequest
+  pub begins : IsPrefix begun (list_at lists row)
+  pub stands : Stands classes begun reply.place r reply.answer
+
+-- The same, whoever knows it: some legal list has the whole request once, at the reply's place, answered there as the
+-- reply says.
+pub record IsAnswerIn (classes : Classes) (r : ClientRequest) (reply : PlacedReply) : Type 0 where
+  pub list : List ClientRequest
+  pub stands : Stands classes list reply.place r reply.answer
+
+-- from the one state of a pass to the other a queue took the whole request
+abbrev pub WasAsked : Sender Operation → Sender Operation → ClientRequest → Type 0
+WasAsked old new r = WasSent old new (λ op. op.carried ≡ Plain (ARequest r))
+
+-- What a refusal says: of the request, by the loaded classes, and of the queues that it was submitted to. Taken says
+-- that one took it in this call.
+abbrev pub Says : Classes → ClientRequest → Type 0 → ExecError → Type 0
+Says classes r Taken exec.NotPrimary = ⊥
+Says classes r Taken exec.Peering = ⊥
+Says classes r Taken exec.LogFull = ⊤
+Says classes r Taken exec.StaleNumber = ⊤
+Says classes r Taken exec.NoClass = refusal_of_class (slice_get classes r.class) r ≡ Some log.NoClass
+Says classes r Taken exec.NoMethod = refusal_of_class (slice_get classes r.class) r ≡ Some log.NoMethod
+Says classes r Taken exec.InputTooLong = refusal_of_class (slice_get classes r.class) r ≡ Some log.InputTooLong
+Says classes r Taken exec.NoMemory = ⊤
+Says classes r Taken exec.Unanswered = Taken
+Says classes r Taken exec.NothingSent = ⊥
+Says classes r Taken exec.NumbersUsedUp = ⊥
+Says classes r Taken exec.NotTaken = ⊤
+
+-- The whole of what asking for a request promises, of what the session shares with the cluster.
+pub record IsAsked (classes : Classes) (old new : Contact) (r : ClientRequest) (result : Result PlacedReply ExecError) : Type 0 where
+  pub seen : KnowsMore old.seen new.seen
+  pub grew : Grew old.sends new.sends
+  pub ok : IfOk result (IsAnswered classes new.seen r)
+  pub err : IfErr result (Says classes r (WasAsked old.sends new.sends r))
+
+-- the request's number is used up, and the request is the one that was sent last
+abbrev pub IsUsed : SessionState → SessionState → ClientRequest → Type 0
+IsUsed old new r = (new.used ≡ suc old.used) × (new.last ≡ Some r)
+
+-- What becomes of the number where a call is refused. Where none is left, and where memory was refused before the
+-- request was sent, the session is as it was.
+abbrev pub NumberAt : SessionState → SessionState → ClientRequest → ExecError → Type 0
+NumberAt old new r exec.NotPrimary = ⊥
+NumberAt old new r exec.Peering = ⊥
+NumberAt old new r exec.LogFull = IsUsed old new r
+NumberAt old new r exec.StaleNumber = IsUsed old new r
+NumberAt old new r exec.NoClass = IsUsed old new r
+NumberAt old new r exec.NoMethod = IsUsed old new r
+NumberAt old new r exec.InputTooLong = IsUsed old new r
+NumberAt old new r exec.NoMemory = IsUsed old new r ⊎ (new ≡ old)
+NumberAt old new r exec.Unanswered = IsUsed old new r
+NumberAt old new r exec.NothingSent = ⊥
+NumberAt old new r exec.NumbersUsedUp = new ≡ old
+NumberAt old new r exec.NotTaken = IsUsed old new r
+
+-- what a new request's refusal says: there is no number for it, or as above
+abbrev pub SaysNew : Classes → SessionState → SessionState → ClientRequest → ExecError → Type 0
+SaysNew classes old new r e =
+    ((e ≡ exec.NumbersUsedUp) × (old.used ≡ 2 ^ 32 - 1)) ⊎ Says classes r (WasAsked old.contact.sends new.contact.sends r) e
+
+-- What a call of a new request promises.
+pub record IsCall (classes : Classes) (old new : SessionState) (r : ClientRequest) (result : Result PlacedReply ExecError) : Type 0 where
+  -- the client stays
+  pub client : new.client ≡ old.client
+  -- nothing is forgotten that was seen or told
+  pub seen : KnowsMore old.contact.seen new.contact.seen
+  -- a reply is true, by what is known then
+  pub ok : IfOk result (IsAnswered classes new.contact.seen r)
+  -- a refusal is true
+  pub err : IfErr result (SaysNew classes old new r)
+  -- a number is used once
+  pub used : IfOk result (λ _. IsUsed old new r)
+  pub number : IfErr result (NumberAt old new r)
+  -- exactly where all are used up
+  pub used_up : (result ≡ Err exec.NumbersUsedUp) ↔ (old.used ≡ 2 ^ 32 - 1)
+
+-- what asking again for the request that was sent last promises, where there is one
+abbrev pub IsAskedAgain : Classes → SessionState → SessionState → Option ClientRequest → Result PlacedReply ExecError → Type 0
+IsAskedAgain classes old new None result = (result ≡ Err exec.NothingSent) × (new ≡ old)
+IsAskedAgain classes old new (Some r) result = IsAsked classes old.contact new.contact r result
+
+-- What a call of the request that was sent last promises.
+pub record IsRepeat (classes : Classes) (old new : SessionState) (result : Result PlacedReply ExecError) : Type 0 where
+  -- client, number and request stay
+  pub client : new.client ≡ old.client
+  pub used : new.used ≡ old.used
+  pub last : new.last ≡ old.last
+  -- nothing is forgotten that was seen or told, and the answer is true
+  pub asked : IsAskedAgain classes old new old.last result

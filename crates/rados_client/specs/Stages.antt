@@ -1,0 +1,9 @@
+-- What a cluster's stage is to a contract.
+use Rattle.std.specs.Prelude.{length, Some, None}
+use Rattle.rados_client.specs.declared.cluster.Stage.{Stage}
+use Rattle.rados_client.specs.declared.cluster.Stage.TheVariants.{Idle, Started}
+use Rattle.rados_client.specs.Loading.{ClusterState}
+
+abbrev pub state_of : Stage → ClusterState
+state_of (Idle parts table) = record { count = length table; classes = Some table }
+state_of (Started n) = record { count = n; classes = None }

@@ -1,0 +1,54 @@
+ghost use Rattle.std.specs.Prelude.{◌≡◌, ◌++◌, IfOk};
+
+use crate::class_id::ClassId;
+use object_store::ObjectName;
+use pg_log::{ClientId, Request, RequestNumber};
+use std::alloc::{AllocError, Global};
+
+/// What a call asks for. Its input is head, body and tail, one after another.
+#[derive(Clone, Copy)]
+pub(crate) struct Call<'a> {
+    pub object: &'a ObjectName,
+    pub class: ClassId,
+    pub method: &'a str,
+    pub head: &'a [u8],
+    pub body: &'a [u8],
+    pub tail: &'a [u8],
+}
+
+impl Call<'_> {
+    /// The client's request of that number.
+    pub fn request(
+        &self,
+        alloc: Global,
+        client: ClientId,
+        number: RequestNumber,
+    ) -> Result<Request, AllocError>
+        ensures { IfOk result (λ r. r ≡ record {
+          client = client;
+          number = number;
+          object = self.now.object.now;
+          class = self.now.class;
+          method = self.now.method.now;
+          input = (self.now.head.now ++ self.now.body.now) ++ self.now.tail.now;
+        }) }
+    {
+        let Ok(object) = self.object.copy(alloc) else {
+            return Err(AllocError);
+        };
+        let method = String::from_str(alloc, self.method)?;
+        let input = self.input(alloc)?;
+        let class = self.class.get();
+        Ok(Request::new(client, number, object, class, method, input))
+    }
+
+    /// The input in one piece.
+    fn input(&self, alloc: Global) -> Result<Vec<u8>, AllocError>
+        ensures { IfOk result (λ v. v.items ≡ (self.now.head.now ++ self.now.body.now) ++ self.now.tail.now) }
+    {
+        let mut bytes = Vec::from_slice(alloc, self.head)?;
+        bytes.extend_from_slice(self.body)?;
+        bytes.extend_from_slice(self.tail)?;
+        Ok(bytes)
+    }
+}

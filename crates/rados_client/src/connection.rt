@@ -1,0 +1,217 @@
+ghost use Rattle.std.specs.Prelude.{◌≡◌, ◌⊎◌, ◌+◌, ◌-◌, ◌^◌, min, IsTrue, IfSome, IfNone, IfOk, OnOk, OnErr};
+ghost use Rattle.op_shards.specs.Passes.{Grew};
+ghost use Rattle.rados_client.specs.Found.{IsFound};
+ghost use Rattle.rados_client.specs.Session.{KnowsMore};
+ghost use Rattle.rados_client.specs.Promise.{IsAnswered, IsAsked, Says, WasAsked};
+
+use crate::exec_error::ExecError;
+use crate::found::Found;
+use crate::patience::Patience;
+use crate::reply::Reply;
+use commit_board::{Note, Seen};
+use group_cell::{Post, Reply as Posted};
+use osd::{AskError, ClusterName, Running, Sends};
+use pg_log::Request;
+use std::marker::Model;
+use std::sync::Wait;
+use std::thread;
+
+/// How many turns the other threads are given after a queue was full.
+const TURNS_WHEN_FULL: u32 = 64;
+
+/// What a session shares with its cluster: what it has seen of the board, and the pass that it submits by; and how
+/// often it nudged.
+#[derive(Drop)]
+pub(crate) struct Connection<'a, N: ClusterName, R> {
+    running: &'a Running<N, R>,
+    seen: Seen,
+    sends: Sends<N>,
+    nudges: u64,
+}
+
+impl<'a, N: ClusterName, R> Model for Connection<'a, N, R> {
+    ghost use Rattle.std.specs.Prelude.{◌≡◌};
+    ghost use Rattle.rados_client.specs.Session.{Contact};
+
+    ghost Value = { Contact };
+
+    ghost view = { λ c. record {
+      seen = c.seen.lists;
+      sends = c.sends;
+      nudges = c.nudges;
+    } };
+
+    ghost invariant = { λ c. c.seen.board ≡ N.board };
+}
+
+impl<'a, N: ClusterName, R: Wait> Connection<'a, N, R> {
+    /// The connection of a new session.
+    pub fn new(running: &'a Running<N, R>, seen: Seen, sends: Sends<N>) -> Connection<'a, N, R>
+        requires { seen.board ≡ N.board }
+        ensures { result ≡ record {
+          seen = seen.lists;
+          sends = sends;
+          nudges = 0;
+        } }
+    {
+        Connection {
+            running,
+            seen,
+            sends,
+            nudges: 0,
+        }
+    }
+
+    /// The cluster.
+    pub fn running(&self) -> &'a Running<N, R> {
+        self.running
+    }
+
+    /// How often the request's group was nudged, over all calls.
+    pub fn nudges(&self) -> u64
+        ensures { result ≡ self.now.nudges }
+    {
+        self.nudges
+    }
+
+    /// A note of what was seen.
+    pub fn tell(&mut self) -> Note
+        ensures board { result.board ≡ N.board }
+        ensures lists { result.lists ≡ self.old.seen }
+        ensures same { self.new ≡ self.old }
+    {
+        self.running.board().tell(&mut self.seen)
+    }
+
+    /// Knows from now on what the note knew, too.
+    pub fn hear(&mut self, note: Note)
+        requires { note.board ≡ N.board }
+        ensures known { KnowsMore self.old.seen self.new.seen }
+        ensures told { KnowsMore note.lists self.new.seen }
+        ensures sends { self.new.sends ≡ self.old.sends }
+    {
+        self.running.board().meet(&mut self.seen, note);
+    }
+
+    /// Asks for the request until it is answered or the tries are used up: the first submit is one, and each later
+    /// submit and each look. None where memory was refused before the first submit.
+    pub fn ask(&mut self, request: &Request, tries: u32) -> Option<Result<Reply, ExecError>>
+        ensures none { IfNone result (self.new ≡ self.old) }
+        ensures some { IfSome result (IsAsked N.classes self.old self.new request.now) }
+    {
+        let mut patience = match self.submit(request) {
+            Ok(()) => Patience::after_taken(),
+            Err(AskError::Full) => Patience::after_full(),
+            Err(AskError::NoMemory) => return None,
+        };
+        for _ in 1..tries {
+            if let Some(answer) = self.try_once(request, &mut patience) {
+                return Some(answer);
+            }
+        }
+        Some(Err(patience.end()))
+    }
+
+    /// One try: the request is submitted again where that is due, else the mailbox is looked into. Some where the
+    /// request is answered.
+    fn try_once(
+        &mut self,
+        request: &Request,
+        patience: &mut Patience,
+    ) -> Option<Result<Reply, ExecError>>
+        ensures seen { KnowsMore self.old.seen self.new.seen }
+        ensures grew { Grew self.old.sends self.new.sends }
+        ensures taken { IsTrue patience.new.taken → IsTrue patience.old.taken ⊎ WasAsked self.old.sends self.new.sends request.now }
+        ensures some { IfSome result (IsAsked N.classes self.old self.new request.now) }
+    {
+        if patience.is_over() {
+            self.submit_again(request, patience);
+            return None;
+        }
+        match self.look(request) {
+            Found::Reply(reply) => Some(Ok(reply)),
+            Found::Refused(error) => Some(Err(error)),
+            Found::Later => {
+                patience.give_up();
+                None
+            }
+            Found::Nothing => {
+                patience.wait();
+                pause(patience.turns());
+                None
+            }
+        }
+    }
+
+    /// Submits the request to the newest map's primary.
+    fn submit(&mut self, request: &Request) -> Result<(), AskError>
+        ensures seen { self.new.seen ≡ self.old.seen }
+        ensures nudges { self.new.nudges ≡ self.old.nudges }
+        ensures grew { Grew self.old.sends self.new.sends }
+        ensures taken { OnOk result (WasAsked self.old.sends self.new.sends request.now) }
+        ensures kept { OnErr result (self.new.sends ≡ self.old.sends) }
+    {
+        self.running.ask(&mut self.sends, request)
+    }
+
+    /// Nudges the request's group, and submits the request again.
+    fn submit_again(&mut self, request: &Request, patience: &mut Patience)
+        ensures seen { self.new.seen ≡ self.old.seen }
+        ensures grew { Grew self.old.sends self.new.sends }
+        ensures taken { IsTrue patience.new.taken → IsTrue patience.old.taken ⊎ WasAsked self.old.sends self.new.sends request.now }
+    {
+        self.nudge(request);
+        match self.submit(request) {
+            Ok(()) => patience.begin(),
+            Err(AskError::Full) => pause(TURNS_WHEN_FULL),
+            Err(AskError::NoMemory) => patience.go_on(),
+        }
+    }
+
+    /// Nudges the request's group.
+    fn nudge(&mut self, request: &Request)
+        ensures seen { self.new.seen ≡ self.old.seen }
+        ensures grew { Grew self.old.sends self.new.sends }
+        ensures counted { self.new.nudges ≡ min (self.old.nudges + 1) (2 ^ 64 - 1) }
+    {
+        let group = self.running.group_of(request.object());
+        self.running.nudge(&mut self.sends, group);
+        self.nudges = self.nudges.saturating_add(1);
+    }
+
+    /// Looks into the mailbox. An answer to another request is passed over.
+    fn look(&mut self, request: &Request) -> Found
+        ensures seen { KnowsMore self.old.seen self.new.seen }
+        ensures sends { self.new.sends ≡ self.old.sends }
+        ensures found { IsFound N.classes self.new.seen request.now result }
+    {
+        let Some(post) = self.running.mail(request.client()) else {
+            return Found::Nothing;
+        };
+        if !post.answers(request) {
+            return Found::Nothing;
+        }
+        match post {
+            Post::Reply(posted) => Found::Reply(self.accept(posted)),
+            Post::Refused(refused) => Found::of_refusal(refused),
+        }
+    }
+
+    /// Knows from now on what the reply's note knew, too.
+    fn accept(&mut self, posted: Posted<N>) -> Reply
+        ensures seen { KnowsMore self.old.seen self.new.seen }
+        ensures sends { self.new.sends ≡ self.old.sends }
+        ensures answered { IsAnswered N.classes self.new.seen posted.request result }
+    {
+        let (place, answer, note) = posted.into_parts();
+        self.hear(note);
+        Reply::new(place, answer)
+    }
+}
+
+/// Gives the other threads so many turns.
+fn pause(turns: u32) {
+    for _ in 0..turns {
+        thread::yield_now();
+    }
+}

@@ -1,0 +1,86 @@
+ghost use Rattle.std.specs.Prelude.{◌≡◌, true, false, MatchBool};
+
+use crate::exec_error::ExecError;
+
+/// After how many looks in a row without an answer a request is submitted again.
+const LOOKS: u32 = 1_000;
+
+/// How long a session goes on looking before it submits the request again, and whether a queue has taken the request.
+#[derive(Clone, Copy)]
+pub(crate) struct Patience {
+    looks_left: u32,
+    pub taken: bool,
+}
+
+impl Patience {
+    /// After a queue took the request.
+    pub fn after_taken() -> Patience
+        ensures { result.taken ≡ true }
+    {
+        Patience {
+            looks_left: LOOKS,
+            taken: true,
+        }
+    }
+
+    /// After the queue gave the request back.
+    pub fn after_full() -> Patience
+        ensures { result.taken ≡ false }
+    {
+        Patience {
+            looks_left: 0,
+            taken: false,
+        }
+    }
+
+    /// Whether the request is to be submitted again.
+    pub fn is_over(&self) -> bool {
+        self.looks_left == 0
+    }
+
+    /// A look found no answer.
+    pub fn wait(&mut self)
+        ensures { self.new.taken ≡ self.old.taken }
+    {
+        self.looks_left = self.looks_left.saturating_sub(1);
+    }
+
+    /// How many turns the other threads are given before the next look: 1 at first and 4 at last, so that many sessions
+    /// that wait leave the processors to the workers.
+    pub fn turns(&self) -> u32 {
+        1 + LOOKS.saturating_sub(self.looks_left) / 256
+    }
+
+    /// The request is to be submitted again at once.
+    pub fn give_up(&mut self)
+        ensures { self.new.taken ≡ self.old.taken }
+    {
+        self.looks_left = 0;
+    }
+
+    /// A queue has taken the request.
+    pub fn begin(&mut self)
+        ensures { self.new.taken ≡ true }
+    {
+        self.looks_left = LOOKS;
+        self.taken = true;
+    }
+
+    /// Memory was refused to a submit, which counts as a try: the session looks on.
+    pub fn go_on(&mut self)
+        ensures { self.new.taken ≡ self.old.taken }
+    {
+        self.looks_left = LOOKS;
+    }
+
+    /// What a call is refused by where its tries are used up.
+    pub fn end(&self) -> ExecError
+        ensures { MatchBool self.now.taken (result ≡ ExecError.Unanswered) (result ≡ ExecError.NotTaken) }
+    {
+        if self.taken {
+            ExecError::Unanswered
+        } else {
+            ExecError::NotTaken
+        }
+    }
+}

@@ -1,0 +1,55 @@
+ghost use Rattle.std.specs.Prelude.{◌≡◌};
+ghost use Rattle.std.specs.Int.{w64, cast_unsigned};
+
+use group_world::{Answer, Place};
+use std::marker::Model;
+
+/// The reply to a call. Contracts see its place and its answer.
+#[derive(Drop)]
+pub struct Reply {
+    place: Place,
+    answer: Answer,
+}
+
+impl Model for Reply {
+    ghost use Rattle.rados_client.specs.Session.{PlacedReply};
+
+    ghost Value = { PlacedReply };
+
+    ghost view = { λ r. record {
+      place = r.place;
+      answer = r.answer;
+    } };
+}
+
+impl Reply {
+    pub(crate) fn new(place: Place, answer: Answer) -> Reply
+        ensures { result ≡ record {
+          place = place;
+          answer = answer;
+        } }
+    {
+        Reply { place, answer }
+    }
+
+    /// Where the call stands in its group's log, from 0 on.
+    pub fn place(&self) -> Place
+        ensures { result ≡ self.now.place }
+    {
+        self.place
+    }
+
+    /// The code that the method gave; a negative one is an error.
+    pub fn code(&self) -> i64
+        ensures { cast_unsigned w64 result ≡ self.now.answer.code }
+    {
+        self.answer.code()
+    }
+
+    /// The output that the method gave; empty where the code is negative.
+    pub fn output(&self) -> &[u8]
+        ensures { result.now ≡ self.now.answer.output }
+    {
+        self.answer.output()
+    }
+}
