@@ -1,3 +1,4 @@
--- A reader of the contracts must believe Book. Errors has how refusals of lower crates are passed on.
+-- A reader of the contracts must believe Book and Refusal. Errors has how refusals of lower crates are passed on.
 pub mod Book
 pub mod Errors
+pub mod Refusal

@@ -4,25 +4,40 @@ ghost use Rattle.map_book.specs.declared.map_error.MapError.TheVariants.{NoneUp,
 use group_world::MonitorError;
 use placement::PlacementError;
 use std::alloc::{AllocError, AllocFailed};
-use thiserror::Error;
+use std::error::Error;
+use std::fmt;
 
 /// Why no maps are made; all monitors are then as before. It prints as number and name, as `1 NoneUp`. Of the first three
 /// the lowest that applies.
-#[derive(Clone, Copy, Debug, PartialEq, Eq, Error)]
+#[derive(Clone, Copy, Debug, PartialEq, Eq, Drop)]
 pub enum MapError {
     /// No node is up.
-    #[error("1 NoneUp")]
     NoneUp,
     /// A number isn't that of a node, or a node stands twice among those that are up.
-    #[error("2 Limit")]
     Limit,
     /// The newest epoch is 2^32 - 1.
-    #[error("3 EpochsUsedUp")]
     EpochsUsedUp,
     /// Memory was refused.
-    #[error("4 NoMemory")]
     NoMemory,
 }
+
+impl fmt::Display for MapError {
+    ghost use Rattle.std.specs.Prelude.{Some};
+    ghost use Rattle.map_book.specs.Refusal.{map_error_text};
+
+    ghost output = { λ e. Some (map_error_text e) };
+
+    fn fmt<W: fmt::Write>(&self, f: &mut fmt::Formatter<W>) -> fmt::Result {
+        match self {
+            MapError::NoneUp => write!(f, "1 NoneUp"),
+            MapError::Limit => write!(f, "2 Limit"),
+            MapError::EpochsUsedUp => write!(f, "3 EpochsUsedUp"),
+            MapError::NoMemory => write!(f, "4 NoMemory"),
+        }
+    }
+}
+
+impl Error for MapError {}
 
 impl From<AllocError> for MapError {
     ghost from_gives = { λ _ e. e ≡ NoMemory };
