@@ -1,15 +1,15 @@
 //! Drawings of runs, by hand.
 
 use super::checks::see;
-use sim_trace::{Lane, Letter, Step, What, draw};
+use sim_trace::{Column, Message, Step, What, draw};
 use std::alloc::Global;
 use std::process::Abort;
 
-const NODE_1: Lane = Lane::Node(1);
+const NODE_1: Column = Column::Node(1);
 
-const NODE_2: Lane = Lane::Node(2);
+const NODE_2: Column = Column::Node(2);
 
-const CLIENT: Lane = Lane::Client(1);
+const CLIENT: Column = Column::Client(1);
 
 /// A reply that is never delivered reaches its client; m5 is lost; m4 comes to a stopped node; m1 comes twice.
 const DRAWN: &str = "\
@@ -25,22 +25,24 @@ c1          1           2           mon         event
 ";
 
 /// The messages that are sent.
-const LETTERS: [(Lane, Lane, &str); 5] = [
+const MESSAGES: [(Column, Column, &str); 5] = [
     (NODE_1, NODE_2, "Rep 1 0"),
     (NODE_2, NODE_1, "Ack 1 1"),
     (NODE_1, CLIENT, "Reply 7 0 0 -"),
     (NODE_2, NODE_2, "Query 2"),
-    (NODE_2, Lane::Monitor, "AskActivate 2"),
+    (NODE_2, Column::Monitor, "AskActivate 2"),
 ];
 
 /// The messages of a table.
-fn letters<R: Abort>(rt: &R, alloc: Global, table: &[(Lane, Lane, &str)]) -> Vec<Letter> {
-    let mut letters = Vec::new(alloc);
+fn messages<R: Abort>(rt: &R, alloc: Global, table: &[(Column, Column, &str)]) -> Vec<Message> {
+    let mut messages = Vec::new(alloc);
     for &(from, to, text) in table {
         let text = String::from_str(alloc, text).expect(rt, "memory");
-        letters.push(Letter { from, to, text }).expect(rt, "memory");
+        messages
+            .push(Message { from, to, text })
+            .expect(rt, "memory");
     }
-    letters
+    messages
 }
 
 /// What happened, what is said of it, and how many messages it sent.
@@ -65,9 +67,9 @@ fn steps<R: Abort>(rt: &R, alloc: Global, table: &[(What, &str, usize)]) -> Vec<
 
 /// The drawing of those steps.
 fn drawn<R: Abort>(rt: &R, alloc: Global) -> String {
-    let letters = letters(rt, alloc, &LETTERS);
+    let messages = messages(rt, alloc, &MESSAGES);
     let steps = steps(rt, alloc, &STEPS);
-    draw(alloc, &letters, &steps).expect(rt, "memory")
+    draw(alloc, &messages, &steps).expect(rt, "memory")
 }
 
 #[test]

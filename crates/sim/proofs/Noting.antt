@@ -1,22 +1,29 @@
 -- Lines that were done and noted, and how the course of a file goes on from there.
-use Rattle.std.proofs.Common.{◌≡◌, ◌<◌, ◌+◌, ℕ, suc, List, [], ◌∷◌, ◌++◌, length, map, Bor, Bool, true, false, if◌then◌else◌, Option, Some, None, refl, sym, ap, subst, ◌∙◌, append_assoc, append-nil, drop, drop-cons, get_or, arith}
+use Rattle.std.proofs.Common.{◌≡◌, ◌<◌, ℕ, suc, List, [], ◌∷◌, ◌++◌, length, map, Bor, Bool, true, false, if◌then◌else◌, Option, Some, None, refl, sym, ap, subst, ◌∙◌, append_assoc, append-nil, drop, drop-cons, get_or}
 use Rattle.pg_log.specs.Log.{Classes}
 use Rattle.sim_text.specs.Lines.{line_of}
 use Rattle.std.specs.Prelude.{is_some}
 use Rattle.sim_text.specs.Texts.{is_bad}
 use Rattle.sim_text.specs.declared.line.Line.{Line}
 use Rattle.sim_text.specs.declared.taken.Taken.{Taken}
-use Rattle.sim.specs.Drawing.{Course, Courses, DrawsRun, Noted, IsNoted, Notes, IsCourse, ahead, bad_of, course, course_from, drawn_as, drawn_of, follow, noted, noted_as}
+use Rattle.sim.specs.Drawing.{Course, Courses, DrawsRun, Noted, Notes, IsCourse, ahead, bad_of, course, course_from, done_if, drawn_as, drawn_of, follow, meant_by, noted, noted_as, noted_if}
 use Rattle.sim_trace.specs.Drawing.{drawn}
-use Rattle.sim_trace.specs.declared.letter.Letter.{Letter as Message}
+use Rattle.sim_trace.specs.declared.message.Message.{Message}
 use Rattle.sim_trace.specs.declared.step.Step.{Step}
-use Rattle.sim_world.specs.Step.{Played, Happened, beginning, step}
+use Rattle.sim_trace.specs.declared.step.What.{What}
+use Rattle.sim_world.specs.Step.{Played, beginning, step}
 use Rattle.sim_world.specs.Holds.{AreShown, Holds, IsAgreedWorld, IsStep, ReachedAgree, Steps, kept_shown, message_shown}
 use Rattle.sim_world.specs.declared.kept.KeptMessage.{KeptMessage}
 use Rattle.sim_world.specs.inner.Parts.{Parts}
 
 abbrev texts : List (Bor (List ℕ)) → List (List ℕ)
 texts ws = map (λ (w : Bor (List ℕ)). w.now) ws
+
+-- the steps grew by the line's own
+pub noted_by : (names : List (List ℕ)) (line : List ℕ) (l : Line) (taken : Taken) (meant : Option What) (before after : List Noted)
+    → l ≡ line_of names line → meant ≡ meant_by l → after ≡ before ++ noted_if line taken (done_if meant taken) → after ≡ before ++ noted names line taken
+noted_by names line l taken meant before after e is more =
+    more ∙ ap (λ (o : Option What). before ++ noted_if line taken (done_if o taken)) (is ∙ ap meant_by e)
 
 -- a line was done and noted; a bad one isn't noted
 pub line_noted : (classes : Classes) (names : List (List ℕ)) (line : List ℕ) (old new : Parts) (l : Line) (taken : Taken) (before after : List Noted) (bad : Bool)

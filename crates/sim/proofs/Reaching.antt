@@ -8,9 +8,9 @@ use Rattle.sim_text.specs.Lines.{line_of}
 use Rattle.sim_text.specs.Texts.{is_bad, taken_text}
 use Rattle.sim_text.specs.declared.line.Line.{Line}
 use Rattle.sim_text.specs.declared.taken.Taken.{Taken}
-use Rattle.sim.specs.Run.{Printed, SaysOf, Takes, IsLine, bad_line, before_rest, go_on, line_text, run_from, run_lines, Grew, Prints, Stops}
-use Rattle.sim_world.specs.Step.{Played, Happened, beginning, step}
-use Rattle.sim_world.specs.Holds.{Holds, IsReached, IsAgreedWorld, IsStep, ReachedAgree, Says, Steps}
+use Rattle.sim.specs.Run.{Printed, SaysOf, Takes, bad_line, before_rest, line_text, run_from, run_lines, Grew, Prints, Stops}
+use Rattle.sim_world.specs.Step.{Played, beginning, step}
+use Rattle.sim_world.specs.Holds.{Holds, IsAgreedWorld, IsStep, ReachedAgree, Says, Steps}
 use Rattle.sim_world.specs.inner.Parts.{Parts}
 
 -- what came of a line is printed, by whether it is bad

@@ -1,21 +1,21 @@
 -- The run of a file as it is drawn: what each line makes happen, and every message. What a line comes to is `step`, as where
 -- the lines are printed; how steps and messages look is sim_trace's `drawn`.
-use Rattle.std.specs.Prelude.{◌≡◌, ℕ, suc, min, Bool, true, false, List, [], ◌∷◌, ◌++◌, map, Option, Some, None, is_some, if◌then◌else◌, codes, string_bytes}
+use Rattle.std.specs.Prelude.{◌≡◌, ℕ, suc, min, Bool, List, [], ◌∷◌, ◌++◌, map, Option, Some, None, is_some, if◌then◌else◌, codes, string_bytes}
 use Rattle.std.specs.Fmt.{decimal}
 use Rattle.pg_log.specs.Log.{Classes}
 use Rattle.group_world.specs.declared.party.Party.{Party}
 use Rattle.group_world.specs.declared.party.Party.TheVariants.{Node as ANode, Monitor as TheMonitor, Client as AClient}
 use Rattle.sim.specs.Run.{bad_line, Grew}
-use Rattle.sim_text.specs.Lines.{line_of, lines_of}
+use Rattle.sim_text.specs.Lines.{line_of}
 use Rattle.sim_text.specs.Texts.{is_bad, said_text}
 use Rattle.sim_text.specs.declared.line.Line.{Line}
 use Rattle.sim_text.specs.declared.line.Line.TheVariants as lines
 use Rattle.sim_text.specs.declared.taken.Taken.{Taken}
 use Rattle.sim_text.specs.declared.taken.Taken.TheVariants as taken
 use Rattle.sim_trace.specs.Drawing.{drawn}
-use Rattle.sim_trace.specs.declared.lane.Lane.{Lane as Column}
-use Rattle.sim_trace.specs.declared.lane.Lane.TheVariants.{Client, Node, Monitor}
-use Rattle.sim_trace.specs.declared.letter.Letter.{Letter as Message}
+use Rattle.sim_trace.specs.declared.column.Column.{Column}
+use Rattle.sim_trace.specs.declared.column.Column.TheVariants.{Client, Node, Monitor}
+use Rattle.sim_trace.specs.declared.message.Message.{Message}
 use Rattle.sim_trace.specs.declared.step.What.{What}
 use Rattle.sim_trace.specs.declared.step.What.TheVariants.{At, Asked, Arrived, Bounced}
 use Rattle.sim_trace.specs.declared.step.Step.{Step}
@@ -44,23 +44,33 @@ drawn_as m = record { from = m.from; to = m.to; text = string_bytes m.text }
 abbrev pub drawn_of : MessageShown → Drawn
 drawn_of m = record { from = column_of m.sender; to = column_of m.receiver; text = m.text }
 
--- WHAT A LINE MAKES HAPPEN, if anything: at the monitor, between a client and a node, at a node; or a message arrives, or
--- comes to a node that is stopped.
+-- WHAT A LINE IS TO MAKE HAPPEN, if anything: at the monitor, between a client and a node, at a node; or a message arrives.
+abbrev pub meant_by : Line → Option What
+meant_by lines.Empty = None
+meant_by (lines.Map acting) = Some (At Monitor)
+meant_by (lines.See n epoch) = Some (At (column_of_node n))
+meant_by (lines.Ask n r) = Some (Asked (Client r.client) (column_of_node n))
+meant_by (lines.Deliver number) = Some (Arrived number)
+meant_by (lines.Show n) = Some (At (column_of_node n))
+meant_by (lines.Stop n) = Some (At (column_of_node n))
+meant_by (lines.Go n) = Some (At (column_of_node n))
+meant_by (lines.Resend n) = Some (At (column_of_node n))
+meant_by lines.Bad = None
+
+-- WHAT HAPPENED, by what came of the line: a message may also come to a node that is stopped.
 abbrev pub delivery_of : ℕ → Taken → What
 delivery_of number taken.Stopped = Bounced number
 delivery_of number _ = Arrived number
 
-abbrev pub what_of : Line → Taken → Option What
-what_of lines.Empty t = None
-what_of (lines.Map acting) t = Some (At Monitor)
-what_of (lines.See n epoch) t = Some (At (column_of_node n))
-what_of (lines.Ask n r) t = Some (Asked (Client r.client) (column_of_node n))
-what_of (lines.Deliver number) t = Some (delivery_of number t)
-what_of (lines.Show n) t = Some (At (column_of_node n))
-what_of (lines.Stop n) t = Some (At (column_of_node n))
-what_of (lines.Go n) t = Some (At (column_of_node n))
-what_of (lines.Resend n) t = Some (At (column_of_node n))
-what_of lines.Bad t = None
+abbrev pub done_of : What → Taken → What
+done_of (At column) t = At column
+done_of (Asked client node) t = Asked client node
+done_of (Arrived number) t = delivery_of number t
+done_of (Bounced number) t = Bounced number
+
+abbrev pub done_if : Option What → Taken → Option What
+done_if None t = None
+done_if (Some what) t = Some (done_of what t)
 
 -- WHAT IS SAID OF IT: its line, but none of a delivery
 abbrev pub line_of_step : What → List ℕ → List ℕ
@@ -110,7 +120,7 @@ noted_if line t None = []
 noted_if line t (Some what) = record { what = what; text = said line what t; sent = sent_by t } ∷ []
 
 abbrev pub noted : List (List ℕ) → List ℕ → Taken → List Noted
-noted names line t = noted_if line t (what_of (line_of names line) t)
+noted names line t = noted_if line t (done_if (meant_by (line_of names line)) t)
 
 -- A RUN: its steps, the played world after them with all messages, and the number of the bad line, if one is.
 pub record Course : Type 0 where

@@ -6,7 +6,7 @@ use Rattle.pg_log.specs.Log.{Classes}
 use Rattle.group_world.specs.declared.message.Packet.{Packet}
 use Rattle.sim.specs.declared.file.Ending.{Ending}
 use Rattle.sim.specs.declared.file.Ending.TheVariants.{Done, Bad, NoMemory, Unprinted}
-use Rattle.sim_text.specs.Lines.{line_of, lines_of}
+use Rattle.sim_text.specs.Lines.{line_of}
 use Rattle.sim_text.specs.Texts.{is_bad, taken_text}
 use Rattle.sim_text.specs.declared.taken.Taken.{Taken}
 use Rattle.sim_world.specs.Step.{Played, Happened, beginning, step}

@@ -8,10 +8,10 @@ ghost use Rattle.sim_world.specs.Holds.{Holds, kept_shown};
 ghost use Rattle.sim_world.specs.Step.{beginning};
 
 use crate::bad_line::bad_line;
-use crate::note::{column, note};
+use crate::note::{column, meant, note};
 use pg_log::{ClassTable, Classes};
 use sim_text::{carried_text, lines, read_line, sender_of};
-use sim_trace::{Letter as Message, Step, draw};
+use sim_trace::{Message, Step, draw};
 use sim_world::{KeptMessage, World, reached_worlds_agree};
 use std::alloc::{AllocError, Global};
 use std::marker::Brand;
@@ -60,11 +60,12 @@ fn take_line<C: Classes>(
     ensures { IfOk result (λ bad. Notes C.classes (map (λ n. n.now) names.now) text.now world.old world.new (map noted_as steps.old.items) (map noted_as steps.new.items) bad) }
 {
     let line = read_line(alloc, names, text)?;
+    let meant = meant(&line);
     let taken = world.take(table, line)?;
     if taken.is_bad() {
         return Ok(true);
     }
-    note(alloc, names, text, &taken, steps)?;
+    note(alloc, meant, text, &taken, steps)?;
     Ok(false)
 }
 

@@ -1,13 +1,12 @@
 //! What is noted of a line for a drawing.
 ghost use Rattle.std.specs.Prelude.{◌≡◌, ◌++◌, IfOk, OnOk, codes, map, string_bytes};
-ghost use Rattle.sim.specs.Drawing.{after_colon, again_after, column_of, column_of_node, delivery_of, line_of_step, noted, noted_as, said, said_after, sent_by, what_of};
-ghost use Rattle.sim_text.specs.Lines.{line_of};
+ghost use Rattle.sim.specs.Drawing.{after_colon, again_after, column_of, column_of_node, delivery_of, done_if, done_of, line_of_step, meant_by, noted_as, noted_if, said, said_after, sent_by};
 ghost use Rattle.sim_text.specs.Texts.{said_text};
 
 use group_world::Party;
 use placement::NodeId;
-use sim_text::{Line, Taken, read_line, said_text};
-use sim_trace::{Lane as Column, Step, What};
+use sim_text::{Line, Taken, said_text};
+use sim_trace::{Column, Step, What};
 use std::alloc::{AllocError, Global};
 
 /// The column of a node; a number past 255 counts as that, and no node has it.
@@ -28,9 +27,9 @@ pub(crate) fn column(party: Party) -> Column
     }
 }
 
-/// What a line makes happen, if anything does.
-fn what(line: &Line, taken: &Taken) -> Option<What>
-    ensures { result ≡ what_of line.now taken.now }
+/// What a line is to make happen, if anything; of a delivery, that the message arrives.
+pub(crate) fn meant(line: &Line) -> Option<What>
+    ensures { result ≡ meant_by line.now }
 {
     match line {
         Line::Empty => None,
@@ -40,7 +39,7 @@ fn what(line: &Line, taken: &Taken) -> Option<What>
             Column::Client(request.client().get()),
             column_of_node(*node),
         )),
-        Line::Deliver(number) => Some(delivery(*number as usize, taken)),
+        Line::Deliver(number) => Some(What::Arrived(*number as usize)),
         Line::See(node, _) => Some(What::At(column_of_node(*node))),
         Line::Show(node) => Some(What::At(column_of_node(*node))),
         Line::Stop(node) => Some(What::At(column_of_node(*node))),
@@ -57,6 +56,18 @@ fn delivery(number: usize, taken: &Taken) -> What
         return What::Bounced(number);
     }
     What::Arrived(number)
+}
+
+/// What happened where that was to happen, by what came of the line.
+fn done(meant: What, taken: &Taken) -> What
+    ensures { result ≡ done_of meant taken.now }
+{
+    match meant {
+        What::At(_) => meant,
+        What::Asked(_, _) => meant,
+        What::Arrived(number) => delivery(number, taken),
+        What::Bounced(_) => meant,
+    }
 }
 
 /// How many messages a line sent.
@@ -130,30 +141,18 @@ fn said(alloc: Global, line: &str, what: What, taken: &Taken) -> Result<String, 
     Ok(text)
 }
 
-/// What a line of a file made happen, if anything did.
-fn what_of(
-    alloc: Global,
-    names: &[&str],
-    text: &str,
-    taken: &Taken,
-) -> Result<Option<What>, AllocError>
-    ensures { IfOk result (λ w. w ≡ what_of (line_of (map (λ n. n.now) names.now) text.now) taken.now) }
-{
-    let line = read_line(alloc, names, text)?;
-    Ok(what(&line, taken))
-}
-
-/// Notes what a line made happen.
+/// Notes what a line made happen, if anything was to.
 pub(crate) fn note(
     alloc: Global,
-    names: &[&str],
+    meant: Option<What>,
     text: &str,
     taken: &Taken,
     steps: &mut Vec<Step>,
 ) -> Result<(), AllocError>
-    ensures { OnOk result (map noted_as steps.new.items ≡ map noted_as steps.old.items ++ noted (map (λ n. n.now) names.now) text.now taken.now) }
+    ensures { OnOk result (map noted_as steps.new.items ≡ map noted_as steps.old.items ++ noted_if text.now taken.now (done_if meant taken.now)) }
 {
-    if let Some(what) = what_of(alloc, names, text, taken)? {
+    if let Some(meant) = meant {
+        let what = done(meant, taken);
         let said = said(alloc, text, what, taken)?;
         let sent = sent_by(taken);
         steps.push(Step {

@@ -1,7 +1,7 @@
 -- One more of what is put behind a text so many times.
 use Rattle.std.proofs.Common.{◌≡◌, ℕ, ◌+◌, List, ◌++◌, Bool, false, ap, add-one, codes, slice_get, slice_index_or}
-use Rattle.sim_trace.specs.declared.lane.Lane.{Lane}
-use Rattle.sim_trace.specs.declared.letter.Letter.{Letter}
+use Rattle.sim_trace.specs.declared.column.Column.{Column}
+use Rattle.sim_trace.specs.declared.message.Message.{Message}
 use Rattle.sim_trace.specs.Rows.{repeated}
 use Rattle.sim_trace.specs.Drawing.{label, numbers_from, lost_rows, lost_unless, lost_row}
 
@@ -11,7 +11,7 @@ repeated_more n text = ap (λ m. repeated m text) (add-one n)
 pub numbers_from_more : (first k : ℕ) → numbers_from first (k + 1) ≡ numbers_from first k ++ codes " " ++ label (first + k + 1)
 numbers_from_more first k = ap (λ m. numbers_from first m) (add-one k)
 
-pub lost_rows_more : (columns : List Lane) (letters : List Letter) (come : List Bool) (first k : ℕ) →
-    lost_rows columns letters come first (k + 1)
-    ≡ lost_rows columns letters come first k ++ lost_unless (slice_index_or come (first + k) false) (lost_row columns (first + k + 1) (slice_get letters (first + k)))
-lost_rows_more columns letters come first k = ap (λ m. lost_rows columns letters come first m) (add-one k)
+pub lost_rows_more : (columns : List Column) (messages : List Message) (come : List Bool) (first k : ℕ) →
+    lost_rows columns messages come first (k + 1)
+    ≡ lost_rows columns messages come first k ++ lost_unless (slice_index_or come (first + k) false) (lost_row columns (first + k + 1) (slice_get messages (first + k)))
+lost_rows_more columns messages come first k = ap (λ m. lost_rows columns messages come first m) (add-one k)

@@ -3,20 +3,20 @@ ghost use Rattle.std.specs.Prelude.{◌≡◌, ◌<◌, ◌==◌, ◌||◌, ℕ,
 ghost use Rattle.std.specs.List.{list_any};
 ghost use Rattle.sim_trace.specs.Drawing.{delivered, names_it};
 
-use crate::letter::Letter;
+use crate::message::Message;
 use crate::step::{Step, What};
 use std::alloc::{AllocError, Global};
 
 /// For each message, whether some step delivers it, or tries to.
 pub(crate) fn delivered(
     alloc: Global,
-    letters: &[Letter],
+    messages: &[Message],
     steps: &[Step],
 ) -> Result<Vec<bool>, AllocError>
-    ensures value { IfOk result (λ v. v.items ≡ delivered letters.now steps.now) }
-    ensures count { IfOk result (λ v. length v.items ≡ length letters.now) }
+    ensures value { IfOk result (λ v. v.items ≡ delivered messages.now steps.now) }
+    ensures count { IfOk result (λ v. length v.items ≡ length messages.now) }
 {
-    let mut come = vec![in alloc; false; letters.len()]?;
+    let mut come = vec![in alloc; false; messages.len()]?;
     note_all(&mut come, steps);
     Ok(come)
 }

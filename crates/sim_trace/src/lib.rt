@@ -3,16 +3,16 @@
 //! the definition `drawn`.
 #![tactic(auto)]
 
+mod column;
 mod columns;
 mod delivered;
 mod drawing;
-mod lane;
-mod letter;
+mod message;
 mod rows;
 mod step;
 mod text;
 
+pub use column::Column;
 pub use drawing::draw;
-pub use lane::Lane;
-pub use letter::Letter;
+pub use message::Message;
 pub use step::{Step, What};

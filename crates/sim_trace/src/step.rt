@@ -1,12 +1,12 @@
-use crate::lane::Lane;
+use crate::column::Column;
 
 /// What happened.
 #[derive(Clone, Copy, Drop)]
 pub enum What {
     /// Something at one party, as a map that a node sees.
-    At(Lane),
+    At(Column),
     /// The first, a client, asks the second, a node.
-    Asked(Lane, Lane),
+    Asked(Column, Column),
     /// The message of that number arrives at its receiver.
     Arrived(usize),
     /// The message of that number comes to its receiver, which is stopped.

@@ -7,7 +7,6 @@ use Rattle.std.proofs.lemmas.List.{get_or_default, length-set}
 use Rattle.group_world.specs.declared.message.Kind.{Kind}
 use Rattle.group_world.specs.declared.message.Kind.TheVariants.{Query, Log as LogOf, Install, Installed as InstalledIn, AskActivate, Activated, Rep, Ack, Reply as ReplyTo}
 use Rattle.group_world.specs.declared.message.Packet.{Packet}
-use Rattle.group_world.specs.declared.event.Event.{Event}
 use Rattle.group_world.specs.declared.event.Event.TheVariants.{Request as ARequest, Map as AMap, Message as AMessage}
 use Rattle.carried.specs.declared.operation.Carried.{Carried}
 use Rattle.carried.specs.declared.operation.Carried.TheVariants as carried

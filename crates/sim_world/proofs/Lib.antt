@@ -3,4 +3,5 @@ pub mod Equal
 pub mod Grown
 pub mod Messages
 pub mod Reaching
+pub mod Standing
 pub mod Stepping

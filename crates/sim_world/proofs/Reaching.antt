@@ -7,7 +7,7 @@ use Rattle.group_world.specs.Maps.{GroupMap}
 use Rattle.group_world.specs.Node.{NodeState}
 use Rattle.group_world.specs.Monitor.{map_refusal, next_map, with_map, activation_refusal}
 use Rattle.group_world.specs.Rules.{local_step}
-use Rattle.group_world.specs.World.{World, WorldEvent, RequestAt, MapMade, MapSeen, Delivered, WithoutMemory, opening, happens, run, at_node, at_monitor, make_map, activate_for, deliver, deliver_to, show_map, with_node, StepsCutNothing, AllAgree, KeepsCommitted, IsAgreed}
+use Rattle.group_world.specs.World.{World, WorldEvent, RequestAt, MapMade, MapSeen, Delivered, WithoutMemory, opening, happens, run, at_node, at_monitor, deliver, deliver_to, show_map, StepsCutNothing, AllAgree, KeepsCommitted, IsAgreed}
 use Rattle.group_world.specs.declared.party.Party.{Party}
 use Rattle.group_world.specs.declared.party.Party.TheVariants.{Node as ANode, Monitor as TheMonitor, Client as AClient}
 use Rattle.group_world.specs.declared.message.Kind.{Kind}

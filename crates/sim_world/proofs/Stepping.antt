@@ -1,10 +1,9 @@
 -- What the code makes of the parts of a played world is what a line makes of the group's world.
-use Rattle.std.proofs.Common.{◌≡◌, ◌≢◌, ◌≤◌, ◌<◌, ◌-◌, ◌+◌, ◌==◌, ◌&&◌, ℕ, zero, suc, min, Bool, true, false, if◌then◌else◌, List, [], ◌∷◌, ◌++◌, length, map, drop, take, Option, Some, None, refl, sym, ap, ◌∙◌, subst, arith, slice_get, get_or, set, get_or-set_other}
+use Rattle.std.proofs.Common.{◌≡◌, ◌≢◌, ◌≤◌, ◌<◌, ◌-◌, ◌+◌, ◌==◌, ◌&&◌, ℕ, zero, suc, min, Bool, true, false, if◌then◌else◌, List, [], ◌∷◌, ◌++◌, length, map, Option, Some, None, refl, sym, ap, ◌∙◌, subst, arith, slice_get, get_or, set, get_or-set_other}
 use Rattle.std.proofs.lemmas.Bool.{eq-eqb, eqb-true, ltb-false, ltb-true, le-ltb, false≢true}
 use Rattle.std.proofs.lemmas.Grind.{get_or-set_at}
-use Rattle.std.proofs.lemmas.List.{length-set, length-take-le, length-take, length-append}
+use Rattle.std.proofs.lemmas.List.{length-set, length-take-le, length-append}
 use Rattle.std.specs.Prelude.{is_none, nat_lt}
-use Rattle.std.specs.List.{Contains}
 use mathlib.Core.List.{IsPrefix}
 use Rattle.pg_log.specs.Requests.{ClientRequest}
 use Rattle.pg_log.specs.Log.{Classes}
@@ -15,7 +14,7 @@ use Rattle.group_world.specs.Node.{NodeState, Outcome, committed_list, nothing, 
 use Rattle.group_world.specs.Monitor.{MonitorState, map_refusal, next_map, activation_refusal, with_activated, with_map}
 use Rattle.group_world.specs.Rules.{local_step, adopt, is_usable}
 use Rattle.group_world.specs.Unanswered.{unanswered}
-use Rattle.group_world.specs.World.{World, WorldEvent, RequestAt, MapMade, MapSeen, Delivered, happens, at_node, make_map, activate_for, activated_for, deliver, deliver_to, show_map, with_node, StepsCutNothing, AllAgree, KeepsCommitted}
+use Rattle.group_world.specs.World.{World, WorldEvent, RequestAt, MapMade, MapSeen, Delivered, happens, at_node, activate_for, activated_for, deliver, deliver_to, show_map, with_node, StepsCutNothing, AllAgree, KeepsCommitted}
 use Rattle.group_world.specs.declared.status.Status.{Status}
 use Rattle.group_world.specs.declared.status.Status.TheVariants.{Out, Waiting, Installed, Asking, Installing, Active}
 use Rattle.group_world.specs.declared.monitor_error.MonitorError.{MonitorError}
@@ -35,14 +34,14 @@ use Rattle.sim_text.specs.declared.line.Line.{Line}
 use Rattle.sim_text.specs.declared.line.Line.TheVariants as lines
 use Rattle.sim_text.specs.declared.taken.Taken.{Taken}
 use Rattle.sim_text.specs.declared.taken.Taken.TheVariants.{Bad, Skipped, Stopped, Sent, Refused, MonitorRefused, Made, Shown, Again}
-use Rattle.sim_world.specs.Holds.{HasCommitted, Holds, IsKept, AreKept, IsReached, IsStep, kept_as}
+use Rattle.sim_world.specs.Holds.{HasCommitted, Holds, IsKept, IsReached, IsStep}
 use Rattle.sim_world.specs.Step.{Played, Happened, beginning, stays, happened, unless_stopped, unless_refused, outcome_at, makes, activates, see, set_stopped, show, resend, step}
 use Rattle.sim_world.specs.Step as steps
 use Rattle.sim_world.specs.declared.kept.KeptMessage.{KeptMessage}
-use Rattle.sim_world.specs.inner.Parts.{Parts, Turn, rests, committed_at, committed_of, kept, nth_node, after_outcome, with_outcome, local_outcome, handled, unless_held, arrived, arrives, map_made, activated, asked_of, delivery_to, at_monitor, delivered, delivered_at, seen, with_stopped, stop_set, shown, sent_again, resent, turn, fresh_nodes, first_parts}
+use Rattle.sim_world.specs.inner.Parts.{Parts, Turn, rests, committed_at, committed_of, nth_node, after_outcome, with_outcome, local_outcome, handled, unless_held, arrived, arrives, map_made, activated, delivery_to, at_monitor, delivered, delivered_at, seen, with_stopped, stop_set, shown, sent_again, resent, turn, fresh_nodes, first_parts}
 use Rattle.sim_world.specs.inner.Buckets.{kept_number}
-use Rattle.sim_world.proofs.Reaching.{Sound, sound, reached_more, keeps, either}
-use Rattle.sim_world.proofs.Messages.{Both, both_numbered, numbered_at, contains_at, more_kept, still_kept, numbers_among, same_sender}
+use Rattle.sim_world.proofs.Reaching.{Sound, sound, reached_more, keeps}
+use Rattle.sim_world.proofs.Messages.{Both, both_numbered, numbered_at, contains_at, more_kept, still_kept, numbers_among}
 
 -- the laws of the crates below
 pub record Laws : Type 0 where

@@ -1,17 +1,18 @@
 -- How a played world is held: the nodes 0 to 15 alone, and of each list that was sent no more than its receiver lacks.
-use Rattle.std.specs.Prelude.{◌≡◌, ℕ, ◌≤◌, ◌<◌, List, [], ◌∷◌, ◌++◌, length, map, slice_index_or}
+use Rattle.std.specs.Prelude.{◌≡◌, ℕ, ◌≤◌, ◌<◌, List, [], ◌∷◌, length, map, Option, Some, None, if◌then◌else◌}
 use Rattle.pg_log.specs.Log.{Classes}
 use Rattle.carried.specs.Carried.{carried_as}
-use Rattle.group_world.specs.Node.{NodeState, fresh}
+use Rattle.group_world.specs.Node.{NodeState}
 use Rattle.group_world.specs.World.{World, WorldEvent, IsAgreed, opening, run}
 use Rattle.group_world.specs.declared.party.Party.{Party}
 use Rattle.group_world.specs.declared.party.Party.TheVariants.{Node as ANode, Monitor as TheMonitor, Client as AClient}
 use Rattle.group_world.specs.declared.message.Packet.{Packet}
+use Rattle.peering.specs.Numbered.{NumberedNode}
 use Rattle.sim_text.specs.Kept.{carried_text, sender_of}
 use Rattle.sim_text.specs.Texts.{kind_text, taken_text}
 use Rattle.sim_text.specs.declared.line.Line.{Line}
 use Rattle.sim_text.specs.declared.taken.Taken.{Taken}
-use Rattle.sim_world.specs.Step.{Played, step}
+use Rattle.sim_world.specs.Step.{Played, is_node, step}
 use Rattle.sim_world.specs.inner.Parts.{Parts, nth_node}
 use Rattle.sim_world.specs.declared.kept.KeptMessage.{KeptMessage}
 
@@ -68,6 +69,13 @@ Steps classes old new line taken = (p : Played) → Holds classes old p → IsSt
 -- that is printed of what came of a line
 abbrev pub Says : Classes → Parts → Taken → List ℕ → Type 0
 Says classes parts taken text = (p : Played) → Holds classes parts p → text ≡ taken_text p.world.sent taken
+
+-- THE NODE OF A NUMBER, as it stands; none where there is no such node
+abbrev pub node_at : Played → ℕ → Option NumberedNode
+node_at p n = if is_node p n then Some (record { number = n; state = p.world.nodes n }) else None
+
+abbrev pub IsNodeAt : Classes → Parts → ℕ → Option NumberedNode → Type 0
+IsNodeAt classes parts n node = (p : Played) → Holds classes parts p → node ≡ node_at p n
 
 -- AN AGREED WORLD: events lead to it, and of those it is agreed.
 pub record IsAgreedWorld (classes : Classes) (w : World) : Type 0 where

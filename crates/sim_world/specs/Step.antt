@@ -1,6 +1,6 @@
 -- What a line does in the world of a group, and what comes of it. What happens there is group_world's: its events, its nodes'
 -- steps, its monitor.
-use Rattle.std.specs.Prelude.{ℕ, ◌-◌, ◌==◌, nat_lt, Bool, true, false, List, length, map, Option, Some, None, if◌then◌else◌, slice_set, slice_index_or, replicate}
+use Rattle.std.specs.Prelude.{ℕ, ◌-◌, nat_lt, Bool, true, false, List, length, map, Option, Some, None, if◌then◌else◌, slice_set, slice_index_or, replicate}
 use Rattle.pg_log.specs.Log.{Classes}
 use Rattle.group_world.specs.Maps.{GroupMap}
 use Rattle.group_world.specs.Node.{Outcome}

@@ -1,4 +1,4 @@
-ghost use Rattle.std.specs.Prelude.{◌≡◌, ◌&&◌, not, IfOk, IsTrue, IsFalse, string_bytes};
+ghost use Rattle.std.specs.Prelude.{◌≡◌, ◌&&◌, not, IfOk, IsTrue, IsFalse, option_copied, slice_get, string_bytes};
 ghost use Rattle.group_world.specs.Monitor.{map_refusal};
 ghost use Rattle.group_world.specs.Rules.{local_step};
 ghost use Rattle.sim_text.specs.Lines.{numbered};
@@ -81,6 +81,13 @@ impl<C: Classes> Parts<C> {
         ensures { result.now ≡ self.now.sent }
     {
         self.sent.items()
+    }
+
+    /// The node of a number, if it is there.
+    pub(crate) fn node(&self, number: NodeId) -> Option<&GroupNode<C>>
+        ensures { option_copied result ≡ slice_get self.now.nodes number }
+    {
+        self.nodes.get(number.get() as usize)
     }
 
     /// What is printed of what came of a line.

@@ -8,7 +8,7 @@ use crate::sent::Sent;
 use carried::Carried;
 use group_world::{Epoch, Event, GroupMap, Kind, Packet, Party, Place, Requests};
 use peering_messages::{are_same, is_same_request};
-use pg_log::{ClientId, Request};
+use pg_log::{ClientId, Request, are_same_requests};
 use placement::NodeId;
 use sim_text::{Numbers, sender_of};
 use std::alloc::{AllocError, Global};
@@ -23,18 +23,11 @@ fn is_same_map(map: &GroupMap, other: &GroupMap) -> bool
         && are_same(map.prev_acting(), other.prev_acting())
 }
 
-fn are_same_requests(list: &[Request], other: &[Request]) -> bool
+/// Whether the lists are equal.
+fn are_equal(list: &[Request], other: &[Request]) -> bool
     ensures { result ≡ are_same_requests list.now other.now }
 {
-    if list.len() != other.len() {
-        return false;
-    }
-    for place in 0..list.len() {
-        if !is_same_request(&list[place], &other[place]) {
-            return false;
-        }
-    }
-    true
+    are_same_requests(list, other)
 }
 
 /// Whether it is a Query of that map.
@@ -62,7 +55,7 @@ fn is_install(kind: &Kind, map: &GroupMap, list: &Requests) -> bool
     ensures { result ≡ is_same_kind (Kind.Install map.now list.now) kind.now }
 {
     if let Kind::Install(other, same) = kind {
-        return is_same_map(map, other) && are_same_requests(list.items(), same.items());
+        return is_same_map(map, other) && are_equal(list.items(), same.items());
     }
     false
 }

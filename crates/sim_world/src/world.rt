@@ -1,11 +1,13 @@
-ghost use Rattle.std.specs.Prelude.{◌≡◌, IfOk, string_bytes};
-ghost use Rattle.sim_world.specs.Holds.{AreShown, Holds, Says, Steps};
+ghost use Rattle.std.specs.Prelude.{◌≡◌, IfOk, option_copied, string_bytes};
+ghost use Rattle.sim_world.specs.Holds.{AreShown, Holds, IsNodeAt, Says, Steps};
 ghost use Rattle.sim_world.specs.Step.{beginning};
 
 use crate::kept::KeptMessage;
 use crate::parts::Parts;
 use group_world::{agreement, nothing_is_cut};
+use peering::GroupNode;
 use pg_log::{ClassTable, Classes};
+use placement::NodeId;
 use replication::packed_lists;
 use sim_text::{Line, Taken};
 use std::alloc::{AllocError, Global};
@@ -50,6 +52,13 @@ impl<C: Classes> World<C> {
         ensures shown { AreShown C.classes self.now result.now }
     {
         self.parts.messages()
+    }
+
+    /// The node of a number, as it stands; none where the number is past 15.
+    pub fn node(&self, number: NodeId) -> Option<&GroupNode<C>>
+        ensures { IsNodeAt C.classes self.now number (option_copied result) }
+    {
+        self.parts.node(number)
     }
 
     /// Does a line, and gives what came of it; a bad one leaves all as it was. It fails for want of memory alone: the world

@@ -1,5 +1,5 @@
 use Rattle.std.proofs.Common.{Bor, List, ℕ, map, refl, sym, ◌∙◌}
-use Rattle.sim.proofs.Noting.{line_noted, line_unnoted}
+use Rattle.sim.proofs.Noting.{line_noted, line_unnoted, noted_by}
 use Rattle.sim.proofs.drawing.take_line.Goals as goal
 
 pub returns-then-is_bad : goal.returns-then-is_bad
@@ -10,4 +10,5 @@ returns-then-is_bad g c =
 pub returns : goal.returns
 returns g c =
     line_noted _ (map (λ (n : Bor (List ℕ)). n.now) c.args.names.now) c.args.text.now _ _ _ _ _ _ _
-    c.in_ok-line.ensures c.in_ok-taken.ensures (sym c.if-is_bad.false ∙ c.is_bad.ensures) refl c.in_ok-note.ensures
+    c.in_ok-line.ensures c.in_ok-taken.ensures (sym c.if-is_bad.false ∙ c.is_bad.ensures) refl
+    (noted_by (map (λ (n : Bor (List ℕ)). n.now) c.args.names.now) c.args.text.now _ _ _ _ _ c.in_ok-line.ensures c.meant-meant.ensures c.in_ok-note.ensures)

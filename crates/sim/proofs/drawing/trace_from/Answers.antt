@@ -1,7 +1,7 @@
-use Rattle.std.proofs.Common.{◌≡◌, Bor, List, [], ℕ, map, sym, ap, subst, ◌∙◌}
+use Rattle.std.proofs.Common.{Bor, List, [], ℕ, map, sym, ap, subst, ◌∙◌}
 use Rattle.std.proofs.lemmas.Result.{IfOk-weaker}
 use Rattle.sim.specs.Drawing.{Courses, Noted, drawn_as, noted_as}
-use Rattle.sim_trace.specs.declared.letter.Letter.{Letter as Message}
+use Rattle.sim_trace.specs.declared.message.Message.{Message}
 use Rattle.sim_trace.specs.declared.step.Step.{Step}
 use Rattle.sim.proofs.Noting.{run_drawn}
 use Rattle.sim.proofs.drawing.trace_from.Goals as goal

@@ -2,5 +2,5 @@ use Rattle.std.proofs.Common.{arith}
 use Rattle.std.proofs.lemmas.Grind.{common_steps}
 use Rattle.sim_trace.proofs.drawing.push_names.Goals as goal
 
-pub loop-lane-preserved : goal.loop-lane-preserved
-loop-lane-preserved c = grind (arith, common_steps)
+pub loop-column-preserved : goal.loop-column-preserved
+loop-column-preserved c = grind (arith, common_steps)

@@ -3,5 +3,5 @@ use Rattle.sim_trace.specs.Drawing.{names}
 use Rattle.sim_trace.proofs.drawing.push_names.Given as goal
 
 -- the text so far and that of what is left is the whole
-abbrev pub invariant-loop-lane : goal.invariant-loop-lane
-invariant-loop-lane l = string_bytes l.out ++ names (drop l.lane-index l.columns) ≡ string_bytes l.initial.out ++ names l.columns
+abbrev pub invariant-loop-column : goal.invariant-loop-column
+invariant-loop-column l = string_bytes l.out ++ names (drop l.column-index l.columns) ≡ string_bytes l.initial.out ++ names l.columns

@@ -5,6 +5,6 @@ use Rattle.sim_trace.proofs.drawing.push_rows.Given as goal
 -- the text so far and that of what is left is the whole
 abbrev pub invariant-loop-step : goal.invariant-loop-step
 invariant-loop-step l = record {
-  within : l.first ≤ length l.letters;
-  text : string_bytes l.out ++ rows l.columns l.letters l.come l.first (drop l.step-index l.steps) ≡ string_bytes l.initial.out ++ rows l.columns l.letters l.come 0 l.steps;
+  within : l.first ≤ length l.messages;
+  text : string_bytes l.out ++ rows l.columns l.messages l.come l.first (drop l.step-index l.steps) ≡ string_bytes l.initial.out ++ rows l.columns l.messages l.come 0 l.steps;
 }

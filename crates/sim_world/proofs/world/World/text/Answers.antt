@@ -1,4 +1,4 @@
-use Rattle.std.proofs.Common.{List, ap, ◌∙◌}
+use Rattle.std.proofs.Common.{ap, ◌∙◌}
 use Rattle.std.proofs.lemmas.Result.{IfOk-weaker}
 use Rattle.sim_world.specs.inner.Parts.{Parts, kept_taken}
 use Rattle.sim_world.proofs.Messages.{same_taken}

@@ -6,7 +6,7 @@ use std::alloc::AllocError;
 
 /// Who has a column.
 #[derive(Clone, Copy, PartialEq, Eq, Drop)]
-pub enum Lane {
+pub enum Column {
     /// A client, by its number.
     Client(u32),
     /// A node, by its number.
@@ -15,15 +15,15 @@ pub enum Lane {
     Monitor,
 }
 
-impl Lane {
+impl Column {
     /// Columns stand by rising rank.
     pub(crate) fn rank(self) -> u64
         ensures { result ≡ rank self }
     {
         match self {
-            Lane::Client(number) => u64::from(number),
-            Lane::Node(number) => 0x1_0000_0000 + u64::from(number),
-            Lane::Monitor => 0x2_0000_0000,
+            Column::Client(number) => u64::from(number),
+            Column::Node(number) => 0x1_0000_0000 + u64::from(number),
+            Column::Monitor => 0x2_0000_0000,
         }
     }
 
@@ -31,9 +31,9 @@ impl Lane {
         ensures { result ≡ is_client self }
     {
         match self {
-            Lane::Client(_) => true,
-            Lane::Node(_) => false,
-            Lane::Monitor => false,
+            Column::Client(_) => true,
+            Column::Node(_) => false,
+            Column::Monitor => false,
         }
     }
 
@@ -42,9 +42,9 @@ impl Lane {
         ensures { result.now ≡ fate self }
     {
         match self {
-            Lane::Client(_) => "\n",
-            Lane::Node(_) => ", lost\n",
-            Lane::Monitor => ", lost\n",
+            Column::Client(_) => "\n",
+            Column::Node(_) => ", lost\n",
+            Column::Monitor => ", lost\n",
         }
     }
 
@@ -53,9 +53,9 @@ impl Lane {
         ensures { OnOk result (string_bytes out.new ≡ string_bytes out.old ++ name self) }
     {
         match self {
-            Lane::Client(number) => write!(out, "c{number}"),
-            Lane::Node(number) => write!(out, "{number}"),
-            Lane::Monitor => out.push_str("mon"),
+            Column::Client(number) => write!(out, "c{number}"),
+            Column::Node(number) => write!(out, "{number}"),
+            Column::Monitor => out.push_str("mon"),
         }
     }
 }

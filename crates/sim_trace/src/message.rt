@@ -1,12 +1,12 @@
-use crate::lane::Lane;
+use crate::column::Column;
 
 /// A message that was sent. Messages are numbered from 1, in the order in which they were.
 #[derive(Drop)]
-pub struct Letter {
+pub struct Message {
     /// Who sends it.
-    pub from: Lane,
+    pub from: Column,
     /// Whom it is for.
-    pub to: Lane,
+    pub to: Column,
     /// What it says.
     pub text: String,
 }
