@@ -1,3 +1,4 @@
+pub mod Again
 pub mod Booking
 pub mod Parting
 pub mod Sending

@@ -1,5 +1,6 @@
-use std::sync::atomic::{AtomicBool, Ordering};
+use std::sync::atomic::{AtomicBool, AtomicU64, Ordering};
 use std::sync::{Condvar, Mutex, Wait};
+use std::thread::yield_now;
 
 /// What the workers wait on.
 #[derive(Drop)]
@@ -10,18 +11,29 @@ struct Rings {
     has_waiting: bool,
 }
 
-/// The bell that wakes the workers. It is rung at each submit, and at the end.
+/// The bell that wakes the workers. It is rung at each submit, and at the end. It also knows which shards are being served.
 #[derive(Drop)]
 pub(crate) struct Bell {
     finished: AtomicBool,
+    /// A bit for each shard, set while a worker serves it.
+    busy: AtomicU64,
+    /// A bit for each shard, set where a worker passed it over since another one served it.
+    passed: AtomicU64,
     rings: Mutex<Rings>,
     rung: Condvar,
+}
+
+/// The bit of a shard; there are 64 at most.
+fn bit_of(shard: usize) -> u64 {
+    1 << (shard % 64)
 }
 
 impl Bell {
     pub fn new() -> Bell {
         Bell {
             finished: AtomicBool::new(false),
+            busy: AtomicU64::new(0),
+            passed: AtomicU64::new(0),
             rings: Mutex::new(Rings {
                 count: 0,
                 has_waiting: false,
@@ -33,6 +45,45 @@ impl Bell {
     /// Whether the workers are to end.
     pub fn is_finished(&self) -> bool {
         self.finished.load(Ordering::SeqCst)
+    }
+
+    /// Begins to serve a shard. False where another worker serves it. A worker that is refused needn't come again: the one
+    /// that serves takes from the shard once more after an operation, and `leave` wakes.
+    pub fn begin(&self, shard: usize) -> bool {
+        if self.is_free(shard) {
+            return true;
+        }
+        self.passed.fetch_or(bit_of(shard), Ordering::SeqCst);
+        self.is_free(shard)
+    }
+
+    /// Takes a shard, and answers whether nobody served it.
+    fn is_free(&self, shard: usize) -> bool {
+        let bit = bit_of(shard);
+        self.busy.fetch_or(bit, Ordering::SeqCst) & bit == 0
+    }
+
+    /// Ends to serve a shard.
+    pub fn end(&self, shard: usize) {
+        self.busy.fetch_and(!bit_of(shard), Ordering::SeqCst);
+    }
+
+    /// Leaves a shard to the other workers for a while, and wakes them where one passed a shard over.
+    pub fn leave<R: Wait>(&self, rt: &R, shard: usize) {
+        self.end(shard);
+        if self.passed.swap(0, Ordering::SeqCst) != 0 {
+            self.ring(rt);
+        }
+    }
+
+    /// Serves a shard again, as soon as no other worker does.
+    pub fn enter<R: Wait>(&self, rt: &R, shard: usize) {
+        for _ in rt.forever() {
+            if self.begin(shard) {
+                break;
+            }
+            yield_now();
+        }
     }
 
     /// Has the workers end.

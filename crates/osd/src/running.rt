@@ -14,12 +14,13 @@ mod serving;
 use crate::bell::Bell;
 use crate::config::Config;
 use crate::desk::{Desk, Opened};
+use crate::mailbox::Mailbox;
 use crate::monitors::Monitors;
 use crate::name::ClusterName;
 use crate::newest::Newest;
 use crate::node::Node;
 use crate::queued::Queued;
-use crate::worker::Worker;
+use crate::worker::WorkerPlace;
 use commit_board::Board;
 use group_cell::{GroupCell, Post};
 use object_store::ObjectName;
@@ -42,11 +43,11 @@ pub struct Running<N: ClusterName, R> {
     table: ClassTable,
     shards: OpShards<Queued>,
     nodes: Vec<Node<N>>,
-    mail: Vec<Mutex<Option<Post<N>>>>,
+    mail: Vec<Mailbox<N>>,
     desk: Mutex<Desk<N>>,
     monitors: Mutex<Monitors<N>>,
     newest: Mutex<Newest<N>>,
-    workers: Vec<Mutex<Option<Worker<N>>>>,
+    workers: Vec<WorkerPlace<N>>,
     bell: Bell,
 }
 
@@ -112,7 +113,7 @@ impl<N: ClusterName, R: Wait> Running<N, R> {
     /// Takes the newest answer out of the client's mailbox.
     pub fn mail(&self, client: ClientId) -> Option<Post<N>> {
         let place = (client.get() - 1) as usize;
-        self.mail.get(place)?.lock(&self.rt).take()
+        self.mail.get(place)?.take(&self.rt)
     }
 
     /// A node's part in a group, if there is one.

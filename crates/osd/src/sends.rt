@@ -1,6 +1,6 @@
 ghost use Rattle.std.specs.Prelude.{◌≡◌, ◌<◌, length, OnOk, OnErr};
 ghost use Rattle.op_shards.specs.Passes.{WasSent};
-ghost use Rattle.osd.specs.Sent.{OnlySent, IsOf};
+ghost use Rattle.osd.specs.Sent.{OnlySent, IsThat};
 
 use crate::name::ClusterName;
 use crate::queued::Queued;
@@ -48,7 +48,7 @@ impl<N: ClusterName> Sends<N> {
         queued: Queued,
     ) -> Result<(), Queued>
         requires { shards.now.queues ≡ N.queues }
-        ensures only { OnlySent self.old self.new (IsOf queued.group) }
+        ensures only { OnlySent self.old self.new (IsThat queued) }
         ensures sent { OnOk result (WasSent self.old self.new (λ op. op ≡ queued)) }
         ensures kept { OnErr result (self.new ≡ self.old) }
     {

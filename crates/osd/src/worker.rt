@@ -1,6 +1,7 @@
 use crate::delivery::Delivery;
 use crate::name::ClusterName;
 use crate::sends::{Sends, Takes};
+use std::sync::{Mutex, Wait};
 
 /// What a worker serves by.
 #[derive(Drop)]
@@ -24,5 +25,25 @@ impl<N: ClusterName> Worker<N> {
             messages: 0,
             late: None,
         }
+    }
+}
+
+/// The place of a worker, which is empty once it serves.
+#[derive(Drop)]
+pub(crate) struct WorkerPlace<N: ClusterName> {
+    worker: Mutex<Option<Worker<N>>>,
+}
+
+impl<N: ClusterName> WorkerPlace<N> {
+    /// The place of a worker that doesn't serve yet.
+    pub fn new(worker: Worker<N>) -> WorkerPlace<N> {
+        WorkerPlace {
+            worker: Mutex::new(Some(worker)),
+        }
+    }
+
+    /// Takes the worker out.
+    pub fn take<R: Wait>(&self, rt: &R) -> Option<Worker<N>> {
+        self.worker.lock(rt).take()
     }
 }

@@ -2,7 +2,7 @@ ghost use Rattle.std.specs.Prelude.{◌≡◌, OnOk, OnErr};
 ghost use Rattle.op_shards.specs.Passes.{Grew, WasSent};
 ghost use Rattle.group_world.specs.declared.event.Event.TheVariants.{Request as ARequest};
 ghost use Rattle.carried.specs.declared.operation.Carried.TheVariants.{Plain};
-ghost use Rattle.osd.specs.Sent.{OnlySent, IsOf};
+ghost use Rattle.osd.specs.Sent.{OnlySent, IsThat};
 
 use crate::ask_error::AskError;
 use crate::name::ClusterName;
@@ -40,7 +40,7 @@ impl<N: ClusterName, R: Wait> Running<N, R> {
 
     /// Submits an operation, and wakes the workers where its queue took it.
     pub(crate) fn submit(&self, sends: &mut Sends<N>, operation: Operation) -> Result<(), AskError>
-        ensures only { OnlySent sends.old sends.new (IsOf operation.group) }
+        ensures only { OnlySent sends.old sends.new (IsThat operation) }
         ensures sent { OnOk result (WasSent sends.old sends.new (λ op. op ≡ operation)) }
         ensures kept { OnErr result (sends.new ≡ sends.old) }
     {

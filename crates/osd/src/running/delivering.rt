@@ -1,5 +1,5 @@
 ghost use Rattle.std.specs.Prelude.{◌<◌};
-ghost use Rattle.osd.specs.Sent.{OnlySent, IsOf, IsAny};
+ghost use Rattle.osd.specs.Sent.{OnlySent, IsOf, IsOwn};
 
 use crate::delivery::Delivery;
 use crate::name::ClusterName;
@@ -15,7 +15,7 @@ use std::sync::Wait;
 impl<N: ClusterName, R: Wait> Running<N, R> {
     /// Brings what a node sends to whom it is for. It is lost where a queue is full, or memory is refused.
     pub(crate) fn deliver(&self, sends: &mut Sends<N>, delivery: Delivery<N>)
-        ensures { OnlySent sends.old sends.new (IsOf delivery.group) }
+        ensures { OnlySent sends.old sends.new (IsOf delivery.group delivery.outgoing) }
     {
         let Delivery {
             group,
@@ -40,7 +40,7 @@ impl<N: ClusterName, R: Wait> Running<N, R> {
 
     /// Asks the group's monitor to activate the interval, and tells the node where it did.
     fn activate(&self, sends: &mut Sends<N>, group: usize, node: NodeId, interval: Epoch)
-        ensures { OnlySent sends.old sends.new (IsOf group) }
+        ensures { OnlySent sends.old sends.new (IsOwn group) }
     {
         if group >= self.config.groups as usize || !self.is_activated(group, interval) {
             return;
@@ -71,7 +71,7 @@ impl<N: ClusterName, R: Wait> Running<N, R> {
     fn post(&self, client: ClientId, post: Post<N>) {
         let place = (client.get() - 1) as usize;
         if let Some(mailbox) = self.mail.get(place) {
-            *mailbox.lock(&self.rt) = Some(post);
+            mailbox.put(&self.rt, post);
         }
     }
 }

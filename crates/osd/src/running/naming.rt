@@ -4,6 +4,7 @@ ghost use Rattle.osd.specs.Unnamed.{IsUnused};
 use crate::bell::Bell;
 use crate::config::Config;
 use crate::desk::{Desk, SESSION_LIMIT};
+use crate::mailbox::Mailbox;
 use crate::monitors::Monitors;
 use crate::name::ClusterName;
 use crate::newest::Newest;
@@ -12,9 +13,9 @@ use crate::parts::{AllQueues, Maps, Parts, Rows};
 use crate::queued::Queued;
 use crate::running::Running;
 use crate::sends::{Sends, Takes};
-use crate::worker::Worker;
+use crate::worker::{Worker, WorkerPlace};
 use commit_board::{NoMemory, Writer};
-use group_cell::{GroupCell, Post};
+use group_cell::GroupCell;
 use op_shards::{SendPass, TakePass};
 use peering::GroupNode;
 use pg_log::ClassTable;
@@ -23,8 +24,11 @@ use std::alloc::{AllocError, Global};
 use std::sync::{Mutex, Wait};
 
 impl<N: ClusterName, R: Wait + Drop> Running<N, R> {
-    /// A cluster by its parts, with the classes that are loaded. Each acting node of each group is handed its map.
-    pub(crate) fn named(
+    /// A cluster by its parts, with the classes that are loaded. Each acting node of each group is handed its map. `play`
+    /// names most clusters; this is for who brings threads that start threads, which a `Scenario` can't.
+    ///
+    /// The names are those of the parts and of the table.
+    pub fn named(
         alloc: Global,
         rt: R,
         parts: Parts,
@@ -34,6 +38,7 @@ impl<N: ClusterName, R: Wait + Drop> Running<N, R> {
         requires queues { parts.queues ≡ N.queues }
         requires config { parts.config ≡ N.config }
         requires table { table ≡ N.classes }
+        ensures { IfOk result (λ r. r ≡ parts.config) }
     {
         let Parts {
             config,
@@ -137,10 +142,10 @@ fn next_writer<N: ClusterName>(writers: &mut Vec<Writer>) -> Writer
 }
 
 /// An empty mailbox for each session.
-fn mailboxes<N: ClusterName>(alloc: Global) -> Result<Vec<Mutex<Option<Post<N>>>>, AllocError> {
+fn mailboxes<N: ClusterName>(alloc: Global) -> Result<Vec<Mailbox<N>>, AllocError> {
     let mut mail = Vec::new(alloc);
     for _ in 0..SESSION_LIMIT {
-        mail.push(Mutex::new(None))?;
+        mail.push(Mailbox::new())?;
     }
     Ok(mail)
 }
@@ -176,7 +181,7 @@ fn workers_of<N: ClusterName>(
     alloc: Global,
     senders: &mut Vec<Sends<N>>,
     mut passes: Vec<TakePass<Queued>>,
-) -> Result<Vec<Mutex<Option<Worker<N>>>>, AllocError>
+) -> Result<Vec<WorkerPlace<N>>, AllocError>
     requires passes { All (λ p. p.queues ≡ N.queues) passes.items }
     requires senders { vec_len passes ≤ vec_len senders.old }
     ensures senders { OnOk result (vec_len senders.new + vec_len passes ≡ vec_len senders.old) }
@@ -187,7 +192,7 @@ fn workers_of<N: ClusterName>(
         let takes = next_taker::<N>(&mut passes);
         let sends = senders.pop().unwrap();
         let worker = Worker::new(number, takes, sends);
-        workers.push(Mutex::new(Some(worker)))?;
+        workers.push(WorkerPlace::new(worker))?;
     }
     Ok(workers)
 }

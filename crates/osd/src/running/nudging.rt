@@ -1,6 +1,6 @@
-ghost use Rattle.std.specs.Prelude.{◌<◌};
+ghost use Rattle.std.specs.Prelude.{◌<◌, All};
 ghost use Rattle.op_shards.specs.Passes.{Grew};
-ghost use Rattle.osd.specs.Sent.{OnlySent, IsOf};
+ghost use Rattle.osd.specs.Sent.{OnlySent, IsOwn, IsOfNodeOrLost};
 
 use crate::delivery::Delivery;
 use crate::name::ClusterName;
@@ -14,10 +14,11 @@ use std::sync::Wait;
 
 impl<N: ClusterName, R: Wait> Running<N, R> {
     /// Hands the newest map of the group to each acting node of a lower interval, then submits what each acting node sends
-    /// again. A stopped node sends nothing. It does nothing where there is no such group.
+    /// again. A stopped node sends nothing. It does nothing where there is no such group. What it submits is of that group,
+    /// and no request of a client.
     pub fn nudge(&self, sends: &mut Sends<N>, group: usize)
         ensures grew { Grew sends.old sends.new }
-        ensures only { OnlySent sends.old sends.new (IsOf group) }
+        ensures only { OnlySent sends.old sends.new (IsOwn group) }
     {
         if group >= self.config.groups as usize {
             return;
@@ -40,7 +41,7 @@ impl<N: ClusterName, R: Wait> Running<N, R> {
     /// Hands the newest map to the node that acts at that place, if its interval is lower.
     fn tell_late(&self, sends: &mut Sends<N>, group: usize, place: usize)
         requires { group < N.config.groups }
-        ensures { OnlySent sends.old sends.new (IsOf group) }
+        ensures { OnlySent sends.old sends.new (IsOwn group) }
     {
         let Some(node) = self.acting(group, place) else {
             return;
@@ -65,7 +66,7 @@ impl<N: ClusterName, R: Wait> Running<N, R> {
     /// Hands the newest map to a node. It is lost where memory is refused.
     pub(crate) fn tell_map(&self, sends: &mut Sends<N>, group: usize, node: NodeId)
         requires { group < N.config.groups }
-        ensures { OnlySent sends.old sends.new (IsOf group) }
+        ensures { OnlySent sends.old sends.new (IsOwn group) }
     {
         let Ok(map) = self.newest.lock(&self.rt).map(self.alloc, group) else {
             return;
@@ -84,7 +85,7 @@ impl<N: ClusterName, R: Wait> Running<N, R> {
     /// Submits what the node that acts at that place sends again.
     fn send_again(&self, sends: &mut Sends<N>, group: usize, place: usize)
         requires { group < N.config.groups }
-        ensures { OnlySent sends.old sends.new (IsOf group) }
+        ensures { OnlySent sends.old sends.new (IsOwn group) }
     {
         let Some(node) = self.acting(group, place) else {
             return;
@@ -95,7 +96,9 @@ impl<N: ClusterName, R: Wait> Running<N, R> {
     }
 
     /// What a node sent and still waits for, if it isn't stopped. Memory refused is a message lost.
-    fn unanswered(&self, group: usize, node: NodeId) -> Vec<Option<Outgoing<N>>> {
+    fn unanswered(&self, group: usize, node: NodeId) -> Vec<Option<Outgoing<N>>>
+        ensures { All IsOfNodeOrLost result.items }
+    {
         let nothing = Vec::new(self.alloc);
         if self.is_stopped(node) {
             return nothing;
@@ -104,7 +107,10 @@ impl<N: ClusterName, R: Wait> Running<N, R> {
             return nothing;
         };
         let sent = cell.lock(&self.rt).resend(self.alloc, &self.board);
-        sent.unwrap_or(nothing)
+        match sent {
+            Ok(sent) => sent,
+            Err(_) => nothing,
+        }
     }
 
     /// Brings what a node sends to whom it is for, if memory for it was there.
@@ -115,7 +121,8 @@ impl<N: ClusterName, R: Wait> Running<N, R> {
         sender: NodeId,
         outgoing: Option<Outgoing<N>>,
     )
-        ensures { OnlySent sends.old sends.new (IsOf group) }
+        requires { IsOfNodeOrLost outgoing }
+        ensures { OnlySent sends.old sends.new (IsOwn group) }
     {
         let Some(outgoing) = outgoing else {
             return;

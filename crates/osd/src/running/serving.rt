@@ -1,6 +1,6 @@
 ghost use Rattle.std.specs.Prelude.{◌≡◌, ◌<◌, length};
 ghost use Rattle.osd.specs.Gates.{gate_number};
-ghost use Rattle.osd.specs.Sent.{OnlySent, IsOf, IsAny};
+ghost use Rattle.osd.specs.Sent.{OnlySent, IsAny};
 
 use crate::delivery::Delivery;
 use crate::fate::{Deal, Fate, PassAll};
@@ -69,7 +69,7 @@ impl<N: ClusterName, R: Wait> Running<N, R> {
 
     /// What the worker of that number serves by, once.
     fn worker(&self, number: usize) -> Option<Worker<N>> {
-        self.workers.get(number)?.lock(&self.rt).take()
+        self.workers.get(number)?.take(&self.rt)
     }
 
     /// Takes an operation of each shard, beginning at the worker's own number modulo the number of shards. Answers whether
@@ -88,8 +88,28 @@ impl<N: ClusterName, R: Wait> Running<N, R> {
         found
     }
 
-    /// Takes an operation of a shard and serves it. Answers whether there was one.
+    /// Takes an operation of a shard and serves it. Answers whether there was one. A shard is served by one worker at a time,
+    /// so that what nodes send arrives in its order; one that another worker serves is passed over.
     fn take_turn<G: Gate, F: Fate>(
+        &self,
+        worker: &mut Worker<N>,
+        gate: &G,
+        fate: &F,
+        shard: usize,
+    ) -> bool
+        requires { shard < length N.queues.names }
+        ensures { OnlySent worker.old.sends worker.new.sends IsAny }
+    {
+        if !self.bell.begin(shard) {
+            return false;
+        }
+        let taken = self.serve_one(worker, gate, fate, shard);
+        self.bell.end(shard);
+        taken
+    }
+
+    /// Takes an operation of a shard and serves it. Answers whether there was one.
+    fn serve_one<G: Gate, F: Fate>(
         &self,
         worker: &mut Worker<N>,
         gate: &G,
@@ -101,21 +121,27 @@ impl<N: ClusterName, R: Wait> Running<N, R> {
     {
         match worker.takes.take(&self.rt, &self.shards, shard) {
             Some(operation) => {
-                self.turn(worker, gate, fate, operation);
+                self.pass(gate, shard, gate_number(&operation.carried));
+                self.turn(worker, fate, operation);
                 true
             }
             None => false,
         }
     }
 
+    /// Asks the gate. The other workers have the shard while it keeps a client's request.
+    fn pass<G: Gate>(&self, gate: &G, shard: usize, number: u64) {
+        if number == 0 {
+            gate.before(0);
+            return;
+        }
+        self.bell.leave(&self.rt, shard);
+        gate.before(number);
+        self.bell.enter(&self.rt, shard);
+    }
+
     /// Serves one operation.
-    fn turn<G: Gate, F: Fate>(
-        &self,
-        worker: &mut Worker<N>,
-        gate: &G,
-        fate: &F,
-        operation: Operation,
-    )
+    fn turn<F: Fate>(&self, worker: &mut Worker<N>, fate: &F, operation: Operation)
         ensures { OnlySent worker.old.sends worker.new.sends IsAny }
     {
         let Operation {
@@ -123,7 +149,6 @@ impl<N: ClusterName, R: Wait> Running<N, R> {
             node,
             carried,
         } = operation;
-        gate.before(gate_number(&carried));
         for outgoing in self.handle(group, node, carried) {
             self.send_some(worker, fate, group, node, outgoing);
         }

@@ -1,5 +1,5 @@
 use Rattle.osd.proofs.Sending.{only_none}
 use Rattle.osd.proofs.running.Running.take_turn.Goals as goal
 
-pub returns-in-None : goal.returns-in-None
-returns-in-None g c = only_none _ _
+pub returns-then-not-begin : goal.returns-then-not-begin
+returns-then-not-begin g c = only_none _ _

@@ -1,5 +1,9 @@
-use Rattle.osd.proofs.Sending.{only_none}
+use Rattle.std.proofs.Common.{refl}
+use Rattle.osd.proofs.Sending.{only_none, only_that}
 use Rattle.osd.proofs.running.Running.tell_map.Goals as goal
 
 pub returns-in_default : goal.returns-in_default
 returns-in_default g c = only_none _ _
+
+pub returns : goal.returns
+returns g c = only_that _ _ _ _ (refl, tt) c.submit.ensures.only
