@@ -1,4 +1,4 @@
-ghost use Rattle.std.specs.Prelude.{◌≡◌, ◌==◌, ◌⊎◌, ◌↔◌, true, false, Some, None, Err, IfOk, IfErr, IfSome, OnErr};
+ghost use Rattle.std.specs.Prelude.{◌≡◌, ◌==◌, ◌⊎◌, ◌↔◌, true, false, Some, None, Err, IfOk, IfErr, IfSome, MatchOption, OnErr};
 ghost use Rattle.osd.specs.Limits.{is_within_limits};
 ghost use Rattle.rados_client.specs.Loading.{HasBuiltIn, IsAdded, IsBuiltIn, IsVerified, class_refusal, load_refusal, refusal_of_room, refusal_of_start};
 ghost use Rattle.rados_client.specs.declared.run_error.RunError.TheVariants.{Started};
@@ -91,6 +91,22 @@ impl Cluster {
                 drop(class);
                 Err(started_with(*count))
             }
+        }
+    }
+
+    /// Gives the parts and the classes to who names the cluster (`Running::named`) and brings its threads: a scenario of
+    /// `run` can start none. From then on the cluster has started. None exactly where it had started before.
+    pub fn start(&mut self) -> Option<(Parts, ClassTable)>
+        ensures given { MatchOption result (self.old.classes ≡ None) (λ p. self.old.classes ≡ Some p.1) }
+        ensures spent { self.new ≡ record {
+          count = self.old.count;
+          classes = None;
+        } }
+    {
+        let started = Stage::Started(self.stage.count());
+        match mem::replace(&mut self.stage, started) {
+            Stage::Idle(parts, table) => Some((parts, table)),
+            Stage::Started(_) => None,
         }
     }
 

@@ -137,7 +137,7 @@ impl<'a, N: ClusterName, R: Wait> Connection<'a, N, R> {
             }
             Found::Nothing => {
                 patience.wait();
-                pause(patience.turns());
+                thread::yield_now();
                 None
             }
         }
@@ -163,7 +163,7 @@ impl<'a, N: ClusterName, R: Wait> Connection<'a, N, R> {
         self.nudge(request);
         match self.submit(request) {
             Ok(()) => patience.begin(),
-            Err(AskError::Full) => pause(TURNS_WHEN_FULL),
+            Err(AskError::Full) => pause(),
             Err(AskError::NoMemory) => patience.go_on(),
         }
     }
@@ -209,9 +209,9 @@ impl<'a, N: ClusterName, R: Wait> Connection<'a, N, R> {
     }
 }
 
-/// Gives the other threads so many turns.
-fn pause(turns: u32) {
-    for _ in 0..turns {
+/// Gives the other threads some turns, after a queue was full.
+fn pause() {
+    for _ in 0..TURNS_WHEN_FULL {
         thread::yield_now();
     }
 }

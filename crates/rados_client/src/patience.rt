@@ -45,12 +45,6 @@ impl Patience {
         self.looks_left = self.looks_left.saturating_sub(1);
     }
 
-    /// How many turns the other threads are given before the next look: 1 at first and 4 at last, so that many sessions
-    /// that wait leave the processors to the workers.
-    pub fn turns(&self) -> u32 {
-        1 + LOOKS.saturating_sub(self.looks_left) / 256
-    }
-
     /// The request is to be submitted again at once.
     pub fn give_up(&mut self)
         ensures { self.new.taken ≡ self.old.taken }
