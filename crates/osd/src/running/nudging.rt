@@ -90,6 +90,14 @@ impl<N: ClusterName, R: Wait> Running<N, R> {
         let Some(node) = self.acting(group, place) else {
             return;
         };
+        self.resend(sends, group, node);
+    }
+
+    /// Submits what a node sends again.
+    fn resend(&self, sends: &mut Sends<N>, group: usize, node: NodeId)
+        requires { group < N.config.groups }
+        ensures { OnlySent sends.old sends.new (IsOwn group) }
+    {
         for outgoing in self.unanswered(group, node) {
             self.deliver_some(sends, group, node, outgoing);
         }
