@@ -1,0 +1,4 @@
+pub mod Calling
+pub mod Configs
+pub mod Ends
+pub mod Printed

@@ -1,0 +1,25 @@
+use Rattle.std.proofs.Common.{◌≡◌, Some, ap, subst, sym, ◌∙◌}
+use Rattle.cluster_file.specs.declared.config.Numbers.{Numbers}
+use Rattle.osd.specs.declared.config.Config.{Config}
+use Rattle.cluster_tool.specs.Config.{config_of}
+use Rattle.cluster_tool.specs.Played.{IsMapRefused, Plays}
+use Rattle.cluster_tool.specs.declared.played.Played.{Played}
+use Rattle.cluster_tool.proofs.Configs.{within_limits}
+use Rattle.cluster_tool.proofs.Printed.{map_refused}
+use Rattle.cluster_tool.proofs.tool.settle_plan.Goals as goal
+
+pub new-requires : goal.new-requires
+new-requires g c = within_limits c.numbers.result c.in-Some.config (sym c.config_of.ensures ∙ c.in-Some.is)
+
+pub returns-in-Ok-MapRefused : goal.returns-in-Ok-MapRefused
+returns-in-Ok-MapRefused g c =
+    let plan = c.args.plan.now in
+    let made : config_of c.numbers.result ≡ Some c.in-Some.config = sym c.config_of.ensures ∙ c.in-Some.is in
+    let asked : config_of plan.numbers ≡ Some c.in-Some.config = subst (λ (n : Numbers). config_of n ≡ Some c.in-Some.config) c.numbers.ensures made in
+    let same : c.in-Ok.parts.config ≡ c.in-Some.config = c.in-Ok.ensures in
+    let is : config_of plan.numbers ≡ Some c.in-Ok.parts.config = asked ∙ ap (λ (x : Config). Some x) (sym same) in
+    let played : Plays c.args.table c.in-Ok.parts.config plan.steps c.in-Ok-MapRefused.field-0 = c.in-Ok-MapRefused.ensures in
+    let refused : IsMapRefused c.in-Ok.parts.config plan.steps c.in-Ok-MapRefused.line c.in-Ok-MapRefused.why =
+    subst (λ (p : Played). Plays c.args.table c.in-Ok.parts.config plan.steps p) c.in-Ok-MapRefused.field-0-is played in
+    map_refused c.args.table plan c.in-Ok.parts.config c.in-Ok-MapRefused.line c.in-Ok-MapRefused.why c.refused-in-Ok-MapRefused.result is refused
+    c.refused-in-Ok-MapRefused.ensures.ending c.refused-in-Ok-MapRefused.ensures.text

@@ -1,0 +1,108 @@
+-- What is printed of a cluster file, and why nothing was done.
+use Rattle.std.specs.Prelude.{◌≡◌, ◌⊎◌, ℕ, List, Option, Some, None, Ok, Err, Result, Bool, true, map}
+use Rattle.std.specs.Io.KnownBytes.{Appends}
+use Rattle.class_tool.specs.Assembly.{TextFails}
+use Rattle.class_tool.specs.Files.{Disk, Holds}
+use Rattle.class_tool.specs.declared.failure.Failure.{Failure}
+use Rattle.pg_log.specs.Log.{Classes}
+use Rattle.cluster_file.specs.Plan.{FilePlan, plan_of}
+use Rattle.cluster_file.specs.Text.{all_lines, bad_line, refused_line}
+use Rattle.tenant_classes.specs.Classes.{AreClasses, ClassesFail, names_of}
+use Rattle.osd.specs.declared.config.Config.{Config}
+use Rattle.rados_client.specs.Refusals.{config_error_text}
+use Rattle.rados_client.specs.Session.{PlacedReply}
+use Rattle.rados_client.specs.declared.config_error.ConfigError.TheVariants as config_error
+use Rattle.rados_client.specs.declared.exec_error.ExecError.{ExecError}
+use Rattle.map_book.specs.declared.map_error.MapError.{MapError}
+use Rattle.map_book.specs.Refusal.{map_error_text}
+use Rattle.cluster_tool.specs.Answers.{shown}
+use Rattle.cluster_tool.specs.Config.{config_of}
+use Rattle.cluster_tool.specs.Played.{AreDone, IsMapRefused}
+use Rattle.cluster_tool.specs.declared.asked.Clustering.{Clustering}
+use Rattle.cluster_tool.specs.declared.tool.Ending.{Ending}
+use Rattle.cluster_tool.specs.declared.tool.Ending.TheVariants.{Done, Bad, Refused, NoMemory, Unprinted}
+
+-- A number of its first line is outside its limits.
+pub record IsLimit (plan : FilePlan) (printed : List ℕ) : Type 0 where
+  pub none : config_of plan.numbers ≡ None
+  pub text : printed ≡ refused_line 1 (config_error_text config_error.Limit)
+
+-- The numbers of its first line are within their limits: a cluster may have them.
+pub record IsWithin (plan : FilePlan) (P : Config → Type 0) : Type 0 where
+  pub config : Config
+  pub is : config_of plan.numbers ≡ Some config
+  pub comes : P config
+
+-- Each call was made: the lines of their ends, which are true.
+pub record IsMade (classes : Classes) (plan : FilePlan) (printed : List ℕ) : Type 0 where
+  pub all : List (List (Result PlacedReply ExecError))
+  pub done : AreDone classes plan.steps all
+  pub lines : printed ≡ all_lines 1 (map (map shown) all)
+
+-- A map of the file was refused.
+pub record IsMapLine (plan : FilePlan) (printed : List ℕ) (config : Config) : Type 0 where
+  pub line : ℕ
+  pub why : MapError
+  pub refused : IsMapRefused config plan.steps line why
+  pub text : printed ≡ refused_line line (map_error_text why)
+
+-- Memory for the cluster was refused.
+abbrev pub IsNoRoom : List ℕ → Type 0
+IsNoRoom printed = printed ≡ refused_line 1 (config_error_text config_error.NoMemory)
+
+-- THE CLUSTER OR A MAP IS REFUSED: a number of the first line is outside its limits; or none is, and memory for the cluster or
+-- a map was refused.
+abbrev pub IsRefused : FilePlan → List ℕ → Type 0
+IsRefused plan printed = IsLimit plan printed ⊎ IsWithin plan (λ config. IsNoRoom printed ⊎ IsMapLine plan printed config)
+
+-- WHAT COMES of a file's text, where memory lasts: what its plan comes to; or, before anything is done, the line that is
+-- malformed first alone.
+abbrev pub ComesOf : Classes → Result FilePlan ℕ → List ℕ → Ending → Type 0
+ComesOf classes (Ok plan) printed Done = IsWithin plan (λ config. IsMade classes plan printed)
+ComesOf classes (Ok plan) printed Bad = ⊥
+ComesOf classes (Ok plan) printed Refused = IsRefused plan printed
+ComesOf classes (Ok plan) printed NoMemory = ⊥
+ComesOf classes (Ok plan) printed Unprinted = ⊥
+ComesOf classes (Err line) printed Done = ⊥
+ComesOf classes (Err line) printed Bad = printed ≡ bad_line line
+ComesOf classes (Err line) printed Refused = ⊥
+ComesOf classes (Err line) printed NoMemory = ⊥
+ComesOf classes (Err line) printed Unprinted = ⊥
+
+-- that was printed, whole, and no write or flush failed
+pub record IsShown (classes : Classes) (names : List (List ℕ)) (text : List ℕ) (old new : Option (List ℕ)) (failed fails : Bool) (ending : Ending) : Type 0 where
+  pub printed : List ℕ
+  pub comes : ComesOf classes (plan_of names text) printed ending
+  pub grew : Appends old new printed
+  pub well : fails ≡ failed
+
+-- a text was printed and that is how it ended; or a write or a flush failed
+abbrev pub Prints : List ℕ → Ending → Option (List ℕ) → Option (List ℕ) → Bool → Bool → Ending → Type 0
+Prints printed ending old new failed fails result =
+    ((result ≡ ending) × Appends old new printed × (fails ≡ failed)) ⊎ ((result ≡ Unprinted) × (fails ≡ true))
+
+-- how a file ends: that was printed; or nothing was, for want of memory; or a write or a flush failed
+abbrev pub EndsSo : Classes → List (List ℕ) → List ℕ → Option (List ℕ) → Option (List ℕ) → Bool → Bool → Ending → Type 0
+EndsSo classes names text old new failed fails Done = IsShown classes names text old new failed fails Done
+EndsSo classes names text old new failed fails Bad = IsShown classes names text old new failed fails Bad
+EndsSo classes names text old new failed fails Refused = IsShown classes names text old new failed fails Refused
+EndsSo classes names text old new failed fails NoMemory = (new ≡ old) × (fails ≡ failed)
+EndsSo classes names text old new failed fails Unprinted = fails ≡ true
+
+-- WHAT A CLUSTER FILE COMES TO: with the built-in classes and those of the tenants' files, the text that the file holds.
+pub record Clusters (disk : Option Disk) (c : Clustering) (old new : Option (List ℕ)) (failed fails : Bool) (ending : Ending) : Type 0 where
+  pub classes : Classes
+  pub loaded : AreClasses disk c.own.items classes
+  pub text : List ℕ
+  pub held : Holds disk c.file.now text
+  pub ends : EndsSo classes (names_of c.own.items) text old new failed fails ending
+
+-- the classes were had, and the file can't be read or is no text; or memory was refused
+pub record FileFails (disk : Option Disk) (c : Clustering) (failure : Failure) : Type 0 where
+  pub classes : Classes
+  pub loaded : AreClasses disk c.own.items classes
+  pub why : TextFails disk c.file.now failure
+
+-- Why nothing was done, in the order in which it is tried: by the classes, by the file.
+abbrev pub ClusteringFails : Option Disk → Clustering → Failure → Type 0
+ClusteringFails disk c failure = ClassesFail disk c.own.items failure ⊎ FileFails disk c failure

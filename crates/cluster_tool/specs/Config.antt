@@ -1,0 +1,13 @@
+-- What a cluster is made of, by the numbers of a file's first line.
+use Rattle.std.specs.Prelude.{◌^◌, ◌-◌, nat_le, if◌then◌else◌, Option, Some, None}
+use Rattle.osd.specs.Limits.{is_within_limits}
+use Rattle.osd.specs.declared.config.Config.{Config}
+use Rattle.cluster_file.specs.declared.config.Numbers.{Numbers}
+
+-- the same numbers
+abbrev pub same_numbers : Numbers → Config
+same_numbers n = record { nodes = n.nodes; replicas = n.replicas; groups = n.groups; shards = n.shards; workers = n.workers; tries = n.tries }
+
+-- where each is within its limits
+abbrev pub config_of : Numbers → Option Config
+config_of n = if nat_le n.tries (2 ^ 32 - 1) then (if is_within_limits (same_numbers n) then Some (same_numbers n) else None) else None

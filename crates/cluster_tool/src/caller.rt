@@ -1,0 +1,104 @@
+ghost use Rattle.std.specs.Prelude.{◌≡◌, ◌∷◌, [], false, IfOk};
+ghost use Rattle.cluster_tool.specs.Callers.{HasCalled, MadeCall};
+
+use cluster_file::{Call, Step};
+use osd::ClusterName;
+use rados_client::{ClassId, ExecError, Reply, Session};
+use std::alloc::{AllocError, Global};
+use std::marker::Model;
+use std::sync::Wait;
+
+/// A client: its session, how its calls ended so far, and whether memory was refused to keep one of these ends.
+#[derive(Drop)]
+pub(crate) struct Caller<'a, N: ClusterName, R> {
+    session: Session<'a, N, R>,
+    ends: Vec<Result<Reply, ExecError>>,
+    lost: bool,
+}
+
+impl<'a, N: ClusterName, R> Model for Caller<'a, N, R> {
+    ghost use Rattle.cluster_tool.specs.Callers.{CallerState};
+
+    ghost Value = { CallerState };
+
+    ghost view = { λ c. record {
+      session = c.session;
+      ends = c.ends.items;
+      lost = c.lost;
+    } };
+}
+
+impl<'a, N: ClusterName, R: Wait> Caller<'a, N, R> {
+    /// A client that has called nothing yet.
+    pub fn new(alloc: Global, session: Session<'a, N, R>) -> Caller<'a, N, R>
+        ensures { result ≡ record {
+          session = session.entry;
+          ends = [];
+          lost = false;
+        } }
+    {
+        Caller {
+            session,
+            ends: Vec::new(alloc),
+            lost: false,
+        }
+    }
+
+    /// Makes its calls of these steps, one after another.
+    pub fn call_all(&mut self, alloc: Global, steps: &[Step])
+        ensures { HasCalled N.classes steps.now self.old self.new }
+    {
+        for step in steps {
+            self.take_step(alloc, step);
+        }
+    }
+
+    /// Makes the step's call, if it is a call of this client.
+    fn take_step(&mut self, alloc: Global, step: &Step)
+        ensures { HasCalled N.classes (step.now ∷ []) self.old self.new }
+    {
+        match step {
+            Step::Call(call) => {
+                if call.client() == self.session.client() {
+                    self.call(alloc, call);
+                }
+            }
+            Step::Map(_, _) => {}
+        }
+    }
+
+    /// Makes a call, and keeps how it ended.
+    fn call(&mut self, alloc: Global, call: &Call)
+        ensures { MadeCall N.classes call.now self.old self.new }
+    {
+        let end = self.session.exec(
+            alloc,
+            call.object(),
+            ClassId::new(call.class()),
+            call.method(),
+            call.input(),
+        );
+        if self.ends.push(end).is_err() {
+            self.lost = true;
+        }
+    }
+}
+
+impl<N: ClusterName, R> Caller<'_, N, R> {
+    /// How its calls ended. It fails where memory was refused to keep one of these ends.
+    pub fn into_ends(self) -> Result<Vec<Result<Reply, ExecError>>, AllocError>
+        ensures { IfOk result (λ v. (v.items ≡ self.entry.ends) × (self.entry.lost ≡ false)) }
+    {
+        let Caller {
+            session,
+            ends,
+            lost,
+        } = self;
+        drop(session);
+        if lost {
+            drop(ends);
+            return Err(AllocError);
+        }
+        Ok(ends)
+    }
+}

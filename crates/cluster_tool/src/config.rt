@@ -1,0 +1,27 @@
+ghost use Rattle.std.specs.Prelude.{◌≡◌};
+ghost use Rattle.cluster_tool.specs.Config.{config_of};
+
+use cluster_file::Numbers;
+use osd::Config;
+
+/// What a first line's numbers make, where each is within its limits.
+pub(crate) fn config_of(numbers: Numbers) -> Option<Config>
+    ensures { result ≡ config_of numbers }
+{
+    if numbers.tries > u64::from(u32::MAX) {
+        return None;
+    }
+    let config = Config {
+        nodes: numbers.nodes,
+        replicas: numbers.replicas as usize,
+        groups: numbers.groups,
+        shards: numbers.shards as usize,
+        workers: numbers.workers as usize,
+        tries: numbers.tries as u32,
+    };
+    if config.is_within_limits() {
+        Some(config)
+    } else {
+        None
+    }
+}

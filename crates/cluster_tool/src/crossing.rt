@@ -1,0 +1,29 @@
+//! What may go to another thread, for the proofs of `playing`. The functions do nothing.
+ghost use denote.Param.Send.{IsSend};
+ghost use denote.Ref.{NamedLft};
+ghost use Rattle.cluster_tool.specs.contracts.caller.Caller as caller;
+ghost use Rattle.rados_client.specs.contracts.reply.Reply as reply;
+
+use osd::ClusterName;
+use rados_client::{ExecError, Reply, session_crosses};
+
+/// A client may go from one thread to another, where threads may share the cluster's names and its runtime.
+pub(crate) fn caller_crosses<N: ClusterName + Send + Sync, R: Sync>()
+    ensures { (life : NamedLft) → IsSend (caller.the_row life N.row R.row (record { queues = N.queues; config = N.config }) (record { board = N.board }) (record { classes = N.classes })) }
+{
+    session_crosses::<N, R>();
+    reply_crosses();
+    can_send::<Vec<Result<Reply, ExecError>>>();
+}
+
+/// A reply may go to another thread.
+fn reply_crosses()
+    ensures { IsSend reply.the_row }
+{
+    can_send::<Reply>();
+}
+
+/// Values of the type may go to another thread.
+fn can_send<T: Send>()
+    ensures { IsSend T.row }
+{}

@@ -1,0 +1,13 @@
+use map_book::MapError;
+use rados_client::{ExecError, Reply};
+
+/// How a plan ended.
+#[derive(Drop)]
+pub enum Played {
+    /// Each call was made: how each client's calls ended, the first client's first.
+    Done(Vec<Vec<Result<Reply, ExecError>>>),
+    /// The map of that line, from 1, was refused; nothing after it was done.
+    MapRefused(usize, MapError),
+    /// Memory was refused.
+    NoMemory,
+}

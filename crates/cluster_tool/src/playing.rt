@@ -1,0 +1,201 @@
+//! A plan played on a cluster.
+ghost use Rattle.std.specs.Prelude.{◌≡◌, false, IfOk, IfNone, IfSome, All, map};
+ghost use Rattle.cluster_tool.specs.Callers.{AllCalled, AreNew};
+ghost use Rattle.cluster_tool.specs.Played.{IsMapRefused, Plays};
+
+use crate::caller::Caller;
+use crate::crossing::caller_crosses;
+use crate::played::Played;
+use cluster_file::{Plan, Step};
+use map_book::MapError;
+use osd::{ClusterName, NoMemory, Open, Parts, Running, running_crosses};
+use pg_log::ClassTable;
+use rados_client::{ExecError, Reply, Session};
+use std::alloc::{AllocError, Global};
+use std::marker::Brand;
+use std::sync::Wait;
+use std::thread::{Threads, for_each_mut, join};
+
+/// How many workers a cluster has at most.
+const WORKER_LIMIT: usize = 16;
+
+/// Plays a plan on a cluster of these parts, with these classes: each client and each worker in a thread of its own. It
+/// is not played where memory for the nodes is refused.
+pub(crate) fn play<R: Threads + Wait + Sync + Drop>(
+    alloc: Global,
+    rt: R,
+    parts: Parts,
+    table: ClassTable,
+    plan: &Plan,
+) -> Result<Played, NoMemory>
+    ensures { IfOk result (Plays table parts.config plan.now.steps) }
+{
+    play_named::<Brand, R>(alloc, rt, parts, table, plan)
+}
+
+/// Names the cluster, and plays a plan on it.
+fn play_named<N: ClusterName + Send + Sync, R: Threads + Wait + Sync + Drop>(
+    alloc: Global,
+    rt: R,
+    parts: Parts,
+    table: ClassTable,
+    plan: &Plan,
+) -> Result<Played, NoMemory>
+    requires board { parts.board ≡ N.board }
+    requires queues { parts.queues ≡ N.queues }
+    requires config { parts.config ≡ N.config }
+    requires table { table ≡ N.classes }
+    ensures { IfOk result (Plays table parts.config plan.now.steps) }
+{
+    let running = Running::<N, R>::named(alloc, rt, parts, table)?;
+    Ok(play_while_served(alloc, &running, plan))
+}
+
+/// Plays a plan while all workers serve.
+fn play_while_served<N: ClusterName + Send + Sync, R: Threads + Wait + Sync>(
+    alloc: Global,
+    running: &Running<N, R>,
+    plan: &Plan,
+) -> Played
+    ensures { Plays N.classes N.config plan.now.steps result }
+{
+    running_crosses::<N, R>();
+    let (_, played) = join(
+        running.runtime(),
+        || serve_all(running),
+        || play_and_finish(alloc, running, plan),
+    );
+    played
+}
+
+/// Serves by all workers until the cluster is told to finish.
+fn serve_all<N: ClusterName + Send + Sync, R: Threads + Wait + Sync>(running: &Running<N, R>) {
+    running_crosses::<N, R>();
+    let mut numbers = [0, 1, 2, 3, 4, 5, 6, 7, 8, 9, 10, 11, 12, 13, 14, 15];
+    let workers = running.config().workers.min(WORKER_LIMIT);
+    let numbers = &mut numbers[..workers];
+    for_each_mut(
+        running.runtime(),
+        numbers,
+        WORKER_LIMIT,
+        &|_, worker: &mut usize| {
+            running.serve(*worker, &Open);
+        },
+    );
+}
+
+/// Plays a plan, and tells the workers to finish.
+fn play_and_finish<N: ClusterName + Send + Sync, R: Threads + Wait + Sync>(
+    alloc: Global,
+    running: &Running<N, R>,
+    plan: &Plan,
+) -> Played
+    ensures { Plays N.classes N.config plan.now.steps result }
+{
+    let played = play_plan(alloc, running, plan);
+    running.finish();
+    played
+}
+
+/// Plays a plan.
+fn play_plan<N: ClusterName + Send + Sync, R: Threads + Wait + Sync>(
+    alloc: Global,
+    running: &Running<N, R>,
+    plan: &Plan,
+) -> Played
+    ensures { Plays N.classes N.config plan.now.steps result }
+{
+    let Ok(mut callers) = callers(alloc, running, plan.clients()) else {
+        return Played::NoMemory;
+    };
+    match play_steps(alloc, running, plan.steps(), &mut callers) {
+        Some((line, why)) => Played::MapRefused(line, why),
+        None => match all_ends(alloc, callers) {
+            Ok(ends) => Played::Done(ends),
+            Err(_) => Played::NoMemory,
+        },
+    }
+}
+
+/// The clients, each with its session, the first one first.
+fn callers<'a, N: ClusterName, R: Wait>(
+    alloc: Global,
+    running: &'a Running<N, R>,
+    clients: u32,
+) -> Result<Vec<Caller<'a, N, R>>, AllocError>
+    ensures { IfOk result (λ v. AreNew clients v.items) }
+{
+    let mut callers = Vec::new(alloc);
+    for client in 0..clients {
+        let Ok(session) = Session::open(running) else {
+            return Err(AllocError);
+        };
+        if session.client().get() != client + 1 {
+            return Err(AllocError);
+        }
+        callers.push(Caller::new(alloc, session))?;
+    }
+    Ok(callers)
+}
+
+/// Makes the calls of these steps, each client in a thread of its own.
+fn call_all<'a, N: ClusterName + Send + Sync, R: Threads + Wait + Sync>(
+    alloc: Global,
+    running: &'a Running<N, R>,
+    steps: &[Step],
+    callers: &mut Vec<Caller<'a, N, R>>,
+)
+    ensures { AllCalled N.classes steps.now callers.old.items callers.new.items }
+{
+    caller_crosses::<N, R>();
+    let threads = callers.len().max(1);
+    for_each_mut(
+        running.runtime(),
+        callers.as_mut_slice(),
+        threads,
+        &|_, caller| {
+            caller.call_all(alloc, steps);
+        },
+    );
+}
+
+/// Makes the calls of a plan, and each of its maps once all calls above have ended, up to the first map that is
+/// refused.
+fn play_steps<'a, N: ClusterName + Send + Sync, R: Threads + Wait + Sync>(
+    alloc: Global,
+    running: &'a Running<N, R>,
+    steps: &[Step],
+    callers: &mut Vec<Caller<'a, N, R>>,
+) -> Option<(usize, MapError)>
+    ensures none { IfNone result (AllCalled N.classes steps.now callers.old.items callers.new.items) }
+    ensures some { IfSome result (λ r. IsMapRefused N.config steps.now r.0 r.1) }
+{
+    let end = steps.len();
+    let mut from = 0;
+    for at in 0..end {
+        if let Step::Map(line, nodes) = &steps[at] {
+            call_all(alloc, running, &steps[from..at], callers);
+            if let Err(why) = running.new_map(nodes.items()) {
+                return Some((*line, why));
+            }
+            from = at;
+        }
+    }
+    call_all(alloc, running, &steps[from..end], callers);
+    None
+}
+
+/// How each client's calls ended. It fails where memory was refused to keep one of these ends.
+fn all_ends<N: ClusterName, R>(
+    alloc: Global,
+    callers: Vec<Caller<'_, N, R>>,
+) -> Result<Vec<Vec<Result<Reply, ExecError>>>, AllocError>
+    ensures ends { IfOk result (λ v. map (λ e. e.items) v.items ≡ map (λ c. c.ends) callers.entry.items) }
+    ensures kept { IfOk result (λ _. All (λ c. c.lost ≡ false) callers.entry.items) }
+{
+    let mut all = Vec::new(alloc);
+    for caller in callers {
+        all.push(caller.into_ends()?)?;
+    }
+    Ok(all)
+}

@@ -1,0 +1,136 @@
+ghost use Rattle.std.specs.Prelude.{◌≡◌, IfOk, IfErr, IfSome, OnErr, Ok, map, string_bytes};
+ghost use Rattle.cluster_file.specs.Plan.{plan_of};
+ghost use Rattle.cluster_file.specs.Text.{refused_line};
+ghost use Rattle.cluster_tool.specs.Clustering.{Clusters, ClusteringFails, ComesOf, Prints};
+
+use crate::asked::Clustering;
+use crate::config::config_of;
+use crate::played::Played;
+use crate::playing::play;
+use crate::shown::lines_of;
+use class_tool::{Failure, Output, Reads, read_text};
+use cluster_file::{Plan, Reading, bad_line, read_plan, refused_line};
+use osd::Parts;
+use pg_log::ClassTable;
+use rados_client::ConfigError;
+use std::alloc::{AllocError, Global};
+use std::fmt::Display;
+use std::sync::Wait;
+use std::thread::Threads;
+use tenant_classes::{class_names, classes};
+
+/// How a file ended.
+#[derive(Clone, Copy, Drop)]
+pub enum Ending {
+    /// Each call was made, refused ones too, and all lines were printed.
+    Done,
+    /// A line is malformed; its line was printed alone, and nothing was done.
+    Bad,
+    /// The cluster or a map is refused; a line that says so was printed alone.
+    Refused,
+    /// Memory was refused; nothing was printed.
+    NoMemory,
+    /// A write or a flush failed.
+    Unprinted,
+}
+
+/// What is printed of a file, and how it ended.
+#[derive(Drop)]
+struct Outcome {
+    text: String,
+    ending: Ending,
+}
+
+/// Loads the classes, reads the file whole, and plays its plan. Requests go to `lock` (0), `obj` (1) and the tenants'
+/// classes, by their names. A call refused by its session is printed as the others.
+///
+/// A failure says why nothing was done, the first reason in this order: a built-in class can't be had, which memory
+/// alone is known to cause; the image of a tenant's class can't be loaded, the first one in their order; the file can't
+/// be read or is no text. Nothing was printed then. It starts threads and waits for them: nothing is said of when it
+/// ends.
+pub fn cluster<F: Reads, O: Output, R: Threads + Wait + Sync + Drop>(
+    alloc: Global,
+    rt: R,
+    files: &F,
+    asked: &Clustering<'_>,
+    out: &mut O,
+) -> Result<Ending, Failure>
+    ensures ends { IfOk result (Clusters (F.disk files.now) asked.now (O.printed out.old) (O.printed out.new) (O.failed out.old) (O.failed out.new)) }
+    ensures fails { IfErr result (ClusteringFails (F.disk files.now) asked.now) }
+    ensures silent { OnErr result (out.new ≡ out.old) }
+{
+    let table = classes(alloc, files, &asked.own)?;
+    let names = class_names(alloc, &asked.own)?;
+    let text = read_text(alloc, files, asked.file)?;
+    match settle(alloc, rt, table, &names, &text) {
+        Ok(outcome) => Ok(print(outcome, out)),
+        Err(_) => Ok(Ending::NoMemory),
+    }
+}
+
+/// Prints a file's outcome.
+fn print<O: Output>(outcome: Outcome, out: &mut O) -> Ending
+    ensures { Prints (string_bytes outcome.text) outcome.ending (O.printed out.old) (O.printed out.new) (O.failed out.old) (O.failed out.new) result }
+{
+    let ending = outcome.ending;
+    match out.print(outcome.text.as_str()) {
+        Ok(()) => ending,
+        Err(_) => Ending::Unprinted,
+    }
+}
+
+/// What comes of a text.
+fn settle<R: Threads + Wait + Sync + Drop>(
+    alloc: Global,
+    rt: R,
+    table: ClassTable,
+    names: &[&str],
+    text: &str,
+) -> Result<Outcome, AllocError>
+    ensures { IfOk result (λ o. ComesOf table (plan_of (map (λ n. n.now) names.now) text.now) (string_bytes o.text) o.ending) }
+{
+    match read_plan(alloc, names, text)? {
+        Reading::Plan(plan) => settle_plan(alloc, rt, table, &plan),
+        Reading::Bad(line) => Ok(Outcome {
+            text: bad_line(alloc, line)?,
+            ending: Ending::Bad,
+        }),
+    }
+}
+
+/// A cluster or a map that is refused, at that line.
+fn refused<E: Display + Drop>(alloc: Global, line: usize, why: E) -> Result<Outcome, AllocError>
+    ensures ending { IfOk result (λ o. o.ending ≡ Ending.Refused) }
+    ensures text { IfOk result (λ o. IfSome (E.output why) (λ reason. string_bytes o.text ≡ refused_line line reason)) }
+{
+    Ok(Outcome {
+        text: refused_line(alloc, line, why)?,
+        ending: Ending::Refused,
+    })
+}
+
+/// What comes of a plan.
+fn settle_plan<R: Threads + Wait + Sync + Drop>(
+    alloc: Global,
+    rt: R,
+    table: ClassTable,
+    plan: &Plan,
+) -> Result<Outcome, AllocError>
+    ensures { IfOk result (λ o. ComesOf table (Ok plan.now) (string_bytes o.text) o.ending) }
+{
+    let Some(config) = config_of(plan.numbers()) else {
+        return refused(alloc, 1, ConfigError::Limit);
+    };
+    let Ok(parts) = Parts::new(alloc, config) else {
+        return refused(alloc, 1, ConfigError::NoMemory);
+    };
+    match play(alloc, rt, parts, table, plan) {
+        Ok(Played::Done(ends)) => Ok(Outcome {
+            text: lines_of(alloc, &ends)?,
+            ending: Ending::Done,
+        }),
+        Ok(Played::MapRefused(line, why)) => refused(alloc, line, why),
+        Ok(Played::NoMemory) => Err(AllocError),
+        Err(_) => refused(alloc, 1, ConfigError::NoMemory),
+    }
+}
