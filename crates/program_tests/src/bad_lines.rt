@@ -1,6 +1,8 @@
 use crate::folder::{only_prints, with_repeated};
 use crate::script::prints;
 use std::process::Abort;
+use std::sync::Wait;
+use std::thread::Threads;
 
 /// Files of events whose last line is bad: what is printed stands below each event.
 static BAD: [&str; 34] = [
@@ -59,7 +61,12 @@ fn a_bad_line_is_the_last(rt: HostRuntime) {
 }
 
 /// How the request is answered whose object's name has so many bytes, and how the run ends.
-fn asks_beside<R: Abort + AllocGlobal>(rt: &R, length: usize, answer: &str, status: u8) {
+fn asks_beside<R: Abort + AllocGlobal + Threads + Wait + Sync>(
+    rt: &R,
+    length: usize,
+    answer: &str,
+    status: u8,
+) {
     let events = with_repeated(rt, "req 1 1 1 ", "a", length, " lock lock -\n");
     only_prints(rt, &["sim", "text"], "", events.as_bytes(), answer, status);
 }

@@ -6,6 +6,8 @@ use std::alloc::Global;
 use std::cell::Cell;
 use std::io::{self, ErrorKind};
 use std::process::Abort;
+use std::sync::Wait;
+use std::thread::Threads;
 
 /// `mov r0, 0`, `exit`.
 pub const TWO: &str =
@@ -128,13 +130,18 @@ fn line_of<'a, R: Abort + AllocGlobal>(rt: &R, words: &[&'a str]) -> Vec<&'a str
 }
 
 /// Runs the program on those words behind its name, and on that folder.
-pub fn run_on<R: Abort + AllocGlobal>(rt: &R, words: &[&str], folder: &mut Folder) -> Ended {
+pub fn run_on<R: Abort + AllocGlobal + Threads + Wait + Sync>(
+    rt: &R,
+    words: &[&str],
+    folder: &mut Folder,
+) -> Ended {
     let line = line_of(rt, words);
     let mut printed = Vec::new(rt.alloc());
     let mut explained = Vec::new(rt.alloc());
     let mut out = Printer::new(&mut printed);
     let status = program(
         rt.alloc(),
+        rt,
         line.as_slice(),
         folder,
         &mut out,
@@ -148,7 +155,7 @@ pub fn run_on<R: Abort + AllocGlobal>(rt: &R, words: &[&str], folder: &mut Folde
 }
 
 /// Runs the program on those words and that folder: it prints that, explains nothing, and ends with that status.
-pub fn prints_on<R: Abort + AllocGlobal>(
+pub fn prints_on<R: Abort + AllocGlobal + Threads + Wait + Sync>(
     rt: &R,
     words: &[&str],
     folder: &mut Folder,
@@ -160,7 +167,7 @@ pub fn prints_on<R: Abort + AllocGlobal>(
 }
 
 /// The same on a folder with that image, in hexadecimal, and that text; and no file is written.
-pub fn only_prints<R: Abort + AllocGlobal>(
+pub fn only_prints<R: Abort + AllocGlobal + Threads + Wait + Sync>(
     rt: &R,
     words: &[&str],
     image: &str,
@@ -183,7 +190,7 @@ pub struct Row {
 }
 
 /// Each row prints what it should, ends so, and writes no file.
-pub fn all_print<R: Abort + AllocGlobal>(rt: &R, rows: &[Row]) {
+pub fn all_print<R: Abort + AllocGlobal + Threads + Wait + Sync>(rt: &R, rows: &[Row]) {
     for row in rows {
         let text = row.text.as_bytes();
         only_prints(rt, row.words, row.image, text, row.printed, row.status);

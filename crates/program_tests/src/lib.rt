@@ -1,12 +1,14 @@
 //! Tests alone, of the program on words, files and writers: what it prints of images and texts of classes, of groups played
-//! from files of events, and of words that ask for nothing; and how it ends where standard output fails. Of the lines of a
-//! file of events also what each says. And of what is measured, and printed of it.
+//! from files of events, of clusters played from files of calls, and of words that ask for nothing; and how it ends where
+//! standard output fails. Of the lines of a file of events also what each says. And of what is measured, and printed of it.
 #![tactic(auto)]
 
 #[cfg(test)]
 mod bad_lines;
 #[cfg(test)]
 mod bench;
+#[cfg(test)]
+mod clusters;
 #[cfg(test)]
 mod drawings;
 #[cfg(test)]

@@ -2,6 +2,8 @@
 
 use crate::folder::{Folder, Row, all_print, holds, prints_on};
 use std::process::Abort;
+use std::sync::Wait;
+use std::thread::Threads;
 
 /// counter.c: its number is in the xattr `count`.
 const INC: &str =
@@ -182,14 +184,18 @@ static REFUSED: [Row; 10] = [
 ];
 
 /// A folder in which raw code was packed, over its own file.
-fn folder_with<R: Abort + AllocGlobal>(rt: &R, raw: &str, method: &str) -> Folder {
+fn folder_with<R: Abort + AllocGlobal + Threads + Wait + Sync>(
+    rt: &R,
+    raw: &str,
+    method: &str,
+) -> Folder {
     let mut folder = Folder::of(rt, raw, b"");
     prints_on(rt, &["pack", "image", method], &mut folder, "", 0);
     folder
 }
 
 /// What a row prints of the image.
-fn prints_packed<R: Abort + AllocGlobal>(rt: &R, row: &Packed) {
+fn prints_packed<R: Abort + AllocGlobal + Threads + Wait + Sync>(rt: &R, row: &Packed) {
     let mut folder = folder_with(rt, row.raw, row.method);
     prints_on(rt, row.words, &mut folder, row.printed, 0);
     holds(rt, folder.writes == 1, row.printed);

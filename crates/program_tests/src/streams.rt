@@ -3,9 +3,11 @@ use class_tool::Printer;
 use radoscls_program::program;
 use std::io::{self, ErrorKind, Write};
 use std::process::Abort;
+use std::sync::Wait;
+use std::thread::Threads;
 
 /// Words that ask for nothing that the program does, or for help.
-static USAGES: [&[&str]; 36] = [
+static USAGES: [&[&str]; 41] = [
     &[],
     &["--help"],
     &["help"],
@@ -36,6 +38,12 @@ static USAGES: [&[&str]; 36] = [
     // a flag with a value, and one that stands twice
     &["sim", "--trace=yes", "text"],
     &["sim", "--trace", "--trace", "text"],
+    // the same of a file of calls; a flag of the other command, and one of none
+    &["cluster"],
+    &["cluster", "text", "text"],
+    &["cluster", "--trace", "text"],
+    &["cluster", "--stats", "text"],
+    &["cluster", "--class", "lock=image", "text"],
     // a class without its image's file, or without a word that asks it
     &["sim", "text", "--class"],
     &["sim", "--class", "two", "text"],
@@ -66,7 +74,7 @@ static USAGES: [&[&str]; 36] = [
 ];
 
 /// Whether the program prints nothing of those words, explains its use, ends with 2, and writes no file.
-fn explains<R: Abort + AllocGlobal>(rt: &R, words: &[&str]) -> bool {
+fn explains<R: Abort + AllocGlobal + Threads + Wait + Sync>(rt: &R, words: &[&str]) -> bool {
     let mut folder = Folder::of(rt, TWO, b"");
     run_on(rt, words, &mut folder).explains() && folder.writes == 0
 }
@@ -80,32 +88,36 @@ fn explains_its_use(rt: HostRuntime) {
 
 /// Words, and what stands in the help or the usage that they get: the forms and phrases are clap's, the texts are the
 /// commands' own.
-static TOLD: [(&[&str], &str); 19] = [
+static TOLD: [(&[&str], &str); 21] = [
     (
         &["--help"],
         "RADOS object classes in verified BPF\n\nUsage: radoscls <COMMAND>\n",
     ),
     (
         &["--help"],
-        "  verify  Tells whether the methods of a class image are safe\n",
+        "  verify   Tells whether the methods of a class image are safe\n",
     ),
     (
         &["--help"],
-        "  run     Runs a method of a class image beside an absent object\n",
+        "  run      Runs a method of a class image beside an absent object\n",
     ),
     (
         &["--help"],
-        "  asm     Writes the image of a class from its text\n",
+        "  asm      Writes the image of a class from its text\n",
     ),
     (
         &["--help"],
-        "  pack    Writes the image of a class from raw code\n",
+        "  pack     Writes the image of a class from raw code\n",
     ),
-    (&["--help"], "  dis     Prints the text of a class image\n"),
+    (&["--help"], "  dis      Prints the text of a class image\n"),
     (&["--version"], "radoscls 0.1.0\n"),
     (
         &["--help"],
-        "  sim     Plays a group of nodes from a file of events\n",
+        "  sim      Plays a group of nodes from a file of events\n",
+    ),
+    (
+        &["--help"],
+        "  cluster  Plays clients' calls on a cluster in threads\n",
     ),
     (&[], "Usage: radoscls <COMMAND>\n"),
     (&["verify", "--help"], "Usage: radoscls verify <IN>\n"),
@@ -120,6 +132,10 @@ static TOLD: [(&[&str], &str); 19] = [
     ),
     (&["dis", "--help"], "Usage: radoscls dis <IN>\n"),
     (&["sim", "--help"], "Usage: radoscls sim [OPTIONS] <FILE>\n"),
+    (
+        &["cluster", "--help"],
+        "Usage: radoscls cluster [OPTIONS] <FILE>\n",
+    ),
     (&["erase"], "error: unrecognized subcommand 'erase'\n"),
     (
         &["verify"],
@@ -144,7 +160,11 @@ fn stands_in(text: &[u8], part: &str) -> bool {
 }
 
 /// Whether the program tells that of those words.
-fn tells<R: Abort + AllocGlobal>(rt: &R, words: &[&str], part: &str) -> bool {
+fn tells<R: Abort + AllocGlobal + Threads + Wait + Sync>(
+    rt: &R,
+    words: &[&str],
+    part: &str,
+) -> bool {
     let mut folder = Folder::of(rt, TWO, b"");
     let ended = run_on(rt, words, &mut folder);
     let told = stands_in(&ended.explained, part);
@@ -210,17 +230,17 @@ static EVENTS: [Row; 5] = [
 
 /// Whether the program ends as a row tells on that text, where standard output is so limited, and standard output has
 /// failed where the status is 1.
-fn ends_with<R: Abort + AllocGlobal>(rt: &R, text: &str, row: Row) -> bool {
+fn ends_with<R: Abort + AllocGlobal + Threads + Wait + Sync>(rt: &R, text: &str, row: Row) -> bool {
     let (words, room, flushes, want) = row;
     let mut err = Limited { room: 0, flushes };
     let mut folder = Folder::of(rt, TWO, text.as_bytes());
     let mut out = Printer::new(Limited { room, flushes });
-    let status = program(rt.alloc(), words, &mut folder, &mut out, &mut err);
+    let status = program(rt.alloc(), rt, words, &mut folder, &mut out, &mut err);
     status == want && out.has_failed() == (want == 1)
 }
 
 /// Each row ends as it tells.
-fn all_end<R: Abort + AllocGlobal>(rt: &R, text: &str, rows: &[Row]) {
+fn all_end<R: Abort + AllocGlobal + Threads + Wait + Sync>(rt: &R, text: &str, rows: &[Row]) {
     for row in rows {
         assert!(rt; ends_with(rt, text, *row), "{}", row.1);
     }

@@ -1,6 +1,8 @@
 use crate::folder::{Ended, Folder, Row, TWO, all_print, only_prints, run_on};
 use std::fmt::Write;
 use std::process::Abort;
+use std::sync::Wait;
+use std::thread::Threads;
 
 /// A class whose method `hello` answers five bytes.
 const HELLO: &str =
@@ -144,7 +146,7 @@ fn line_of_classes<R: Abort + AllocGlobal>(rt: &R, count: usize) -> String {
 }
 
 /// `sim` with so many classes of one image, of which the last is asked.
-fn with_classes<R: Abort + AllocGlobal>(rt: &R, count: usize) -> Ended {
+fn with_classes<R: Abort + AllocGlobal + Threads + Wait + Sync>(rt: &R, count: usize) -> Ended {
     let line = line_of_classes(rt, count);
     let words = line.split_whitespace().collect(rt.alloc());
     let words: Vec<&str> = words.expect(rt, "memory");

@@ -1,5 +1,7 @@
 use crate::folder::{Folder, Row, TWO, all_print, bytes_of, holds, only_prints, prints_on};
 use std::process::Abort;
+use std::sync::Wait;
+use std::thread::Threads;
 
 /// The text of the two instructions.
 const TWO_TEXT: &str = ".method f r 0 0\nmov r0, 0\nexit\n";
@@ -97,7 +99,11 @@ fn is_written<R: Abort + AllocGlobal>(rt: &R, folder: &Folder, file: &[u8], imag
 }
 
 /// Whether the image of that text, in hexadecimal, is written to `out` once, and the text stays.
-fn assembles_to<R: Abort + AllocGlobal>(rt: &R, text: &str, image: &str) -> bool {
+fn assembles_to<R: Abort + AllocGlobal + Threads + Wait + Sync>(
+    rt: &R,
+    text: &str,
+    image: &str,
+) -> bool {
     let mut folder = Folder::of(rt, "", text.as_bytes());
     prints_on(rt, &ASM, &mut folder, "", 0);
     is_written(rt, &folder, &folder.out, image) && folder.text.as_slice() == text.as_bytes()

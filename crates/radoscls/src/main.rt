@@ -1,5 +1,5 @@
 //! `radoscls` tells whether the class of an image is safe, runs a method of one, and turns texts of classes into images
-//! and back; and it plays a group of nodes from a file of events.
+//! and back; and it plays a group of nodes from a file of events, and a cluster in threads from a file of calls.
 //!
 //! - `radoscls verify IN`: whether each method of the class image in the file IN is safe, or which rule it breaks.
 //! - `radoscls run IN METHOD [--input HEX] [--caller N]`: a call of that method beside an absent object, by client N (1 to
@@ -10,6 +10,8 @@
 //! - `radoscls dis IN`: the text of the class image in the file IN.
 //! - `radoscls sim FILE [--class NAME=IMAGE ..] [--trace]`: what each event of the file FILE comes to, or a drawing of the
 //!   run; a request asks `lock`, `obj` or one of those classes by name.
+//! - `radoscls cluster FILE [--class NAME=IMAGE ..]`: how each call of the clients in the file FILE ends on a cluster in
+//!   threads.
 //!
 //! It ends with 0 where that was done and printed, with 1 where it was refused or could not be printed, and with 2 where the
 //! words ask for none of that, or for help.

@@ -1,5 +1,5 @@
 -- How a task's ending is the program's.
-use Rattle.std.proofs.Common.{◌≡◌, ◌≢◌, ◌∙◌, inl, inr, refl, sym, arith, List, ℕ, Option, Result, Ok, Err, IfOk, IfErr}
+use Rattle.std.proofs.Common.{◌≡◌, ◌≢◌, ◌∙◌, inl, inr, refl, sym, ap, arith, Bool, true, false, List, ℕ, Option, Result, Ok, Err, IfOk, IfErr}
 use Rattle.clap.specs.Words.{Text, kind_of}
 use Rattle.clap.specs.declared.error.Error.{Error}
 use Rattle.clap.specs.declared.error.kind.ErrorKind.TheVariants.{OutOfMemory}
@@ -8,13 +8,16 @@ use Rattle.class_tool.specs.declared.action.Action.{Action}
 use Rattle.class_tool.specs.declared.answer.Answer.{Answer}
 use Rattle.class_tool.specs.declared.failure.Failure.{Failure}
 use Rattle.class_tool.specs.declared.failure.Failure.TheVariants.{NoMemory}
-use Rattle.radoscls_program.specs.Program.{AreFor, AreForNone, Ends, Found, IsRefused, IsUnstarted, Responds, Starts, TaskEnds}
+use Rattle.pg_log.specs.Log.{Classes}
+use Rattle.sim.specs.Simulating.{Plays}
+use Rattle.sim.specs.declared.file.Ending.TheVariants as ending
+use Rattle.radoscls_program.specs.Program.{AreFor, AreForNone, Ends, Found, IsDone, IsRefused, IsUnstarted, Responds, Starts, TaskEnds}
 use Rattle.radoscls_program.specs.Status.{code_of}
 use Rattle.radoscls_program.specs.Streams.{IsPrinted, Stream, failure_line}
 use Rattle.radoscls_program.specs.declared.status.Status.{Status}
 use Rattle.radoscls_program.specs.declared.status.Status.TheVariants.{Done, Refused, Usage}
 use Rattle.radoscls_program.specs.declared.task.Task.{Task}
-use Rattle.radoscls_program.specs.declared.task.Task.TheVariants.{Class, Sim}
+use Rattle.radoscls_program.specs.declared.task.Task.TheVariants.{Class, Sim, Cluster}
 
 -- where they name an action
 class_ended : (before after : Option Disk) (old new : Stream) (words : List Text) (a : Action) (found : Result Answer Failure) (status : Status)
@@ -32,9 +35,14 @@ class_ended before after old new words a (Err failure) Usage named found none = 
 pub ended : (before after : Option Disk) (old new : Stream) (words : List Text) (task : Task) (status : Status)
     → AreFor words task → TaskEnds before after old new task status → Ends before after old new words status
 ended before after old new words (Class a) status named acts = class_ended before after old new words a acts.found status named acts.true_of acts.responds
-ended before after old new words (Sim s) Done named played = inr (record { simulation = s; named = named; left = played.0; ended = played.1 })
-ended before after old new words (Sim s) Refused named played = inr (inr (inr (record { simulation = s; named = named; left = played.0; ended = played.1 })))
+ended before after old new words (Sim s) Done named played = inr (inl (record { simulation = s; named = named; left = played.0; ended = played.1 }))
+ended before after old new words (Sim s) Refused named played = inr (inr (inr (inl (record { simulation = s; named = named; left = played.0; ended = played.1 }))))
 ended before after old new words (Sim s) Usage named played = absurd played.1
+ended before after old new words (Cluster c) Done named ran =
+    inr (inr (record { asked = c; named = named; left = ran.0; ended = ran.1 }))
+ended before after old new words (Cluster c) Refused named ran =
+    inr (inr (inr (inr (record { asked = c; named = named; left = ran.0; ended = ran.1 }))))
+ended before after old new words (Cluster c) Usage named ran = absurd ran.1
 
 -- where they name none, and why was said
 pub explained : (disk : Option Disk) (old new : Stream) (words : List Text) (e : Error) (status : Status) → (kind_of e ≢ OutOfMemory → AreForNone words)
@@ -50,6 +58,27 @@ pub refused_by : (before after : Option Disk) (old new : Stream) (words : List T
 refused_by before after old new words Done n is ends one = let bad : 0 ≡ 1 = sym is ∙ one in absurd (omega arith)
 refused_by before after old new words Refused n is ends one = ends
 refused_by before after old new words Usage n is ends one = let bad : 2 ≡ 1 = sym is ∙ one in absurd (omega arith)
+
+-- a file of events that was played to its end left no failed write
+plays_well : (b : Bool) (classes : Classes) (names : List (List ℕ)) (text : List ℕ) (old new : Option (List ℕ)) (failed fails : Bool)
+    → Plays b classes names text old new failed fails ending.Done → fails ≡ failed
+plays_well true classes names text old new failed fails shows = shows.shown.well
+plays_well false classes names text old new failed fails prints = prints.shown.well
+
+-- nor does anything that is done
+done_well : (before after : Option Disk) (old new : Stream) (words : List Text) → IsDone before after old new words → new.failed ≡ old.failed
+done_well before after old new words (inl answered) = answered.printed.well
+done_well before after old new words (inr (inl played)) = let p = played.ended in plays_well played.simulation.is_drawn p.classes _ p.text _ _ _ _ p.played
+done_well before after old new words (inr (inr ran)) = ran.ended.ends.well
+
+-- where a write fails, the status is 1
+pub failed_by : (before after : Option Disk) (old new : Stream) (words : List Text) (status : Status) (n : ℕ)
+    → n ≡ code_of status → Ends before after old new words status → old.failed ≡ false → new.failed ≡ true → n ≡ 1
+failed_by before after old new words Done n is ends well failed =
+    let bad : false ≡ true = sym well ∙ sym (done_well before after old new words ends) ∙ failed in absurd cc
+failed_by before after old new words Refused n is ends well failed = is
+failed_by before after old new words Usage n is ends well failed =
+    let bad : false ≡ true = sym well ∙ sym (ap (λ (s : Stream). s.failed) ends.silent) ∙ failed in absurd cc
 
 -- where the words were read, or not
 pub started : {A B : Type 0} (words : Result A B) (texts : A → List Text) (before after : Option Disk) (old new : Stream) (status : Status)

@@ -1,6 +1,7 @@
 mod Built
 mod Ended
 mod Entered
+mod OnCluster
 mod Packing
 mod Parsed
 mod Raws

@@ -1,5 +1,5 @@
 -- What the words ask for, where they name `pack`.
-use Rattle.std.proofs.Common.{◌≡◌, ◌∙◌, sym, refl, List, Option, Some, option_map, codes}
+use Rattle.std.proofs.Common.{◌≡◌, ◌∙◌, sym, refl, List, Some, option_map, codes}
 use Rattle.std.proofs.lemmas.Option.{same_Some}
 use Rattle.clap.specs.Words.{Row, Text, all_of, first_value, found_of, rows_of, subcommand_name_of, subcommand_rows_of}
 use Rattle.clap.specs.declared.parser.matches.ArgMatches.{ArgMatches}
@@ -25,4 +25,5 @@ pub packing_asks_nothing : (m found : ArgMatches) → subcommand_name_of m ≡ S
     → ((asked : Packing) → TakesPacking (first_value (found_of found)) (λ id. all_of id (rows_of (found_of found))) asked → ⊥)
     → AsksNoTask (subcommand_rows_of m)
 packing_asks_nothing m found named rows none = no_task m (λ sim. other (codes "pack") (codes "sim") refl (same_Some _ _ (sym named ∙ sim)))
+    (λ cluster. other (codes "pack") (codes "cluster") refl (same_Some _ _ (sym named ∙ cluster)))
     (AsksNothing-entered (codes "pack") m found named rows (no_pack (first_value (found_of found)) (λ id. all_of id (rows_of (found_of found))) none))

@@ -1,6 +1,6 @@
 -- What the words ask for, where they name `sim` and where they don't.
-use Rattle.std.proofs.Common.{◌≡◌, ◌∙◌, ap, sym, refl, subst, List, Option, Some, None, is_some, option_map, codes}
-use Rattle.std.proofs.lemmas.Option.{none-some, some_pair_parts}
+use Rattle.std.proofs.Common.{◌≡◌, ◌∙◌, ap, sym, refl, subst, List, Option, Some, is_some, option_map, codes}
+use Rattle.std.proofs.lemmas.Option.{some_pair_parts}
 use Rattle.clap.specs.Words.{Row, Text, all_of, first_of, first_value, found_of, rows_of, subcommand_name_of, subcommand_rows_of}
 use Rattle.clap.specs.declared.parser.matches.ArgMatches.{ArgMatches}
 use Rattle.clap.specs.declared.parser.matches.ArgMatches.TheViews.{out-ArgMatches}
@@ -10,7 +10,7 @@ use Rattle.class_tool.specs.declared.action.Action.{Action}
 use Rattle.class_tool.specs.declared.action.Action.TheVariants.{Verify, Run, Assemble, Pack, Disassemble}
 use Rattle.radoscls_program.specs.Arguments.{AsksBy, NamesSim, TakesSim, is_set}
 use Rattle.radoscls_program.specs.CommandLine.{AsksNoTask, AsksNothing, AsksTask}
-use Rattle.radoscls_program.specs.declared.task.Task.TheVariants.{Class, Sim}
+use Rattle.radoscls_program.specs.declared.task.Task.TheVariants.{Class, Sim, Cluster}
 use Rattle.radoscls_program.proofs.Entered.{entered}
 use Rattle.radoscls_program.proofs.Unasked.{first_part, other}
 
@@ -52,8 +52,13 @@ sim_asks_nothing m found named rows none (Sim s) asks =
     let same = some_pair_parts (codes "sim") (codes "sim") asks.rows (rows_of (found_of found)) (sym asks.entered ∙ entered m (codes "sim") (rows_of (found_of found)) named rows) in
     let takes = subst (λ (rs : List Row). TakesSim (λ id. first_of id rs) (λ id. all_of id rs) s) same.1 asks.asked in
     none (record { file = ap is_some (first_value-rows (found_of found) (codes "FILE") ∙ takes.file); own = takes.own.may })
+sim_asks_nothing m found named rows none (Cluster c) asks =
+    let same = some_pair_parts (codes "cluster") (codes "sim") asks.rows (rows_of (found_of found)) (sym asks.entered ∙ entered m (codes "sim") (rows_of (found_of found)) named rows) in
+    other (codes "cluster") (codes "sim") refl same.0
 
--- another subcommand asks for no simulation, nor for an action where it asks for none
-pub no_task : (m : ArgMatches) → (subcommand_name_of m ≡ Some (codes "sim") → ⊥) → AsksNothing (subcommand_rows_of m) → AsksNoTask (subcommand_rows_of m)
-no_task m unnamed none (Class a) asks = none a asks
-no_task m unnamed none (Sim s) asks = unnamed (first_part _ _ (out-ArgMatches m).subcommand (codes "sim") asks.rows asks.entered)
+-- another subcommand asks for nothing that is played, nor for an action where it asks for none
+pub no_task : (m : ArgMatches) → (subcommand_name_of m ≡ Some (codes "sim") → ⊥) → (subcommand_name_of m ≡ Some (codes "cluster") → ⊥)
+    → AsksNothing (subcommand_rows_of m) → AsksNoTask (subcommand_rows_of m)
+no_task m unnamed unasked none (Class a) asks = none a asks
+no_task m unnamed unasked none (Sim s) asks = unnamed (first_part _ _ (out-ArgMatches m).subcommand (codes "sim") asks.rows asks.entered)
+no_task m unnamed unasked none (Cluster c) asks = unasked (first_part _ _ (out-ArgMatches m).subcommand (codes "cluster") asks.rows asks.entered)

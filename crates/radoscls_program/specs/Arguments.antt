@@ -6,6 +6,7 @@ use Rattle.std.specs.Str.Parse.{IsNumeral, digits_value, without_leading_plus}
 use Rattle.class_tool.specs.declared.action.Action.{Action}
 use Rattle.class_tool.specs.declared.action.Action.TheVariants.{Verify, Run, Assemble, Pack, Disassemble}
 use Rattle.class_tool.specs.declared.action.Packing.{Packing}
+use Rattle.cluster_tool.specs.declared.asked.Clustering.{Clustering}
 use Rattle.sim.specs.declared.asked.Simulation.{Simulation}
 use Rattle.radoscls_program.specs.Own.{Owns, are_own}
 use Rattle.radoscls_program.specs.Raw.{AreRaw}
@@ -76,5 +77,15 @@ pub record TakesSim (value : List ℕ → Option (List ℕ)) (values : List ℕ 
 
 -- a file of events is named, and each --class spells a tenant's class
 pub record NamesSim (value : List ℕ → Option (List ℕ)) (values : List ℕ → Option (List (List ℕ))) : Type 0 where
+  pub file : IsSome (value (codes "FILE"))
+  pub own : are_own (texts_of (values (codes "class"))) ≡ true
+
+-- What `cluster` takes from the values: the file of calls and maps FILE, and a tenant's class of each --class.
+pub record TakesCluster (value : List ℕ → Option (List ℕ)) (values : List ℕ → Option (List (List ℕ))) (c : Clustering) : Type 0 where
+  pub file : value (codes "FILE") ≡ Some c.file.now
+  pub own : Owns (texts_of (values (codes "class"))) c.own.items
+
+-- a file of calls and maps is named, and each --class spells a tenant's class
+pub record NamesCluster (value : List ℕ → Option (List ℕ)) (values : List ℕ → Option (List (List ℕ))) : Type 0 where
   pub file : IsSome (value (codes "FILE"))
   pub own : are_own (texts_of (values (codes "class"))) ≡ true

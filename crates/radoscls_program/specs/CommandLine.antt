@@ -1,15 +1,16 @@
--- The command line: `verify IN`, `run IN METHOD [--input HEX] [--caller N]`, `asm IN OUT`, `pack OUT METHOD ..`, `dis IN`, and
--- `sim FILE [--class NAME=IMAGE ..] [--trace]`.
+-- The command line: `verify IN`, `run IN METHOD [--input HEX] [--caller N]`, `asm IN OUT`, `pack OUT METHOD ..`, `dis IN`,
+-- `sim FILE [--class NAME=IMAGE ..] [--trace]`, and `cluster FILE [--class NAME=IMAGE ..]`.
 use Rattle.std.specs.Prelude.{◌≡◌, List, [], ◌∷◌, Option, Some, true, pos, codes}
 use Rattle.clap.specs.Lexer.{usize_max}
 use Rattle.clap.specs.Words.{App, Row, Rule, Text, all_of, first_of, new_app, new_rule, with_rule, with_subcommand}
 use Rattle.clap.specs.declared.builder.action.ArgAction.TheVariants as argument
 use Rattle.clap.specs.declared.builder.value_parser.ValueParser.TheVariants as parser
 use Rattle.class_tool.specs.declared.action.Action.{Action}
+use Rattle.cluster_tool.specs.declared.asked.Clustering.{Clustering}
 use Rattle.sim.specs.declared.asked.Simulation.{Simulation}
-use Rattle.radoscls_program.specs.Arguments.{AsksBy, TakesSim}
+use Rattle.radoscls_program.specs.Arguments.{AsksBy, TakesCluster, TakesSim}
 use Rattle.radoscls_program.specs.declared.task.Task.{Task}
-use Rattle.radoscls_program.specs.declared.task.Task.TheVariants.{Class, Sim}
+use Rattle.radoscls_program.specs.declared.task.Task.TheVariants.{Class, Sim, Cluster}
 
 -- an argument that has to be there, by its place
 abbrev pub required_rule : Text → Rule
@@ -55,6 +56,9 @@ trace_rule = record (new_rule (codes "trace")) { long = Some (codes "trace"); ac
 abbrev pub sim_line : App
 sim_line = with_rule (with_rule (with_rule (new_app (codes "sim")) (required_rule (codes "FILE"))) class_rule) trace_rule
 
+abbrev pub cluster_line : App
+cluster_line = with_rule (with_rule (new_app (codes "cluster")) (required_rule (codes "FILE"))) class_rule
+
 -- the program's name, which wants a subcommand
 abbrev pub plain_line : App
 plain_line = let named = new_app (codes "radoscls") in
@@ -68,9 +72,13 @@ image_line = with_subcommand (with_subcommand plain_line verify_line.top) run_li
 abbrev pub class_line : App
 class_line = with_subcommand (with_subcommand (with_subcommand image_line asm_line.top) pack_line.top) dis_line.top
 
+-- with that of a group too
+abbrev pub group_line : App
+group_line = with_subcommand class_line sim_line.top
+
 -- the whole of it
 abbrev pub command_line : App
-command_line = with_subcommand class_line sim_line.top
+command_line = with_subcommand group_line cluster_line.top
 
 -- the action that the words ask for is that of the subcommand that they name
 pub record Asks (subcommand : Option (Text × List Row)) (action : Action) : Type 0 where
@@ -89,10 +97,17 @@ pub record AsksSim (subcommand : Option (Text × List Row)) (s : Simulation) : T
   pub entered : subcommand ≡ Some (codes "sim", rows)
   pub asked : TakesSim (λ id. first_of id rows) (λ id. all_of id rows) s
 
+-- the run on a cluster that the words ask for is that of the subcommand `cluster`
+pub record AsksCluster (subcommand : Option (Text × List Row)) (c : Clustering) : Type 0 where
+  pub rows : List Row
+  pub entered : subcommand ≡ Some (codes "cluster", rows)
+  pub asked : TakesCluster (λ id. first_of id rows) (λ id. all_of id rows) c
+
 -- what the words ask for
 abbrev pub AsksTask : Option (Text × List Row) → Task → Type 0
 AsksTask subcommand (Class action) = Asks subcommand action
 AsksTask subcommand (Sim s) = AsksSim subcommand s
+AsksTask subcommand (Cluster c) = AsksCluster subcommand c
 
 -- the subcommand and its values ask for nothing
 abbrev pub AsksNoTask : Option (Text × List Row) → Type 0

@@ -1,4 +1,5 @@
 pub mod Arguments
+pub mod Clustered
 pub mod CommandLine
 pub mod Own
 pub mod Playing

@@ -8,13 +8,15 @@ use Rattle.class_tool.specs.declared.answer.Answer.{Answer}
 use Rattle.class_tool.specs.declared.failure.Failure.{Failure}
 use Rattle.class_tool.specs.declared.failure.Failure.TheVariants.{NoMemory}
 use Rattle.sim.specs.declared.asked.Simulation.{Simulation}
+use Rattle.cluster_tool.specs.declared.asked.Clustering.{Clustering}
+use Rattle.radoscls_program.specs.Clustered.{ClusterEnds}
 use Rattle.radoscls_program.specs.CommandLine.{AsksTask, command_line}
 use Rattle.radoscls_program.specs.Playing.{SimEnds}
 use Rattle.radoscls_program.specs.Streams.{Stream, Took, IsPrinted, failure_line}
 use Rattle.radoscls_program.specs.declared.status.Status.{Status}
 use Rattle.radoscls_program.specs.declared.status.Status.TheVariants.{Done, Refused, Usage}
 use Rattle.radoscls_program.specs.declared.task.Task.{Task}
-use Rattle.radoscls_program.specs.declared.task.Task.TheVariants.{Class, Sim}
+use Rattle.radoscls_program.specs.declared.task.Task.TheVariants.{Class, Sim, Cluster}
 
 -- The words name a task without a fault.
 pub record AreFor (words : List Text) (task : Task) : Type 0 where
@@ -60,15 +62,23 @@ pub record IsPlayed (before after : Option Disk) (old new : Stream) (words : Lis
   pub left : after ≡ before
   pub ended : SimEnds before old new simulation status
 
+-- The words name a file of calls and maps, which was played so; no file changed.
+pub record IsRun (before after : Option Disk) (old new : Stream) (words : List Text) (status : Status) : Type 0 where
+  pub asked : Clustering
+  pub named : AreFor words (Cluster asked)
+  pub left : after ≡ before
+  pub ended : ClusterEnds before old new asked status
+
 -- why the program ended with 0
 abbrev pub IsDone : Option Disk → Option Disk → Stream → Stream → List Text → Type 0
-IsDone before after old new words = IsAnswered before after old new words ⊎ IsPlayed before after old new words Done
+IsDone before after old new words =
+    IsAnswered before after old new words ⊎ IsPlayed before after old new words Done ⊎ IsRun before after old new words Done
 
 -- why the program ended with 1
 abbrev pub IsRefused : Option Disk → Option Disk → Stream → Stream → List Text → Type 0
 IsRefused before after old new words =
     IsFailed before after old new words ⊎ IsUnprinted before after new words ⊎ IsUnread before after old new
-    ⊎ IsPlayed before after old new words Refused
+    ⊎ IsPlayed before after old new words Refused ⊎ IsRun before after old new words Refused
 
 -- The words are at fault or ask for help; nothing was done or printed on standard output.
 pub record IsUsage (before after : Option Disk) (old new : Stream) (words : List Text) : Type 0 where
@@ -102,8 +112,8 @@ Responds old new (Err failure) Done = ⊥
 Responds old new (Err failure) Refused = IsPrinted old new (failure_line failure)
 Responds old new (Err failure) Usage = ⊥
 
--- what is done of a task: an action is answered or fails, and that is printed; a file of events is played, and no file
--- changes
+-- what is done of a task: an action is answered or fails, and that is printed; a file of events, or of calls and maps, is
+-- played, and no file changes
 abbrev pub Found : Option Disk → Option Disk → Action → Result Answer Failure → Type 0
 Found before after action (Ok answer) = Settles before after action answer
 Found before after action (Err failure) = Fails before after action failure
@@ -116,3 +126,4 @@ pub record Acts (before after : Option Disk) (old new : Stream) (action : Action
 abbrev pub TaskEnds : Option Disk → Option Disk → Stream → Stream → Task → Status → Type 0
 TaskEnds before after old new (Class action) status = Acts before after old new action status
 TaskEnds before after old new (Sim simulation) status = (after ≡ before) × SimEnds before old new simulation status
+TaskEnds before after old new (Cluster asked) status = (after ≡ before) × ClusterEnds before old new asked status

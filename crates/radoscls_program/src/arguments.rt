@@ -3,8 +3,8 @@ ghost use Rattle.clap.specs.declared.builder.command.Command.{Command as AComman
 ghost use Rattle.clap.specs.declared.builder.command.Command.TheViews.{out-Command};
 ghost use Rattle.clap.specs.Words.{AddsArg, AddsSubcommand, all_of, app_of, fault_of, first_value, found_of, kind_of, new_app, rows_of, rule_of, subcommand_name_of, subcommand_of, subcommand_rows_of, with_rule};
 ghost use Rattle.tenant_classes.specs.declared.own_class.TheConstants.{OWN_LIMIT};
-ghost use Rattle.radoscls_program.specs.CommandLine.{Asks, AsksNoTask, AsksNothing, AsksTask, asm_line, caller_rule, class_rule, command_line, dis_line, image_line, methods_rule, option_rule, pack_line, plain_line, required_rule, run_line, sim_line, trace_rule, verify_line};
-ghost use Rattle.radoscls_program.specs.Arguments.{AsksBy, IsClientNumber, NamesCall, NamesFiles, NamesSim, TakesPacking, TakesSim, is_set, number_in, texts_of};
+ghost use Rattle.radoscls_program.specs.CommandLine.{Asks, AsksNoTask, AsksNothing, AsksTask, asm_line, caller_rule, class_rule, cluster_line, command_line, dis_line, image_line, methods_rule, option_rule, pack_line, plain_line, required_rule, run_line, sim_line, trace_rule, verify_line};
+ghost use Rattle.radoscls_program.specs.Arguments.{AsksBy, IsClientNumber, NamesCall, NamesCluster, NamesFiles, NamesSim, TakesCluster, TakesPacking, TakesSim, is_set, number_in, texts_of};
 ghost use Rattle.radoscls_program.specs.Own.{Owns, are_own};
 ghost use Rattle.radoscls_program.specs.Raw.{AreRaw};
 ghost use Rattle.class_tool.specs.declared.action.Packing.{Packing as APacking};
@@ -17,11 +17,18 @@ use crate::task::Task;
 use clap::error::{Error, ErrorKind};
 use clap::{Arg, ArgAction, ArgMatches, Command, value_parser};
 use class_tool::{Action, Call, Packing, RawMethod};
+use cluster_tool::Clustering;
 use pg_log::ClientId;
 use sim::Simulation;
 use std::alloc::{AllocError, Global};
 use std::convert::AsStr;
 use tenant_classes::OwnClass;
+
+/// What a file of calls and maps is, for the help of `cluster`.
+const CLUSTER_FILE: &str =
+    "The file: 'cluster nodes 3 replicas 3 groups 64 shards 4 workers 4 tries 100000000', then lines \
+    'client C OBJECT CLASS METHOD HEX' (- for no input; clients first appear as 1, 2, ..) and 'map N N ..' (the nodes that are \
+    up from then on)";
 
 /// An argument that has to be there, by its place.
 fn required<'a>(alloc: Global, id: &'a str, help: &'a str) -> Arg<'a>
@@ -202,6 +209,15 @@ fn sim_command<'a>(alloc: Global) -> Result<Command<'a>, AllocError>
     with_arg(with_arg(of_events, class_option(alloc)), trace_flag(alloc))
 }
 
+fn cluster_command<'a>(alloc: Global) -> Result<Command<'a>, AllocError>
+    ensures line { IfOk result (λ c. app_of c ≡ cluster_line) }
+    ensures local { IfOk result (λ c. (out-Command c).has_globals ≡ false) }
+{
+    let about = "Plays clients' calls on a cluster in threads";
+    let of_calls = file_command(alloc, "cluster", about, "FILE", CLUSTER_FILE);
+    with_arg(of_calls, class_option(alloc))
+}
+
 /// The command without its subcommands, of which one has to be there.
 fn plain_command<'a>(alloc: Global) -> Command<'a>
     ensures { app_of result ≡ plain_line }
@@ -233,7 +249,8 @@ fn root_command<'a>(alloc: Global) -> Result<Command<'a>, AllocError>
         pack_command(alloc),
     );
     let of_texts = with_subcommand(of_code, dis_command(alloc));
-    with_subcommand(of_texts, sim_command(alloc))
+    let of_groups = with_subcommand(of_texts, sim_command(alloc));
+    with_subcommand(of_groups, cluster_command(alloc))
 }
 
 /// The client of the number that a text writes in decimal digits, behind a plus or none: 1 to 4294967295.
@@ -339,7 +356,7 @@ fn action_of<'a>(matches: &ArgMatches<'a>) -> Option<Action<'a>>
     dis_action(matches.subcommand_matches("dis")?)
 }
 
-/// The tenants' classes that `sim` is given, where their names may be theirs.
+/// The tenants' classes that `sim` or `cluster` is given, where their names may be theirs.
 fn own_of<'a>(
     alloc: Global,
     matches: &ArgMatches<'a>,
@@ -382,11 +399,34 @@ fn sim_of<'a>(alloc: Global, matches: &ArgMatches<'a>) -> Result<Option<Simulati
     }
 }
 
+/// What `cluster` asks for.
+fn cluster_of<'a>(
+    alloc: Global,
+    matches: &ArgMatches<'a>,
+) -> Result<Option<Clustering<'a>>, AllocError>
+    ensures some { IfOk result (λ found. IfSome found (TakesCluster (first_value (found_of matches.now)) (λ id. all_of id (rows_of (found_of matches.now))))) }
+    ensures none { IfOk result (λ found. IfNone found (NamesCluster (first_value (found_of matches.now)) (λ id. all_of id (rows_of (found_of matches.now))) → ⊥)) }
+{
+    let Some(file) = matches.get_str("FILE") else {
+        return Ok(None);
+    };
+    match own_of(alloc, matches)? {
+        Some(own) => Ok(Some(Clustering { file, own })),
+        None => Ok(None),
+    }
+}
+
 /// What the subcommand that was entered asks for.
 fn task_of<'a>(alloc: Global, matches: &ArgMatches<'a>) -> Result<Option<Task<'a>>, AllocError>
     ensures asked { IfOk result (λ found. IfSome found (AsksTask (subcommand_rows_of matches.now))) }
     ensures unasked { IfOk result (λ found. IfNone found (AsksNoTask (subcommand_rows_of matches.now))) }
 {
+    if let Some(found) = matches.subcommand_matches("cluster") {
+        return match cluster_of(alloc, found)? {
+            Some(clustering) => Ok(Some(Task::Cluster(clustering))),
+            None => Ok(None),
+        };
+    }
     if let Some(found) = matches.subcommand_matches("sim") {
         return match sim_of(alloc, found)? {
             Some(simulation) => Ok(Some(Task::Sim(simulation))),

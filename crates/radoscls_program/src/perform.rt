@@ -9,12 +9,15 @@ ghost use Rattle.radoscls_program.specs.declared.status.Status.{Status as AStatu
 use crate::arguments::parse;
 use crate::status::Status;
 use crate::task::Task;
+use crate::threads::play_cluster;
 use clap::error::{Error, ErrorKind};
 use class_tool::{Answer, Failure, Files, Output, Reads, find};
 use sim::{Ending, Simulation, simulate};
 use std::alloc::Global;
 use std::convert::AsStr;
 use std::io;
+use std::sync::Wait;
+use std::thread::Threads;
 
 /// Prints a failure's line.
 pub fn refuse<O: Output>(failure: Failure, out: &mut O) -> Status
@@ -57,8 +60,9 @@ fn play<F: Reads, O: Output>(
 }
 
 /// Does what the words ask for, and prints it.
-fn do_task<F: Files, O: Output>(
+fn do_task<R: Threads + Wait + Sync, F: Files, O: Output>(
     alloc: Global,
+    rt: &R,
     files: &mut F,
     task: &Task<'_>,
     out: &mut O,
@@ -68,6 +72,7 @@ fn do_task<F: Files, O: Output>(
     match task {
         Task::Class(action) => respond(find(alloc, files, action), out),
         Task::Sim(simulation) => play(alloc, files, simulation, out),
+        Task::Cluster(clustering) => play_cluster(alloc, rt, files, clustering, out),
     }
 }
 
@@ -85,8 +90,9 @@ fn explain<O: Output, E: io::Write>(error: &Error, out: &mut O, err: &mut E) -> 
 }
 
 /// Does what the words ask for, and says why where they name no task.
-pub(crate) fn perform<S: AsStr, F: Files, O: Output, E: io::Write>(
+pub(crate) fn perform<S: AsStr, R: Threads + Wait + Sync, F: Files, O: Output, E: io::Write>(
     alloc: Global,
+    rt: &R,
     words: &[S],
     files: &mut F,
     out: &mut O,
@@ -96,7 +102,7 @@ pub(crate) fn perform<S: AsStr, F: Files, O: Output, E: io::Write>(
 {
     match parse(alloc, words) {
         Ok(task) => {
-            let status = do_task(alloc, files, &task, out);
+            let status = do_task(alloc, rt, files, &task, out);
             drop(task);
             status
         }
@@ -114,9 +120,12 @@ pub(crate) fn perform<S: AsStr, F: Files, O: Output, E: io::Write>(
 /// The answer is what the process ends with: 0 where it was done and printed, 1 where it was refused, or a write or a flush
 /// of `out` failed, 2 after usage or help, where the words name no task without a fault. No file is written but the one
 /// that `asm` or `pack` names for the image, and that one only where the text or the raw code is right. `sim` prints of each line of its file what it
-/// comes to before the next is done.
-pub fn program<S: AsStr, F: Files, O: Output, E: io::Write>(
+/// comes to before the next is done; `cluster` prints its lines once all calls have ended.
+///
+/// `cluster` starts threads by `rt` and waits for them: nothing is said of when it ends.
+pub fn program<S: AsStr, R: Threads + Wait + Sync, F: Files, O: Output, E: io::Write>(
     alloc: Global,
+    rt: &R,
     words: &[S],
     files: &mut F,
     out: &mut O,
@@ -129,5 +138,5 @@ pub fn program<S: AsStr, F: Files, O: Output, E: io::Write>(
     // Where a write or a flush of `out` fails, the ending is 1.
     ensures failed { O.failed out.old ≡ false → O.failed out.new ≡ true → result ≡ 1 }
 {
-    perform(alloc, words, files, out, err).code()
+    perform(alloc, rt, words, files, out, err).code()
 }

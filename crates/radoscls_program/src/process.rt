@@ -12,6 +12,8 @@ use std::alloc::Global;
 use std::io::Input;
 use std::process::ExitCode;
 use std::rt::{Env, Files};
+use std::sync::Wait;
+use std::thread::Threads;
 use std::{env, io};
 
 /// The words of the command line, of which the first is the program's own name.
@@ -20,8 +22,9 @@ fn words<R: Env + AllocGlobal>(rt: &R) -> io::Result<Vec<String>> {
 }
 
 /// Runs the program on those words, or says why there are none.
-fn end_of<F: class_tool::Files, O: Output, E: io::Write>(
+fn end_of<R: Threads + Wait + Sync, F: class_tool::Files, O: Output, E: io::Write>(
     alloc: Global,
+    rt: &R,
     words: &io::Result<Vec<String>>,
     files: &mut F,
     out: &mut O,
@@ -31,14 +34,14 @@ fn end_of<F: class_tool::Files, O: Output, E: io::Write>(
     ensures unread { IfErr words.now (λ _. IsUnstarted (F.disk files.old) (F.disk files.new) (stream O.printed O.failed out.old) (stream O.printed O.failed out.new) result) }
 {
     match words {
-        Ok(words) => perform(alloc, words, files, out, err),
+        Ok(words) => perform(alloc, rt, words, files, out, err),
         Err(error) => refuse(Failure::of_read(error), out),
     }
 }
 
 /// Runs the program on the process's own words and files, and gives what the process ends with: `program`'s answer, or 1
 /// where its words could not be read, of which a line is printed.
-pub fn start<R: Env + Files + AllocGlobal + Input, O: Output, E: io::Write>(
+pub fn start<R: Env + Files + AllocGlobal + Input + Threads + Wait + Sync, O: Output, E: io::Write>(
     rt: &R,
     out: &mut O,
     err: &mut E,
@@ -47,7 +50,7 @@ pub fn start<R: Env + Files + AllocGlobal + Input, O: Output, E: io::Write>(
 {
     let mut files = SystemFiles::new(rt);
     let words = words(rt);
-    let status = end_of(rt.alloc(), &words, &mut files, out, err);
+    let status = end_of(rt.alloc(), rt, &words, &mut files, out, err);
     drop(words);
     ExitCode::from(status.code())
 }

@@ -1,4 +1,5 @@
 use class_tool::Action;
+use cluster_tool::Clustering;
 use sim::Simulation;
 
 /// What the words ask for.
@@ -8,4 +9,6 @@ pub(crate) enum Task<'a> {
     Class(Action<'a>),
     /// A file of events, played.
     Sim(Simulation<'a>),
+    /// A file of calls and maps, played on a cluster in threads.
+    Cluster(Clustering<'a>),
 }

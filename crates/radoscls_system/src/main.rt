@@ -8,6 +8,8 @@ use std::alloc::Global;
 use std::io::{self, Input};
 use std::process::ExitCode;
 use std::rt::Files as Granted;
+use std::sync::Wait;
+use std::thread::Threads;
 
 /// How many bytes the long file has.
 const LONG: usize = 5_000;
@@ -16,7 +18,7 @@ const LONG: usize = 5_000;
 const MOST: usize = 4_999;
 
 /// Words behind the program's name.
-static CALLS: [&[&str]; 15] = [
+static CALLS: [&[&str]; 16] = [
     // each status
     &["radoscls", "verify", "keep.img"],
     &["radoscls", "verify", "missing.img"],
@@ -53,6 +55,8 @@ static CALLS: [&[&str]; 15] = [
     // raw code that is packed, and a call of it
     &["radoscls", "pack", "out.img", "sum:r:16:8:sum.bin"],
     &["radoscls", "run", "out.img", "sum", "--input", "010203"],
+    // a cluster in threads, which loses a primary
+    &["radoscls", "cluster", "lost_primary.cluster"],
     // an image on standard input
     &["radoscls", "verify", "-"],
 ];
@@ -105,7 +109,7 @@ fn tell_of_files<R: Granted + AllocGlobal + Input + Print>(rt: &R) -> io::Result
 }
 
 /// Runs the program on those words: its status, and whether it explained its use.
-fn call<R: Granted + AllocGlobal + Input, O: io::Write>(
+fn call<R: Granted + AllocGlobal + Input + Threads + Wait + Sync, O: io::Write>(
     rt: &R,
     words: &[&str],
     out: &mut O,
@@ -113,12 +117,12 @@ fn call<R: Granted + AllocGlobal + Input, O: io::Write>(
     let mut files = SystemFiles::new(rt);
     let mut err = Vec::new(rt.alloc());
     let mut printer = Printer::new(out);
-    let status = program(rt.alloc(), words, &mut files, &mut printer, &mut err);
+    let status = program(rt.alloc(), rt, words, &mut files, &mut printer, &mut err);
     (status, !err.is_empty())
 }
 
 /// Runs the program on each of the words, and tells the status.
-fn tell_of_calls<R: Granted + AllocGlobal + Input + Print, O: io::Write>(
+fn tell_of_calls<R: Granted + AllocGlobal + Input + Print + Threads + Wait + Sync, O: io::Write>(
     rt: &R,
     out: &mut O,
 ) -> io::Result<()> {

@@ -6,4 +6,5 @@ returns c =
     let asm = subcommand_line _ _ _ _ _ c.with_subcommand.ensures c.asm_command.ensures.local c.asm_command.ensures.line c.image_command-of_images.ensures in
     let pack = subcommand_line _ _ _ _ _ c.with_subcommand-of_code.ensures c.pack_command.ensures.local c.pack_command.ensures.line asm in
     let dis = subcommand_line _ _ _ _ _ c.with_subcommand-of_texts.ensures c.dis_command.ensures.local c.dis_command.ensures.line pack in
-    subcommand_line _ _ _ _ _ c.with_subcommand-2.ensures c.sim_command.ensures.local c.sim_command.ensures.line dis
+    let sim = subcommand_line _ _ _ _ _ c.with_subcommand-of_groups.ensures c.sim_command.ensures.local c.sim_command.ensures.line dis in
+    subcommand_line _ _ _ _ _ c.with_subcommand-2.ensures c.cluster_command.ensures.local c.cluster_command.ensures.line sim

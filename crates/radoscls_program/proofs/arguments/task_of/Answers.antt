@@ -1,4 +1,5 @@
 use Rattle.std.proofs.Common.{refl}
+use Rattle.radoscls_program.proofs.OnCluster.{asks_cluster, cluster_asks_nothing}
 use Rattle.radoscls_program.proofs.Packing.{asks_packing, packing_asks_nothing}
 use Rattle.radoscls_program.proofs.Simulated.{asks_sim, sim_asks_nothing}
 use Rattle.radoscls_program.proofs.arguments.task_of.Goals as goal
@@ -6,23 +7,35 @@ use Rattle.radoscls_program.proofs.arguments.task_of.Goals as goal
 pub returns-in-Some-2-clause-asked : goal.returns-in-Some-2-clause-asked
 returns-in-Some-2-clause-asked c =
     let entered = c.in-Some.ensures in
-    let takes = c.in_ok-simulation.ensures.some in
-    asks_sim c.args.matches.now c.in-Some.found.now (entered.found.0 refl) entered.rows c.in-Some-2.simulation (rw c.in-Some-2.is at takes)
+    let takes = c.in_ok-clustering.ensures.some in
+    asks_cluster c.args.matches.now c.in-Some.found.now (entered.found.0 refl) entered.rows c.in-Some-2.clustering (rw c.in-Some-2.is at takes)
 
 pub returns-in-None-clause-unasked : goal.returns-in-None-clause-unasked
 returns-in-None-clause-unasked c =
     let entered = c.in-Some.ensures in
-    let unnamed = c.in_ok-simulation.ensures.none in
-    sim_asks_nothing c.args.matches.now c.in-Some.found.now (entered.found.0 refl) entered.rows (rw c.in-None.is at unnamed)
+    let unnamed = c.in_ok-clustering.ensures.none in
+    cluster_asks_nothing c.args.matches.now c.in-Some.found.now (entered.found.0 refl) entered.rows (rw c.in-None.is at unnamed)
 
 pub returns-in-Some-3-clause-asked : goal.returns-in-Some-3-clause-asked
 returns-in-Some-3-clause-asked c =
     let entered = c.in-Some-subcommand_matches.ensures in
-    let takes = c.in_ok-packing.ensures.some in
-    asks_packing c.args.matches.now c.in-Some-subcommand_matches.found.now (entered.found.0 refl) entered.rows c.in-Some-3.packing (rw c.in-Some-3.is at takes)
+    let takes = c.in_ok-simulation.ensures.some in
+    asks_sim c.args.matches.now c.in-Some-subcommand_matches.found.now (entered.found.0 refl) entered.rows c.in-Some-3.simulation (rw c.in-Some-3.is at takes)
 
 pub returns-in-None-2-clause-unasked : goal.returns-in-None-2-clause-unasked
 returns-in-None-2-clause-unasked c =
     let entered = c.in-Some-subcommand_matches.ensures in
+    let unnamed = c.in_ok-simulation.ensures.none in
+    sim_asks_nothing c.args.matches.now c.in-Some-subcommand_matches.found.now (entered.found.0 refl) entered.rows (rw c.in-None-2.is at unnamed)
+
+pub returns-in-Some-4-clause-asked : goal.returns-in-Some-4-clause-asked
+returns-in-Some-4-clause-asked c =
+    let entered = c.in-Some-subcommand_matches-2.ensures in
+    let takes = c.in_ok-packing.ensures.some in
+    asks_packing c.args.matches.now c.in-Some-subcommand_matches-2.found.now (entered.found.0 refl) entered.rows c.in-Some-4.packing (rw c.in-Some-4.is at takes)
+
+pub returns-in-None-3-clause-unasked : goal.returns-in-None-3-clause-unasked
+returns-in-None-3-clause-unasked c =
+    let entered = c.in-Some-subcommand_matches-2.ensures in
     let unnamed = c.in_ok-packing.ensures.none in
-    packing_asks_nothing c.args.matches.now c.in-Some-subcommand_matches.found.now (entered.found.0 refl) entered.rows (rw c.in-None-2.is at unnamed)
+    packing_asks_nothing c.args.matches.now c.in-Some-subcommand_matches-2.found.now (entered.found.0 refl) entered.rows (rw c.in-None-3.is at unnamed)

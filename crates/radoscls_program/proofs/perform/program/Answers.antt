@@ -1,7 +1,7 @@
 use Rattle.std.proofs.Common.{map, arith}
 use Rattle.std.proofs.lemmas.Grind.{common_steps}
 use Rattle.radoscls_program.specs.Streams.{stream}
-use Rattle.radoscls_program.proofs.Ended.{refused_by}
+use Rattle.radoscls_program.proofs.Ended.{failed_by, refused_by}
 use Rattle.radoscls_program.proofs.perform.program.Goals as goal
 
 pub returns-clause-refused : goal.returns-clause-refused
@@ -12,3 +12,9 @@ returns-clause-refused g c =
 
 pub returns-clause-done : goal.returns-clause-done
 returns-clause-done g c = grind (arith, common_steps)
+
+pub returns-clause-failed : goal.returns-clause-failed
+returns-clause-failed g c =
+    let out = stream g.O.Output.printed g.O.Output.failed in
+    failed_by (g.F.Reads.disk c.args.files.now) (g.F.Reads.disk c.perform.new.files) (out c.args.out.now) (out c.perform.new.out) (map g.S.AsStr.text c.args.words.now)
+    c.perform.result c.code.result c.code.ensures c.perform.ensures

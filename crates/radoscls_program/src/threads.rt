@@ -1,0 +1,31 @@
+//! A file of calls and maps, played on a cluster in threads.
+ghost use Rattle.radoscls_program.specs.Clustered.{ClusterEnds};
+ghost use Rattle.radoscls_program.specs.Streams.{stream};
+
+use crate::perform::refuse;
+use crate::status::Status;
+use class_tool::{Failure, Output, Reads};
+use cluster_tool::{Clustering, Ending, cluster};
+use std::alloc::Global;
+use std::sync::Wait;
+use std::thread::Threads;
+
+/// Plays a file of calls and maps, and prints why where that comes to nothing or ends for want of memory.
+pub(crate) fn play_cluster<R: Threads + Wait + Sync, F: Reads, O: Output>(
+    alloc: Global,
+    rt: &R,
+    files: &F,
+    asked: &Clustering<'_>,
+    out: &mut O,
+) -> Status
+    ensures { ClusterEnds (F.disk files.now) (stream O.printed O.failed out.old) (stream O.printed O.failed out.new) asked.now result }
+{
+    match cluster(alloc, rt, files, asked, out) {
+        Ok(Ending::Done) => Status::Done,
+        Ok(Ending::Bad) => Status::Refused,
+        Ok(Ending::Refused) => Status::Refused,
+        Ok(Ending::Unprinted) => Status::Refused,
+        Ok(Ending::NoMemory) => refuse(Failure::NoMemory, out),
+        Err(failure) => refuse(failure, out),
+    }
+}
