@@ -6,7 +6,6 @@ use crate::history::dice::Dice;
 use crate::history::network::Network;
 use crate::history::reached::{Reached, count, count_if};
 use crate::history::witness::Witness;
-use group_world::GroupMap;
 use pg_log::{ClassTable, Classes, Group, GroupWork, with_group};
 use placement::NodeId;
 use std::alloc::Global;
@@ -64,11 +63,11 @@ impl<C: Classes> Story<C> {
     {
         let stopped = self.network.is_stopped(self.network.primary());
         match next(&mut self.dice, stopped) {
-            0..=1 => self.make_map(rt),
+            0..=1 => self.make_map(rt, table),
             2..=25 => self.see(rt, table),
-            26..=28 => self.stop(),
-            29..=32 => self.network.stopped.fill(false),
-            33..=44 => self.send_again(rt),
+            26..=28 => self.stop(rt, table),
+            29..=32 => self.network.go_on(rt, table),
+            33..=44 => self.send_again(rt, table),
             45..=84 => self.ask(rt, table),
             _ => self.deliver(rt, table),
         }
@@ -77,17 +76,22 @@ impl<C: Classes> Story<C> {
     /// The primary of the newest map, or, once in so many times, any node.
     fn likely_primary(&mut self, times: usize) -> usize {
         let primary = self.network.primary();
-        mostly(&mut self.dice, times, self.network.nodes.len(), primary)
+        mostly(&mut self.dice, times, self.network.count(), primary)
     }
 
     /// A map of one to three nodes, mostly of such that aren't stopped; or of the newest map's.
-    fn make_map<R: Abort>(&mut self, rt: &R) {
+    fn make_map<R: Abort>(&mut self, rt: &R, table: &ClassTable)
+        requires { table.now ≡ C.classes }
+    {
         let mut acting = Vec::new(self.alloc);
         choose(rt, &mut self.dice, &self.network.stopped, &mut acting);
         if self.dice.roll(4) == 0 {
-            keep_acting(rt, &self.network.maps, &mut acting);
+            acting.clear();
+            acting
+                .extend_from_slice(&self.network.acting)
+                .expect(rt, "memory");
         }
-        self.network.make_map(rt, &acting);
+        self.network.make_map(rt, table, acting);
     }
 
     /// A node sees a map, mostly the newest one.
@@ -95,25 +99,29 @@ impl<C: Classes> Story<C> {
         requires { table.now ≡ C.classes }
     {
         let at = self.likely_primary(3);
-        let maps = self.network.maps.len();
+        let maps = self.network.maps;
         let place = mostly(&mut self.dice, 4, maps, maps.saturating_sub(1));
         self.network.see(rt, table, at, place);
     }
 
     /// A node stops, unless it is the last one that runs. At times all that is on its way is lost with it.
-    fn stop(&mut self) {
+    fn stop<R: Abort>(&mut self, rt: &R, table: &ClassTable)
+        requires { table.now ≡ C.classes }
+    {
         let at = self.likely_primary(2);
         if self.network.can_stop(at) {
             let all = self.dice.roll(2) == 0;
-            self.network.stop(at, all);
+            self.network.stop(rt, table, at, all);
         }
     }
 
     /// A node sends again what is unanswered, mostly while not much is on its way.
-    fn send_again<R: Abort>(&mut self, rt: &R) {
+    fn send_again<R: Abort>(&mut self, rt: &R, table: &ClassTable)
+        requires { table.now ≡ C.classes }
+    {
         if !is_passed(&mut self.dice, self.network.on_way.len()) {
             let at = self.likely_primary(4);
-            self.network.send_again(rt, at);
+            self.network.send_again(rt, table, at);
         }
     }
 
@@ -153,10 +161,10 @@ impl<C: Classes> Story<C> {
     fn repeat<R: Abort>(&mut self, rt: &R, table: &ClassTable, any: bool)
         requires { table.now ≡ C.classes }
     {
-        let sent = self.network.sent.len();
-        let number = earlier(&mut self.dice, sent, any);
-        if number < sent {
-            self.network.deliver(rt, table, number);
+        let sent = self.network.sent().len();
+        let place = earlier(&mut self.dice, sent, any);
+        if place < sent {
+            self.network.deliver(rt, table, place.saturating_add(1));
         }
     }
 }
@@ -208,14 +216,6 @@ fn choose<R: Abort>(rt: &R, dice: &mut Dice, stopped: &[bool], acting: &mut Vec<
     }
     if dice.roll(2) == 0 {
         acting.reverse();
-    }
-}
-
-/// Makes a list that of the newest map.
-fn keep_acting<R: Abort>(rt: &R, maps: &[GroupMap], acting: &mut Vec<NodeId>) {
-    acting.clear();
-    if let Some(map) = maps.last() {
-        acting.extend_from_slice(map.acting()).expect(rt, "memory");
     }
 }
 

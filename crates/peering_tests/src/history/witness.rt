@@ -1,8 +1,9 @@
 //! A plain program that sees nodes and messages after each event, and keeps the one list that all agree on.
 use crate::history::account::{Asked, Balances, Said, plain};
-use crate::history::network::{Network, Sent};
+use crate::history::network::Network;
 use crate::history::reached::{Reached, count_if};
-use group_world::Kind;
+use carried::Carried;
+use group_world::{Event, Kind, Message};
 use peering::GroupNode;
 use pg_log::{Classes, Entry};
 use std::alloc::Global;
@@ -133,12 +134,19 @@ impl Agreed {
     }
 
     /// A Reply names a place of the agreed list at which its client's request of that number stands, and says its answer.
-    fn look_at_message<R: Abort>(&self, rt: &R, sent: &Sent) {
-        if let Kind::Reply(client, number, place, answer) = &sent.packet.message.kind {
+    fn look_at_message<R: Abort>(&self, rt: &R, message: &Message) {
+        if let Kind::Reply(client, number, place, answer) = &message.kind {
             let agreed = self.requests.get(*place).copied().expect(rt, "a place");
             let asker = agreed.client.saturating_add(1);
             assert!(rt; asker == client.get() as usize && agreed.number == number.get());
             self.look_at_answer(rt, *place, answer.code(), answer.output());
+        }
+    }
+
+    /// Looks at what is kept of a message.
+    fn look_at<R: Abort>(&self, rt: &R, carried: &Carried) {
+        if let Carried::Plain(Event::Message(message)) = carried {
+            self.look_at_message(rt, message);
         }
     }
 }
@@ -164,15 +172,16 @@ impl Witness {
         network: &Network<C>,
         brought: &[Asked],
     ) {
-        for at in 0..network.nodes.len() {
-            let node = &network.nodes[at];
+        for at in 0..network.count() {
+            let node = network.node(rt, at);
             self.look_at_list(rt, at, node, brought);
             self.look_at_log(rt, at, node);
         }
-        for number in self.read..network.sent.len() {
-            self.agreed.look_at_message(rt, &network.sent[number]);
+        let sent = network.sent();
+        for place in self.read..sent.len() {
+            self.agreed.look_at(rt, &sent[place].carried);
         }
-        self.read = network.sent.len();
+        self.read = sent.len();
     }
 
     /// A node's committed list is a beginning of the agreed one, or goes on from it; its answers are the plain ones; and
