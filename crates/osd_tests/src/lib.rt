@@ -1,0 +1,13 @@
+//! Tests alone, of a cluster in threads. Each ends by itself: it counts its turns, and fails where they are used up.
+#![tactic(auto)]
+
+#[cfg(test)]
+mod asking;
+#[cfg(test)]
+mod fates;
+#[cfg(test)]
+mod gates;
+#[cfg(test)]
+mod maps;
+#[cfg(test)]
+mod workers;
