@@ -52,10 +52,11 @@ impl<N: ClusterName, R: Wait> Running<N, R> {
             return;
         };
         for _ in self.rt.forever() {
+            // The count comes first: `finish` sets its flag before it raises the count, so one of the two shows it.
+            let count = self.bell.count(&self.rt);
             if self.bell.is_finished() {
                 break;
             }
-            let count = self.bell.count(&self.rt);
             if !self.round(&mut worker, gate, fate) {
                 self.bell.wait(&self.rt, count);
             }
