@@ -8,6 +8,7 @@ use rados_client::{ClassId, ClusterName, ExecError, Running, Session};
 use std::alloc::Global;
 use std::process::Abort;
 use std::sync::Wait;
+use std::thread::yield_now;
 
 const LOCK: usize = 0;
 
@@ -194,6 +195,58 @@ fn refusals_by_class_method_and_input(rt: HostRuntime) {
             &Refusals(rt.alloc())
         )
     );
+}
+
+/// With one try a call submits its request and doesn't look for the answer: it stands in the log, and neither it nor a
+/// repeat is answered.
+#[derive(Drop)]
+struct OneTry(Global);
+
+/// Whether the session's call comes to stand in the log, and is answered by no repeat until then.
+fn comes_to_stand<N: ClusterName, R: Wait>(
+    running: &Running<N, R>,
+    session: &mut Session<'_, N, R>,
+) -> bool {
+    for _ in 0..1_000_000 {
+        if entries(running, 0) == 1 {
+            return true;
+        }
+        if session.retry().is_ok() {
+            return false;
+        }
+        yield_now();
+    }
+    false
+}
+
+/// Whether one of a hundred repeats is answered.
+fn is_answered<N: ClusterName, R: Wait>(session: &mut Session<'_, N, R>) -> bool {
+    for _ in 0..100 {
+        if session.retry().is_ok() {
+            return true;
+        }
+        yield_now();
+    }
+    false
+}
+
+impl Part for OneTry {
+    fn act<N: ClusterName, R: Wait>(&self, running: &Running<N, R>) -> bool {
+        let Ok(object) = ObjectName::new(self.0, "a") else {
+            return false;
+        };
+        let Ok(mut session) = Session::open(running) else {
+            return false;
+        };
+        let first = outcome(&mut session, self.0, &object, LOCK, "lock", b"");
+        let stands = comes_to_stand(running, &mut session);
+        first == (9, 1_000) && stands && !is_answered(&mut session)
+    }
+}
+
+#[test]
+fn one_try_is_the_submit(rt: HostRuntime) {
+    assert!(rt; is_so(&rt, rt.alloc(), config(1, 1), &OneTry(rt.alloc())));
 }
 
 /// Another one uses the session's client number: the session's second call is stale after number 3.
