@@ -1,12 +1,14 @@
 ghost use Rattle.std.specs.Prelude.{◌≡◌, ◌∷◌, [], false, IfOk};
 ghost use Rattle.cluster_tool.specs.Callers.{HasCalled, MadeCall};
 
+use crate::figures::{Figures, now};
 use cluster_file::{Call, Step};
 use osd::ClusterName;
 use rados_client::{ClassId, ExecError, Reply, Session};
 use std::alloc::{AllocError, Global};
 use std::marker::Model;
 use std::sync::Wait;
+use std::time::Clock;
 
 /// A client: its session, how its calls ended so far, and whether memory was refused to keep one of these ends.
 #[derive(Drop)]
@@ -44,23 +46,32 @@ impl<'a, N: ClusterName, R: Wait> Caller<'a, N, R> {
         }
     }
 
+    /// How often it nudged.
+    pub fn nudges(&self) -> u64 {
+        self.session.nudges()
+    }
+}
+
+impl<'a, N: ClusterName, R: Wait + Clock> Caller<'a, N, R> {
     /// Makes its calls of these steps, one after another.
-    pub fn call_all(&mut self, alloc: Global, steps: &[Step])
+    pub fn call_all(&mut self, alloc: Global, clock: &R, figures: &Figures, steps: &[Step])
         ensures { HasCalled N.classes steps.now self.old self.new }
     {
         for step in steps {
-            self.take_step(alloc, step);
+            self.take_step(alloc, clock, figures, step);
         }
     }
 
     /// Makes the step's call, if it is a call of this client.
-    fn take_step(&mut self, alloc: Global, step: &Step)
+    fn take_step(&mut self, alloc: Global, clock: &R, figures: &Figures, step: &Step)
         ensures { HasCalled N.classes (step.now ∷ []) self.old self.new }
     {
         match step {
             Step::Call(call) => {
                 if call.client() == self.session.client() {
+                    let start = now(clock);
                     self.call(alloc, call);
+                    figures.note_call(clock, start);
                 }
             }
             Step::Map(_, _) => {}

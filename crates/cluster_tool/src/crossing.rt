@@ -1,9 +1,11 @@
 //! What may go to another thread, for the proofs of `playing`. The functions do nothing.
-ghost use denote.Param.Send.{IsSend};
+ghost use denote.Param.Send.{IsSend, IsSync};
 ghost use denote.Ref.{NamedLft};
 ghost use Rattle.cluster_tool.specs.contracts.caller.Caller as caller;
+ghost use Rattle.cluster_tool.specs.contracts.figures.Figures as figures;
 ghost use Rattle.rados_client.specs.contracts.reply.Reply as reply;
 
+use crate::figures::Figures;
 use osd::ClusterName;
 use rados_client::{ExecError, Reply, session_crosses};
 
@@ -23,7 +25,19 @@ fn reply_crosses()
     can_send::<Reply>();
 }
 
+/// Threads may share figures.
+pub(crate) fn figures_cross()
+    ensures { IsSync figures.the_row }
+{
+    can_share::<Figures>();
+}
+
 /// Values of the type may go to another thread.
 fn can_send<T: Send>()
     ensures { IsSend T.row }
+{}
+
+/// Threads may share values of the type.
+fn can_share<T: Sync>()
+    ensures { IsSync T.row }
 {}

@@ -2,18 +2,20 @@
 //! tenants', reads a file of calls and maps whole, makes the cluster that its first line names, and plays the rest:
 //! each client and each worker in a thread of its own, each map once all calls above it have ended. Each line that is
 //! printed of a call is how `exec` ended it: a reply is true of a legal list of requests to these classes
-//! (`specs/Answers.antt`). Nothing is said of how long that takes, that it ends, or of the order of calls of several
-//! clients.
+//! (`specs/Answers.antt`). Nothing is said of how long that takes (`Figures` measures it), that it ends, or of the order
+//! of calls of several clients.
 #![tactic(auto)]
 
 mod asked;
 mod caller;
 mod config;
 mod crossing;
+mod figures;
 mod played;
 mod playing;
 mod shown;
 mod tool;
 
 pub use asked::Clustering;
+pub use figures::Figures;
 pub use tool::{Ending, cluster};

@@ -4,42 +4,46 @@ ghost use Rattle.cluster_tool.specs.Callers.{AllCalled, AreNew};
 ghost use Rattle.cluster_tool.specs.Played.{IsMapRefused, Plays};
 
 use crate::caller::Caller;
-use crate::crossing::caller_crosses;
+use crate::crossing::{caller_crosses, figures_cross};
+use crate::figures::{Figures, now};
 use crate::played::Played;
 use cluster_file::{Plan, Step};
 use map_book::MapError;
-use osd::{ClusterName, NoMemory, Open, Parts, Running, running_crosses};
+use osd::{ClusterName, NoMemory, Parts, Running, running_crosses};
 use pg_log::ClassTable;
 use rados_client::{ExecError, Reply, Session};
 use std::alloc::{AllocError, Global};
 use std::marker::Brand;
 use std::sync::Wait;
 use std::thread::{Threads, for_each_mut, join};
+use std::time::Clock;
 
 /// How many workers a cluster has at most.
 const WORKER_LIMIT: usize = 16;
 
 /// Plays a plan on a cluster of these parts, with these classes: each client and each worker in a thread of its own. It
 /// is not played where memory for the nodes is refused.
-pub(crate) fn play<R: Threads + Wait + Sync + Drop>(
+pub(crate) fn play<R: Threads + Wait + Clock + Sync + Drop>(
     alloc: Global,
     rt: R,
     parts: Parts,
     table: ClassTable,
     plan: &Plan,
+    figures: &Figures,
 ) -> Result<Played, NoMemory>
     ensures { IfOk result (Plays table parts.config plan.now.steps) }
 {
-    play_named::<Brand, R>(alloc, rt, parts, table, plan)
+    play_named::<Brand, R>(alloc, rt, parts, table, plan, figures)
 }
 
 /// Names the cluster, and plays a plan on it.
-fn play_named<N: ClusterName + Send + Sync, R: Threads + Wait + Sync + Drop>(
+fn play_named<N: ClusterName + Send + Sync, R: Threads + Wait + Clock + Sync + Drop>(
     alloc: Global,
     rt: R,
     parts: Parts,
     table: ClassTable,
     plan: &Plan,
+    figures: &Figures,
 ) -> Result<Played, NoMemory>
     requires board { parts.board ≡ N.board }
     requires queues { parts.queues ≡ N.queues }
@@ -48,29 +52,35 @@ fn play_named<N: ClusterName + Send + Sync, R: Threads + Wait + Sync + Drop>(
     ensures { IfOk result (Plays table parts.config plan.now.steps) }
 {
     let running = Running::<N, R>::named(alloc, rt, parts, table)?;
-    Ok(play_while_served(alloc, &running, plan))
+    Ok(play_while_served(alloc, &running, plan, figures))
 }
 
 /// Plays a plan while all workers serve.
-fn play_while_served<N: ClusterName + Send + Sync, R: Threads + Wait + Sync>(
+fn play_while_served<N: ClusterName + Send + Sync, R: Threads + Wait + Clock + Sync>(
     alloc: Global,
     running: &Running<N, R>,
     plan: &Plan,
+    figures: &Figures,
 ) -> Played
     ensures { Plays N.classes N.config plan.now.steps result }
 {
     running_crosses::<N, R>();
+    figures_cross();
     let (_, played) = join(
         running.runtime(),
-        || serve_all(running),
-        || play_and_finish(alloc, running, plan),
+        || serve_all(running, figures),
+        || play_and_finish(alloc, running, plan, figures),
     );
     played
 }
 
 /// Serves by all workers until the cluster is told to finish.
-fn serve_all<N: ClusterName + Send + Sync, R: Threads + Wait + Sync>(running: &Running<N, R>) {
+fn serve_all<N: ClusterName + Send + Sync, R: Threads + Wait + Sync>(
+    running: &Running<N, R>,
+    figures: &Figures,
+) {
     running_crosses::<N, R>();
+    figures_cross();
     let mut numbers = [0, 1, 2, 3, 4, 5, 6, 7, 8, 9, 10, 11, 12, 13, 14, 15];
     let workers = running.config().workers.min(WORKER_LIMIT);
     let numbers = &mut numbers[..workers];
@@ -79,41 +89,48 @@ fn serve_all<N: ClusterName + Send + Sync, R: Threads + Wait + Sync>(running: &R
         numbers,
         WORKER_LIMIT,
         &|_, worker: &mut usize| {
-            running.serve(*worker, &Open);
+            running.serve_with(*worker, figures, figures);
         },
     );
 }
 
 /// Plays a plan, and tells the workers to finish.
-fn play_and_finish<N: ClusterName + Send + Sync, R: Threads + Wait + Sync>(
+fn play_and_finish<N: ClusterName + Send + Sync, R: Threads + Wait + Clock + Sync>(
     alloc: Global,
     running: &Running<N, R>,
     plan: &Plan,
+    figures: &Figures,
 ) -> Played
     ensures { Plays N.classes N.config plan.now.steps result }
 {
-    let played = play_plan(alloc, running, plan);
+    let start = now(running.runtime());
+    let played = play_plan(alloc, running, plan, figures);
+    figures.note_whole(running.runtime(), start);
     running.finish();
     played
 }
 
 /// Plays a plan.
-fn play_plan<N: ClusterName + Send + Sync, R: Threads + Wait + Sync>(
+fn play_plan<N: ClusterName + Send + Sync, R: Threads + Wait + Clock + Sync>(
     alloc: Global,
     running: &Running<N, R>,
     plan: &Plan,
+    figures: &Figures,
 ) -> Played
     ensures { Plays N.classes N.config plan.now.steps result }
 {
     let Ok(mut callers) = callers(alloc, running, plan.clients()) else {
         return Played::NoMemory;
     };
-    match play_steps(alloc, running, plan.steps(), &mut callers) {
+    match play_steps(alloc, running, figures, plan.steps(), &mut callers) {
         Some((line, why)) => Played::MapRefused(line, why),
-        None => match all_ends(alloc, callers) {
-            Ok(ends) => Played::Done(ends),
-            Err(_) => Played::NoMemory,
-        },
+        None => {
+            note_nudges(&callers, figures);
+            match all_ends(alloc, callers) {
+                Ok(ends) => Played::Done(ends),
+                Err(_) => Played::NoMemory,
+            }
+        }
     }
 }
 
@@ -139,31 +156,35 @@ fn callers<'a, N: ClusterName, R: Wait>(
 }
 
 /// Makes the calls of these steps, each client in a thread of its own.
-fn call_all<'a, N: ClusterName + Send + Sync, R: Threads + Wait + Sync>(
+fn call_all<'a, N: ClusterName + Send + Sync, R: Threads + Wait + Clock + Sync>(
     alloc: Global,
     running: &'a Running<N, R>,
+    figures: &Figures,
     steps: &[Step],
     callers: &mut Vec<Caller<'a, N, R>>,
 )
     ensures { AllCalled N.classes steps.now callers.old.items callers.new.items }
 {
     caller_crosses::<N, R>();
+    figures_cross();
     let threads = callers.len().max(1);
+    let clock = running.runtime();
     for_each_mut(
         running.runtime(),
         callers.as_mut_slice(),
         threads,
         &|_, caller| {
-            caller.call_all(alloc, steps);
+            caller.call_all(alloc, clock, figures, steps);
         },
     );
 }
 
 /// Makes the calls of a plan, and each of its maps once all calls above have ended, up to the first map that is
 /// refused.
-fn play_steps<'a, N: ClusterName + Send + Sync, R: Threads + Wait + Sync>(
+fn play_steps<'a, N: ClusterName + Send + Sync, R: Threads + Wait + Clock + Sync>(
     alloc: Global,
     running: &'a Running<N, R>,
+    figures: &Figures,
     steps: &[Step],
     callers: &mut Vec<Caller<'a, N, R>>,
 ) -> Option<(usize, MapError)>
@@ -174,15 +195,22 @@ fn play_steps<'a, N: ClusterName + Send + Sync, R: Threads + Wait + Sync>(
     let mut from = 0;
     for at in 0..end {
         if let Step::Map(line, nodes) = &steps[at] {
-            call_all(alloc, running, &steps[from..at], callers);
+            call_all(alloc, running, figures, &steps[from..at], callers);
             if let Err(why) = running.new_map(nodes.items()) {
                 return Some((*line, why));
             }
             from = at;
         }
     }
-    call_all(alloc, running, &steps[from..end], callers);
+    call_all(alloc, running, figures, &steps[from..end], callers);
     None
+}
+
+/// Notes how often these clients nudged.
+fn note_nudges<N: ClusterName, R: Wait>(callers: &[Caller<'_, N, R>], figures: &Figures) {
+    for caller in callers {
+        figures.note_nudges(caller.nudges());
+    }
 }
 
 /// How each client's calls ended. It fails where memory was refused to keep one of these ends.

@@ -5,6 +5,7 @@ ghost use Rattle.cluster_tool.specs.Clustering.{Clusters, ClusteringFails, Comes
 
 use crate::asked::Clustering;
 use crate::config::config_of;
+use crate::figures::Figures;
 use crate::played::Played;
 use crate::playing::play;
 use crate::shown::lines_of;
@@ -17,6 +18,7 @@ use std::alloc::{AllocError, Global};
 use std::fmt::Display;
 use std::sync::Wait;
 use std::thread::Threads;
+use std::time::Clock;
 use tenant_classes::{class_names, classes};
 
 /// How a file ended.
@@ -47,12 +49,13 @@ struct Outcome {
 /// A failure says why nothing was done, the first reason in this order: a built-in class can't be had, which memory
 /// alone is known to cause; the image of a tenant's class can't be loaded, the first one in their order; the file can't
 /// be read or is no text. Nothing was printed then. It starts threads and waits for them: nothing is said of when it
-/// ends.
-pub fn cluster<F: Reads, O: Output, R: Threads + Wait + Sync + Drop>(
+/// ends. What the run took is added to the figures.
+pub fn cluster<F: Reads, O: Output, R: Threads + Wait + Clock + Sync + Drop>(
     alloc: Global,
     rt: R,
     files: &F,
     asked: &Clustering<'_>,
+    figures: &Figures,
     out: &mut O,
 ) -> Result<Ending, Failure>
     ensures ends { IfOk result (Clusters (F.disk files.now) asked.now (O.printed out.old) (O.printed out.new) (O.failed out.old) (O.failed out.new)) }
@@ -62,7 +65,7 @@ pub fn cluster<F: Reads, O: Output, R: Threads + Wait + Sync + Drop>(
     let table = classes(alloc, files, &asked.own)?;
     let names = class_names(alloc, &asked.own)?;
     let text = read_text(alloc, files, asked.file)?;
-    match settle(alloc, rt, table, &names, &text) {
+    match settle(alloc, rt, table, &names, &text, figures) {
         Ok(outcome) => Ok(print(outcome, out)),
         Err(_) => Ok(Ending::NoMemory),
     }
@@ -80,17 +83,18 @@ fn print<O: Output>(outcome: Outcome, out: &mut O) -> Ending
 }
 
 /// What comes of a text.
-fn settle<R: Threads + Wait + Sync + Drop>(
+fn settle<R: Threads + Wait + Clock + Sync + Drop>(
     alloc: Global,
     rt: R,
     table: ClassTable,
     names: &[&str],
     text: &str,
+    figures: &Figures,
 ) -> Result<Outcome, AllocError>
     ensures { IfOk result (λ o. ComesOf table (plan_of (map (λ n. n.now) names.now) text.now) (string_bytes o.text) o.ending) }
 {
     match read_plan(alloc, names, text)? {
-        Reading::Plan(plan) => settle_plan(alloc, rt, table, &plan),
+        Reading::Plan(plan) => settle_plan(alloc, rt, table, &plan, figures),
         Reading::Bad(line) => Ok(Outcome {
             text: bad_line(alloc, line)?,
             ending: Ending::Bad,
@@ -110,11 +114,12 @@ fn refused<E: Display + Drop>(alloc: Global, line: usize, why: E) -> Result<Outc
 }
 
 /// What comes of a plan.
-fn settle_plan<R: Threads + Wait + Sync + Drop>(
+fn settle_plan<R: Threads + Wait + Clock + Sync + Drop>(
     alloc: Global,
     rt: R,
     table: ClassTable,
     plan: &Plan,
+    figures: &Figures,
 ) -> Result<Outcome, AllocError>
     ensures { IfOk result (λ o. ComesOf table (Ok plan.now) (string_bytes o.text) o.ending) }
 {
@@ -124,7 +129,7 @@ fn settle_plan<R: Threads + Wait + Sync + Drop>(
     let Ok(parts) = Parts::new(alloc, config) else {
         return refused(alloc, 1, ConfigError::NoMemory);
     };
-    match play(alloc, rt, parts, table, plan) {
+    match play(alloc, rt, parts, table, plan, figures) {
         Ok(Played::Done(ends)) => Ok(Outcome {
             text: lines_of(alloc, &ends)?,
             ending: Ending::Done,

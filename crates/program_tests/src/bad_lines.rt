@@ -3,6 +3,7 @@ use crate::script::prints;
 use std::process::Abort;
 use std::sync::Wait;
 use std::thread::Threads;
+use std::time::Clock;
 
 /// Files of events whose last line is bad: what is printed stands below each event.
 static BAD: [&str; 34] = [
@@ -61,7 +62,7 @@ fn a_bad_line_is_the_last(rt: HostRuntime) {
 }
 
 /// How the request is answered whose object's name has so many bytes, and how the run ends.
-fn asks_beside<R: Abort + AllocGlobal + Threads + Wait + Sync>(
+fn asks_beside<R: Abort + AllocGlobal + Threads + Wait + Clock + Sync>(
     rt: &R,
     length: usize,
     answer: &str,

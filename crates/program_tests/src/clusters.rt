@@ -5,6 +5,7 @@ use std::fmt::Write;
 use std::process::Abort;
 use std::sync::Wait;
 use std::thread::Threads;
+use std::time::Clock;
 
 /// The words of a run.
 const CLUSTER: [&str; 2] = ["cluster", "text"];
@@ -77,7 +78,7 @@ static WORKED: [(&str, &str, u8); 13] = [
 ];
 
 /// Whether a file of these lines below the first one prints that, and ends so.
-fn plays<R: Abort + AllocGlobal + Threads + Wait + Sync>(
+fn plays<R: Abort + AllocGlobal + Threads + Wait + Clock + Sync>(
     rt: &R,
     lines: &str,
     printed: &str,
@@ -152,7 +153,7 @@ fn malformed_lines_are_found(rt: HostRuntime) {
 }
 
 /// A file in which a call's object has a name of so many bytes.
-fn names<R: Abort + AllocGlobal + Threads + Wait + Sync>(
+fn names<R: Abort + AllocGlobal + Threads + Wait + Clock + Sync>(
     rt: &R,
     length: usize,
     printed: &str,

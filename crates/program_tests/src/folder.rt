@@ -8,6 +8,7 @@ use std::io::{self, ErrorKind};
 use std::process::Abort;
 use std::sync::Wait;
 use std::thread::Threads;
+use std::time::Clock;
 
 /// `mov r0, 0`, `exit`.
 pub const TWO: &str =
@@ -130,7 +131,7 @@ fn line_of<'a, R: Abort + AllocGlobal>(rt: &R, words: &[&'a str]) -> Vec<&'a str
 }
 
 /// Runs the program on those words behind its name, and on that folder.
-pub fn run_on<R: Abort + AllocGlobal + Threads + Wait + Sync>(
+pub fn run_on<R: Abort + AllocGlobal + Threads + Wait + Clock + Sync>(
     rt: &R,
     words: &[&str],
     folder: &mut Folder,
@@ -155,7 +156,7 @@ pub fn run_on<R: Abort + AllocGlobal + Threads + Wait + Sync>(
 }
 
 /// Runs the program on those words and that folder: it prints that, explains nothing, and ends with that status.
-pub fn prints_on<R: Abort + AllocGlobal + Threads + Wait + Sync>(
+pub fn prints_on<R: Abort + AllocGlobal + Threads + Wait + Clock + Sync>(
     rt: &R,
     words: &[&str],
     folder: &mut Folder,
@@ -167,7 +168,7 @@ pub fn prints_on<R: Abort + AllocGlobal + Threads + Wait + Sync>(
 }
 
 /// The same on a folder with that image, in hexadecimal, and that text; and no file is written.
-pub fn only_prints<R: Abort + AllocGlobal + Threads + Wait + Sync>(
+pub fn only_prints<R: Abort + AllocGlobal + Threads + Wait + Clock + Sync>(
     rt: &R,
     words: &[&str],
     image: &str,
@@ -190,7 +191,7 @@ pub struct Row {
 }
 
 /// Each row prints what it should, ends so, and writes no file.
-pub fn all_print<R: Abort + AllocGlobal + Threads + Wait + Sync>(rt: &R, rows: &[Row]) {
+pub fn all_print<R: Abort + AllocGlobal + Threads + Wait + Clock + Sync>(rt: &R, rows: &[Row]) {
     for row in rows {
         let text = row.text.as_bytes();
         only_prints(rt, row.words, row.image, text, row.printed, row.status);

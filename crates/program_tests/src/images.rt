@@ -2,6 +2,7 @@ use crate::folder::{Folder, Row, TWO, all_print, only_prints, prints_on, with_re
 use std::process::Abort;
 use std::sync::Wait;
 use std::thread::Threads;
+use std::time::Clock;
 
 /// Writes its three bytes of input to the object, and fails: `mov r2, r1`, `mov r1, 0`, `mov r3, 3`, `call 3`,
 /// `mov r0, -5`, `exit`.
@@ -346,7 +347,7 @@ fn disassembles_a_long_text(rt: HostRuntime) {
 }
 
 /// How many bytes are asked for of an image that has bytes behind its end.
-fn most_read<R: Abort + AllocGlobal + Threads + Wait + Sync>(rt: &R, image: &str) -> usize {
+fn most_read<R: Abort + AllocGlobal + Threads + Wait + Clock + Sync>(rt: &R, image: &str) -> usize {
     let mut folder = Folder::of(rt, image, b"");
     let printed = "image refused after 1 methods: 11 Trailing\n";
     prints_on(rt, &["verify", "image"], &mut folder, printed, 1);

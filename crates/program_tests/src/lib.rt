@@ -26,6 +26,8 @@ mod runs;
 #[cfg(test)]
 mod script;
 #[cfg(test)]
+mod stats;
+#[cfg(test)]
 mod streams;
 #[cfg(test)]
 mod tenants;

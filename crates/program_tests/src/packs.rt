@@ -4,6 +4,7 @@ use crate::folder::{Folder, Row, all_print, holds, prints_on};
 use std::process::Abort;
 use std::sync::Wait;
 use std::thread::Threads;
+use std::time::Clock;
 
 /// counter.c: its number is in the xattr `count`.
 const INC: &str =
@@ -184,7 +185,7 @@ static REFUSED: [Row; 10] = [
 ];
 
 /// A folder in which raw code was packed, over its own file.
-fn folder_with<R: Abort + AllocGlobal + Threads + Wait + Sync>(
+fn folder_with<R: Abort + AllocGlobal + Threads + Wait + Clock + Sync>(
     rt: &R,
     raw: &str,
     method: &str,
@@ -195,7 +196,7 @@ fn folder_with<R: Abort + AllocGlobal + Threads + Wait + Sync>(
 }
 
 /// What a row prints of the image.
-fn prints_packed<R: Abort + AllocGlobal + Threads + Wait + Sync>(rt: &R, row: &Packed) {
+fn prints_packed<R: Abort + AllocGlobal + Threads + Wait + Clock + Sync>(rt: &R, row: &Packed) {
     let mut folder = folder_with(rt, row.raw, row.method);
     prints_on(rt, row.words, &mut folder, row.printed, 0);
     holds(rt, folder.writes == 1, row.printed);

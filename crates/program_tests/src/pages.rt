@@ -5,6 +5,7 @@ use crate::folder::{Folder, holds, only_prints, prints_on};
 use std::process::Abort;
 use std::sync::Wait;
 use std::thread::Threads;
+use std::time::Clock;
 
 /// Texts as people write them, and the line that refuses each.
 static WRITTEN: [(&str, &str); 15] = [
@@ -152,14 +153,14 @@ const HELLO: &str =
     stb [r3+4], 0x6f        ; \"o\"\nmov r1, 5\ncall 13                 ; out_len\nexit\n";
 
 /// A folder whose image is that of a text.
-fn assembled<R: Abort + AllocGlobal + Threads + Wait + Sync>(rt: &R, text: &str) -> Folder {
+fn assembled<R: Abort + AllocGlobal + Threads + Wait + Clock + Sync>(rt: &R, text: &str) -> Folder {
     let mut folder = Folder::of(rt, "", text.as_bytes());
     prints_on(rt, &["asm", "text", "image"], &mut folder, "", 0);
     folder
 }
 
 /// What those words print of the class of a text.
-fn prints_of<R: Abort + AllocGlobal + Threads + Wait + Sync>(
+fn prints_of<R: Abort + AllocGlobal + Threads + Wait + Clock + Sync>(
     rt: &R,
     text: &str,
     words: &[&str],

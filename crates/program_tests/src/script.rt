@@ -4,6 +4,7 @@ use crate::folder::only_prints;
 use std::process::Abort;
 use std::sync::Wait;
 use std::thread::Threads;
+use std::time::Clock;
 
 fn push_line<R: Abort>(rt: &R, text: &mut String, line: &str) {
     text.push_str(line).expect(rt, "memory");
@@ -21,7 +22,11 @@ fn add<R: Abort>(rt: &R, text: &str, events: &mut String, printed: &mut String) 
 }
 
 /// Whether `sim` prints of those texts' events what stands below them, ends so, and writes no file.
-pub fn prints<R: Abort + AllocGlobal + Threads + Wait + Sync>(rt: &R, texts: &[&str], status: u8) {
+pub fn prints<R: Abort + AllocGlobal + Threads + Wait + Clock + Sync>(
+    rt: &R,
+    texts: &[&str],
+    status: u8,
+) {
     let mut events = String::new(rt.alloc());
     let mut printed = String::new(rt.alloc());
     for text in texts {

@@ -5,6 +5,7 @@ use std::io::{self, ErrorKind, Write};
 use std::process::Abort;
 use std::sync::Wait;
 use std::thread::Threads;
+use std::time::Clock;
 
 /// Words that ask for nothing that the program does, or for help.
 static USAGES: [&[&str]; 41] = [
@@ -42,7 +43,7 @@ static USAGES: [&[&str]; 41] = [
     &["cluster"],
     &["cluster", "text", "text"],
     &["cluster", "--trace", "text"],
-    &["cluster", "--stats", "text"],
+    &["cluster", "--stats=yes", "text"],
     &["cluster", "--class", "lock=image", "text"],
     // a class without its image's file, or without a word that asks it
     &["sim", "text", "--class"],
@@ -74,7 +75,10 @@ static USAGES: [&[&str]; 41] = [
 ];
 
 /// Whether the program prints nothing of those words, explains its use, ends with 2, and writes no file.
-fn explains<R: Abort + AllocGlobal + Threads + Wait + Sync>(rt: &R, words: &[&str]) -> bool {
+fn explains<R: Abort + AllocGlobal + Threads + Wait + Clock + Sync>(
+    rt: &R,
+    words: &[&str],
+) -> bool {
     let mut folder = Folder::of(rt, TWO, b"");
     run_on(rt, words, &mut folder).explains() && folder.writes == 0
 }
@@ -160,7 +164,7 @@ fn stands_in(text: &[u8], part: &str) -> bool {
 }
 
 /// Whether the program tells that of those words.
-fn tells<R: Abort + AllocGlobal + Threads + Wait + Sync>(
+fn tells<R: Abort + AllocGlobal + Threads + Wait + Clock + Sync>(
     rt: &R,
     words: &[&str],
     part: &str,
@@ -230,7 +234,11 @@ static EVENTS: [Row; 5] = [
 
 /// Whether the program ends as a row tells on that text, where standard output is so limited, and standard output has
 /// failed where the status is 1.
-fn ends_with<R: Abort + AllocGlobal + Threads + Wait + Sync>(rt: &R, text: &str, row: Row) -> bool {
+fn ends_with<R: Abort + AllocGlobal + Threads + Wait + Clock + Sync>(
+    rt: &R,
+    text: &str,
+    row: Row,
+) -> bool {
     let (words, room, flushes, want) = row;
     let mut err = Limited { room: 0, flushes };
     let mut folder = Folder::of(rt, TWO, text.as_bytes());
@@ -240,7 +248,11 @@ fn ends_with<R: Abort + AllocGlobal + Threads + Wait + Sync>(rt: &R, text: &str,
 }
 
 /// Each row ends as it tells.
-fn all_end<R: Abort + AllocGlobal + Threads + Wait + Sync>(rt: &R, text: &str, rows: &[Row]) {
+fn all_end<R: Abort + AllocGlobal + Threads + Wait + Clock + Sync>(
+    rt: &R,
+    text: &str,
+    rows: &[Row],
+) {
     for row in rows {
         assert!(rt; ends_with(rt, text, *row), "{}", row.1);
     }

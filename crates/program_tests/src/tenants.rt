@@ -3,6 +3,7 @@ use std::fmt::Write;
 use std::process::Abort;
 use std::sync::Wait;
 use std::thread::Threads;
+use std::time::Clock;
 
 /// A class whose method `hello` answers five bytes.
 const HELLO: &str =
@@ -146,7 +147,10 @@ fn line_of_classes<R: Abort + AllocGlobal>(rt: &R, count: usize) -> String {
 }
 
 /// `sim` with so many classes of one image, of which the last is asked.
-fn with_classes<R: Abort + AllocGlobal + Threads + Wait + Sync>(rt: &R, count: usize) -> Ended {
+fn with_classes<R: Abort + AllocGlobal + Threads + Wait + Clock + Sync>(
+    rt: &R,
+    count: usize,
+) -> Ended {
     let line = line_of_classes(rt, count);
     let words = line.split_whitespace().collect(rt.alloc());
     let words: Vec<&str> = words.expect(rt, "memory");

@@ -2,6 +2,7 @@ use crate::folder::{Folder, Row, TWO, all_print, bytes_of, holds, only_prints, p
 use std::process::Abort;
 use std::sync::Wait;
 use std::thread::Threads;
+use std::time::Clock;
 
 /// The text of the two instructions.
 const TWO_TEXT: &str = ".method f r 0 0\nmov r0, 0\nexit\n";
@@ -99,7 +100,7 @@ fn is_written<R: Abort + AllocGlobal>(rt: &R, folder: &Folder, file: &[u8], imag
 }
 
 /// Whether the image of that text, in hexadecimal, is written to `out` once, and the text stays.
-fn assembles_to<R: Abort + AllocGlobal + Threads + Wait + Sync>(
+fn assembles_to<R: Abort + AllocGlobal + Threads + Wait + Clock + Sync>(
     rt: &R,
     text: &str,
     image: &str,

@@ -10,8 +10,8 @@
 //! - `radoscls dis IN`: the text of the class image in the file IN.
 //! - `radoscls sim FILE [--class NAME=IMAGE ..] [--trace]`: what each event of the file FILE comes to, or a drawing of the
 //!   run; a request asks `lock`, `obj` or one of those classes by name.
-//! - `radoscls cluster FILE [--class NAME=IMAGE ..]`: how each call of the clients in the file FILE ends on a cluster in
-//!   threads.
+//! - `radoscls cluster FILE [--class NAME=IMAGE ..] [--stats]`: how each call of the clients in the file FILE ends on a cluster
+//!   in threads, and what that took.
 //!
 //! It ends with 0 where that was done and printed, with 1 where it was refused or could not be printed, and with 2 where the
 //! words ask for none of that, or for help.

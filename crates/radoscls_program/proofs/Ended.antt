@@ -38,11 +38,11 @@ ended before after old new words (Class a) status named acts = class_ended befor
 ended before after old new words (Sim s) Done named played = inr (inl (record { simulation = s; named = named; left = played.0; ended = played.1 }))
 ended before after old new words (Sim s) Refused named played = inr (inr (inr (inl (record { simulation = s; named = named; left = played.0; ended = played.1 }))))
 ended before after old new words (Sim s) Usage named played = absurd played.1
-ended before after old new words (Cluster c) Done named ran =
-    inr (inr (record { asked = c; named = named; left = ran.0; ended = ran.1 }))
-ended before after old new words (Cluster c) Refused named ran =
-    inr (inr (inr (inr (record { asked = c; named = named; left = ran.0; ended = ran.1 }))))
-ended before after old new words (Cluster c) Usage named ran = absurd ran.1
+ended before after old new words (Cluster c m) Done named ran =
+    inr (inr (record { asked = c; is_measured = m; named = named; left = ran.0; ended = ran.1 }))
+ended before after old new words (Cluster c m) Refused named ran =
+    inr (inr (inr (inr (record { asked = c; is_measured = m; named = named; left = ran.0; ended = ran.1 }))))
+ended before after old new words (Cluster c m) Usage named ran = absurd ran.1
 
 -- where they name none, and why was said
 pub explained : (disk : Option Disk) (old new : Stream) (words : List Text) (e : Error) (status : Status) → (kind_of e ≢ OutOfMemory → AreForNone words)

@@ -52,7 +52,7 @@ sim_asks_nothing m found named rows none (Sim s) asks =
     let same = some_pair_parts (codes "sim") (codes "sim") asks.rows (rows_of (found_of found)) (sym asks.entered ∙ entered m (codes "sim") (rows_of (found_of found)) named rows) in
     let takes = subst (λ (rs : List Row). TakesSim (λ id. first_of id rs) (λ id. all_of id rs) s) same.1 asks.asked in
     none (record { file = ap is_some (first_value-rows (found_of found) (codes "FILE") ∙ takes.file); own = takes.own.may })
-sim_asks_nothing m found named rows none (Cluster c) asks =
+sim_asks_nothing m found named rows none (Cluster c measured) asks =
     let same = some_pair_parts (codes "cluster") (codes "sim") asks.rows (rows_of (found_of found)) (sym asks.entered ∙ entered m (codes "sim") (rows_of (found_of found)) named rows) in
     other (codes "cluster") (codes "sim") refl same.0
 
@@ -61,4 +61,4 @@ pub no_task : (m : ArgMatches) → (subcommand_name_of m ≡ Some (codes "sim") 
     → AsksNothing (subcommand_rows_of m) → AsksNoTask (subcommand_rows_of m)
 no_task m unnamed unasked none (Class a) asks = none a asks
 no_task m unnamed unasked none (Sim s) asks = unnamed (first_part _ _ (out-ArgMatches m).subcommand (codes "sim") asks.rows asks.entered)
-no_task m unnamed unasked none (Cluster c) asks = unasked (first_part _ _ (out-ArgMatches m).subcommand (codes "cluster") asks.rows asks.entered)
+no_task m unnamed unasked none (Cluster c measured) asks = unasked (first_part _ _ (out-ArgMatches m).subcommand (codes "cluster") asks.rows asks.entered)

@@ -1,6 +1,6 @@
 -- The command line: `verify IN`, `run IN METHOD [--input HEX] [--caller N]`, `asm IN OUT`, `pack OUT METHOD ..`, `dis IN`,
--- `sim FILE [--class NAME=IMAGE ..] [--trace]`, and `cluster FILE [--class NAME=IMAGE ..]`.
-use Rattle.std.specs.Prelude.{◌≡◌, List, [], ◌∷◌, Option, Some, true, pos, codes}
+-- `sim FILE [--class NAME=IMAGE ..] [--trace]`, and `cluster FILE [--class NAME=IMAGE ..] [--stats]`.
+use Rattle.std.specs.Prelude.{◌≡◌, Bool, List, [], ◌∷◌, Option, Some, true, pos, codes}
 use Rattle.clap.specs.Lexer.{usize_max}
 use Rattle.clap.specs.Words.{App, Row, Rule, Text, all_of, first_of, new_app, new_rule, with_rule, with_subcommand}
 use Rattle.clap.specs.declared.builder.action.ArgAction.TheVariants as argument
@@ -8,7 +8,7 @@ use Rattle.clap.specs.declared.builder.value_parser.ValueParser.TheVariants as p
 use Rattle.class_tool.specs.declared.action.Action.{Action}
 use Rattle.cluster_tool.specs.declared.asked.Clustering.{Clustering}
 use Rattle.sim.specs.declared.asked.Simulation.{Simulation}
-use Rattle.radoscls_program.specs.Arguments.{AsksBy, TakesCluster, TakesSim}
+use Rattle.radoscls_program.specs.Arguments.{AsksBy, TakesCluster, TakesSim, is_set}
 use Rattle.radoscls_program.specs.declared.task.Task.{Task}
 use Rattle.radoscls_program.specs.declared.task.Task.TheVariants.{Class, Sim, Cluster}
 
@@ -56,8 +56,12 @@ trace_rule = record (new_rule (codes "trace")) { long = Some (codes "trace"); ac
 abbrev pub sim_line : App
 sim_line = with_rule (with_rule (with_rule (new_app (codes "sim")) (required_rule (codes "FILE"))) class_rule) trace_rule
 
+-- the flag that has a run measured
+abbrev pub stats_rule : Rule
+stats_rule = record (new_rule (codes "stats")) { long = Some (codes "stats"); action = Some argument.SetTrue }
+
 abbrev pub cluster_line : App
-cluster_line = with_rule (with_rule (new_app (codes "cluster")) (required_rule (codes "FILE"))) class_rule
+cluster_line = with_rule (with_rule (with_rule (new_app (codes "cluster")) (required_rule (codes "FILE"))) class_rule) stats_rule
 
 -- the program's name, which wants a subcommand
 abbrev pub plain_line : App
@@ -97,17 +101,18 @@ pub record AsksSim (subcommand : Option (Text × List Row)) (s : Simulation) : T
   pub entered : subcommand ≡ Some (codes "sim", rows)
   pub asked : TakesSim (λ id. first_of id rows) (λ id. all_of id rows) s
 
--- the run on a cluster that the words ask for is that of the subcommand `cluster`
-pub record AsksCluster (subcommand : Option (Text × List Row)) (c : Clustering) : Type 0 where
+-- the run on a cluster that the words ask for is that of the subcommand `cluster`, and --stats has it measured
+pub record AsksCluster (subcommand : Option (Text × List Row)) (c : Clustering) (is_measured : Bool) : Type 0 where
   pub rows : List Row
   pub entered : subcommand ≡ Some (codes "cluster", rows)
   pub asked : TakesCluster (λ id. first_of id rows) (λ id. all_of id rows) c
+  pub measured : is_measured ≡ is_set (first_of (codes "stats") rows)
 
 -- what the words ask for
 abbrev pub AsksTask : Option (Text × List Row) → Task → Type 0
 AsksTask subcommand (Class action) = Asks subcommand action
 AsksTask subcommand (Sim s) = AsksSim subcommand s
-AsksTask subcommand (Cluster c) = AsksCluster subcommand c
+AsksTask subcommand (Cluster c is_measured) = AsksCluster subcommand c is_measured
 
 -- the subcommand and its values ask for nothing
 abbrev pub AsksNoTask : Option (Text × List Row) → Type 0

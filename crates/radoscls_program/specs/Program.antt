@@ -1,5 +1,5 @@
 -- How the program ends, and what it printed and wrote.
-use Rattle.std.specs.Prelude.{◌≡◌, ◌⊎◌, List, [], Option, Result, Ok, Err, true}
+use Rattle.std.specs.Prelude.{◌≡◌, ◌⊎◌, Bool, List, [], Option, Result, Ok, Err, true}
 use Rattle.clap.specs.Words.{Text, fault_of, subcommand_of}
 use Rattle.class_tool.specs.Answer.{Settles, Fails, answer_text}
 use Rattle.class_tool.specs.Files.{Disk}
@@ -65,7 +65,8 @@ pub record IsPlayed (before after : Option Disk) (old new : Stream) (words : Lis
 -- The words name a file of calls and maps, which was played so; no file changed.
 pub record IsRun (before after : Option Disk) (old new : Stream) (words : List Text) (status : Status) : Type 0 where
   pub asked : Clustering
-  pub named : AreFor words (Cluster asked)
+  pub is_measured : Bool
+  pub named : AreFor words (Cluster asked is_measured)
   pub left : after ≡ before
   pub ended : ClusterEnds before old new asked status
 
@@ -126,4 +127,4 @@ pub record Acts (before after : Option Disk) (old new : Stream) (action : Action
 abbrev pub TaskEnds : Option Disk → Option Disk → Stream → Stream → Task → Status → Type 0
 TaskEnds before after old new (Class action) status = Acts before after old new action status
 TaskEnds before after old new (Sim simulation) status = (after ≡ before) × SimEnds before old new simulation status
-TaskEnds before after old new (Cluster asked) status = (after ≡ before) × ClusterEnds before old new asked status
+TaskEnds before after old new (Cluster asked is_measured) status = (after ≡ before) × ClusterEnds before old new asked status

@@ -3,7 +3,7 @@ ghost use Rattle.clap.specs.declared.builder.command.Command.{Command as AComman
 ghost use Rattle.clap.specs.declared.builder.command.Command.TheViews.{out-Command};
 ghost use Rattle.clap.specs.Words.{AddsArg, AddsSubcommand, all_of, app_of, fault_of, first_value, found_of, kind_of, new_app, rows_of, rule_of, subcommand_name_of, subcommand_of, subcommand_rows_of, with_rule};
 ghost use Rattle.tenant_classes.specs.declared.own_class.TheConstants.{OWN_LIMIT};
-ghost use Rattle.radoscls_program.specs.CommandLine.{Asks, AsksNoTask, AsksNothing, AsksTask, asm_line, caller_rule, class_rule, cluster_line, command_line, dis_line, image_line, methods_rule, option_rule, pack_line, plain_line, required_rule, run_line, sim_line, trace_rule, verify_line};
+ghost use Rattle.radoscls_program.specs.CommandLine.{Asks, AsksNoTask, AsksNothing, AsksTask, asm_line, caller_rule, class_rule, cluster_line, command_line, dis_line, image_line, methods_rule, option_rule, pack_line, plain_line, required_rule, run_line, sim_line, stats_rule, trace_rule, verify_line};
 ghost use Rattle.radoscls_program.specs.Arguments.{AsksBy, IsClientNumber, NamesCall, NamesCluster, NamesFiles, NamesSim, TakesCluster, TakesPacking, TakesSim, is_set, number_in, texts_of};
 ghost use Rattle.radoscls_program.specs.Own.{Owns, are_own};
 ghost use Rattle.radoscls_program.specs.Raw.{AreRaw};
@@ -209,13 +209,24 @@ fn sim_command<'a>(alloc: Global) -> Result<Command<'a>, AllocError>
     with_arg(with_arg(of_events, class_option(alloc)), trace_flag(alloc))
 }
 
+/// The flag that has a run measured.
+fn stats_flag<'a>(alloc: Global) -> Arg<'a>
+    ensures rule { rule_of result ≡ stats_rule }
+    ensures local { result.global ≡ false }
+{
+    Arg::new(alloc, "stats")
+        .long("stats")
+        .action(ArgAction::SetTrue)
+        .help("Writes what the run took to standard error")
+}
+
 fn cluster_command<'a>(alloc: Global) -> Result<Command<'a>, AllocError>
     ensures line { IfOk result (λ c. app_of c ≡ cluster_line) }
     ensures local { IfOk result (λ c. (out-Command c).has_globals ≡ false) }
 {
     let about = "Plays clients' calls on a cluster in threads";
     let of_calls = file_command(alloc, "cluster", about, "FILE", CLUSTER_FILE);
-    with_arg(of_calls, class_option(alloc))
+    with_arg(with_arg(of_calls, class_option(alloc)), stats_flag(alloc))
 }
 
 /// The command without its subcommands, of which one has to be there.
@@ -423,7 +434,7 @@ fn task_of<'a>(alloc: Global, matches: &ArgMatches<'a>) -> Result<Option<Task<'a
 {
     if let Some(found) = matches.subcommand_matches("cluster") {
         return match cluster_of(alloc, found)? {
-            Some(clustering) => Ok(Some(Task::Cluster(clustering))),
+            Some(clustering) => Ok(Some(Task::Cluster(clustering, is_set(found, "stats")))),
             None => Ok(None),
         };
     }

@@ -1,5 +1,6 @@
 ghost use Rattle.std.specs.Prelude.{◌≡◌, ◌≢◌, true, false, map};
 ghost use Rattle.clap.specs.Words.{kind_of};
+ghost use Rattle.radoscls_program.specs.Clustered.{ClusterEnds};
 ghost use Rattle.radoscls_program.specs.Playing.{SimEnds};
 ghost use Rattle.radoscls_program.specs.Program.{Ends, IsDone, IsRefused, IsUsage, Responds, TaskEnds};
 ghost use Rattle.radoscls_program.specs.Status.{code_of};
@@ -12,12 +13,14 @@ use crate::task::Task;
 use crate::threads::play_cluster;
 use clap::error::{Error, ErrorKind};
 use class_tool::{Answer, Failure, Files, Output, Reads, find};
+use cluster_tool::{Clustering, Figures};
 use sim::{Ending, Simulation, simulate};
 use std::alloc::Global;
 use std::convert::AsStr;
 use std::io;
 use std::sync::Wait;
 use std::thread::Threads;
+use std::time::Clock;
 
 /// Prints a failure's line.
 pub fn refuse<O: Output>(failure: Failure, out: &mut O) -> Status
@@ -59,20 +62,49 @@ fn play<F: Reads, O: Output>(
     }
 }
 
+/// Plays a file of calls and maps on a cluster. What that took is written to `err`, where it is asked for.
+fn measure<R: Threads + Wait + Clock + Sync, F: Reads, O: Output, E: io::Write>(
+    alloc: Global,
+    rt: &R,
+    files: &F,
+    asked: &Clustering<'_>,
+    is_measured: bool,
+    out: &mut O,
+    err: &mut E,
+) -> Status
+    ensures { ClusterEnds (F.disk files.now) (stream O.printed O.failed out.old) (stream O.printed O.failed out.new) asked.now result }
+{
+    let figures = Figures::new();
+    let status = play_cluster(alloc, rt, files, asked, &figures, out);
+    if is_measured && status == Status::Done {
+        let _ = write!(err, "{figures}");
+    }
+    status
+}
+
 /// Does what the words ask for, and prints it.
-fn do_task<R: Threads + Wait + Sync, F: Files, O: Output>(
+fn do_task<R: Threads + Wait + Clock + Sync, F: Files, O: Output, E: io::Write>(
     alloc: Global,
     rt: &R,
     files: &mut F,
     task: &Task<'_>,
     out: &mut O,
+    err: &mut E,
 ) -> Status
     ensures { TaskEnds (F.disk files.old) (F.disk files.new) (stream O.printed O.failed out.old) (stream O.printed O.failed out.new) task.now result }
 {
     match task {
         Task::Class(action) => respond(find(alloc, files, action), out),
         Task::Sim(simulation) => play(alloc, files, simulation, out),
-        Task::Cluster(clustering) => play_cluster(alloc, rt, files, clustering, out),
+        Task::Cluster(asked, is_measured) => measure(
+            alloc,
+            rt,
+            files,
+            asked,
+            *is_measured,
+            out,
+            err,
+        ),
     }
 }
 
@@ -90,19 +122,18 @@ fn explain<O: Output, E: io::Write>(error: &Error, out: &mut O, err: &mut E) -> 
 }
 
 /// Does what the words ask for, and says why where they name no task.
-pub(crate) fn perform<S: AsStr, R: Threads + Wait + Sync, F: Files, O: Output, E: io::Write>(
-    alloc: Global,
-    rt: &R,
-    words: &[S],
-    files: &mut F,
-    out: &mut O,
-    err: &mut E,
-) -> Status
+pub(crate) fn perform<
+    S: AsStr,
+    R: Threads + Wait + Clock + Sync,
+    F: Files,
+    O: Output,
+    E: io::Write,
+>(alloc: Global, rt: &R, words: &[S], files: &mut F, out: &mut O, err: &mut E) -> Status
     ensures { Ends (F.disk files.old) (F.disk files.new) (stream O.printed O.failed out.old) (stream O.printed O.failed out.new) (map S.text words.now) result }
 {
     match parse(alloc, words) {
         Ok(task) => {
-            let status = do_task(alloc, rt, files, &task, out);
+            let status = do_task(alloc, rt, files, &task, out, err);
             drop(task);
             status
         }
@@ -122,8 +153,9 @@ pub(crate) fn perform<S: AsStr, R: Threads + Wait + Sync, F: Files, O: Output, E
 /// that `asm` or `pack` names for the image, and that one only where the text or the raw code is right. `sim` prints of each line of its file what it
 /// comes to before the next is done; `cluster` prints its lines once all calls have ended.
 ///
-/// `cluster` starts threads by `rt` and waits for them: nothing is said of when it ends.
-pub fn program<S: AsStr, R: Threads + Wait + Sync, F: Files, O: Output, E: io::Write>(
+/// `cluster` starts threads by `rt` and waits for them: nothing is said of when it ends. With `--stats` what the run took
+/// is written to `err`.
+pub fn program<S: AsStr, R: Threads + Wait + Clock + Sync, F: Files, O: Output, E: io::Write>(
     alloc: Global,
     rt: &R,
     words: &[S],

@@ -14,6 +14,7 @@ use std::process::ExitCode;
 use std::rt::{Env, Files};
 use std::sync::Wait;
 use std::thread::Threads;
+use std::time::Clock;
 use std::{env, io};
 
 /// The words of the command line, of which the first is the program's own name.
@@ -22,7 +23,7 @@ fn words<R: Env + AllocGlobal>(rt: &R) -> io::Result<Vec<String>> {
 }
 
 /// Runs the program on those words, or says why there are none.
-fn end_of<R: Threads + Wait + Sync, F: class_tool::Files, O: Output, E: io::Write>(
+fn end_of<R: Threads + Wait + Clock + Sync, F: class_tool::Files, O: Output, E: io::Write>(
     alloc: Global,
     rt: &R,
     words: &io::Result<Vec<String>>,
@@ -41,11 +42,11 @@ fn end_of<R: Threads + Wait + Sync, F: class_tool::Files, O: Output, E: io::Writ
 
 /// Runs the program on the process's own words and files, and gives what the process ends with: `program`'s answer, or 1
 /// where its words could not be read, of which a line is printed.
-pub fn start<R: Env + Files + AllocGlobal + Input + Threads + Wait + Sync, O: Output, E: io::Write>(
-    rt: &R,
-    out: &mut O,
-    err: &mut E,
-) -> ExitCode
+pub fn start<
+    R: Env + Files + AllocGlobal + Input + Threads + Wait + Clock + Sync,
+    O: Output,
+    E: io::Write,
+>(rt: &R, out: &mut O, err: &mut E) -> ExitCode
     ensures { (status : AStatus) × (exit_status result ≡ code_of status) × Starts None None (stream O.printed O.failed out.old) (stream O.printed O.failed out.new) status }
 {
     let mut files = SystemFiles::new(rt);

@@ -10,5 +10,5 @@ pub(crate) enum Task<'a> {
     /// A file of events, played.
     Sim(Simulation<'a>),
     /// A file of calls and maps, played on a cluster in threads.
-    Cluster(Clustering<'a>),
+    Cluster(Clustering<'a>, bool),
 }

@@ -5,22 +5,24 @@ ghost use Rattle.radoscls_program.specs.Streams.{stream};
 use crate::perform::refuse;
 use crate::status::Status;
 use class_tool::{Failure, Output, Reads};
-use cluster_tool::{Clustering, Ending, cluster};
+use cluster_tool::{Clustering, Ending, Figures, cluster};
 use std::alloc::Global;
 use std::sync::Wait;
 use std::thread::Threads;
+use std::time::Clock;
 
 /// Plays a file of calls and maps, and prints why where that comes to nothing or ends for want of memory.
-pub(crate) fn play_cluster<R: Threads + Wait + Sync, F: Reads, O: Output>(
+pub(crate) fn play_cluster<R: Threads + Wait + Clock + Sync, F: Reads, O: Output>(
     alloc: Global,
     rt: &R,
     files: &F,
     asked: &Clustering<'_>,
+    figures: &Figures,
     out: &mut O,
 ) -> Status
     ensures { ClusterEnds (F.disk files.now) (stream O.printed O.failed out.old) (stream O.printed O.failed out.new) asked.now result }
 {
-    match cluster(alloc, rt, files, asked, out) {
+    match cluster(alloc, rt, files, asked, figures, out) {
         Ok(Ending::Done) => Status::Done,
         Ok(Ending::Bad) => Status::Refused,
         Ok(Ending::Refused) => Status::Refused,

@@ -10,6 +10,7 @@ use std::process::ExitCode;
 use std::rt::Files as Granted;
 use std::sync::Wait;
 use std::thread::Threads;
+use std::time::Clock;
 
 /// How many bytes the long file has.
 const LONG: usize = 5_000;
@@ -109,7 +110,7 @@ fn tell_of_files<R: Granted + AllocGlobal + Input + Print>(rt: &R) -> io::Result
 }
 
 /// Runs the program on those words: its status, and whether it explained its use.
-fn call<R: Granted + AllocGlobal + Input + Threads + Wait + Sync, O: io::Write>(
+fn call<R: Granted + AllocGlobal + Input + Threads + Wait + Clock + Sync, O: io::Write>(
     rt: &R,
     words: &[&str],
     out: &mut O,
@@ -122,10 +123,10 @@ fn call<R: Granted + AllocGlobal + Input + Threads + Wait + Sync, O: io::Write>(
 }
 
 /// Runs the program on each of the words, and tells the status.
-fn tell_of_calls<R: Granted + AllocGlobal + Input + Print + Threads + Wait + Sync, O: io::Write>(
-    rt: &R,
-    out: &mut O,
-) -> io::Result<()> {
+fn tell_of_calls<
+    R: Granted + AllocGlobal + Input + Print + Threads + Wait + Clock + Sync,
+    O: io::Write,
+>(rt: &R, out: &mut O) -> io::Result<()> {
     for words in CALLS {
         let (status, explained) = call(rt, words, out);
         println!(rt; "status {status}, explained: {explained}")?;

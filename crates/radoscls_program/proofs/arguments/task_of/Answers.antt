@@ -8,7 +8,8 @@ pub returns-in-Some-2-clause-asked : goal.returns-in-Some-2-clause-asked
 returns-in-Some-2-clause-asked c =
     let entered = c.in-Some.ensures in
     let takes = c.in_ok-clustering.ensures.some in
-    asks_cluster c.args.matches.now c.in-Some.found.now (entered.found.0 refl) entered.rows c.in-Some-2.clustering (rw c.in-Some-2.is at takes)
+    asks_cluster c.args.matches.now c.in-Some.found.now (entered.found.0 refl) entered.rows c.in-Some-2.clustering c.is_set.result
+    (rw c.in-Some-2.is at takes) c.is_set.ensures
 
 pub returns-in-None-clause-unasked : goal.returns-in-None-clause-unasked
 returns-in-None-clause-unasked c =

@@ -1,0 +1,155 @@
+//! What many clients call.
+
+use std::alloc::{AllocError, Global};
+use std::fmt::Write;
+
+/// How many objects there are.
+pub const OBJECTS: u32 = 6;
+
+/// The nodes that are up from the first, second and third map on. All three are up at first.
+const MAPS: [&str; 3] = ["0 1", "1 2", "0 1 2"];
+
+/// How many clients there are, how often each calls between two maps, and how many groups there are.
+#[derive(Clone, Copy)]
+pub struct Size {
+    pub clients: u32,
+    pub calls: u32,
+    pub groups: u32,
+}
+
+/// What a call asks of its object.
+#[derive(Clone, Copy)]
+pub enum Asks {
+    Lock,
+    Unlock,
+    /// The first four bytes become this one.
+    Write(u8),
+    /// The first eight bytes.
+    Read,
+}
+
+/// A call.
+#[derive(Clone, Copy)]
+pub struct Planned {
+    pub client: u32,
+    /// Which of its client's calls it is, from 0 on.
+    pub number: u32,
+    /// How many maps come before it.
+    pub maps: usize,
+    pub object: u32,
+    pub asks: Asks,
+}
+
+/// All calls, by client from 1 on, and those of a client in their order.
+#[derive(Drop)]
+pub struct Plan {
+    pub size: Size,
+    pub calls: Vec<Planned>,
+}
+
+/// Numbers that look random, always the same.
+#[derive(Drop)]
+struct Dice {
+    state: u32,
+}
+
+impl Dice {
+    /// A number below 65,536.
+    fn throw(&mut self) -> u32 {
+        self.state = self
+            .state
+            .wrapping_mul(1_664_525)
+            .wrapping_add(1_013_904_223);
+        self.state >> 16
+    }
+
+    /// What is asked: a lock, an unlock, a write or a read.
+    fn asks(&mut self) -> Asks {
+        match self.throw() % 4 {
+            0 => Asks::Lock,
+            1 => Asks::Unlock,
+            2 => Asks::Write((self.throw() % 256) as u8),
+            _ => Asks::Read,
+        }
+    }
+}
+
+impl Plan {
+    /// The calls of a cluster of that size.
+    pub fn new(alloc: Global, size: Size) -> Result<Plan, AllocError> {
+        let mut dice = Dice { state: 48 };
+        let mut calls = Vec::new(alloc);
+        for client in 1..=size.clients {
+            push_calls(&mut calls, &mut dice, client, size.calls)?;
+        }
+        Ok(Plan { size, calls })
+    }
+
+    /// The file of these calls.
+    pub fn text(&self, alloc: Global) -> Result<String, AllocError> {
+        let mut text = String::new(alloc);
+        let groups = self.size.groups;
+        write!(
+            text,
+            "cluster nodes 3 replicas 3 groups {groups} shards 4 workers 4 tries 100000000\n"
+        )?;
+        self.push_lines(&mut text, 0)?;
+        for (before, nodes) in MAPS.iter().enumerate() {
+            write!(text, "map {nodes}\n")?;
+            self.push_lines(&mut text, before + 1)?;
+        }
+        Ok(text)
+    }
+
+    /// Adds the lines of the calls that come after that many maps.
+    fn push_lines(&self, text: &mut String, maps: usize) -> Result<(), AllocError> {
+        for call in &self.calls {
+            if call.maps == maps {
+                push_line(text, call)?;
+            }
+        }
+        Ok(())
+    }
+}
+
+/// Adds a client's calls: that many before, between and after the maps.
+fn push_calls(
+    calls: &mut Vec<Planned>,
+    dice: &mut Dice,
+    client: u32,
+    count: u32,
+) -> Result<(), AllocError> {
+    let mut number: u32 = 0;
+    for maps in 0..=MAPS.len() {
+        for _ in 0..count {
+            let object = dice.throw() % OBJECTS;
+            let asks = dice.asks();
+            calls.push(Planned {
+                client,
+                number,
+                maps,
+                object,
+                asks,
+            })?;
+            number = number.wrapping_add(1);
+        }
+    }
+    Ok(())
+}
+
+/// Adds the line of a call.
+fn push_line(text: &mut String, call: &Planned) -> Result<(), AllocError> {
+    let client = call.client;
+    let object = call.object;
+    write!(text, "client {client} o{object} ")?;
+    match call.asks {
+        Asks::Lock => write!(text, "lock lock -\n")?,
+        Asks::Unlock => write!(text, "lock unlock -\n")?,
+        Asks::Write(b) => write!(
+            text,
+            "obj write 0000000000000000{b:02x}{b:02x}{b:02x}{b:02x}\n"
+        )?,
+        Asks::Read => write!(text, "obj read 00000000000000000800000000000000\n")?,
+    }
+    Ok(())
+}
