@@ -21,7 +21,7 @@ use std::thread::{Threads, join, yield_now};
 pub const TURNS: u32 = 1_000_000;
 
 /// The looks without an answer after which a request is sent again.
-const LOOKS: u32 = 300;
+const LOOKS: u32 = 100;
 
 /// A client's request of the lock on an object.
 pub fn lock(alloc: Global, client: ClientId, number: u32, object: &str) -> Option<Request> {

@@ -11,6 +11,9 @@ use std::thread::yield_now;
 /// The turns in which messages would come that aren't to.
 const IDLE: u32 = 500;
 
+/// The calls under losses.
+const CALLS: u32 = 5;
+
 /// The nodes of the cluster, all of which act.
 pub const NODES: u64 = 3;
 
@@ -133,13 +136,13 @@ impl Fate for Mixed {
     }
 }
 
-/// Ten calls under that fate.
+/// Some calls under that fate.
 #[derive(Drop)]
-struct Ten {
+struct Several {
     alloc: Global,
 }
 
-impl Ten {
+impl Several {
     fn is_next<N: ClusterName, R: Wait>(
         &self,
         running: &Running<N, R>,
@@ -156,13 +159,13 @@ impl Ten {
     }
 }
 
-impl Calls for Ten {
+impl Calls for Several {
     fn calls<N: ClusterName, R: Wait>(&self, running: &Running<N, R>) -> bool {
         let Some(mut opened) = running.open() else {
             return false;
         };
         let mut done = true;
-        for number in 1..=10u32 {
+        for number in 1..=CALLS {
             done = done && self.is_next(running, &mut opened, number);
         }
         done
@@ -172,6 +175,6 @@ impl Calls for Ten {
 #[test]
 fn each_call_gets_one_place_under_losses(rt: HostRuntime) {
     let alloc = rt.alloc();
-    let done = served(rt, alloc, config(NODES, 3, 1, 1), &Ten { alloc }, &Mixed);
+    let done = served(rt, alloc, config(NODES, 3, 1, 1), &Several { alloc }, &Mixed);
     assert!(rt; done == Some(true));
 }
