@@ -2,12 +2,12 @@
 //! where none is refused.
 
 use crate::limits::IMAGE;
-use crate::served::{Part, config, play};
+use crate::served::{Alone, Part, config, play};
 use object_store::ObjectName;
 use osd::{LoggedEntry, LoggedError, PassAll};
 use placement::NodeId;
 use rados_client::{
-    ClassId, Cluster, ClusterName, ConfigError, ExecError, LoadError, Reply, Running, Session,
+    ClassId, Cluster, ClusterName, ConfigError, ExecError, Reply, RunError, Running, Session,
 };
 use std::alloc::Global;
 use std::sync::Wait;
@@ -15,8 +15,8 @@ use std::sync::Wait;
 const LOCK: usize = 0;
 
 /// A cluster of one node. Where memory is refused the first time, it is made the second.
-fn cluster(alloc: Global) -> Option<Cluster> {
-    let config = config(1, 100_000_000);
+fn cluster(alloc: Global, tries: u32) -> Option<Cluster> {
+    let config = config(1, tries);
     match Cluster::new(alloc, config) {
         Ok(cluster) => Some(cluster),
         Err(ConfigError::NoMemory) => Cluster::new(alloc, config).ok(),
@@ -112,10 +112,46 @@ impl Part for Kept {
 
 #[test]
 fn what_a_refused_allocation_leaves(rt: HostRuntime) {
-    let mut cluster = cluster(rt.alloc()).expect(&rt, "a cluster");
+    let mut cluster = cluster(rt.alloc(), 100_000_000).expect(&rt, "a cluster");
     let loaded = loads(&mut cluster);
     let (parts, table) = cluster.start().expect(&rt, "its parts");
     drop(cluster);
     let played = play(rt.alloc(), rt, parts, table, &PassAll, &Kept(rt.alloc()));
     assert!(rt; loaded && played != Some(false));
+}
+
+/// A call without a worker. No node refuses it, so want of memory is the session's: nothing was sent, and the number is
+/// kept.
+#[derive(Drop)]
+struct Unsent(Global);
+
+impl Part for Unsent {
+    fn act<N: ClusterName, R: Wait>(&self, running: &Running<N, R>) -> bool {
+        let Some(object) = object(self.0) else {
+            return false;
+        };
+        let Ok(mut session) = Session::open(running) else {
+            return false;
+        };
+        let (nothing, answer) = match lock(&mut session, self.0, &object) {
+            Err(ExecError::NoMemory) => (
+                session.retry().is_err_and(|e| e == ExecError::NothingSent),
+                lock(&mut session, self.0, &object),
+            ),
+            answer => (true, answer),
+        };
+        nothing && answer.is_err_and(|e| e == ExecError::Unanswered)
+    }
+}
+
+#[test]
+fn a_call_without_memory_keeps_its_number(rt: HostRuntime) {
+    let mut cluster = cluster(rt.alloc(), 1).expect(&rt, "a cluster");
+    let unsent = Alone(Unsent(rt.alloc()));
+    let is_so = match cluster.run(rt, &unsent) {
+        Ok(is_so) => is_so,
+        Err(error) => error == RunError::NoMemory,
+    };
+    drop(cluster);
+    assert!(rt; is_so);
 }

@@ -57,6 +57,9 @@ module _ {A : Type 0} where
 pub knows_self : (old : List (List ClientRequest)) → KnowsMore old old
 knows_self old i = prefix_self (list_at old i)
 
+pub knows_same : (old new : List (List ClientRequest)) → new ≡ old → KnowsMore old new
+knows_same old new e = subst (λ (l : List (List ClientRequest)). KnowsMore old l) (sym e) (knows_self old)
+
 pub knows_more : (a b c : List (List ClientRequest)) → KnowsMore a b → KnowsMore b c → KnowsMore a c
 knows_more a b c p q i = prefix_trans (list_at a i) (list_at b i) (list_at c i) (p i) (q i)
 

@@ -1,4 +1,8 @@
-use Rattle.rados_client.proofs.Asking.{grew_more, knows_more, is_asked, taken_in, untaken_in}
+use Rattle.std.proofs.Common.{sym, ap, ◌∙◌}
+use Rattle.std.proofs.lemmas.Bool.{true≢false}
+use Rattle.rados_client.specs.declared.patience.Patience.{Patience}
+use Rattle.rados_client.proofs.Asking.{grew_more, knows_more, knows_same, is_asked, not_asked_same, taken_in, untaken_in}
+use Rattle.rados_client.proofs.connection.Connection.ask.Goals.{in-Ok, in-Err-Full}
 use Rattle.rados_client.proofs.connection.Connection.ask.Goals as goal
 
 pub returns-in-Some-clause-some : goal.returns-in-Some-clause-some
@@ -19,3 +23,24 @@ loop-preserved g c =
       taken = taken_in old.sends mid.sends new.sends c.args.request.now c.loop.patience.taken c.try_once.new.patience.taken before.taken before.grew now.grew now.taken;
       untaken = untaken_in old.sends mid.sends new.sends c.args.request.now c.loop.patience.taken c.try_once.new.patience.taken before.untaken now.grew now.untaken;
     }
+
+pub loop-init : goal.loop-init
+loop-init g c =
+    let old = c.args.self.now in
+    let new = c.submit.new.self in
+    let seen = knows_same old.seen new.seen c.submit.ensures.seen in
+    let grew = c.submit.ensures.grew in
+    elim c.match-submit.branch [
+      | in-Ok w ↦ record {
+        seen = seen;
+        grew = grew;
+        taken = λ _. w.in-Ok.ensures.taken;
+        untaken = λ not. absurd (true≢false (sym (ap (λ (p : Patience). p.taken) w.patience-is ∙ w.after_taken-patience.ensures) ∙ not));
+      }
+      | in-Err-Full w ↦ record {
+        seen = seen;
+        grew = grew;
+        taken = λ is. absurd (true≢false (sym is ∙ (ap (λ (p : Patience). p.taken) w.patience-is ∙ w.after_full-patience.ensures)));
+        untaken = λ _. not_asked_same old.sends new.sends c.args.request.now w.in-Err-Full.ensures.kept;
+      }
+    ]
