@@ -1,6 +1,8 @@
 -- How what one try says adds up over a call.
-use Rattle.std.proofs.Common.{◌≡◌, ◌⊎◌, ℕ, zero, suc, ◌≤◌, List, [], ◌∷◌, ◌++◌, length, Bool, true, false, Some, Result, Ok, Err, refl, sym, ap, ◌∙◌, subst, inl, inr, append_assoc, arith, length-append}
-use Rattle.std.specs.Prelude.{slice_get, IfSome, IfErr, IsTrue, MatchBool}
+use Rattle.std.proofs.Common.{◌≡◌, ◌⊎◌, ℕ, zero, suc, ◌≤◌, ◌<◌, List, [], ◌∷◌, ◌++◌, length, Bool, true, false, Some, Result, Ok, Err, refl, sym, ap, ◌∙◌, subst, inl, inr, append_assoc, arith, length-append}
+use Rattle.std.specs.Prelude.{slice_get, All, IfErr, IsTrue, IsFalse, MatchBool}
+use Rattle.std.proofs.lemmas.Bool.{cases_lt}
+use Rattle.std.proofs.lemmas.Option.{get_or_from_slice_get, slice_get_past, slice_get_within}
 use Rattle.std.proofs.lemmas.List.{append-nil}
 use mathlib.Core.List.{IsPrefix}
 use Rattle.pg_log.specs.Requests.{ClientRequest}
@@ -8,11 +10,16 @@ use Rattle.pg_log.specs.Log.{Classes, Reply as Answer}
 use Rattle.group_cell.specs.Posts.{Stands}
 use Rattle.commit_board.specs.Lists.{list_at}
 use Rattle.op_shards.specs.Passes.{Sender, at_shard, Grew, WasSent}
+use Rattle.op_shards.specs.declared.rule.Ranked.{Ranked}
+use Rattle.group_world.specs.declared.event.Event.TheVariants.{Request as ARequest}
 use Rattle.carried.specs.declared.operation.Operation.{Operation}
+use Rattle.carried.specs.declared.operation.Carried.TheVariants.{Plain}
+use Rattle.osd.specs.Sent.{OnlySent, IsNoRequest, IsOwn}
 use Rattle.rados_client.specs.declared.exec_error.ExecError.{ExecError}
 use Rattle.rados_client.specs.declared.exec_error.ExecError.TheVariants as exec
 use Rattle.rados_client.specs.Session.{Contact, PlacedReply, KnowsMore}
-use Rattle.rados_client.specs.Promise.{IsAnswered, IsAsked, Says, WasAsked}
+use Rattle.rados_client.specs.Found.{IsAnswer}
+use Rattle.rados_client.specs.Promise.{IsAnswered, IsAsked, NotAsked, Says, WasAsked}
 
 module _ {A : Type 0} where
   pub prefix_self : (xs : List A) → IsPrefix xs xs
@@ -32,8 +39,26 @@ module _ {A : Type 0} where
   prefix_get : (xs ys : List A) (k : ℕ) (x : A) → IsPrefix xs ys → slice_get xs k ≡ Some x → slice_get ys k ≡ Some x
   prefix_get xs ys k x p e = subst (λ (l : List A). slice_get l k ≡ Some x) p.1 (still_there xs p.0 k x e)
 
+  -- nothing stands past a list's end
+  past : (xs : List A) (k : ℕ) (x : A) → length xs ≤ k → slice_get xs k ≡ Some x → ⊥
+  past xs k x le e = cc (e, slice_get_past xs k le)
+
+  -- what stands in a list that goes on stands before the end that it had, or in the rest
+  before : (xs rest : List A) (k : ℕ) (x : A) → k < length xs → slice_get (xs ++ rest) k ≡ Some x → slice_get xs k ≡ Some x
+  before [] rest k x lt e = absurd (omega (arith, lt))
+  before (y ∷ ys) rest zero x lt e = e
+  before (y ∷ ys) rest (suc k) x lt e = before ys rest k x (omega (arith, lt)) e
+
+  rest_has : (P : A → Type 0) (xs rest : List A) (k : ℕ) (x : A) → length xs ≤ k → slice_get (xs ++ rest) k ≡ Some x → All P rest → P x
+  rest_has P [] rest k x le e all = subst P (get_or_from_slice_get rest k x x e) (all k x (slice_get_within rest k x e))
+  rest_has P (y ∷ ys) rest zero x le e all = absurd (omega (arith, le))
+  rest_has P (y ∷ ys) rest (suc k) x le e all = rest_has P ys rest k x (omega (arith, le)) e all
+
 pub knows_self : (old : List (List ClientRequest)) → KnowsMore old old
 knows_self old i = prefix_self (list_at old i)
+
+pub knows_same : (old new : List (List ClientRequest)) → new ≡ old → KnowsMore old new
+knows_same old new e = subst (λ (l : List (List ClientRequest)). KnowsMore old l) (sym e) (knows_self old)
 
 pub knows_more : (a b c : List (List ClientRequest)) → KnowsMore a b → KnowsMore b c → KnowsMore a c
 knows_more a b c p q i = prefix_trans (list_at a i) (list_at b i) (list_at c i) (p i) (q i)
@@ -56,32 +81,60 @@ asked_in r s t u q before w after =
       so = w.so;
     }
 
--- a refusal says what it said of a part of the call
-pub says_in : (classes : Classes) (r : ClientRequest) (A B : Type 0) (e : ExecError) → (A → B) → Says classes r A e → Says classes r B e
-says_in classes r A B exec.NotPrimary f s = s
-says_in classes r A B exec.Peering f s = s
-says_in classes r A B exec.LogFull f s = s
-says_in classes r A B exec.StaleNumber f s = s
-says_in classes r A B exec.NoClass f s = s
-says_in classes r A B exec.NoMethod f s = s
-says_in classes r A B exec.InputTooLong f s = s
-says_in classes r A B exec.NoMemory f s = s
-says_in classes r A B exec.Unanswered f s = f s
-says_in classes r A B exec.NothingSent f s = s
-says_in classes r A B exec.NumbersUsedUp f s = s
-says_in classes r A B exec.NotTaken f s = s
+-- what no queue took in either part of the call, none took in the call
+not_asked_at : (s t u : Sender Operation) (r : ClientRequest) → NotAsked s t r → NotAsked t u r → Grew t u → (w : WasAsked s u r)
+    → (w.rank < length (at_shard t.accepted w.shard)) ⊎ (length (at_shard t.accepted w.shard) ≤ w.rank) → ⊥
+not_asked_at s t u r f g h w (inl lt) =
+    let p = h.begins w.shard in
+    let there = before (at_shard t.accepted w.shard) p.0 w.rank w.x lt (subst (λ (l : List (Ranked Operation)). slice_get l w.rank ≡ Some w.x) (sym p.1) w.there) in
+    f (record { shard = w.shard; rank = w.rank; x = w.x; new = w.new; there = there; so = w.so })
+not_asked_at s t u r f g h w (inr le) = g (record { shard = w.shard; rank = w.rank; x = w.x; new = le; there = w.there; so = w.so })
 
--- what a later part of the call promises, the call promises
-err_in : (classes : Classes) (a b c : Sender Operation) (r : ClientRequest) (result : Result PlacedReply ExecError) → Grew a b → IfErr result (Says classes r (WasAsked b c r)) → IfErr result (Says classes r (WasAsked a c r))
-err_in classes a b c r (Ok reply) g k = tt
-err_in classes a b c r (Err e) g k = says_in classes r (WasAsked b c r) (WasAsked a c r) e (λ w. asked_in a b c c r g w (grew_self c)) k
+pub not_asked_in : (s t u : Sender Operation) (r : ClientRequest) → NotAsked s t r → NotAsked t u r → Grew t u → NotAsked s u r
+not_asked_in s t u r f g h w = not_asked_at s t u r f g h w (cases_lt w.rank (length (at_shard t.accepted w.shard)))
 
-pub is_asked_in : (classes : Classes) (a b c : Contact) (r : ClientRequest) (result : Result PlacedReply ExecError) → KnowsMore a.seen b.seen → Grew a.sends b.sends → IsAsked classes b c r result → IsAsked classes a c r result
-is_asked_in classes a b c r result known grew k = record {
-  seen = knows_more a.seen b.seen c.seen known k.seen;
-  grew = grew_more a.sends b.sends c.sends grew k.grew;
-  ok = k.ok;
-  err = err_in classes a.sends b.sends c.sends r result grew k.err;
+pub not_asked_self : (s : Sender Operation) (r : ClientRequest) → NotAsked s s r
+not_asked_self s r w = past (at_shard s.accepted w.shard) w.rank w.x w.new w.there
+
+pub not_asked_same : (s t : Sender Operation) (r : ClientRequest) → t ≡ s → NotAsked s t r
+not_asked_same s t r e = subst (λ (u : Sender Operation). NotAsked s u r) (sym e) (not_asked_self s r)
+
+no_request : (group : ℕ) (op : Operation) (r : ClientRequest) → IsOwn group op → op.carried ≡ Plain (ARequest r) → ⊥
+no_request group op r h e = subst IsNoRequest e h.1
+
+-- what a nudge submits is no request of a client
+pub own_not_asked : (group : ℕ) (s t : Sender Operation) (r : ClientRequest) → OnlySent s t (IsOwn group) → NotAsked s t r
+own_not_asked group s t r o w =
+    let there = subst (λ (l : List (Ranked Operation)). slice_get l w.rank ≡ Some w.x) (sym (o.kept w.shard)) w.there in
+    no_request group w.x.op r (rest_has (λ (x : Ranked Operation). IsOwn group x.op) (at_shard s.accepted w.shard) (o.since w.shard) w.rank w.x w.new there (o.each w.shard)) w.so
+
+-- a node's refusal says the same, whatever the queues took
+says_anyway : (classes : Classes) (r : ClientRequest) (A B : Type 0) (e : ExecError) → Says classes r ⊥ ⊥ e → Says classes r A B e
+says_anyway classes r A B exec.NotPrimary s = s
+says_anyway classes r A B exec.Peering s = s
+says_anyway classes r A B exec.LogFull s = s
+says_anyway classes r A B exec.StaleNumber s = s
+says_anyway classes r A B exec.NoClass s = s
+says_anyway classes r A B exec.NoMethod s = s
+says_anyway classes r A B exec.InputTooLong s = s
+says_anyway classes r A B exec.NoMemory s = s
+says_anyway classes r A B exec.Unanswered s = absurd s
+says_anyway classes r A B exec.NothingSent s = s
+says_anyway classes r A B exec.NumbersUsedUp s = s
+says_anyway classes r A B exec.NotTaken s = absurd s
+
+err_anyway : (classes : Classes) (r : ClientRequest) (A B : Type 0) (result : Result PlacedReply ExecError) → IfErr result (Says classes r ⊥ ⊥) → IfErr result (Says classes r A B)
+err_anyway classes r A B (Ok reply) k = tt
+err_anyway classes r A B (Err e) k = says_anyway classes r A B e k
+
+-- what a look found the call answers
+pub is_asked : (classes : Classes) (old mid new : Contact) (r : ClientRequest) (result : Result PlacedReply ExecError) → KnowsMore old.seen mid.seen → KnowsMore mid.seen new.seen
+    → Grew old.sends mid.sends → Grew mid.sends new.sends → IsAnswer classes new.seen r result → IsAsked classes old new r result
+is_asked classes old mid new r result known now grew more a = record {
+  seen = knows_more old.seen mid.seen new.seen known now;
+  grew = grew_more old.sends mid.sends new.sends grew more;
+  ok = a.ok;
+  err = err_anyway classes r (WasAsked old.sends new.sends r) (NotAsked old.sends new.sends r) result a.err;
 }
 
 -- whether a queue took the request before a try, or in it
@@ -93,18 +146,24 @@ pub taken_in : (old mid new : Sender Operation) (r : ClientRequest) (before now 
     → (IsTrue now → IsTrue before ⊎ WasAsked mid new r) → IsTrue now → WasAsked old new r
 taken_in old mid new r before now f g h t is = taken_or old mid new r before f g h (t is)
 
+pub untaken_in : (old mid new : Sender Operation) (r : ClientRequest) (before now : Bool) → (IsFalse before → NotAsked old mid r) → Grew mid new
+    → (IsFalse now → IsFalse before × NotAsked mid new r) → IsFalse now → NotAsked old new r
+untaken_in old mid new r before now f h t is = not_asked_in old mid new r (f (t is).0) (t is).1 h
+
 -- the end of the tries says whether a queue took the request
-end_says : (classes : Classes) (r : ClientRequest) (Taken : Type 0) (taken : Bool) (e : ExecError) → MatchBool taken (e ≡ exec.Unanswered) (e ≡ exec.NotTaken) → (IsTrue taken → Taken) → Says classes r Taken e
-end_says classes r Taken true e m f = subst (λ x. Says classes r Taken x) (sym m) (f refl)
-end_says classes r Taken false e m f = subst (λ x. Says classes r Taken x) (sym m) tt
+end_says : (classes : Classes) (r : ClientRequest) (Taken Untaken : Type 0) (taken : Bool) (e : ExecError) → MatchBool taken (e ≡ exec.Unanswered) (e ≡ exec.NotTaken)
+    → (IsTrue taken → Taken) → (IsFalse taken → Untaken) → Says classes r Taken Untaken e
+end_says classes r Taken Untaken true e m f g = subst (λ x. Says classes r Taken Untaken x) (sym m) (f refl)
+end_says classes r Taken Untaken false e m f g = subst (λ x. Says classes r Taken Untaken x) (sym m) (g refl)
 
 pub ends : (classes : Classes) (old new : Contact) (r : ClientRequest) (taken : Bool) (e : ExecError) → KnowsMore old.seen new.seen → Grew old.sends new.sends
-    → (IsTrue taken → WasAsked old.sends new.sends r) → MatchBool taken (e ≡ exec.Unanswered) (e ≡ exec.NotTaken) → IsAsked classes old new r (Err e)
-ends classes old new r taken e known grew f m = record {
+    → (IsTrue taken → WasAsked old.sends new.sends r) → (IsFalse taken → NotAsked old.sends new.sends r) → MatchBool taken (e ≡ exec.Unanswered) (e ≡ exec.NotTaken)
+    → IsAsked classes old new r (Err e)
+ends classes old new r taken e known grew f g m = record {
   seen = known;
   grew = grew;
   ok = tt;
-  err = end_says classes r (WasAsked old.sends new.sends r) taken e m f;
+  err = end_says classes r (WasAsked old.sends new.sends r) (NotAsked old.sends new.sends r) taken e m f g;
 }
 
 -- a reply whose note a session has heard is true by what the session knows

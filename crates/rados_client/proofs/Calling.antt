@@ -7,21 +7,21 @@ use Rattle.rados_client.specs.declared.exec_error.ExecError.{ExecError}
 use Rattle.rados_client.specs.declared.exec_error.ExecError.TheVariants as exec
 use Rattle.std.proofs.lemmas.List.{append-nil}
 use Rattle.rados_client.specs.Session.{SessionState, PlacedReply, next_request}
-use Rattle.rados_client.specs.Promise.{IsAsked, IsCall, IsUsed, NumberAt, Says, SaysNew, WasAsked}
+use Rattle.rados_client.specs.Promise.{IsAsked, IsCall, IsUsed, NotAsked, NumberAt, Says, SaysNew, WasAsked}
 
-number_at : (classes : Classes) (old new : SessionState) (r : ClientRequest) (Taken : Type 0) (e : ExecError) → IsUsed old new r → Says classes r Taken e → NumberAt old new r e
-number_at classes old new r Taken exec.NotPrimary u s = s
-number_at classes old new r Taken exec.Peering u s = s
-number_at classes old new r Taken exec.LogFull u s = u
-number_at classes old new r Taken exec.StaleNumber u s = u
-number_at classes old new r Taken exec.NoClass u s = u
-number_at classes old new r Taken exec.NoMethod u s = u
-number_at classes old new r Taken exec.InputTooLong u s = u
-number_at classes old new r Taken exec.NoMemory u s = inl u
-number_at classes old new r Taken exec.Unanswered u s = u
-number_at classes old new r Taken exec.NothingSent u s = s
-number_at classes old new r Taken exec.NumbersUsedUp u s = absurd s
-number_at classes old new r Taken exec.NotTaken u s = u
+number_at : (classes : Classes) (old new : SessionState) (r : ClientRequest) (Taken Untaken : Type 0) (e : ExecError) → IsUsed old new r → Says classes r Taken Untaken e → NumberAt old new r e
+number_at classes old new r Taken Untaken exec.NotPrimary u s = s
+number_at classes old new r Taken Untaken exec.Peering u s = s
+number_at classes old new r Taken Untaken exec.LogFull u s = u
+number_at classes old new r Taken Untaken exec.StaleNumber u s = u
+number_at classes old new r Taken Untaken exec.NoClass u s = u
+number_at classes old new r Taken Untaken exec.NoMethod u s = u
+number_at classes old new r Taken Untaken exec.InputTooLong u s = u
+number_at classes old new r Taken Untaken exec.NoMemory u s = inl u
+number_at classes old new r Taken Untaken exec.Unanswered u s = u
+number_at classes old new r Taken Untaken exec.NothingSent u s = s
+number_at classes old new r Taken Untaken exec.NumbersUsedUp u s = absurd s
+number_at classes old new r Taken Untaken exec.NotTaken u s = u
 
 module _ (classes : Classes) (old new : SessionState) (r : ClientRequest) where
   err_of : (result : Result PlacedReply ExecError) → IsAsked classes old.contact new.contact r result → IfErr result (SaysNew classes old new r)
@@ -34,14 +34,14 @@ module _ (classes : Classes) (old new : SessionState) (r : ClientRequest) where
 
   number_of : (result : Result PlacedReply ExecError) → IsUsed old new r → IsAsked classes old.contact new.contact r result → IfErr result (NumberAt old new r)
   number_of (Ok reply) u a = tt
-  number_of (Err e) u a = number_at classes old new r (WasAsked old.contact.sends new.contact.sends r) e u a.err
+  number_of (Err e) u a = number_at classes old new r (WasAsked old.contact.sends new.contact.sends r) (NotAsked old.contact.sends new.contact.sends r) e u a.err
 
   -- no answer to a request says that all numbers are used up
   not_used_up : (result : Result PlacedReply ExecError) → IsAsked classes old.contact new.contact r result → result ≡ Err exec.NumbersUsedUp → ⊥
   not_used_up (Ok reply) a e = cc e
   not_used_up (Err why) a e =
       let is : why ≡ exec.NumbersUsedUp = cc e in
-      subst (λ (x : ExecError). Says classes r (WasAsked old.contact.sends new.contact.sends r) x) is a.err
+      subst (λ (x : ExecError). Says classes r (WasAsked old.contact.sends new.contact.sends r) (NotAsked old.contact.sends new.contact.sends r) x) is a.err
 
   pub is_call : (result : Result PlacedReply ExecError) → suc old.used < 2 ^ 32 → new.client ≡ old.client → IsUsed old new r → IsAsked classes old.contact new.contact r result → IsCall classes old new r result
   is_call result few client u a = record {

@@ -10,22 +10,24 @@ use Rattle.builtin_classes.specs.BuiltIn.{AreLoaded}
 use Rattle.builtin_classes.specs.declared.lock.TheConstants.{LOCK}
 use Rattle.builtin_classes.specs.declared.obj.TheConstants.{OBJ}
 use Rattle.pg_log.specs.Log.{Classes}
+use Rattle.osd.specs.declared.config.Config.{Config}
 use Rattle.rados_client.specs.declared.load_error.LoadError.{LoadError}
 use Rattle.rados_client.specs.declared.load_error.LoadError.TheVariants as load
 
--- a cluster: how many classes are loaded, and which, by id; none where it has run
+-- a cluster: how many classes are loaded; what it is made of, and which classes, by id, where it hasn't run
 pub record ClusterState : Type 0 where
   pub count : ℕ
+  pub config : Option Config
   pub classes : Option Classes
 
 -- `lock` and `obj`, in this order
 abbrev pub IsBuiltIn : Classes → Type 0
 IsBuiltIn classes = AreLoaded LOCK.now OBJ.now classes
 
--- the cluster has these two classes
-pub record HasBuiltIn (s : ClusterState) : Type 0 where
+-- the cluster is made of that, and has these two classes
+pub record HasBuiltIn (config : Config) (s : ClusterState) : Type 0 where
   pub table : Classes
-  pub is : s ≡ record { count = 2; classes = Some table }
+  pub is : s ≡ record { count = 2; config = Some config; classes = Some table }
   pub built_in : IsBuiltIn table
 
 -- the class is the image's, and it is accepted
@@ -33,14 +35,14 @@ pub record IsVerified (image : List ℕ) (class : List ClassMethod) : Type 0 whe
   pub read : image_of image ≡ Ok class
   pub accepted : class_verdict class ≡ None
 
--- the image's class, which is accepted, is one more at the end, and its id is that place
+-- the image's class, which is accepted, is one more at the end, and its id is that place; what the cluster is made of stays
 pub record IsAdded (image : List ℕ) (old new : ClusterState) (id : ℕ) : Type 0 where
   pub class : List ClassMethod
   pub verified : IsVerified image class
   pub before : Classes
-  pub had : old ≡ record { count = id; classes = Some before }
+  pub had : old ≡ record { count = id; config = old.config; classes = Some before }
   pub place : id ≡ length before
-  pub has : new ≡ record { count = suc id; classes = Some (before ++ class ∷ []) }
+  pub has : new ≡ record { count = suc id; config = old.config; classes = Some (before ++ class ∷ []) }
 
 abbrev pub verdict_refusal : Option Refusal → Option LoadError
 verdict_refusal None = None

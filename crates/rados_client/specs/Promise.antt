@@ -33,28 +33,32 @@ pub record IsAnswerIn (classes : Classes) (r : ClientRequest) (reply : PlacedRep
 abbrev pub WasAsked : Sender Operation → Sender Operation → ClientRequest → Type 0
 WasAsked old new r = WasSent old new (λ op. op.carried ≡ Plain (ARequest r))
 
+-- from the one state of a pass to the other no queue took the whole request
+abbrev pub NotAsked : Sender Operation → Sender Operation → ClientRequest → Type 0
+NotAsked old new r = WasAsked old new r → ⊥
+
 -- What a refusal says: of the request, by the loaded classes, and of the queues that it was submitted to. Taken says
--- that one took it in this call.
-abbrev pub Says : Classes → ClientRequest → Type 0 → ExecError → Type 0
-Says classes r Taken exec.NotPrimary = ⊥
-Says classes r Taken exec.Peering = ⊥
-Says classes r Taken exec.LogFull = ⊤
-Says classes r Taken exec.StaleNumber = ⊤
-Says classes r Taken exec.NoClass = refusal_of_class (slice_get classes r.class) r ≡ Some log.NoClass
-Says classes r Taken exec.NoMethod = refusal_of_class (slice_get classes r.class) r ≡ Some log.NoMethod
-Says classes r Taken exec.InputTooLong = refusal_of_class (slice_get classes r.class) r ≡ Some log.InputTooLong
-Says classes r Taken exec.NoMemory = ⊤
-Says classes r Taken exec.Unanswered = Taken
-Says classes r Taken exec.NothingSent = ⊥
-Says classes r Taken exec.NumbersUsedUp = ⊥
-Says classes r Taken exec.NotTaken = ⊤
+-- that one took it in this call, Untaken that none did.
+abbrev pub Says : Classes → ClientRequest → Type 0 → Type 0 → ExecError → Type 0
+Says classes r Taken Untaken exec.NotPrimary = ⊥
+Says classes r Taken Untaken exec.Peering = ⊥
+Says classes r Taken Untaken exec.LogFull = ⊤
+Says classes r Taken Untaken exec.StaleNumber = ⊤
+Says classes r Taken Untaken exec.NoClass = refusal_of_class (slice_get classes r.class) r ≡ Some log.NoClass
+Says classes r Taken Untaken exec.NoMethod = refusal_of_class (slice_get classes r.class) r ≡ Some log.NoMethod
+Says classes r Taken Untaken exec.InputTooLong = refusal_of_class (slice_get classes r.class) r ≡ Some log.InputTooLong
+Says classes r Taken Untaken exec.NoMemory = ⊤
+Says classes r Taken Untaken exec.Unanswered = Taken
+Says classes r Taken Untaken exec.NothingSent = ⊥
+Says classes r Taken Untaken exec.NumbersUsedUp = ⊥
+Says classes r Taken Untaken exec.NotTaken = Untaken
 
 -- The whole of what asking for a request promises, of what the session shares with the cluster.
 pub record IsAsked (classes : Classes) (old new : Contact) (r : ClientRequest) (result : Result PlacedReply ExecError) : Type 0 where
   pub seen : KnowsMore old.seen new.seen
   pub grew : Grew old.sends new.sends
   pub ok : IfOk result (IsAnswered classes new.seen r)
-  pub err : IfErr result (Says classes r (WasAsked old.sends new.sends r))
+  pub err : IfErr result (Says classes r (WasAsked old.sends new.sends r) (NotAsked old.sends new.sends r))
 
 -- the request's number is used up, and the request is the one that was sent last
 abbrev pub IsUsed : SessionState → SessionState → ClientRequest → Type 0
@@ -79,7 +83,8 @@ NumberAt old new r exec.NotTaken = IsUsed old new r
 -- what a new request's refusal says: there is no number for it, or as above
 abbrev pub SaysNew : Classes → SessionState → SessionState → ClientRequest → ExecError → Type 0
 SaysNew classes old new r e =
-    ((e ≡ exec.NumbersUsedUp) × (old.used ≡ 2 ^ 32 - 1)) ⊎ Says classes r (WasAsked old.contact.sends new.contact.sends r) e
+    ((e ≡ exec.NumbersUsedUp) × (old.used ≡ 2 ^ 32 - 1))
+    ⊎ Says classes r (WasAsked old.contact.sends new.contact.sends r) (NotAsked old.contact.sends new.contact.sends r) e
 
 -- What a call of a new request promises.
 pub record IsCall (classes : Classes) (old new : SessionState) (r : ClientRequest) (result : Result PlacedReply ExecError) : Type 0 where

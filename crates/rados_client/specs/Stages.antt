@@ -5,5 +5,5 @@ use Rattle.rados_client.specs.declared.cluster.Stage.TheVariants.{Idle, Started}
 use Rattle.rados_client.specs.Loading.{ClusterState}
 
 abbrev pub state_of : Stage → ClusterState
-state_of (Idle parts table) = record { count = length table; classes = Some table }
-state_of (Started n) = record { count = n; classes = None }
+state_of (Idle parts table) = record { count = length table; config = Some parts.config; classes = Some table }
+state_of (Started n) = record { count = n; config = None; classes = None }

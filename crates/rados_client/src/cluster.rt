@@ -19,8 +19,8 @@ use std::thread::Threads;
 use verifier::{Rule, VerifiedClass, verify};
 
 /// A cluster of nodes in one process, before and after it runs. Classes are loaded before; then a scenario is run on
-/// it, which opens sessions and brings the threads. Contracts see how many classes are loaded, and which, before it
-/// runs.
+/// it, which opens sessions and brings the threads. Contracts see how many classes are loaded; before it runs also what it
+/// is made of, and which classes.
 #[derive(Drop)]
 pub struct Cluster {
     alloc: Global,
@@ -52,7 +52,7 @@ impl Cluster {
     /// limits, else `NoMemory`.
     pub fn new(alloc: Global, config: Config) -> Result<Cluster, ConfigError>
         ensures limit { (result ≡ Err ConfigError.Limit) ↔ (is_within_limits config ≡ false) }
-        ensures loaded { IfOk result HasBuiltIn }
+        ensures made { IfOk result (HasBuiltIn config) }
     {
         if !config.is_within_limits() {
             return Err(ConfigError::Limit);
@@ -97,9 +97,10 @@ impl Cluster {
     /// Gives the parts and the classes to who names the cluster (`Running::named`) and brings its threads: a scenario of
     /// `run` can start none. From then on the cluster has started. None exactly where it had started before.
     pub fn start(&mut self) -> Option<(Parts, ClassTable)>
-        ensures given { MatchOption result (self.old.classes ≡ None) (λ p. self.old.classes ≡ Some p.1) }
+        ensures given { MatchOption result (self.old.classes ≡ None) (λ p. (self.old.config ≡ Some p.0.config) × (self.old.classes ≡ Some p.1)) }
         ensures spent { self.new ≡ record {
           count = self.old.count;
+          config = None;
           classes = None;
         } }
     {
@@ -124,6 +125,7 @@ impl Cluster {
         ensures started { (result ≡ Err Started) ↔ (self.old.classes ≡ None) }
         ensures spent { self.new ≡ record {
           count = self.old.count;
+          config = None;
           classes = None;
         } }
     {

@@ -1,8 +1,8 @@
-ghost use Rattle.std.specs.Prelude.{◌≡◌, ◌⊎◌, ◌+◌, ◌-◌, ◌^◌, min, IsTrue, IfSome, IfNone, IfOk, OnOk, OnErr};
+ghost use Rattle.std.specs.Prelude.{◌≡◌, ◌⊎◌, ◌+◌, ◌-◌, ◌^◌, min, IsTrue, IsFalse, IfSome, IfNone, IfOk, OnOk, OnErr};
 ghost use Rattle.op_shards.specs.Passes.{Grew};
-ghost use Rattle.rados_client.specs.Found.{IsFound};
+ghost use Rattle.rados_client.specs.Found.{IsAnswer, IsFound};
 ghost use Rattle.rados_client.specs.Session.{KnowsMore};
-ghost use Rattle.rados_client.specs.Promise.{IsAnswered, IsAsked, Says, WasAsked};
+ghost use Rattle.rados_client.specs.Promise.{IsAnswered, IsAsked, NotAsked, Says, WasAsked};
 
 use crate::exec_error::ExecError;
 use crate::found::Found;
@@ -122,7 +122,8 @@ impl<'a, N: ClusterName, R: Wait> Connection<'a, N, R> {
         ensures seen { KnowsMore self.old.seen self.new.seen }
         ensures grew { Grew self.old.sends self.new.sends }
         ensures taken { IsTrue patience.new.taken → IsTrue patience.old.taken ⊎ WasAsked self.old.sends self.new.sends request.now }
-        ensures some { IfSome result (IsAsked N.classes self.old self.new request.now) }
+        ensures untaken { IsFalse patience.new.taken → IsFalse patience.old.taken × NotAsked self.old.sends self.new.sends request.now }
+        ensures some { IfSome result (IsAnswer N.classes self.new.seen request.now) }
     {
         if patience.is_over() {
             self.submit_again(request, patience);
@@ -159,6 +160,7 @@ impl<'a, N: ClusterName, R: Wait> Connection<'a, N, R> {
         ensures seen { self.new.seen ≡ self.old.seen }
         ensures grew { Grew self.old.sends self.new.sends }
         ensures taken { IsTrue patience.new.taken → IsTrue patience.old.taken ⊎ WasAsked self.old.sends self.new.sends request.now }
+        ensures untaken { IsFalse patience.new.taken → IsFalse patience.old.taken × NotAsked self.old.sends self.new.sends request.now }
     {
         self.nudge(request);
         match self.submit(request) {
@@ -172,6 +174,7 @@ impl<'a, N: ClusterName, R: Wait> Connection<'a, N, R> {
     fn nudge(&mut self, request: &Request)
         ensures seen { self.new.seen ≡ self.old.seen }
         ensures grew { Grew self.old.sends self.new.sends }
+        ensures untaken { NotAsked self.old.sends self.new.sends request.now }
         ensures counted { self.new.nudges ≡ min (self.old.nudges + 1) (2 ^ 64 - 1) }
     {
         let group = self.running.group_of(request.object());

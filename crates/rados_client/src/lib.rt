@@ -2,7 +2,8 @@
 //! methods beside objects. Where `exec` or `retry` answers Ok, the session then knows a list of requests that begins
 //! with all that it had seen or been told of that list, and in a legal beginning of it the whole request stands once,
 //! at the reply's place, and is answered there as the reply says (`specs/Promise.antt`). A refusal by class, method or
-//! input is true, and where a call is unanswered a queue took the request. `tell` and `hear` hand on what was seen.
+//! input is true; after `Unanswered` a queue took the request in that call, after `NotTaken` none did. `tell` and `hear`
+//! hand on what was seen.
 #![tactic(auto)]
 
 mod call;

@@ -1,0 +1,372 @@
+//! Calls of one session, and of two that tell each other.
+
+use crate::served::{Part, config, is_so, is_so_alone};
+use object_store::ObjectName;
+use pg_log::{ClientId, Request, RequestNumber};
+use placement::NodeId;
+use rados_client::{ClassId, ClusterName, ExecError, Running, Session};
+use std::alloc::Global;
+use std::process::Abort;
+use std::sync::Wait;
+use std::thread::yield_now;
+
+const LOCK: usize = 0;
+
+const OBJ: usize = 1;
+
+/// The place and the code of a reply, or the number of the refusal and 0.
+fn outcome<N: ClusterName, R: Wait>(
+    session: &mut Session<'_, N, R>,
+    alloc: Global,
+    object: &ObjectName,
+    class: usize,
+    method: &str,
+    input: &[u8],
+) -> (usize, i64) {
+    match session.exec(alloc, object, ClassId::new(class), method, input) {
+        Ok(reply) => (reply.place(), reply.code()),
+        Err(error) => (usize::from(error.number()), 1_000),
+    }
+}
+
+/// Eight zero bytes and a length of five.
+const FIRST_FIVE: [u8; 16] = [0, 0, 0, 0, 0, 0, 0, 0, 5, 0, 0, 0, 0, 0, 0, 0];
+
+/// Writes five bytes, and reads them into buffers of four and of five.
+#[derive(Drop)]
+struct Hello(Global);
+
+fn writes<N: ClusterName, R: Wait>(
+    session: &mut Session<'_, N, R>,
+    alloc: Global,
+    object: &ObjectName,
+) -> i64 {
+    match session.write(alloc, object, 0, b"hello") {
+        Ok(reply) => reply.code(),
+        Err(_) => -1,
+    }
+}
+
+fn reads<N: ClusterName, R: Wait>(
+    session: &mut Session<'_, N, R>,
+    alloc: Global,
+    object: &ObjectName,
+    buffer: &mut [u8],
+) -> i64 {
+    let class = ClassId::new(OBJ);
+    match session.exec_into(alloc, object, class, "read", &FIRST_FIVE, buffer) {
+        Ok(answer) => answer,
+        Err(_) => -1,
+    }
+}
+
+/// How many entries a node's log of a group has.
+fn entries<N: ClusterName, R: Wait>(running: &Running<N, R>, group: usize) -> usize {
+    match running.logged(NodeId::new(0), group) {
+        Ok(entries) => entries.len(),
+        Err(_) => 1_000,
+    }
+}
+
+impl Part for Hello {
+    fn act<N: ClusterName, R: Wait>(&self, running: &Running<N, R>) -> bool {
+        let Ok(object) = ObjectName::new(self.0, "a") else {
+            return false;
+        };
+        let Ok(mut session) = Session::open(running) else {
+            return false;
+        };
+        let mut four = [7u8; 4];
+        let mut five = [7u8; 5];
+        let written = writes(&mut session, self.0, &object);
+        let short = reads(&mut session, self.0, &object, &mut four);
+        let whole = reads(&mut session, self.0, &object, &mut five);
+        let stand = entries(running, running.group_of(&object));
+        written == 5
+            && short == -34
+            && whole == 5
+            && four == [7; 4]
+            && five == *b"hello"
+            && stand == 3
+    }
+}
+
+#[test]
+fn hello_is_read_into_five_bytes_and_not_into_four(rt: HostRuntime) {
+    assert!(rt; is_so(&rt, rt.alloc(), config(1, 100_000_000), &Hello(rt.alloc())));
+}
+
+/// What the calls of `obj` answer, one after another on one object.
+#[derive(Drop)]
+struct Objects(Global);
+
+fn xattrs<N: ClusterName, R: Wait>(
+    session: &mut Session<'_, N, R>,
+    alloc: Global,
+    object: &ObjectName,
+) -> bool {
+    let set = session
+        .setxattr(alloc, object, "k", b"v")
+        .is_ok_and(|r| r.code() == 0);
+    let got = session
+        .getxattr(alloc, object, "k")
+        .is_ok_and(|r| r.code() == 1 && r.output() == b"v".as_slice());
+    set && got
+}
+
+fn data<N: ClusterName, R: Wait>(
+    session: &mut Session<'_, N, R>,
+    alloc: Global,
+    object: &ObjectName,
+) -> bool {
+    let stat = session.stat(alloc, object).is_ok_and(|r| r.code() == 5);
+    let read = session
+        .read(alloc, object, 1, 3)
+        .is_ok_and(|r| r.code() == 3 && r.output() == b"ell".as_slice());
+    let removed = session.remove(alloc, object).is_ok_and(|r| r.code() == 0);
+    let gone = session.stat(alloc, object).is_ok_and(|r| r.code() == -2);
+    stat && read && removed && gone
+}
+
+impl Part for Objects {
+    fn act<N: ClusterName, R: Wait>(&self, running: &Running<N, R>) -> bool {
+        let Ok(object) = ObjectName::new(self.0, "a") else {
+            return false;
+        };
+        let Ok(mut session) = Session::open(running) else {
+            return false;
+        };
+        let written = writes(&mut session, self.0, &object);
+        written == 5 && xattrs(&mut session, self.0, &object) && data(&mut session, self.0, &object)
+    }
+}
+
+#[test]
+fn the_six_calls_of_obj(rt: HostRuntime) {
+    assert!(rt;
+        is_so(
+            &rt,
+            rt.alloc(),
+            config(1, 100_000_000),
+            &Objects(rt.alloc())
+        )
+    );
+}
+
+/// Refusals: a class that isn't loaded, a method that isn't there, an input that is too long; and the answer again by
+/// `retry`.
+#[derive(Drop)]
+struct Refusals(Global);
+
+impl Part for Refusals {
+    fn act<N: ClusterName, R: Wait>(&self, running: &Running<N, R>) -> bool {
+        let Ok(object) = ObjectName::new(self.0, "a") else {
+            return false;
+        };
+        let Ok(mut session) = Session::open(running) else {
+            return false;
+        };
+        let nothing = session.retry().is_err_and(|e| e == ExecError::NothingSent);
+        let class = outcome(&mut session, self.0, &object, 64, "lock", b"");
+        let method = outcome(&mut session, self.0, &object, LOCK, "look", b"");
+        let input = outcome(&mut session, self.0, &object, LOCK, "lock", b"1");
+        let again = session.retry().is_err_and(|e| e == ExecError::InputTooLong);
+        let first = outcome(&mut session, self.0, &object, LOCK, "lock", b"");
+        let same = session
+            .retry()
+            .is_ok_and(|r| r.place() == 0 && r.code() == 0);
+        nothing
+            && class == (5, 1_000)
+            && method == (6, 1_000)
+            && input == (7, 1_000)
+            && again
+            && first == (0, 0)
+            && same
+    }
+}
+
+#[test]
+fn refusals_by_class_method_and_input(rt: HostRuntime) {
+    assert!(rt;
+        is_so(
+            &rt,
+            rt.alloc(),
+            config(1, 100_000_000),
+            &Refusals(rt.alloc())
+        )
+    );
+}
+
+/// With one try a call submits its request and doesn't look for the answer: it stands in the log, and neither it nor a
+/// repeat is answered.
+#[derive(Drop)]
+struct OneTry(Global);
+
+/// Whether the session's call comes to stand in the log, and is answered by no repeat until then.
+fn comes_to_stand<N: ClusterName, R: Wait>(
+    running: &Running<N, R>,
+    session: &mut Session<'_, N, R>,
+) -> bool {
+    for _ in 0..1_000_000 {
+        if entries(running, 0) == 1 {
+            return true;
+        }
+        if session.retry().is_ok() {
+            return false;
+        }
+        yield_now();
+    }
+    false
+}
+
+/// Whether one of a hundred repeats is answered.
+fn is_answered<N: ClusterName, R: Wait>(session: &mut Session<'_, N, R>) -> bool {
+    for _ in 0..100 {
+        if session.retry().is_ok() {
+            return true;
+        }
+        yield_now();
+    }
+    false
+}
+
+impl Part for OneTry {
+    fn act<N: ClusterName, R: Wait>(&self, running: &Running<N, R>) -> bool {
+        let Ok(object) = ObjectName::new(self.0, "a") else {
+            return false;
+        };
+        let Ok(mut session) = Session::open(running) else {
+            return false;
+        };
+        let first = outcome(&mut session, self.0, &object, LOCK, "lock", b"");
+        let stands = comes_to_stand(running, &mut session);
+        first == (9, 1_000) && stands && !is_answered(&mut session)
+    }
+}
+
+#[test]
+fn one_try_is_the_submit(rt: HostRuntime) {
+    assert!(rt; is_so(&rt, rt.alloc(), config(1, 1), &OneTry(rt.alloc())));
+}
+
+/// Another one uses the session's client number: the session's second call is stale after number 3.
+#[derive(Drop)]
+struct Stale(Global);
+
+/// The client's third request.
+fn third(alloc: Global, client: ClientId, object: &ObjectName) -> Option<Request> {
+    let number = RequestNumber::new(3)?;
+    let object = object.copy(alloc).ok()?;
+    let method = String::from_str(alloc, "lock").ok()?;
+    let input = Vec::new(alloc);
+    Some(Request::new(client, number, object, LOCK, method, input))
+}
+
+/// Whether the client's third request is submitted.
+fn asks<N: ClusterName, R: Wait>(
+    running: &Running<N, R>,
+    alloc: Global,
+    client: ClientId,
+    object: &ObjectName,
+) -> bool {
+    match (running.open(), third(alloc, client, object)) {
+        (Some(mut other), Some(request)) => running.ask(&mut other.sends, &request).is_ok(),
+        _ => false,
+    }
+}
+
+impl Part for Stale {
+    fn act<N: ClusterName, R: Wait>(&self, running: &Running<N, R>) -> bool {
+        let Ok(object) = ObjectName::new(self.0, "a") else {
+            return false;
+        };
+        let Ok(mut session) = Session::open(running) else {
+            return false;
+        };
+        let first = outcome(&mut session, self.0, &object, LOCK, "lock", b"");
+        let asked = asks(running, self.0, session.client(), &object);
+        let second = outcome(&mut session, self.0, &object, LOCK, "lock", b"");
+        first == (0, 0) && asked && second == (4, 1_000)
+    }
+}
+
+#[test]
+fn a_number_below_a_logged_one_is_stale(rt: HostRuntime) {
+    assert!(rt; is_so(&rt, rt.alloc(), config(1, 100_000_000), &Stale(rt.alloc())));
+}
+
+/// The second session hears what the first has seen, and its next call stands behind it.
+#[derive(Drop)]
+struct Telling(Global);
+
+impl Part for Telling {
+    fn act<N: ClusterName, R: Wait>(&self, running: &Running<N, R>) -> bool {
+        let Ok(object) = ObjectName::new(self.0, "a") else {
+            return false;
+        };
+        let (Ok(mut first), Ok(mut second)) = (Session::open(running), Session::open(running))
+        else {
+            return false;
+        };
+        let one = outcome(&mut first, self.0, &object, LOCK, "lock", b"");
+        second.hear(first.tell());
+        let two = outcome(&mut second, self.0, &object, LOCK, "lock", b"");
+        first.client().get() == 1
+            && second.client().get() == 2
+            && one == (0, 0)
+            && two.0 > one.0
+            && two.1 == -16
+    }
+}
+
+#[test]
+fn a_session_that_heard_of_a_call_finds_its_own_behind_it(rt: HostRuntime) {
+    assert!(rt;
+        is_so(
+            &rt,
+            rt.alloc(),
+            config(1, 100_000_000),
+            &Telling(rt.alloc())
+        )
+    );
+}
+
+/// With one try and no worker a call is unanswered, until the queue of 1,024 places is full; then none is taken any
+/// more.
+#[derive(Drop)]
+struct Unserved(Global);
+
+/// How many calls in a row are unanswered, of 1,100 at most.
+fn unanswered<N: ClusterName, R: Wait>(
+    session: &mut Session<'_, N, R>,
+    alloc: Global,
+    object: &ObjectName,
+) -> usize {
+    for made in 0..1_100 {
+        if outcome(session, alloc, object, LOCK, "lock", b"") != (9, 1_000) {
+            return made;
+        }
+    }
+    1_100
+}
+
+impl Part for Unserved {
+    fn act<N: ClusterName, R: Wait>(&self, running: &Running<N, R>) -> bool {
+        let Ok(object) = ObjectName::new(self.0, "a") else {
+            return false;
+        };
+        let Ok(mut session) = Session::open(running) else {
+            return false;
+        };
+        let first = outcome(&mut session, self.0, &object, LOCK, "lock", b"");
+        let again = session.retry().is_err_and(|e| e == ExecError::Unanswered);
+        let made = unanswered(&mut session, self.0, &object);
+        let still = session.retry().is_err_and(|e| e == ExecError::NotTaken);
+        first == (9, 1_000) && again && 1_000 < made && made <= 1_022 && still
+    }
+}
+
+#[test]
+fn a_call_without_a_worker_is_unanswered_and_then_not_taken(rt: HostRuntime) {
+    assert!(rt; is_so_alone(&rt, rt.alloc(), config(1, 1), Unserved(rt.alloc())));
+}

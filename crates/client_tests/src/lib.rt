@@ -1,0 +1,16 @@
+//! A cluster as its users see it: sessions and workers in threads of their own. Each test ends by itself: workers stop
+//! when the calls are made, and a call has so many tries.
+#![tactic(auto)]
+
+#[cfg(test)]
+mod calls;
+#[cfg(test)]
+mod first_page;
+#[cfg(test)]
+mod limits;
+#[cfg(test)]
+mod losses;
+#[cfg(test)]
+mod memory;
+#[cfg(test)]
+mod served;

@@ -1,0 +1,246 @@
+//! What a cluster refuses: its numbers, its classes and its sessions; and how refusals print.
+
+use crate::served::{Alone, Part, config};
+use rados_client::{
+    Cluster, ClusterName, Config, ConfigError, ExecError, LoadError, OpenError, RunError, Running,
+    Session,
+};
+use std::alloc::Global;
+use std::fmt::Display;
+use std::process::Abort;
+use std::sync::Wait;
+
+/// A class with the method `f`, which answers 0.
+pub const IMAGE: [u8; 33] = [
+    0x52, 0x43, 0x4c, 0x31, 1, 0, 0, 0, 1, 0x66, 1, 0, 0, 0, 0, 2, 0, 0xb7, 0, 0, 0, 0, 0, 0, 0,
+    0x95, 0, 0, 0, 0, 0, 0, 0,
+];
+
+/// The same without its first instruction, so that it answers a register that isn't set.
+const UNSAFE: [u8; 25] = [
+    0x52, 0x43, 0x4c, 0x31, 1, 0, 0, 0, 1, 0x66, 1, 0, 0, 0, 0, 1, 0, 0x95, 0, 0, 0, 0, 0, 0, 0,
+];
+
+/// Numbers of a cluster, of which one is outside its limits.
+const OUTSIDE: [Config; 12] = [
+    Config {
+        nodes: 0,
+        replicas: 3,
+        groups: 64,
+        shards: 4,
+        workers: 4,
+        tries: 1,
+    },
+    Config {
+        nodes: 17,
+        replicas: 3,
+        groups: 64,
+        shards: 4,
+        workers: 4,
+        tries: 1,
+    },
+    Config {
+        nodes: 3,
+        replicas: 0,
+        groups: 64,
+        shards: 4,
+        workers: 4,
+        tries: 1,
+    },
+    Config {
+        nodes: 3,
+        replicas: 4,
+        groups: 64,
+        shards: 4,
+        workers: 4,
+        tries: 1,
+    },
+    Config {
+        nodes: 3,
+        replicas: 3,
+        groups: 0,
+        shards: 4,
+        workers: 4,
+        tries: 1,
+    },
+    Config {
+        nodes: 3,
+        replicas: 3,
+        groups: 3,
+        shards: 4,
+        workers: 4,
+        tries: 1,
+    },
+    Config {
+        nodes: 3,
+        replicas: 3,
+        groups: 128,
+        shards: 4,
+        workers: 4,
+        tries: 1,
+    },
+    Config {
+        nodes: 3,
+        replicas: 3,
+        groups: 64,
+        shards: 0,
+        workers: 4,
+        tries: 1,
+    },
+    Config {
+        nodes: 3,
+        replicas: 3,
+        groups: 64,
+        shards: 65,
+        workers: 4,
+        tries: 1,
+    },
+    Config {
+        nodes: 3,
+        replicas: 3,
+        groups: 64,
+        shards: 4,
+        workers: 0,
+        tries: 1,
+    },
+    Config {
+        nodes: 3,
+        replicas: 3,
+        groups: 64,
+        shards: 4,
+        workers: 17,
+        tries: 1,
+    },
+    Config {
+        nodes: 3,
+        replicas: 3,
+        groups: 64,
+        shards: 4,
+        workers: 4,
+        tries: 0,
+    },
+];
+
+fn is_outside(alloc: Global, config: Config) -> bool {
+    match Cluster::new(alloc, config) {
+        Ok(_) => false,
+        Err(error) => error == ConfigError::Limit,
+    }
+}
+
+#[test]
+fn numbers_outside_their_limits(rt: HostRuntime) {
+    for config in &OUTSIDE {
+        assert!(rt; is_outside(rt.alloc(), *config));
+    }
+}
+
+/// The id that a class gets, or 1,000 and the number of the refusal.
+fn loaded(cluster: &mut Cluster, image: &[u8]) -> usize {
+    match cluster.load_class(image) {
+        Ok(id) => id.get(),
+        Err(error) => 1_000 + usize::from(error.number()),
+    }
+}
+
+/// Whether classes are loaded with the ids from 2 to below `end`.
+fn load_many(cluster: &mut Cluster, end: usize) -> bool {
+    let mut all = true;
+    for id in 2..end {
+        all = all && loaded(cluster, &IMAGE) == id;
+    }
+    all
+}
+
+/// Opens sessions, each dropped before the next: 64, and a 65th is refused.
+#[derive(Drop)]
+struct Sessions(Global);
+
+fn opens<N: ClusterName, R: Wait>(running: &Running<N, R>, client: u32) -> bool {
+    match Session::open(running) {
+        Ok(session) => session.client().get() == client,
+        Err(_) => false,
+    }
+}
+
+impl Part for Sessions {
+    fn act<N: ClusterName, R: Wait>(&self, running: &Running<N, R>) -> bool {
+        let mut all = true;
+        for client in 1..=64 {
+            all = all && opens(running, client);
+        }
+        let more = Session::open(running).is_err_and(|e| e == OpenError::TooMany);
+        all && more
+    }
+}
+
+#[test]
+fn sixty_four_sessions_and_one_more(rt: HostRuntime) {
+    let mut cluster = Cluster::new(rt.alloc(), config(1, 1)).expect(&rt, "a cluster");
+    let ran = cluster
+        .run(rt, &Alone(Sessions(rt.alloc())))
+        .expect(&rt, "a run");
+    drop(cluster);
+    assert!(rt; ran);
+}
+
+#[test]
+fn classes_and_what_a_started_cluster_refuses(rt: HostRuntime) {
+    let mut cluster = Cluster::new(rt.alloc(), config(1, 1)).expect(&rt, "a cluster");
+    let refused = loaded(&mut cluster, b"RCL2") == 1_001 && loaded(&mut cluster, &UNSAFE) == 1_002;
+    let some = load_many(&mut cluster, 63);
+    let ran = cluster.run(rt, &Alone(Sessions(rt.alloc()))).is_ok();
+    let started = loaded(&mut cluster, &IMAGE) == 1_005 && loaded(&mut cluster, &UNSAFE) == 1_002;
+    let again = cluster
+        .run(rt, &Alone(Sessions(rt.alloc())))
+        .is_err_and(|e| e == RunError::Started);
+    drop(cluster);
+    assert!(rt; refused && some && ran && started && again);
+}
+
+#[test]
+fn sixty_four_classes_and_one_more(rt: HostRuntime) {
+    let mut cluster = Cluster::new(rt.alloc(), config(1, 1)).expect(&rt, "a cluster");
+    let some = load_many(&mut cluster, 64);
+    let more = loaded(&mut cluster, &IMAGE) == 1_003 && loaded(&mut cluster, b"RCL2") == 1_001;
+    let ran = cluster.run(rt, &Alone(Sessions(rt.alloc()))).is_ok();
+    let full = loaded(&mut cluster, &IMAGE) == 1_003;
+    drop(cluster);
+    assert!(rt; some && more && ran && full);
+}
+
+fn prints<T: Display, R: Abort>(rt: &R, alloc: Global, error: &T, text: &str) -> bool {
+    error.to_string(alloc).expect(rt, "memory").as_str() == text
+}
+
+const CALLS: [(ExecError, &str); 12] = [
+    (ExecError::NotPrimary, "1 NotPrimary"),
+    (ExecError::Peering, "2 Peering"),
+    (ExecError::LogFull, "3 LogFull"),
+    (ExecError::StaleNumber, "4 StaleNumber"),
+    (ExecError::NoClass, "5 NoClass"),
+    (ExecError::NoMethod, "6 NoMethod"),
+    (ExecError::InputTooLong, "7 InputTooLong"),
+    (ExecError::NoMemory, "8 NoMemory"),
+    (ExecError::Unanswered, "9 Unanswered"),
+    (ExecError::NothingSent, "10 NothingSent"),
+    (ExecError::NumbersUsedUp, "11 NumbersUsedUp"),
+    (ExecError::NotTaken, "12 NotTaken"),
+];
+
+#[test]
+fn refusals_of_calls_print_number_and_name(rt: HostRuntime) {
+    for row in &CALLS {
+        assert!(rt; prints(&rt, rt.alloc(), &row.0, row.1));
+    }
+}
+
+#[test]
+fn refusals_of_a_cluster_print_number_and_name(rt: HostRuntime) {
+    assert!(rt; prints(&rt, rt.alloc(), &ConfigError::Limit, "1 Limit"));
+    assert!(rt; prints(&rt, rt.alloc(), &ConfigError::NoMemory, "2 NoMemory"));
+    assert!(rt; prints(&rt, rt.alloc(), &LoadError::TooMany, "3 TooMany"));
+    assert!(rt; prints(&rt, rt.alloc(), &LoadError::Started, "5 Started"));
+    assert!(rt; prints(&rt, rt.alloc(), &OpenError::TooMany, "1 TooMany"));
+    assert!(rt; prints(&rt, rt.alloc(), &RunError::Started, "1 Started"));
+}
