@@ -4,4 +4,5 @@ pub mod Logged
 pub mod Maps
 pub mod Places
 pub mod Sent
+pub mod Turned
 pub mod Unnamed

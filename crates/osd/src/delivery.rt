@@ -1,5 +1,4 @@
 use crate::name::ClusterName;
-use carried::Carried;
 use group_cell::{Outgoing, Post};
 use placement::NodeId;
 use std::alloc::Global;

@@ -116,6 +116,16 @@ impl<N: ClusterName, R: Wait> Running<N, R> {
         self.mail.get(place)?.take(&self.rt)
     }
 
+    /// A node's part in a group, if there is one and the node isn't stopped. What a node takes and sends goes through here,
+    /// so what reaches a stopped node is lost, and it sends nothing again.
+    fn awake(&self, node: NodeId, group: usize) -> Option<&Mutex<GroupCell<N>>> {
+        let node = self.nodes.get(node.get() as usize)?;
+        if node.is_stopped() {
+            return None;
+        }
+        node.cell(group)
+    }
+
     /// A node's part in a group, if there is one.
     fn cell(&self, node: NodeId, group: usize) -> Option<&Mutex<GroupCell<N>>>
         ensures { MatchOption result (IsMissing N.config node group) (λ _. IsThere N.config node group) }

@@ -12,10 +12,10 @@ use std::sync::Wait;
 use std::thread::{Threads, join, yield_now};
 
 /// The calls to a worker that waits.
-const CALLS: u32 = 20;
+const CALLS: u32 = 8;
 
 /// The turns after which a worker that has nothing to do waits.
-const IDLE: u32 = 2000;
+const IDLE: u32 = 200;
 
 fn pause() {
     for _ in 0..IDLE {

@@ -2,6 +2,7 @@ ghost use Rattle.std.specs.Prelude.{◌≡◌, OnOk, OnErr};
 ghost use Rattle.op_shards.specs.Passes.{Grew, WasSent};
 ghost use Rattle.group_world.specs.declared.event.Event.TheVariants.{Request as ARequest};
 ghost use Rattle.carried.specs.declared.operation.Carried.TheVariants.{Plain};
+ghost use Rattle.placement.specs.Placement.{group_of};
 ghost use Rattle.osd.specs.Sent.{OnlySent, IsThat};
 
 use crate::ask_error::AskError;
@@ -20,6 +21,7 @@ impl<N: ClusterName, R: Wait> Running<N, R> {
     pub fn ask(&self, sends: &mut Sends<N>, request: &Request) -> Result<(), AskError>
         ensures grew { Grew sends.old sends.new }
         ensures sent { OnOk result (WasSent sends.old sends.new (λ op. op.carried ≡ Plain (ARequest request.now))) }
+        ensures group { OnOk result (WasSent sends.old sends.new (λ op. op.group ≡ group_of request.now.object N.config.groups)) }
         ensures kept { OnErr result (sends.new ≡ sends.old) }
     {
         let Ok(copy) = request.copy(self.alloc) else {

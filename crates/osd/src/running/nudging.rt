@@ -108,10 +108,7 @@ impl<N: ClusterName, R: Wait> Running<N, R> {
         ensures { All IsOfNodeOrLost result.items }
     {
         let nothing = Vec::new(self.alloc);
-        if self.is_stopped(node) {
-            return nothing;
-        }
-        let Some(cell) = self.cell(node, group) else {
+        let Some(cell) = self.awake(node, group) else {
             return nothing;
         };
         let sent = cell.lock(&self.rt).resend(self.alloc, &self.board);

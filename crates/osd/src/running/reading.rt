@@ -55,14 +55,6 @@ impl<N: ClusterName, R: Wait> Running<N, R> {
             None => Err(NoNode),
         }
     }
-
-    /// Whether a node is stopped.
-    pub(crate) fn is_stopped(&self, node: NodeId) -> bool {
-        match self.nodes.get(node.get() as usize) {
-            Some(node) => node.is_stopped(),
-            None => false,
-        }
-    }
 }
 
 /// The client, the number and the code of an entry.

@@ -1,6 +1,7 @@
-ghost use Rattle.std.specs.Prelude.{◌≡◌, ◌<◌, length};
+ghost use Rattle.std.specs.Prelude.{◌≡◌, ◌<◌, length, IfOk};
 ghost use Rattle.osd.specs.Gates.{gate_number};
 ghost use Rattle.osd.specs.Sent.{OnlySent, IsAny};
+ghost use Rattle.osd.specs.Turned.{WasTurn, IsLostOrTurn};
 
 use crate::delivery::Delivery;
 use crate::fate::{Deal, Fate, PassAll};
@@ -10,10 +11,11 @@ use crate::running::Running;
 use crate::sends::Sends;
 use crate::worker::Worker;
 use carried::{Carried, Operation};
-use group_cell::Outgoing;
+use commit_board::NoMemory;
+use group_cell::{GroupCell, Outgoing};
 use group_world::Event;
 use placement::NodeId;
-use std::sync::Wait;
+use std::sync::{Mutex, Wait};
 
 /// What a gate gets of an operation: for a client's request the client's number times 2^32 and the request's number, else
 /// 0.
@@ -177,19 +179,31 @@ impl<N: ClusterName, R: Wait> Running<N, R> {
         self.send(worker, fate, delivery);
     }
 
-    /// What a node's part in a group makes of what reaches it: nothing where the node is stopped.
-    fn handle(&self, group: usize, node: NodeId, carried: Carried) -> Vec<Option<Outgoing<N>>> {
+    /// What a node's part in a group makes of what reaches it: what goes out by a turn of its cell, or nothing where it is lost.
+    /// What reaches a stopped node is lost, and so is what memory is refused to.
+    fn handle(&self, group: usize, node: NodeId, carried: Carried) -> Vec<Option<Outgoing<N>>>
+        ensures { IsLostOrTurn N.classes carried result.items }
+    {
         let nothing = Vec::new(self.alloc);
-        if self.is_stopped(node) {
-            return nothing;
-        }
-        let Some(cell) = self.cell(node, group) else {
+        let Some(cell) = self.awake(node, group) else {
             return nothing;
         };
-        let sent = cell
-            .lock(&self.rt)
-            .turn(self.alloc, &self.board, &self.table, carried);
-        sent.unwrap_or(nothing)
+        match self.turn_of(cell, carried) {
+            Ok(out) => out,
+            Err(_) => nothing,
+        }
+    }
+
+    /// What goes out by a turn of that cell.
+    fn turn_of(
+        &self,
+        cell: &Mutex<GroupCell<N>>,
+        carried: Carried,
+    ) -> Result<Vec<Option<Outgoing<N>>>, NoMemory>
+        ensures { IfOk result (λ v. WasTurn N.classes carried v.items) }
+    {
+        cell.lock(&self.rt)
+            .turn(self.alloc, &self.board, &self.table, carried)
     }
 
     /// Sends it once more, if memory for the copy is there.

@@ -1,4 +1,4 @@
-use Rattle.std.proofs.Common.{refl, subst, sym}
+use Rattle.std.proofs.Common.{refl, subst}
 use Rattle.op_shards.specs.Passes.{Sender}
 use Rattle.carried.specs.declared.operation.Operation.{Operation}
 use Rattle.osd.specs.Sent.{OnlySent, IsThat}
