@@ -87,19 +87,24 @@ fn is_done(ended: &Ended, printed: &str) -> bool {
     ended.status == 0 && ended.printed.as_slice() == printed.as_bytes()
 }
 
-/// Whether the times fit one another, and a run that took so many nanoseconds at most.
-fn fit(stats: Stats, elapsed: u128) -> bool {
-    let calls = u128::from(stats.calls);
-    let rate = u128::from(stats.rate);
-    let mean = u128::from(stats.mean);
-    let worst = u128::from(stats.worst);
+/// Whether the times fit one another, and a run that took that many nanoseconds at most.
+fn fit(stats: Stats, elapsed: u64) -> bool {
+    let calls = stats.calls;
+    let worst = stats.worst;
     // the longest call is not shorter than the mean, not longer than all calls, and not longer than the run
-    mean <= worst
-        && worst < (mean + 1) * calls
-        && worst * 1_000 <= elapsed
+    stats.mean <= worst
+        && worst < stats.mean.saturating_add(1).saturating_mul(calls)
+        && worst.saturating_mul(1_000) <= elapsed
         // the run is not shorter than its longest call, and not longer than what was seen of it
-        && rate * worst <= calls * 1_000_000
-        && (rate + 1) * elapsed > calls * 1_000_000_000
+        && stats.rate.saturating_mul(worst) <= calls.saturating_mul(1_000_000)
+        && stats.rate.saturating_add(1).saturating_mul(elapsed)
+            > calls.saturating_mul(1_000_000_000)
+}
+
+/// The nanoseconds since that moment.
+fn nanoseconds_since<R: Abort + Clock>(rt: &R, start: Instant) -> u64 {
+    let elapsed = start.elapsed(rt).expect(rt, "a clock");
+    elapsed.as_nanos().min(u128::from(u64::MAX)) as u64
 }
 
 /// Four calls of two clients, before and after a map. A lock goes to two other nodes, both answer, and so does the
@@ -114,11 +119,11 @@ fn calls_and_messages_are_counted(rt: HostRuntime) {
         "client 1 call 0 place 0 code 0 output -\nclient 1 call 1 place 1 code 0 output -\n\
         client 2 call 0 place 0 code 0 output -\nclient 2 call 1 place 0 code 0 output -\n",
     );
-    let elapsed = start.elapsed(&rt).expect(&rt, "a clock");
+    let elapsed = nanoseconds_since(&rt, start);
     assert!(&rt; stats.calls == 4);
     assert!(&rt; stats.messages >= 20);
     assert!(&rt; stats.worst > 0);
-    assert!(&rt; fit(stats, elapsed.as_nanos()));
+    assert!(&rt; fit(stats, elapsed));
 }
 
 /// A node that is alone sends replies, one for each request at most.
@@ -132,7 +137,7 @@ fn a_node_that_is_alone_replies(rt: HostRuntime) {
     );
     assert!(&rt; stats.calls == 2);
     assert!(&rt; stats.messages >= 2);
-    assert!(&rt; stats.messages <= stats.repeats + 2);
+    assert!(&rt; stats.messages <= stats.repeats.saturating_add(2));
 }
 
 /// A call that has but one try is neither repeated nor nudged for.
