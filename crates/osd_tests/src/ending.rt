@@ -15,10 +15,10 @@ use std::thread::{Threads, join, yield_now};
 const WORKERS: u64 = 8;
 
 /// The clusters that are begun and ended.
-const CLUSTERS: u32 = 200;
+const CLUSTERS: u32 = 60;
 
 /// The nudges that keep the workers awake before the end, fewer than this.
-const NUDGES: u32 = 16;
+const NUDGES: u32 = 4;
 
 /// Counts the workers that have ended.
 #[derive(Drop)]
