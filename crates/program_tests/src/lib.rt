@@ -12,6 +12,8 @@ mod clusters;
 #[cfg(test)]
 mod drawings;
 #[cfg(test)]
+mod examples;
+#[cfg(test)]
 mod folder;
 #[cfg(test)]
 mod images;

@@ -147,7 +147,7 @@ static SHOWN: [(&[&str], &str); 8] = [
 ];
 
 /// examples/hello.txt.
-const HELLO: &str =
+pub const HELLO: &str =
     "; Writes five bytes of output.\n.method hello r 0 5\nstw [r3], 0x6c6c6568    ; \"hell\"\n\
     stb [r3+4], 0x6f        ; \"o\"\nmov r1, 5\ncall 13                 ; out_len\nexit\n";
 
@@ -159,7 +159,7 @@ fn assembled<R: Abort + AllocGlobal + Threads + Wait + Sync>(rt: &R, text: &str)
 }
 
 /// What those words print of the class of a text.
-fn prints_of<R: Abort + AllocGlobal + Threads + Wait + Sync>(
+pub fn prints_of<R: Abort + AllocGlobal + Threads + Wait + Sync>(
     rt: &R,
     text: &str,
     words: &[&str],

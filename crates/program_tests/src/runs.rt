@@ -1,4 +1,8 @@
+ghost use Rattle.std.specs.Prelude.{◌<◌};
+
 use crate::script::prints;
+use std::fmt::Write;
+use std::process::Abort;
 
 /// Node 1 alone is a group, and active.
 const ALONE: &str = "> map 1
@@ -316,6 +320,46 @@ static RUNS: [[&str; 3]; 12] = [
     [ALONE, LOOSELY_WRITTEN, ""],
     ["", "", ""],
 ];
+
+/// The requests of a long run.
+const LONG: u32 = 1_200;
+
+/// Behind that: one client's requests, of which nobody acknowledges any; the primary sends all of them again, to one member
+/// and then to the other.
+fn never_acknowledged<R: Abort + AllocGlobal>(rt: &R) -> String {
+    let mut text = String::new(rt.alloc());
+    for place in 0..LONG {
+        let number = place + 1;
+        write!(text, "> req 1 1 {number} a lock unlock -\n").expect(rt, "memory");
+        let (low, high) = (2 * place + 7, 2 * place + 8);
+        write!(
+            text,
+            "m{low} 1->2 Rep 1 {place}\nm{high} 1->3 Rep 1 {place}\n"
+        )
+        .expect(rt, "memory");
+    }
+    let shown = "> show 1\nnode 1 epoch 1 active length 1200 committed 0\n> resend 1\n";
+    text.push_str(shown).expect(rt, "memory");
+    push_again(rt, &mut text, 7);
+    push_again(rt, &mut text, 8);
+    text
+}
+
+/// Adds that every other message from this one on is sent again.
+fn push_again<R: Abort>(rt: &R, text: &mut String, first: u32)
+    requires { first < 10 }
+{
+    for place in 0..LONG {
+        let number = 2 * place + first;
+        write!(text, "again m{number}\n").expect(rt, "memory");
+    }
+}
+
+#[test]
+fn a_long_list_is_sent_again(rt: HostRuntime) {
+    let text = never_acknowledged(&rt);
+    prints(&rt, &[OPENED, text.as_str()], 0);
+}
 
 #[test]
 fn groups_are_played(rt: HostRuntime) {
