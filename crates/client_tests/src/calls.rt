@@ -29,12 +29,48 @@ fn outcome<N: ClusterName, R: Wait>(
     }
 }
 
+/// What a session calls on an object.
+trait Calls {
+    /// Calls, and says whether all came as it was to.
+    fn calls<N: ClusterName, R: Wait>(
+        &self,
+        alloc: Global,
+        running: &Running<N, R>,
+        session: &mut Session<'_, N, R>,
+        object: &ObjectName,
+    ) -> bool;
+}
+
+/// The calls of one session on the object `a`.
+#[derive(Drop)]
+struct OneSession<C> {
+    alloc: Global,
+    calls: C,
+}
+
+impl<C: Calls> Part for OneSession<C> {
+    fn act<N: ClusterName, R: Wait>(&self, running: &Running<N, R>) -> bool {
+        let Ok(object) = ObjectName::new(self.alloc, "a") else {
+            return false;
+        };
+        let Ok(mut session) = Session::open(running) else {
+            return false;
+        };
+        self.calls.calls(self.alloc, running, &mut session, &object)
+    }
+}
+
+/// These calls, of one session.
+fn one_session<C>(alloc: Global, calls: C) -> OneSession<C> {
+    OneSession { alloc, calls }
+}
+
 /// Eight zero bytes and a length of five.
 const FIRST_FIVE: [u8; 16] = [0, 0, 0, 0, 0, 0, 0, 0, 5, 0, 0, 0, 0, 0, 0, 0];
 
 /// Writes five bytes, and reads them into buffers of four and of five.
 #[derive(Drop)]
-struct Hello(Global);
+struct Hello;
 
 fn writes<N: ClusterName, R: Wait>(
     session: &mut Session<'_, N, R>,
@@ -68,20 +104,20 @@ fn entries<N: ClusterName, R: Wait>(running: &Running<N, R>, group: usize) -> us
     }
 }
 
-impl Part for Hello {
-    fn act<N: ClusterName, R: Wait>(&self, running: &Running<N, R>) -> bool {
-        let Ok(object) = ObjectName::new(self.0, "a") else {
-            return false;
-        };
-        let Ok(mut session) = Session::open(running) else {
-            return false;
-        };
+impl Calls for Hello {
+    fn calls<N: ClusterName, R: Wait>(
+        &self,
+        alloc: Global,
+        running: &Running<N, R>,
+        session: &mut Session<'_, N, R>,
+        object: &ObjectName,
+    ) -> bool {
         let mut four = [7u8; 4];
         let mut five = [7u8; 5];
-        let written = writes(&mut session, self.0, &object);
-        let short = reads(&mut session, self.0, &object, &mut four);
-        let whole = reads(&mut session, self.0, &object, &mut five);
-        let stand = entries(running, running.group_of(&object));
+        let written = writes(session, alloc, object);
+        let short = reads(session, alloc, object, &mut four);
+        let whole = reads(session, alloc, object, &mut five);
+        let stand = entries(running, running.group_of(object));
         written == 5
             && short == -34
             && whole == 5
@@ -93,12 +129,19 @@ impl Part for Hello {
 
 #[test]
 fn hello_is_read_into_five_bytes_and_not_into_four(rt: HostRuntime) {
-    assert!(rt; is_so(&rt, rt.alloc(), config(1, 100_000_000), &Hello(rt.alloc())));
+    assert!(rt;
+        is_so(
+            &rt,
+            rt.alloc(),
+            config(1, 100_000_000),
+            &one_session(rt.alloc(), Hello)
+        )
+    );
 }
 
 /// What the calls of `obj` answer, one after another on one object.
 #[derive(Drop)]
-struct Objects(Global);
+struct Objects;
 
 fn xattrs<N: ClusterName, R: Wait>(
     session: &mut Session<'_, N, R>,
@@ -128,16 +171,16 @@ fn data<N: ClusterName, R: Wait>(
     stat && read && removed && gone
 }
 
-impl Part for Objects {
-    fn act<N: ClusterName, R: Wait>(&self, running: &Running<N, R>) -> bool {
-        let Ok(object) = ObjectName::new(self.0, "a") else {
-            return false;
-        };
-        let Ok(mut session) = Session::open(running) else {
-            return false;
-        };
-        let written = writes(&mut session, self.0, &object);
-        written == 5 && xattrs(&mut session, self.0, &object) && data(&mut session, self.0, &object)
+impl Calls for Objects {
+    fn calls<N: ClusterName, R: Wait>(
+        &self,
+        alloc: Global,
+        _running: &Running<N, R>,
+        session: &mut Session<'_, N, R>,
+        object: &ObjectName,
+    ) -> bool {
+        let written = writes(session, alloc, object);
+        written == 5 && xattrs(session, alloc, object) && data(session, alloc, object)
     }
 }
 
@@ -148,7 +191,7 @@ fn the_six_calls_of_obj(rt: HostRuntime) {
             &rt,
             rt.alloc(),
             config(1, 100_000_000),
-            &Objects(rt.alloc())
+            &one_session(rt.alloc(), Objects)
         )
     );
 }
@@ -156,22 +199,22 @@ fn the_six_calls_of_obj(rt: HostRuntime) {
 /// Refusals: a class that isn't loaded, a method that isn't there, an input that is too long; and the answer again by
 /// `retry`.
 #[derive(Drop)]
-struct Refusals(Global);
+struct Refusals;
 
-impl Part for Refusals {
-    fn act<N: ClusterName, R: Wait>(&self, running: &Running<N, R>) -> bool {
-        let Ok(object) = ObjectName::new(self.0, "a") else {
-            return false;
-        };
-        let Ok(mut session) = Session::open(running) else {
-            return false;
-        };
+impl Calls for Refusals {
+    fn calls<N: ClusterName, R: Wait>(
+        &self,
+        alloc: Global,
+        _running: &Running<N, R>,
+        session: &mut Session<'_, N, R>,
+        object: &ObjectName,
+    ) -> bool {
         let nothing = session.retry().is_err_and(|e| e == ExecError::NothingSent);
-        let class = outcome(&mut session, self.0, &object, 64, "lock", b"");
-        let method = outcome(&mut session, self.0, &object, LOCK, "look", b"");
-        let input = outcome(&mut session, self.0, &object, LOCK, "lock", b"1");
+        let class = outcome(session, alloc, object, 64, "lock", b"");
+        let method = outcome(session, alloc, object, LOCK, "look", b"");
+        let input = outcome(session, alloc, object, LOCK, "lock", b"1");
         let again = session.retry().is_err_and(|e| e == ExecError::InputTooLong);
-        let first = outcome(&mut session, self.0, &object, LOCK, "lock", b"");
+        let first = outcome(session, alloc, object, LOCK, "lock", b"");
         let same = session
             .retry()
             .is_ok_and(|r| r.place() == 0 && r.code() == 0);
@@ -192,7 +235,7 @@ fn refusals_by_class_method_and_input(rt: HostRuntime) {
             &rt,
             rt.alloc(),
             config(1, 100_000_000),
-            &Refusals(rt.alloc())
+            &one_session(rt.alloc(), Refusals)
         )
     );
 }
@@ -200,7 +243,7 @@ fn refusals_by_class_method_and_input(rt: HostRuntime) {
 /// With one try a call submits its request and doesn't look for the answer: it stands in the log, and neither it nor a
 /// repeat is answered.
 #[derive(Drop)]
-struct OneTry(Global);
+struct OneTry;
 
 /// Whether the session's call comes to stand in the log, and is answered by no repeat until then.
 fn comes_to_stand<N: ClusterName, R: Wait>(
@@ -230,28 +273,35 @@ fn is_answered<N: ClusterName, R: Wait>(session: &mut Session<'_, N, R>) -> bool
     false
 }
 
-impl Part for OneTry {
-    fn act<N: ClusterName, R: Wait>(&self, running: &Running<N, R>) -> bool {
-        let Ok(object) = ObjectName::new(self.0, "a") else {
-            return false;
-        };
-        let Ok(mut session) = Session::open(running) else {
-            return false;
-        };
-        let first = outcome(&mut session, self.0, &object, LOCK, "lock", b"");
-        let stands = comes_to_stand(running, &mut session);
-        first == (9, 1_000) && stands && !is_answered(&mut session)
+impl Calls for OneTry {
+    fn calls<N: ClusterName, R: Wait>(
+        &self,
+        alloc: Global,
+        running: &Running<N, R>,
+        session: &mut Session<'_, N, R>,
+        object: &ObjectName,
+    ) -> bool {
+        let first = outcome(session, alloc, object, LOCK, "lock", b"");
+        let stands = comes_to_stand(running, session);
+        first == (9, 1_000) && stands && !is_answered(session)
     }
 }
 
 #[test]
 fn one_try_is_the_submit(rt: HostRuntime) {
-    assert!(rt; is_so(&rt, rt.alloc(), config(1, 1), &OneTry(rt.alloc())));
+    assert!(rt;
+        is_so(
+            &rt,
+            rt.alloc(),
+            config(1, 1),
+            &one_session(rt.alloc(), OneTry)
+        )
+    );
 }
 
 /// Another one uses the session's client number: the session's second call is stale after number 3.
 #[derive(Drop)]
-struct Stale(Global);
+struct Stale;
 
 /// The client's third request.
 fn third(alloc: Global, client: ClientId, object: &ObjectName) -> Option<Request> {
@@ -275,47 +325,66 @@ fn asks<N: ClusterName, R: Wait>(
     }
 }
 
-impl Part for Stale {
-    fn act<N: ClusterName, R: Wait>(&self, running: &Running<N, R>) -> bool {
-        let Ok(object) = ObjectName::new(self.0, "a") else {
-            return false;
-        };
-        let Ok(mut session) = Session::open(running) else {
-            return false;
-        };
-        let first = outcome(&mut session, self.0, &object, LOCK, "lock", b"");
-        let asked = asks(running, self.0, session.client(), &object);
-        let second = outcome(&mut session, self.0, &object, LOCK, "lock", b"");
+impl Calls for Stale {
+    fn calls<N: ClusterName, R: Wait>(
+        &self,
+        alloc: Global,
+        running: &Running<N, R>,
+        session: &mut Session<'_, N, R>,
+        object: &ObjectName,
+    ) -> bool {
+        let first = outcome(session, alloc, object, LOCK, "lock", b"");
+        let asked = asks(running, alloc, session.client(), object);
+        let second = outcome(session, alloc, object, LOCK, "lock", b"");
         first == (0, 0) && asked && second == (4, 1_000)
     }
 }
 
 #[test]
 fn a_number_below_a_logged_one_is_stale(rt: HostRuntime) {
-    assert!(rt; is_so(&rt, rt.alloc(), config(1, 100_000_000), &Stale(rt.alloc())));
+    assert!(rt;
+        is_so(
+            &rt,
+            rt.alloc(),
+            config(1, 100_000_000),
+            &one_session(rt.alloc(), Stale)
+        )
+    );
 }
 
 /// The second session hears what the first has seen, and its next call stands behind it.
 #[derive(Drop)]
-struct Telling(Global);
+struct Telling;
 
-impl Part for Telling {
-    fn act<N: ClusterName, R: Wait>(&self, running: &Running<N, R>) -> bool {
-        let Ok(object) = ObjectName::new(self.0, "a") else {
+/// Whether the second session, which heard what the first has seen, calls behind it.
+fn tells<N: ClusterName, R: Wait>(
+    alloc: Global,
+    first: &mut Session<'_, N, R>,
+    second: &mut Session<'_, N, R>,
+    object: &ObjectName,
+) -> bool {
+    let one = outcome(first, alloc, object, LOCK, "lock", b"");
+    second.hear(first.tell());
+    let two = outcome(second, alloc, object, LOCK, "lock", b"");
+    first.client().get() == 1
+        && second.client().get() == 2
+        && one == (0, 0)
+        && two.0 > one.0
+        && two.1 == -16
+}
+
+impl Calls for Telling {
+    fn calls<N: ClusterName, R: Wait>(
+        &self,
+        alloc: Global,
+        running: &Running<N, R>,
+        session: &mut Session<'_, N, R>,
+        object: &ObjectName,
+    ) -> bool {
+        let Ok(mut second) = Session::open(running) else {
             return false;
         };
-        let (Ok(mut first), Ok(mut second)) = (Session::open(running), Session::open(running))
-        else {
-            return false;
-        };
-        let one = outcome(&mut first, self.0, &object, LOCK, "lock", b"");
-        second.hear(first.tell());
-        let two = outcome(&mut second, self.0, &object, LOCK, "lock", b"");
-        first.client().get() == 1
-            && second.client().get() == 2
-            && one == (0, 0)
-            && two.0 > one.0
-            && two.1 == -16
+        tells(alloc, session, &mut second, object)
     }
 }
 
@@ -326,7 +395,7 @@ fn a_session_that_heard_of_a_call_finds_its_own_behind_it(rt: HostRuntime) {
             &rt,
             rt.alloc(),
             config(1, 100_000_000),
-            &Telling(rt.alloc())
+            &one_session(rt.alloc(), Telling)
         )
     );
 }
@@ -334,7 +403,7 @@ fn a_session_that_heard_of_a_call_finds_its_own_behind_it(rt: HostRuntime) {
 /// With one try and no worker a call is unanswered, until the queue of 1,024 places is full; then none is taken any
 /// more.
 #[derive(Drop)]
-struct Unserved(Global);
+struct Unserved;
 
 /// How many calls in a row are unanswered, of 1,100 at most.
 fn unanswered<N: ClusterName, R: Wait>(
@@ -350,17 +419,17 @@ fn unanswered<N: ClusterName, R: Wait>(
     1_100
 }
 
-impl Part for Unserved {
-    fn act<N: ClusterName, R: Wait>(&self, running: &Running<N, R>) -> bool {
-        let Ok(object) = ObjectName::new(self.0, "a") else {
-            return false;
-        };
-        let Ok(mut session) = Session::open(running) else {
-            return false;
-        };
-        let first = outcome(&mut session, self.0, &object, LOCK, "lock", b"");
+impl Calls for Unserved {
+    fn calls<N: ClusterName, R: Wait>(
+        &self,
+        alloc: Global,
+        _running: &Running<N, R>,
+        session: &mut Session<'_, N, R>,
+        object: &ObjectName,
+    ) -> bool {
+        let first = outcome(session, alloc, object, LOCK, "lock", b"");
         let again = session.retry().is_err_and(|e| e == ExecError::Unanswered);
-        let made = unanswered(&mut session, self.0, &object);
+        let made = unanswered(session, alloc, object);
         let still = session.retry().is_err_and(|e| e == ExecError::NotTaken);
         first == (9, 1_000) && again && 1_000 < made && made <= 1_022 && still
     }
@@ -368,5 +437,12 @@ impl Part for Unserved {
 
 #[test]
 fn a_call_without_a_worker_is_unanswered_and_then_not_taken(rt: HostRuntime) {
-    assert!(rt; is_so_alone(&rt, rt.alloc(), config(1, 1), Unserved(rt.alloc())));
+    assert!(rt;
+        is_so_alone(
+            &rt,
+            rt.alloc(),
+            config(1, 1),
+            one_session(rt.alloc(), Unserved)
+        )
+    );
 }

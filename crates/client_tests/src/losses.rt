@@ -55,24 +55,40 @@ fn lock<N: ClusterName, R: Wait>(
 #[derive(Drop)]
 struct StoppedPrimary(Global);
 
-impl StoppedPrimary {
-    fn locks<N: ClusterName, R: Wait>(&self, running: &Running<N, R>) -> Option<bool> {
-        let object = ObjectName::new(self.0, "a").ok()?;
-        let stopped = primary(self.0)?;
-        let up = nodes(self.0, Some(stopped))?;
-        let mut first = Session::open(running).ok()?;
-        let mut second = Session::open(running).ok()?;
-        let one = lock(&mut first, self.0, &object);
-        running.stop(stopped).ok()?;
-        let epoch = running.new_map(&up).ok()?;
-        let two = lock(&mut second, self.0, &object);
-        Some(one == Some((0, 0)) && epoch == 2 && two == Some((1, -16)))
-    }
+/// The epoch of the map that leaves out the primary, which is stopped.
+fn lose_primary<N: ClusterName, R: Wait>(alloc: Global, running: &Running<N, R>) -> Option<u32> {
+    let stopped = primary(alloc)?;
+    let up = nodes(alloc, Some(stopped))?;
+    running.stop(stopped).ok()?;
+    running.new_map(&up).ok()
+}
+
+/// Whether the second session's lock stands behind the first's, with the primary lost between them.
+fn outlives<N: ClusterName, R: Wait>(
+    alloc: Global,
+    running: &Running<N, R>,
+    first: &mut Session<'_, N, R>,
+    second: &mut Session<'_, N, R>,
+    object: &ObjectName,
+) -> bool {
+    let one = lock(first, alloc, object);
+    let epoch = lose_primary(alloc, running);
+    let two = lock(second, alloc, object);
+    one == Some((0, 0)) && epoch == Some(2) && two == Some((1, -16))
 }
 
 impl Part for StoppedPrimary {
     fn act<N: ClusterName, R: Wait>(&self, running: &Running<N, R>) -> bool {
-        self.locks(running) == Some(true)
+        let Ok(object) = ObjectName::new(self.0, "a") else {
+            return false;
+        };
+        let Ok(mut first) = Session::open(running) else {
+            return false;
+        };
+        let Ok(mut second) = Session::open(running) else {
+            return false;
+        };
+        outlives(self.0, running, &mut first, &mut second, &object)
     }
 }
 
@@ -124,38 +140,36 @@ struct Lossy<C> {
 }
 
 impl<C: Clock> Lossy<C> {
-    /// What is answered of ten locks of each of four clients, who take turns.
+    /// What is answered of ten locks of each of these clients, who take turns.
+    fn ten_locks<N: ClusterName, R: Wait>(
+        &self,
+        running: &Running<N, R>,
+        sends: &mut Sends<N>,
+        sessions: &mut Vec<Session<'_, N, R>>,
+        object: &ObjectName,
+    ) -> Vec<Answered> {
+        let mut answers = Vec::new(self.alloc);
+        for number in 1..=10 {
+            for session in sessions.iter_mut() {
+                let answer = self.lock(running, sends, session, object, number);
+                keep(&mut answers, answer);
+            }
+        }
+        answers
+    }
+
+    /// Whether all that is answered of forty locks stands in the log.
     fn forty_locks<N: ClusterName, R: Wait>(
         &self,
         running: &Running<N, R>,
-    ) -> Option<Vec<Answered>> {
-        let object = ObjectName::new(self.alloc, "a").ok()?;
-        let mut one = Session::open(running).ok()?;
-        let mut two = Session::open(running).ok()?;
-        let mut three = Session::open(running).ok()?;
-        let mut four = Session::open(running).ok()?;
-        let mut nudging = running.open()?;
-        let mut answers = Vec::new(self.alloc);
-        for number in 1..=10 {
-            let sends = &mut nudging.sends;
-            keep(
-                &mut answers,
-                self.lock(running, sends, &mut one, &object, number),
-            );
-            keep(
-                &mut answers,
-                self.lock(running, sends, &mut two, &object, number),
-            );
-            keep(
-                &mut answers,
-                self.lock(running, sends, &mut three, &object, number),
-            );
-            keep(
-                &mut answers,
-                self.lock(running, sends, &mut four, &object, number),
-            );
-        }
-        Some(answers)
+        sends: &mut Sends<N>,
+        sessions: &mut Vec<Session<'_, N, R>>,
+    ) -> bool {
+        let Ok(object) = ObjectName::new(self.alloc, "a") else {
+            return false;
+        };
+        let answers = self.ten_locks(running, sends, sessions, &object);
+        are_logged(self.alloc, running, &answers)
     }
 
     /// What is answered of a lock, the session's call of that number.
@@ -200,11 +214,30 @@ impl<C: Clock> Lossy<C> {
 
 impl<C: Clock> Part for Lossy<C> {
     fn act<N: ClusterName, R: Wait>(&self, running: &Running<N, R>) -> bool {
-        match self.forty_locks(running) {
-            Some(answers) => are_logged(self.alloc, running, &answers),
+        let Some(mut sessions) = four_sessions(self.alloc, running) else {
+            return false;
+        };
+        match running.open() {
+            Some(mut nudging) => self.forty_locks(running, &mut nudging.sends, &mut sessions),
             None => false,
         }
     }
+}
+
+fn four_sessions<'a, N: ClusterName, R: Wait>(
+    alloc: Global,
+    running: &'a Running<N, R>,
+) -> Option<Vec<Session<'a, N, R>>> {
+    let mut sessions = Vec::new(alloc);
+    for _ in 0..4 {
+        let Ok(session) = Session::open(running) else {
+            return None;
+        };
+        if sessions.push(session).is_err() {
+            return None;
+        }
+    }
+    Some(sessions)
 }
 
 fn keep(answers: &mut Vec<Answered>, answer: Option<Answered>) {
@@ -330,23 +363,49 @@ fn settles<N: ClusterName, R: Wait>(
 }
 
 impl LostReply {
-    fn locks<N: ClusterName, R: Wait>(&self, running: &Running<N, R>) -> Option<bool> {
-        let object = ObjectName::new(self.alloc, "a").ok()?;
-        let mut session = Session::open(running).ok()?;
-        let settled = settles(&mut session, self.alloc, &object);
+    /// The place and the code of a call whose first reply is lost, and whether the session nudged.
+    fn loses<N: ClusterName, R: Wait>(
+        &self,
+        session: &mut Session<'_, N, R>,
+        object: &ObjectName,
+    ) -> Option<(usize, i64)> {
         let before = session.nudges();
         self.fate.is_wanted.store(true, Ordering::SeqCst);
-        let (place, code) = lock(&mut session, self.alloc, &object)?;
-        let log = running.logged(NodeId::new(0), 0).ok()?;
-        let is_nudged = before < session.nudges();
-        let is_last = place.wrapping_add(1) == log.len();
-        Some(settled && is_nudged && is_last && log.last()?.code == code)
+        let answer = lock(session, self.alloc, object)?;
+        if before == session.nudges() {
+            return None;
+        }
+        Some(answer)
+    }
+}
+
+/// Whether the log's last entry is at that place, and has that code.
+fn is_last<N: ClusterName, R: Wait>(running: &Running<N, R>, place: usize, code: i64) -> bool {
+    match running.logged(NodeId::new(0), 0) {
+        Ok(log) => {
+            let end = place.wrapping_add(1);
+            let last = log.last().is_some_and(|entry| entry.code == code);
+            end == log.len() && last
+        }
+        Err(_) => false,
     }
 }
 
 impl Part for LostReply {
     fn act<N: ClusterName, R: Wait>(&self, running: &Running<N, R>) -> bool {
-        self.locks(running) == Some(true)
+        let Ok(object) = ObjectName::new(self.alloc, "a") else {
+            return false;
+        };
+        let Ok(mut session) = Session::open(running) else {
+            return false;
+        };
+        if !settles(&mut session, self.alloc, &object) {
+            return false;
+        }
+        match self.loses(&mut session, &object) {
+            Some((place, code)) => is_last(running, place, code),
+            None => false,
+        }
     }
 }
 
@@ -386,23 +445,41 @@ fn goes_on<N: ClusterName, R: Wait>(alloc: Global, running: &Running<N, R>) -> b
     let Ok(mut session) = Session::open(running) else {
         return false;
     };
-    let mut answer = session.exec(alloc, &object, ClassId::new(LOCK), "lock", b"");
+    match insisted(&mut session, alloc, &object) {
+        Some((place, code)) => session.client().get() == 2 && is_seconds(running, place, code),
+        None => false,
+    }
+}
+
+/// The place and the code of a lock, which is asked for until it is answered, 100,000 times at most.
+fn insisted<N: ClusterName, R: Wait>(
+    session: &mut Session<'_, N, R>,
+    alloc: Global,
+    object: &ObjectName,
+) -> Option<(usize, i64)> {
+    let mut answer = session.exec(alloc, object, ClassId::new(LOCK), "lock", b"");
     for _ in 0..100_000 {
         if !is_unanswered(&answer) {
             break;
         }
         answer = session.retry();
     }
-    let (Ok(reply), Ok(log)) = (answer, running.logged(NodeId::new(0), 0)) else {
-        return false;
-    };
+    let reply = answer.ok()?;
+    Some((reply.place(), reply.code()))
+}
+
+/// Whether the second client's first call stands at that place with that code, and no pair stands twice.
+fn is_seconds<N: ClusterName, R: Wait>(running: &Running<N, R>, place: usize, code: i64) -> bool {
     let own = Answered {
         client: 2,
         number: 1,
-        place: reply.place(),
-        code: reply.code(),
+        place,
+        code,
     };
-    session.client().get() == 2 && stands(&log, &own) && none_twice(&log)
+    match running.logged(NodeId::new(0), 0) {
+        Ok(log) => stands(&log, &own) && none_twice(&log),
+        Err(_) => false,
+    }
 }
 
 impl Part for Abandoned {

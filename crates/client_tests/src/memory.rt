@@ -26,11 +26,14 @@ fn cluster(alloc: Global, tries: u32) -> Option<Cluster> {
 
 /// Whether a class is loaded and gets the id 2. Where memory is refused the first time, it is loaded the second.
 fn loads(cluster: &mut Cluster) -> bool {
-    let mut loaded = cluster.load_class(&IMAGE);
-    if loaded.is_err_and(|e| e.number() == 4) {
-        loaded = cluster.load_class(&IMAGE);
+    match cluster.load_class(&IMAGE) {
+        Ok(id) => id.get() == 2,
+        Err(error) => error.number() == 4 && loads_again(cluster),
     }
-    loaded.is_ok_and(|id| id.get() == 2)
+}
+
+fn loads_again(cluster: &mut Cluster) -> bool {
+    cluster.load_class(&IMAGE).is_ok_and(|id| id.get() == 2)
 }
 
 /// A session's call. Where memory is refused to it before it sends the request, its next call has the same number; where
