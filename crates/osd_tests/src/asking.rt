@@ -181,12 +181,13 @@ pub fn served<C: Calls + Sync, F: Fate + Sync, R: Threads + Wait + Sync + Drop>(
 }
 
 /// Calls on a new cluster that has the class `lock`, while a worker serves.
-pub fn served_by<
-    C: Calls + Sync,
-    G: Gate + Sync,
-    F: Fate + Sync,
-    R: Threads + Wait + Sync + Drop,
->(rt: R, alloc: Global, config: Config, calls: &C, server: Server<'_, G, F>) -> Option<bool> {
+pub fn served_by<C: Calls + Sync, G: Gate + Sync, F: Fate + Sync, R: Threads + Wait + Sync + Drop>(
+    rt: R,
+    alloc: Global,
+    config: Config,
+    calls: &C,
+    server: Server<'_, G, F>,
+) -> Option<bool> {
     let (parts, table) = made(alloc, config)?;
     served_on::<Brand, C, G, F, R>(rt, alloc, parts, table, calls, server)
 }

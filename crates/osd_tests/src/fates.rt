@@ -175,6 +175,12 @@ impl Calls for Several {
 #[test]
 fn each_call_gets_one_place_under_losses(rt: HostRuntime) {
     let alloc = rt.alloc();
-    let done = served(rt, alloc, config(NODES, 3, 1, 1), &Several { alloc }, &Mixed);
+    let done = served(
+        rt,
+        alloc,
+        config(NODES, 3, 1, 1),
+        &Several { alloc },
+        &Mixed,
+    );
     assert!(rt; done == Some(true));
 }

@@ -29,8 +29,10 @@ impl Gate for Digits {
         }
         let digit = number % (1 << 32);
         let digits = self.digits.load(Ordering::SeqCst);
-        self.digits
-            .store(digits.wrapping_mul(10).wrapping_add(digit), Ordering::SeqCst);
+        self.digits.store(
+            digits.wrapping_mul(10).wrapping_add(digit),
+            Ordering::SeqCst,
+        );
         self.last.store(number, Ordering::SeqCst);
     }
 }
@@ -48,7 +50,9 @@ fn name_in<N: ClusterName, R: Wait>(
     alloc: Global,
     group: usize,
 ) -> Option<&'static str> {
-    for name in ["a", "b", "c", "d", "e", "f", "g", "h", "i", "j", "k", "l", "m", "n", "o", "p"] {
+    for name in [
+        "a", "b", "c", "d", "e", "f", "g", "h", "i", "j", "k", "l", "m", "n", "o", "p",
+    ] {
         let object = ObjectName::new(alloc, name).ok()?;
         if running.group_of(&object) == group {
             return Some(name);
