@@ -33,8 +33,11 @@ fn is_answered_once<N: ClusterName, R: Wait>(
         return false;
     }
     for _ in 0..TURNS {
+        // An answer to a repeat of the call before is passed over.
         if let Some(Post::Reply(reply)) = running.mail(opened.client) {
-            return reply.request().is(request);
+            if reply.request().is(request) {
+                return true;
+            }
         }
         yield_now();
     }
