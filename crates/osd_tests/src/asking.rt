@@ -6,7 +6,7 @@ use group_cell::{Post, Reply};
 use interp::ClassTable;
 use object_store::ObjectName;
 use osd::{
-    AskError, ClusterName, Config, Fate, Gate, Open, Opened, Parts, Running, Scenario, play,
+    AskError, ClusterName, Config, Fate, Open, Opened, Parts, Running, Scenario, play,
     running_crosses,
 };
 use pg_log::{ClientId, Request, RequestNumber};
@@ -14,38 +14,21 @@ use std::alloc::Global;
 use std::marker::Brand;
 use std::process::Abort;
 use std::sync::Wait;
-use std::sync::atomic::{AtomicU64, Ordering};
 use std::thread::{Threads, join, yield_now};
 
 /// The looks of a call before it fails.
 pub const TURNS: u32 = 1_000_000;
 
 /// The looks without an answer after which a request is sent again.
-const LOOKS: u32 = 100;
+const LOOKS: u32 = 1000;
 
 /// A client's request of the lock on an object.
 pub fn lock(alloc: Global, client: ClientId, number: u32, object: &str) -> Option<Request> {
-    request(alloc, client, number, object, 0)
-}
-
-/// A client's request of a class that there isn't. It is refused, whatever has come before.
-pub fn unknown(alloc: Global, client: ClientId) -> Option<Request> {
-    request(alloc, client, 1, "a", 9)
-}
-
-/// A client's request of the method `lock` of a class.
-fn request(
-    alloc: Global,
-    client: ClientId,
-    number: u32,
-    object: &str,
-    class: usize,
-) -> Option<Request> {
     Some(Request::new(
         client,
         RequestNumber::new(number)?,
         ObjectName::new(alloc, object).ok()?,
-        class,
+        0,
         String::from_str(alloc, "lock").ok()?,
         Vec::new(alloc),
     ))
@@ -147,21 +130,9 @@ pub fn played<S: Scenario, R: Threads + Wait + Abort + Sync + Copy + Drop>(
     play(alloc, rt, parts, table, scenario).ok()
 }
 
-/// What is called on a cluster while its worker serves, and once it has ended, and whether it comes out as it should.
+/// What is called on a cluster while its worker serves, and whether it comes out as it should.
 pub trait Calls {
     fn calls<N: ClusterName, R: Wait>(&self, running: &Running<N, R>) -> bool;
-
-    fn ends<N: ClusterName, R: Wait>(&self, _running: &Running<N, R>) -> bool {
-        true
-    }
-}
-
-/// What a worker serves by.
-#[derive(Drop)]
-pub struct Server<'a, G, F> {
-    pub worker: usize,
-    pub gate: &'a G,
-    pub fate: &'a F,
 }
 
 /// Calls on a new cluster that has the class `lock`, while its worker 0 serves under a fate.
@@ -172,120 +143,40 @@ pub fn served<C: Calls + Sync, F: Fate + Sync, R: Threads + Wait + Sync + Drop>(
     calls: &C,
     fate: &F,
 ) -> Option<bool> {
-    let server = Server {
-        worker: 0,
-        gate: &Open,
-        fate,
-    };
-    served_by(rt, alloc, config, calls, server)
-}
-
-/// Calls on a new cluster that has the class `lock`, while a worker serves.
-pub fn served_by<C: Calls + Sync, G: Gate + Sync, F: Fate + Sync, R: Threads + Wait + Sync + Drop>(
-    rt: R,
-    alloc: Global,
-    config: Config,
-    calls: &C,
-    server: Server<'_, G, F>,
-) -> Option<bool> {
     let (parts, table) = made(alloc, config)?;
-    served_on::<Brand, C, G, F, R>(rt, alloc, parts, table, calls, server)
+    served_on::<Brand, C, F, R>(rt, alloc, parts, table, calls, fate)
 }
 
 fn served_on<
     N: ClusterName + Send + Sync,
     C: Calls + Sync,
-    G: Gate + Sync,
     F: Fate + Sync,
     R: Threads + Wait + Sync + Drop,
->(
-    rt: R,
-    alloc: Global,
-    parts: Parts,
-    table: ClassTable,
-    calls: &C,
-    server: Server<'_, G, F>,
-) -> Option<bool>
+>(rt: R, alloc: Global, parts: Parts, table: ClassTable, calls: &C, fate: &F) -> Option<bool>
     requires board { parts.board ≡ N.board }
     requires queues { parts.queues ≡ N.queues }
     requires config { parts.config ≡ N.config }
     requires table { table ≡ N.classes }
 {
     let running = Running::<N, R>::named(alloc, rt, parts, table).ok()?;
-    Some(while_served(&running, calls, server))
+    Some(while_served(&running, calls, fate))
 }
 
 fn while_served<
     N: ClusterName + Send + Sync,
     C: Calls + Sync,
-    G: Gate + Sync,
     F: Fate + Sync,
     R: Threads + Wait + Sync,
->(running: &Running<N, R>, calls: &C, server: Server<'_, G, F>) -> bool {
+>(running: &Running<N, R>, calls: &C, fate: &F) -> bool {
     running_crosses::<N, R>();
-    let Server { worker, gate, fate } = server;
     let (_, done) = join(
         running.runtime(),
-        || running.serve_with(worker, gate, fate),
+        || running.serve_with(0, &Open, fate),
         || {
             let done = calls.calls(running);
             running.finish();
             done
         },
     );
-    done && calls.ends(running)
-}
-
-/// Counts what a worker takes.
-#[derive(Drop)]
-pub struct Taken {
-    /// Clients' requests.
-    pub requests: AtomicU64,
-    /// Other operations.
-    pub others: AtomicU64,
-}
-
-impl Taken {
-    pub fn new() -> Taken {
-        Taken {
-            requests: AtomicU64::new(0),
-            others: AtomicU64::new(0),
-        }
-    }
-
-    /// Sends a request once more, and waits until the worker takes it. One worker that serves one queue is then done with
-    /// all that was submitted before.
-    pub fn takes<N: ClusterName, R: Wait>(
-        &self,
-        running: &Running<N, R>,
-        opened: &mut Opened<N>,
-        request: &Request,
-    ) -> bool {
-        let before = self.requests.load(Ordering::SeqCst);
-        if running.ask(&mut opened.sends, request).is_err() {
-            return false;
-        }
-        for _ in 0..TURNS {
-            if self.requests.load(Ordering::SeqCst) != before {
-                return true;
-            }
-            yield_now();
-        }
-        false
-    }
-
-    /// How many other operations it took.
-    pub fn others(&self) -> u64 {
-        self.others.load(Ordering::SeqCst)
-    }
-}
-
-impl Gate for Taken {
-    fn before(&self, number: u64) {
-        if number == 0 {
-            self.others.fetch_add(1, Ordering::SeqCst);
-        } else {
-            self.requests.fetch_add(1, Ordering::SeqCst);
-        }
-    }
+    done
 }

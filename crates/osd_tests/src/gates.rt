@@ -45,8 +45,6 @@ impl Gate for Held {
 struct SideBySide {
     alloc: Global,
     gate: Held,
-    /// The place of the call that is held.
-    place: usize,
 }
 
 impl SideBySide {
@@ -56,12 +54,12 @@ impl SideBySide {
             return false;
         };
         match lock(self.alloc, opened.client, FIRST, "a") {
-            Some(request) => answer(running, &mut opened, &request) == Some((self.place, 0)),
+            Some(request) => answer(running, &mut opened, &request) == Some((0, 0)),
             None => false,
         }
     }
 
-    /// The other call, of an object of another group if there are two. It is made once the first is held, and answered while it is.
+    /// The other call, of an object of group 1. It is made once the first is held, and answered while it is.
     fn second<N: ClusterName, R: Wait>(&self, running: &Running<N, R>) -> bool {
         let Some(mut opened) = running.open() else {
             return false;
@@ -125,14 +123,13 @@ impl SideBySide {
     }
 }
 
-/// Plays it on a new cluster of two workers, with a queue for each group.
+/// Plays it on a new cluster of two groups, two queues and two workers.
 fn two_served<R: Threads + Wait + Sync + Drop>(
     rt: R,
     alloc: Global,
-    shards: usize,
     calls: &SideBySide,
 ) -> Option<bool> {
-    let (parts, table) = made(alloc, config(1, 1, shards, 2))?;
+    let (parts, table) = made(alloc, config(1, 1, 2, 2))?;
     two_served_on::<Brand, R>(rt, alloc, parts, table, calls)
 }
 
@@ -152,27 +149,15 @@ fn two_served_on<N: ClusterName + Send + Sync, R: Threads + Wait + Sync + Drop>(
     Some(calls.play(&running))
 }
 
-/// The call that is held gets that place.
-fn side_by_side(alloc: Global, place: usize) -> SideBySide {
+#[test]
+fn a_call_of_another_shard_is_answered_meanwhile(rt: HostRuntime) {
+    let alloc = rt.alloc();
     let gate = Held {
         came: AtomicBool::new(false),
         is_free: AtomicBool::new(false),
         ran_out: AtomicBool::new(false),
     };
-    SideBySide { alloc, gate, place }
-}
-
-#[test]
-fn a_call_of_another_shard_is_answered_meanwhile(rt: HostRuntime) {
-    let alloc = rt.alloc();
-    let done = two_served(rt, alloc, 2, &side_by_side(alloc, 0));
-    assert!(rt; done == Some(true));
-}
-
-// The other call comes to the one log first.
-#[test]
-fn a_call_of_the_same_shard_is_answered_meanwhile(rt: HostRuntime) {
-    let alloc = rt.alloc();
-    let done = two_served(rt, alloc, 1, &side_by_side(alloc, 1));
+    let calls = SideBySide { alloc, gate };
+    let done = two_served(rt, alloc, &calls);
     assert!(rt; done == Some(true));
 }

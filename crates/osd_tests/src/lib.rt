@@ -4,20 +4,10 @@
 #[cfg(test)]
 mod asking;
 #[cfg(test)]
-mod deals;
-#[cfg(test)]
-mod ending;
-#[cfg(test)]
 mod fates;
 #[cfg(test)]
 mod gates;
 #[cfg(test)]
-mod mail;
-#[cfg(test)]
 mod maps;
-#[cfg(test)]
-mod stops;
-#[cfg(test)]
-mod turns;
 #[cfg(test)]
 mod workers;

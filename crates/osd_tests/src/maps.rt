@@ -66,8 +66,8 @@ fn calls_refuse_by_their_limits(rt: HostRuntime) {
 #[derive(Drop)]
 struct Told {
     alloc: Global,
-    /// The nodes that are up by the maps after the first, one by each.
-    up: &'static [u64],
+    /// The nodes that are up by each map, one for each.
+    up: [u64; 3],
     nudges: u32,
 }
 
@@ -81,12 +81,11 @@ impl Scenario for Told {
         running: &Running<N, R>,
     ) -> Option<u32> {
         let mut opened = running.open()?;
-        let mut epoch = 1u32;
-        for node in self.up {
-            epoch = epoch.wrapping_add(1);
-            if !makes(running, self.alloc, &[*node], Ok(epoch)) {
-                return None;
-            }
+        let are_made = makes(running, self.alloc, &[self.up[0]], Ok(2))
+            && makes(running, self.alloc, &[self.up[1]], Ok(3))
+            && makes(running, self.alloc, &[self.up[2]], Ok(4));
+        if !are_made {
+            return None;
         }
         for _ in 0..self.nudges {
             running.nudge(&mut opened.sends, 0);
@@ -101,7 +100,7 @@ impl Scenario for Told {
 #[test]
 fn a_nudge_tells_a_late_node_and_a_kept_interval_is_not_told(rt: HostRuntime) {
     let alloc = rt.alloc();
-    let up = &[0, 0, 0];
+    let up = [0, 0, 0];
     let told = played(
         rt,
         alloc,
@@ -125,38 +124,11 @@ fn a_nudge_tells_a_late_node_and_a_kept_interval_is_not_told(rt: HostRuntime) {
     assert!(rt; told == Some(Some(1023)) && nudged == Some(Some(1018)));
 }
 
-// Two of three nodes act, and each nudge hands the map to both; by the second map one acts, and gets it alone.
-#[test]
-fn a_nudge_tells_each_acting_node(rt: HostRuntime) {
-    let alloc = rt.alloc();
-    let both = played(
-        rt,
-        alloc,
-        config(3, 2, 1, 1),
-        &Told {
-            alloc,
-            up: &[],
-            nudges: 5,
-        },
-    );
-    let one = played(
-        rt,
-        alloc,
-        config(3, 2, 1, 1),
-        &Told {
-            alloc,
-            up: &[0],
-            nudges: 5,
-        },
-    );
-    assert!(rt; both == Some(Some(1012)) && one == Some(Some(1016)));
-}
-
 // By the second and the third map another node acts than by the map before.
 #[test]
 fn a_new_interval_is_told(rt: HostRuntime) {
     let alloc = rt.alloc();
-    let up = &[0, 1, 0];
+    let up = [0, 1, 0];
     let even = played(
         rt,
         alloc,
@@ -167,7 +139,7 @@ fn a_new_interval_is_told(rt: HostRuntime) {
             nudges: 0,
         },
     );
-    let up = &[1, 0, 1];
+    let up = [1, 0, 1];
     let odd = played(
         rt,
         alloc,

@@ -12,10 +12,10 @@ use std::sync::Wait;
 use std::thread::{Threads, join, yield_now};
 
 /// The calls to a worker that waits.
-const CALLS: u32 = 8;
+const CALLS: u32 = 20;
 
 /// The turns after which a worker that has nothing to do waits.
-const IDLE: u32 = 200;
+const IDLE: u32 = 2000;
 
 fn pause() {
     for _ in 0..IDLE {
@@ -33,11 +33,8 @@ fn is_answered_once<N: ClusterName, R: Wait>(
         return false;
     }
     for _ in 0..TURNS {
-        // An answer to a repeat of the call before is passed over.
         if let Some(Post::Reply(reply)) = running.mail(opened.client) {
-            if reply.request().is(request) {
-                return true;
-            }
+            return reply.request().is(request);
         }
         yield_now();
     }
