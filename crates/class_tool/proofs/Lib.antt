@@ -1,5 +1,8 @@
 mod Called
+mod Lines
+mod Noted
 mod Packed
+mod Printable
 mod Refused
 mod Reported
 pub mod Longer

@@ -1,6 +1,6 @@
 ghost use Rattle.std.specs.Prelude.{◌⊎◌, IfErr, IfOk, string_bytes};
 ghost use Rattle.class_tool.specs.Assembly.{Assembles, AssembleFails, IsSourceIn, IsTextOf, SourceFails, Spells, TextFails, ImageFails};
-ghost use Rattle.class_tool.specs.Files.{Holds};
+ghost use Rattle.class_tool.specs.Files.{Holds, storage};
 ghost use Rattle.class_tool.specs.Image.{ReadFails};
 
 use crate::failure::Failure;
@@ -55,8 +55,8 @@ pub fn assemble<F: Files>(
     text: &str,
     image: &str,
 ) -> Result<(), Failure>
-    ensures ok { IfOk result (λ _. Assembles (F.disk files.old) (F.disk files.new) text.now image.now) }
-    ensures err { IfErr result (AssembleFails (F.disk files.old) (F.disk files.new) text.now image.now) }
+    ensures ok { IfOk result (λ _. Assembles (storage F.disk F.failed files.old) (storage F.disk F.failed files.new) text.now image.now) }
+    ensures err { IfErr result (AssembleFails (storage F.disk F.failed files.old) (storage F.disk F.failed files.new) text.now image.now) }
 {
     let bytes = image_in(alloc, files, text)?;
     match files.write(image, &bytes) {

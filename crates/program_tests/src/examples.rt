@@ -103,7 +103,7 @@ const GREET: &str =
     ".method greet r 0 16\n; writes \"hi\" and answers 2\nstb [r3+0], 104\nstb [r3+1], 105\nmov r1, 2\ncall 13\nmov r0, 2\nexit\n";
 
 /// examples/count.txt.
-const COUNT: &str =
+pub const COUNT: &str =
     "; Counts its calls in the key \"n\" of the object's omap, and gives the number as 8 bytes.\n\
     .method count rw 0 8\nmov r6, r3          ; the output, out of the helpers' way\nstb [r10-1], 0x6e   ; \"n\"\n\
     mov r1, r10\nadd r1, -1          ; the key\nmov r2, 1\nmov r4, 8           ; its value, to the output\ncall 9              ; map_get\n\

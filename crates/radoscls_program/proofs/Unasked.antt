@@ -1,6 +1,6 @@
 -- Where the subcommand that a parse entered asks for nothing.
 use Rattle.std.proofs.Common.{◌≡◌, ◌≢◌, ◌∙◌, inl, inr, ap, sym, refl, subst, List, Option, Some, None, is_some, nat_eq, option_map, slice_index, codes, false, true}
-use Rattle.std.specs.Prelude.{IsNone, IsSome, IsSomeAnd}
+use Rattle.std.specs.Prelude.{IsNone, IsSome}
 use Rattle.std.proofs.lemmas.Bool.{eq-eqb}
 use Rattle.std.proofs.lemmas.Option.{none-some, some_pair_parts}
 use Rattle.clap.specs.Words.{HasKind, IsAmong, Kinds, Row, Text, all_of, fault_of, first_of, first_value, found_of, kind_of, rows_of, subcommand_name_of, subcommand_of, subcommand_rows_of}
@@ -9,12 +9,13 @@ use Rattle.clap.specs.declared.error.kind.ErrorKind.TheVariants.{OutOfMemory}
 use Rattle.clap.specs.declared.parser.matches.ArgMatches.{ArgMatches}
 use Rattle.clap.specs.declared.parser.matches.ArgMatches.TheViews.{out-ArgMatches}
 use Rattle.clap.proofs.WalkLemmas.{first_value-rows}
-use Rattle.radoscls_program.specs.Arguments.{AsksBy, IsClientNumber, NamesCall, NamesFiles, TakesPacking}
+use Rattle.radoscls_program.specs.Arguments.{AsksBy, NamesFiles, TakesCall, TakesPacking}
 use Rattle.radoscls_program.specs.CommandLine.{AsksNoTask, AsksNothing, command_line}
 use Rattle.radoscls_program.specs.Program.{AreForNone}
 use Rattle.radoscls_program.proofs.Entered.{entered, same_values}
 use Rattle.class_tool.specs.declared.action.Action.{Action}
 use Rattle.class_tool.specs.declared.action.Action.TheVariants.{Verify, Run, Assemble, Pack, Disassemble}
+use Rattle.class_tool.specs.declared.action.Call.{Call}
 use Rattle.class_tool.specs.declared.action.Packing.{Packing}
 
 -- the subcommand of that name and its values ask for no action
@@ -45,14 +46,9 @@ no_dis value values none (Assemble text image) asks = other (codes "dis") (codes
 no_dis value values none (Pack asked) asks = other (codes "dis") (codes "pack") refl asks.0
 no_dis value values none (Disassemble image) asks = none-some image.now (sym none ∙ asks.1)
 
-pub no_run : (value : Text → Option Text) (values : Text → Option (List Text)) → (NamesCall value → ⊥) → AsksNoneBy (codes "run") value values
+pub no_run : (value : Text → Option Text) (values : Text → Option (List Text)) → ((call : Call) → TakesCall value values call → ⊥) → AsksNoneBy (codes "run") value values
 no_run value values none (Verify image) asks = other (codes "run") (codes "verify") refl asks.0
-no_run value values none (Run call) asks = none (
-  ap is_some asks.1.0,
-  ap is_some asks.1.1,
-  ap is_some asks.1.2,
-  subst (λ (o : Option Text). IsSomeAnd o IsClientNumber) (sym asks.1.3.1) asks.1.3.2,
-)
+no_run value values none (Run call) asks = none call asks.1
 no_run value values none (Assemble text image) asks = other (codes "run") (codes "asm") refl asks.0
 no_run value values none (Pack asked) asks = other (codes "run") (codes "pack") refl asks.0
 no_run value values none (Disassemble image) asks = other (codes "run") (codes "dis") refl asks.0
