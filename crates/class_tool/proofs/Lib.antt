@@ -4,5 +4,6 @@ mod Noted
 mod Packed
 mod Printable
 mod Refused
+mod Registers
 mod Reported
 pub mod Longer
