@@ -3,8 +3,8 @@ ghost use Rattle.helpers.specs.Table.{row};
 ghost use Rattle.helpers.specs.View.{IsWithin, bytes_in};
 ghost use Rattle.bpf_machine.specs.Flat.{help};
 ghost use Rattle.bpf_machine.specs.Safe.{first_layout};
-ghost use Rattle.interp.specs.Asked.{CanAsk, HasAnswered};
-ghost use Rattle.interp.specs.Run.{CanDo, Does};
+ghost use Rattle.interp.specs.inner.Asked.{CanAsk, HasAnswered};
+ghost use Rattle.interp.specs.inner.Run.{CanDo, Does};
 
 use crate::registers::Registers;
 use crate::run::Run;
