@@ -3,5 +3,6 @@ mod Flats
 mod Kept
 mod Nothing
 mod Packs
+mod Same
 mod Splice
 mod Within
