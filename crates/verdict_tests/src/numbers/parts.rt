@@ -2,8 +2,8 @@
 
 use super::{ALL, MAX, MIN, Six, TOP, gives, is, number};
 use abstract_num::{
-    any, arithmetic, between, constant, highest, holds, is_below, join,
-    loaded, loaded_signed, signed_between, tighten,
+    any, arithmetic, between, constant, highest, holds, is_below, join, loaded, loaded_signed,
+    signed_between, tighten,
 };
 use bpf_decode::{Arithmetic, Bits, SignedWidth, Width};
 
@@ -65,12 +65,7 @@ fn ranges(rt: HostRuntime) {
 #[test]
 fn readings(rt: HostRuntime) {
     let x = between(2, 9);
-    assert!(rt;
-        highest(&x) == 9
-            && holds(&x, 2)
-            && !holds(&x, 10)
-            && !holds(&constant(4), 5)
-    );
+    assert!(rt; highest(&x) == 9 && holds(&x, 2) && !holds(&x, 10) && !holds(&constant(4), 5));
 }
 
 /// A number is constant where its unsigned range is, whatever its other parts say.
