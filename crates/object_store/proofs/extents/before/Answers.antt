@@ -1,4 +1,4 @@
-use Rattle.std.proofs.Common.{◌≡◌, ℕ, length, get_or, ap, ◌∙◌, arith}
+use Rattle.std.proofs.Common.{◌≡◌, length, get_or, ap, ◌∙◌, arith}
 use Rattle.object_store.proofs.Flats.{length-flat-more, flat-more-fits}
 use Rattle.object_store.proofs.Packs.{full-more}
 use Rattle.object_store.proofs.extents.before.Goals as goal

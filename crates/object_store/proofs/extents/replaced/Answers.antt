@@ -1,4 +1,4 @@
-use Rattle.std.proofs.Common.{◌≡◌, ◌<◌, [], ◌++◌, length, take, drop, ap, sym, subst, ◌∙◌}
+use Rattle.std.proofs.Common.{◌++◌, take, ap, sym, subst, ◌∙◌}
 use Rattle.object_store.specs.Extents.{flat, AreFull, ArePacked}
 use Rattle.object_store.proofs.Flats.{flat-append}
 use Rattle.object_store.proofs.Packs.{packed-seam}

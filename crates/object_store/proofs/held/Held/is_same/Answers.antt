@@ -1,4 +1,4 @@
-use Rattle.std.proofs.Common.{◌≡◌, ap, sym, ◌∙◌}
+use Rattle.std.proofs.Common.{ap, sym, ◌∙◌}
 use Rattle.object_store.specs.Object.{Content}
 use Rattle.object_store.proofs.Same.{same_parts}
 use Rattle.object_store.proofs.held.Held.is_same.Goals as goal
