@@ -33,7 +33,7 @@ Settles before after (Verify image) (Accepted class) = (after ≡ before) × IsS
 Settles before after (Run call) (Ran reply) = (after ≡ before) × Reports before.disk call reply
 Settles before after (Assemble text image) Assembled = Assembles before after text.now image.now
 Settles before after (Pack asked) Assembled = Packs before after asked
-Settles before after (Disassemble image) (Disassembled text) = (after ≡ before) × IsTextOf before.disk image.now (string_bytes text)
+Settles before after (Disassemble image has_slots) (Disassembled text) = (after ≡ before) × IsTextOf has_slots before.disk image.now (string_bytes text)
 Settles before after action answer = ⊥
 
 -- Why there is no answer to an action.
@@ -42,4 +42,4 @@ Fails before after (Verify image) failure = (after ≡ before) × LoadFails befo
 Fails before after (Run call) failure = (after ≡ before) × RunFails before.disk call failure
 Fails before after (Assemble text image) failure = AssembleFails before after text.now image.now failure
 Fails before after (Pack asked) failure = PackFails before after asked failure
-Fails before after (Disassemble image) failure = (after ≡ before) × ReadFails before.disk image.now failure
+Fails before after (Disassemble image has_slots) failure = (after ≡ before) × ReadFails before.disk image.now failure

@@ -1,6 +1,6 @@
 -- What `asm` writes and `dis` gives, and why they do not.
-use Rattle.std.specs.Prelude.{◌≡◌, ◌⊎◌, ⊤, ℕ, List, Option, Err, IsUtf8}
-use Rattle.bpf_asm.specs.Canonical.{class_text}
+use Rattle.std.specs.Prelude.{◌≡◌, ◌⊎◌, ⊤, ℕ, Bool, true, false, List, Option, Err, IsUtf8}
+use Rattle.bpf_asm.specs.Canonical.{class_text, class_with_slots}
 use Rattle.bpf_asm.specs.Classes.{AsmError, read_class_text}
 use Rattle.bpf_asm.specs.Fault.{no_memory}
 use Rattle.bpf_asm.specs.Grammar.{IsClassText}
@@ -83,8 +83,13 @@ abbrev pub AssembleFails : Storage → Storage → List ℕ → List ℕ → Fai
 AssembleFails before after text image failure =
     ((after ≡ before) × (TextFails before.disk text failure ⊎ SourceFails before.disk text failure)) ⊎ WriteFails before after text image failure
 
--- the text is the canonical one of the class whose image the file holds
-pub record IsTextOf (disk : Option Disk) (name : List ℕ) (text : List ℕ) : Type 0 where
+-- a class's canonical text, with each instruction's slot or without
+abbrev pub text_of : Bool → List ClassMethod → List ℕ
+text_of false class = class_text class
+text_of true class = class_with_slots class
+
+-- the text is that of the class whose image the file holds
+pub record IsTextOf (has_slots : Bool) (disk : Option Disk) (name : List ℕ) (text : List ℕ) : Type 0 where
   pub class : List ClassMethod
   pub image : IsImageIn disk name class
-  pub canonical : text ≡ class_text class
+  pub canonical : text ≡ text_of has_slots class

@@ -40,4 +40,4 @@ IsNote disk (action.Verify image) why note = IsVerifyNote disk image.now why not
 IsNote disk (action.Run call) why note = IsFileNote why note
 IsNote disk (action.Assemble text image) why note = IsFileNote why note
 IsNote disk (action.Pack asked) why note = IsFileNote why note
-IsNote disk (action.Disassemble image) why note = IsFileNote why note
+IsNote disk (action.Disassemble image has_slots) why note = IsFileNote why note

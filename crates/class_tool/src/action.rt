@@ -65,6 +65,6 @@ pub enum Action<'a> {
     Assemble { text: &'a str, image: &'a str },
     /// The image of a class of raw code.
     Pack(Packing<'a>),
-    /// The canonical text of the class in a file.
-    Disassemble { image: &'a str },
+    /// The canonical text of the class in a file, with each instruction's slot or without.
+    Disassemble { image: &'a str, has_slots: bool },
 }

@@ -36,9 +36,11 @@ pub fn find<F: Files>(alloc: Global, files: &mut F, action: &Action<'_>) -> Resu
             Ok(()) => Ok(Answer::Assembled),
             Err(failure) => Err(failure),
         },
-        Action::Disassemble { image } => match disassemble(alloc, files, image) {
-            Ok(text) => Ok(Answer::Disassembled(text)),
-            Err(failure) => Err(failure),
-        },
+        Action::Disassemble { image, has_slots } => {
+            match disassemble(alloc, files, image, *has_slots) {
+                Ok(text) => Ok(Answer::Disassembled(text)),
+                Err(failure) => Err(failure),
+            }
+        }
     }
 }

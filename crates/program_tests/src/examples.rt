@@ -112,7 +112,7 @@ pub const COUNT: &str =
     mov r1, 8\ncall 13             ; out_len\nmov r0, r7\ndone:\nexit\n";
 
 /// Classes, words on their images, and what they print.
-static SHOWN: [(&str, &[&str], &str); 5] = [
+static SHOWN: [(&str, &[&str], &str); 6] = [
     (GREET, &["verify", "image"], "greet ok 6\n"),
     (
         GREET,
@@ -129,6 +129,11 @@ static SHOWN: [(&str, &[&str], &str); 5] = [
         HELLO,
         &["dis", "image"],
         ".method hello r 0 5\nstw [r3+0], 1819043176\nstb [r3+4], 111\nmov r1, 5\ncall 13\nexit\n",
+    ),
+    (
+        ".method f r 0 0\nlddw r0, 1\nexit\n",
+        &["dis", "image", "--slots"],
+        ".method f r 0 0\nlddw r0, 0x0000000000000001 ; slot 0\nexit ; slot 2\n",
     ),
 ];
 

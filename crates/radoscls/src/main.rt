@@ -8,7 +8,7 @@
 //! - `radoscls asm IN OUT`: the image of the class text in the file IN, written to the file OUT.
 //! - `radoscls pack OUT NAME:FLAGS:IN:OUT:FILE ..`: the image of a class of those methods, each with the raw code in its
 //!   FILE, written to the file OUT.
-//! - `radoscls dis IN`: the text of the class image in the file IN.
+//! - `radoscls dis IN [--slots]`: the text of the class image in the file IN, with each instruction's slot or without.
 //! - `radoscls sim FILE [--class NAME=IMAGE ..] [--trace]`: what each event of the file FILE comes to, or a drawing of the
 //!   run; a request asks `lock`, `obj` or one of those classes by name.
 //! - `radoscls cluster FILE [--class NAME=IMAGE ..] [--stats]`: how each call of the clients in the file FILE ends on a cluster

@@ -48,7 +48,7 @@ same_values u v us vs same also (Pack asked) takes = record {
   image = sym (same (codes "OUT")) ∙ takes.image;
   methods = subst (λ (texts : Option (List Text)). AreRaw (texts_of texts) asked.methods.items) (also (codes "METHOD")) takes.methods;
 }
-same_values u v us vs same also (Disassemble image) takes = sym (same (codes "IN")) ∙ takes
+same_values u v us vs same also (Disassemble image has_slots) takes = (sym (same (codes "IN")) ∙ takes.0, takes.1 ∙ ap is_set (same (codes "slots")))
 
 -- the action of the subcommand that was entered
 pub Asks-entered : (name : Text) (m found : ArgMatches) → subcommand_name_of m ≡ Some name

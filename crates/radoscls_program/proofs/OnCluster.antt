@@ -36,7 +36,7 @@ no_action value values (Verify image) asks = other (codes "cluster") (codes "ver
 no_action value values (Run call) asks = other (codes "cluster") (codes "run") refl asks.0
 no_action value values (Assemble text image) asks = other (codes "cluster") (codes "asm") refl asks.0
 no_action value values (Pack asked) asks = other (codes "cluster") (codes "pack") refl asks.0
-no_action value values (Disassemble image) asks = other (codes "cluster") (codes "dis") refl asks.0
+no_action value values (Disassemble image has_slots) asks = other (codes "cluster") (codes "dis") refl asks.0
 
 -- `cluster`, whose values ask for nothing
 pub cluster_asks_nothing : (m found : ArgMatches) → subcommand_name_of m ≡ Some (codes "cluster")

@@ -39,7 +39,7 @@ no_action value values (Verify image) asks = other (codes "sim") (codes "verify"
 no_action value values (Run call) asks = other (codes "sim") (codes "run") refl asks.0
 no_action value values (Assemble text image) asks = other (codes "sim") (codes "asm") refl asks.0
 no_action value values (Pack asked) asks = other (codes "sim") (codes "pack") refl asks.0
-no_action value values (Disassemble image) asks = other (codes "sim") (codes "dis") refl asks.0
+no_action value values (Disassemble image has_slots) asks = other (codes "sim") (codes "dis") refl asks.0
 
 -- `sim`, whose values ask for nothing
 pub sim_asks_nothing : (m found : ArgMatches) → subcommand_name_of m ≡ Some (codes "sim")

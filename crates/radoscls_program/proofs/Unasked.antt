@@ -37,35 +37,35 @@ no_verify value values none (Verify image) asks = none-some image.now (sym none 
 no_verify value values none (Run call) asks = other (codes "verify") (codes "run") refl asks.0
 no_verify value values none (Assemble text image) asks = other (codes "verify") (codes "asm") refl asks.0
 no_verify value values none (Pack asked) asks = other (codes "verify") (codes "pack") refl asks.0
-no_verify value values none (Disassemble image) asks = other (codes "verify") (codes "dis") refl asks.0
+no_verify value values none (Disassemble image has_slots) asks = other (codes "verify") (codes "dis") refl asks.0
 
 pub no_dis : (value : Text → Option Text) (values : Text → Option (List Text)) → value (codes "IN") ≡ None → AsksNoneBy (codes "dis") value values
 no_dis value values none (Verify image) asks = other (codes "dis") (codes "verify") refl asks.0
 no_dis value values none (Run call) asks = other (codes "dis") (codes "run") refl asks.0
 no_dis value values none (Assemble text image) asks = other (codes "dis") (codes "asm") refl asks.0
 no_dis value values none (Pack asked) asks = other (codes "dis") (codes "pack") refl asks.0
-no_dis value values none (Disassemble image) asks = none-some image.now (sym none ∙ asks.1)
+no_dis value values none (Disassemble image has_slots) asks = none-some image.now (sym none ∙ asks.1.0)
 
 pub no_run : (value : Text → Option Text) (values : Text → Option (List Text)) → ((call : Call) → TakesCall value values call → ⊥) → AsksNoneBy (codes "run") value values
 no_run value values none (Verify image) asks = other (codes "run") (codes "verify") refl asks.0
 no_run value values none (Run call) asks = none call asks.1
 no_run value values none (Assemble text image) asks = other (codes "run") (codes "asm") refl asks.0
 no_run value values none (Pack asked) asks = other (codes "run") (codes "pack") refl asks.0
-no_run value values none (Disassemble image) asks = other (codes "run") (codes "dis") refl asks.0
+no_run value values none (Disassemble image has_slots) asks = other (codes "run") (codes "dis") refl asks.0
 
 pub no_asm : (value : Text → Option Text) (values : Text → Option (List Text)) → (NamesFiles value → ⊥) → AsksNoneBy (codes "asm") value values
 no_asm value values none (Verify image) asks = other (codes "asm") (codes "verify") refl asks.0
 no_asm value values none (Run call) asks = other (codes "asm") (codes "run") refl asks.0
 no_asm value values none (Assemble text image) asks = none (ap is_some asks.1.0, ap is_some asks.1.1)
 no_asm value values none (Pack asked) asks = other (codes "asm") (codes "pack") refl asks.0
-no_asm value values none (Disassemble image) asks = other (codes "asm") (codes "dis") refl asks.0
+no_asm value values none (Disassemble image has_slots) asks = other (codes "asm") (codes "dis") refl asks.0
 
 pub no_pack : (value : Text → Option Text) (values : Text → Option (List Text)) → ((asked : Packing) → TakesPacking value values asked → ⊥) → AsksNoneBy (codes "pack") value values
 no_pack value values none (Verify image) asks = other (codes "pack") (codes "verify") refl asks.0
 no_pack value values none (Run call) asks = other (codes "pack") (codes "run") refl asks.0
 no_pack value values none (Assemble text image) asks = other (codes "pack") (codes "asm") refl asks.0
 no_pack value values none (Pack asked) asks = none asked asks.1
-no_pack value values none (Disassemble image) asks = other (codes "pack") (codes "dis") refl asks.0
+no_pack value values none (Disassemble image has_slots) asks = other (codes "pack") (codes "dis") refl asks.0
 
 -- the subcommand that was entered asks for nothing
 pub AsksNothing-entered : (name : Text) (m found : ArgMatches) → subcommand_name_of m ≡ Some name
@@ -97,7 +97,7 @@ no_other m verify run asm dis pack (Verify image) asks = asked_is_entered m (cod
 no_other m verify run asm dis pack (Run call) asks = asked_is_entered m (codes "run") asks.name asks.rows asks.entered asks.asked.0 run
 no_other m verify run asm dis pack (Assemble text image) asks = asked_is_entered m (codes "asm") asks.name asks.rows asks.entered asks.asked.0 asm
 no_other m verify run asm dis pack (Pack asked) asks = asked_is_entered m (codes "pack") asks.name asks.rows asks.entered asks.asked.0 pack
-no_other m verify run asm dis pack (Disassemble image) asks = asked_is_entered m (codes "dis") asks.name asks.rows asks.entered asks.asked.0 dis
+no_other m verify run asm dis pack (Disassemble image has_slots) asks = asked_is_entered m (codes "dis") asks.name asks.rows asks.entered asks.asked.0 dis
 
 -- words with a fault name no task without one
 pub fault_asks_nothing : (words : List Text) (e : Error) → HasKind (fault_of command_line words) e → kind_of e ≢ OutOfMemory → AreForNone words

@@ -28,7 +28,7 @@ subcommand_for (Verify image) = codes "verify"
 subcommand_for (Run call) = codes "run"
 subcommand_for (Assemble text image) = codes "asm"
 subcommand_for (Pack asked) = codes "pack"
-subcommand_for (Disassemble image) = codes "dis"
+subcommand_for (Disassemble image has_slots) = codes "dis"
 
 -- the texts of an argument that may stand more than once
 abbrev pub texts_of : Option (List (List ℕ)) → List (List ℕ)
@@ -70,13 +70,14 @@ pub record TakesCall (value : List ℕ → Option (List ℕ)) (values : List ℕ
   pub shown : call.is_shown ≡ is_set (value (codes "show"))
 
 -- What each action takes from the values: whether the class in the file IN is safe; a call; the image of the text in the file IN, into the file
--- OUT; the image of raw code; the text of the class in the file IN. `values` gives all texts of an argument.
+-- OUT; the image of raw code; the text of the class in the file IN, with slots where --slots
+-- is there. `values` gives all texts of an argument.
 abbrev pub Takes : (List ℕ → Option (List ℕ)) → (List ℕ → Option (List (List ℕ))) → Action → Type 0
 Takes value values (Verify image) = value (codes "IN") ≡ Some image.now
 Takes value values (Run call) = TakesCall value values call
 Takes value values (Assemble text image) = (value (codes "IN") ≡ Some text.now) × (value (codes "OUT") ≡ Some image.now)
 Takes value values (Pack asked) = TakesPacking value values asked
-Takes value values (Disassemble image) = value (codes "IN") ≡ Some image.now
+Takes value values (Disassemble image has_slots) = (value (codes "IN") ≡ Some image.now) × (has_slots ≡ is_set (value (codes "slots")))
 
 -- the action of the subcommand of that name and its values
 abbrev pub AsksBy : List ℕ → (List ℕ → Option (List ℕ)) → (List ℕ → Option (List (List ℕ))) → Action → Type 0

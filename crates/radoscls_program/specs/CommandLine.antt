@@ -1,6 +1,6 @@
 -- The command line: `verify IN [--explain]`, `run IN METHOD [--input HEX] [--caller N]
 -- [--object HEX] [--xattr NAME=HEX ..] [--key KEY=HEX ..] [--show] [--explain]`, `asm IN OUT [--explain]`,
--- `pack OUT METHOD .. [--explain]`, `dis IN [--explain]`,
+-- `pack OUT METHOD .. [--explain]`, `dis IN [--slots] [--explain]`,
 -- `sim FILE [--class NAME=IMAGE ..] [--trace]`, and `cluster FILE [--class NAME=IMAGE ..] [--stats]`.
 use Rattle.std.specs.Prelude.{◌≡◌, Bool, List, [], ◌∷◌, Option, Some, None, true, false, pos, codes}
 use Rattle.clap.specs.Lexer.{usize_max}
@@ -68,7 +68,7 @@ abbrev pub pack_line : App
 pack_line = with_rule (with_rule (with_rule (new_app (codes "pack")) (required_rule (codes "OUT"))) methods_rule) explain_rule
 
 abbrev pub dis_line : App
-dis_line = with_rule (with_rule (new_app (codes "dis")) (required_rule (codes "IN"))) explain_rule
+dis_line = with_rule (with_rule (with_rule (new_app (codes "dis")) (required_rule (codes "IN"))) (flag_rule (codes "slots"))) explain_rule
 
 -- the option of a tenant's class, which may stand more than once
 abbrev pub class_rule : Rule

@@ -238,7 +238,8 @@ fn dis_command<'a>(alloc: Global) -> Result<Command<'a>, AllocError>
 {
     let about = "Prints the text of a class image";
     let of_image = file_command(alloc, "dis", about, "IN", "The file of the image");
-    with_arg(of_image, explain_flag(alloc))
+    let slots = flag(alloc, "slots", "Ends each instruction's line with its slot");
+    with_arg(with_arg(of_image, slots), explain_flag(alloc))
 }
 
 /// The option of a tenant's class, which may stand more than once.
@@ -422,6 +423,7 @@ fn dis_action<'a>(matches: &ArgMatches<'a>) -> Option<Action<'a>>
 {
     Some(Action::Disassemble {
         image: matches.get_str("IN")?,
+        has_slots: is_set(matches, "slots"),
     })
 }
 
