@@ -21,7 +21,7 @@ impl<N: ClusterName, R: Wait> Running<N, R> {
     pub fn ask(&self, sends: &mut Sends<N>, request: &Request) -> Result<(), AskError>
         ensures grew { Grew sends.old sends.new }
         ensures sent { OnOk result (WasSent sends.old sends.new (λ op. op.carried ≡ Plain (ARequest request.now))) }
-        ensures group { OnOk result (WasSent sends.old sends.new (λ op. op.group ≡ group_of request.now.object N.config.groups)) }
+        ensures placed { OnOk result (WasSent sends.old sends.new (λ op. (op.group ≡ group_of request.now.object N.config.groups) × (op.carried ≡ Plain (ARequest request.now)))) }
         ensures kept { OnErr result (sends.new ≡ sends.old) }
     {
         let Ok(copy) = request.copy(self.alloc) else {
