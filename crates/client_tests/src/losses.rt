@@ -495,3 +495,63 @@ impl Part for Abandoned {
 fn a_session_is_dropped_with_its_call_unanswered(rt: HostRuntime) {
     assert!(rt; is_so(&rt, rt.alloc(), config(1, 50), &Abandoned(rt.alloc())));
 }
+
+/// No message between nodes passes, so the primary stays in peering, and refuses each request by that.
+#[derive(Drop)]
+struct Silent;
+
+impl Fate for Silent {
+    fn of(&self, _worker: usize, _n: u64) -> Deal {
+        Deal::Drop
+    }
+}
+
+/// A call that is refused since the primary is in peering nudges at once. It has fewer tries than the thousand looks after
+/// which any call nudges.
+#[derive(Drop)]
+struct Refused(Global);
+
+/// Whether a call or one of a thousand repeats nudges.
+fn nudges<N: ClusterName, R: Wait>(
+    session: &mut Session<'_, N, R>,
+    alloc: Global,
+    object: &ObjectName,
+) -> bool {
+    if lock(session, alloc, object).is_some() {
+        return false;
+    }
+    for _ in 0..1_000 {
+        if session.nudges() != 0 {
+            return true;
+        }
+        if session.retry().is_ok() {
+            return false;
+        }
+    }
+    false
+}
+
+impl Part for Refused {
+    fn act<N: ClusterName, R: Wait>(&self, running: &Running<N, R>) -> bool {
+        let Ok(object) = ObjectName::new(self.0, "a") else {
+            return false;
+        };
+        let Ok(mut session) = Session::open(running) else {
+            return false;
+        };
+        nudges(&mut session, self.0, &object)
+    }
+}
+
+#[test]
+fn a_refusal_by_peering_nudges_at_once(rt: HostRuntime) {
+    assert!(rt;
+        is_so_under(
+            &rt,
+            rt.alloc(),
+            config(3, 900),
+            &Silent,
+            &Refused(rt.alloc())
+        )
+    );
+}
