@@ -21,7 +21,7 @@ use std::thread::{Threads, join, yield_now};
 pub const TURNS: u32 = 30_000_000;
 
 /// The looks without an answer after which a request is sent again.
-const LOOKS: u32 = 100;
+const LOOKS: u32 = 20;
 
 /// A client's request of the lock on an object.
 pub fn lock(alloc: Global, client: ClientId, number: u32, object: &str) -> Option<Request> {
@@ -333,9 +333,12 @@ impl<'a, N: ClusterName> Fence<'a, N> {
     }
 
     /// Whether the worker is done with all that was submitted, and with all that comes of it: it takes nothing between two
-    /// requests of the fence.
+    /// requests of the fence, the second of which is sent when it has taken the first.
     pub fn settles<R: Wait>(&mut self, running: &Running<N, R>) -> bool {
         for _ in 0..TURNS {
+            if !self.passes(running) {
+                return false;
+            }
             let before = self.taken.all();
             if !self.passes(running) {
                 return false;

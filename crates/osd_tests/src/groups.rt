@@ -2,7 +2,9 @@
 //! groups 0 to 3 are kept by 2 and 1, 2 and 0, 1 and 0, 3 and 2; without node 0 by 2 and 1, 2 and 1, 1 and 2, 3 and 2. So the
 //! second map begins an interval of groups 1 and 2, and keeps that of groups 0 and 3.
 
-use crate::asking::{Calls, Fence, Server, Taken, accepted, answer, lock, played, served, served_by};
+use crate::asking::{
+    Calls, Fence, Server, Taken, accepted, answer, lock, played, served, served_by,
+};
 use crate::fates::Cut;
 use osd::{ClusterName, Config, Opened, PassAll, Running, Scenario};
 use placement::NodeId;

@@ -13,10 +13,10 @@ use std::sync::atomic::{AtomicBool, Ordering};
 use std::thread::{Threads, join, yield_now};
 
 /// The calls to a worker that waits.
-const CALLS: u32 = 8;
+const CALLS: u32 = 5;
 
 /// The turns after which a worker that has nothing to do waits.
-const IDLE: u32 = 200;
+const IDLE: u32 = 50;
 
 fn pause() {
     for _ in 0..IDLE {

@@ -46,11 +46,13 @@ impl<N: ClusterName, R: Wait> Running<N, R> {
         ensures sent { OnOk result (WasSent sends.old sends.new (λ op. op ≡ operation)) }
         ensures kept { OnErr result (sends.new ≡ sends.old) }
     {
+        let shard = operation.group % self.shards.count();
         let Ok(boxed) = Box::new(self.alloc, operation) else {
             return Err(AskError::NoMemory);
         };
         match sends.submit(&self.rt, &self.shards, Queued::new(boxed)) {
             Ok(()) => {
+                self.bell.fill(shard);
                 self.bell.ring(&self.rt);
                 Ok(())
             }
