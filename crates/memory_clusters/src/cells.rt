@@ -32,11 +32,16 @@ fn is_to<N: BoardName>(item: &Option<Outgoing<N>>, number: u64) -> bool {
     }
 }
 
-/// What became of a turn: both members get the empty list, or a part of it or all is lost.
-fn found_of<N: BoardName>(sent: &Result<Vec<Option<Outgoing<N>>>, NoMemory>) -> Found {
+/// What became of a turn: both members get the empty list; or the event never came, by which nothing is sent; or a part of
+/// what is sent is lost, or all of it.
+fn found_of<N: BoardName>(
+    node: &GroupNode<N>,
+    sent: &Result<Vec<Option<Outgoing<N>>>, NoMemory>,
+) -> Found {
     match sent {
         Err(NoMemory) => Found::Want,
         Ok(items) => match items.as_slice() {
+            [] => Found::want(node.epoch().get() == 0),
             [first, second] => {
                 if is_to(first, 2) && is_to(second, 3) {
                     Found::Answer
@@ -62,9 +67,11 @@ fn again<N: BoardName>(
 {
     if cell.node().epoch().get() == 0 {
         let event = Carried::Plain(Event::Map(map));
-        found_of(&cell.turn(alloc, board, table, event))
+        let sent = cell.turn(alloc, board, table, event);
+        found_of(cell.node(), &sent)
     } else {
-        found_of(&cell.resend(alloc, board))
+        let sent = cell.resend(alloc, board);
+        found_of(cell.node(), &sent)
     }
 }
 
@@ -78,7 +85,8 @@ fn turned<N: BoardName>(alloc: Global, board: &Board, table: &ClassTable, writer
         return Ending::Differs;
     };
     let event = Carried::Plain(Event::Map(first));
-    match found_of(&cell.turn(alloc, board, table, event)) {
+    let sent = cell.turn(alloc, board, table, event);
+    match found_of(cell.node(), &sent) {
         Found::Want => again(alloc, board, table, &mut cell, second).again(),
         found => found.once(),
     }

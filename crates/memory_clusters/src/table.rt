@@ -4,6 +4,7 @@ use crate::cells::turn;
 use crate::clusters::{load, new};
 use crate::running::{Call, on_running};
 use memory_table::Ending;
+use std::alloc::Global;
 use std::sync::Wait;
 use std::thread::Threads;
 
@@ -42,8 +43,7 @@ impl ClusterRow {
 
     /// Makes the call, and once more if it is refused memory.
     #[rattlefmt::skip]
-    pub fn run<R: AllocGlobal + Threads + Wait + Sync + Copy + Drop>(self, rt: R) -> Ending {
-        let alloc = rt.alloc();
+    pub fn run<R: Threads + Wait + Sync + Copy + Drop>(self, rt: R, alloc: Global) -> Ending {
         match self {
             ClusterRow::New => new(alloc),
             ClusterRow::LoadClass => load(alloc),

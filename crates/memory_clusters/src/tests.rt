@@ -6,6 +6,6 @@ use memory_table::Ending;
 #[test]
 fn every_row(rt: HostRuntime) {
     for (name, row) in &CLUSTER_ROWS {
-        assert!(rt; row.run(rt) == Ending::Answered, "{name}");
+        assert!(rt; row.run(&rt, rt.alloc()) == Ending::Answered, "{name}");
     }
 }

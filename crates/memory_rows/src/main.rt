@@ -5,11 +5,17 @@
 
 use memory_clusters::{CLUSTER_ROWS, ClusterRow};
 use memory_table::{Ending, ROWS, Row};
+use std::alloc::Global;
 use std::process::ExitCode;
+use std::sync::Wait;
+use std::thread::Threads;
 use std::{env, io};
 
 fn main(rt: HostRuntime) -> ExitCode {
-    match rows(rt) {
+    let Some(words) = words(&rt) else {
+        return ExitCode::FAILURE;
+    };
+    match rows(&rt, rt.alloc(), &words, &mut rt.stdout()) {
         Ok(true) => ExitCode::SUCCESS,
         Ok(false) => ExitCode::FAILURE,
         Err(_) => ExitCode::FAILURE,
@@ -29,42 +35,53 @@ fn words_once(rt: &HostRuntime) -> Option<Vec<String>> {
 }
 
 /// Makes the rows that the words ask for. Whether none differs.
-fn rows(rt: HostRuntime) -> io::Result<bool> {
-    let Some(words) = words(&rt) else {
-        return Ok(false);
-    };
-    match words.as_slice() {
-        [_] => all_rows(rt),
-        [_, name] => row(rt, name),
+fn rows<R: Threads + Wait + Sync + Copy + Drop, O: io::Write>(
+    rt: R,
+    alloc: Global,
+    words: &[String],
+    out: &mut O,
+) -> io::Result<bool> {
+    match words {
+        [_] => all_rows(rt, alloc, out),
+        [_, name] => row(rt, alloc, name, out),
         _ => Ok(false),
     }
 }
 
 /// Prints how a row ended. Whether it doesn't differ.
-fn print(rt: &HostRuntime, name: &str, ending: Ending) -> io::Result<bool> {
-    println!(rt; "{name} {}", ending.word())?;
+fn print<O: io::Write>(name: &str, ending: Ending, out: &mut O) -> io::Result<bool> {
+    writeln!(out, "{name} {}", ending.word())?;
     Ok(ending != Ending::Differs)
 }
 
 /// Makes the row of a name. False where there is none.
-fn row(rt: HostRuntime, name: &str) -> io::Result<bool> {
+fn row<R: Threads + Wait + Sync + Copy + Drop, O: io::Write>(
+    rt: R,
+    alloc: Global,
+    name: &str,
+    out: &mut O,
+) -> io::Result<bool> {
     let ending = match (Row::of(name), ClusterRow::of(name)) {
-        (Some(row), _) => row.run(rt.alloc()),
-        (None, Some(row)) => row.run(rt),
+        (Some(row), _) => row.run(alloc),
+        (None, Some(row)) => row.run(rt, alloc),
         (None, None) => return Ok(false),
     };
-    print(&rt, name, ending)
+    print(name, ending, out)
 }
 
 /// Makes every row.
-fn all_rows(rt: HostRuntime) -> io::Result<bool> {
+fn all_rows<R: Threads + Wait + Sync + Copy + Drop, O: io::Write>(
+    rt: R,
+    alloc: Global,
+    out: &mut O,
+) -> io::Result<bool> {
     let mut all = true;
     for (name, row) in &ROWS {
-        let is_right = print(&rt, name, row.run(rt.alloc()))?;
+        let is_right = print(name, row.run(alloc), out)?;
         all = all && is_right;
     }
     for (name, row) in &CLUSTER_ROWS {
-        let is_right = print(&rt, name, row.run(rt))?;
+        let is_right = print(name, row.run(rt, alloc), out)?;
         all = all && is_right;
     }
     Ok(all)

@@ -97,8 +97,9 @@ fn run(alloc: Global, of_resend: bool) -> Ending {
     }
 }
 
-/// `handle` at each event of a run: a map; a request, its acknowledgements and its reply, which is lost; the request again;
-/// a new primary that adopts the log and sends it to two others; and the request once more.
+/// `handle` at each event of a run: a map; a request, of whose acknowledgements one is lost, until the primary sends the
+/// request again; its reply, which is lost, and the same request; a new primary that adopts the log and sends it to two
+/// others; and the same request there.
 pub fn handled(alloc: Global) -> Ending {
     run(alloc, false)
 }

@@ -11,7 +11,7 @@ const CLIENT: u64 = 201;
 type Line = (u64, u64, &'static str, u32, usize);
 
 #[rattlefmt::skip]
-const LINES: [Line; 25] = [
+const LINES: [Line; 27] = [
     // node 1 leads 1, 2 and 3
     (1, 2, "Install", 1, 0),
     (1, 3, "Install", 1, 0),
@@ -19,10 +19,13 @@ const LINES: [Line; 25] = [
     (3, 1, "Installed", 1, 0),
     (1, MONITOR, "AskActivate", 1, 0),
     (MONITOR, 1, "Activated", 1, 0),
-    // a request, whose reply is lost
+    // a request; node 3's acknowledgement is lost
     (1, 2, "Rep", 1, 0),
     (1, 3, "Rep", 1, 0),
     (2, 1, "Ack", 1, 1),
+    (3, 1, "Ack", 1, 1),
+    // what node 1 sends again; its reply is lost
+    (1, 3, "Rep", 1, 0),
     (3, 1, "Ack", 1, 1),
     (1, CLIENT, "Reply", 7, 0),
     // the request again
@@ -43,6 +46,9 @@ const LINES: [Line; 25] = [
     // and the request once more
     (4, CLIENT, "Reply", 7, 0),
 ];
+
+/// The place of the acknowledgement that is lost.
+pub const LOST: usize = 9;
 
 fn number_of(party: Party) -> u64 {
     match party {

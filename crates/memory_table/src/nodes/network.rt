@@ -3,7 +3,7 @@ ghost use Rattle.std.specs.Prelude.{◌≡◌};
 
 use crate::logs::same_logs;
 use crate::made::{Asked, name_of, nodes_of, request_of};
-use crate::nodes::expected::{are_all, are_from};
+use crate::nodes::expected::{LOST, are_all, are_from};
 use group_world::{Epoch, Event, GroupMap, HandleError, Kind, Message, Messages, Packet, Party};
 use object_store::ObjectName;
 use peering::{GroupNode, Monitor};
@@ -71,6 +71,7 @@ impl<C: Classes> Network<C> {
     {
         self.lead(table, &[1, 2, 3])?;
         self.ask(table, 1)?;
+        self.repeat(table, 1)?;
         self.ask(table, 1)?;
         self.lead(table, &[4, 2, 3])?;
         self.ask(table, 4)?;
@@ -119,6 +120,19 @@ impl<C: Classes> Network<C> {
         Some(())
     }
 
+    /// What a node sends again comes, since an acknowledgement was lost.
+    fn repeat(&mut self, table: &ClassTable, number: u64) -> Option<()>
+        requires { table.now ≡ C.classes }
+    {
+        let node = node_of(&mut self.nodes, number)?;
+        let made = resent(self.alloc, node, &self.names)?;
+        self.is_resend_refused = self.is_resend_refused || made.is_refused;
+        for packet in made.sent.into_items() {
+            self.sent.push(packet).ok()?;
+        }
+        self.deliver_all(table)
+    }
+
     /// What a node sent last it sends again, which is lost.
     fn resend(&mut self, number: u64) -> Option<()> {
         let node = node_of(&mut self.nodes, number)?;
@@ -144,14 +158,16 @@ impl<C: Classes> Network<C> {
         Some(())
     }
 
-    /// The next message comes. What a client gets is lost.
+    /// The next message comes, or is lost: what a client gets, and an acknowledgement.
     fn deliver(&mut self, table: &ClassTable) -> Option<()>
         requires { table.now ≡ C.classes }
     {
         let packet = self.sent.get(self.come)?;
         let (receiver, sender) = (packet.receiver, packet.message.sender);
+        let is_lost = self.come == LOST;
         self.come = self.come.checked_add(1)?;
         match receiver {
+            Party::Node(_) if is_lost => Some(()),
             Party::Node(node) => {
                 let message = copy_message(self.alloc, &packet.message)?;
                 self.come_to(table, node.get(), Event::Message(message))
