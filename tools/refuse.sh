@@ -11,8 +11,8 @@
 #   thread is refused, its part runs after the other: the client of `cluster` is unanswered then;
 # - OUT of a command that writes it is as it was, or whole.
 #
-# A row that met no refusal doesn't pass, but for `serve`, whose refusals lose messages. The status is 0 where all passed. It
-# takes a minute on a machine that does nothing else; on a busy one a client of `cluster` looks longer than that.
+# A row that met no refusal doesn't pass. The status is 0 where all passed. It takes a minute on a machine that does nothing
+# else; on a busy one a client of `cluster` looks longer than that.
 set -u
 top=$(cd "$(dirname "$0")/.." && pwd)
 rows=${1:-$top/crates/memory_rows/out/memory_rows}
@@ -56,7 +56,7 @@ sweep_row() {
         n=$((n + 1))
     done
     [ "$status $printed" = "0 $1 answered" ] || differs "$1" none
-    if [ "$n" = 1 ] || { [ "$refused" = 0 ] && [ "$1" != serve ]; }; then differs "$1" "of none was refused"; fi
+    if [ "$refused" = 0 ]; then differs "$1" "of none was refused"; fi
     tell "$1" $((n - 1)) "$refused"
 }
 

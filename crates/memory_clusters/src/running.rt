@@ -1,6 +1,5 @@
 //! Rows of a running cluster that no other thread serves: `new_map`, 4 NoMemory; `exec` and `retry` before their first
-//! submit, 8 NoMemory; `logged`, 2 NoMemory; and a worker, who loses a message or an event, which the client's next submit
-//! makes up for.
+//! submit, 8 NoMemory; `logged`, 2 NoMemory; and a worker, who loses a message or an event, until the client submits again.
 
 use crate::clusters::{cluster_of, config};
 use map_book::MapError;
@@ -22,7 +21,6 @@ pub enum Call {
     Exec,
     Retry,
     Logged,
-    Serve,
 }
 
 fn map_once<N: ClusterName, R: Wait>(running: &Running<N, R>, up: &[NodeId]) -> Found {
@@ -132,12 +130,14 @@ fn is_first<N: ClusterName, R: Wait>(running: &Running<N, R>, ending: Ending) ->
     }
 }
 
-/// Submits a request before each operation, and has the node learn the newest map, until the request is logged.
+/// Submits a request before each operation, and has the node learn the newest map, until the request is logged. It counts the
+/// operations.
 #[derive(Drop)]
 struct Asks<'a, N: ClusterName, R> {
     running: &'a Running<N, R>,
     request: Request,
     sends: Cell<Option<Sends<N>>>,
+    count: Cell<u64>,
 }
 
 impl<N: ClusterName, R: Wait> Asks<'_, N, R> {
@@ -154,6 +154,7 @@ impl<N: ClusterName, R: Wait> Asks<'_, N, R> {
 
 impl<N: ClusterName, R: Wait> Gate for Asks<'_, N, R> {
     fn before(&self, _number: u64) {
+        self.count.set(self.count.get().wrapping_add(1));
         let is_logged = match self.running.logged(NodeId::new(0), 0) {
             Ok(entries) => !entries.is_empty(),
             Err(_) => false,
@@ -185,19 +186,20 @@ fn lock_once(alloc: Global, client: ClientId) -> Option<Request> {
     ))
 }
 
-/// Serves until the request is logged.
-fn serve<N: ClusterName, R: Wait>(alloc: Global, running: &Running<N, R>) -> Option<()> {
+/// Serves until the request is logged: how many operations that takes.
+fn serve<N: ClusterName, R: Wait>(alloc: Global, running: &Running<N, R>) -> Option<u64> {
     let opened = running.open()?;
     let gate = Asks {
         running,
         request: lock_of(alloc, opened.client)?,
         sends: Cell::new(Some(opened.sends)),
+        count: Cell::new(0),
     };
     // Twice, since one of what is submitted may be refused memory.
     gate.submit();
     gate.submit();
     running.serve(0, &gate);
-    Some(())
+    Some(gate.count.get())
 }
 
 /// What the log of the one node says: the request once, answered 0.
@@ -224,15 +226,6 @@ fn logged<N: ClusterName, R: Wait>(alloc: Global, running: &Running<N, R>) -> Op
     })
 }
 
-/// What a worker is refused makes a message or an event as one that never came: the log is the same in the end.
-fn served<N: ClusterName, R: Wait>(alloc: Global, running: &Running<N, R>) -> Option<Ending> {
-    serve(alloc, running)?;
-    Some(match logged_once(running) {
-        Found::Want => logged_once(running).once(),
-        found => found.once(),
-    })
-}
-
 /// A call on a running cluster.
 #[derive(Drop)]
 struct Row {
@@ -254,7 +247,6 @@ impl Scenario for Row {
             Call::Exec => executed(self.alloc, running),
             Call::Retry => retried(self.alloc, running),
             Call::Logged => logged(self.alloc, running),
-            Call::Serve => served(self.alloc, running),
         }
     }
 }
@@ -270,7 +262,6 @@ fn run_once<R: Threads + Wait + Sync + Copy + Drop>(
         Call::Exec => config(1, 1),
         Call::Retry => config(1, 1),
         Call::Logged => config(1, 1),
-        Call::Serve => config(1, 1),
     };
     let mut cluster = cluster_of(alloc, config)?;
     cluster.run(rt, &Row { alloc, call }).ok()
@@ -287,4 +278,60 @@ pub fn on_running<R: Threads + Wait + Sync + Copy + Drop>(
         None => run_once(rt, alloc, call).unwrap_or(None),
     };
     ending.unwrap_or(Ending::Differs)
+}
+
+/// A worker's operations until a request is logged.
+#[derive(Drop)]
+struct Worker {
+    alloc: Global,
+}
+
+/// Whether the log has the request once, which is asked once more if memory was refused.
+fn is_logged<N: ClusterName, R: Wait>(running: &Running<N, R>) -> bool {
+    match logged_once(running) {
+        Found::Answer => true,
+        Found::Want => logged_once(running) == Found::Answer,
+        Found::Wrong => false,
+    }
+}
+
+impl Scenario for Worker {
+    type Output = Option<u64>;
+
+    ghost gives = { λ _ _ _. Unit {0} };
+
+    fn play<N: ClusterName + Send + Sync, R: Threads + Wait + Sync>(
+        &self,
+        running: &Running<N, R>,
+    ) -> Option<u64> {
+        let count = serve(self.alloc, running)?;
+        if is_logged(running) {
+            Some(count)
+        } else {
+            None
+        }
+    }
+}
+
+fn count_once<R: Threads + Wait + Sync + Copy + Drop>(rt: R, alloc: Global) -> Option<Option<u64>> {
+    let mut cluster = cluster_of(alloc, config(1, 1))?;
+    cluster.run(rt, &Worker { alloc }).ok()
+}
+
+/// How many operations a worker of a new cluster takes until the request is logged, and the log is right.
+fn count<R: Threads + Wait + Sync + Copy + Drop>(rt: R, alloc: Global) -> Option<u64> {
+    match count_once(rt, alloc) {
+        Some(count) => count,
+        None => count_once(rt, alloc).unwrap_or(None),
+    }
+}
+
+/// What a worker is refused makes a message or an event as one that never came: the log is the same in the end, after more
+/// operations than those of a worker who is refused nothing.
+pub fn served<R: Threads + Wait + Sync + Copy + Drop>(rt: R, alloc: Global) -> Ending {
+    match (count(rt, alloc), count(rt, alloc)) {
+        (Some(one), Some(other)) if one == other => Ending::Answered,
+        (Some(_), Some(_)) => Ending::Refused,
+        _ => Ending::Differs,
+    }
 }

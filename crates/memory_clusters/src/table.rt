@@ -2,7 +2,7 @@
 
 use crate::cells::turn;
 use crate::clusters::{load, new};
-use crate::running::{Call, on_running};
+use crate::running::{Call, on_running, served};
 use memory_table::Ending;
 use std::alloc::Global;
 use std::sync::Wait;
@@ -14,6 +14,7 @@ pub enum ClusterRow {
     New,
     LoadClass,
     Turn,
+    Serve,
     Running(Call),
 }
 
@@ -27,7 +28,7 @@ pub const CLUSTER_ROWS: [(&str, ClusterRow); 8] = [
     ("exec", ClusterRow::Running(Call::Exec)),
     ("retry", ClusterRow::Running(Call::Retry)),
     ("logged", ClusterRow::Running(Call::Logged)),
-    ("serve", ClusterRow::Running(Call::Serve)),
+    ("serve", ClusterRow::Serve),
 ];
 
 impl ClusterRow {
@@ -48,6 +49,7 @@ impl ClusterRow {
             ClusterRow::New => new(alloc),
             ClusterRow::LoadClass => load(alloc),
             ClusterRow::Turn => turn(alloc),
+            ClusterRow::Serve => served(rt, alloc),
             ClusterRow::Running(call) => on_running(rt, alloc, call),
         }
     }
