@@ -20,7 +20,7 @@ pub use argument::{Argument, Signature};
 pub use changes::{create, map_rm, map_set, remove, rmxattr, setxattr, truncate, write};
 pub use errno::{EBUSY, EEXIST, EFBIG, EINVAL, EIO, ENODATA, ENOENT, ENOMEM, ENOSPC, ERANGE};
 pub use helper::{Helper, signature};
-pub use laws::effects_are_within_limits;
+pub use laws::{effects_are_within_limits, errors_by_number};
 pub use lookups::{key_above, map_value, stat, xattr_value};
 pub use memory::{getxattr, map_get, map_next, read};
 pub use plain::{caller, out_len};
