@@ -1,7 +1,7 @@
 //! Rows of objects and their data: 7 NoMemory.
 
 use crate::found::{Ending, Found};
-use crate::same::all_same;
+use crate::same::same;
 use crate::store::{names, object_of, objects_of};
 use object_store::{
     Data, DataError, Edit, ExtentData, FlatData, Object, ObjectName, Objects, StoreError, edit_all,
@@ -103,7 +103,7 @@ impl Trial {
 
     /// Whether all objects are as before.
     fn is_as_before(&self) -> bool {
-        all_same(&self.objects, &self.before, &self.names)
+        self.objects.is_same(&self.before)
     }
 
     /// Whether the other objects are as before.
@@ -119,7 +119,7 @@ impl Trial {
     fn is_kept(&self, k: usize) -> bool {
         match self.names.get(k) {
             None => false,
-            Some(name) => crate::same::same(self.objects.get(name), self.before.get(name)),
+            Some(name) => same(self.objects.get(name), self.before.get(name)),
         }
     }
 

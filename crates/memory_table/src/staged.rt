@@ -1,7 +1,7 @@
 //! Rows of `Staged`, whose word for want of memory is its `StoreError`'s, 7; and of `apply` and `undo`: NoMemory.
 
 use crate::found::{Ending, Found};
-use crate::same::{all_same, same};
+use crate::same::same;
 use crate::store::{names, object_of, objects_of};
 use object_store::{Object, ObjectName, Objects, StoreError};
 use std::alloc::Global;
@@ -141,8 +141,8 @@ fn both(alloc: Global) -> Option<Pair> {
 impl Pair {
     fn apply_once(&self, alloc: Global, objects: &mut Objects, name: &ObjectName) -> Found {
         match take_away(alloc, objects, name) {
-            Ok(()) => Found::of(all_same(objects, &self.without, &self.names)),
-            Err(NoMemory) => Found::want(all_same(objects, &self.whole, &self.names)),
+            Ok(()) => Found::of(objects.is_same(&self.without)),
+            Err(NoMemory) => Found::want(objects.is_same(&self.whole)),
         }
     }
 
@@ -160,8 +160,8 @@ impl Pair {
             return Found::Wrong;
         };
         match put_back(alloc, objects, name, object) {
-            Ok(()) => Found::of(all_same(objects, &self.whole, &self.names)),
-            Err(NoMemory) => Found::want(all_same(objects, &self.without, &self.names)),
+            Ok(()) => Found::of(objects.is_same(&self.whole)),
+            Err(NoMemory) => Found::want(objects.is_same(&self.without)),
         }
     }
 
