@@ -345,7 +345,7 @@ fn answered_calls_stand_in_the_log_under_losses(rt: HostRuntime) {
         alloc: rt.alloc(),
         clock: rt,
     };
-    assert!(rt; is_so_under(&rt, rt.alloc(), config(3, 64), &Losing, &lossy));
+    assert!(rt; is_so_under(&rt, rt.alloc(), config(3, 16), &Losing, &lossy));
 }
 
 /// The reply to a session's call is lost. The session nudges, asks again, and is answered from the log.

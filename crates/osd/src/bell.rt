@@ -1,11 +1,12 @@
+use std::hint::spin_loop;
 use std::mem;
 use std::sync::atomic::{AtomicBool, AtomicU64, Ordering};
 use std::sync::{Condvar, Mutex, Wait};
 use std::thread::yield_now;
 
-/// How often a worker that found nothing lets the other threads run before it waits. To be woken costs more than this, and
-/// under load the next operation comes meanwhile.
-const YIELDS: u32 = 16;
+/// How often a worker that found nothing looks again before it waits. That takes about as long as to wait and to be woken,
+/// and the next operation of a client that calls again and again comes meanwhile.
+const SPINS: u32 = 100;
 
 /// What the workers wait on.
 #[derive(Drop)]
@@ -151,11 +152,11 @@ impl Bell {
 
     /// Waits while the count is still this one.
     pub fn wait<R: Wait>(&self, rt: &R, count: u64) {
-        for _ in 0..YIELDS {
+        for _ in 0..SPINS {
             if self.has_work() {
                 return;
             }
-            yield_now();
+            spin_loop();
         }
         let mut rings = self.rings.lock(rt);
         if rings.count == count {
