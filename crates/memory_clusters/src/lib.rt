@@ -6,8 +6,6 @@ mod cells;
 mod clusters;
 mod running;
 mod table;
-#[cfg(test)]
-mod tests;
 
 pub use running::Call;
 pub use table::{CLUSTER_ROWS, ClusterRow};

@@ -17,8 +17,6 @@ mod same;
 mod staged;
 mod store;
 mod table;
-#[cfg(test)]
-mod tests;
 mod texts;
 mod verdicts;
 
