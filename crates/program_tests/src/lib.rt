@@ -28,6 +28,8 @@ mod packs;
 #[cfg(test)]
 mod pages;
 #[cfg(test)]
+mod refusals;
+#[cfg(test)]
 mod runs;
 #[cfg(test)]
 mod script;
