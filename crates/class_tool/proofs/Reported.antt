@@ -46,7 +46,7 @@ told_of is_shown o l (Ok reply) one said = (l, one, said)
 told_of is_shown o l (Err e) one said = tt
 
 module _ {E : Type 0} (disk : Option Disk) (call : Call) (class : List ClassMethod) (input : List ℕ) (loaded : IsSafeIn disk call.image.now class)
-  (read : decode_of call.input.now ≡ Ok input) where
+    (read : decode_of call.input.now ≡ Ok input) where
   -- of the class that was loaded and the input that was read, beside no object
   pub reported : (r : Result Reply E) → object_before call ≡ Ok None → IfOk r (IsMade class call input) → IfOk r (Reports disk call)
   reported (Ok reply) begun m = record {

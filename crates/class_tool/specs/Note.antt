@@ -105,11 +105,17 @@ wanted WriteHelperInReader = codes "flags w or rw"
 wanted ReturnsPointer = codes "a number in register 0"
 wanted NoMemory = codes "more memory"
 
+-- the method and its capacities
+abbrev pub head_text : ClassMethod → List ℕ
+head_text m = codes "  method " ++ m.name ++ codes ", IN " ++ decimal m.in_cap ++ codes ", OUT " ++ decimal m.out_cap ++ codes "\n  "
+
+-- what the rule wants, and the page
+abbrev pub wanted_text : Rule → List ℕ
+wanted_text rule = codes "  wanted: " ++ wanted rule ++ codes "\n  see docs/VERIFIER.md, " ++ rule_text rule ++ codes "\n"
+
 -- the method, the instruction, what is known of the registers that it reads, what the rule wants, and the page
 abbrev pub slot_text : ClassMethod → Rule → Insn → Option PlainFrame → List ℕ
-slot_text m rule i known =
-    codes "  method " ++ m.name ++ codes ", IN " ++ decimal m.in_cap ++ codes ", OUT " ++ decimal m.out_cap ++ codes "\n  " ++ canonical_text (i ∷ []) ++ known_text i known
-    ++ codes "  wanted: " ++ wanted rule ++ codes "\n  see docs/VERIFIER.md, " ++ rule_text rule ++ codes "\n"
+slot_text m rule i known = head_text m ++ canonical_text (i ∷ []) ++ known_text i known ++ wanted_text rule
 
 abbrev pub at_slot : ClassMethod → Rule → Option Insn → Option PlainFrame → List ℕ
 at_slot m rule None known = []

@@ -80,7 +80,8 @@ impl<R: std::rt::Files + AllocGlobal + Input> SystemFiles<'_, R> {
         ensures { result ≡ done }
     {
         if let Err(error) = &done {
-            self.fault.set(format!(in self.rt.alloc(); "  {name}: {error}\n").ok());
+            self.fault
+                .set(format!(in self.rt.alloc(); "  {name}: {error}\n").ok());
         }
         done
     }

@@ -5,7 +5,7 @@ ghost use Rattle.abstract_num.specs.Plain.{view};
 ghost use Rattle.abstract_regs.specs.Seen.{seen};
 ghost use Rattle.bpf_asm.specs.Canonical.{canonical_text};
 ghost use Rattle.bpf_decode.specs.Class.{IsMethod};
-ghost use Rattle.class_tool.specs.Note.{is_read, is_source, kind_text, known_text, of_method, of_verdict, range_text, refusal_note, region_text, register_line, registers_text, slot_text, take_register, takes_register, wanted};
+ghost use Rattle.class_tool.specs.Note.{head_text, is_read, is_source, kind_text, known_text, of_method, of_verdict, range_text, refusal_note, region_text, register_line, registers_text, slot_text, take_register, takes_register, wanted, wanted_text};
 ghost use Rattle.helpers.specs.Table.{signature_of};
 ghost use Rattle.verifier.specs.Rules.{register_count};
 ghost use Rattle.verifier.specs.Verdict.{method_verdict};
@@ -36,8 +36,7 @@ fn take_register(arguments: &[Argument], first: usize, register: usize) -> bool
         [] => false,
         [argument, ..] => {
             let next = first + count_registers(*argument);
-            (first <= register && register < next)
-                || take_register(&arguments[1..], next, register)
+            (first <= register && register < next) || take_register(&arguments[1..], next, register)
         }
     }
 }
@@ -194,23 +193,34 @@ fn insn_text(alloc: Global, insn: Insn) -> Result<String, AllocError>
     }
 }
 
-/// The head of a note: the method and its capacities.
-fn head(alloc: Global, method: &Method) -> Result<String, AllocError>
-    ensures { IfOk result (λ text. string_bytes text ≡ codes "  method " ++ method.now.name ++ codes ", IN " ++ decimal method.now.in_cap ++ codes ", OUT " ++ decimal method.now.out_cap ++ codes "\n  ") }
+/// The method and its capacities.
+fn push_head(out: &mut String, method: &Method) -> Result<(), AllocError>
+    ensures { OnOk result (string_bytes out.new ≡ string_bytes out.old ++ head_text method.now) }
 {
-    let (name, in_cap, out_cap) = (method.name(), method.in_cap(), method.out_cap());
-    format!(in alloc; "  method {name}, IN {in_cap}, OUT {out_cap}\n  ")
+    write!(out, "  method {}", method.name())?;
+    let in_cap = method.in_cap();
+    let out_cap = method.out_cap();
+    write!(out, ", IN {in_cap}, OUT {out_cap}\n  ")
+}
+
+/// What the rule wants, and the page.
+fn push_wanted(out: &mut String, rule: Rule) -> Result<(), AllocError>
+    ensures { OnOk result (string_bytes out.new ≡ string_bytes out.old ++ wanted_text rule) }
+{
+    out.push_str("  wanted: ")?;
+    out.push_str(wanted(rule))?;
+    write!(out, "\n  see docs/VERIFIER.md, {rule}\n")
 }
 
 /// What is told of a refused slot of a method.
 fn slot_text(alloc: Global, method: &Method, refused: &RefusedSlot) -> Result<String, AllocError>
     ensures { IfOk result (λ text. string_bytes text ≡ slot_text method.now refused.now.rule refused.now.insn refused.now.known) }
 {
-    let mut text = head(alloc, method)?;
+    let mut text = String::new(alloc);
+    push_head(&mut text, method)?;
     text.push_str(&insn_text(alloc, refused.insn)?)?;
     text.push_str(&known_text(alloc, &refused.insn, &refused.known)?)?;
-    let (wanted, rule) = (wanted(refused.rule), refused.rule);
-    write!(text, "  wanted: {wanted}\n  see docs/VERIFIER.md, {rule}\n")?;
+    push_wanted(&mut text, refused.rule)?;
     Ok(text)
 }
 

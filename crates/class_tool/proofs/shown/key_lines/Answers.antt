@@ -1,4 +1,4 @@
-use Rattle.std.proofs.Common.{◌≡◌, ◌≤◌, ◌++◌, ◌∙◌, Some, None, ap, sym, arith, codes, length, string_bytes}
+use Rattle.std.proofs.Common.{◌≡◌, ℕ, List, ◌≤◌, ◌++◌, ◌∙◌, Some, None, ap, sym, arith, codes, length, string_bytes}
 use Rattle.std.specs.FinMap as fin
 use Rattle.std.specs.List.{flat_map}
 use Rattle.std.specs.Prelude.{slice_get}
@@ -15,7 +15,7 @@ loop-n-preserved c =
     let line = entry_line (codes "key ") in
     elim c.match-key_at.branch [
       | in-Some+in_ok-push_entry w ↦
-          let entry = (w.in-Some.name.now, w.in-Some.value.now) in
+          let entry : List ℕ × List ℕ = (w.in-Some.name.now, w.in-Some.value.now) in
           let at : slice_get entries c.loop-n.n ≡ Some entry = sym c.key_at.ensures ∙ ap entry_behind w.in-Some.is in
           ap string_bytes w.text-is ∙ w.in_ok-push_entry.ensures ∙ ap (λ text. text ++ line entry) c.loop-n.invariant ∙ sym (lines_more line entries c.loop-n.n entry at)
       | in_default w ↦
