@@ -1,5 +1,5 @@
 -- The lines of the registers that an instruction reads.
-use Rattle.std.proofs.Common.{◌≡◌, ◌∙◌, ◌+◌, ◌-◌, ◌<◌, ◌≤◌, ℕ, suc, List, [], ◌++◌, Bool, true, false, refl, ap, sym, arith, cond}
+use Rattle.std.proofs.Common.{◌≡◌, ◌∙◌, ◌+◌, ◌-◌, ◌<◌, ◌≤◌, ℕ, suc, List, [], ◌++◌, Bool, true, false, ap, sym, arith, cond}
 use Rattle.std.proofs.lemmas.List.{append-nil, append_assoc}
 use Rattle.abstract_regs.specs.Frame.{PlainFrame, kind_at}
 use Rattle.bpf_decode.specs.declared.insn.Insn.{Insn}

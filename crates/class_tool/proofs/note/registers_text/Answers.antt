@@ -1,4 +1,4 @@
-use Rattle.std.proofs.Common.{◌≡◌, ◌∙◌, ◌+◌, ◌-◌, ◌<◌, ◌≤◌, ◌++◌, ap, sym, arith, string_bytes}
+use Rattle.std.proofs.Common.{◌∙◌, ◌+◌, ◌-◌, ◌<◌, ◌≤◌, ◌++◌, ap, sym, arith, string_bytes}
 use Rattle.class_tool.specs.Note.{register_line, registers_text}
 use Rattle.class_tool.proofs.Registers.{read_all, read_more, read_over}
 use Rattle.class_tool.proofs.note.registers_text.Goals.{then-is_read+in_ok-push_register, else-is_read}
