@@ -22,6 +22,6 @@ pub use errno::{EBUSY, EEXIST, EFBIG, EINVAL, EIO, ENODATA, ENOENT, ENOMEM, ENOS
 pub use helper::{Helper, signature};
 pub use laws::{effects_are_within_limits, errors_by_number};
 pub use lookups::{key_above, map_value, stat, xattr_value};
-pub use memory::{getxattr, map_get, map_next, read};
+pub use memory::{bytes_in, getxattr, map_get, map_next, read};
 pub use plain::{caller, out_len};
 pub use span::Span;

@@ -6,8 +6,8 @@ use Rattle.std.proofs.lemmas.Nat.{shr-shr, shr_le}
 use Rattle.std.proofs.lemmas.Nat.Bits.{bit_at_not, bit_at_above, bit_at-lt, same_from_bits_below}
 use Rattle.abstract_num.specs.Signed.{signed}
 use Rattle.abstract_num.specs.Masks.{clear}
-use Rattle.abstract_num.specs.PartsFit.{bit_at_clear, clear_lt}
-use Rattle.abstract_num.specs.Cases.{cond_both, cond_dec}
+use Rattle.abstract_num.specs.proved.PartsFit.{bit_at_clear, clear_lt}
+use Rattle.abstract_num.specs.proved.Cases.{cond_both, cond_dec}
 
 -- n shifted by k
 abbrev pub arsh : ℕ → ℕ → ℕ

@@ -4,7 +4,7 @@ use Rattle.std.specs.Int.{bit_at}
 use Rattle.std.proofs.Common.{sym, ap, ◌∙◌, refl, arith, subst}
 use Rattle.std.proofs.Props.{props}
 use Rattle.std.proofs.lemmas.Nat.Bits.{bit_at_and, bit_at_or, bit_at_xor, bit_at-lt, bit_at-zero, same_from_bits}
-use Rattle.abstract_num.specs.PartsFit.{joined_unknown, bit_at_clear}
+use Rattle.abstract_num.specs.proved.PartsFit.{joined_unknown, bit_at_clear}
 use Rattle.abstract_num.specs.Parts.{InBits, joined_bits, BelowBits}
 use Rattle.abstract_num.specs.declared.bits.Bits.{Bits}
 

@@ -1,12 +1,12 @@
 -- The unsigned parts keep every number of which the fact holds.
 use Rattle.std.specs.Prelude.{ℕ, ◌+◌, ◌-◌, ◌^◌, ◌<◌, ◌≤◌, ◌≡◌, ◌≢◌, nat_lt, false, Option, Some, None, IsSomeAnd}
 use Rattle.std.proofs.Common.{arith}
-use Rattle.abstract_num.specs.Cases.{or_false}
+use Rattle.abstract_num.specs.proved.Cases.{or_false}
 use Rattle.abstract_num.specs.Meaning.{IsFact}
 use Rattle.abstract_num.specs.Parts.{InURange}
 use Rattle.abstract_num.specs.Refined.{IsRefined}
 use Rattle.abstract_num.specs.UnsignedFacts.{TwoRanges, if_at, unsigned_fact, crosses}
-use Rattle.abstract_num.specs.UnsignedRowLaws.{Between, IsSpan}
+use Rattle.abstract_num.specs.proved.UnsignedRows.{Between, IsSpan}
 use Rattle.abstract_num.specs.declared.fact.Fact.{Fact}
 use Rattle.abstract_num.specs.declared.fact.Fact.TheVariants.{Same, Above, AtLeast, SignedAbove, SignedAtLeast, Meets, Not, NoneOf}
 use Rattle.abstract_num.specs.declared.urange.URange.{URange}

@@ -5,12 +5,12 @@ use Rattle.std.proofs.Common.{sym, ap, ◌∙◌, refl, arith}
 use Rattle.std.proofs.lemmas.Nat.Bits.{bit_at_and, bit_at_or, bit_at_xor, bit_at-lt, bit_at-zero, same_from_bits}
 use Rattle.abstract_num.specs.Meaning.{IsFact}
 use Rattle.abstract_num.specs.Masks.{clear}
-use Rattle.abstract_num.specs.PartsFit.{bit_at_clear}
-use Rattle.abstract_num.specs.BitsLaws.{apart_at}
+use Rattle.abstract_num.specs.proved.PartsFit.{bit_at_clear}
+use Rattle.abstract_num.specs.proved.KnownBits.{apart_at}
 use Rattle.abstract_num.specs.Parts.{InBits}
 use Rattle.abstract_num.specs.Refined.{IsRefined}
 use Rattle.abstract_num.specs.BitsFacts.{TwoMasks, bits_fact, conflict, common, denied}
-use Rattle.abstract_num.specs.BitsRowLaws.{Agrees, IsMask, at}
+use Rattle.abstract_num.specs.proved.BitsRows.{Agrees, IsMask, at}
 use Rattle.abstract_num.specs.declared.fact.Fact.{Fact}
 use Rattle.abstract_num.specs.declared.fact.Fact.TheVariants.{Same, Above, AtLeast, SignedAbove, SignedAtLeast, Meets, Not, NoneOf}
 use Rattle.abstract_num.specs.declared.bits.Bits.{Bits}

@@ -3,13 +3,13 @@ use Rattle.std.specs.Prelude.{ℕ, ℤ, pos, ◌+ℤ◌, ◌-ℤ◌, ◌≤ℤ�
 use Rattle.std.specs.Int.{int_min, int_max, w64, cast_unsigned}
 use Rattle.std.proofs.Common.{sym, ap, ◌∙◌, arith}
 use Rattle.std.proofs.lemmas.Int.{ints, clamps, of_z-to_z, by_lt_z}
-use Rattle.abstract_num.specs.Cases.{cond_both, and_first, and_second, or_true, or_false}
+use Rattle.abstract_num.specs.proved.Cases.{cond_both, and_first, and_second, or_true, or_false}
 use Rattle.abstract_num.specs.Meaning.{IsFact}
 use Rattle.abstract_num.specs.Parts.{InSRange}
 use Rattle.abstract_num.specs.Refined.{IsRefined}
 use Rattle.abstract_num.specs.Signed.{signed}
 use Rattle.abstract_num.specs.SignedFacts.{TwoSigned, if_at, signed_fact, crosses}
-use Rattle.abstract_num.specs.SignedRowLaws.{SignedBetween, IsReach}
+use Rattle.abstract_num.specs.proved.SignedRows.{SignedBetween, IsReach}
 use Rattle.abstract_num.specs.declared.fact.Fact.{Fact}
 use Rattle.abstract_num.specs.declared.fact.Fact.TheVariants.{Same, Above, AtLeast, SignedAbove, SignedAtLeast, Meets, Not, NoneOf}
 use Rattle.abstract_num.specs.declared.srange.SRange.{SRange}

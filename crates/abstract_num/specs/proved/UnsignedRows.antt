@@ -3,10 +3,10 @@ use Rattle.std.specs.Prelude.{ℕ, ◌*◌, ◌/◌, ◌%◌, ◌^◌, ◌≡◌
 use Rattle.std.proofs.Common.{sym, arith, subst, zero-le}
 use Rattle.std.proofs.lemmas.Nat.{and_le_l, and_le_r, or_lt, xor_lt, le_or_l, le_or_r, leading_length, mul-le, shr_le, pow_pos, le-div, div-add-mod'}
 use Rattle.std.proofs.Math.Nat.{div-le_self}
-use Rattle.abstract_num.specs.Arsh.{arsh_low}
-use Rattle.abstract_num.specs.Cases.{cond_both}
+use Rattle.abstract_num.specs.proved.Shifts.{arsh_low}
+use Rattle.abstract_num.specs.proved.Cases.{cond_both}
 use Rattle.abstract_num.specs.Meaning.{row_value}
-use Rattle.abstract_num.specs.RowsFit.{row_value_fits}
+use Rattle.abstract_num.specs.proved.RowsFit.{row_value_fits}
 use Rattle.abstract_num.specs.Parts.{InURange}
 use Rattle.abstract_num.specs.UnsignedRows.{ends, all, digits, power, unsigned_row}
 use Rattle.abstract_num.specs.declared.row.Row.{Row}

@@ -4,12 +4,12 @@ use Rattle.std.specs.Int.{w64, bit_at, bit_not}
 use Rattle.std.proofs.Common.{sym, ap, ◌∙◌, arith, add-zero}
 use Rattle.std.proofs.lemmas.Nat.{and_le_l, and_mod, xor_mod, and_shr, xor_shr, and_block, xor_block, pow_pos}
 use Rattle.std.proofs.lemmas.Nat.Bits.{bit_at_and, bit_at_or, bit_at_xor, bit_at_not, bit_at-lt, bit_at-zero, bit_at_ones, same_from_bits, same_from_bits_below}
-use Rattle.abstract_num.specs.Arsh.{arsh, arsh_lt, bit_at_arsh, clear_arsh}
-use Rattle.abstract_num.specs.BitsLaws.{apart_at}
+use Rattle.abstract_num.specs.proved.Shifts.{arsh, arsh_lt, bit_at_arsh, clear_arsh}
+use Rattle.abstract_num.specs.proved.KnownBits.{apart_at}
 use Rattle.abstract_num.specs.Masks.{clear}
-use Rattle.abstract_num.specs.PartsFit.{clear_lt, bit_at_clear}
+use Rattle.abstract_num.specs.proved.PartsFit.{clear_lt, bit_at_clear}
 use Rattle.abstract_num.specs.Meaning.{row_value}
-use Rattle.abstract_num.specs.RowsFit.{row_value_fits}
+use Rattle.abstract_num.specs.proved.RowsFit.{row_value_fits}
 use Rattle.abstract_num.specs.Parts.{InBits}
 use Rattle.abstract_num.specs.BitsRows.{bits_row, unknown}
 use Rattle.abstract_num.specs.declared.row.Row.{Row}

@@ -3,9 +3,9 @@ use Rattle.std.specs.Prelude.{ℕ, ℤ, pos, negsuc, ◌+ℤ◌, ◌-ℤ◌, ◌
 use Rattle.std.proofs.Common.{◌∙◌, arith}
 use Rattle.std.proofs.lemmas.Int.{ints, wrapping_add-bits, wrapping_sub-bits, int_wrap_fits}
 use Rattle.std.specs.Int.{w64}
-use Rattle.abstract_num.specs.Cases.{cond_both, and_first, and_second, bool_no}
+use Rattle.abstract_num.specs.proved.Cases.{cond_both, and_first, and_second, bool_no}
 use Rattle.abstract_num.specs.Meaning.{row_value}
-use Rattle.abstract_num.specs.RowsFit.{row_value_fits}
+use Rattle.abstract_num.specs.proved.RowsFit.{row_value_fits}
 use Rattle.abstract_num.specs.Parts.{InSRange}
 use Rattle.abstract_num.specs.Signed.{signed}
 use Rattle.abstract_num.specs.SignedRows.{ends, all, fits, ends_that_fit, signed_row}

@@ -1,4 +1,4 @@
-use Rattle.osd_tests.proofs.asking.served.Given as goal
+use Rattle.osd_tests.proofs.asking.served_by.Given as goal
 
 abbrev pub ghosts-served_on-N-Classes : goal.ghosts-served_on-N-Classes
 ghosts-served_on-N-Classes g a = record { classes = a.table }
