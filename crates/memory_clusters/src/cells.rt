@@ -1,6 +1,8 @@
 //! The row of a worker's turn, NoMemory: the event never came, or all that goes out is lost, or one message is; `resend` gives
 //! what was lost.
-ghost use Rattle.std.specs.Prelude.{◌≡◌, []};
+ghost use Rattle.std.specs.Prelude.{◌≡◌, [], map};
+ghost use Rattle.std.specs.List.{range_with_len};
+ghost use Rattle.commit_board.specs.Tokens.{new_writer};
 
 use builtin_classes::LOCK;
 use carried::Carried;
@@ -92,20 +94,26 @@ fn turned<N: BoardName>(alloc: Global, board: &Board, table: &ClassTable, writer
     }
 }
 
+/// The turn of a cell with the writer of a new board's one row.
+fn turned_on(alloc: Global, board: &Board, table: &ClassTable, mut writers: Vec<Writer>) -> Ending
+    requires { writers.items ≡ map (new_writer board.now) (range_with_len 0 1) }
+{
+    match writers.pop() {
+        None => Ending::Differs,
+        Some(writer) => turned::<Brand>(alloc, board, table, writer),
+    }
+}
+
 /// `GroupCell::turn`.
 pub fn turn(alloc: Global) -> Ending {
     let Some(table) = table_of(alloc, LOCK) else {
         return Ending::Differs;
     };
-    let made = match Board::new(alloc, 1) {
-        Ok(made) => Some(made),
-        Err(NoMemory) => Board::new(alloc, 1).ok(),
-    };
-    let Some((board, mut writers, _)) = made else {
-        return Ending::Differs;
-    };
-    match writers.pop() {
-        None => Ending::Differs,
-        Some(writer) => turned::<Brand>(alloc, &board, &table, writer),
+    if let Ok((board, writers, _)) = Board::new(alloc, 1) {
+        return turned_on(alloc, &board, &table, writers);
+    }
+    match Board::new(alloc, 1) {
+        Ok((board, writers, _)) => turned_on(alloc, &board, &table, writers),
+        Err(NoMemory) => Ending::Differs,
     }
 }
