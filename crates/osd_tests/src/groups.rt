@@ -5,12 +5,10 @@
 use crate::asking::{
     Calls, Fence, Server, Taken, accepted, answer, lock, played, served, served_by,
 };
-use crate::fates::Cut;
 use osd::{ClusterName, Config, Opened, PassAll, Running, Scenario};
 use placement::NodeId;
 use std::alloc::Global;
 use std::sync::Wait;
-use std::sync::atomic::{AtomicBool, Ordering};
 use std::thread::Threads;
 
 /// An object of each group: `a` of group 0, and so on.
@@ -156,12 +154,11 @@ fn the_maps_of_new_intervals_are_told(rt: HostRuntime) {
     assert!(rt; are_told && nudged == Some(Some(1004)));
 }
 
-/// The second map is lost, since its nodes are stopped. Nudges hand it on.
+/// The second map is lost, since its nodes are stopped, and so is each one that a nudge hands on.
 #[derive(Drop)]
 struct LostMap {
     alloc: Global,
     taken: Taken,
-    fate: Cut,
 }
 
 impl LostMap {
@@ -172,14 +169,11 @@ impl LostMap {
         fence: &mut Fence<'_, N>,
     ) -> bool {
         let before = self.taken.others();
-        self.fate.is_cut.store(true, Ordering::SeqCst);
         running.stop(NodeId::new(1)) == Ok(())
             && running.stop(NodeId::new(2)) == Ok(())
             && leaves_out_0(running)
             && fence.settles(running)
             && self.taken.others().wrapping_sub(before) == 4
-            && running.go(NodeId::new(1)) == Ok(())
-            && running.go(NodeId::new(2)) == Ok(())
     }
 
     /// How many operations a nudge of the group submits.
@@ -200,7 +194,7 @@ impl LostMap {
 }
 
 impl Calls for LostMap {
-    /// Whether a nudge hands on the maps of groups 1 and 2 alone, which are active under the first map.
+    /// Whether nudges hand on the maps of groups 1 and 2 alone: the nodes of the others have theirs.
     fn calls<N: ClusterName, R: Wait>(&self, running: &Running<N, R>) -> bool {
         let Some(mut fence) = Fence::open(running, self.alloc, &self.taken) else {
             return false;
@@ -217,19 +211,15 @@ impl Calls for LostMap {
     }
 }
 
-// All messages of the nodes are lost from the second map on, so that the gate counts what it and nudges submit.
 #[test]
 fn a_nudge_hands_on_the_map_of_its_group(rt: HostRuntime) {
     let alloc = rt.alloc();
-    let fate = Cut {
-        is_cut: AtomicBool::new(false),
-    };
     let taken = Taken::new();
-    let calls = LostMap { alloc, taken, fate };
+    let calls = LostMap { alloc, taken };
     let server = Server {
         worker: 0,
         gate: &calls.taken,
-        fate: &calls.fate,
+        fate: &PassAll,
     };
     let done = served_by(rt, alloc, config(1), &calls, server);
     assert!(rt; done == Some(true));

@@ -73,10 +73,9 @@ fn readings(rt: HostRuntime) {
 fn constant_by_the_range(rt: HostRuntime) {
     let x = number((5, 5, MIN, MAX, 0, ALL)).expect(&rt, "a number");
     assert!(rt;
-        constant_is(x, Some(5))
-            && gives(
-                arithmetic(Bits::Bits64, Arithmetic::Add, x, constant(1)),
-                Some((6, 6, 6, 6, 6, 0))
-            )
+        gives(
+            arithmetic(Bits::Bits64, Arithmetic::Add, x, constant(1)),
+            Some((6, 6, 6, 6, 6, 0))
+        )
     );
 }
