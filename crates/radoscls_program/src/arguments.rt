@@ -384,8 +384,9 @@ fn call_of<'a>(alloc: Global, matches: &ArgMatches<'a>) -> Result<Option<Call<'a
     ensures some { IfOk result (λ found. IfSome found (TakesCall (first_value (found_of matches.now)) (λ id. all_of id (rows_of (found_of matches.now))))) }
     ensures none { IfOk result (λ found. IfNone found ((call : ACall) → TakesCall (first_value (found_of matches.now)) (λ id. all_of id (rows_of (found_of matches.now))) call → ⊥)) }
 {
-    let Some(plain) = plain_call(matches) else {
-        return Ok(None);
+    let plain = match plain_call(matches) {
+        Some(plain) => plain,
+        None => return Ok(None),
     };
     let Some(xattrs) = entries_of(alloc, matches, "xattr")? else {
         return Ok(None);

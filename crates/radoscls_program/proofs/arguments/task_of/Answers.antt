@@ -48,7 +48,7 @@ returns-in-Some-5-clause-asked c =
     let entered = c.in-Some-subcommand_matches-3.ensures in
     let takes = c.in_ok-call.ensures.some in
     asks_call c.args.matches.now c.in-Some-subcommand_matches-3.found.now (entered.found.0 refl) entered.rows c.in-Some-5.call (rw c.in-Some-5.is at takes)
-    c.is_explained.result c.is_explained.ensures
+    c.is_explained-in-Some-5.result c.is_explained-in-Some-5.ensures
 
 pub returns-in-None-4-clause-unasked : goal.returns-in-None-4-clause-unasked
 returns-in-None-4-clause-unasked c =
