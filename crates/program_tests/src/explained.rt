@@ -42,9 +42,17 @@ static REFUSED: [(&str, &str); 8] = [
 /// Words behind which nothing is added: the class is safe, the call is refused, and the folder tells no reason.
 static UNTOLD: [(&[&str], &str, u8); 4] = [
     (&["verify", "image", "--explain"], "f ok 2\n", 0),
-    (&["run", "image", "g", "--explain"], "call refused: 1 NoMethod\n", 1),
+    (
+        &["run", "image", "g", "--explain"],
+        "call refused: 1 NoMethod\n",
+        1,
+    ),
     (&["dis", "missing", "--explain"], "cannot read\n", 1),
-    (&["pack", "full", "f:r:0:0:raw", "--explain"], "cannot read\n", 1),
+    (
+        &["pack", "full", "f:r:0:0:raw", "--explain"],
+        "cannot read\n",
+        1,
+    ),
 ];
 
 #[test]

@@ -124,12 +124,18 @@ static TOLD: [(&[&str], &str); 21] = [
         "  cluster  Plays clients' calls on a cluster in threads\n",
     ),
     (&[], "Usage: radoscls <COMMAND>\n"),
-    (&["verify", "--help"], "Usage: radoscls verify [OPTIONS] <IN>\n"),
+    (
+        &["verify", "--help"],
+        "Usage: radoscls verify [OPTIONS] <IN>\n",
+    ),
     (
         &["run", "--help"],
         "Usage: radoscls run [OPTIONS] <IN> <METHOD>\n",
     ),
-    (&["asm", "--help"], "Usage: radoscls asm [OPTIONS] <IN> <OUT>\n"),
+    (
+        &["asm", "--help"],
+        "Usage: radoscls asm [OPTIONS] <IN> <OUT>\n",
+    ),
     (
         &["pack", "--help"],
         "Usage: radoscls pack [OPTIONS] <OUT> <METHOD>...\n",

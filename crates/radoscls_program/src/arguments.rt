@@ -160,7 +160,11 @@ fn explain_flag<'a>(alloc: Global) -> Arg<'a>
     ensures rule { rule_of result ≡ explain_rule }
     ensures local { result.global ≡ false }
 {
-    flag(alloc, "explain", "Says more of a failure, in lines below its own")
+    flag(
+        alloc,
+        "explain",
+        "Says more of a failure, in lines below its own",
+    )
 }
 
 fn verify_command<'a>(alloc: Global) -> Result<Command<'a>, AllocError>
@@ -194,8 +198,18 @@ fn run_command<'a>(alloc: Global) -> Result<Command<'a>, AllocError>
     let of_call = call_command(alloc);
     let data = "The object's data, in hexadecimal; without it, xattrs and keys there is none";
     let object = value(alloc, "object", "HEX", data);
-    let xattr = each(alloc, "xattr", "NAME=HEX", "An xattr of the object; NAME may be 0x..");
-    let key = each(alloc, "key", "KEY=HEX", "A key of the object's omap; KEY may be 0x..");
+    let xattr = each(
+        alloc,
+        "xattr",
+        "NAME=HEX",
+        "An xattr of the object; NAME may be 0x..",
+    );
+    let key = each(
+        alloc,
+        "key",
+        "KEY=HEX",
+        "A key of the object's omap; KEY may be 0x..",
+    );
     let show = flag(alloc, "show", "Prints all that the object holds afterwards");
     let of_object = with_arg(with_arg(with_arg(of_call, object), xattr), key);
     with_arg(with_arg(of_object, show), explain_flag(alloc))

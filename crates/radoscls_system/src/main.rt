@@ -62,7 +62,14 @@ static CALLS: [&[&str]; 19] = [
     &["radoscls", "verify", "missing.img", "--explain"],
     &["radoscls", "asm", "keep.txt", ".", "--explain"],
     // an object before the call, and after it
-    &["radoscls", "run", "keep.img", "keep", "--object=6162", "--show"],
+    &[
+        "radoscls",
+        "run",
+        "keep.img",
+        "keep",
+        "--object=6162",
+        "--show",
+    ],
     // an image on standard input
     &["radoscls", "verify", "-"],
 ];
