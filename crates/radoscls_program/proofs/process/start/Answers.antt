@@ -1,5 +1,5 @@
 use Rattle.std.proofs.Common.{map, string_bytes, ◌∙◌, None}
-use Rattle.class_tool.specs.Files.{unwritten}
+use Rattle.class_tool.specs.Files.{Storage, unwritten}
 use Rattle.class_tool.specs.System.{has_failed}
 use Rattle.radoscls_program.specs.Streams.{stream}
 use Rattle.radoscls_program.proofs.Ended.{started}
@@ -9,6 +9,6 @@ pub returns : goal.returns
 returns g c =
     let out = stream g.O.Output.printed g.O.Output.failed in
     let status = c.end_of-status.result in
-    let after = record { disk = None; failed = has_failed c.end_of-status.new.files } in
+    let after : Storage = record { disk = None; failed = has_failed c.end_of-status.new.files } in
     let how = started c.words-words.result (λ all. map string_bytes all.items) unwritten after (out c.args.out.now) (out c.end_of-status.new.out) status c.end_of-status.ensures.asked c.end_of-status.ensures.unread in
     (status, c.from.ensures ∙ c.code.ensures, after, how)
