@@ -1,5 +1,5 @@
 -- The entries that texts spell, and whether a failure is to be explained.
-use Rattle.std.proofs.Common.{◌≡◌, ◌∙◌, ◌<◌, ◌+◌, ℕ, suc, List, [], ◌∷◌, ◌++◌, Bool, Option, Some, None, ap, sym, subst, arith, length, map, take, drop, get_or, option_map}
+use Rattle.std.proofs.Common.{◌≡◌, ◌∙◌, ◌<◌, ◌+◌, ℕ, suc, List, [], ◌∷◌, ◌++◌, Option, Some, None, ap, sym, subst, arith, length, map, take, drop, get_or, option_map}
 use Rattle.std.proofs.lemmas.List.{map-append, take-append-drop}
 use Rattle.std.proofs.lemmas.Option.{none-some, same_Some}
 use Rattle.std.proofs.Math.Seq.{drop-cons, take-suc}
