@@ -9,6 +9,7 @@
 mod bits;
 mod domain;
 mod fact;
+mod holding;
 mod laws;
 mod number;
 mod product;
@@ -22,10 +23,11 @@ mod urange;
 pub use bits::Bits;
 pub use domain::Domain;
 pub use fact::Fact;
+pub use holding::domain_of_numbers;
 pub use laws::{join_laws, keeping_laws, order_laws};
 pub use number::{
-    Number, any, between, constant, constant_of, highest, holds, is_below, join, loaded,
-    loaded_signed, signed_between,
+    Number, any, between, constant, highest, holds, is_below, join, loaded, loaded_signed,
+    signed_between,
 };
 pub use product::Product;
 pub use refining::refine;

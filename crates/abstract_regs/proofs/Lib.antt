@@ -1,3 +1,4 @@
 mod Joins
 mod Keeping
 mod Places
+pub mod Flat

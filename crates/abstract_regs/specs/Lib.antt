@@ -1,6 +1,6 @@
 -- To be believed: Kind and Frame (what is known of registers, and what they hold), Flow (where an instruction goes on,
 -- and the frame along each edge), Moves (what instructions do with registers). Seen is the view of the code's kinds;
--- Laws are proved of these.
+-- Laws and Flat are proved of these.
 pub mod Kind
 pub mod Frame
 pub mod Flow
@@ -8,3 +8,4 @@ pub mod Moves
 pub mod Edged
 pub mod Seen
 pub mod Laws
+pub mod Flat

@@ -8,6 +8,7 @@
 
 mod bounds;
 mod edges;
+mod flat_laws;
 mod flow;
 mod frame;
 mod kind;
@@ -15,6 +16,7 @@ mod laws;
 
 pub use bounds::{access_fits, range_fits};
 pub use edges::Edges;
+pub use flat_laws::registers_as_numbers;
 pub use frame::Frame;
 pub use kind::Kind;
 pub use laws::{holding_laws, join_laws};

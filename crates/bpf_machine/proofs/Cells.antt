@@ -5,12 +5,12 @@ use Rattle.std.proofs.lemmas.List.{length-take-le}
 use Rattle.object_store.specs.Object.{part}
 use Rattle.bpf_machine.specs.State.{le_bytes, written}
 
-get_left : (xs ys : List ℕ) (k : ℕ) → k < length xs → slice_get (xs ++ ys) k ≡ slice_get xs k
+pub get_left : (xs ys : List ℕ) (k : ℕ) → k < length xs → slice_get (xs ++ ys) k ≡ slice_get xs k
 get_left [] ys k h = absurd (omega arith)
 get_left (x ∷ xs) ys zero h = refl
 get_left (x ∷ xs) ys (suc k) h = get_left xs ys k (omega arith)
 
-get_right : (xs ys : List ℕ) (n k : ℕ) → n ≡ length xs + k → slice_get (xs ++ ys) n ≡ slice_get ys k
+pub get_right : (xs ys : List ℕ) (n k : ℕ) → n ≡ length xs + k → slice_get (xs ++ ys) n ≡ slice_get ys k
 get_right [] ys n k e = ap (λ i. slice_get ys i) (omega arith)
 get_right (x ∷ xs) ys zero k e = absurd (omega arith)
 get_right (x ∷ xs) ys (suc n) k e = get_right xs ys n k (omega arith)

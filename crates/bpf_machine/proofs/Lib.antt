@@ -14,3 +14,4 @@ pub mod Counting
 pub mod Runs
 pub mod Bytes
 pub mod Kept
+pub mod Ranges

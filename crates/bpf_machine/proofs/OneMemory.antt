@@ -52,7 +52,7 @@ no_byte_elsewhere caps lay m at out = by (find caps lay at 1) refl
         absurd (out p.0 (omega (arith, i.address), omega (arith, i.address, i.inside)))
 
 module _ (caps : Caps) (lay : Layout) (ok : IsLayout caps lay) where
-  reads : (m : Memory) (at w : ℕ) (p : Region × ℕ) → IsMemory caps m → find caps lay at w ≡ Some p → Reads caps lay m at w (part (cells m p.0) p.1 w)
+  pub reads : (m : Memory) (at w : ℕ) (p : Region × ℕ) → IsMemory caps m → find caps lay at w ≡ Some p → Reads caps lay m at w (part (cells m p.0) p.1 w)
   reads m at w p sized e =
       let i = find_place caps lay at w p e in
       let long : p.1 + w ≤ length (cells m p.0) = omega (arith, i.inside, sized.lengths p.0) in

@@ -1,12 +1,14 @@
 -- One memory: what the regions' lists of bytes are at addresses.
-use Rattle.std.specs.Prelude.{◌≡◌, ℕ, ◌+◌, ◌<◌, ◌≤◌, List, Option, Some, None, slice_get, length}
+use Rattle.std.specs.Prelude.{◌≡◌, ℕ, ◌+◌, ◌<◌, ◌≤◌, List, Option, Some, None, true, false, slice_get, length}
 use Rattle.bpf_decode.specs.declared.access.SignedWidth.{SignedWidth}
 use Rattle.bpf_decode.specs.Instruction.{signed_byte_count}
 use Rattle.bpf_decode.specs.Arithmetic.{signed_load_value}
 use Rattle.bpf_decode.specs.declared.region.Region.{Region}
+use Rattle.bpf_decode.specs.declared.region.Region.TheVariants.{Input}
 use Rattle.bpf_machine.specs.declared.caps.Caps.{Caps}
-use Rattle.bpf_machine.specs.State.{◌>>=◌, le_value, le_bytes, Memory, cells, size, State, set_reg}
-use Rattle.bpf_machine.specs.Flat.{Layout, base, IsIn, IsLayout, find, load, load_signed, store}
+use Rattle.bpf_machine.specs.State.{◌>>=◌, le_value, le_bytes, Memory, cells, size, opening, State, set_reg}
+use Rattle.bpf_machine.specs.Flat.{Layout, base, IsIn, IsLayout, find, load, load_signed, store, range}
+use Rattle.bpf_machine.specs.Helper.{bytes_in, write_room}
 
 -- the byte at an address: that of the region which has the address, at its place there; none outside of the regions
 abbrev pub byte_at : Caps → Layout → Memory → ℕ → Option ℕ
@@ -60,3 +62,26 @@ abbrev pub StoresAreAtAddresses : Type 0
 StoresAreAtAddresses =
     (caps : Caps) (lay : Layout) → IsLayout caps lay → (w at n : ℕ) (s t : State ℕ) → IsMemory caps s.memory → store caps lay w at n s ≡ Some t →
     Writes caps lay at (le_bytes w n) s t
+
+-- What a helper reads of a range is the bytes at its addresses. A range of no bytes has none, wherever it begins.
+abbrev pub RangesAreOfAddresses : Type 0
+RangesAreOfAddresses =
+    (caps : Caps) (lay : Layout) → IsLayout caps lay → (at n : ℕ) (m : Memory) (place : Option (Region × ℕ)) → IsMemory caps m → range caps lay false at n ≡ Some place →
+    Reads caps lay m at n (bytes_in m place n)
+
+-- What a helper writes into a range, no more bytes than that has, stands at its addresses, and no other byte changes.
+abbrev pub RoomsAreAtAddresses : Type 0
+RoomsAreAtAddresses =
+    (caps : Caps) (lay : Layout) → IsLayout caps lay → (at n : ℕ) (s : State ℕ) (place : Option (Region × ℕ)) (bytes : List ℕ) → IsMemory caps s.memory → range caps lay true at n ≡ Some place → length bytes ≤ n →
+    Writes caps lay at bytes s (record s { memory = write_room s.memory place bytes })
+
+-- a memory in which these bytes stand at the input's address, and 0 at every other address of a region
+pub record Opens (caps : Caps) (lay : Layout) (m : Memory) (input : List ℕ) : Type 0 where
+  pub lengths : IsMemory caps m
+  pub begins : StandsAt caps lay m (base lay Input) input
+  pub zeros : (r : Region) (at : ℕ) → IsIn caps lay r at → ((base lay Input ≤ at) × (at < base lay Input + length input) → ⊥) → byte_at caps lay m at ≡ Some 0
+
+-- A method begins on such a memory.
+abbrev pub OpeningIsAtAddresses : Type 0
+OpeningIsAtAddresses =
+    (caps : Caps) (lay : Layout) → IsLayout caps lay → (input : List ℕ) → length input ≤ caps.in_cap → Opens caps lay (opening caps input) input

@@ -1,5 +1,5 @@
 ghost use Rattle.bpf_machine.specs.Safe.{Simulates, EndsAlwaysIsSafe, RunsAreChains, StuckRunsAreChains, UnfinishedRunsAreChains, BytesAreInstructions, ElsewhereIsStuck, HasLayout, OutcomesAreOne};
-ghost use Rattle.bpf_machine.specs.Address.{PlacesAreAddresses, NoByteElsewhere, LoadsAreOfAddresses, SignedLoadsAreOfAddresses, StoresAreAtAddresses};
+ghost use Rattle.bpf_machine.specs.Address.{PlacesAreAddresses, NoByteElsewhere, LoadsAreOfAddresses, SignedLoadsAreOfAddresses, StoresAreAtAddresses, RangesAreOfAddresses, RoomsAreAtAddresses, OpeningIsAtAddresses};
 ghost use Rattle.bpf_machine.specs.Within.{OutcomesAreWithinLimits, CallsAreWithinLimits};
 
 use helpers::effects_are_within_limits;
@@ -42,13 +42,18 @@ pub fn outcomes()
 {}
 
 /// A law. The three regions are one memory: the byte at an address is that of the region which has the address; a load
-/// is the little-endian value of the bytes at its addresses; a store changes the bytes at its addresses and no other.
+/// is the little-endian value of the bytes at its addresses; a store changes the bytes at its addresses and no other. So
+/// do a helper's ranges: it reads the bytes at the addresses of one, and changes those at the addresses of another. As a
+/// method begins, its input stands at the input's address, and 0 at every other address of a region.
 pub fn addresses()
     ensures places { PlacesAreAddresses }
     ensures elsewhere { NoByteElsewhere }
     ensures loads { LoadsAreOfAddresses }
     ensures signed_loads { SignedLoadsAreOfAddresses }
     ensures stores { StoresAreAtAddresses }
+    ensures ranges { RangesAreOfAddresses }
+    ensures rooms { RoomsAreAtAddresses }
+    ensures opening { OpeningIsAtAddresses }
 {}
 
 /// A law. Beside an object within all limits, on an input of bytes, a run that ends leaves an object within all limits,

@@ -3,15 +3,16 @@ mod limits;
 
 use super::decoding::{are_read, are_written, is_printed, mov, register_of};
 use bpf_asm::{
-    AsmError, AsmFault, assemble, assemble_class, disassemble, disassemble_class, one_class_text,
-    one_reading, one_text,
+    AsmError, AsmFault, assemble, assemble_class, disassemble, disassemble_class,
+    disassemble_with_slots, one_class_text, one_reading, one_slot_text, one_text,
 };
 use bpf_decode::{
     Arithmetic, Bits, ByteOrder, ClassImage, Comparison, EndWidth, Insn, Operand, Register,
     SignedMove, SignedWidth, Width, encode,
 };
 use class_texts::{
-    LOCK, LOCK_PLAIN, ONE_METHOD, ONE_METHOD_PLAIN, OTHERS, TWO_METHODS, TWO_METHODS_PLAIN,
+    LOCK, LOCK_PLAIN, ONE_METHOD, ONE_METHOD_PLAIN, OTHERS, SLOTS, SLOTS_PLAIN, TWO_METHODS,
+    TWO_METHODS_PLAIN,
 };
 use std::alloc::Global;
 use std::process::Abort;
@@ -376,14 +377,26 @@ fn a_slot_too_many(rt: HostRuntime) {
 fn laws(_rt: HostRuntime) {
     one_text();
     one_class_text();
+    one_slot_text();
     one_reading();
 }
 
+/// Faults at line 4, and what they print.
+const PRINTED: [(AsmFault, &str); 5] = [
+    (AsmFault::Word, "line 4: 1 Word"),
+    (AsmFault::Operand, "line 4: 2 Operand"),
+    (AsmFault::Range, "line 4: 3 Range"),
+    (AsmFault::Label, "line 4: 4 Label"),
+    (AsmFault::NoMemory, "line 4: 5 NoMemory"),
+];
+
 #[test]
 fn prints(rt: HostRuntime) {
-    let (line, fault) = (4, AsmFault::Operand);
-    assert!(rt; is_printed(rt.alloc(), &AsmError { line, fault }, "line 4: 2 Operand"));
-    assert!(rt; AsmFault::NoMemory.number() == 5);
+    let line = 4;
+    for row in &PRINTED {
+        let (fault, text) = *row;
+        assert!(rt; is_printed(rt.alloc(), &AsmError { line, fault }, text));
+    }
 }
 
 #[test]
@@ -412,11 +425,12 @@ fn is_true(found: Result<bool, AsmError>) -> bool {
 }
 
 /// Texts of classes, and how they are printed.
-const CLASSES: [(&str, &str); 4] = [
+const CLASSES: [(&str, &str); 5] = [
     (LOCK, LOCK_PLAIN),
     (LOCK_PLAIN, LOCK_PLAIN),
     (ONE_METHOD, ONE_METHOD_PLAIN),
     (TWO_METHODS, TWO_METHODS_PLAIN),
+    (SLOTS, SLOTS_PLAIN),
 ];
 
 #[test]
@@ -428,6 +442,16 @@ fn classes(rt: HostRuntime) {
             "{text}"
         );
     }
+}
+
+/// The class of the text, with slots.
+fn with_slots(alloc: Global, text: &str) -> Result<String, AsmError> {
+    disassemble_with_slots(alloc, &assemble_class(alloc, text)?)
+}
+
+#[test]
+fn shows_slots(rt: HostRuntime) {
+    assert!(rt; is_text(with_slots(rt.alloc(), SLOTS_PLAIN), SLOTS));
 }
 
 /// The same of classes.

@@ -3,7 +3,7 @@ use Rattle.std.proofs.Common.{◌≡◌, ℕ, Bool, true, false, cond, List, Som
 use Rattle.std.specs.Ordering.{nat_cmp, is_eq, eq_by_cmp}
 use Rattle.std.specs.declared.cmp.Ordering.{Ordering}
 use Rattle.std.specs.declared.cmp.Ordering.TheVariants.{Less, Equal, Greater}
-use Rattle.std.proofs.lemmas.Cmp.{nat_list_cmp_total}
+use Rattle.std.proofs.lemmas.Cmp.{nat_list_cmp_total, eq_by_cmp_equiv}
 use Rattle.std.specs.Cmp.Lexicographic.{slice_cmp}
 use Rattle.std.specs.FinMap as fin
 use Rattle.std.specs.FinMap.{nat_cmp-IsAntisymmetric, slice_cmp-IsAntisymmetric}
@@ -39,3 +39,8 @@ stored-stored objects name o =
     ∙ ap (λ w. cond (eq_by_cmp (slice_cmp nat_cmp) q name) (fin.get objects name) w) (get-stored objects name o q)
     ∙ cond-cond (eq_by_cmp (slice_cmp nat_cmp) q name) (fin.get objects name) o (fin.get objects q)
     ∙ at_ties objects name q)
+
+-- what was put under a name stands there
+pub get-stored_same : (objects : PlainObjects) (name : List ℕ) (o : PlainObject) → fin.get (stored objects name o) name ≡ o
+get-stored_same objects name o =
+    get-stored objects name o name ∙ ap (λ b. cond b o (fin.get objects name)) ((eq_by_cmp_equiv nat_list_cmp_total).refl name)

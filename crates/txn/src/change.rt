@@ -54,6 +54,7 @@ fn put(
     object: Option<&Object>,
 ) -> Result<(), NoMemory>
     ensures ok { OnOk result (objects.new ≡ stored objects.old name.now (option_copied object.entry)) }
+    ensures stands { OnOk result (fin.get objects.new name.now ≡ option_copied object.entry) }
     ensures err { OnErr result (objects.new ≡ objects.old) }
 {
     match objects.store(alloc, name, object) {
@@ -62,7 +63,7 @@ fn put(
     }
 }
 
-/// Does a change to the object of a name, which is as it was before the change. It costs a put into the objects.
+/// Does a change to the object of a name, which is as it was before the change: the object is then as it is after it. It costs a put into the objects.
 pub fn apply(
     alloc: Global,
     objects: &mut Objects,
@@ -71,6 +72,7 @@ pub fn apply(
 ) -> Result<(), NoMemory>
     requires { fin.get objects.old name.now ≡ change.now.before }
     ensures ok { OnOk result (objects.new ≡ stored objects.old name.now change.now.after) }
+    ensures stands { OnOk result (fin.get objects.new name.now ≡ change.now.after) }
     ensures err { OnErr result (objects.new ≡ objects.old) }
 {
     put(alloc, objects, name, change.after.as_ref())
@@ -85,6 +87,7 @@ pub fn undo(
     change: &Change,
 ) -> Result<(), NoMemory>
     ensures ok { OnOk result (objects.new ≡ stored objects.old name.now change.now.before) }
+    ensures stands { OnOk result (fin.get objects.new name.now ≡ change.now.before) }
     // the objects as they were, of which `apply` made these
     ensures restored { OnOk result ((was : PlainObjects) → fin.get was name.now ≡ change.now.before → objects.old ≡ stored was name.now change.now.after → objects.new ≡ was) }
     ensures err { OnErr result (objects.new ≡ objects.old) }

@@ -152,7 +152,7 @@ impl<'a> Staged<'a> {
         self.newest = Newest::Written(None);
     }
 
-    /// The change from the object as the call found it to the object as it is now.
+    /// The change from the object as the call found it to the object as it is now. It shares both and grows nothing.
     pub fn finish(self) -> Result<Change, NoMemory>
         ensures before { IfOk result (λ c. c.before ≡ self.entry.before) }
         ensures after { IfOk result (λ c. c.after ≡ self.entry.after) }
