@@ -3,7 +3,7 @@ ghost use Rattle.bpf_decode.specs.Instruction.{slot_total};
 ghost use Rattle.asm_lines.specs.Canonical.{canonical_text, class_text};
 ghost use Rattle.asm_lines.specs.Fault.{no_memory};
 
-use asm_lines::{AsmError, insns_text, methods_text};
+use asm_lines::{AsmError, class_text, insns_text};
 use bpf_decode::{ClassImage, Insn, SLOT_LIMIT};
 use std::alloc::Global;
 
@@ -23,5 +23,5 @@ pub fn disassemble_class(alloc: Global, class: &ClassImage) -> Result<String, As
     ensures text { IfOk result (λ s. string_bytes s ≡ class_text class.now) }
     ensures memory { IfErr result (λ e. e ≡ no_memory) }
 {
-    Ok(methods_text(alloc, class.methods())?)
+    Ok(class_text(alloc, class)?)
 }
