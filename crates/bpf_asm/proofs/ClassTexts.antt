@@ -149,7 +149,7 @@ words_quiet m h =
     (all_append is_quiet (flags_text m.flags) (32 ∷ (decimal m.in_cap ++ (32 ∷ decimal m.out_cap))) (quiet_where (flags_text m.flags) (flags_plain m.flags))
     (all_append is_quiet (decimal m.in_cap) (32 ∷ decimal m.out_cap) in_quiet out_quiet))
 
-directive_quiet : (m : ClassMethod) → IsMethod m → list_all is_quiet (directive_line m) ≡ true
+pub directive_quiet : (m : ClassMethod) → IsMethod m → list_all is_quiet (directive_line m) ≡ true
 directive_quiet m h = ap (list_all is_quiet) (shape m) ∙ words_quiet m h
 
 states_directive : (m : ClassMethod) → IsMethod m → statement_of (codes ".method " ++ words m) ≡ Directive (Ok (header m))
@@ -300,7 +300,7 @@ names_from (m ∷ ms) h r = (above_none m.name h.0.named, names_above m ms r)
 
 -- ---- the rule set
 
-rules_quiet : list_all is_quiet (codes ".rules 2") ≡ true
+pub rules_quiet : list_all is_quiet (codes ".rules 2") ≡ true
 rules_quiet = refl
 
 states_rules : statement_of (codes ".rules 2") ≡ Rules (Ok Two)

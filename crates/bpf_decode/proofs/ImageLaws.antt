@@ -233,7 +233,7 @@ image_takes bytes c fits e =
     let both = (Takes-then bytes (header_bytes h) a.0.1 all b.0.1 t.0 u.0).parts in
     let whole : bytes ≡ image_bytes (class_with h.rules b.0.0) =
     both ∙ ap (λ (r : List ℕ). (header_bytes h ++ all) ++ r) nothing ∙ append-nil (header_bytes h ++ all) ∙ append_assoc (magic h.rules) (little_bytes 2 n ++ (0 ∷ 0 ∷ [])) all
-    ∙ ap (λ (k : ℕ). magic h.rules ++ (little_bytes 2 k ++ (0 ∷ 0 ∷ all))) (sym u.1) in
+    ∙ ap (λ (k : ℕ). magic h.rules ++ (little_bytes 2 k ++ (0 ∷ 0 ∷ all))) (sym u.1) ∙ sym (append_assoc (magic h.rules) (little_bytes 2 (length b.0.0)) (0 ∷ 0 ∷ all)) in
     let class : IsClass b.0.0 = record { some = omega (arith, t.1, u.1); limit = omega (arith, t.2, u.1); methods = u.2; names = rises_on [] b.0.0 u.3 } in
     subst (λ (x : Class). IsImage bytes x) last.1 (record { class = class; spelled = whole })
 
@@ -243,7 +243,8 @@ image_again c class =
     let ms = c.methods in
     let all = flat_map method_bytes ms in
     let rest : methods_at (length ms) 0 [] all ≡ Ok (ms, []) = ap (methods_at (length ms) 0 []) (sym (append-nil all)) ∙ methods_again 0 [] ms [] class.methods (rises_first ms class.methods class.names) in
-    ap (λ (r : Result (Header × List ℕ) DecodeError). after 0 r >>= λ h. methods_at h.0.count 0 [] h.1 >>= λ x. after h.0.count (checked (length x.1 == 0) Trailing (class_with h.0.rules x.0))) (header_again c.rules (length ms) all class.some class.limit)
+    ap image_of (append_assoc (magic c.rules) (little_bytes 2 (length ms)) (0 ∷ 0 ∷ all))
+    ∙ ap (λ (r : Result (Header × List ℕ) DecodeError). after 0 r >>= λ h. methods_at h.0.count 0 [] h.1 >>= λ x. after h.0.count (checked (length x.1 == 0) Trailing (class_with h.0.rules x.0))) (header_again c.rules (length ms) all class.some class.limit)
     ∙ ap (λ (r : Result (List ClassMethod × List ℕ) ImageError). r >>= λ x. after (length ms) (checked (length x.1 == 0) Trailing (class_with c.rules x.0))) rest
 
 pub image_is : (bytes : List ℕ) (c : Class) → IsImage bytes c → image_of bytes ≡ Ok c

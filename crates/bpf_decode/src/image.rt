@@ -287,7 +287,8 @@ fn magic(rules: RuleSet) -> &'static [u8]
 
 /// Writes the class's image at the end.
 fn put_image(out: &mut Vec<u8>, image: &ClassImage) -> Result<(), AllocError>
-    ensures { OnOk result (out.new.items ≡ out.old.items ++ image_bytes image.now) }
+    ensures class { IsClass image.now.methods }
+    ensures bytes { OnOk result (out.new.items ≡ out.old.items ++ image_bytes image.now) }
 {
     let methods = image.methods();
     out.extend_from_slice(magic(image.rules()))?;

@@ -3,16 +3,16 @@ mod limits;
 
 use super::decoding::{are_read, are_written, is_printed, mov, register_of};
 use bpf_asm::{
-    AsmError, AsmFault, assemble, assemble_class, disassemble, disassemble_class, one_class_text,
-    one_reading, one_text,
+    AsmError, AsmFault, assemble, assemble_class, disassemble, disassemble_class,
+    disassemble_with_slots, one_class_text, one_reading, one_slot_text, one_text,
 };
 use bpf_decode::{
     Arithmetic, Bits, ByteOrder, ClassImage, Comparison, EndWidth, Insn, Operand, Register,
     SignedMove, SignedWidth, Width, encode,
 };
 use class_texts::{
-    LOCK, LOCK_PLAIN, ONE_METHOD, ONE_METHOD_PLAIN, OTHERS, RULED, RULED_PLAIN, TWO_METHODS,
-    TWO_METHODS_PLAIN,
+    LOCK, LOCK_PLAIN, ONE_METHOD, ONE_METHOD_PLAIN, OTHERS, RULED, RULED_PLAIN, SLOTS, SLOTS_PLAIN,
+    TWO_METHODS, TWO_METHODS_PLAIN,
 };
 use std::alloc::Global;
 use std::process::Abort;
@@ -380,6 +380,7 @@ fn a_slot_too_many(rt: HostRuntime) {
 fn laws(_rt: HostRuntime) {
     one_text();
     one_class_text();
+    one_slot_text();
     one_reading();
 }
 
@@ -416,13 +417,14 @@ fn is_true(found: Result<bool, AsmError>) -> bool {
 }
 
 /// Texts of classes, and how they are printed.
-const CLASSES: [(&str, &str); 6] = [
+const CLASSES: [(&str, &str); 7] = [
     (LOCK, LOCK_PLAIN),
     (LOCK_PLAIN, LOCK_PLAIN),
     (ONE_METHOD, ONE_METHOD_PLAIN),
     (TWO_METHODS, TWO_METHODS_PLAIN),
     (RULED, RULED_PLAIN),
     (RULED_PLAIN, RULED_PLAIN),
+    (SLOTS, SLOTS_PLAIN),
 ];
 
 #[test]
@@ -434,6 +436,16 @@ fn classes(rt: HostRuntime) {
             "{text}"
         );
     }
+}
+
+/// The class of the text, with slots.
+fn with_slots(alloc: Global, text: &str) -> Result<String, AsmError> {
+    disassemble_with_slots(alloc, &assemble_class(alloc, text)?)
+}
+
+#[test]
+fn shows_slots(rt: HostRuntime) {
+    assert!(rt; is_text(with_slots(rt.alloc(), SLOTS_PLAIN), SLOTS));
 }
 
 /// The same of classes.
