@@ -1,4 +1,4 @@
-ghost use Rattle.std.specs.Prelude.{◌≡◌, ◌⊎◌, ◌+◌, ◌<◌, ◌≤◌, ◌^◌, true, [], Ok, Err, IfOk, OnOk, IfErr, IsTrue, MatchResult, length, drop, string_bytes};
+ghost use Rattle.std.specs.Prelude.{◌≡◌, ◌⊎◌, ◌+◌, ◌<◌, ◌≤◌, ◌^◌, ℕ, true, List, [], Ok, Err, IfOk, OnOk, IfErr, IsTrue, MatchResult, length, drop, string_bytes};
 ghost use Rattle.std.specs.List.{position_or_len};
 ghost use Rattle.bpf_decode.specs.Limits.{are_name_bytes};
 ghost use Rattle.bpf_decode.specs.ImageReading.{is_above, method_after, methods_after};
