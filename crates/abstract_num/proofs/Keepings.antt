@@ -5,7 +5,7 @@ use Rattle.std.proofs.Common.{ℤ, ap, subst, zero-le, arith}
 use Rattle.std.proofs.lemmas.Int.{ints, clamps}
 use Rattle.std.proofs.lemmas.Nat.Bits.{bit_at_or, bit_at_xor, bit_at-lt, same_from_bits}
 use Rattle.abstract_num.specs.Masks.{clear}
-use Rattle.abstract_num.specs.PartsFit.{bit_at_clear}
+use Rattle.abstract_num.specs.proved.PartsFit.{bit_at_clear}
 use Rattle.abstract_num.specs.Signed.{signed}
 use Rattle.abstract_num.specs.Plain.{Plain, Holds, constant, join}
 use Rattle.abstract_num.specs.Keeping.{HeldIn, ConstantsFit, NegativeKeeps, RangeKeeps, LoadKeeps, SignedLoadKeeps, JoinKeeps}

@@ -6,9 +6,9 @@ use mathlib.Core.Path.{ap₂}
 use Rattle.std.proofs.lemmas.Int.{ints}
 use Rattle.std.proofs.lemmas.Nat.Bits.{bit_at-lt, bit_at-zero, same_from_bits}
 use Rattle.abstract_num.specs.Masks.{clear}
-use Rattle.abstract_num.specs.PartsFit.{bit_at_clear}
-use Rattle.abstract_num.specs.RangeLaws.{urange_join_commutes, urange_join_associates, urange_join_of_same, urange_join_is_above, urange_below_holds, srange_join_commutes, srange_join_associates, srange_join_of_same, srange_join_is_above, srange_below_holds}
-use Rattle.abstract_num.specs.BitsLaws.{apart_at, bits_join_commutes, bits_join_associates, bits_join_of_same, bits_join_is_above, bits_below_holds}
+use Rattle.abstract_num.specs.proved.PartsFit.{bit_at_clear}
+use Rattle.abstract_num.specs.proved.Ranges.{urange_join_commutes, urange_join_associates, urange_join_of_same, urange_join_is_above, urange_below_holds, srange_join_commutes, srange_join_associates, srange_join_of_same, srange_join_is_above, srange_below_holds}
+use Rattle.abstract_num.specs.proved.KnownBits.{apart_at, bits_join_commutes, bits_join_associates, bits_join_of_same, bits_join_is_above, bits_below_holds}
 use Rattle.abstract_num.specs.Plain.{Number}
 use Rattle.abstract_num.specs.Laws.{JoinCommutes, JoinAssociates, JoinOfSame, JoinIsAbove, BelowIsReflexive, BelowIsTransitive, BelowHolds}
 use Rattle.abstract_num.specs.declared.urange.URange.{URange}

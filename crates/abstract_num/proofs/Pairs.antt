@@ -11,14 +11,14 @@ use Rattle.bpf_decode.specs.declared.operation.Bits.TheVariants.{Bits32, Bits64}
 use Rattle.bpf_decode.specs.declared.operation.Comparison.{Comparison}
 use Rattle.bpf_decode.specs.declared.operation.Comparison.TheVariants as is
 use Rattle.abstract_num.specs.Both.{BothRefine}
-use Rattle.abstract_num.specs.Cases.{cond_both, and_first, and_second, or_false}
+use Rattle.abstract_num.specs.proved.Cases.{cond_both, and_first, and_second, or_false}
 use Rattle.abstract_num.specs.Meaning.{IsFact}
 use Rattle.abstract_num.specs.UnsignedFacts.{unsigned_fact, crosses}
 use Rattle.abstract_num.specs.SignedFacts.{signed_fact, crosses as signs_cross}
 use Rattle.abstract_num.specs.BitsFacts.{denied}
-use Rattle.abstract_num.specs.UnsignedFactLaws.{URangeRefines, unsigned_fact_keeps, not_crossed}
-use Rattle.abstract_num.specs.SignedFactLaws.{SRangeRefines, signed_fact_keeps, not_crossed as signs_not_crossed}
-use Rattle.abstract_num.specs.BitsFactLaws.{BitsRefine, bits_fact_keeps}
+use Rattle.abstract_num.specs.proved.UnsignedFacts.{URangeRefines, unsigned_fact_keeps, not_crossed}
+use Rattle.abstract_num.specs.proved.SignedFacts.{SRangeRefines, signed_fact_keeps, not_crossed as signs_not_crossed}
+use Rattle.abstract_num.specs.proved.BitsFacts.{BitsRefine, bits_fact_keeps}
 use Rattle.abstract_num.specs.Plain.{Plain, Number, Holds, GivesBoth, view}
 use Rattle.abstract_num.specs.Tighten.{tighten}
 use Rattle.abstract_num.specs.Transfer.{is_constant}

@@ -7,9 +7,9 @@ use Rattle.std.proofs.lemmas.Int.{ints, clamps}
 use Rattle.std.proofs.lemmas.Nat.{or_disjoint, and_le_r}
 use Rattle.std.proofs.lemmas.Nat.Bits.{bit_at_and, bit_at_or, bit_at-lt, bit_at-zero, same_from_bits}
 use Rattle.abstract_num.specs.Masks.{clear}
-use Rattle.abstract_num.specs.PartsFit.{bit_at_clear}
-use Rattle.abstract_num.specs.BitsRowLaws.{clear_zero}
-use Rattle.abstract_num.specs.Cases.{cond_dec, cond_both}
+use Rattle.abstract_num.specs.proved.PartsFit.{bit_at_clear}
+use Rattle.abstract_num.specs.proved.BitsRows.{clear_zero}
+use Rattle.abstract_num.specs.proved.Cases.{cond_dec, cond_both}
 use Rattle.abstract_num.specs.Signed.{signed}
 use Rattle.abstract_num.specs.Plain.{Plain, Number, Holds, Gives, Kept, constant}
 pub use Rattle.abstract_num.specs.Keeping.{Fits}

@@ -15,13 +15,13 @@ use Rattle.bpf_decode.specs.declared.operation.SignedMove.{SignedMove}
 use Rattle.bpf_decode.specs.declared.operation.SignedMove.TheVariants.{Byte64, Half64, Word64, Byte32, Half32}
 use Rattle.bpf_decode.specs.declared.operation.ByteOrder.{ByteOrder}
 use Rattle.bpf_decode.specs.declared.operation.EndWidth.{EndWidth}
-use Rattle.abstract_num.specs.Cases.{cond_both, and_first, and_second}
+use Rattle.abstract_num.specs.proved.Cases.{cond_both, and_first, and_second}
 use Rattle.abstract_num.specs.Meaning.{row_value}
-use Rattle.abstract_num.specs.RowsFit.{row_value_fits}
+use Rattle.abstract_num.specs.proved.RowsFit.{row_value_fits}
 use Rattle.abstract_num.specs.UnsignedRows.{unsigned_row}
-use Rattle.abstract_num.specs.UnsignedRowLaws.{unsigned_row_keeps, cut_between}
-use Rattle.abstract_num.specs.SignedRowLaws.{signed_row_keeps, signed_all_keeps}
-use Rattle.abstract_num.specs.BitsRowLaws.{bits_row_keeps, cut_agrees, unknown_keeps, clear_zero}
+use Rattle.abstract_num.specs.proved.UnsignedRows.{unsigned_row_keeps, cut_between}
+use Rattle.abstract_num.specs.proved.SignedRows.{signed_row_keeps, signed_all_keeps}
+use Rattle.abstract_num.specs.proved.BitsRows.{bits_row_keeps, cut_agrees, unknown_keeps, clear_zero}
 use Rattle.abstract_num.specs.Plain.{Plain, Number, Holds, any, constant, view}
 use Rattle.abstract_num.specs.Tighten.{tighten}
 use Rattle.abstract_num.specs.Transfer.{row_of, row_of_32, is_constant, count_of, answer32, answer64, moved, cut, finished32, finished64, transferred, copied, extended_of, sign_extended, ordered}

@@ -1,30 +1,22 @@
+-- A reader must believe Signed, Masks and Plain (what is known of a number, and which numbers that holds), Tighten, Transfer
+-- and Edges (what operations and comparisons make of it), with the tables UnsignedRows, SignedRows, BitsRows and their Facts.
+-- Keeping and Laws are proved of them. Meaning, Parts, Both and Refined are what the code's parts say; proved has proofs.
 pub mod Signed
 pub mod Masks
-pub mod Meaning
-pub mod UnsignedRows
-pub mod SignedRows
-pub mod BitsRows
-pub mod Parts
 pub mod Plain
 pub mod Tighten
 pub mod Transfer
-pub mod Laws
-pub mod Keeping
 pub mod Edges
-pub mod Both
-pub mod Cases
-pub mod PartsFit
-pub mod Arsh
-pub mod RowsFit
-pub mod Refined
+pub mod UnsignedRows
+pub mod SignedRows
+pub mod BitsRows
 pub mod UnsignedFacts
 pub mod SignedFacts
 pub mod BitsFacts
-pub mod RangeLaws
-pub mod BitsLaws
-pub mod UnsignedRowLaws
-pub mod SignedRowLaws
-pub mod BitsRowLaws
-pub mod UnsignedFactLaws
-pub mod SignedFactLaws
-pub mod BitsFactLaws
+pub mod Keeping
+pub mod Laws
+pub mod Meaning
+pub mod Parts
+pub mod Both
+pub mod Refined
+pub mod proved

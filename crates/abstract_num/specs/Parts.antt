@@ -3,7 +3,7 @@ use Rattle.std.specs.Prelude.{◌≡◌, ℕ, ◌^◌, ◌<◌, ◌≤◌, ◌�
 use Rattle.std.specs.Int.{int_min, int_max}
 use Rattle.abstract_num.specs.Signed.{signed}
 use Rattle.abstract_num.specs.Masks.{clear}
-use Rattle.abstract_num.specs.PartsFit.{hull_ordered, hull_fits, signed_hull_ordered, clear_apart, clear_lt, joined_unknown, joined_unknown_fits}
+use Rattle.abstract_num.specs.proved.PartsFit.{hull_ordered, hull_fits, signed_hull_ordered, clear_apart, clear_lt, joined_unknown, joined_unknown_fits}
 use Rattle.abstract_num.specs.declared.urange.URange.{URange}
 use Rattle.abstract_num.specs.declared.srange.SRange.{SRange}
 use Rattle.abstract_num.specs.declared.bits.Bits.{Bits}

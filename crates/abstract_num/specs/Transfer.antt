@@ -45,10 +45,6 @@ row_of op.Arsh None = By row.Arsh
 abbrev pub is_constant : Plain → Bool
 is_constant x = x.low == x.high
 
--- the constant that x is
-abbrev pub constant_of : Plain → Option ℕ
-constant_of x = (if is_constant x then Some x.low else None)
-
 -- the shift count modulo the width, where it is constant
 abbrev pub count_of : ℕ → Plain → Option ℕ
 count_of width y = (if is_constant y then Some (y.low % width) else None)

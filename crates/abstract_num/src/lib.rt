@@ -26,8 +26,8 @@ pub use fact::Fact;
 pub use holding::domain_of_numbers;
 pub use laws::{join_laws, keeping_laws, order_laws};
 pub use number::{
-    Number, any, between, constant, constant_of, highest, holds, is_below, join, loaded,
-    loaded_signed, signed_between,
+    Number, any, between, constant, highest, holds, is_below, join, loaded, loaded_signed,
+    signed_between,
 };
 pub use product::Product;
 pub use refining::refine;

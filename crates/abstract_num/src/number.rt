@@ -1,11 +1,11 @@
-ghost use Rattle.std.specs.Prelude.{◌≡◌, ℕ, ◌+◌, ◌-◌, ◌*◌, ◌^◌, ◌<◌, ◌≤◌, ◌≤ℤ◌, ◌↔◌, Some, IsTrue, IfSome, ℤ, pos, negsuc};
+ghost use Rattle.std.specs.Prelude.{◌≡◌, ℕ, ◌+◌, ◌-◌, ◌*◌, ◌^◌, ◌<◌, ◌≤◌, ◌≤ℤ◌, ◌↔◌, Some, IsTrue, ℤ, pos, negsuc};
 ghost use Rattle.bpf_decode.specs.Instruction.{byte_count, signed_byte_count};
 ghost use Rattle.bpf_decode.specs.Arithmetic.{signed_load_value};
 ghost use Rattle.abstract_num.specs.Signed.{signed};
 ghost use Rattle.abstract_num.specs.Masks.{clear};
 ghost use Rattle.abstract_num.specs.Plain.{Holds, Below, any, constant, join, view};
 ghost use Rattle.abstract_num.specs.Tighten.{tighten};
-ghost use Rattle.abstract_num.specs.Transfer.{is_constant, constant_of, ranged, signed_ranged, load_high, signed_low, signed_high};
+ghost use Rattle.abstract_num.specs.Transfer.{ranged, signed_ranged, load_high, signed_low, signed_high};
 ghost use Rattle.abstract_num.specs.Laws.{joined};
 
 use crate::bits::Bits;
@@ -206,16 +206,4 @@ pub fn highest(x: &Number) -> u64
     ensures bound { (n : ℕ) → Holds (view x.now) n → n ≤ result }
 {
     x.first.high
-}
-
-/// The constant that the number is, if its unsigned range is one number.
-pub fn constant_of(x: &Number) -> Option<u64>
-    ensures table { result ≡ constant_of (view x.now) }
-    ensures only { IfSome result (λ c. (n : ℕ) → Holds (view x.now) n → n ≡ c) }
-{
-    if x.first.low == x.first.high {
-        Some(x.first.low)
-    } else {
-        None
-    }
 }

@@ -1,1 +1,2 @@
+-- What is measured beside the methods; no promise rests on it.
 pub mod Subject

@@ -168,8 +168,32 @@ impl<C: Clock> Lossy<C> {
         let Ok(object) = ObjectName::new(self.alloc, "a") else {
             return false;
         };
-        let answers = self.ten_locks(running, sends, sessions, &object);
+        let Some(first) = self.first_lock(running, sends, &object) else {
+            return false;
+        };
+        let mut answers = self.ten_locks(running, sends, sessions, &object);
+        keep(&mut answers, Some(first));
         are_logged(self.alloc, running, &answers)
+    }
+
+    /// A lock of a session of its own, which goes on until it is answered.
+    fn first_lock<N: ClusterName, R: Wait>(
+        &self,
+        running: &Running<N, R>,
+        sends: &mut Sends<N>,
+        object: &ObjectName,
+    ) -> Option<Answered> {
+        let mut session = Session::open(running).ok()?;
+        let client = session.client().get();
+        let reply = self
+            .insist(running, sends, &mut session, object, 10_000)
+            .ok()?;
+        Some(Answered {
+            client,
+            number: 1,
+            place: reply.place(),
+            code: reply.code(),
+        })
     }
 
     /// What is answered of a lock, the session's call of that number.
@@ -182,7 +206,7 @@ impl<C: Clock> Lossy<C> {
         number: u32,
     ) -> Option<Answered> {
         let client = session.client().get();
-        let reply = self.insist(running, sends, session, object).ok()?;
+        let reply = self.insist(running, sends, session, object, 5).ok()?;
         Some(Answered {
             client,
             number,
@@ -191,16 +215,17 @@ impl<C: Clock> Lossy<C> {
         })
     }
 
-    /// A lock, with up to five tries more where it is unanswered.
+    /// A lock, with so many repeats at most where it is unanswered.
     fn insist<N: ClusterName, R: Wait>(
         &self,
         running: &Running<N, R>,
         sends: &mut Sends<N>,
         session: &mut Session<'_, N, R>,
         object: &ObjectName,
+        repeats: u32,
     ) -> Result<Reply, ExecError> {
         let mut answer = session.exec(self.alloc, object, ClassId::new(LOCK), "lock", b"");
-        for _ in 0..5 {
+        for _ in 0..repeats {
             if !is_unanswered(&answer) {
                 break;
             }
@@ -290,7 +315,7 @@ fn stands(log: &[LoggedEntry], answer: &Answered) -> bool {
 }
 
 fn none_twice(log: &[LoggedEntry]) -> bool {
-    let mut seen = [false; 64];
+    let mut seen = [false; 128];
     for entry in log {
         if is_again(&mut seen, entry) {
             return false;
@@ -320,7 +345,7 @@ fn answered_calls_stand_in_the_log_under_losses(rt: HostRuntime) {
         alloc: rt.alloc(),
         clock: rt,
     };
-    assert!(rt; is_so_under(&rt, rt.alloc(), config(3, 64), &Losing, &lossy));
+    assert!(rt; is_so_under(&rt, rt.alloc(), config(3, 16), &Losing, &lossy));
 }
 
 /// The reply to a session's call is lost. The session nudges, asks again, and is answered from the log.
@@ -352,7 +377,7 @@ fn settles<N: ClusterName, R: Wait>(
     alloc: Global,
     object: &ObjectName,
 ) -> bool {
-    for _ in 0..10 {
+    for _ in 0..1_000 {
         let before = session.nudges();
         let answer = lock(session, alloc, object);
         if answer.is_some() && session.nudges() == before {
@@ -494,4 +519,64 @@ impl Part for Abandoned {
 #[test]
 fn a_session_is_dropped_with_its_call_unanswered(rt: HostRuntime) {
     assert!(rt; is_so(&rt, rt.alloc(), config(1, 50), &Abandoned(rt.alloc())));
+}
+
+/// No message between nodes passes, so the primary stays in peering, and refuses each request by that.
+#[derive(Drop)]
+struct Silent;
+
+impl Fate for Silent {
+    fn of(&self, _worker: usize, _n: u64) -> Deal {
+        Deal::Drop
+    }
+}
+
+/// A call that is refused since the primary is in peering nudges at once. It has fewer tries than the thousand looks after
+/// which any call nudges.
+#[derive(Drop)]
+struct Refused(Global);
+
+/// Whether a call or one of its repeats nudges.
+fn nudges<N: ClusterName, R: Wait>(
+    session: &mut Session<'_, N, R>,
+    alloc: Global,
+    object: &ObjectName,
+) -> bool {
+    if lock(session, alloc, object).is_some() {
+        return false;
+    }
+    for _ in 0..100_000 {
+        if session.nudges() != 0 {
+            return true;
+        }
+        if session.retry().is_ok() {
+            return false;
+        }
+    }
+    false
+}
+
+impl Part for Refused {
+    fn act<N: ClusterName, R: Wait>(&self, running: &Running<N, R>) -> bool {
+        let Ok(object) = ObjectName::new(self.0, "a") else {
+            return false;
+        };
+        let Ok(mut session) = Session::open(running) else {
+            return false;
+        };
+        nudges(&mut session, self.0, &object)
+    }
+}
+
+#[test]
+fn a_refusal_by_peering_nudges_at_once(rt: HostRuntime) {
+    assert!(rt;
+        is_so_under(
+            &rt,
+            rt.alloc(),
+            config(3, 900),
+            &Silent,
+            &Refused(rt.alloc())
+        )
+    );
 }

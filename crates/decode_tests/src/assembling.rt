@@ -384,11 +384,22 @@ fn laws(_rt: HostRuntime) {
     one_reading();
 }
 
+/// Faults at line 4, and what they print.
+const PRINTED: [(AsmFault, &str); 5] = [
+    (AsmFault::Word, "line 4: 1 Word"),
+    (AsmFault::Operand, "line 4: 2 Operand"),
+    (AsmFault::Range, "line 4: 3 Range"),
+    (AsmFault::Label, "line 4: 4 Label"),
+    (AsmFault::NoMemory, "line 4: 5 NoMemory"),
+];
+
 #[test]
 fn prints(rt: HostRuntime) {
-    let (line, fault) = (4, AsmFault::Operand);
-    assert!(rt; is_printed(rt.alloc(), &AsmError { line, fault }, "line 4: 2 Operand"));
-    assert!(rt; AsmFault::NoMemory.number() == 5);
+    let line = 4;
+    for row in &PRINTED {
+        let (fault, text) = *row;
+        assert!(rt; is_printed(rt.alloc(), &AsmError { line, fault }, text));
+    }
 }
 
 #[test]

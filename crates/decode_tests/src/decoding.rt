@@ -451,8 +451,18 @@ fn numbers_refusals(rt: HostRuntime) {
 }
 
 /// Refusals, and what they print.
-const PRINTED: [(DecodeError, &str); 2] = [
+const PRINTED: [(DecodeError, &str); 12] = [
+    (DecodeError::Truncated, "1 Truncated"),
+    (DecodeError::Magic, "2 Magic"),
     (DecodeError::Opcode(3), "3 Opcode"),
+    (DecodeError::Register(0), "4 Register"),
+    (DecodeError::NonzeroField(0), "5 NonzeroField"),
+    (DecodeError::WideHalf(0), "6 WideHalf"),
+    (DecodeError::Name, "7 Name"),
+    (DecodeError::Order, "8 Order"),
+    (DecodeError::Flags, "9 Flags"),
+    (DecodeError::Limit, "10 Limit"),
+    (DecodeError::Trailing, "11 Trailing"),
     (DecodeError::NoMemory, "12 NoMemory"),
 ];
 

@@ -1,5 +1,5 @@
 //! Tests alone, of groups: which nodes act, the log and its requests, the built-in classes through a group, the world's
-//! types, requests at their places, drawings of runs.
+//! types, requests at their places, drawings of runs; and of images with a byte changed.
 #![tactic(auto)]
 
 #[cfg(test)]
@@ -14,6 +14,8 @@ mod classes;
 mod contents;
 #[cfg(test)]
 mod drawings;
+#[cfg(test)]
+mod hostile;
 #[cfg(test)]
 mod lists;
 #[cfg(test)]

@@ -1,4 +1,6 @@
-//! The law of the table, for the proofs of the crates above.
+//! The law of the table, for the proofs of the crates above, and the numbers of the errors.
+ghost use Rattle.std.specs.Prelude.{◌≡◌};
+ghost use Rattle.helpers.specs.declared.errno.TheConstants.{ENOENT, EIO, ENOMEM, EBUSY, EEXIST, EINVAL, EFBIG, ENOSPC, ERANGE, ENODATA};
 ghost use Rattle.helpers.specs.Laws.{EffectsAreWithinLimits};
 
 use object_store::{changes_keep_the_limits, reads_are_within};
@@ -11,3 +13,17 @@ pub fn effects_are_within_limits()
     changes_keep_the_limits();
     reads_are_within();
 }
+
+/// The errors by number, as Linux has them. The function does nothing.
+pub fn errors_by_number()
+    ensures enoent { ENOENT ≡ 2 }
+    ensures eio { EIO ≡ 5 }
+    ensures enomem { ENOMEM ≡ 12 }
+    ensures ebusy { EBUSY ≡ 16 }
+    ensures eexist { EEXIST ≡ 17 }
+    ensures einval { EINVAL ≡ 22 }
+    ensures efbig { EFBIG ≡ 27 }
+    ensures enospc { ENOSPC ≡ 28 }
+    ensures erange { ERANGE ≡ 34 }
+    ensures enodata { ENODATA ≡ 61 }
+{}

@@ -10,7 +10,7 @@ use crate::span::Span;
 use object_store::Object;
 use txn::Staged;
 
-/// The bytes of a range.
+/// The bytes of a range. One of no bytes has no place: its address may be any number then.
 pub fn bytes_in(memory: &[u8], span: Span) -> &[u8]
     requires { IsWithin memory.now span }
     ensures { result.now ≡ bytes_in memory.now span }

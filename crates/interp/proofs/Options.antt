@@ -2,7 +2,7 @@
 use Rattle.std.proofs.Common.{◌≡◌, Option, Some, None, Bool, true, false, refl, subst}
 use Rattle.std.specs.Prelude.{Result, Ok, Err, IfOk}
 use Rattle.bpf_machine.specs.State.{◌>>=◌, only}
-use Rattle.interp.specs.Run.{Gives}
+use Rattle.interp.specs.inner.Run.{Gives}
 
 -- what a chain's value came from
 pub bind_exists : {A B : Type 0} (o : Option A) (f : A → Option B) (y : B) → o >>= f ≡ Some y → (x : A) × (o ≡ Some x) × (f x ≡ Some y)

@@ -1,5 +1,4 @@
--- A reader must believe Plain (what a call answers) and Refusal. Run and Asked are what the code keeps, in private contracts.
+-- A reader must believe Plain (what a call answers) and Refusal. inner is the code's own.
 pub mod Plain
-pub mod Run
-pub mod Asked
 pub mod Refusal
+pub mod inner

@@ -3,7 +3,7 @@ ghost use Rattle.object_store.specs.Object.{IsObject};
 ghost use Rattle.std.specs.Option.{option_copied};
 ghost use Rattle.bpf_machine.specs.State.{State, outcome_of};
 ghost use Rattle.interp.specs.Plain.{outcome_of_answer};
-ghost use Rattle.interp.specs.Run.{Agrees};
+ghost use Rattle.interp.specs.inner.Run.{Agrees};
 
 use crate::calls::CallError;
 use crate::outcome::Outcome;

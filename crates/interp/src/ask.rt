@@ -1,27 +1,15 @@
-ghost use Rattle.std.specs.Prelude.{◌≡◌, IfOk};
+ghost use Rattle.std.specs.Prelude.{IfOk};
 ghost use Rattle.helpers.specs.Table.{row};
-ghost use Rattle.helpers.specs.View.{IsWithin, bytes_in};
 ghost use Rattle.bpf_machine.specs.Flat.{help};
 ghost use Rattle.bpf_machine.specs.Safe.{first_layout};
-ghost use Rattle.interp.specs.Asked.{CanAsk, HasAnswered};
-ghost use Rattle.interp.specs.Run.{CanDo, Does};
+ghost use Rattle.interp.specs.inner.Asked.{CanAsk, HasAnswered};
+ghost use Rattle.interp.specs.inner.Run.{CanDo, Does};
 
 use crate::registers::Registers;
 use crate::run::Run;
-use helpers::{Helper, Span};
+use helpers::{Helper, bytes_in};
 use std::alloc::Global;
 use txn::{NoMemory, Staged};
-
-/// The bytes of a range. One of no bytes has no place: its address may be any number then.
-fn bytes_at(memory: &[u8], span: Span) -> &[u8]
-    requires { IsWithin memory.now span }
-    ensures { result.now ≡ bytes_in memory.now span }
-{
-    if span.len == 0 {
-        return &memory[..0];
-    }
-    &memory[span.at as usize..(span.at + span.len) as usize]
-}
 
 /// Does what a helper does, on the newest object, the output's length and the memory, and gives its answer. Names and
 /// values are read out of the memory, and so is what is copied into it.
@@ -44,25 +32,25 @@ fn answer(
     match helper {
         Helper::Stat => Ok(helpers::stat(staged)),
         Helper::Read => Ok(helpers::read(staged, number, memory, behind)),
-        Helper::Write => helpers::write(alloc, staged, number, bytes_at(memory, behind)),
+        Helper::Write => helpers::write(alloc, staged, number, bytes_in(memory, behind)),
         Helper::Truncate => helpers::truncate(alloc, staged, number),
         Helper::Remove => Ok(helpers::remove(staged)),
         Helper::GetXattr => Ok(helpers::getxattr(staged, memory, first, second)),
         Helper::SetXattr => helpers::setxattr(
             alloc,
             staged,
-            bytes_at(memory, first),
-            bytes_at(memory, second),
+            bytes_in(memory, first),
+            bytes_in(memory, second),
         ),
-        Helper::RmXattr => helpers::rmxattr(alloc, staged, bytes_at(memory, first)),
+        Helper::RmXattr => helpers::rmxattr(alloc, staged, bytes_in(memory, first)),
         Helper::MapGet => Ok(helpers::map_get(staged, memory, first, second)),
         Helper::MapSet => helpers::map_set(
             alloc,
             staged,
-            bytes_at(memory, first),
-            bytes_at(memory, second),
+            bytes_in(memory, first),
+            bytes_in(memory, second),
         ),
-        Helper::MapRm => helpers::map_rm(alloc, staged, bytes_at(memory, first)),
+        Helper::MapRm => helpers::map_rm(alloc, staged, bytes_in(memory, first)),
         Helper::MapNext => Ok(helpers::map_next(staged, memory, first, second)),
         Helper::OutLen => Ok(helpers::out_len(out_len, number)),
         Helper::Create => Ok(helpers::create(staged, number)),

@@ -15,8 +15,8 @@ mod run;
 mod step;
 
 pub use bpf_machine::{Region, Value};
-pub use calls::{CallError, call};
+pub use calls::{CallError, call, call_method};
 pub use class_table::{ClassTable, TableError};
 pub use limits::CLASS_LIMIT;
 pub use outcome::Outcome;
-pub use verifier::VerifiedClass;
+pub use verifier::{VerifiedClass, VerifiedMethod};

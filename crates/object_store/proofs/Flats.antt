@@ -4,35 +4,31 @@ use Rattle.std.proofs.lemmas.Bool.Decides.{leb_tells}
 use Rattle.std.proofs.lemmas.List.{drop-drop, take_at, drop_at, length-take, length-replicate, append-nil, take-append-drop, take_more, take-append-le, drop-append-le}
 use Rattle.std.proofs.Math.Seq.{take-add, take-append-add, drop-append-add, take-nil}
 use Rattle.std.proofs.Math.ListN.{drop_of_length-le}
-use Rattle.std.specs.Arc.{arc_value}
-use Rattle.std.specs.declared.sync.Arc.{Arc}
-use Rattle.std.specs.declared.vec.Vec.{Vec}
 use Rattle.object_store.proofs.Splice.{spliced_some}
 use Rattle.object_store.specs.Object.{spliced, resized}
 use Rattle.object_store.specs.Extents.{flat, cut}
 
-module _ {Y Z : Type 0} where
-  pub flat-append : (xs ys : List (Arc (Vec ℕ Y) Z)) → flat (xs ++ ys) ≡ flat xs ++ flat ys
-  flat-append [] ys = refl
-  flat-append (x ∷ xs) ys = ap (λ r. (arc_value x).items ++ r) (flat-append xs ys) ∙ sym (append_assoc (arc_value x).items (flat xs) (flat ys))
+pub flat-append : (xs ys : List (List ℕ)) → flat (xs ++ ys) ≡ flat xs ++ flat ys
+flat-append [] ys = refl
+flat-append (x ∷ xs) ys = ap (λ r. x ++ r) (flat-append xs ys) ∙ sym (append_assoc x (flat xs) (flat ys))
 
-  pub flat-push : (xs : List (Arc (Vec ℕ Y) Z)) (x : Arc (Vec ℕ Y) Z) → flat (xs ++ x ∷ []) ≡ flat xs ++ (arc_value x).items
-  flat-push xs x = flat-append xs (x ∷ []) ∙ ap (λ r. flat xs ++ r) (append-nil _)
+pub flat-push : (xs : List (List ℕ)) (x : List ℕ) → flat (xs ++ x ∷ []) ≡ flat xs ++ x
+flat-push xs x = flat-append xs (x ∷ []) ∙ ap (λ r. flat xs ++ r) (append-nil _)
 
-  pub flat-halves : (xs : List (Arc (Vec ℕ Y) Z)) (i : ℕ) → flat (take i xs) ++ flat (drop i xs) ≡ flat xs
-  flat-halves xs i = sym (flat-append (take i xs) (drop i xs)) ∙ ap flat (take-append-drop i xs)
+pub flat-halves : (xs : List (List ℕ)) (i : ℕ) → flat (take i xs) ++ flat (drop i xs) ≡ flat xs
+flat-halves xs i = sym (flat-append (take i xs) (drop i xs)) ∙ ap flat (take-append-drop i xs)
 
-  pub length-flat-take : (xs : List (Arc (Vec ℕ Y) Z)) (i : ℕ) → length (flat (take i xs)) ≤ length (flat xs)
-  length-flat-take xs i = omega (arith, sym (ap length (flat-halves xs i)), length-append (flat (take i xs)) (flat (drop i xs)))
+pub length-flat-take : (xs : List (List ℕ)) (i : ℕ) → length (flat (take i xs)) ≤ length (flat xs)
+length-flat-take xs i = omega (arith, sym (ap length (flat-halves xs i)), length-append (flat (take i xs)) (flat (drop i xs)))
 
-  pub flat-more : (xs : List (Arc (Vec ℕ Y) Z)) (i : ℕ) (d : Arc (Vec ℕ Y) Z) → i < length xs → flat (take (i + 1) xs) ≡ flat (take i xs) ++ (arc_value (get_or xs i d)).items
-  flat-more xs i d h = ap flat (take_more xs i d h) ∙ flat-push (take i xs) (get_or xs i d)
+pub flat-more : (xs : List (List ℕ)) (i : ℕ) (d : List ℕ) → i < length xs → flat (take (i + 1) xs) ≡ flat (take i xs) ++ (get_or xs i d)
+flat-more xs i d h = ap flat (take_more xs i d h) ∙ flat-push (take i xs) (get_or xs i d)
 
-  pub length-flat-more : (xs : List (Arc (Vec ℕ Y) Z)) (i : ℕ) (d : Arc (Vec ℕ Y) Z) → i < length xs → length (flat (take (i + 1) xs)) ≡ length (flat (take i xs)) + length (arc_value (get_or xs i d)).items
-  length-flat-more xs i d h = ap length (flat-more xs i d h) ∙ length-append (flat (take i xs)) (arc_value (get_or xs i d)).items
+pub length-flat-more : (xs : List (List ℕ)) (i : ℕ) (d : List ℕ) → i < length xs → length (flat (take (i + 1) xs)) ≡ length (flat (take i xs)) + length (get_or xs i d)
+length-flat-more xs i d h = ap length (flat-more xs i d h) ∙ length-append (flat (take i xs)) (get_or xs i d)
 
-  pub flat-more-fits : (xs : List (Arc (Vec ℕ Y) Z)) (i : ℕ) (d : Arc (Vec ℕ Y) Z) → i < length xs → length (flat (take i xs)) + length (arc_value (get_or xs i d)).items ≤ length (flat xs)
-  flat-more-fits xs i d h = omega (arith, length-flat-take xs (i + 1), length-flat-more xs i d h)
+pub flat-more-fits : (xs : List (List ℕ)) (i : ℕ) (d : List ℕ) → i < length xs → length (flat (take i xs)) + length (get_or xs i d) ≤ length (flat xs)
+flat-more-fits xs i d h = omega (arith, length-flat-take xs (i + 1), length-flat-more xs i d h)
 
 le_or : (a b : ℕ) → (a ≤ b) ⊎ (b ≤ a)
 le_or zero b = inl (omega arith)
@@ -135,86 +131,84 @@ written s at text from to low high =
     ∙ append_assoc ((take at s ++ z) ++ text) y (drop to s)
     ∙ ap (λ l. ((take at s ++ z) ++ text) ++ l) (back_parts (at + length text) to s high)
 
-module _ {Y Z : Type 0} where
-  pub length-flat-drop : (xs : List (Arc (Vec ℕ Y) Z)) (i : ℕ) → length (flat (drop i xs)) ≤ length (flat xs)
-  length-flat-drop xs i = omega (arith, sym (ap length (flat-halves xs i)), length-append (flat (take i xs)) (flat (drop i xs)))
+pub length-flat-drop : (xs : List (List ℕ)) (i : ℕ) → length (flat (drop i xs)) ≤ length (flat xs)
+length-flat-drop xs i = omega (arith, sym (ap length (flat-halves xs i)), length-append (flat (take i xs)) (flat (drop i xs)))
 
-  -- a range is one of the extents behind those before it
-  pub cut-after : (xs : List (Arc (Vec ℕ Y) Z)) (k from to start : ℕ) → start ≡ length (flat (take k xs)) → start ≤ from → from ≤ to →
-      cut (from - start) (to - start) (flat (drop k xs)) ≡ cut from to (flat xs)
-  cut-after xs k from to start e low h =
-      let a = flat (take k xs) in
-      let b = flat (drop k xs) in
-      let none : cut from to a ≡ [] = ap (take (to - from)) (drop_of_length-le a {i = from} (omega (arith, e, low))) ∙ take-nil _ in
-      ap (λ s. cut (from - s) (to - s) b) e
-      ∙ sym (ap (λ l. l ++ cut (from - length a) (to - length a) b) none)
-      ∙ sym (cut-append from to a b h)
-      ∙ ap (cut from to) (flat-halves xs k)
+-- a range is one of the extents behind those before it
+pub cut-after : (xs : List (List ℕ)) (k from to start : ℕ) → start ≡ length (flat (take k xs)) → start ≤ from → from ≤ to →
+    cut (from - start) (to - start) (flat (drop k xs)) ≡ cut from to (flat xs)
+cut-after xs k from to start e low h =
+    let a = flat (take k xs) in
+    let b = flat (drop k xs) in
+    let none : cut from to a ≡ [] = ap (take (to - from)) (drop_of_length-le a {i = from} (omega (arith, e, low))) ∙ take-nil _ in
+    ap (λ s. cut (from - s) (to - s) b) e
+    ∙ sym (ap (λ l. l ++ cut (from - length a) (to - length a) b) none)
+    ∙ sym (cut-append from to a b h)
+    ∙ ap (cut from to) (flat-halves xs k)
 
-  -- a range is one of the extents up to those past it
-  pub cut-before : (xs : List (Arc (Vec ℕ Y) Z)) (n from to : ℕ) → from ≤ to → min to (length (flat xs)) ≤ length (flat (take n xs)) →
-      cut from to (flat (take n xs)) ≡ cut from to (flat xs)
-  cut-before xs n from to h enough =
-      let a = flat (take n xs) in
-      let b = flat (drop n xs) in
-      let whole : length (flat xs) ≡ length a + length b = sym (ap length (flat-halves xs n)) ∙ length-append a b in
-      let none : cut (from - length a) (to - length a) b ≡ [] =
-      elim (leb_tells to (length a)) [
-        | inl p ↦ let z : (to - length a) - (from - length a) ≡ 0 = omega (arith, p.1) in ap (λ m. take m (drop (from - length a) b)) z
-        | inr p ↦ ap (take ((to - length a) - (from - length a))) (drop_of_length-le b {i = from - length a} (omega (arith, whole, enough, p.1))) ∙ take-nil _
-      ] in
-      sym (append-nil (cut from to a)) ∙ ap (λ l. cut from to a ++ l) (sym none) ∙ sym (cut-append from to a b h) ∙ ap (cut from to) (flat-halves xs n)
+-- a range is one of the extents up to those past it
+pub cut-before : (xs : List (List ℕ)) (n from to : ℕ) → from ≤ to → min to (length (flat xs)) ≤ length (flat (take n xs)) →
+    cut from to (flat (take n xs)) ≡ cut from to (flat xs)
+cut-before xs n from to h enough =
+    let a = flat (take n xs) in
+    let b = flat (drop n xs) in
+    let whole : length (flat xs) ≡ length a + length b = sym (ap length (flat-halves xs n)) ∙ length-append a b in
+    let none : cut (from - length a) (to - length a) b ≡ [] =
+    elim (leb_tells to (length a)) [
+      | inl p ↦ let z : (to - length a) - (from - length a) ≡ 0 = omega (arith, p.1) in ap (λ m. take m (drop (from - length a) b)) z
+      | inr p ↦ ap (take ((to - length a) - (from - length a))) (drop_of_length-le b {i = from - length a} (omega (arith, whole, enough, p.1))) ∙ take-nil _
+    ] in
+    sym (append-nil (cut from to a)) ∙ ap (λ l. cut from to a ++ l) (sym none) ∙ sym (cut-append from to a b h) ∙ ap (cut from to) (flat-halves xs n)
 
-  pub write_is : (xs : List (Arc (Vec ℕ Y) Z)) (at : ℕ) (text : List ℕ) (kept from others to : ℕ) (m all : List ℕ) →
-      from ≡ length (flat (take kept xs)) → from ≤ at → to ≡ length (flat (take others xs)) → min (at + length text) (length (flat xs)) ≤ to →
-      m ≡ ((cut from at (flat xs) ++ replicate (at - length (flat xs)) 0) ++ text) ++ cut (min (at + length text) to) to (flat xs) →
-      all ≡ (flat (take kept xs) ++ m) ++ flat (drop others xs) → all ≡ laid (flat xs) at text
-  write_is xs at text kept from others to m all ef low et high em ea =
-      let front : flat (take kept xs) ≡ take from (flat xs) =
-      sym (take_at (flat (take kept xs)) (flat (drop kept xs)) from (sym ef)) ∙ ap (take from) (flat-halves xs kept) in
-      let back : flat (drop others xs) ≡ drop to (flat xs) =
-      sym (drop_at (flat (take others xs)) (flat (drop others xs)) to (sym et)) ∙ ap (drop to) (flat-halves xs others) in
-      ea
-      ∙ ap (λ b. (flat (take kept xs) ++ m) ++ b) back
-      ∙ ap (λ f. (f ++ m) ++ drop to (flat xs)) front
-      ∙ ap (λ w. (take from (flat xs) ++ w) ++ drop to (flat xs)) em
-      ∙ written (flat xs) at text from to low high
+pub write_is : (xs : List (List ℕ)) (at : ℕ) (text : List ℕ) (kept from others to : ℕ) (m all : List ℕ) →
+    from ≡ length (flat (take kept xs)) → from ≤ at → to ≡ length (flat (take others xs)) → min (at + length text) (length (flat xs)) ≤ to →
+    m ≡ ((cut from at (flat xs) ++ replicate (at - length (flat xs)) 0) ++ text) ++ cut (min (at + length text) to) to (flat xs) →
+    all ≡ (flat (take kept xs) ++ m) ++ flat (drop others xs) → all ≡ laid (flat xs) at text
+write_is xs at text kept from others to m all ef low et high em ea =
+    let front : flat (take kept xs) ≡ take from (flat xs) =
+    sym (take_at (flat (take kept xs)) (flat (drop kept xs)) from (sym ef)) ∙ ap (take from) (flat-halves xs kept) in
+    let back : flat (drop others xs) ≡ drop to (flat xs) =
+    sym (drop_at (flat (take others xs)) (flat (drop others xs)) to (sym et)) ∙ ap (drop to) (flat-halves xs others) in
+    ea
+    ∙ ap (λ b. (flat (take kept xs) ++ m) ++ b) back
+    ∙ ap (λ f. (f ++ m) ++ drop to (flat xs)) front
+    ∙ ap (λ w. (take from (flat xs) ++ w) ++ drop to (flat xs)) em
+    ∙ written (flat xs) at text from to low high
 
-module _ {Y Z : Type 0} where
-  -- the same, where its pieces are of the extents that it touches
-  pub touched_is : (xs : List (Arc (Vec ℕ Y) Z)) (at : ℕ) (text : List ℕ) (kept from count to : ℕ) (m all : List ℕ) →
-      from ≡ length (flat (take kept xs)) → from ≤ at → to ≡ length (flat (take count (drop kept xs))) →
-      min (at - from + length text) (length (flat (drop kept xs))) ≤ to →
-      m ≡ ((cut 0 (at - from) (flat (take count (drop kept xs))) ++ replicate (at - length (flat xs)) 0) ++ text) ++ cut (min (at - from + length text) to) to (flat (take count (drop kept xs))) →
-      all ≡ (flat (take kept xs) ++ m) ++ flat (drop (kept + count) xs) → all ≡ laid (flat xs) at text
-  touched_is xs at text kept from count to m all ef low et high em ea =
-      let r = drop kept xs in
-      let p = flat (take count r) in
-      let z : List ℕ = replicate (at - length (flat xs)) 0 in
-      let end = at - from + length text in
-      let whole : length (flat xs) ≡ from + length (flat r) =
-      sym (ap length (flat-halves xs kept)) ∙ length-append (flat (take kept xs)) (flat r) ∙ ap (λ n. n + length (flat r)) (sym ef) in
-      let past : from + to ≡ length (flat (take (kept + count) xs)) =
-      ap (λ n. n + to) ef
-      ∙ ap (λ n. length (flat (take kept xs)) + n) et
-      ∙ sym (length-append (flat (take kept xs)) p)
-      ∙ sym (ap length (flat-append (take kept xs) (take count r)))
-      ∙ sym (ap (λ l. length (flat l)) (take-add kept count xs)) in
-      let none : 0 ≡ from - from = omega arith in
-      let first : cut 0 (at - from) p ≡ cut from at (flat xs) =
-      cut-before r count 0 (at - from) (omega arith) (omega (arith, et, high))
-      ∙ ap (λ n. cut n (at - from) (flat r)) none
-      ∙ cut-after xs kept from at from ef (omega arith) low in
-      let behind : min end to ≡ min (at + length text) (from + to) - from = omega (arith, low) in
-      let up : to ≡ from + to - from = omega arith in
-      let last : cut (min end to) to p ≡ cut (min (at + length text) (from + to)) (from + to) (flat xs) =
-      cut-before r count (min end to) to (omega arith) (omega (arith, et))
-      ∙ ap (λ n. cut n to (flat r)) behind
-      ∙ ap (λ n. cut (min (at + length text) (from + to) - from) n (flat r)) up
-      ∙ cut-after xs kept (min (at + length text) (from + to)) (from + to) from ef (omega (arith, low)) (omega arith) in
-      write_is xs at text kept from (kept + count) (from + to) m all ef low past (omega (arith, high, whole, low))
-      (em ∙ ap (λ l. ((l ++ z) ++ text) ++ cut (min end to) to p) first ∙ ap (λ l. ((cut from at (flat xs) ++ z) ++ text) ++ l) last)
-      ea
+-- the same, where its pieces are of the extents that it touches
+pub touched_is : (xs : List (List ℕ)) (at : ℕ) (text : List ℕ) (kept from count to : ℕ) (m all : List ℕ) →
+    from ≡ length (flat (take kept xs)) → from ≤ at → to ≡ length (flat (take count (drop kept xs))) →
+    min (at - from + length text) (length (flat (drop kept xs))) ≤ to →
+    m ≡ ((cut 0 (at - from) (flat (take count (drop kept xs))) ++ replicate (at - length (flat xs)) 0) ++ text) ++ cut (min (at - from + length text) to) to (flat (take count (drop kept xs))) →
+    all ≡ (flat (take kept xs) ++ m) ++ flat (drop (kept + count) xs) → all ≡ laid (flat xs) at text
+touched_is xs at text kept from count to m all ef low et high em ea =
+    let r = drop kept xs in
+    let p = flat (take count r) in
+    let z : List ℕ = replicate (at - length (flat xs)) 0 in
+    let end = at - from + length text in
+    let whole : length (flat xs) ≡ from + length (flat r) =
+    sym (ap length (flat-halves xs kept)) ∙ length-append (flat (take kept xs)) (flat r) ∙ ap (λ n. n + length (flat r)) (sym ef) in
+    let past : from + to ≡ length (flat (take (kept + count) xs)) =
+    ap (λ n. n + to) ef
+    ∙ ap (λ n. length (flat (take kept xs)) + n) et
+    ∙ sym (length-append (flat (take kept xs)) p)
+    ∙ sym (ap length (flat-append (take kept xs) (take count r)))
+    ∙ sym (ap (λ l. length (flat l)) (take-add kept count xs)) in
+    let none : 0 ≡ from - from = omega arith in
+    let first : cut 0 (at - from) p ≡ cut from at (flat xs) =
+    cut-before r count 0 (at - from) (omega arith) (omega (arith, et, high))
+    ∙ ap (λ n. cut n (at - from) (flat r)) none
+    ∙ cut-after xs kept from at from ef (omega arith) low in
+    let behind : min end to ≡ min (at + length text) (from + to) - from = omega (arith, low) in
+    let up : to ≡ from + to - from = omega arith in
+    let last : cut (min end to) to p ≡ cut (min (at + length text) (from + to)) (from + to) (flat xs) =
+    cut-before r count (min end to) to (omega arith) (omega (arith, et))
+    ∙ ap (λ n. cut n to (flat r)) behind
+    ∙ ap (λ n. cut (min (at + length text) (from + to) - from) n (flat r)) up
+    ∙ cut-after xs kept (min (at + length text) (from + to)) (from + to) from ef (omega (arith, low)) (omega arith) in
+    write_is xs at text kept from (kept + count) (from + to) m all ef low past (omega (arith, high, whole, low))
+    (em ∙ ap (λ l. ((l ++ z) ++ text) ++ cut (min end to) to p) first ∙ ap (λ l. ((cut from at (flat xs) ++ z) ++ text) ++ l) last)
+    ea
 
 pub length-laid : (s : List ℕ) (at : ℕ) (text : List ℕ) → length (laid s at text) ≡ max (length s) (at + length text)
 length-laid s at text =
@@ -234,21 +228,20 @@ length_resized s len =
     let z : length {A = ℕ} (replicate (len - length s) 0) ≡ len - length s = length-replicate (len - length s) 0 in
     length-append (take len s) (replicate (len - length s) 0) ∙ omega (arith, z, length-take len s)
 
-module _ {Y Z : Type 0} where
-  -- the bytes that a truncation leaves, in the pieces that it makes
-  pub resized_is : (xs : List (Arc (Vec ℕ Y) Z)) (len kept from others : ℕ) (m all : List ℕ) →
-      from ≡ length (flat (take kept xs)) → from ≤ len → others ≡ length xs →
-      m ≡ ((cut from len (flat xs) ++ replicate (len - length (flat xs)) 0) ++ []) ++ cut 0 0 (flat xs) →
-      all ≡ (flat (take kept xs) ++ m) ++ flat (drop others xs) → all ≡ resized (flat xs) len
-  resized_is xs len kept from others m all ef low eo em ea =
-      let z : List ℕ = replicate (len - length (flat xs)) 0 in
-      let front : flat (take kept xs) ≡ take from (flat xs) =
-      sym (take_at (flat (take kept xs)) (flat (drop kept xs)) from (sym ef)) ∙ ap (take from) (flat-halves xs kept) in
-      ea
-      ∙ ap (λ n. (flat (take kept xs) ++ m) ++ flat (drop n xs)) eo
-      ∙ ap (λ b. (flat (take kept xs) ++ m) ++ flat b) (drop_of_length-le xs {i = length xs} (omega arith))
-      ∙ append-nil (flat (take kept xs) ++ m)
-      ∙ ap (λ f. f ++ m) front
-      ∙ ap (λ w. take from (flat xs) ++ w) (em ∙ append-nil _ ∙ append-nil _)
-      ∙ sym (append_assoc (take from (flat xs)) (cut from len (flat xs)) z)
-      ∙ ap (λ l. l ++ z) (front_parts from len (flat xs) low)
+-- the bytes that a truncation leaves, in the pieces that it makes
+pub resized_is : (xs : List (List ℕ)) (len kept from others : ℕ) (m all : List ℕ) →
+    from ≡ length (flat (take kept xs)) → from ≤ len → others ≡ length xs →
+    m ≡ ((cut from len (flat xs) ++ replicate (len - length (flat xs)) 0) ++ []) ++ cut 0 0 (flat xs) →
+    all ≡ (flat (take kept xs) ++ m) ++ flat (drop others xs) → all ≡ resized (flat xs) len
+resized_is xs len kept from others m all ef low eo em ea =
+    let z : List ℕ = replicate (len - length (flat xs)) 0 in
+    let front : flat (take kept xs) ≡ take from (flat xs) =
+    sym (take_at (flat (take kept xs)) (flat (drop kept xs)) from (sym ef)) ∙ ap (take from) (flat-halves xs kept) in
+    ea
+    ∙ ap (λ n. (flat (take kept xs) ++ m) ++ flat (drop n xs)) eo
+    ∙ ap (λ b. (flat (take kept xs) ++ m) ++ flat b) (drop_of_length-le xs {i = length xs} (omega arith))
+    ∙ append-nil (flat (take kept xs) ++ m)
+    ∙ ap (λ f. f ++ m) front
+    ∙ ap (λ w. take from (flat xs) ++ w) (em ∙ append-nil _ ∙ append-nil _)
+    ∙ sym (append_assoc (take from (flat xs)) (cut from len (flat xs)) z)
+    ∙ ap (λ l. l ++ z) (front_parts from len (flat xs) low)

@@ -1,6 +1,7 @@
 ghost use Rattle.std.specs.Prelude.{◌≡◌, OnOk, OnErr};
 ghost use Rattle.std.specs.Option.{option_copied};
 ghost use Rattle.std.specs.FinMap as fin;
+ghost use Rattle.shared_map.specs.Entries.{nth, entry_behind};
 ghost use Rattle.object_store.specs.Calls.{set_in, removed_in};
 ghost use Rattle.object_store.specs.Returned.{Gives};
 
@@ -18,6 +19,16 @@ pub(crate) fn value_in<'a>(attributes: &'a Attributes, name: &[u8]) -> Option<&'
 {
     match attributes.get(name) {
         Some(value) => Some(value.bytes()),
+        None => None,
+    }
+}
+
+/// The name at a place in the order of the names, from 0 on, and its value.
+pub(crate) fn nth_in(attributes: &Attributes, n: usize) -> Option<(&[u8], &[u8])>
+    ensures { entry_behind result ≡ nth attributes.now n }
+{
+    match attributes.nth(n) {
+        Some((name, value)) => Some((name, value.bytes())),
         None => None,
     }
 }

@@ -1,18 +1,19 @@
-ghost use Rattle.std.specs.Prelude.{◌≡◌, ◌+◌, ◌≤◌, [], IfOk, OnOk, OnErr, length};
+ghost use Rattle.std.specs.Prelude.{◌≡◌, ◌+◌, ◌*◌, ◌<◌, ◌≤◌, ◌↔◌, [], IsTrue, IfOk, OnOk, OnErr, min, length};
 ghost use Rattle.object_store.specs.declared.limits.TheConstants.{DATA_LIMIT};
 ghost use Rattle.object_store.specs.Object.{part, spliced, resized};
-ghost use Rattle.object_store.specs.Extents.{flat};
+ghost use Rattle.object_store.specs.Extents.{flat, ArePacked};
 
 use crate::data::Data;
 use crate::data_error::DataError;
-use crate::extents::{Extent, copy_out, with_len, with_text};
+use crate::extent::Extent;
+use crate::extents::{are_same, copy_out, with_len, with_text};
 use crate::slices::place_of;
 use std::alloc::{AllocError, Global};
 use std::marker::Model;
 use std::sync::Arc;
 
-/// Data in extents of at most 4,096 bytes, which never change once they are made: a copy costs one pointer, and a write makes anew what it touches and
-/// shares the other extents. Contracts see the bytes.
+/// Data in extents of 1 to 4,096 bytes, as few as it needs, which never change once they are made: a copy costs one pointer, and a write makes anew what it
+/// touches and shares the other extents. Contracts see the bytes.
 #[derive(Drop)]
 pub struct ExtentData {
     parts: Option<Arc<Vec<Extent>>>,
@@ -22,13 +23,13 @@ pub struct ExtentData {
 impl Model for ExtentData {
     ghost use Rattle.std.specs.Prelude.{◌≡◌, ◌≤◌, ℕ, List, length};
     ghost use Rattle.object_store.specs.declared.limits.TheConstants.{DATA_LIMIT};
-    ghost use Rattle.object_store.specs.Extents.{flat_shared};
+    ghost use Rattle.object_store.specs.Extents.{flat, shared, ArePacked};
 
     ghost Value = { List ℕ };
 
-    ghost view = { λ d. flat_shared d.parts };
+    ghost view = { λ d. flat (shared d.parts) };
 
-    ghost invariant = { λ d. (d.len ≡ length (flat_shared d.parts)) × (d.len ≤ DATA_LIMIT) };
+    ghost invariant = { λ d. (d.len ≡ length (flat (shared d.parts))) × (d.len ≤ DATA_LIMIT) × ArePacked (shared d.parts) };
 }
 
 impl ExtentData {
@@ -44,7 +45,8 @@ impl ExtentData {
 
     /// The extents in order.
     fn parts(&self) -> &[Extent]
-        ensures { flat result.now ≡ self.now }
+        ensures bytes { flat result.now ≡ self.now }
+        ensures packed { ArePacked result.now }
     {
         match &self.parts {
             Some(parts) => parts.as_slice(),
@@ -64,6 +66,13 @@ impl ExtentData {
             parts,
             len: self.len,
         })
+    }
+
+    /// Whether the bytes are the same. It takes no memory.
+    pub(crate) fn is_same(&self, other: &ExtentData) -> bool
+        ensures { IsTrue result ↔ (self.now ≡ other.now) }
+    {
+        are_same(self.parts(), other.parts())
     }
 
     /// Writes text over the bytes at a place.
@@ -92,7 +101,8 @@ impl ExtentData {
 
     /// Makes the data that of these extents, which have so many bytes.
     fn remake(&mut self, alloc: Global, parts: Vec<Extent>, len: usize) -> Result<(), AllocError>
-        requires { (len ≡ length (flat parts.items)) × (len ≤ DATA_LIMIT) }
+        requires len { (len ≡ length (flat parts.items)) × (len ≤ DATA_LIMIT) }
+        requires packed { ArePacked parts.items }
         ensures ok { OnOk result (self.new ≡ flat parts.items) }
         ensures err { OnErr result (self.new ≡ self.old) }
     {
@@ -138,18 +148,25 @@ impl Data for ExtentData {
     }
 }
 
-/// What the bytes lie in, of which no clause speaks: for tests and measurements.
+/// What the bytes lie in: for tests and measurements.
 impl ExtentData {
-    /// How many extents it has.
-    pub fn extent_count(&self) -> usize {
+    /// How many extents it has: as few of 4,096 bytes as its bytes need.
+    pub fn extent_count(&self) -> usize
+        ensures enough { length self.now ≤ result * 4096 }
+        ensures few { result * 4096 < length self.now + 4096 }
+    {
         self.parts().len()
     }
 
-    /// The length of its longest extent.
-    pub fn longest_extent(&self) -> usize {
-        let mut most = 0;
-        for part in self.parts() {
-            most = most.max(part.len());
+    /// The length of its longest extent: 4,096, or all bytes where they are fewer.
+    pub fn longest_extent(&self) -> usize
+        ensures { result ≡ min (length self.now) 4096 }
+    {
+        let parts = self.parts();
+        let mut most = 0usize;
+        for part in parts {
+            let bytes: &[u8] = part.bytes();
+            most = most.max(bytes.len());
         }
         most
     }
@@ -158,7 +175,7 @@ impl ExtentData {
     pub fn shared_count(&self) -> usize {
         let mut count = 0usize;
         for part in self.parts() {
-            if Arc::strong_count(part) > 1 {
+            if part.is_shared() {
                 count = count.saturating_add(1);
             }
         }

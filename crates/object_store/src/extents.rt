@@ -1,16 +1,11 @@
-ghost use Rattle.std.specs.Prelude.{◌≡◌, ◌+◌, ◌-◌, ◌<◌, ◌≤◌, ◌^◌, ◌++◌, IfOk, OnOk, min, length, take, drop, replicate};
+ghost use Rattle.std.specs.Prelude.{◌≡◌, ◌+◌, ◌-◌, ◌%◌, ◌<◌, ◌≤◌, ◌^◌, ◌++◌, ◌↔◌, IsTrue, IfOk, OnOk, min, length, take, drop, replicate};
 ghost use Rattle.object_store.specs.Object.{spliced, resized};
-ghost use Rattle.object_store.specs.Extents.{flat, cut};
+ghost use Rattle.object_store.specs.Extents.{flat, AreFull, ArePacked, cut};
+ghost use Rattle.object_store.specs.declared.extent.TheConstants.{EXTENT_LIMIT};
 
+use crate::extent::{EXTENT_LIMIT, Extent};
 use crate::slices::overlay;
 use std::alloc::{AllocError, Global};
-use std::sync::Arc;
-
-/// Bytes that never change once they are made, shared by all data that has them.
-pub(crate) type Extent = Arc<Vec<u8>>;
-
-/// The most bytes of an extent.
-pub(crate) const EXTENT_LIMIT: usize = 4096;
 
 /// The extents of the bytes with a text written over them at a place.
 pub(crate) fn with_text(
@@ -23,7 +18,9 @@ pub(crate) fn with_text(
     requires len { (len ≡ length (flat parts.now)) × (len ≤ 65536) }
     requires text { 0 < length text.now }
     requires end { at + length text.now ≤ 65536 }
-    ensures { IfOk result (λ v. flat v.items ≡ spliced (flat parts.now) at text.now) }
+    requires packed { ArePacked parts.now }
+    ensures bytes { IfOk result (λ v. flat v.items ≡ spliced (flat parts.now) at text.now) }
+    ensures packed { IfOk result (λ v. ArePacked v.items) }
 {
     let (kept, from) = before(parts, at);
     let (_, rest) = parts.split_at(kept);
@@ -45,7 +42,9 @@ pub(crate) fn with_len(
 ) -> Result<Vec<Extent>, AllocError>
     requires len { (len ≡ length (flat parts.now)) × (len ≤ 65536) }
     requires end { new_len ≤ 65536 }
-    ensures { IfOk result (λ v. flat v.items ≡ resized (flat parts.now) new_len) }
+    requires packed { ArePacked parts.now }
+    ensures bytes { IfOk result (λ v. flat v.items ≡ resized (flat parts.now) new_len) }
+    ensures packed { IfOk result (λ v. ArePacked v.items) }
 {
     let (kept, from) = before(parts, new_len);
     let (_, rest) = parts.split_at(kept);
@@ -79,7 +78,7 @@ fn touched(
     Ok(bytes)
 }
 
-/// The extents with those of a range replaced by new bytes.
+/// The extents with those of a range replaced by new bytes, which fill theirs where others follow.
 fn replaced(
     alloc: Global,
     parts: &[Extent],
@@ -87,13 +86,19 @@ fn replaced(
     bytes: Vec<u8>,
     others: usize,
 ) -> Result<Vec<Extent>, AllocError>
-    requires { (kept ≤ length parts.now) × (others ≤ length parts.now) }
-    ensures { IfOk result (λ v. flat v.items ≡ (flat (take kept parts.now) ++ bytes.items) ++ flat (drop others parts.now)) }
+    requires places { (kept ≤ length parts.now) × (others ≤ length parts.now) }
+    requires full { AreFull (take kept parts.now) }
+    requires packed { ArePacked (drop others parts.now) }
+    requires seam { others < length parts.now → length bytes.items % EXTENT_LIMIT ≡ 0 }
+    ensures bytes { IfOk result (λ v. flat v.items ≡ (flat (take kept parts.now) ++ bytes.items) ++ flat (drop others parts.now)) }
+    ensures packed { IfOk result (λ v. ArePacked v.items) }
 {
+    let (front, _) = parts.split_at(kept);
+    let (_, back) = parts.split_at(others);
     let mut all = Vec::with_capacity(alloc, parts.len().saturating_add(1))?;
-    share(&mut all, &parts[..kept])?;
+    share(&mut all, front)?;
     push_bytes(alloc, &mut all, bytes)?;
-    share(&mut all, &parts[others..])?;
+    share(&mut all, back)?;
     Ok(all)
 }
 
@@ -115,7 +120,7 @@ fn append(parts: &[Extent], from: usize, to: usize, out: &mut Vec<u8>) -> Result
 {
     let mut start = 0;
     for part in parts {
-        let bytes: &[u8] = part.as_slice();
+        let bytes: &[u8] = part.bytes();
         let low = from.saturating_sub(start).min(bytes.len());
         let high = to.saturating_sub(start).min(bytes.len());
         out.extend_from_slice(&bytes[low..high])?;
@@ -151,7 +156,7 @@ fn copy_cut(parts: &[Extent], from: usize, to: usize, out: &mut [u8]) -> usize
     let mut start = 0;
     let mut done = 0;
     for part in parts {
-        let bytes: &[u8] = part.as_slice();
+        let bytes: &[u8] = part.bytes();
         let low = from.saturating_sub(start).min(bytes.len());
         let high = to.saturating_sub(start).min(bytes.len());
         overlay(out, done, &bytes[low..high]);
@@ -161,14 +166,30 @@ fn copy_cut(parts: &[Extent], from: usize, to: usize, out: &mut [u8]) -> usize
     done
 }
 
+/// Whether two lists have the same extents.
+pub(crate) fn are_same(parts: &[Extent], others: &[Extent]) -> bool
+    ensures { IsTrue result ↔ (parts.now ≡ others.now) }
+{
+    if parts.len() != others.len() {
+        return false;
+    }
+    for place in 0..parts.len() {
+        if !parts[place].is_same(&others[place]) {
+            return false;
+        }
+    }
+    true
+}
+
 /// How many full extents stand before a place, and how many bytes they have.
 fn before(parts: &[Extent], at: usize) -> (usize, usize)
     requires { length (flat parts.now) ≤ 65536 }
-    ensures { (result.0 ≤ length parts.now) × (result.1 ≡ length (flat (take result.0 parts.now))) × (result.1 ≤ at) }
+    ensures place { (result.0 ≤ length parts.now) × (result.1 ≡ length (flat (take result.0 parts.now))) × (result.1 ≤ at) }
+    ensures full { AreFull (take result.0 parts.now) }
 {
     let mut start = 0;
     for (i, part) in parts.iter().enumerate() {
-        let bytes: &[u8] = part.as_slice();
+        let bytes: &[u8] = part.bytes();
         if bytes.len() < EXTENT_LIMIT || at < start + bytes.len() {
             return (i, start);
         }
@@ -187,7 +208,7 @@ fn past(parts: &[Extent], end: usize) -> (usize, usize)
         if end <= start {
             return (i, start);
         }
-        let bytes: &[u8] = part.as_slice();
+        let bytes: &[u8] = part.bytes();
         start += bytes.len();
     }
     (parts.len(), start)
@@ -195,47 +216,66 @@ fn past(parts: &[Extent], end: usize) -> (usize, usize)
 
 /// Adds the same extents.
 fn share(parts: &mut Vec<Extent>, others: &[Extent]) -> Result<(), AllocError>
-    ensures { OnOk result (flat parts.new.items ≡ flat parts.old.items ++ flat others.now) }
+    ensures { OnOk result (parts.new.items ≡ parts.old.items ++ others.now) }
 {
     for part in others {
-        parts.push(Arc::try_clone(part)?)?;
+        parts.push(part.share()?)?;
     }
     Ok(())
 }
 
 /// Adds extents of new bytes, which become the extent themselves where they fill one.
 fn push_bytes(alloc: Global, parts: &mut Vec<Extent>, bytes: Vec<u8>) -> Result<(), AllocError>
-    ensures { OnOk result (flat parts.new.items ≡ flat parts.old.items ++ bytes.items) }
+    requires { AreFull parts.old.items }
+    ensures bytes { OnOk result (flat parts.new.items ≡ flat parts.old.items ++ bytes.items) }
+    ensures packed { OnOk result (ArePacked parts.new.items) }
+    ensures full { length bytes.items % EXTENT_LIMIT ≡ 0 → OnOk result (AreFull parts.new.items) }
 {
     if bytes.len() != EXTENT_LIMIT {
         return push_cut(alloc, parts, &bytes);
     }
-    let extent = Arc::new(alloc, bytes)?;
-    parts.push(extent)?;
-    Ok(())
+    push_extent(alloc, parts, bytes)
 }
 
-/// Adds extents of copied bytes.
+/// Adds extents of copied bytes, each full but the last.
 fn push_cut(alloc: Global, parts: &mut Vec<Extent>, bytes: &[u8]) -> Result<(), AllocError>
-    ensures { OnOk result (flat parts.new.items ≡ flat parts.old.items ++ bytes.now) }
+    requires { AreFull parts.old.items }
+    ensures bytes { OnOk result (flat parts.new.items ≡ flat parts.old.items ++ bytes.now) }
+    ensures packed { OnOk result (ArePacked parts.new.items) }
+    ensures full { length bytes.now % EXTENT_LIMIT ≡ 0 → OnOk result (AreFull parts.new.items) }
 {
     let mut rest = bytes;
     while rest.len() > EXTENT_LIMIT {
         let (first, others) = rest.split_at(EXTENT_LIMIT);
-        push_extent(alloc, parts, first)?;
+        push_copy(alloc, parts, first)?;
         rest = others;
     }
     if rest.is_empty() {
         return Ok(());
     }
-    push_extent(alloc, parts, rest)
+    push_copy(alloc, parts, rest)
+}
+
+/// Adds one extent of copied bytes.
+fn push_copy(alloc: Global, parts: &mut Vec<Extent>, bytes: &[u8]) -> Result<(), AllocError>
+    requires full { AreFull parts.old.items }
+    requires within { (1 ≤ length bytes.now) × (length bytes.now ≤ EXTENT_LIMIT) }
+    ensures bytes { OnOk result (flat parts.new.items ≡ flat parts.old.items ++ bytes.now) }
+    ensures packed { OnOk result (ArePacked parts.new.items) }
+    ensures full { length bytes.now ≡ EXTENT_LIMIT → OnOk result (AreFull parts.new.items) }
+{
+    push_extent(alloc, parts, Vec::from_slice(alloc, bytes)?)
 }
 
 /// Adds one extent of new bytes.
-fn push_extent(alloc: Global, parts: &mut Vec<Extent>, bytes: &[u8]) -> Result<(), AllocError>
-    ensures { OnOk result (flat parts.new.items ≡ flat parts.old.items ++ bytes.now) }
+fn push_extent(alloc: Global, parts: &mut Vec<Extent>, bytes: Vec<u8>) -> Result<(), AllocError>
+    requires full { AreFull parts.old.items }
+    requires within { (1 ≤ length bytes.items) × (length bytes.items ≤ EXTENT_LIMIT) }
+    ensures bytes { OnOk result (flat parts.new.items ≡ flat parts.old.items ++ bytes.items) }
+    ensures packed { OnOk result (ArePacked parts.new.items) }
+    ensures full { length bytes.items ≡ EXTENT_LIMIT → OnOk result (AreFull parts.new.items) }
 {
-    let extent = Arc::new(alloc, Vec::from_slice(alloc, bytes)?)?;
+    let extent = Extent::new(alloc, bytes)?;
     parts.push(extent)?;
     Ok(())
 }

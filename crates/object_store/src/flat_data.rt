@@ -43,7 +43,7 @@ impl Data for FlatData {
     }
 
     fn read(&self, at: u64, out: &mut [u8]) -> usize {
-        let found = part(&self.content, at, out.len());
+        let found = part(&self.content, at, out.len() as u64);
         overlay(out, 0, found);
         found.len()
     }

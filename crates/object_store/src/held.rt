@@ -1,14 +1,14 @@
-ghost use Rattle.std.specs.Prelude.{◌≡◌, ◌+◌, ◌≤◌, IfOk, Ok, length};
+ghost use Rattle.std.specs.Prelude.{◌≡◌, ◌+◌, ◌≤◌, ◌↔◌, IsTrue, IfOk, Ok, length};
 ghost use Rattle.std.specs.Option.{option_copied};
 ghost use Rattle.std.specs.FinMap as fin;
-ghost use Rattle.shared_map.specs.Entries.{key_above};
+ghost use Rattle.shared_map.specs.Entries.{key_above, nth, entry_behind};
 ghost use Rattle.object_store.specs.declared.limits.TheConstants.{DATA_LIMIT, XATTR_LIMIT, KEY_LIMIT};
 ghost use Rattle.object_store.specs.Object.{IsContent, IsName, IsValue, nothing, part, spliced, resized};
 ghost use Rattle.object_store.specs.Edits.{overlaid};
 ghost use Rattle.object_store.specs.Calls.{set_in, removed_in, with_xattrs, with_omap};
 ghost use Rattle.object_store.specs.Returned.{Gives};
 
-use crate::attributes::{Attributes, remove_in, set_in, value_in};
+use crate::attributes::{Attributes, nth_in, remove_in, set_in, value_in};
 use crate::data::Data;
 use crate::extent_data::ExtentData;
 use crate::limits::{KEY_LIMIT, XATTR_LIMIT};
@@ -87,6 +87,13 @@ impl Held {
         self.xattrs.len()
     }
 
+    /// The xattr at a place in the order of their names, from 0 on: its name and its value.
+    pub(crate) fn xattr_at(&self, n: usize) -> Option<(&[u8], &[u8])>
+        ensures { entry_behind result ≡ nth self.now.xattrs n }
+    {
+        nth_in(&self.xattrs, n)
+    }
+
     /// The value of a key of the omap.
     pub(crate) fn key(&self, key: &[u8]) -> Option<&[u8]>
         ensures { option_copied result ≡ fin.get self.now.omap key.now }
@@ -107,6 +114,29 @@ impl Held {
         ensures within { result ≤ KEY_LIMIT }
     {
         self.omap.len()
+    }
+
+    /// The key of the omap at a place in their order, from 0 on, and its value.
+    pub(crate) fn key_at(&self, n: usize) -> Option<(&[u8], &[u8])>
+        ensures { entry_behind result ≡ nth self.now.omap n }
+    {
+        nth_in(&self.omap, n)
+    }
+
+    /// Whether two hold the same. It takes no memory.
+    pub(crate) fn is_same(&self, other: &Held) -> bool
+        ensures { IsTrue result ↔ (self.now ≡ other.now) }
+    {
+        self.bytes.is_same(&other.bytes)
+            && self.xattrs.is_same(&other.xattrs)
+            && self.omap.is_same(&other.omap)
+    }
+
+    /// Whether it holds nothing.
+    pub(crate) fn is_nothing(&self) -> bool
+        ensures { IsTrue result ↔ (self.now ≡ nothing) }
+    {
+        self.is_same(&Held::new())
     }
 
     /// The same, of which all is shared.

@@ -1,13 +1,14 @@
-ghost use Rattle.std.specs.Prelude.{◌≡◌, ◌≤◌, IfOk, IfErr, length};
+ghost use Rattle.std.specs.Prelude.{◌≡◌, ◌≤◌, ◌↔◌, IsTrue, IfOk, IfErr, length};
 ghost use Rattle.std.specs.Option.{option_copied};
 ghost use Rattle.std.specs.FinMap as fin;
-ghost use Rattle.shared_map.specs.Entries.{key_above};
+ghost use Rattle.shared_map.specs.Entries.{key_above, nth, entry_behind};
 ghost use Rattle.object_store.specs.declared.limits.TheConstants.{DATA_LIMIT, XATTR_LIMIT, KEY_LIMIT};
 ghost use Rattle.object_store.specs.Object.{IsContent, nothing, part};
 ghost use Rattle.object_store.specs.Edits.{overlaid};
 
 use crate::held::Held;
 use crate::store_error::StoreError;
+use shared_map::Same;
 use std::alloc::{AllocError, Global};
 use std::marker::Model;
 use std::sync::Arc;
@@ -118,6 +119,16 @@ impl Object {
         }
     }
 
+    /// The xattr at a place in the order of their names, from 0 on: its name and its value.
+    pub fn xattr_at(&self, n: usize) -> Option<(&[u8], &[u8])>
+        ensures { entry_behind result ≡ nth self.now.xattrs n }
+    {
+        match &self.held {
+            Some(held) => held.xattr_at(n),
+            None => None,
+        }
+    }
+
     /// The value of a key of the omap.
     pub fn key(&self, key: &[u8]) -> Option<&[u8]>
         ensures { option_copied result ≡ fin.get self.now.omap key.now }
@@ -149,6 +160,36 @@ impl Object {
         }
     }
 
+    /// The key of the omap at a place in their order, from 0 on, and its value.
+    pub fn key_at(&self, n: usize) -> Option<(&[u8], &[u8])>
+        ensures { entry_behind result ≡ nth self.now.omap n }
+    {
+        match &self.held {
+            Some(held) => held.key_at(n),
+            None => None,
+        }
+    }
+
+    /// Whether two have the same data, xattrs and keys. It takes no memory.
+    pub fn is_same(&self, other: &Object) -> bool
+        ensures { IsTrue result ↔ (self.now ≡ other.now) }
+    {
+        match &self.held {
+            Some(held) => held_is(held, other),
+            None => other.is_nothing(),
+        }
+    }
+
+    /// Whether it has no data, xattrs and keys.
+    fn is_nothing(&self) -> bool
+        ensures { IsTrue result ↔ (nothing ≡ self.now) }
+    {
+        match &self.held {
+            Some(held) => held.is_nothing(),
+            None => true,
+        }
+    }
+
     /// An equal object, which shares all of it. Refused: 7 NoMemory.
     pub fn copy(&self) -> Result<Object, StoreError>
         ensures value { IfOk result (λ o. o ≡ self.now) }
@@ -166,5 +207,21 @@ impl Object {
             None => None,
         };
         Ok(Object { held })
+    }
+}
+
+/// Whether an object has what is held here.
+fn held_is(held: &Held, object: &Object) -> bool
+    ensures { IsTrue result ↔ (held.now ≡ object.now) }
+{
+    match &object.held {
+        Some(other) => held.is_same(other),
+        None => held.is_nothing(),
+    }
+}
+
+impl Same for Object {
+    fn is_same(&self, other: &Object) -> bool {
+        Object::is_same(self, other)
     }
 }

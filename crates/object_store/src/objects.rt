@@ -1,6 +1,7 @@
-ghost use Rattle.std.specs.Prelude.{◌≡◌, Result, IfOk, IfErr, OnErr, OnOk, length};
+ghost use Rattle.std.specs.Prelude.{◌≡◌, ◌↔◌, Result, IsTrue, IfOk, IfErr, OnErr, OnOk, length};
 ghost use Rattle.std.specs.Option.{option_copied};
 ghost use Rattle.std.specs.FinMap as fin;
+ghost use Rattle.shared_map.specs.Entries.{nth, entry_behind};
 ghost use Rattle.object_store.specs.Calls as spec;
 ghost use Rattle.object_store.specs.Object.{Content};
 ghost use Rattle.object_store.specs.Names.{stored, after, after_removal};
@@ -55,6 +56,20 @@ impl Objects {
         ensures { option_copied result ≡ fin.get self.now name.now }
     {
         self.by_name.get(name.text().as_bytes())
+    }
+
+    /// The object at a place in the order of the names, from 0 on, and its name, in the logarithm of the number of objects.
+    pub fn nth(&self, n: usize) -> Option<(&[u8], &Object)>
+        ensures { entry_behind result ≡ nth self.now n }
+    {
+        self.by_name.nth(n)
+    }
+
+    /// Whether two have the same objects under the same names. It takes no memory.
+    pub fn is_same(&self, other: &Objects) -> bool
+        ensures { IsTrue result ↔ (self.now ≡ other.now) }
+    {
+        self.by_name.is_same(&other.by_name)
     }
 
     /// Equal objects, which are shared. Refused: 7 NoMemory.

@@ -17,7 +17,7 @@ pub(crate) fn place_of(at: u64, len: usize) -> Option<usize>
 }
 
 /// The bytes from a place on that there are, at most n.
-pub(crate) fn part(bytes: &[u8], at: u64, n: usize) -> &[u8]
+pub fn part(bytes: &[u8], at: u64, n: u64) -> &[u8]
     ensures bytes { result.now ≡ part bytes.now at n }
     ensures short { length result.now ≤ n }
 {
@@ -25,7 +25,11 @@ pub(crate) fn part(bytes: &[u8], at: u64, n: usize) -> &[u8]
         return &bytes[..0];
     }
     let rest = &bytes[at as usize..];
-    if n < rest.len() { &rest[..n] } else { rest }
+    if n < rest.len() as u64 {
+        &rest[..n as usize]
+    } else {
+        rest
+    }
 }
 
 /// Writes text over the bytes at a place.

@@ -1,5 +1,6 @@
 ghost use Rattle.std.specs.Prelude.{◌≡◌, IfOk};
 
+use shared_map::Same;
 use std::alloc::{AllocError, Global};
 use std::marker::Model;
 
@@ -32,5 +33,11 @@ impl StoredBytes {
         ensures { result.now ≡ self.now }
     {
         &self.content
+    }
+}
+
+impl Same for StoredBytes {
+    fn is_same(&self, other: &StoredBytes) -> bool {
+        self.content.as_slice() == other.content.as_slice()
     }
 }

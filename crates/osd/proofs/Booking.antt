@@ -1,5 +1,5 @@
 -- Books and maps as the cluster keeps them.
-use Rattle.std.proofs.Common.{◌≡◌, ℕ, suc, ◌+◌, ◌<◌, List, [], ◌∷◌, length, Bool, true, Option, Result, Ok, Err, Some, refl, sym, ap, ◌∙◌, subst, arith, get_or, zero}
+use Rattle.std.proofs.Common.{◌≡◌, ℕ, suc, ◌+◌, ◌<◌, List, [], ◌∷◌, length, true, Result, Ok, Err, Some, refl, sym, ap, ◌∙◌, subst, arith, get_or, zero}
 use Rattle.std.specs.Prelude.{All, OnOk, OnErr, slice_get, slice_set}
 use Rattle.std.proofs.lemmas.Bool.Decides.{nat_tests}
 use Rattle.std.proofs.lemmas.List.Elements.{All-weaker}

@@ -6,7 +6,7 @@ use group_cell::{Post, Reply};
 use interp::ClassTable;
 use object_store::ObjectName;
 use osd::{
-    AskError, ClusterName, Config, Fate, Open, Opened, Parts, Running, Scenario, play,
+    AskError, ClusterName, Config, Fate, Gate, Open, Opened, Parts, Running, Scenario, play,
     running_crosses,
 };
 use pg_log::{ClientId, Request, RequestNumber};
@@ -14,21 +14,38 @@ use std::alloc::Global;
 use std::marker::Brand;
 use std::process::Abort;
 use std::sync::Wait;
+use std::sync::atomic::{AtomicU64, Ordering};
 use std::thread::{Threads, join, yield_now};
 
-/// The looks of a call before it fails.
-pub const TURNS: u32 = 1_000_000;
+/// The turns that a test waits before it fails: so many that only a fault reaches them, however busy the machine is.
+pub const TURNS: u32 = 30_000_000;
 
 /// The looks without an answer after which a request is sent again.
-const LOOKS: u32 = 1000;
+const LOOKS: u32 = 20;
 
 /// A client's request of the lock on an object.
 pub fn lock(alloc: Global, client: ClientId, number: u32, object: &str) -> Option<Request> {
+    request(alloc, client, number, object, 0)
+}
+
+/// A client's request of a class that there isn't. It is refused, whatever has come before.
+fn unknown(alloc: Global, client: ClientId, number: u32) -> Option<Request> {
+    request(alloc, client, number, "a", 9)
+}
+
+/// A client's request of the method `lock` of a class.
+fn request(
+    alloc: Global,
+    client: ClientId,
+    number: u32,
+    object: &str,
+    class: usize,
+) -> Option<Request> {
     Some(Request::new(
         client,
         RequestNumber::new(number)?,
         ObjectName::new(alloc, object).ok()?,
-        0,
+        class,
         String::from_str(alloc, "lock").ok()?,
         Vec::new(alloc),
     ))
@@ -60,7 +77,7 @@ fn found<N: ClusterName>(reply: Reply<N>) -> (usize, i64) {
     (reply.place(), reply.code())
 }
 
-/// The place and the code that the request is answered. None where that takes more than a million looks, or where the
+/// The place and the code that the request is answered. None where that takes more than `TURNS` looks, as it does where the
 /// request is refused for good.
 pub fn answer<N: ClusterName, R: Wait>(
     running: &Running<N, R>,
@@ -130,9 +147,26 @@ pub fn played<S: Scenario, R: Threads + Wait + Abort + Sync + Copy + Drop>(
     play(alloc, rt, parts, table, scenario).ok()
 }
 
-/// What is called on a cluster while its worker serves, and whether it comes out as it should.
+/// What is called on a cluster before its worker serves, while it serves, and once it has ended, and whether it comes out as
+/// it should.
 pub trait Calls {
+    fn begins<N: ClusterName, R: Wait>(&self, _running: &Running<N, R>) -> bool {
+        true
+    }
+
     fn calls<N: ClusterName, R: Wait>(&self, running: &Running<N, R>) -> bool;
+
+    fn ends<N: ClusterName, R: Wait>(&self, _running: &Running<N, R>) -> bool {
+        true
+    }
+}
+
+/// What a worker serves by.
+#[derive(Drop)]
+pub struct Server<'a, G, F> {
+    pub worker: usize,
+    pub gate: &'a G,
+    pub fate: &'a F,
 }
 
 /// Calls on a new cluster that has the class `lock`, while its worker 0 serves under a fate.
@@ -143,40 +177,192 @@ pub fn served<C: Calls + Sync, F: Fate + Sync, R: Threads + Wait + Sync + Drop>(
     calls: &C,
     fate: &F,
 ) -> Option<bool> {
+    let server = Server {
+        worker: 0,
+        gate: &Open,
+        fate,
+    };
+    served_by(rt, alloc, config, calls, server)
+}
+
+/// Calls on a new cluster that has the class `lock`, while a worker serves.
+pub fn served_by<C: Calls + Sync, G: Gate + Sync, F: Fate + Sync, R: Threads + Wait + Sync + Drop>(
+    rt: R,
+    alloc: Global,
+    config: Config,
+    calls: &C,
+    server: Server<'_, G, F>,
+) -> Option<bool> {
     let (parts, table) = made(alloc, config)?;
-    served_on::<Brand, C, F, R>(rt, alloc, parts, table, calls, fate)
+    served_on::<Brand, C, G, F, R>(rt, alloc, parts, table, calls, server)
 }
 
 fn served_on<
     N: ClusterName + Send + Sync,
     C: Calls + Sync,
+    G: Gate + Sync,
     F: Fate + Sync,
     R: Threads + Wait + Sync + Drop,
->(rt: R, alloc: Global, parts: Parts, table: ClassTable, calls: &C, fate: &F) -> Option<bool>
+>(
+    rt: R,
+    alloc: Global,
+    parts: Parts,
+    table: ClassTable,
+    calls: &C,
+    server: Server<'_, G, F>,
+) -> Option<bool>
     requires board { parts.board ≡ N.board }
     requires queues { parts.queues ≡ N.queues }
     requires config { parts.config ≡ N.config }
     requires table { table ≡ N.classes }
 {
     let running = Running::<N, R>::named(alloc, rt, parts, table).ok()?;
-    Some(while_served(&running, calls, fate))
+    Some(while_served(&running, calls, server))
 }
 
 fn while_served<
     N: ClusterName + Send + Sync,
     C: Calls + Sync,
+    G: Gate + Sync,
     F: Fate + Sync,
     R: Threads + Wait + Sync,
->(running: &Running<N, R>, calls: &C, fate: &F) -> bool {
+>(running: &Running<N, R>, calls: &C, server: Server<'_, G, F>) -> bool {
     running_crosses::<N, R>();
+    let Server { worker, gate, fate } = server;
+    if !calls.begins(running) {
+        return false;
+    }
     let (_, done) = join(
         running.runtime(),
-        || running.serve_with(0, &Open, fate),
+        || running.serve_with(worker, gate, fate),
         || {
             let done = calls.calls(running);
             running.finish();
             done
         },
     );
-    done
+    done && calls.ends(running)
+}
+
+/// Counts what a worker takes, but for the requests of a `Fence`.
+#[derive(Drop)]
+pub struct Taken {
+    /// Operations that aren't clients' requests.
+    others: AtomicU64,
+    /// Clients' requests.
+    requests: AtomicU64,
+    /// The number of the fence's newest request.
+    fence: AtomicU64,
+}
+
+impl Taken {
+    pub fn new() -> Taken {
+        Taken {
+            others: AtomicU64::new(0),
+            requests: AtomicU64::new(0),
+            fence: AtomicU64::new(0),
+        }
+    }
+
+    /// How many operations it took that aren't clients' requests.
+    pub fn others(&self) -> u64 {
+        self.others.load(Ordering::SeqCst)
+    }
+
+    /// How many operations it took.
+    fn all(&self) -> u64 {
+        let requests = self.requests.load(Ordering::SeqCst);
+        self.others().wrapping_add(requests)
+    }
+}
+
+impl Gate for Taken {
+    fn before(&self, number: u64) {
+        if number == 0 {
+            self.others.fetch_add(1, Ordering::SeqCst);
+        } else if number >> 32 == 1 {
+            self.fence.store(number % (1 << 32), Ordering::SeqCst);
+        } else {
+            self.requests.fetch_add(1, Ordering::SeqCst);
+        }
+    }
+}
+
+/// The session of client 1, whose requests a worker does nothing with but refuse them. One worker that serves one queue is
+/// done with all that was submitted before such a request once it takes it.
+#[derive(Drop)]
+pub struct Fence<'a, N: ClusterName> {
+    alloc: Global,
+    taken: &'a Taken,
+    opened: Opened<N>,
+    number: u32,
+}
+
+impl<'a, N: ClusterName> Fence<'a, N> {
+    /// The fence of a cluster in which no session was opened yet.
+    pub fn open<R: Wait>(
+        running: &Running<N, R>,
+        alloc: Global,
+        taken: &'a Taken,
+    ) -> Option<Fence<'a, N>> {
+        let opened = running.open()?;
+        Some(Fence {
+            alloc,
+            taken,
+            opened,
+            number: 0,
+        })
+    }
+
+    /// Whether the worker takes the fence's next request.
+    pub fn passes<R: Wait>(&mut self, running: &Running<N, R>) -> bool {
+        self.number = self.number.wrapping_add(1);
+        let Some(request) = unknown(self.alloc, self.opened.client, self.number) else {
+            return false;
+        };
+        if running.ask(&mut self.opened.sends, &request).is_err() {
+            return false;
+        }
+        for _ in 0..TURNS {
+            if self.taken.fence.load(Ordering::SeqCst) == u64::from(self.number) {
+                return true;
+            }
+            yield_now();
+        }
+        false
+    }
+
+    /// Whether the worker is done with all that was submitted, and with all that comes of it: it takes nothing between two
+    /// requests of the fence, the second of which is sent when it has taken the first.
+    pub fn settles<R: Wait>(&mut self, running: &Running<N, R>) -> bool {
+        for _ in 0..TURNS {
+            if !self.passes(running) {
+                return false;
+            }
+            let before = self.taken.all();
+            if !self.passes(running) {
+                return false;
+            }
+            if self.taken.all() == before {
+                return true;
+            }
+        }
+        false
+    }
+
+    /// Sends a request of that client on object `a`, in the other session, and waits until the worker is done with it.
+    pub fn is_done<R: Wait>(
+        &mut self,
+        running: &Running<N, R>,
+        opened: &mut Opened<N>,
+        client: ClientId,
+        number: u32,
+    ) -> bool {
+        match lock(self.alloc, client, number, "a") {
+            Some(request) => {
+                running.ask(&mut opened.sends, &request).is_ok() && self.passes(running)
+            }
+            None => false,
+        }
+    }
 }

@@ -1,21 +1,20 @@
 //! What becomes of messages.
 
-use crate::asking::{Calls, TURNS, answer, config, lock, served};
+use crate::asking::{Calls, Fence, Server, Taken, answer, config, lock, served, served_by};
 use osd::{ClusterName, Deal, Fate, Opened, Running};
 use placement::NodeId;
 use std::alloc::Global;
 use std::sync::Wait;
-use std::sync::atomic::{AtomicBool, AtomicU64, Ordering};
-use std::thread::yield_now;
+use std::sync::atomic::{AtomicBool, Ordering};
 
-/// The turns in which messages would come that aren't to.
-const IDLE: u32 = 10_000;
+/// The calls under losses.
+const CALLS: u32 = 5;
 
 /// The nodes of the cluster, all of which act.
-const NODES: u64 = 3;
+pub const NODES: u64 = 3;
 
 /// How many entries a node has, at most 99; 100 where it doesn't tell.
-fn entries<N: ClusterName, R: Wait>(running: &Running<N, R>, node: u64) -> usize {
+pub fn entries<N: ClusterName, R: Wait>(running: &Running<N, R>, node: u64) -> usize {
     match running.logged(NodeId::new(node), 0) {
         Ok(entries) => entries.len().min(99),
         Err(_) => 100,
@@ -23,7 +22,7 @@ fn entries<N: ClusterName, R: Wait>(running: &Running<N, R>, node: u64) -> usize
 }
 
 /// How many nodes have so many entries.
-fn nodes_with<N: ClusterName, R: Wait>(running: &Running<N, R>, count: usize) -> u32 {
+pub fn nodes_with<N: ClusterName, R: Wait>(running: &Running<N, R>, count: usize) -> u32 {
     let mut nodes = 0u32;
     for node in 0..NODES {
         if entries(running, node) == count {
@@ -35,8 +34,8 @@ fn nodes_with<N: ClusterName, R: Wait>(running: &Running<N, R>, count: usize) ->
 
 /// All messages pass, and from some time on none does.
 #[derive(Drop)]
-struct Cut {
-    is_cut: AtomicBool,
+pub struct Cut {
+    pub is_cut: AtomicBool,
 }
 
 impl Fate for Cut {
@@ -53,6 +52,7 @@ impl Fate for Cut {
 #[derive(Drop)]
 struct Dropping {
     alloc: Global,
+    taken: Taken,
     fate: Cut,
 }
 
@@ -68,40 +68,37 @@ impl Dropping {
         answer(running, opened, &request) == Some((0, 0)) && nodes_with(running, 1) == 3
     }
 
+    /// Whether the second request reaches one node alone, and isn't answered.
     fn is_alone<N: ClusterName, R: Wait>(
         &self,
         running: &Running<N, R>,
+        fence: &mut Fence<'_, N>,
         opened: &mut Opened<N>,
     ) -> bool {
-        let Some(request) = lock(self.alloc, opened.client, 2, "a") else {
-            return false;
-        };
+        let client = opened.client;
+        // The first request may have been sent and answered again.
+        drop(running.mail(client));
         self.fate.is_cut.store(true, Ordering::SeqCst);
-        if running.ask(&mut opened.sends, &request).is_err() {
-            return false;
-        }
-        for _ in 0..TURNS {
-            if nodes_with(running, 2) > 0 {
-                break;
-            }
-            yield_now();
-        }
-        for _ in 0..IDLE {
-            yield_now();
-        }
-        nodes_with(running, 2) == 1
+        fence.is_done(running, opened, client, 2)
+            && fence.settles(running)
+            && nodes_with(running, 2) == 1
             && nodes_with(running, 1) == 2
-            && running.mail(opened.client).is_none()
+            && running.mail(client).is_none()
     }
 }
 
 impl Calls for Dropping {
     /// Whether the second call reaches the primary alone.
     fn calls<N: ClusterName, R: Wait>(&self, running: &Running<N, R>) -> bool {
+        let Some(mut fence) = Fence::open(running, self.alloc, &self.taken) else {
+            return false;
+        };
         let Some(mut opened) = running.open() else {
             return false;
         };
-        self.is_replicated(running, &mut opened) && self.is_alone(running, &mut opened)
+        self.is_replicated(running, &mut opened)
+            && fence.settles(running)
+            && self.is_alone(running, &mut fence, &mut opened)
     }
 }
 
@@ -111,8 +108,14 @@ fn a_worker_that_drops_all_changes_no_other_node(rt: HostRuntime) {
     let fate = Cut {
         is_cut: AtomicBool::new(false),
     };
-    let calls = Dropping { alloc, fate };
-    let done = served(rt, alloc, config(NODES, 3, 1, 1), &calls, &calls.fate);
+    let taken = Taken::new();
+    let calls = Dropping { alloc, taken, fate };
+    let server = Server {
+        worker: 0,
+        gate: &calls.taken,
+        fate: &calls.fate,
+    };
+    let done = served_by(rt, alloc, config(NODES, 3, 1, 1), &calls, server);
     assert!(rt; done == Some(true));
 }
 
@@ -133,13 +136,13 @@ impl Fate for Mixed {
     }
 }
 
-/// Ten calls under that fate.
+/// Some calls under that fate.
 #[derive(Drop)]
-struct Ten {
+struct Several {
     alloc: Global,
 }
 
-impl Ten {
+impl Several {
     fn is_next<N: ClusterName, R: Wait>(
         &self,
         running: &Running<N, R>,
@@ -156,13 +159,13 @@ impl Ten {
     }
 }
 
-impl Calls for Ten {
+impl Calls for Several {
     fn calls<N: ClusterName, R: Wait>(&self, running: &Running<N, R>) -> bool {
         let Some(mut opened) = running.open() else {
             return false;
         };
         let mut done = true;
-        for number in 1..=10u32 {
+        for number in 1..=CALLS {
             done = done && self.is_next(running, &mut opened, number);
         }
         done
@@ -172,114 +175,12 @@ impl Calls for Ten {
 #[test]
 fn each_call_gets_one_place_under_losses(rt: HostRuntime) {
     let alloc = rt.alloc();
-    let done = served(rt, alloc, config(NODES, 3, 1, 1), &Ten { alloc }, &Mixed);
-    assert!(rt; done == Some(true));
-}
-
-/// Counts the messages, and has the second one come late.
-#[derive(Drop)]
-struct Counted {
-    next: AtomicU64,
-    is_wrong: AtomicBool,
-    late: u64,
-}
-
-impl Fate for Counted {
-    fn of(&self, worker: usize, n: u64) -> Deal {
-        if worker != 0 || self.next.fetch_add(1, Ordering::SeqCst) != n {
-            self.is_wrong.store(true, Ordering::SeqCst);
-        }
-        if n == self.late {
-            Deal::Late
-        } else {
-            Deal::Pass
-        }
-    }
-}
-
-/// A client's answer is late, and another's call follows.
-#[derive(Drop)]
-struct Overtaken {
-    alloc: Global,
-    fate: Counted,
-}
-
-impl Overtaken {
-    /// Whether the client finds an answer in its mailbox, after a million looks at most.
-    fn finds<N: ClusterName, R: Wait>(&self, running: &Running<N, R>, opened: &Opened<N>) -> bool {
-        for _ in 0..TURNS {
-            if running.mail(opened.client).is_some() {
-                return true;
-            }
-            yield_now();
-        }
-        false
-    }
-
-    /// Waits until the worker has sent so many messages.
-    fn sent(&self, count: u64) -> bool {
-        for _ in 0..TURNS {
-            if self.fate.next.load(Ordering::SeqCst) == count {
-                return true;
-            }
-            yield_now();
-        }
-        false
-    }
-
-    /// Whether an answer comes in a while.
-    fn is_told<N: ClusterName, R: Wait>(
-        &self,
-        running: &Running<N, R>,
-        opened: &Opened<N>,
-    ) -> bool {
-        for _ in 0..IDLE {
-            if running.mail(opened.client).is_some() {
-                return true;
-            }
-            yield_now();
-        }
-        false
-    }
-}
-
-impl Calls for Overtaken {
-    /// The answer to the first call isn't there when it was made, and is once the second call is answered.
-    fn calls<N: ClusterName, R: Wait>(&self, running: &Running<N, R>) -> bool {
-        let Some(mut first) = running.open() else {
-            return false;
-        };
-        let Some(mut second) = running.open() else {
-            return false;
-        };
-        let Some(one) = lock(self.alloc, first.client, 1, "a") else {
-            return false;
-        };
-        let Some(two) = lock(self.alloc, second.client, 1, "a") else {
-            return false;
-        };
-        let late = self.fate.late;
-        self.sent(late)
-            && running.ask(&mut first.sends, &one).is_ok()
-            && self.sent(late.wrapping_add(1))
-            && !self.is_told(running, &first)
-            && running.ask(&mut second.sends, &two).is_ok()
-            && self.finds(running, &second)
-            && self.finds(running, &first)
-            && !self.fate.is_wrong.load(Ordering::SeqCst)
-    }
-}
-
-// Of one node that acts alone the first message asks to activate the map; those after it are answers.
-#[test]
-fn a_late_answer_comes_after_the_next(rt: HostRuntime) {
-    let alloc = rt.alloc();
-    let fate = Counted {
-        next: AtomicU64::new(0),
-        is_wrong: AtomicBool::new(false),
-        late: 1,
-    };
-    let calls = Overtaken { alloc, fate };
-    let done = served(rt, alloc, config(1, 1, 1, 1), &calls, &calls.fate);
+    let done = served(
+        rt,
+        alloc,
+        config(NODES, 3, 1, 1),
+        &Several { alloc },
+        &Mixed,
+    );
     assert!(rt; done == Some(true));
 }

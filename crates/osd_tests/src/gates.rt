@@ -3,7 +3,8 @@ ghost use Rattle.std.specs.Prelude.{◌≡◌};
 
 use crate::asking::{TURNS, answer, config, lock, made};
 use interp::ClassTable;
-use osd::{ClusterName, Gate, Parts, Running, running_crosses};
+use osd::{ClusterName, Gate, Opened, Parts, Running, running_crosses};
+use pg_log::Request;
 use std::alloc::Global;
 use std::marker::Brand;
 use std::sync::Wait;
@@ -15,6 +16,9 @@ const FIRST: u32 = 1;
 
 /// The number of the other request.
 const SECOND: u32 = 2;
+
+/// The turns for which the first request is held at most.
+const HELD: u32 = 1_000_000;
 
 /// Holds the first request of that number until it is let go.
 #[derive(Drop)]
@@ -30,7 +34,7 @@ impl Gate for Held {
         if number % (1 << 32) != u64::from(FIRST) || self.came.swap(true, Ordering::SeqCst) {
             return;
         }
-        for _ in 0..TURNS {
+        for _ in 0..HELD {
             if self.is_free.load(Ordering::SeqCst) {
                 return;
             }
@@ -45,6 +49,8 @@ impl Gate for Held {
 struct SideBySide {
     alloc: Global,
     gate: Held,
+    /// Both calls are of one log. The one that is held isn't repeated until it is let go, so that it comes second.
+    is_one_log: bool,
 }
 
 impl SideBySide {
@@ -53,13 +59,37 @@ impl SideBySide {
         let Some(mut opened) = running.open() else {
             return false;
         };
-        match lock(self.alloc, opened.client, FIRST, "a") {
-            Some(request) => answer(running, &mut opened, &request) == Some((0, 0)),
-            None => false,
+        let Some(request) = lock(self.alloc, opened.client, FIRST, "a") else {
+            return false;
+        };
+        if self.is_one_log && !self.is_sent_once(running, &mut opened, &request) {
+            return false;
         }
+        let place = usize::from(self.is_one_log);
+        answer(running, &mut opened, &request) == Some((place, 0))
     }
 
-    /// The other call, of an object of group 1. It is made once the first is held, and answered while it is.
+    /// Sends the request once, and waits until it is let go.
+    fn is_sent_once<N: ClusterName, R: Wait>(
+        &self,
+        running: &Running<N, R>,
+        opened: &mut Opened<N>,
+        request: &Request,
+    ) -> bool {
+        if running.ask(&mut opened.sends, request).is_err() {
+            return false;
+        }
+        for _ in 0..TURNS {
+            if self.gate.is_free.load(Ordering::SeqCst) {
+                return true;
+            }
+            yield_now();
+        }
+        false
+    }
+
+    /// The other call, of an object of another group if there are two. It is made once the first is held, and answered while
+    /// it is.
     fn second<N: ClusterName, R: Wait>(&self, running: &Running<N, R>) -> bool {
         let Some(mut opened) = running.open() else {
             return false;
@@ -123,13 +153,14 @@ impl SideBySide {
     }
 }
 
-/// Plays it on a new cluster of two groups, two queues and two workers.
+/// Plays it on a new cluster of two workers, with a queue for each group.
 fn two_served<R: Threads + Wait + Sync + Drop>(
     rt: R,
     alloc: Global,
+    shards: usize,
     calls: &SideBySide,
 ) -> Option<bool> {
-    let (parts, table) = made(alloc, config(1, 1, 2, 2))?;
+    let (parts, table) = made(alloc, config(1, 1, shards, 2))?;
     two_served_on::<Brand, R>(rt, alloc, parts, table, calls)
 }
 
@@ -149,15 +180,30 @@ fn two_served_on<N: ClusterName + Send + Sync, R: Threads + Wait + Sync + Drop>(
     Some(calls.play(&running))
 }
 
-#[test]
-fn a_call_of_another_shard_is_answered_meanwhile(rt: HostRuntime) {
-    let alloc = rt.alloc();
+fn side_by_side(alloc: Global, is_one_log: bool) -> SideBySide {
     let gate = Held {
         came: AtomicBool::new(false),
         is_free: AtomicBool::new(false),
         ran_out: AtomicBool::new(false),
     };
-    let calls = SideBySide { alloc, gate };
-    let done = two_served(rt, alloc, &calls);
+    SideBySide {
+        alloc,
+        gate,
+        is_one_log,
+    }
+}
+
+#[test]
+fn a_call_of_another_shard_is_answered_meanwhile(rt: HostRuntime) {
+    let alloc = rt.alloc();
+    let done = two_served(rt, alloc, 2, &side_by_side(alloc, false));
+    assert!(rt; done == Some(true));
+}
+
+// The other call comes to the one log first.
+#[test]
+fn a_call_of_the_same_shard_is_answered_meanwhile(rt: HostRuntime) {
+    let alloc = rt.alloc();
+    let done = two_served(rt, alloc, 1, &side_by_side(alloc, true));
     assert!(rt; done == Some(true));
 }

@@ -4,10 +4,22 @@
 #[cfg(test)]
 mod asking;
 #[cfg(test)]
+mod deals;
+#[cfg(test)]
+mod ending;
+#[cfg(test)]
 mod fates;
 #[cfg(test)]
 mod gates;
 #[cfg(test)]
+mod groups;
+#[cfg(test)]
+mod mail;
+#[cfg(test)]
 mod maps;
+#[cfg(test)]
+mod stops;
+#[cfg(test)]
+mod turns;
 #[cfg(test)]
 mod workers;

@@ -66,8 +66,8 @@ fn calls_refuse_by_their_limits(rt: HostRuntime) {
 #[derive(Drop)]
 struct Told {
     alloc: Global,
-    /// The nodes that are up by each map, one for each.
-    up: [u64; 3],
+    /// The nodes that are up by the maps after the first, one by each.
+    up: &'static [u64],
     nudges: u32,
 }
 
@@ -81,11 +81,12 @@ impl Scenario for Told {
         running: &Running<N, R>,
     ) -> Option<u32> {
         let mut opened = running.open()?;
-        let are_made = makes(running, self.alloc, &[self.up[0]], Ok(2))
-            && makes(running, self.alloc, &[self.up[1]], Ok(3))
-            && makes(running, self.alloc, &[self.up[2]], Ok(4));
-        if !are_made {
-            return None;
+        let mut epoch = 1u32;
+        for node in self.up {
+            epoch = epoch.wrapping_add(1);
+            if !makes(running, self.alloc, &[*node], Ok(epoch)) {
+                return None;
+            }
         }
         for _ in 0..self.nudges {
             running.nudge(&mut opened.sends, 0);
@@ -100,7 +101,7 @@ impl Scenario for Told {
 #[test]
 fn a_nudge_tells_a_late_node_and_a_kept_interval_is_not_told(rt: HostRuntime) {
     let alloc = rt.alloc();
-    let up = [0, 0, 0];
+    let up = &[0, 0, 0];
     let told = played(
         rt,
         alloc,
@@ -124,11 +125,38 @@ fn a_nudge_tells_a_late_node_and_a_kept_interval_is_not_told(rt: HostRuntime) {
     assert!(rt; told == Some(Some(1023)) && nudged == Some(Some(1018)));
 }
 
+// Two of three nodes act, and each nudge hands the map to both; by the second map one acts, and gets it alone.
+#[test]
+fn a_nudge_tells_each_acting_node(rt: HostRuntime) {
+    let alloc = rt.alloc();
+    let both = played(
+        rt,
+        alloc,
+        config(3, 2, 1, 1),
+        &Told {
+            alloc,
+            up: &[],
+            nudges: 5,
+        },
+    );
+    let one = played(
+        rt,
+        alloc,
+        config(3, 2, 1, 1),
+        &Told {
+            alloc,
+            up: &[0],
+            nudges: 5,
+        },
+    );
+    assert!(rt; both == Some(Some(1012)) && one == Some(Some(1016)));
+}
+
 // By the second and the third map another node acts than by the map before.
 #[test]
 fn a_new_interval_is_told(rt: HostRuntime) {
     let alloc = rt.alloc();
-    let up = [0, 1, 0];
+    let up = &[0, 1, 0];
     let even = played(
         rt,
         alloc,
@@ -139,7 +167,7 @@ fn a_new_interval_is_told(rt: HostRuntime) {
             nudges: 0,
         },
     );
-    let up = [1, 0, 1];
+    let up = &[1, 0, 1];
     let odd = played(
         rt,
         alloc,
@@ -205,7 +233,7 @@ fn a_stopped_node_is_done_without(rt: HostRuntime) {
     assert!(rt; done == Some(true));
 }
 
-/// A backup is stopped before a call, and goes on later. It gets nothing while it is stopped.
+/// A backup, node 0, is stopped before a call, and goes on later. It gets nothing while it is stopped.
 #[derive(Drop)]
 struct Paused {
     alloc: Global,
@@ -218,7 +246,7 @@ fn entries<N: ClusterName, R: Wait>(running: &Running<N, R>, node: u64) -> Optio
 }
 
 impl Paused {
-    /// Waits until the node has so many entries. Whether it has after a million looks.
+    /// Waits until the node has so many entries.
     fn has<N: ClusterName, R: Wait>(
         &self,
         running: &Running<N, R>,
@@ -258,13 +286,13 @@ impl Paused {
         let Some(request) = lock(self.alloc, opened.client, 2, "a") else {
             return false;
         };
-        running.stop(NodeId::new(2)) == Ok(())
+        running.stop(NodeId::new(0)) == Ok(())
             && running.ask(&mut opened.sends, &request).is_ok()
-            && makes(running, self.alloc, &[0, 1], Ok(2))
-            && answer(running, opened, &request) == Some((1, 0))
-            && self.has(running, 0, 2)
+            && self.has(running, 2, 2)
             && self.has(running, 1, 2)
-            && entries(running, 2) == Some(1)
+            && makes(running, self.alloc, &[1, 2], Ok(2))
+            && answer(running, opened, &request) == Some((1, 0))
+            && entries(running, 0) == Some(1)
     }
 
     /// It goes on, and gets what it lacks by the next map.
@@ -276,10 +304,10 @@ impl Paused {
         let Some(request) = lock(self.alloc, opened.client, 3, "a") else {
             return false;
         };
-        running.go(NodeId::new(2)) == Ok(())
+        running.go(NodeId::new(0)) == Ok(())
             && makes(running, self.alloc, &[0, 1, 2], Ok(3))
             && answer(running, opened, &request) == Some((2, 0))
-            && self.has(running, 2, 3)
+            && self.has(running, 0, 3)
     }
 }
 

@@ -9,13 +9,14 @@ use pg_log::Request;
 use std::alloc::Global;
 use std::marker::Brand;
 use std::sync::Wait;
+use std::sync::atomic::{AtomicBool, Ordering};
 use std::thread::{Threads, join, yield_now};
 
 /// The calls to a worker that waits.
-const CALLS: u32 = 20;
+const CALLS: u32 = 5;
 
 /// The turns after which a worker that has nothing to do waits.
-const IDLE: u32 = 2000;
+const IDLE: u32 = 50;
 
 fn pause() {
     for _ in 0..IDLE {
@@ -33,8 +34,11 @@ fn is_answered_once<N: ClusterName, R: Wait>(
         return false;
     }
     for _ in 0..TURNS {
+        // An answer to a repeat of the call before is passed over.
         if let Some(Post::Reply(reply)) = running.mail(opened.client) {
-            return reply.request().is(request);
+            if reply.request().is(request) {
+                return true;
+            }
         }
         yield_now();
     }
@@ -172,6 +176,76 @@ impl Calls for Twice {
 fn a_number_is_served_once(rt: HostRuntime) {
     let alloc = rt.alloc();
     let done = served(rt, alloc, config(1, 1, 1, 1), &Twice { alloc }, &PassAll);
+    assert!(rt; done == Some(true));
+}
+
+/// A number that is no worker's is served, and then the cluster is ended.
+#[derive(Drop)]
+struct NoWorker {
+    has_returned: AtomicBool,
+}
+
+impl NoWorker {
+    fn serve<N: ClusterName, R: Wait>(&self, running: &Running<N, R>) {
+        running.serve(1, &Open);
+        self.has_returned.store(true, Ordering::SeqCst);
+    }
+
+    /// Ends the cluster, and answers whether the call had returned before.
+    fn end<N: ClusterName, R: Wait>(&self, running: &Running<N, R>) -> bool {
+        for _ in 0..TURNS {
+            if self.has_returned.load(Ordering::SeqCst) {
+                break;
+            }
+            yield_now();
+        }
+        let has_returned = self.has_returned.load(Ordering::SeqCst);
+        running.finish();
+        has_returned
+    }
+
+    fn play<N: ClusterName + Send + Sync, R: Threads + Wait + Sync>(
+        &self,
+        running: &Running<N, R>,
+    ) -> bool {
+        running_crosses::<N, R>();
+        let (_, done) = join(
+            running.runtime(),
+            || self.serve(running),
+            || self.end(running),
+        );
+        done
+    }
+}
+
+/// Serves as a second worker of a cluster that has one, which doesn't serve.
+fn second_served<R: Threads + Wait + Sync + Drop>(rt: R, alloc: Global) -> Option<bool> {
+    let (parts, table) = made(alloc, config(1, 1, 1, 1))?;
+    second_served_on::<Brand, R>(rt, alloc, parts, table)
+}
+
+fn second_served_on<N: ClusterName + Send + Sync, R: Threads + Wait + Sync + Drop>(
+    rt: R,
+    alloc: Global,
+    parts: Parts,
+    table: ClassTable,
+) -> Option<bool>
+    requires board { parts.board ≡ N.board }
+    requires queues { parts.queues ≡ N.queues }
+    requires config { parts.config ≡ N.config }
+    requires table { table ≡ N.classes }
+{
+    let running = Running::<N, R>::named(alloc, rt, parts, table).ok()?;
+    let calls = NoWorker {
+        has_returned: AtomicBool::new(false),
+    };
+    Some(calls.play(&running))
+}
+
+#[test]
+fn a_number_of_no_worker_is_not_served(rt: HostRuntime) {
+    let alloc = rt.alloc();
+    let done = second_served(rt, alloc);
     assert!(rt; done == Some(true));
 }
 

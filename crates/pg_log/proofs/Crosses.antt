@@ -1,16 +1,24 @@
--- A group may go to another thread: its parts one by one, since a search of all of them at once is too long.
+-- An entry and a group may go to another thread: their parts one by one, since a search of all of them at once is too long.
 use denote.Param.Send.{IsSend, AllSend, sendable, view_send, recorded_send, struct_send}
 use denote.RattleType.{RattleType}
 use denote.Struct.Declared.{shape}
 use denote.Struct.Struct.{Struct}
 use Rattle.std.proofs.Crossing as crossing
 use Rattle.std.proofs.MapsCrossing as maps
+use Rattle.object_store.specs.contracts.object.Object as object
 use Rattle.object_store.specs.contracts.objects.Objects as objects
 use Rattle.pg_log.specs.contracts.entry.Entry as entry
 use Rattle.pg_log.specs.contracts.group.Group as group
 use Rattle.pg_log.specs.contracts.group.Group.TheInside as inside
 use Rattle.pg_log.specs.contracts.places.Places as places
+use Rattle.pg_log.specs.contracts.request.Request as request
 use Rattle.pg_log.specs.declared.classes.Classes.{Ghosts}
+
+pub entry_sends : IsSend request.the_row → IsSend object.the_row → IsSend entry.the_row
+entry_sends r o =
+    let T = entry.the_type in
+    let parts : AllSend (shape T).fields = (r, (search (crossing.crosses, sendable) depth 8, (search (crossing.crosses, sendable) depth 8, (search (o, crossing.crosses, sendable) depth 12, tt)))) in
+    recorded_send (Struct (shape T)) T.D T.to T.to_one (struct_send (shape T) parts)
 
 pub group_sends : (C : RattleType) (classes : Ghosts C.Denot) → IsSend entry.the_row → IsSend objects.the_row → IsSend (group.the_row C classes)
 group_sends C classes e o =

@@ -1,5 +1,5 @@
 -- What running a request tells: refusals, one by one, and the outcome.
-use Rattle.std.proofs.Common.{◌≡◌, ℕ, ℤ, ◌<◌, ◌≤◌, true, false, cond, nat_lt, nat_le, List, [], ◌∷◌, ◌++◌, length, Option, Some, None, Result, Ok, Err, IfOk, ap, sym, ◌∙◌, subst, arith}
+use Rattle.std.proofs.Common.{◌≡◌, ℕ, ℤ, ◌<◌, ◌≤◌, true, false, cond, nat_le, List, [], ◌∷◌, ◌++◌, length, Option, Some, None, Result, Ok, Err, IfOk, ap, sym, ◌∙◌, subst, arith}
 use Rattle.std.specs.List.{slice_get, AllByRecursion}
 use Rattle.std.specs.FinMap as fin
 use Rattle.std.specs.Str.{bytes_eq}
@@ -9,18 +9,18 @@ use mathlib.Core.List.{IsPrefix}
 use Rattle.object_store.specs.Object.{PlainObject}
 use Rattle.object_store.specs.Names.{PlainObjects}
 use Rattle.txn.specs.declared.change.Change.{Change}
-use Rattle.bpf_decode.specs.Class.{ClassMethod, IsMethod, IsClass}
-use Rattle.bpf_machine.specs.Safe.{IsSafe, OutcomesAreOne}
+use Rattle.bpf_decode.specs.Class.{ClassMethod, IsMethod}
+use Rattle.bpf_machine.specs.Safe.{OutcomesAreOne}
 use Rattle.interp.specs.Plain.{method_named}
 use Rattle.interp.specs.declared.outcome.Outcome.{Outcome}
-use Rattle.interp.specs.Plain.{Answers}
+use Rattle.interp.specs.Plain.{AnswersMethod}
 use Rattle.pg_log.specs.declared.group.TheConstants.{LOG_LIMIT}
 use Rattle.pg_log.specs.declared.log_error.LogError.{LogError}
-use Rattle.pg_log.specs.declared.log_error.LogError.TheVariants.{LogFull, StaleNumber, InputTooLong}
+use Rattle.pg_log.specs.declared.log_error.LogError.TheVariants.{LogFull, StaleNumber}
 use Rattle.pg_log.specs.declared.entry.Entry.{Entry}
 use Rattle.pg_log.specs.Requests.{ClientRequest}
 use Rattle.pg_log.specs.Log.{Classes, Legal, CanRun, method_in, outcome_of_method, fold}
-use Rattle.pg_log.specs.Refusals.{refusal_of_method, refusal_of_class, refusal, is_reached}
+use Rattle.pg_log.specs.Refusals.{refusal_of_class, refusal, is_reached}
 use Rattle.pg_log.specs.Entries.{IsOutcome, IsOutcomeOn, IsSafeRequest, IsNextEntry}
 use Rattle.pg_log.proofs.Legal.{legal_push}
 use Rattle.pg_log.proofs.Exact.{follows_unrefused}
@@ -46,37 +46,22 @@ pub refusal-class : (classes : Classes) (xs : List ClientRequest) (r : ClientReq
 refusal-class classes xs r h e =
     refusal-room classes xs r h ∙ ap (λ b. cond b (Some StaleNumber) (refusal_of_class (slice_get classes r.class) r)) e
 
--- what holds of each method of a class holds of that of a name
-method_named-all : (P : ClassMethod → Type 0) (class : List ClassMethod) (name : List ℕ) (m : ClassMethod) → AllByRecursion P class → method_named class name ≡ Some m → P m
-method_named-all P [] name m h e = absurd (none-some m e)
-method_named-all P (x ∷ class) name m h e =
-    elim (bytes_eq x.name name) as (λ b. cond b (Some x) (method_named class name) ≡ Some m → P m) [
-      | true ↦ λ q. subst P (same_Some x m q) h.0
-      | false ↦ λ q. method_named-all P class name m h.1 q
+-- each method of a class is a method, so that of a name is
+pub method_named-is : (class : List ClassMethod) (name : List ℕ) (m : ClassMethod) → AllByRecursion IsMethod class → method_named class name ≡ Some m → IsMethod m
+method_named-is [] name m h e = absurd (none-some m e)
+method_named-is (x ∷ class) name m h e =
+    elim (bytes_eq x.name name) as (λ b. cond b (Some x) (method_named class name) ≡ Some m → IsMethod m) [
+      | true ↦ λ q. subst IsMethod (same_Some x m q) h.0
+      | false ↦ λ q. method_named-is class name m h.1 q
     ] e
 
-pub method_named-is : (class : List ClassMethod) (name : List ℕ) (m : ClassMethod) → AllByRecursion IsMethod class → method_named class name ≡ Some m → IsMethod m
-method_named-is class name m h e = method_named-all IsMethod class name m h e
-
-pub method_named-safe : (class : List ClassMethod) (name : List ℕ) (m : ClassMethod) → AllByRecursion IsSafe class → method_named class name ≡ Some m → IsSafe m
-method_named-safe class name m h e = method_named-all IsSafe class name m h e
-
-unrefused-method : (o : Option ClassMethod) (m : ClassMethod) (r : ClientRequest) → o ≡ Some m → length r.input ≤ m.in_cap → refusal_of_method o r ≡ None
-unrefused-method o m r e h =
-    let t : nat_lt m.in_cap (length r.input) ≡ false = grind (arith, nat_tests) in
-    ap (λ w. refusal_of_method w r) e ∙ ap (λ b. cond b (Some InputTooLong) None) t
-
 -- an answered call is the outcome of the method
-pub ran : OutcomesAreOne → (class : List ClassMethod) → IsClass class → (object : PlainObject) (r : ClientRequest) (o : Outcome) →
-    Answers class r.method object r.client r.input o →
-    (refusal_of_method (method_named class r.method) r ≡ None) × IsOutcome (method_named class r.method) object r o.code o.output.items o.change
+pub ran : OutcomesAreOne → (m : ClassMethod) → IsMethod m → (object : PlainObject) (r : ClientRequest) (o : Outcome) →
+    AnswersMethod m object r.client r.input o → IsOutcome (Some m) object r o.code o.output.items o.change
 unfolding outcome_of_method
-ran one class is object r o a =
-    let m = method_named-is class r.method a.method is.methods a.named in
-    let same = one a.method (omega (arith, m.in_cap)) (omega (arith, m.out_cap)) object r.client r.input _ o.steps a.answers.bounded a.answers.runs in (
-      unrefused-method (method_named class r.method) a.method r a.named a.short,
-      record { made = sym same ∙ ap (λ w. outcome_of_method w object r) (sym a.named); from_before = a.answers.before },
-    )
+ran one m is object r o a =
+    let same = one m (omega (arith, is.in_cap)) (omega (arith, is.out_cap)) object r.client r.input _ o.steps a.bounded a.runs in
+    record { made = sym same; from_before = a.before }
 
 pub more-outcome : (classes more : Classes) (objects : PlainObjects) (r : ClientRequest) (code : ℤ) (output : List ℕ) (change : Change) → CanRun classes r →
     IsOutcomeOn classes objects r code output change → IsOutcomeOn (classes ++ more) objects r code output change

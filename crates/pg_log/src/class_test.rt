@@ -1,12 +1,11 @@
 //! Whether the loaded classes can run a request.
-ghost use Rattle.std.specs.Prelude.{◌≡◌, IfOk, IfErr, None, Some, slice_get};
-ghost use Rattle.std.specs.List.{AllByRecursion};
-ghost use Rattle.bpf_machine.specs.Safe.{IsSafe};
+ghost use Rattle.std.specs.Prelude.{◌≡◌, ◌≤◌, IfOk, IfErr, None, Some, length, slice_get};
+ghost use Rattle.pg_log.specs.Log.{method_of};
 ghost use Rattle.pg_log.specs.Refusals.{refusal_of_class};
 
 use crate::log_error::LogError;
 use crate::request::Request;
-use interp::{ClassTable, VerifiedClass};
+use interp::{ClassTable, VerifiedMethod};
 
 /// Why the table's classes can't run a request, if they can't: `NoClass`, `NoMethod` or `InputTooLong`, the first that
 /// applies. `append` refuses by the same test, once the log has room and the client's number is new. It costs the number
@@ -14,19 +13,19 @@ use interp::{ClassTable, VerifiedClass};
 pub fn class_refusal(table: &ClassTable, request: &Request) -> Option<LogError>
     ensures { result ≡ refusal_of_class (slice_get table.now request.now.class) request.now }
 {
-    match class_of(table, request) {
+    match method_of(table, request) {
         Ok(_) => None,
         Err(why) => Some(why),
     }
 }
 
-/// The class of a request that the table's classes can run, else why they can't.
-pub(crate) fn class_of<'a>(
+/// The method of a request that the table's classes can run, else why they can't.
+pub(crate) fn method_of<'a>(
     table: &'a ClassTable,
     request: &Request,
-) -> Result<&'a VerifiedClass, LogError>
-    ensures found { IfOk result (λ class. slice_get table.now request.now.class ≡ Some class.now) }
-    ensures safe { IfOk result (λ class. AllByRecursion IsSafe class.now) }
+) -> Result<&'a VerifiedMethod, LogError>
+    ensures found { IfOk result (λ method. method_of table.now request.now ≡ Some method.now) }
+    ensures short { IfOk result (λ method. length request.now.input ≤ method.now.in_cap) }
     ensures unrefused { IfOk result (λ _. refusal_of_class (slice_get table.now request.now.class) request.now ≡ None) }
     ensures err { IfErr result (λ e. refusal_of_class (slice_get table.now request.now.class) request.now ≡ Some e) }
 {
@@ -39,5 +38,5 @@ pub(crate) fn class_of<'a>(
     if request.input().len() > usize::from(method.caps().in_cap) {
         return Err(LogError::InputTooLong);
     }
-    Ok(class)
+    Ok(method)
 }

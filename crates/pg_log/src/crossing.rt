@@ -10,7 +10,6 @@ ghost use Rattle.pg_log.specs.contracts.request.Request as request;
 ghost use Rattle.shared_map.specs.contracts.shared_map.SharedMap as map;
 
 use crate::classes::Classes;
-use crate::entry::Entry;
 use crate::request::Request;
 use interp::ClassTable;
 use object_store::{Object, Objects};
@@ -61,8 +60,8 @@ pub fn request_crosses()
 pub fn entry_crosses()
     ensures { IsSend entry.the_row }
 {
-    object_crosses();
-    sends::<Entry>()
+    request_crosses();
+    object_crosses()
 }
 
 /// A table of classes may go to another thread, and threads may share it.

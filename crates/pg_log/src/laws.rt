@@ -1,4 +1,6 @@
 //! Laws of legal lists, of their objects and of their replies, for the proofs of the crates above. Each function does nothing.
+ghost use Rattle.std.specs.Prelude.{◌≡◌};
+ghost use Rattle.pg_log.specs.declared.group.TheConstants.{LOG_LIMIT};
 ghost use Rattle.pg_log.specs.Laws.{BeginningsAreLegal, EmptyIsLegal, AppendIsAStep, FoldIsAStep, FoldGoesOn, FoldsStay, UndoingGoesBack, RepliesStay, LastReply, RepliesAreThere, EntriesHaveReplies, PairsStandOnce, PlaceIsThePairs, PlaceHasThePair, ClassesAdded, RefusalsAreExact, ListsAreExact, AdoptingIsReplaying};
 
 /// Every beginning of a legal list is legal, the empty list too; a list with one request more is legal exactly where
@@ -53,4 +55,9 @@ pub fn refusals()
 /// A log that is legal by the table becomes a list exactly as the list would be replayed, though only its rest is run.
 pub fn adopting()
     ensures { AdoptingIsReplaying }
+{}
+
+/// The most entries of a log, by number.
+pub fn log_limit_by_number()
+    ensures { LOG_LIMIT ≡ 65536 }
 {}

@@ -30,7 +30,10 @@ pub use entry::Entry;
 pub use group::{Group, LOG_LIMIT};
 pub use group_work::{GroupWork, go_on, go_on_as, start, with_group};
 pub use interp::ClassTable;
-pub use laws::{adopting, classes_added, folds, legal_lists, pairs, refusals, replies, undoing};
+pub use laws::{
+    adopting, classes_added, folds, legal_lists, log_limit_by_number, pairs, refusals, replies,
+    undoing,
+};
 pub use list_test::list_refusal;
 pub use log_error::LogError;
 pub use object_limits::objects_within_limits;

@@ -1,15 +1,17 @@
 -- The finite map of sorted entries.
-use Rattle.std.proofs.Common.{◌≡◌, ℕ, ◌+◌, ◌-◌, Bool, true, false, cond, not, IsTrue, List, [], length, Option, Some, None, is_some, refl, ap, sym, ◌∙◌}
+use Rattle.std.proofs.Common.{◌≡◌, ℕ, ◌<◌, Bool, true, false, cond, not, IsTrue, List, [], length, Option, Some, None, is_some, refl, ap, sym, ◌∙◌, arith}
 use Rattle.std.specs.Ordering.{nat_cmp, is_eq, eq_by_cmp}
 use Rattle.std.specs.Cmp.{alike_right}
 use Rattle.std.proofs.lemmas.Cmp.{nat_list_cmp_total, eq_by_cmp_equiv}
 use Rattle.std.specs.Cmp.Lexicographic.{slice_cmp}
 use Rattle.std.specs.Option.{option_copied}
 use Rattle.std.specs.Borrow.{Bor}
+use Rattle.std.specs.List.{slice_get}
 use Rattle.std.specs.FinMap as fin
 use Rattle.std.specs.FinMap.{put, find, nat_cmp-IsAntisymmetric, slice_cmp-IsAntisymmetric}
 use Rattle.std.specs.FinMap.Entries.{find-where_key}
-use Rattle.shared_map.specs.Entries.{Entries, ByteMap, sorted, least_above, without, key_above}
+use Rattle.shared_map.specs.Entries.{Entries, ByteMap, sorted, least_above, without, key_above, nth}
+use Rattle.shared_map.proofs.Places.{same_places}
 use Rattle.shared_map.proofs.Halves.{to_T, sorted-put, sorted-without, tied}
 
 turned : {A : Type 0} (b : Bool) (x y : A) → cond (not b) x y ≡ cond b y x
@@ -35,6 +37,9 @@ module _ {V : Type 0} where
   pub above-map : (es : Entries V) (k : List ℕ) → IsTrue (sorted es) → key_above (map_of es) k ≡ least_above k es
   above-map es k h = ap (least_above k) (entries-map es h)
 
+  pub nth-map : (es : Entries V) (n : ℕ) → IsTrue (sorted es) → nth (map_of es) n ≡ slice_get es n
+  nth-map es n h = ap (λ (l : Entries V). slice_get l n) (entries-map es h)
+
   pub empty-map : map_of [] ≡ fin.empty
   empty-map = fin.empty_of_len (map_of []) (len-map [] refl)
 
@@ -55,34 +60,6 @@ module _ {V : Type 0} where
       ∙ ap (λ o. cond (eq_by_cmp (slice_cmp nat_cmp) q k) None o) (sym (get-map es q h))
       ∙ sym (fin.get-remove nat_list_cmp_total (map_of es) k q))
 
-  -- ---- how many
-  pub length-put_old : (es : Entries V) (k : List ℕ) (v : V) → IsTrue (sorted es) → is_some (find (slice_cmp nat_cmp) k es) ≡ true → length (put (slice_cmp nat_cmp) k v es) ≡ length es
-  length-put_old es k v h old =
-      sym (len-map (put (slice_cmp nat_cmp) k v es) (sorted-put k v es h))
-      ∙ ap fin.len (put-map es k v h)
-      ∙ fin.len-insert nat_list_cmp_total (map_of es) k v
-      ∙ ap (λ o. cond (is_some o) (fin.len (map_of es)) (fin.len (map_of es) + 1)) (get-map es k h)
-      ∙ ap (λ b. cond b (fin.len (map_of es)) (fin.len (map_of es) + 1)) old
-      ∙ len-map es h
-
-  pub length-put_new : (es : Entries V) (k : List ℕ) (v : V) → IsTrue (sorted es) → is_some (find (slice_cmp nat_cmp) k es) ≡ false → length (put (slice_cmp nat_cmp) k v es) ≡ length es + 1
-  length-put_new es k v h new =
-      sym (len-map (put (slice_cmp nat_cmp) k v es) (sorted-put k v es h))
-      ∙ ap fin.len (put-map es k v h)
-      ∙ fin.len-insert nat_list_cmp_total (map_of es) k v
-      ∙ ap (λ o. cond (is_some o) (fin.len (map_of es)) (fin.len (map_of es) + 1)) (get-map es k h)
-      ∙ ap (λ b. cond b (fin.len (map_of es)) (fin.len (map_of es) + 1)) new
-      ∙ ap (λ n. n + 1) (len-map es h)
-
-  pub length-without_old : (es : Entries V) (k : List ℕ) → IsTrue (sorted es) → is_some (find (slice_cmp nat_cmp) k es) ≡ true → length (without k es) ≡ length es - 1
-  length-without_old es k h old =
-      sym (len-map (without k es) (sorted-without k es h))
-      ∙ ap fin.len (without-map es k h)
-      ∙ fin.len-remove nat_list_cmp_total (map_of es) k
-      ∙ ap (λ o. cond (is_some o) (fin.len (map_of es) - 1) (fin.len (map_of es))) (get-map es k h)
-      ∙ ap (λ b. cond b (fin.len (map_of es) - 1) (fin.len (map_of es))) old
-      ∙ ap (λ n. n - 1) (len-map es h)
-
   none : (o : Option V) → is_some o ≡ false → o ≡ None
   none None e = refl
   none (Some x) e = absurd (cc)
@@ -99,3 +76,9 @@ module _ {V : Type 0} where
   pub is_some-copied : (o : Option (Bor V)) → is_some (option_copied o) ≡ is_some o
   is_some-copied None = refl
   is_some-copied (Some x) = refl
+
+  -- maps of one length with the same entries at each place are equal
+  pub same-places-map : (m n : ByteMap V) → fin.len m ≡ fin.len n → ((k : ℕ) → k < fin.len m → nth m k ≡ nth n k) → m ≡ n
+  same-places-map m n e f =
+      fin.same_entries_map m n
+      (same_places (fin.entries m) (fin.entries n) (sym (fin.len-entries m) ∙ e ∙ fin.len-entries n) (λ k h. f k (omega (arith, h, fin.len-entries m))))

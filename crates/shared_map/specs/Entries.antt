@@ -1,7 +1,8 @@
 -- The entries of a map, by keys of bytes.
-use Rattle.std.specs.Prelude.{ℕ, Bool, List, [], ◌∷◌, Option, Some, None, cond, not, filter}
+use Rattle.std.specs.Prelude.{ℕ, Bool, List, [], ◌∷◌, Option, Some, None, slice_get, cond, not, filter}
 use Rattle.std.specs.Ordering.{nat_cmp, is_lt, eq_by_cmp}
 use Rattle.std.specs.Cmp.Lexicographic.{slice_cmp}
+use Rattle.std.specs.Borrow.{Bor}
 use Rattle.std.specs.FinMap as fin
 use Rattle.std.specs.FinMap.{FinMap, is_sorted}
 
@@ -32,3 +33,12 @@ without k es = filter (λ e. not (eq_by_cmp (slice_cmp nat_cmp) k e.0)) es
 -- the least key of a map above some bytes
 abbrev pub key_above : {V : Type 0} → ByteMap V → List ℕ → Option (List ℕ)
 key_above m k = least_above k (fin.entries m)
+
+-- the entry at a place in the order of the keys, from 0 on
+abbrev pub nth : {V : Type 0} → ByteMap V → ℕ → Option (Pair V)
+nth m n = slice_get (fin.entries m) n
+
+-- the key and the value that two references lead to
+abbrev pub entry_behind : {V : Type 0} → Option (Bor (List ℕ) × Bor V) → Option (Pair V)
+entry_behind None = None
+entry_behind (Some e) = Some (e.0.now, e.1.now)

@@ -1,3 +1,4 @@
 pub mod Entries
+pub mod Shape
 pub mod Tree
 pub mod TreeFalls

@@ -1,28 +1,29 @@
-ghost use Rattle.std.specs.Prelude.{◌≡◌, ◌+◌, OnOk, OnErr, IfOk, cond, is_some};
+ghost use Rattle.std.specs.Prelude.{◌≡◌, ◌↔◌, OnOk, OnErr, IfOk, IsTrue};
 ghost use Rattle.std.specs.Option.{option_copied};
 ghost use Rattle.std.specs.FinMap as fin;
-ghost use Rattle.shared_map.specs.Entries.{key_above};
+ghost use Rattle.shared_map.specs.Entries.{key_above, nth, entry_behind};
 
+use crate::same::Same;
 use crate::tree::Tree;
 use std::alloc::{AllocError, Global};
+use std::cmp::Ordering;
 use std::marker::Model;
 
 /// A map from bytes to values, in the order of the bytes. Its copies share what they have in common. Contracts see the finite map.
 pub struct SharedMap<V> {
     tree: Tree<V>,
-    len: usize,
 }
 
 // Written out, so that a crate that drops a map calls this, and proves nothing of the tree's own drop once more.
 impl<V: Drop> Drop for SharedMap<V> {
     fn drop(self) {
-        let SharedMap { tree, len: _ } = self;
+        let SharedMap { tree } = self;
         drop(tree);
     }
 }
 
 impl<V> Model for SharedMap<V> {
-    ghost use Rattle.std.specs.Prelude.{◌≡◌, length, IsTrue};
+    ghost use Rattle.std.specs.Prelude.{IsTrue};
     ghost use Rattle.std.specs.FinMap as fin;
     ghost use Rattle.std.specs.Coded.{coded_ℕ, coded_list};
     ghost use Rattle.shared_map.specs.Entries.{ByteMap, sorted};
@@ -31,9 +32,9 @@ impl<V> Model for SharedMap<V> {
 
     ghost coded = { fin.code (coded_list coded_ℕ) V.code };
 
-    ghost view = { λ m. fin.from_sorted m.tree };
+    ghost view = { λ m. fin.from_sorted m.tree.entries };
 
-    ghost invariant = { λ m. (m.len ≡ length m.tree) × IsTrue (sorted m.tree) };
+    ghost invariant = { λ m. IsTrue (sorted m.tree.entries) };
 }
 
 impl<V: Drop> SharedMap<V> {
@@ -41,17 +42,14 @@ impl<V: Drop> SharedMap<V> {
     pub fn new() -> SharedMap<V>
         ensures { result ≡ fin.empty }
     {
-        SharedMap {
-            tree: Tree::new(),
-            len: 0,
-        }
+        SharedMap { tree: Tree::new() }
     }
 
     /// How many keys it has.
     pub fn len(&self) -> usize
         ensures { result ≡ fin.len self.now }
     {
-        self.len
+        self.tree.len()
     }
 
     /// The value of a key, in the logarithm of the number of keys.
@@ -74,24 +72,8 @@ impl<V: Drop> SharedMap<V> {
         ensures ok { OnOk result (self.new ≡ fin.insert self.old key.now value) }
         ensures err { OnErr result (self.new ≡ self.old) }
     {
-        let len = self.len_with(key)?;
         self.tree = self.tree.set_at(alloc, key, value)?;
-        self.len = len;
         Ok(())
-    }
-
-    /// How many keys it has once this one has a value.
-    fn len_with(&self, key: &[u8]) -> Result<usize, AllocError>
-        ensures { IfOk result (λ n. n ≡ cond (is_some (fin.get self.now key.now)) (fin.len self.now) (fin.len self.now + 1)) }
-    {
-        let len = self.len();
-        if self.get(key).is_some() {
-            return Ok(len);
-        }
-        match len.checked_add(1) {
-            Some(more) => Ok(more),
-            None => Err(AllocError),
-        }
     }
 
     /// Removes a key, which may be absent. It makes the path to the key anew and shares the rest with older copies, which stay as they are. An error
@@ -100,10 +82,10 @@ impl<V: Drop> SharedMap<V> {
         ensures ok { OnOk result (self.new ≡ fin.remove self.old key.now) }
         ensures err { OnErr result (self.new ≡ self.old) }
     {
-        if self.tree.get(key).is_some() {
-            self.tree = self.tree.remove(alloc, key)?;
-            self.len -= 1;
+        if self.tree.get(key).is_none() {
+            return Ok(());
         }
+        self.tree = self.tree.remove(alloc, key)?;
         Ok(())
     }
 
@@ -113,12 +95,52 @@ impl<V: Drop> SharedMap<V> {
     {
         Ok(SharedMap {
             tree: self.tree.copy()?,
-            len: self.len,
         })
     }
 
-    /// How many nodes stand on the longest way down: what a call costs at most. No clause speaks of it; tests hold it low.
+    /// The key and the value at a place in the order of the keys, from 0 on, in the logarithm of the number of keys.
+    pub fn nth(&self, n: usize) -> Option<(&[u8], &V)>
+        ensures { entry_behind result ≡ nth self.now n }
+    {
+        match self.tree.nth(n) {
+            Some(entry) => Some((entry.key.as_slice(), &entry.value)),
+            None => None,
+        }
+    }
+
+    /// How many nodes stand on the longest way down, 255 where it is more: what a call costs at most. No clause speaks of it; tests hold it low.
     pub fn height(&self) -> u8 {
         self.tree.height()
+    }
+}
+
+impl<V: Drop + Same> SharedMap<V> {
+    /// Whether two maps have the same keys with the same values. It takes no memory.
+    pub fn is_same(&self, other: &SharedMap<V>) -> bool
+        ensures { IsTrue result ↔ (self.now ≡ other.now) }
+    {
+        if self.len() != other.len() {
+            return false;
+        }
+        for n in 0..self.len() {
+            if !same_entry(self.nth(n), other.nth(n)) {
+                return false;
+            }
+        }
+        true
+    }
+}
+
+/// Whether two entries are equal, or neither is there.
+fn same_entry<V: Drop + Same>(one: Option<(&[u8], &V)>, other: Option<(&[u8], &V)>) -> bool
+    ensures { IsTrue result ↔ (entry_behind one.entry ≡ entry_behind other.entry) }
+{
+    match (one, other) {
+        (Some((key, value)), Some((other_key, other_value))) => match key.cmp(other_key) {
+            Ordering::Equal => value.is_same(other_value),
+            _ => false,
+        },
+        (None, None) => true,
+        _ => false,
     }
 }

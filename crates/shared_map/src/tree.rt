@@ -1,10 +1,10 @@
-ghost use Rattle.std.specs.Prelude.{◌≡◌, IfOk, [], ◌∷◌, ◌++◌, IsTrue};
+ghost use Rattle.std.specs.Prelude.{◌≡◌, ◌+◌, IfOk, [], ◌∷◌, ◌++◌, IsTrue, length, slice_get};
 ghost use Rattle.std.specs.FinMap.{put, find};
 ghost use Rattle.std.specs.Ordering.{nat_cmp};
 ghost use Rattle.std.specs.Cmp.Lexicographic.{slice_cmp};
 ghost use Rattle.std.specs.Arc.{arc_value};
 ghost use Rattle.std.specs.Option.{option_copied};
-ghost use Rattle.shared_map.specs.Tree.{pair, IsSplit};
+ghost use Rattle.shared_map.specs.Tree.{pair, pair_behind, byte_of, IsSplit};
 ghost use Rattle.shared_map.specs.Entries.{Entries, sorted, least_above, without};
 
 use std::alloc::{AllocError, Global};
@@ -19,7 +19,7 @@ pub(crate) struct Entry<V> {
     pub(crate) value: V,
 }
 
-/// A search tree whose nodes never change. Contracts see its entries in order.
+/// A search tree whose nodes never change. Contracts see its entries in order, and its height.
 #[cycle(tree)]
 #[derive(Drop)]
 pub(crate) struct Tree<V> {
@@ -40,21 +40,22 @@ struct Branch<V> {
     entry: Arc<Entry<V>>,
     right: Tree<V>,
     height: u8,
+    size: usize,
 }
 
 impl<V> Model for Tree<V> {
-    ghost use Rattle.std.specs.Prelude.{IsTrue, length};
-    ghost use Rattle.shared_map.specs.Entries.{Entries, sorted};
+    ghost use Rattle.std.specs.Prelude.{length};
+    ghost use Rattle.shared_map.specs.Shape.{Shape};
 
-    ghost Value = { Entries V };
+    ghost Value = { Shape V };
 
-    ghost use Rattle.shared_map.specs.Tree.{listed};
+    ghost use Rattle.shared_map.specs.Tree.{shape, IsTree};
 
-    ghost view = { λ t. listed t.root };
+    ghost view = { λ t. shape t.root };
 
-    ghost invariant = { λ t. IsTrue (sorted (listed t.root)) };
+    ghost invariant = { λ t. IsTree t.root };
 
-    ghost size = { length };
+    ghost size = { λ s. length s.entries };
 
     ghost use Rattle.shared_map.specs.TreeFalls.{depth_le-length-listed};
 
@@ -64,15 +65,49 @@ impl<V> Model for Tree<V> {
 impl<V: Drop> Tree<V> {
     /// No entries.
     pub(crate) fn new() -> Tree<V>
-        ensures { result ≡ [] }
+        ensures { result ≡ record { entries = []; height = 0 } }
     {
         Tree { root: Link::Leaf }
     }
 
-    pub(crate) fn height(&self) -> u8 {
+    /// How many branches stand on the longest way down: 255 where it is more.
+    pub(crate) fn height(&self) -> u8
+        ensures { result ≡ byte_of self.now.height }
+    {
         match &self.root {
             Link::Leaf => 0,
             Link::Fork(b) => b.height,
+        }
+    }
+
+    /// How many entries it has.
+    pub(crate) fn len(&self) -> usize
+        ensures { result ≡ length self.now.entries }
+    {
+        match &self.root {
+            Link::Leaf => 0,
+            Link::Fork(b) => b.size,
+        }
+    }
+
+    /// The entry at a place in the order, from 0 on.
+    pub(crate) fn nth(&self, n: usize) -> Option<&Entry<V>>
+        ensures { pair_behind result ≡ slice_get self.now.entries n }
+    {
+        match &self.root {
+            Link::Leaf => None,
+            Link::Fork(fork) => {
+                let b: &Branch<V> = fork;
+                let before = b.left.len();
+                if n < before {
+                    b.left.nth(n)
+                } else if n > before {
+                    b.right.nth(n - before - 1)
+                } else {
+                    let entry: &Entry<V> = &b.entry;
+                    Some(entry)
+                }
+            }
         }
     }
 
@@ -90,7 +125,7 @@ impl<V: Drop> Tree<V> {
 
     /// The value of a key.
     pub(crate) fn get(&self, key: &[u8]) -> Option<&V>
-        ensures { option_copied result ≡ find (slice_cmp nat_cmp) key.now self.now }
+        ensures { option_copied result ≡ find (slice_cmp nat_cmp) key.now self.now.entries }
     {
         match &self.root {
             Link::Leaf => None,
@@ -108,7 +143,7 @@ impl<V: Drop> Tree<V> {
 
     /// The least key above one.
     pub(crate) fn above(&self, key: &[u8]) -> Option<&[u8]>
-        ensures { option_copied result ≡ least_above key.now self.now }
+        ensures { option_copied result ≡ least_above key.now self.now.entries }
     {
         match &self.root {
             Link::Leaf => None,
@@ -128,7 +163,7 @@ impl<V: Drop> Tree<V> {
 
     /// The tree with a value at a key, of which it keeps a copy.
     pub(crate) fn set_at(&self, alloc: Global, key: &[u8], value: V) -> Result<Tree<V>, AllocError>
-        ensures { IfOk result (λ t. t ≡ put (slice_cmp nat_cmp) key.now value self.now) }
+        ensures { IfOk result (λ t. t.entries ≡ put (slice_cmp nat_cmp) key.now value self.now.entries) }
     {
         let key = Vec::from_slice(alloc, key)?;
         self.set(alloc, Arc::new(alloc, Entry { key, value })?)
@@ -136,7 +171,7 @@ impl<V: Drop> Tree<V> {
 
     /// The tree with an entry. At an error nothing was made.
     fn set(&self, alloc: Global, new: Arc<Entry<V>>) -> Result<Tree<V>, AllocError>
-        ensures { IfOk result (λ t. t ≡ put (slice_cmp nat_cmp) (pair (arc_value new)).0 (pair (arc_value new)).1 self.now) }
+        ensures { IfOk result (λ t. t.entries ≡ put (slice_cmp nat_cmp) (pair (arc_value new)).0 (pair (arc_value new)).1 self.now.entries) }
     {
         match &self.root {
             Link::Leaf => joined(alloc, Tree::new(), new, Tree::new()),
@@ -154,7 +189,7 @@ impl<V: Drop> Tree<V> {
 
     /// The tree without its least entry, and that entry.
     fn split_first(&self, alloc: Global) -> Result<Option<(Arc<Entry<V>>, Tree<V>)>, AllocError>
-        ensures { IfOk result (IsSplit self.now) }
+        ensures { IfOk result (IsSplit self.now.entries) }
     {
         match &self.root {
             Link::Leaf => Ok(None),
@@ -170,7 +205,7 @@ impl<V: Drop> Tree<V> {
 
     /// The tree without a key.
     pub(crate) fn remove(&self, alloc: Global, key: &[u8]) -> Result<Tree<V>, AllocError>
-        ensures { IfOk result (λ t. t ≡ without key.now self.now) }
+        ensures { IfOk result (λ t. t.entries ≡ without key.now self.now.entries) }
     {
         match &self.root {
             Link::Leaf => Ok(Tree::new()),
@@ -194,10 +229,11 @@ fn joined<V: Drop>(
     entry: Arc<Entry<V>>,
     right: Tree<V>,
 ) -> Result<Tree<V>, AllocError>
-    requires { IsTrue (sorted (left ++ pair (arc_value entry) ∷ right)) }
-    ensures { IfOk result (λ t. t ≡ left ++ pair (arc_value entry) ∷ right) }
+    requires { IsTrue (sorted (left.entries ++ pair (arc_value entry) ∷ right.entries)) }
+    ensures { IfOk result (λ t. t.entries ≡ left.entries ++ pair (arc_value entry) ∷ right.entries) }
 {
     let height = left.height().max(right.height()).saturating_add(1);
+    let size = size_over(left.len(), right.len())?;
     let branch = Arc::new(
         alloc,
         Branch {
@@ -205,11 +241,22 @@ fn joined<V: Drop>(
             entry,
             right,
             height,
+            size,
         },
     )?;
     Ok(Tree {
         root: Link::Fork(branch),
     })
+}
+
+/// How many entries a branch has over sides of so many.
+fn size_over(left: usize, right: usize) -> Result<usize, AllocError>
+    ensures { IfOk result (λ n. n ≡ left + right + 1) }
+{
+    match left.checked_add(right) {
+        Some(sum) if sum < usize::MAX => Ok(sum + 1),
+        _ => Err(AllocError),
+    }
 }
 
 /// The same, sharing the left side.
@@ -219,8 +266,8 @@ fn sharing_left<V: Drop>(
     entry: Arc<Entry<V>>,
     right: Tree<V>,
 ) -> Result<Tree<V>, AllocError>
-    requires { IsTrue (sorted (left.now ++ pair (arc_value entry) ∷ right)) }
-    ensures { IfOk result (λ t. t ≡ left.now ++ pair (arc_value entry) ∷ right) }
+    requires { IsTrue (sorted (left.now.entries ++ pair (arc_value entry) ∷ right.entries)) }
+    ensures { IfOk result (λ t. t.entries ≡ left.now.entries ++ pair (arc_value entry) ∷ right.entries) }
 {
     joined(alloc, left.copy()?, entry, right)
 }
@@ -232,8 +279,8 @@ fn sharing_right<V: Drop>(
     entry: Arc<Entry<V>>,
     right: &Tree<V>,
 ) -> Result<Tree<V>, AllocError>
-    requires { IsTrue (sorted (left ++ pair (arc_value entry) ∷ right.now)) }
-    ensures { IfOk result (λ t. t ≡ left ++ pair (arc_value entry) ∷ right.now) }
+    requires { IsTrue (sorted (left.entries ++ pair (arc_value entry) ∷ right.now.entries)) }
+    ensures { IfOk result (λ t. t.entries ≡ left.entries ++ pair (arc_value entry) ∷ right.now.entries) }
 {
     joined(alloc, left, entry, right.copy()?)
 }
@@ -245,8 +292,8 @@ fn sharing_sides<V: Drop>(
     entry: Arc<Entry<V>>,
     right: &Tree<V>,
 ) -> Result<Tree<V>, AllocError>
-    requires { IsTrue (sorted (left.now ++ pair (arc_value entry) ∷ right.now)) }
-    ensures { IfOk result (λ t. t ≡ left.now ++ pair (arc_value entry) ∷ right.now) }
+    requires { IsTrue (sorted (left.now.entries ++ pair (arc_value entry) ∷ right.now.entries)) }
+    ensures { IfOk result (λ t. t.entries ≡ left.now.entries ++ pair (arc_value entry) ∷ right.now.entries) }
 {
     sharing_left(alloc, left, entry, right.copy()?)
 }
@@ -258,8 +305,8 @@ fn sharing_entry<V: Drop>(
     entry: &Arc<Entry<V>>,
     right: Tree<V>,
 ) -> Result<Tree<V>, AllocError>
-    requires { IsTrue (sorted (left ++ pair (arc_value entry.now) ∷ right)) }
-    ensures { IfOk result (λ t. t ≡ left ++ pair (arc_value entry.now) ∷ right) }
+    requires { IsTrue (sorted (left.entries ++ pair (arc_value entry.now) ∷ right.entries)) }
+    ensures { IfOk result (λ t. t.entries ≡ left.entries ++ pair (arc_value entry.now) ∷ right.entries) }
 {
     joined(alloc, left, Arc::try_clone(entry)?, right)
 }
@@ -271,32 +318,32 @@ fn sharing<V: Drop>(
     entry: &Arc<Entry<V>>,
     right: &Tree<V>,
 ) -> Result<Tree<V>, AllocError>
-    requires { IsTrue (sorted (left.now ++ pair (arc_value entry.now) ∷ right.now)) }
-    ensures { IfOk result (λ t. t ≡ left.now ++ pair (arc_value entry.now) ∷ right.now) }
+    requires { IsTrue (sorted (left.now.entries ++ pair (arc_value entry.now) ∷ right.now.entries)) }
+    ensures { IfOk result (λ t. t.entries ≡ left.now.entries ++ pair (arc_value entry.now) ∷ right.now.entries) }
 {
     sharing_sides(alloc, left, Arc::try_clone(entry)?, right)
 }
 
 /// The tree of a branch with another left side.
 fn with_left<V: Drop>(alloc: Global, left: Tree<V>, b: &Branch<V>) -> Result<Tree<V>, AllocError>
-    requires { IsTrue (sorted (left ++ pair (arc_value b.now.entry) ∷ b.now.right)) }
-    ensures { IfOk result (λ t. t ≡ left ++ pair (arc_value b.now.entry) ∷ b.now.right) }
+    requires { IsTrue (sorted (left.entries ++ pair (arc_value b.now.entry) ∷ b.now.right.entries)) }
+    ensures { IfOk result (λ t. t.entries ≡ left.entries ++ pair (arc_value b.now.entry) ∷ b.now.right.entries) }
 {
     balanced(alloc, left, Arc::try_clone(&b.entry)?, b.right.copy()?)
 }
 
 /// The tree of a branch with another right side.
 fn with_right<V: Drop>(alloc: Global, b: &Branch<V>, right: Tree<V>) -> Result<Tree<V>, AllocError>
-    requires { IsTrue (sorted (b.now.left ++ pair (arc_value b.now.entry) ∷ right)) }
-    ensures { IfOk result (λ t. t ≡ b.now.left ++ pair (arc_value b.now.entry) ∷ right) }
+    requires { IsTrue (sorted (b.now.left.entries ++ pair (arc_value b.now.entry) ∷ right.entries)) }
+    ensures { IfOk result (λ t. t.entries ≡ b.now.left.entries ++ pair (arc_value b.now.entry) ∷ right.entries) }
 {
     balanced_beside(alloc, &b.left, Arc::try_clone(&b.entry)?, right)
 }
 
 /// The tree of a branch without its entry.
 fn without_entry<V: Drop>(alloc: Global, b: &Branch<V>) -> Result<Tree<V>, AllocError>
-    requires { IsTrue (sorted (b.now.left ++ b.now.right)) }
-    ensures { IfOk result (λ t. t ≡ b.now.left ++ b.now.right) }
+    requires { IsTrue (sorted (b.now.left.entries ++ b.now.right.entries)) }
+    ensures { IfOk result (λ t. t.entries ≡ b.now.left.entries ++ b.now.right.entries) }
 {
     match b.right.split_first(alloc)? {
         None => b.left.copy(),
@@ -311,8 +358,8 @@ fn balanced_beside<V: Drop>(
     entry: Arc<Entry<V>>,
     right: Tree<V>,
 ) -> Result<Tree<V>, AllocError>
-    requires { IsTrue (sorted (left.now ++ pair (arc_value entry) ∷ right)) }
-    ensures { IfOk result (λ t. t ≡ left.now ++ pair (arc_value entry) ∷ right) }
+    requires { IsTrue (sorted (left.now.entries ++ pair (arc_value entry) ∷ right.entries)) }
+    ensures { IfOk result (λ t. t.entries ≡ left.now.entries ++ pair (arc_value entry) ∷ right.entries) }
 {
     balanced(alloc, left.copy()?, entry, right)
 }
@@ -324,8 +371,8 @@ fn balanced<V: Drop>(
     entry: Arc<Entry<V>>,
     right: Tree<V>,
 ) -> Result<Tree<V>, AllocError>
-    requires { IsTrue (sorted (left ++ pair (arc_value entry) ∷ right)) }
-    ensures { IfOk result (λ t. t ≡ left ++ pair (arc_value entry) ∷ right) }
+    requires { IsTrue (sorted (left.entries ++ pair (arc_value entry) ∷ right.entries)) }
+    ensures { IfOk result (λ t. t.entries ≡ left.entries ++ pair (arc_value entry) ∷ right.entries) }
 {
     let (high_left, high_right) = (left.height(), right.height());
     if high_left > high_right.saturating_add(1) {
@@ -344,8 +391,8 @@ fn lean_left<V: Drop>(
     entry: Arc<Entry<V>>,
     right: Tree<V>,
 ) -> Result<Tree<V>, AllocError>
-    requires { IsTrue (sorted (left.now ++ pair (arc_value entry) ∷ right)) }
-    ensures { IfOk result (λ t. t ≡ left.now ++ pair (arc_value entry) ∷ right) }
+    requires { IsTrue (sorted (left.now.entries ++ pair (arc_value entry) ∷ right.entries)) }
+    ensures { IfOk result (λ t. t.entries ≡ left.now.entries ++ pair (arc_value entry) ∷ right.entries) }
 {
     match &left.root {
         Link::Leaf => joined(alloc, Tree::new(), entry, right),
@@ -368,8 +415,8 @@ fn once_left<V: Drop>(
     entry: Arc<Entry<V>>,
     right: Tree<V>,
 ) -> Result<Tree<V>, AllocError>
-    requires { IsTrue (sorted ((outer.now.left ++ pair (arc_value outer.now.entry) ∷ outer.now.right) ++ pair (arc_value entry) ∷ right)) }
-    ensures { IfOk result (λ t. t ≡ (outer.now.left ++ pair (arc_value outer.now.entry) ∷ outer.now.right) ++ pair (arc_value entry) ∷ right) }
+    requires { IsTrue (sorted ((outer.now.left.entries ++ pair (arc_value outer.now.entry) ∷ outer.now.right.entries) ++ pair (arc_value entry) ∷ right.entries)) }
+    ensures { IfOk result (λ t. t.entries ≡ (outer.now.left.entries ++ pair (arc_value outer.now.entry) ∷ outer.now.right.entries) ++ pair (arc_value entry) ∷ right.entries) }
 {
     let high = sharing_left(alloc, &outer.right, entry, right)?;
     sharing_left(alloc, &outer.left, Arc::try_clone(&outer.entry)?, high)
@@ -383,8 +430,8 @@ fn twice_left<V: Drop>(
     entry: Arc<Entry<V>>,
     right: Tree<V>,
 ) -> Result<Tree<V>, AllocError>
-    requires { IsTrue (sorted ((outer.now.left ++ pair (arc_value outer.now.entry) ∷ (inner.now.left ++ pair (arc_value inner.now.entry) ∷ inner.now.right)) ++ pair (arc_value entry) ∷ right)) }
-    ensures { IfOk result (λ t. t ≡ (outer.now.left ++ pair (arc_value outer.now.entry) ∷ (inner.now.left ++ pair (arc_value inner.now.entry) ∷ inner.now.right)) ++ pair (arc_value entry) ∷ right) }
+    requires { IsTrue (sorted ((outer.now.left.entries ++ pair (arc_value outer.now.entry) ∷ (inner.now.left.entries ++ pair (arc_value inner.now.entry) ∷ inner.now.right.entries)) ++ pair (arc_value entry) ∷ right.entries)) }
+    ensures { IfOk result (λ t. t.entries ≡ (outer.now.left.entries ++ pair (arc_value outer.now.entry) ∷ (inner.now.left.entries ++ pair (arc_value inner.now.entry) ∷ inner.now.right.entries)) ++ pair (arc_value entry) ∷ right.entries) }
 {
     let high = sharing_left(alloc, &inner.right, entry, right)?;
     let low = sharing(alloc, &outer.left, &outer.entry, &inner.left)?;
@@ -398,8 +445,8 @@ fn lean_right<V: Drop>(
     entry: Arc<Entry<V>>,
     right: &Tree<V>,
 ) -> Result<Tree<V>, AllocError>
-    requires { IsTrue (sorted (left ++ pair (arc_value entry) ∷ right.now)) }
-    ensures { IfOk result (λ t. t ≡ left ++ pair (arc_value entry) ∷ right.now) }
+    requires { IsTrue (sorted (left.entries ++ pair (arc_value entry) ∷ right.now.entries)) }
+    ensures { IfOk result (λ t. t.entries ≡ left.entries ++ pair (arc_value entry) ∷ right.now.entries) }
 {
     match &right.root {
         Link::Leaf => joined(alloc, left, entry, Tree::new()),
@@ -422,8 +469,8 @@ fn once_right<V: Drop>(
     entry: Arc<Entry<V>>,
     outer: &Branch<V>,
 ) -> Result<Tree<V>, AllocError>
-    requires { IsTrue (sorted (left ++ pair (arc_value entry) ∷ (outer.now.left ++ pair (arc_value outer.now.entry) ∷ outer.now.right))) }
-    ensures { IfOk result (λ t. t ≡ left ++ pair (arc_value entry) ∷ (outer.now.left ++ pair (arc_value outer.now.entry) ∷ outer.now.right)) }
+    requires { IsTrue (sorted (left.entries ++ pair (arc_value entry) ∷ (outer.now.left.entries ++ pair (arc_value outer.now.entry) ∷ outer.now.right.entries))) }
+    ensures { IfOk result (λ t. t.entries ≡ left.entries ++ pair (arc_value entry) ∷ (outer.now.left.entries ++ pair (arc_value outer.now.entry) ∷ outer.now.right.entries)) }
 {
     let low = sharing_right(alloc, left, entry, &outer.left)?;
     sharing_right(alloc, low, Arc::try_clone(&outer.entry)?, &outer.right)
@@ -437,8 +484,8 @@ fn twice_right<V: Drop>(
     inner: &Branch<V>,
     outer: &Branch<V>,
 ) -> Result<Tree<V>, AllocError>
-    requires { IsTrue (sorted (left ++ pair (arc_value entry) ∷ ((inner.now.left ++ pair (arc_value inner.now.entry) ∷ inner.now.right) ++ pair (arc_value outer.now.entry) ∷ outer.now.right))) }
-    ensures { IfOk result (λ t. t ≡ left ++ pair (arc_value entry) ∷ ((inner.now.left ++ pair (arc_value inner.now.entry) ∷ inner.now.right) ++ pair (arc_value outer.now.entry) ∷ outer.now.right)) }
+    requires { IsTrue (sorted (left.entries ++ pair (arc_value entry) ∷ ((inner.now.left.entries ++ pair (arc_value inner.now.entry) ∷ inner.now.right.entries) ++ pair (arc_value outer.now.entry) ∷ outer.now.right.entries))) }
+    ensures { IfOk result (λ t. t.entries ≡ left.entries ++ pair (arc_value entry) ∷ ((inner.now.left.entries ++ pair (arc_value inner.now.entry) ∷ inner.now.right.entries) ++ pair (arc_value outer.now.entry) ∷ outer.now.right.entries)) }
 {
     let low = sharing_right(alloc, left, entry, &inner.left)?;
     let high = sharing(alloc, &inner.right, &outer.entry, &outer.right)?;

@@ -56,6 +56,37 @@ fn reads(rt: HostRuntime) {
     assert!(rt; len == 5);
 }
 
+/// The entries in the order of their keys.
+static IN_ORDER: [(&[u8], u8); 5] = [(b"", 3), (b"a", 4), (b"ab", 1), (b"abc", 5), (b"b", 2)];
+
+/// How many rows come before the first that stands otherwise in the map.
+fn right_places(map: &SharedMap<u8>) -> usize {
+    let mut count = 0usize;
+    for (key, value) in &IN_ORDER {
+        if !is_at(map, count, *key, *value) {
+            break;
+        }
+        count = count.saturating_add(1);
+    }
+    count
+}
+
+/// Whether that key with that value stands at a place.
+fn is_at(map: &SharedMap<u8>, place: usize, key: &[u8], value: u8) -> bool {
+    match map.nth(place) {
+        None => false,
+        Some((found, its_value)) => found == key && *its_value == value,
+    }
+}
+
+#[test]
+fn places(rt: HostRuntime) {
+    let map = few(&rt, rt.alloc());
+    let (right, past) = (right_places(&map), map.nth(5).is_none());
+    drop(map);
+    assert!(rt; right == 5 && past);
+}
+
 #[test]
 fn an_old_key_gets_a_new_value(rt: HostRuntime) {
     let alloc = rt.alloc();
@@ -101,9 +132,15 @@ fn many<R: Abort>(rt: &R, alloc: Global, mask: u16) -> SharedMap<u16> {
     map
 }
 
+/// The fewest nodes on the longest way down of any tree of so many keys: one of ten nodes has at most 1,023.
+const LEAST: u8 = 11;
+
 /// Whether a map has all numbers, that key the last one set, and the tree is low.
 fn is_low(map: &SharedMap<u16>, key: [u8; 2]) -> bool {
-    map.height() <= LOW && map.len() == 1024 && map.get(&key).copied() == Some(1023)
+    map.height() <= LOW
+        && map.height() >= LEAST
+        && map.len() == 1024
+        && map.get(&key).copied() == Some(1023)
 }
 
 /// Rising and falling keys: the mask, and the last one set.
@@ -124,7 +161,7 @@ fn is_low_when_cut<R: Abort>(rt: &R, alloc: Global, map: &mut SharedMap<u16>) ->
     for n in 0..MANY - 8 {
         map.remove(alloc, &n.to_be_bytes()).expect(rt, "memory");
     }
-    map.len() == 8 && map.height() <= 5
+    map.len() == 8 && map.height() <= 5 && map.height() >= 4
 }
 
 #[test]

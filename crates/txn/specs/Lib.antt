@@ -1,2 +1,3 @@
+-- A reader must believe Versions. Staging is what the code keeps.
 pub mod Versions
 pub mod Staging

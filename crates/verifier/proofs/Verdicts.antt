@@ -69,6 +69,13 @@ passes caps code p i h at =
     let same : 0 + p ≡ p = omega arith in
     subst (λ n. rule_at caps code n i (frame_at (whole_table caps code) n) ≡ None) same (passes_from caps code (whole_table caps code) code 0 p i h at)
 
+-- an instruction begins at the slot that is refused
+pub begins_there : (caps : Caps) (code : List (Option Insn)) (at : ℕ × Rule) → code_verdict caps code ≡ Some at → (i : Insn) × (fetch code at.0 ≡ Some i)
+begins_there caps code at h =
+    let r = refused_from caps code (whole_table caps code) code 0 at h in
+    let same : r.past ≡ at.0 = omega (arith, r.is) in
+    (r.insn, ap (fetch code) (sym same) ∙ r.there)
+
 -- a rule refuses the slot that is refused
 method_refuses : (m : ClassMethod) (at : ℕ × Rule) → method_verdict m ≡ Some at → Refuses m at.0 at.1
 method_refuses m at h =

@@ -10,6 +10,7 @@ use Rattle.bpf_machine.specs.Safe.{caps_of}
 use Rattle.verifier.specs.declared.rule.Rule.{Rule}
 use Rattle.verifier.specs.declared.rule.Rule.TheVariants.{NoMemory}
 use Rattle.verifier.specs.declared.refusal.Refusal.{Refusal}
+use Rattle.verifier.specs.declared.refused.RefusedSlot.{RefusedSlot}
 use Rattle.abstract_regs.specs.Frame.{PlainFrame, join}
 use Rattle.abstract_regs.specs.Flow.{flow}
 use Rattle.verifier.specs.Frame.{entry}
@@ -91,6 +92,12 @@ first_refused caps code table p (Some i ∷ rest) =
 
 abbrev pub code_verdict : Caps → List (Option Insn) → Option (ℕ × Rule)
 code_verdict caps code = first_refused caps code (whole_table caps code) 0 code
+
+-- Where the code is first refused: the slot and the lowest rule, the slot's instruction, and the frame before it.
+pub record IsFirstRefused (caps : Caps) (code : List (Option Insn)) (r : RefusedSlot) : Type 0 where
+  pub verdict : code_verdict caps code ≡ Some (r.slot, r.rule)
+  pub insn : fetch code r.slot ≡ Some r.insn
+  pub known : r.known ≡ frame_at (whole_table caps code) r.slot
 
 abbrev pub method_verdict : ClassMethod → Option (ℕ × Rule)
 method_verdict m = code_verdict (caps_of m) (slots m.instructions)

@@ -1,10 +1,12 @@
-ghost use Rattle.std.specs.Prelude.{◌≡◌, ◌+◌, ◌<◌, ◌^◌, length, IfOk, Some, None, replicate, slice_set};
+ghost use Rattle.std.specs.Prelude.{◌≡◌, ◌+◌, ◌<◌, ◌^◌, length, IfOk, IfSome, MatchOption, Some, None, replicate, slice_set};
+ghost use Rattle.bpf_machine.specs.Typed.{fetch};
 ghost use Rattle.verifier.specs.Rules.{rule_at};
-ghost use Rattle.verifier.specs.Verdict.{code_verdict};
+ghost use Rattle.verifier.specs.Verdict.{IsFirstRefused, code_verdict, frame_at, whole_table};
 ghost use Rattle.verifier.specs.Frame.{entry};
 ghost use Rattle.verifier.specs.Pass.{IsSpaced, awaited, HasLeft, IsSound, AllSound};
 
 use crate::kept::Kept;
+use crate::refused::RefusedSlot;
 use crate::rule::Rule;
 use crate::rules::refusing_rule;
 use abstract_regs::{Edges, Frame};
@@ -38,6 +40,42 @@ pub fn first_refusal(
     pass.run(alloc, caps, code)
 }
 
+/// The same slot and rule, with the slot's instruction and what is known before it. It costs the same pass.
+pub fn first_refused(
+    alloc: Global,
+    caps: &Caps,
+    code: &[Option<Insn>],
+) -> Result<Option<RefusedSlot>, AllocError>
+    requires small { length code.now < 2 ^ 62 }
+    requires spaced { IsSpaced code.now }
+    ensures { IfOk result (λ r. MatchOption r (code_verdict caps.now code.now ≡ None) (IsFirstRefused caps.now code.now)) }
+{
+    let mut pass = Pass::new(alloc, caps, code.len())?;
+    let Some((slot, rule)) = pass.run(alloc, caps, code)? else {
+        return Ok(None);
+    };
+    match insn_at(code, slot) {
+        Some(insn) => Ok(Some(RefusedSlot {
+            slot,
+            rule,
+            insn,
+            known: pass.current,
+        })),
+        // Never: an instruction begins at a refused slot.
+        None => Ok(None),
+    }
+}
+
+/// The instruction that begins at a slot, if one does.
+fn insn_at(code: &[Option<Insn>], slot: usize) -> Option<Insn>
+    ensures { result ≡ fetch code.now slot }
+{
+    match code.get(slot) {
+        Some(begun) => *begun,
+        None => None,
+    }
+}
+
 impl Pass {
     /// Before slot 0, with the frame that a method begins with.
     fn new(alloc: Global, caps: &Caps, slots: usize) -> Result<Pass, AllocError>
@@ -66,6 +104,8 @@ impl Pass {
         requires landing { self.old.landing ≡ 0 }
         ensures verdict { IfOk result (λ r. r ≡ code_verdict caps.now code.now) }
         ensures sound { IfOk result (λ r. r ≡ None → AllSound caps.now code.now) }
+        // The pass stops at the refused slot, with what is known before it.
+        ensures stopped { IfOk result (λ r. IfSome r (λ at. self.new.current ≡ frame_at (whole_table caps.now code.now) at.0)) }
     {
         for (slot, begun) in code.iter().enumerate() {
             if let Some(insn) = begun {
@@ -90,6 +130,7 @@ impl Pass {
         ensures rule { IfOk result (λ r. r ≡ rule_at caps.now code.now slot insn.now (awaited self.old slot)) }
         ensures left { IfOk result (λ r. (r ≡ None) → HasLeft (awaited self.old slot) (slice_set self.old.kept slot None) insn.now slot self.new) }
         ensures sound { IfOk result (λ r. (r ≡ None) → IsSound insn.now slot (awaited self.old slot)) }
+        ensures stopped { IfOk result (λ r. IfSome r (λ _. self.new.current ≡ awaited self.old slot)) }
     {
         self.arrive(slot);
         let refused = refusing_rule(caps, code, slot, insn, &self.current);

@@ -1,5 +1,5 @@
 ghost use Rattle.std.specs.Prelude.{◌≡◌};
-ghost use Rattle.abstract_num.specs.BitsFactLaws.{BitsRefine};
+ghost use Rattle.abstract_num.specs.proved.BitsFacts.{BitsRefine};
 
 use crate::bits::Bits;
 use crate::bits::rows::without;

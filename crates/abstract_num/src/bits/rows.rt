@@ -1,8 +1,8 @@
 ghost use Rattle.std.specs.Prelude.{◌≡◌, ◌%◌};
-ghost use Rattle.abstract_num.specs.Arsh.{arsh};
+ghost use Rattle.abstract_num.specs.proved.Shifts.{arsh};
 ghost use Rattle.abstract_num.specs.Masks.{clear};
 ghost use Rattle.abstract_num.specs.BitsRows.{bits_row, unknown, value_first, unknown_first};
-ghost use Rattle.abstract_num.specs.BitsRowLaws.{IsMask};
+ghost use Rattle.abstract_num.specs.proved.BitsRows.{IsMask};
 
 use crate::bits::Bits;
 use crate::row::Row;

@@ -2,7 +2,7 @@ ghost use Rattle.std.specs.Prelude.{◌≡◌, ◌-◌, ◌^◌, ◌<ℤ◌, ◌
 ghost use Rattle.std.specs.Int.{int_max, int_min};
 ghost use Rattle.abstract_num.specs.Refined.{IsRefined};
 ghost use Rattle.abstract_num.specs.SignedFacts.{crosses, if_at};
-ghost use Rattle.abstract_num.specs.SignedFactLaws.{AreReaches, SRangeRefines};
+ghost use Rattle.abstract_num.specs.proved.SignedFacts.{AreReaches, SRangeRefines};
 
 use crate::fact::Fact;
 use crate::srange::SRange;

@@ -1,6 +1,6 @@
 ghost use Rattle.std.specs.Prelude.{◌≡◌};
 ghost use Rattle.abstract_num.specs.SignedRows.{all, signed_row};
-ghost use Rattle.abstract_num.specs.SignedRowLaws.{IsReach};
+ghost use Rattle.abstract_num.specs.proved.SignedRows.{IsReach};
 
 use crate::row::Row;
 use crate::srange::SRange;

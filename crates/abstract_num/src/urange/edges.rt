@@ -1,7 +1,7 @@
 ghost use Rattle.std.specs.Prelude.{◌≡◌};
 ghost use Rattle.abstract_num.specs.Refined.{IsRefined};
 ghost use Rattle.abstract_num.specs.UnsignedFacts.{crosses};
-ghost use Rattle.abstract_num.specs.UnsignedFactLaws.{AreSpans, URangeRefines};
+ghost use Rattle.abstract_num.specs.proved.UnsignedFacts.{AreSpans, URangeRefines};
 
 use crate::fact::Fact;
 use crate::urange::URange;

@@ -1,6 +1,6 @@
 ghost use Rattle.std.specs.Prelude.{◌≤◌, ◌≡◌, ◌^◌, ◌-◌};
 ghost use Rattle.abstract_num.specs.UnsignedRows.{digits, all, ends, unsigned_row};
-ghost use Rattle.abstract_num.specs.UnsignedRowLaws.{IsSpan};
+ghost use Rattle.abstract_num.specs.proved.UnsignedRows.{IsSpan};
 
 use crate::row::Row;
 use crate::urange::URange;

@@ -1,6 +1,5 @@
 ghost use Rattle.std.specs.Prelude.{◌≡◌, ◌+◌, ◌<◌, ◌≤◌, [], ◌∷◌, length, IfSome};
 ghost use Rattle.std.specs.Option.{option_map};
-ghost use Rattle.object_store.specs.Object.{part};
 ghost use Rattle.object_store.specs.declared.limits.TheConstants.{VALUE_LIMIT};
 ghost use Rattle.bpf_machine.specs.State.{size};
 ghost use Rattle.bpf_machine.specs.Helper.{nothing_given, with_number, with_text, with_room, bytes_in};
@@ -14,27 +13,13 @@ use crate::state::{FlatState, get};
 use bpf_decode::Region;
 use bpf_machine::Caps;
 use helpers::Argument;
+use object_store::part;
 
 /// A range that a helper takes: its place, none where its length is 0, and its length.
 #[derive(Clone, Copy)]
 pub struct Range {
     pub place: Option<(Region, usize)>,
     pub len: u64,
-}
-
-/// The bytes from a place on that there are, at most n.
-fn part(bytes: &[u8], at: u64, n: u64) -> &[u8]
-    ensures { result.now ≡ part bytes.now at n }
-{
-    if at >= bytes.len() as u64 {
-        return &bytes[..0];
-    }
-    let rest = &bytes[at as usize..];
-    if n < rest.len() as u64 {
-        &rest[..n as usize]
-    } else {
-        rest
-    }
 }
 
 /// The bytes of a range.

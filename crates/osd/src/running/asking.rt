@@ -21,7 +21,7 @@ impl<N: ClusterName, R: Wait> Running<N, R> {
     pub fn ask(&self, sends: &mut Sends<N>, request: &Request) -> Result<(), AskError>
         ensures grew { Grew sends.old sends.new }
         ensures sent { OnOk result (WasSent sends.old sends.new (λ op. op.carried ≡ Plain (ARequest request.now))) }
-        ensures group { OnOk result (WasSent sends.old sends.new (λ op. op.group ≡ group_of request.now.object N.config.groups)) }
+        ensures placed { OnOk result (WasSent sends.old sends.new (λ op. (op.group ≡ group_of request.now.object N.config.groups) × (op.carried ≡ Plain (ARequest request.now)))) }
         ensures kept { OnErr result (sends.new ≡ sends.old) }
     {
         let Ok(copy) = request.copy(self.alloc) else {
@@ -46,11 +46,13 @@ impl<N: ClusterName, R: Wait> Running<N, R> {
         ensures sent { OnOk result (WasSent sends.old sends.new (λ op. op ≡ operation)) }
         ensures kept { OnErr result (sends.new ≡ sends.old) }
     {
+        let shard = operation.group % self.shards.count();
         let Ok(boxed) = Box::new(self.alloc, operation) else {
             return Err(AskError::NoMemory);
         };
         match sends.submit(&self.rt, &self.shards, Queued::new(boxed)) {
             Ok(()) => {
+                self.bell.fill(shard);
                 self.bell.ring(&self.rt);
                 Ok(())
             }

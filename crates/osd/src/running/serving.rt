@@ -8,7 +8,7 @@ use crate::fate::{Deal, Fate, PassAll};
 use crate::gate::Gate;
 use crate::name::ClusterName;
 use crate::running::Running;
-use crate::sends::Sends;
+use crate::sends::{Sends, Takes};
 use crate::worker::Worker;
 use carried::{Carried, Operation};
 use commit_board::NoMemory;
@@ -122,7 +122,7 @@ impl<N: ClusterName, R: Wait> Running<N, R> {
         requires { shard < length N.queues.names }
         ensures { OnlySent worker.old.sends worker.new.sends IsAny }
     {
-        match worker.takes.take(&self.rt, &self.shards, shard) {
+        match self.take(&mut worker.takes, shard) {
             Some(operation) => {
                 self.pass(gate, shard, gate_number(&operation.carried));
                 self.turn(worker, fate, operation);
@@ -130,6 +130,19 @@ impl<N: ClusterName, R: Wait> Running<N, R> {
             }
             None => false,
         }
+    }
+
+    /// Takes the oldest operation of a shard. Where there is none, the shard is passed over until one comes.
+    fn take(&self, takes: &mut Takes<N>, shard: usize) -> Option<Operation>
+        requires { shard < length N.queues.names }
+    {
+        if let Some(operation) = takes.take(&self.rt, &self.shards, shard) {
+            return Some(operation);
+        }
+        self.bell.empty(shard);
+        let operation = takes.take(&self.rt, &self.shards, shard)?;
+        self.bell.fill(shard);
+        Some(operation)
     }
 
     /// Asks the gate. The other workers have the shard while it keeps a client's request.

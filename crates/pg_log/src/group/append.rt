@@ -3,15 +3,14 @@ ghost use Rattle.std.specs.Prelude.{◌≡◌, ◌<◌, ◌≤◌, ◌∷◌, �
 ghost use mathlib.Core.List.{IsPrefix};
 ghost use Rattle.bpf_decode.specs.Class.{ClassMethod};
 ghost use Rattle.bpf_machine.specs.Safe.{IsSafe};
-ghost use Rattle.interp.specs.Plain.{method_named};
 ghost use Rattle.std.specs.Option.{option_copied};
 ghost use Rattle.pg_log.specs.Requests.{ClientRequest};
 ghost use Rattle.pg_log.specs.Log.{Legal, NumbersRise, fold, reply_at};
 ghost use Rattle.pg_log.specs.Places.{ArePlaces, RoomStays};
-ghost use Rattle.pg_log.specs.Refusals.{place_of, refusal, refusal_of_method, Refuses, append_answer, list_after};
+ghost use Rattle.pg_log.specs.Refusals.{place_of, refusal, Refuses, append_answer, list_after};
 ghost use Rattle.pg_log.specs.Entries.{IsOutcome, IsOutcomeOn, IsSafeRequest, IsNextEntry, Keeps, requests_of};
 
-use crate::class_test::class_of;
+use crate::class_test::method_of;
 use crate::classes::Classes;
 use crate::entry::Entry;
 use crate::group::{Group, LOG_LIMIT};
@@ -19,7 +18,7 @@ use crate::log_error::LogError;
 use crate::places::Places;
 use crate::request::Request;
 use bpf_machine::outcomes;
-use interp::{CallError, ClassTable, Outcome, VerifiedClass, call};
+use interp::{ClassTable, Outcome, VerifiedMethod, call_method};
 use object_store::{Object, Objects};
 use std::alloc::Global;
 use txn::apply;
@@ -224,8 +223,8 @@ pub(crate) fn run_after(
     if places.is_reached(request.client(), request.number()) {
         return Err(LogError::StaleNumber);
     }
-    let class = class_of(table, request)?;
-    run_method(alloc, class, objects.get(request.object()), request)
+    let method = method_of(table, request)?;
+    run_method(alloc, method, objects.get(request.object()), request)
 }
 
 /// A request with what it made.
@@ -259,31 +258,28 @@ pub(crate) fn entry_of_copy(
     Ok(entry_of(copy, outcome))
 }
 
-/// Runs a request's method beside its object.
+/// Runs the method of a request beside its object.
 fn run_method(
     alloc: Global,
-    class: &VerifiedClass,
+    method: &VerifiedMethod,
     object: Option<&Object>,
     request: &Request,
 ) -> Result<Outcome, LogError>
-    ensures ok { IfOk result (λ o. (refusal_of_method (method_named class.now request.now.method) request.now ≡ None)
-        × IsOutcome (method_named class.now request.now.method) (option_copied object.entry) request.now o.code o.output.items o.change) }
-    ensures safe { IfOk result (λ _. (m : ClassMethod) → method_named class.now request.now.method ≡ Some m → IsSafe m) }
-    ensures err { IfErr result (λ e. Refuses (refusal_of_method (method_named class.now request.now.method) request.now) e) }
+    requires { length request.now.input ≤ method.now.in_cap }
+    ensures ok { IfOk result (λ o. IsOutcome (Some method.now) (option_copied object.entry) request.now o.code o.output.items o.change) }
+    ensures safe { IfOk result (λ _. IsSafe method.now) }
+    ensures err { IfErr result (λ e. e ≡ LogError.NoMemory) }
 {
     outcomes();
-    let _ = class.methods();
-    match call(
+    let _ = method.ops();
+    match call_method(
         alloc,
-        class,
-        request.method(),
+        method,
         object,
         request.client().get(),
         request.input(),
     ) {
         Ok(outcome) => Ok(outcome),
-        Err(CallError::NoMethod) => Err(LogError::NoMethod),
-        Err(CallError::InputTooLong) => Err(LogError::InputTooLong),
-        Err(CallError::NoMemory) => Err(LogError::NoMemory),
+        Err(_) => Err(LogError::NoMemory),
     }
 }

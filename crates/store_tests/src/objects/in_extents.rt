@@ -38,6 +38,26 @@ fn extents_are_at_most_4096_bytes(rt: HostRuntime) {
     }
 }
 
+/// How many extents data has that was written byte by byte, each at its end; none where it isn't so long.
+fn extents_of_bytes<R: Abort>(rt: &R, alloc: Global, len: u64) -> usize {
+    let mut data = ExtentData::new();
+    for at in 0..len {
+        data.write(alloc, at, b"a").expect(rt, "memory");
+    }
+    let count = if data.len() as u64 == len {
+        count_of(&data)
+    } else {
+        0
+    };
+    drop(data);
+    count
+}
+
+#[test]
+fn appended_bytes_fill_the_last_extent(rt: HostRuntime) {
+    assert!(rt; extents_of_bytes(&rt, rt.alloc(), 16) == 1);
+}
+
 /// Whether the byte at 5,000 is a 7.
 fn is_seven(data: &ExtentData) -> bool {
     let mut byte = [0];

@@ -2,8 +2,8 @@
 
 use super::{ALL, MAX, MIN, Six, TOP, gives, is, number};
 use abstract_num::{
-    Number, any, arithmetic, between, constant, constant_of, highest, holds, is_below, join,
-    loaded, loaded_signed, signed_between, tighten,
+    any, arithmetic, between, constant, highest, holds, is_below, join, loaded, loaded_signed,
+    signed_between, tighten,
 };
 use bpf_decode::{Arithmetic, Bits, SignedWidth, Width};
 
@@ -62,21 +62,10 @@ fn ranges(rt: HostRuntime) {
     );
 }
 
-fn constant_is(x: Number, want: Option<u64>) -> bool {
-    constant_of(&x) == want
-}
-
 #[test]
 fn readings(rt: HostRuntime) {
     let x = between(2, 9);
-    assert!(rt;
-        highest(&x) == 9
-            && holds(&x, 2)
-            && !holds(&x, 10)
-            && !holds(&constant(4), 5)
-            && constant_is(x, None)
-            && constant_is(constant(6), Some(6))
-    );
+    assert!(rt; highest(&x) == 9 && holds(&x, 2) && !holds(&x, 10) && !holds(&constant(4), 5));
 }
 
 /// A number is constant where its unsigned range is, whatever its other parts say.
@@ -84,10 +73,9 @@ fn readings(rt: HostRuntime) {
 fn constant_by_the_range(rt: HostRuntime) {
     let x = number((5, 5, MIN, MAX, 0, ALL)).expect(&rt, "a number");
     assert!(rt;
-        constant_is(x, Some(5))
-            && gives(
-                arithmetic(Bits::Bits64, Arithmetic::Add, x, constant(1)),
-                Some((6, 6, 6, 6, 6, 0))
-            )
+        gives(
+            arithmetic(Bits::Bits64, Arithmetic::Add, x, constant(1)),
+            Some((6, 6, 6, 6, 6, 0))
+        )
     );
 }

@@ -4,8 +4,8 @@ use Rattle.helpers.specs.Table.{helper_of, row}
 use Rattle.interp.specs.declared.run.Run.{Run}
 use Rattle.bpf_machine.specs.Flat.{help}
 use Rattle.bpf_machine.specs.Safe.{first_layout}
-use Rattle.interp.specs.Asked.{CanAsk}
-use Rattle.interp.specs.Run.{Does}
+use Rattle.interp.specs.inner.Asked.{CanAsk}
+use Rattle.interp.specs.inner.Run.{Does}
 use Rattle.interp.proofs.Effects.{can_ask, does}
 use Rattle.interp.proofs.ask.ask.Goals as goal
 

@@ -1,7 +1,5 @@
-use Rattle.std.proofs.Common.{◌≡◌, ℕ, ◌+◌, ◌-◌, min, ◌++◌, length, take, drop, get_or, ap, sym, ◌∙◌, arith, length-append, length-drop}
+use Rattle.std.proofs.Common.{◌≡◌, ◌+◌, ◌-◌, min, ◌++◌, length, take, drop, get_or, ap, sym, ◌∙◌, arith, length-append, length-drop}
 use Rattle.std.proofs.lemmas.Grind.{common_steps}
-use Rattle.std.specs.Arc.{arc_value}
-use Rattle.std.specs.declared.vec.Vec.{Vec}
 use Rattle.std.proofs.lemmas.List.{length-take}
 use Rattle.object_store.specs.Extents.{flat, cut}
 use Rattle.object_store.proofs.Flats.{flat-more, length-flat-more, flat-more-fits, cut-append, cut-min, length-cut, overlay_next}
@@ -13,13 +11,13 @@ overlay-requires c =
     let i = c.loop-part.part-index in
     let from = c.args.from in
     let to = c.args.to in
-    let b = (arc_value (get_or c.args.parts.now i x)).items in
+    let b = (get_or c.args.parts.now i x) in
     let f = flat (take i c.args.parts.now) in
-    let v : c.as_slice-bytes.result.now ≡ b = c.as_slice-bytes.ensures.value ∙ ap (λ (v : Vec ℕ _). v.items) (c.deref.ensures ∙ ap arc_value c.part-item.is) in
-    let n : length c.as_slice-bytes.result.now ≡ length b = ap length v in
-    let low : c.min-low.result ≡ min (from - length f) (length b) = c.min-low.ensures ∙ ap (λ k. min k (length c.as_slice-bytes.result.now)) (c.saturating_sub.ensures ∙ ap (λ k. from - k) c.loop-part.invariant.place) ∙ ap (min (from - length f)) n in
-    let high : c.min-high.result ≡ min (to - length f) (length b) = c.min-high.ensures ∙ ap (λ k. min k (length c.as_slice-bytes.result.now)) (c.saturating_sub-in-loop-part.ensures ∙ ap (λ k. to - k) c.loop-part.invariant.place) ∙ ap (min (to - length f)) n in
-    let chunk = take (c.min-high.result - c.min-low.result) (drop c.min-low.result c.as_slice-bytes.result.now) in
+    let v : c.bytes-bytes.result.now ≡ b = c.bytes-bytes.ensures.value ∙ c.part-item.is in
+    let n : length c.bytes-bytes.result.now ≡ length b = ap length v in
+    let low : c.min-low.result ≡ min (from - length f) (length b) = c.min-low.ensures ∙ ap (λ k. min k (length c.bytes-bytes.result.now)) (c.saturating_sub.ensures ∙ ap (λ k. from - k) c.loop-part.invariant.place) ∙ ap (min (from - length f)) n in
+    let high : c.min-high.result ≡ min (to - length f) (length b) = c.min-high.ensures ∙ ap (λ k. min k (length c.bytes-bytes.result.now)) (c.saturating_sub-in-loop-part.ensures ∙ ap (λ k. to - k) c.loop-part.invariant.place) ∙ ap (min (to - length f)) n in
+    let chunk = take (c.min-high.result - c.min-low.result) (drop c.min-low.result c.bytes-bytes.result.now) in
     let same : chunk ≡ cut (from - length f) (to - length f) b =
     ap (λ l. take (c.min-high.result - c.min-low.result) (drop c.min-low.result l)) v
     ∙ ap (λ m. take (c.min-high.result - m) (drop m b)) low
@@ -29,7 +27,7 @@ overlay-requires c =
     let whole : cut from to f ++ chunk ≡ cut from to (flat (take (i + 1) c.args.parts.now)) =
     ap (λ l. cut from to f ++ l) same ∙ sym (cut-append from to f b c.requires.order) ∙ ap (cut from to) (sym m) in
     let size : length chunk ≡ c.min-high.result - c.min-low.result =
-    omega (arith, length-take (c.min-high.result - c.min-low.result) (drop c.min-low.result c.as_slice-bytes.result.now), length-drop c.min-low.result c.as_slice-bytes.result.now, n, high) in
+    omega (arith, length-take (c.min-high.result - c.min-low.result) (drop c.min-low.result c.bytes-bytes.result.now), length-drop c.min-low.result c.bytes-bytes.result.now, n, high) in
     let total : c.loop-part.done + length chunk ≡ length (cut from to (flat (take (i + 1) c.args.parts.now))) =
     ap (λ k. k + length chunk) c.loop-part.invariant.count ∙ sym (length-append (cut from to f) chunk) ∙ ap length whole in
     let room : length c.loop-part.out ≡ length (cut from to f) + (length c.args.out.now - c.loop-part.done) =
@@ -39,9 +37,9 @@ overlay-requires c =
 pub overflow_add-start : goal.overflow_add-start
 overflow_add-start c =
     let x = c.part-item.result in
-    let b = (arc_value (get_or c.args.parts.now c.loop-part.part-index x)).items in
-    let v : c.as_slice-bytes.result.now ≡ b = c.as_slice-bytes.ensures.value ∙ ap (λ (v : Vec ℕ _). v.items) (c.deref.ensures ∙ ap arc_value c.part-item.is) in
-    let n : length c.as_slice-bytes.result.now ≡ length b = ap length v in
+    let b = (get_or c.args.parts.now c.loop-part.part-index x) in
+    let v : c.bytes-bytes.result.now ≡ b = c.bytes-bytes.ensures.value ∙ c.part-item.is in
+    let n : length c.bytes-bytes.result.now ≡ length b = ap length v in
     let f = flat-more-fits c.args.parts.now c.loop-part.part-index x c.loop-part-test.true in
     omega (arith, n, f, c.requires.small, c.loop-part.invariant.place)
 
@@ -51,13 +49,13 @@ loop-part-preserved c =
     let i = c.loop-part.part-index in
     let from = c.args.from in
     let to = c.args.to in
-    let b = (arc_value (get_or c.args.parts.now i x)).items in
+    let b = (get_or c.args.parts.now i x) in
     let f = flat (take i c.args.parts.now) in
-    let v : c.as_slice-bytes.result.now ≡ b = c.as_slice-bytes.ensures.value ∙ ap (λ (v : Vec ℕ _). v.items) (c.deref.ensures ∙ ap arc_value c.part-item.is) in
-    let n : length c.as_slice-bytes.result.now ≡ length b = ap length v in
-    let low : c.min-low.result ≡ min (from - length f) (length b) = c.min-low.ensures ∙ ap (λ k. min k (length c.as_slice-bytes.result.now)) (c.saturating_sub.ensures ∙ ap (λ k. from - k) c.loop-part.invariant.place) ∙ ap (min (from - length f)) n in
-    let high : c.min-high.result ≡ min (to - length f) (length b) = c.min-high.ensures ∙ ap (λ k. min k (length c.as_slice-bytes.result.now)) (c.saturating_sub-in-loop-part.ensures ∙ ap (λ k. to - k) c.loop-part.invariant.place) ∙ ap (min (to - length f)) n in
-    let chunk = take (c.min-high.result - c.min-low.result) (drop c.min-low.result c.as_slice-bytes.result.now) in
+    let v : c.bytes-bytes.result.now ≡ b = c.bytes-bytes.ensures.value ∙ c.part-item.is in
+    let n : length c.bytes-bytes.result.now ≡ length b = ap length v in
+    let low : c.min-low.result ≡ min (from - length f) (length b) = c.min-low.ensures ∙ ap (λ k. min k (length c.bytes-bytes.result.now)) (c.saturating_sub.ensures ∙ ap (λ k. from - k) c.loop-part.invariant.place) ∙ ap (min (from - length f)) n in
+    let high : c.min-high.result ≡ min (to - length f) (length b) = c.min-high.ensures ∙ ap (λ k. min k (length c.bytes-bytes.result.now)) (c.saturating_sub-in-loop-part.ensures ∙ ap (λ k. to - k) c.loop-part.invariant.place) ∙ ap (min (to - length f)) n in
+    let chunk = take (c.min-high.result - c.min-low.result) (drop c.min-low.result c.bytes-bytes.result.now) in
     let same : chunk ≡ cut (from - length f) (to - length f) b =
     ap (λ l. take (c.min-high.result - c.min-low.result) (drop c.min-low.result l)) v
     ∙ ap (λ m. take (c.min-high.result - m) (drop m b)) low
@@ -67,7 +65,7 @@ loop-part-preserved c =
     let whole : cut from to f ++ chunk ≡ cut from to (flat (take (i + 1) c.args.parts.now)) =
     ap (λ l. cut from to f ++ l) same ∙ sym (cut-append from to f b c.requires.order) ∙ ap (cut from to) (sym m) in
     let size : length chunk ≡ c.min-high.result - c.min-low.result =
-    omega (arith, length-take (c.min-high.result - c.min-low.result) (drop c.min-low.result c.as_slice-bytes.result.now), length-drop c.min-low.result c.as_slice-bytes.result.now, n, high) in
+    omega (arith, length-take (c.min-high.result - c.min-low.result) (drop c.min-low.result c.bytes-bytes.result.now), length-drop c.min-low.result c.bytes-bytes.result.now, n, high) in
     let total : c.loop-part.done + length chunk ≡ length (cut from to (flat (take (i + 1) c.args.parts.now))) =
     ap (λ k. k + length chunk) c.loop-part.invariant.count ∙ sym (length-append (cut from to f) chunk) ∙ ap length whole in
     record {

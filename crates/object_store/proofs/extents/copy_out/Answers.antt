@@ -23,7 +23,7 @@ returns c =
     let same : cut (from - start) (to - start) (flat c.split_at-2.result.0.now) ≡ cut from to (flat xs) =
     ap (λ l. cut (from - start) (to - start) (flat l)) (c.split_at-2.ensures.front ∙ ap (take n) b)
     ∙ cut-before (drop k xs) n (from - start) (to - start) (omega (arith, c.requires.order)) (omega (arith, c.past-count.ensures.1, c.past-count.ensures.2, ap (λ l. length (flat l)) b, ap (λ l. length (flat (take n l))) b))
-    ∙ cut-after xs k from to start c.before-kept.ensures.1 c.before-kept.ensures.2 c.requires.order in
+    ∙ cut-after xs k from to start c.before-kept.ensures.place.1 c.before-kept.ensures.place.2 c.requires.order in
     record {
       count = c.copy_cut.ensures.count ∙ ap length same;
       bytes = c.copy_cut.ensures.bytes ∙ ap (λ l. l ++ drop c.copy_cut.result c.args.out.now) same;

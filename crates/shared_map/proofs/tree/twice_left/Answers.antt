@@ -10,16 +10,16 @@ sharing_left-requires g c =
     let o = c.args.outer.now in
     let i = c.args.inner.now in
     let e = pair (arc_value c.args.entry) in
-    high_part i.left (pair (arc_value i.entry)) i.right e c.args.right
-    (high_part o.left (pair (arc_value o.entry)) (i.left ++ pair (arc_value i.entry) ∷ i.right) e c.args.right c.requires)
+    high_part i.left.entries (pair (arc_value i.entry)) i.right.entries e c.args.right.entries
+    (high_part o.left.entries (pair (arc_value o.entry)) (i.left.entries ++ pair (arc_value i.entry) ∷ i.right.entries) e c.args.right.entries c.requires)
 
 pub sharing-requires : goal.sharing-requires
 sharing-requires g c =
     let o = c.args.outer.now in
     let i = c.args.inner.now in
     let e = pair (arc_value c.args.entry) in
-    low_part o.left (pair (arc_value o.entry)) i.left (pair (arc_value i.entry)) i.right
-    (sorted-left (o.left ++ pair (arc_value o.entry) ∷ (i.left ++ pair (arc_value i.entry) ∷ i.right)) (e ∷ c.args.right) c.requires)
+    low_part o.left.entries (pair (arc_value o.entry)) i.left.entries (pair (arc_value i.entry)) i.right.entries
+    (sorted-left (o.left.entries ++ pair (arc_value o.entry) ∷ (i.left.entries ++ pair (arc_value i.entry) ∷ i.right.entries)) (e ∷ c.args.right.entries) c.requires)
 
 pub sharing_entry-requires : goal.sharing_entry-requires
 sharing_entry-requires g c =
@@ -27,7 +27,7 @@ sharing_entry-requires g c =
     let i = c.args.inner.now in
     let e = pair (arc_value c.args.entry) in
     sorted-along _ _
-    (twice_left o.left (pair (arc_value o.entry)) i.left (pair (arc_value i.entry)) i.right e c.args.right
+    (twice_left o.left.entries (pair (arc_value o.entry)) i.left.entries (pair (arc_value i.entry)) i.right.entries e c.args.right.entries
     ∙ sym (same_parts _ _ _ _ _ _ c.in_ok-low.ensures refl c.in_ok-high.ensures))
     c.requires
 
@@ -38,5 +38,5 @@ returns g c =
     let e = pair (arc_value c.args.entry) in
     IfOk-weaker c.sharing_entry.result _ _
     (λ t is. is ∙ same_parts _ _ _ _ _ _ c.in_ok-low.ensures refl c.in_ok-high.ensures
-    ∙ sym (twice_left o.left (pair (arc_value o.entry)) i.left (pair (arc_value i.entry)) i.right e c.args.right))
+    ∙ sym (twice_left o.left.entries (pair (arc_value o.entry)) i.left.entries (pair (arc_value i.entry)) i.right.entries e c.args.right.entries))
     c.sharing_entry.ensures

@@ -10,16 +10,16 @@ sharing_right-requires g c =
     let o = c.args.outer.now in
     let i = c.args.inner.now in
     let e = pair (arc_value c.args.entry) in
-    low_part c.args.left e i.left (pair (arc_value i.entry)) i.right
-    (low_part c.args.left e (i.left ++ pair (arc_value i.entry) ∷ i.right) (pair (arc_value o.entry)) o.right c.requires)
+    low_part c.args.left.entries e i.left.entries (pair (arc_value i.entry)) i.right.entries
+    (low_part c.args.left.entries e (i.left.entries ++ pair (arc_value i.entry) ∷ i.right.entries) (pair (arc_value o.entry)) o.right.entries c.requires)
 
 pub sharing-requires : goal.sharing-requires
 sharing-requires g c =
     let o = c.args.outer.now in
     let i = c.args.inner.now in
     let e = pair (arc_value c.args.entry) in
-    high_part i.left (pair (arc_value i.entry)) i.right (pair (arc_value o.entry)) o.right
-    (sorted-past c.args.left e ((i.left ++ pair (arc_value i.entry) ∷ i.right) ++ pair (arc_value o.entry) ∷ o.right) c.requires)
+    high_part i.left.entries (pair (arc_value i.entry)) i.right.entries (pair (arc_value o.entry)) o.right.entries
+    (sorted-past c.args.left.entries e ((i.left.entries ++ pair (arc_value i.entry) ∷ i.right.entries) ++ pair (arc_value o.entry) ∷ o.right.entries) c.requires)
 
 pub sharing_entry-requires : goal.sharing_entry-requires
 sharing_entry-requires g c =
@@ -27,7 +27,7 @@ sharing_entry-requires g c =
     let i = c.args.inner.now in
     let e = pair (arc_value c.args.entry) in
     sorted-along _ _
-    (twice_right c.args.left e i.left (pair (arc_value i.entry)) i.right (pair (arc_value o.entry)) o.right
+    (twice_right c.args.left.entries e i.left.entries (pair (arc_value i.entry)) i.right.entries (pair (arc_value o.entry)) o.right.entries
     ∙ sym (same_parts _ _ _ _ _ _ c.in_ok-low.ensures refl c.in_ok-high.ensures))
     c.requires
 
@@ -38,5 +38,5 @@ returns g c =
     let e = pair (arc_value c.args.entry) in
     IfOk-weaker c.sharing_entry.result _ _
     (λ t is. is ∙ same_parts _ _ _ _ _ _ c.in_ok-low.ensures refl c.in_ok-high.ensures
-    ∙ sym (twice_right c.args.left e i.left (pair (arc_value i.entry)) i.right (pair (arc_value o.entry)) o.right))
+    ∙ sym (twice_right c.args.left.entries e i.left.entries (pair (arc_value i.entry)) i.right.entries (pair (arc_value o.entry)) o.right.entries))
     c.sharing_entry.ensures

@@ -1,5 +1,5 @@
 use Rattle.std.proofs.Common.{rules, ap, ◌∙◌, bit_and, ℕ}
-use Rattle.abstract_num.specs.BitsFactLaws.{fewer_apart}
+use Rattle.abstract_num.specs.proved.BitsFacts.{fewer_apart}
 use Rattle.abstract_num.proofs.bits.edges.none_of.Goals as goal
 
 pub invariant_of-fewer : goal.invariant_of-fewer

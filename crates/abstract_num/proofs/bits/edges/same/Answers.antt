@@ -1,6 +1,6 @@
 use Rattle.std.proofs.Common.{rules, arith}
 use Rattle.std.proofs.lemmas.Nat.{or_lt, and_le_l}
-use Rattle.abstract_num.specs.BitsFactLaws.{meet_apart}
+use Rattle.abstract_num.specs.proved.BitsFacts.{meet_apart}
 use Rattle.abstract_num.proofs.bits.edges.same.Goals as goal
 
 pub invariant_of-both : goal.invariant_of-both

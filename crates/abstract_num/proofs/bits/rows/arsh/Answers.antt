@@ -1,6 +1,6 @@
 use Rattle.std.proofs.Common.{rules, ◌%◌, ◌∙◌, bit_and, ℕ}
 use mathlib.Core.Path.{ap₂}
-use Rattle.abstract_num.specs.BitsRowLaws.{apart_arsh}
+use Rattle.abstract_num.specs.proved.BitsRows.{apart_arsh}
 use Rattle.abstract_num.proofs.bits.rows.arsh.Goals as goal
 
 pub invariant_of-result : goal.invariant_of-result

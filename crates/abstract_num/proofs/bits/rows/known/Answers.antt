@@ -1,5 +1,5 @@
 use Rattle.std.proofs.Common.{rules, ap, ◌∙◌, bit_and, ℕ}
-use Rattle.abstract_num.specs.PartsFit.{clear_apart}
+use Rattle.abstract_num.specs.proved.PartsFit.{clear_apart}
 use Rattle.abstract_num.proofs.bits.rows.known.Goals as goal
 
 pub invariant_of-result : goal.invariant_of-result

@@ -1,5 +1,5 @@
 use Rattle.std.proofs.Common.{rules, ◌%◌}
-use Rattle.abstract_num.specs.BitsRowLaws.{apart_shr}
+use Rattle.abstract_num.specs.proved.BitsRows.{apart_shr}
 use Rattle.abstract_num.proofs.bits.rows.rsh.Goals as goal
 
 pub invariant_of-result : goal.invariant_of-result

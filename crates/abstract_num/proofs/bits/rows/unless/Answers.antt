@@ -1,5 +1,5 @@
 use Rattle.std.proofs.Common.{rules, ap, ◌∙◌, bit_and, ℕ}
-use Rattle.abstract_num.specs.BitsRowLaws.{apart_clear}
+use Rattle.abstract_num.specs.proved.BitsRows.{apart_clear}
 use Rattle.abstract_num.proofs.bits.rows.unless.Goals as goal
 
 pub invariant_of-result : goal.invariant_of-result

@@ -1,5 +1,5 @@
 use Rattle.std.proofs.Common.{arith}
-use Rattle.abstract_num.specs.BitsRowLaws.{and_not}
+use Rattle.abstract_num.specs.proved.BitsRows.{and_not}
 use Rattle.abstract_num.proofs.bits.rows.without.Goals as goal
 
 pub returns : goal.returns

@@ -1,5 +1,5 @@
 use Rattle.std.proofs.Common.{rules}
-use Rattle.abstract_num.specs.SignedFactLaws.{above_crosses}
+use Rattle.abstract_num.specs.proved.SignedFacts.{above_crosses}
 use Rattle.abstract_num.proofs.srange.edges.above.Goals as goal
 
 pub returns-then-left-right : goal.returns-then-left-right

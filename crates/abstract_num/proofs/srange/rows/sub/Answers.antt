@@ -1,6 +1,6 @@
 use Rattle.std.proofs.Common.{rules, ◌∙◌, FitsSigned, ◌-ℤ◌, w64}
 use Rattle.std.proofs.lemmas.Int.{to_z-of_z}
-use Rattle.abstract_num.specs.SignedRowLaws.{ends_fit, low_end_too_far, high_end_too_far}
+use Rattle.abstract_num.specs.proved.SignedRows.{ends_fit, low_end_too_far, high_end_too_far}
 use Rattle.abstract_num.proofs.SignedEnds.{difference_ordered}
 use Rattle.abstract_num.proofs.srange.rows.sub.Goals as goal
 

@@ -3,7 +3,7 @@ use Rattle.std.specs.Prelude.{true, slice_index}
 use Rattle.bpf_decode.specs.Arithmetic.{is_taken}
 use Rattle.bpf_machine.specs.Jump.{branch_to}
 use Rattle.bpf_machine.specs.Typed.{extended}
-use Rattle.interp.specs.Run.{with_registers}
+use Rattle.interp.specs.inner.Run.{with_registers}
 use Rattle.interp.proofs.Steps.{branches}
 use Rattle.interp.proofs.registers.Registers.branch.Goals as goal
 

@@ -8,7 +8,7 @@ use Rattle.shared_map.proofs.tree.Tree.set_at.Goals as goal
 
 pub returns : goal.returns
 returns g c =
-    let es = c.args.self.now in
+    let es = c.args.self.now.entries in
     IfOk-weaker c.set.result _ _
     (λ t is. is
     ∙ ap (λ (x : Entry g.row.V.Denot). put (slice_cmp nat_cmp) x.key.items x.value es) c.in_ok-new.ensures.ok

@@ -24,7 +24,10 @@ returns-in-Some-2 c =
     let lt : slot < length code = omega arith in
     let at : slice_get code slot ≡ Some (Some c.in-Some.insn) = slice_get_read code (length code) slot _ refl lt c.index-code-slot.is ∙ ap Some c.in-Some.is in
     let rule = sym c.in_ok-rule.ensures.rule ∙ c.in-Some-2.is in
+    let its = its_frame caps code slot pass lt c.loop-slot.invariant.brought in
+    let stopped = c.in_ok-rule.ensures.stopped in
     record {
+      stopped = (rw c.in-Some-2.is at stopped) ∙ its;
       verdict = sym (refused_at caps code slot c.in-Some.insn pass (Some c.in-Some-2.rule) lt at c.loop-slot.invariant.brought rule) ∙ c.loop-slot.invariant.rest;
       sound = λ none. absurd (none-some _ (sym none));
     }

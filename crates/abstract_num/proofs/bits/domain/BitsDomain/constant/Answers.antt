@@ -1,5 +1,5 @@
 use Rattle.std.proofs.Common.{sym, ◌∙◌, arith}
-use Rattle.abstract_num.specs.BitsRowLaws.{clear_zero}
+use Rattle.abstract_num.specs.proved.BitsRows.{clear_zero}
 use Rattle.abstract_num.proofs.bits.domain.BitsDomain.constant.Goals as goal
 
 pub returns : goal.returns

@@ -1,4 +1,4 @@
-use Rattle.abstract_num.specs.BitsLaws.{bits_same}
+use Rattle.abstract_num.specs.proved.KnownBits.{bits_same}
 use Rattle.abstract_num.proofs.bits.domain.BitsDomain.join.Goals as goal
 
 pub returns : goal.returns

@@ -1,0 +1,13 @@
+-- Proofs that the contracts of generic code cite.
+pub mod Cases
+pub mod Shifts
+pub mod PartsFit
+pub mod RowsFit
+pub mod Ranges
+pub mod KnownBits
+pub mod UnsignedRows
+pub mod SignedRows
+pub mod BitsRows
+pub mod UnsignedFacts
+pub mod SignedFacts
+pub mod BitsFacts

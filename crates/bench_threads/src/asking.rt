@@ -1,0 +1,142 @@
+use anyhow::{Error, Result};
+use bench_table::{Figure, Mode, picos_each};
+use object_store::ObjectName;
+use osd::{ClusterName, Config, Opened, Running, Scenario};
+use pg_log::{Request, RequestNumber};
+use rados_client::Cluster;
+use std::alloc::Global;
+use std::sync::Wait;
+use std::thread::Threads;
+use std::time::{Clock, Instant};
+
+/// The requests of a run, which a queue has room for.
+const ASKS: usize = 900;
+
+/// The looks of a run.
+const LOOKS: usize = 100_000;
+
+/// What a client does.
+#[derive(Clone, Copy, PartialEq, Eq)]
+pub enum Step {
+    /// It submits a request.
+    Ask,
+    /// It looks into its mailbox, which is empty.
+    Look,
+}
+
+/// A client of a cluster that no worker serves.
+#[derive(Drop)]
+struct Asking<'a, C> {
+    clock: &'a C,
+    alloc: Global,
+    step: Step,
+}
+
+/// What a client's steps took.
+#[derive(Clone, Copy)]
+struct Taken {
+    count: usize,
+    nanos: u128,
+}
+
+impl<C: Clock> Scenario for Asking<'_, C> {
+    type Output = Option<Taken>;
+
+    ghost gives = { λ _ _ _. Unit {0} };
+
+    fn play<N: ClusterName + Send + Sync, R: Threads + Wait + Sync>(
+        &self,
+        running: &Running<N, R>,
+    ) -> Option<Taken> {
+        let mut opened = running.open()?;
+        let request = request(self.alloc, &opened)?;
+        let start = Instant::now(self.clock).ok()?;
+        let count = match self.step {
+            Step::Ask => ask_often(running, &mut opened, &request),
+            Step::Look => look_often(running, &opened),
+        };
+        let nanos = start.elapsed(self.clock).ok()?.as_nanos();
+        Some(Taken { count, nanos })
+    }
+}
+
+/// The steps of a client.
+pub fn steps<R: Threads + Wait + Clock + Sync>(
+    rt: &R,
+    alloc: Global,
+    mode: Mode,
+    step: Step,
+) -> Result<Figure> {
+    let mut figure = Figure::new(mode);
+    for _ in 0..mode.runs() {
+        let taken = run(rt, alloc, step)?;
+        figure.count = taken.count;
+        figure.picos = figure
+            .picos
+            .min(picos_each(taken.nanos, taken.count.max(1)));
+    }
+    Ok(figure)
+}
+
+/// A run on a new cluster.
+fn run<R: Threads + Wait + Clock + Sync>(rt: &R, alloc: Global, step: Step) -> Result<Taken> {
+    let config = Config {
+        nodes: 3,
+        replicas: 3,
+        groups: 64,
+        shards: 4,
+        workers: 1,
+        tries: 1,
+    };
+    let Ok(mut cluster) = Cluster::new(alloc, config) else {
+        return Err(Error::msg("a cluster"));
+    };
+    let asking = Asking {
+        clock: rt,
+        alloc,
+        step,
+    };
+    match cluster.run(rt, &asking) {
+        Ok(Some(taken)) => Ok(taken),
+        Ok(None) => Err(Error::msg("a run")),
+        Err(_) => Err(Error::msg("a start")),
+    }
+}
+
+/// A request of a session's.
+fn request<N: ClusterName>(alloc: Global, opened: &Opened<N>) -> Option<Request> {
+    Some(Request::new(
+        opened.client,
+        RequestNumber::new(1)?,
+        ObjectName::new(alloc, "object").ok()?,
+        0,
+        String::from_str(alloc, "lock").ok()?,
+        Vec::new(alloc),
+    ))
+}
+
+/// How many requests are taken.
+fn ask_often<N: ClusterName, R: Wait>(
+    running: &Running<N, R>,
+    opened: &mut Opened<N>,
+    request: &Request,
+) -> usize {
+    let mut taken: usize = 0;
+    for _ in 0..ASKS {
+        if running.ask(&mut opened.sends, request).is_ok() {
+            taken = taken.wrapping_add(1);
+        }
+    }
+    taken
+}
+
+/// How many looks find nothing.
+fn look_often<N: ClusterName, R: Wait>(running: &Running<N, R>, opened: &Opened<N>) -> usize {
+    let mut empty: usize = 0;
+    for _ in 0..LOOKS {
+        if running.mail(opened.client).is_none() {
+            empty = empty.wrapping_add(1);
+        }
+    }
+    empty
+}

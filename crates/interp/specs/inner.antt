@@ -1,0 +1,3 @@
+-- What the code keeps, in private contracts.
+pub mod Run
+pub mod Asked
