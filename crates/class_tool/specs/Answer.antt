@@ -1,5 +1,5 @@
 -- What answers an action, and what is printed of it.
-use Rattle.std.specs.Prelude.{◌≡◌, ℕ, List, [], ◌++◌, Option, codes, length, string_bytes}
+use Rattle.std.specs.Prelude.{◌≡◌, ℕ, List, [], ◌++◌, codes, length, string_bytes}
 use Rattle.std.specs.List.{flat_map}
 use Rattle.std.specs.Fmt.{decimal}
 use Rattle.bpf_decode.specs.Class.{ClassMethod}
@@ -9,7 +9,7 @@ use Rattle.class_tool.specs.declared.answer.Answer.{Answer}
 use Rattle.class_tool.specs.declared.answer.Answer.TheVariants.{Accepted, Ran, Assembled, Disassembled}
 use Rattle.class_tool.specs.declared.failure.Failure.{Failure}
 use Rattle.class_tool.specs.Assembly.{AssembleFails, Assembles, IsTextOf}
-use Rattle.class_tool.specs.Files.{Disk}
+use Rattle.class_tool.specs.Files.{Storage}
 use Rattle.class_tool.specs.Image.{IsSafeIn, LoadFails, ReadFails}
 use Rattle.class_tool.specs.Packing.{PackFails, Packs}
 use Rattle.class_tool.specs.Reply.{Reports, reply_text}
@@ -28,18 +28,18 @@ answer_text (Disassembled text) = string_bytes text
 
 -- The answer is one to that action, true of the files as they were; none was written but the one that is named for the
 -- image of a text or of raw code.
-abbrev pub Settles : Option Disk → Option Disk → Action → Answer → Type 0
-Settles before after (Verify image) (Accepted class) = (after ≡ before) × IsSafeIn before image.now class
-Settles before after (Run call) (Ran reply) = (after ≡ before) × Reports before call reply
+abbrev pub Settles : Storage → Storage → Action → Answer → Type 0
+Settles before after (Verify image) (Accepted class) = (after ≡ before) × IsSafeIn before.disk image.now class
+Settles before after (Run call) (Ran reply) = (after ≡ before) × Reports before.disk call reply
 Settles before after (Assemble text image) Assembled = Assembles before after text.now image.now
 Settles before after (Pack asked) Assembled = Packs before after asked
-Settles before after (Disassemble image) (Disassembled text) = (after ≡ before) × IsTextOf before image.now (string_bytes text)
+Settles before after (Disassemble image has_slots) (Disassembled text) = (after ≡ before) × IsTextOf has_slots before.disk image.now (string_bytes text)
 Settles before after action answer = ⊥
 
 -- Why there is no answer to an action.
-abbrev pub Fails : Option Disk → Option Disk → Action → Failure → Type 0
-Fails before after (Verify image) failure = (after ≡ before) × LoadFails before image.now failure
-Fails before after (Run call) failure = (after ≡ before) × RunFails before call failure
+abbrev pub Fails : Storage → Storage → Action → Failure → Type 0
+Fails before after (Verify image) failure = (after ≡ before) × LoadFails before.disk image.now failure
+Fails before after (Run call) failure = (after ≡ before) × RunFails before.disk call failure
 Fails before after (Assemble text image) failure = AssembleFails before after text.now image.now failure
 Fails before after (Pack asked) failure = PackFails before after asked failure
-Fails before after (Disassemble image) failure = (after ≡ before) × ReadFails before image.now failure
+Fails before after (Disassemble image has_slots) failure = (after ≡ before) × ReadFails before.disk image.now failure

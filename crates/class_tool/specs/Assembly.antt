@@ -1,14 +1,14 @@
 -- What `asm` writes and `dis` gives, and why they do not.
-use Rattle.std.specs.Prelude.{◌≡◌, ◌⊎◌, ⊤, ℕ, List, Option, Err, IsUtf8}
-use Rattle.bpf_asm.specs.Canonical.{class_text}
+use Rattle.std.specs.Prelude.{◌≡◌, ◌⊎◌, ⊤, ℕ, Bool, true, false, List, Option, Err, IsUtf8}
+use Rattle.bpf_asm.specs.Canonical.{class_text, class_with_slots}
 use Rattle.bpf_asm.specs.Classes.{AsmError, read_class_text}
 use Rattle.bpf_asm.specs.Fault.{no_memory}
 use Rattle.bpf_asm.specs.Grammar.{IsClassText}
 use Rattle.bpf_decode.specs.Class.{Class, IsImage}
-use Rattle.class_tool.specs.Files.{Disk, Holds, IsUnreadable, IsWritten, OthersStay}
+use Rattle.class_tool.specs.Files.{Disk, FailsToWrite, Holds, IsUnreadable, Storage, Writes}
 use Rattle.class_tool.specs.Image.{IsImageIn}
 use Rattle.class_tool.specs.declared.failure.Failure.{Failure}
-use Rattle.class_tool.specs.declared.failure.Failure.TheVariants.{CannotRead, CannotWrite, NoMemory, Text, Image, Verdict, InputNotHex, Call}
+use Rattle.class_tool.specs.declared.failure.Failure.TheVariants.{CannotRead, CannotWrite, NoMemory, Text, Image, Verdict, InputNotHex, ObjectNotHex, Object, Call}
 
 -- the bytes are the image of the class that the text is
 pub record Spells (text : List ℕ) (bytes : List ℕ) : Type 0 where
@@ -23,11 +23,10 @@ pub record IsSourceIn (disk : Option Disk) (name : List ℕ) (bytes : List ℕ) 
   pub spells : Spells text bytes
 
 -- The one file holds a class's text. Then the other holds the image of that class, and every other file is as it was.
-pub record Assembles (before after : Option Disk) (text image : List ℕ) : Type 0 where
+pub record Assembles (before after : Storage) (text image : List ℕ) : Type 0 where
   pub bytes : List ℕ
-  pub source : IsSourceIn before text bytes
-  pub written : IsWritten after image bytes
-  pub others : OthersStay before after image
+  pub source : IsSourceIn before.disk text bytes
+  pub writes : Writes before after image bytes
 
 -- the file's bytes are no text
 pub record IsNoTextIn (disk : Option Disk) (name : List ℕ) : Type 0 where
@@ -44,6 +43,8 @@ TextFails disk name (Text error) = ⊥
 TextFails disk name (Image error) = ⊥
 TextFails disk name (Verdict refusal) = ⊥
 TextFails disk name InputNotHex = ⊥
+TextFails disk name ObjectNotHex = ⊥
+TextFails disk name (Object error) = ⊥
 TextFails disk name (Call error) = ⊥
 
 -- the text is one of no class, and this is the first line that is refused and the least fault there
@@ -60,6 +61,8 @@ ImageFails text (Text error) = (error ≡ no_memory) ⊎ IsFaultOf text error
 ImageFails text (Image error) = ⊥
 ImageFails text (Verdict refusal) = ⊥
 ImageFails text InputNotHex = ⊥
+ImageFails text ObjectNotHex = ⊥
+ImageFails text (Object error) = ⊥
 ImageFails text (Call error) = ⊥
 
 -- the file holds a text, which has no image
@@ -68,20 +71,25 @@ pub record SourceFails (disk : Option Disk) (name : List ℕ) (failure : Failure
   pub held : Holds disk name text
   pub why : ImageFails text failure
 
--- the text was right, and the other file could not be written
-pub record WriteFails (before after : Option Disk) (text image : List ℕ) (failure : Failure) : Type 0 where
-  pub failed : failure ≡ CannotWrite
+-- the text was right, and a write of the other file failed
+pub record WriteFails (before after : Storage) (text image : List ℕ) (failure : Failure) : Type 0 where
+  pub said : failure ≡ CannotWrite
   pub bytes : List ℕ
-  pub source : IsSourceIn before text bytes
-  pub others : OthersStay before after image
+  pub source : IsSourceIn before.disk text bytes
+  pub fails : FailsToWrite before after image
 
 -- Why no image was written, in the order in which it is tried. Before the write every file is as it was.
-abbrev pub AssembleFails : Option Disk → Option Disk → List ℕ → List ℕ → Failure → Type 0
+abbrev pub AssembleFails : Storage → Storage → List ℕ → List ℕ → Failure → Type 0
 AssembleFails before after text image failure =
-    ((after ≡ before) × (TextFails before text failure ⊎ SourceFails before text failure)) ⊎ WriteFails before after text image failure
+    ((after ≡ before) × (TextFails before.disk text failure ⊎ SourceFails before.disk text failure)) ⊎ WriteFails before after text image failure
 
--- the text is the canonical one of the class whose image the file holds
-pub record IsTextOf (disk : Option Disk) (name : List ℕ) (text : List ℕ) : Type 0 where
+-- a class's canonical text, with each instruction's slot or without
+abbrev pub text_of : Bool → Class → List ℕ
+text_of false class = class_text class
+text_of true class = class_with_slots class
+
+-- the text is that of the class whose image the file holds
+pub record IsTextOf (has_slots : Bool) (disk : Option Disk) (name : List ℕ) (text : List ℕ) : Type 0 where
   pub class : Class
   pub image : IsImageIn disk name class
-  pub canonical : text ≡ class_text class
+  pub canonical : text ≡ text_of has_slots class

@@ -1,9 +1,21 @@
 -- What files hold.
-use Rattle.std.specs.Prelude.{◌≡◌, ◌≢◌, ⊤, ℕ, List, Option, Some, None, take}
+use Rattle.std.specs.Prelude.{◌≡◌, ◌≢◌, ⊤, ℕ, Bool, true, false, List, Option, Some, None, take}
 
 -- the bytes of each file that can be read, by its name
 abbrev pub Disk : Type 0
 Disk = List ℕ → Option (List ℕ)
+
+-- What files hold, where that is known, and whether a write of one failed.
+pub record Storage : Type 0 where
+  pub disk : Option Disk
+  pub failed : Bool
+
+abbrev pub storage : {F : Type 0} → (F → Option Disk) → (F → Bool) → F → Storage
+storage disk failed files = record { disk = disk files; failed = failed files }
+
+-- the files of the system as a process begins
+abbrev pub unwritten : Storage
+unwritten = record { disk = None; failed = false }
 
 -- the file of that name holds those bytes, where that is known
 abbrev pub Holds : Option Disk → List ℕ → List ℕ → Type 0
@@ -30,3 +42,14 @@ abbrev pub OthersStay : Option Disk → Option Disk → List ℕ → Type 0
 OthersStay None after name = ⊤
 OthersStay (Some before) None name = ⊥
 OthersStay (Some before) (Some after) name = (other : List ℕ) → other ≢ name → after other ≡ before other
+
+-- A file was written: it holds those bytes, every other is as it was, and no write failed.
+pub record Writes (before after : Storage) (name bytes : List ℕ) : Type 0 where
+  pub written : IsWritten after.disk name bytes
+  pub others : OthersStay before.disk after.disk name
+  pub well : after.failed ≡ before.failed
+
+-- A write of a file failed; every other is as it was.
+pub record FailsToWrite (before after : Storage) (name : List ℕ) : Type 0 where
+  pub failed : after.failed ≡ true
+  pub others : OthersStay before.disk after.disk name

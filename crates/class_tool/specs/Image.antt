@@ -1,5 +1,5 @@
 -- What a file says as an image, and why it says nothing.
-use Rattle.std.specs.Prelude.{◌≡◌, ◌⊎◌, ⊤, ℕ, List, Option, Some, Err}
+use Rattle.std.specs.Prelude.{◌≡◌, ◌⊎◌, ⊤, ℕ, List, Option, Some, None, Err}
 use Rattle.std.specs.List.{AllByRecursion}
 use Rattle.bpf_decode.specs.Class.{ClassMethod, Class, IsImage}
 use Rattle.bpf_decode.specs.ImageReading.{image_of}
@@ -10,7 +10,7 @@ use Rattle.verifier.specs.Verdict.{class_verdict, out_of_memory}
 use Rattle.verifier.specs.declared.refusal.Refusal.{Refusal}
 use Rattle.class_tool.specs.Files.{Disk, Holds}
 use Rattle.class_tool.specs.declared.failure.Failure.{Failure}
-use Rattle.class_tool.specs.declared.failure.Failure.TheVariants.{CannotRead, CannotWrite, NoMemory, Text, Image, Verdict, InputNotHex, Call}
+use Rattle.class_tool.specs.declared.failure.Failure.TheVariants.{CannotRead, CannotWrite, NoMemory, Text, Image, Verdict, InputNotHex, ObjectNotHex, Object, Call}
 use Rattle.class_tool.specs.Files.{IsUnreadable}
 
 -- the file holds the image of the class
@@ -19,11 +19,12 @@ pub record IsImageIn (disk : Option Disk) (name : List ℕ) (class : Class) : Ty
   pub held : Holds disk name bytes
   pub image : IsImage bytes class
 
--- the methods are those of a class whose image the file holds, and each is safe
+-- the methods are those of a class whose image the file holds, no rule refuses it, and each method is safe
 pub record IsSafeIn (disk : Option Disk) (name : List ℕ) (class : List ClassMethod) : Type 0 where
   pub written : Class
   pub image : IsImageIn disk name written
   pub methods : class ≡ written.methods
+  pub accepted : class_verdict written ≡ None
   pub safe : AllByRecursion IsSafe class
 
 -- the file's bytes are refused so, the first refusal in reading order
@@ -47,6 +48,8 @@ ReadFails disk name (Text error) = ⊥
 ReadFails disk name (Image error) = (error.error ≡ decode.NoMemory) ⊎ IsRefusedIn disk name error
 ReadFails disk name (Verdict refusal) = ⊥
 ReadFails disk name InputNotHex = ⊥
+ReadFails disk name ObjectNotHex = ⊥
+ReadFails disk name (Object error) = ⊥
 ReadFails disk name (Call error) = ⊥
 
 -- the class that was read is not safe
@@ -58,6 +61,8 @@ VerdictFails disk name (Text error) = ⊥
 VerdictFails disk name (Image error) = ⊥
 VerdictFails disk name (Verdict refusal) = IsVerdictIn disk name refusal
 VerdictFails disk name InputNotHex = ⊥
+VerdictFails disk name ObjectNotHex = ⊥
+VerdictFails disk name (Object error) = ⊥
 VerdictFails disk name (Call error) = ⊥
 
 -- Why no safe class was read: none was read, or that which was read is not safe.

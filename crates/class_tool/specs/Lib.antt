@@ -1,10 +1,15 @@
 pub mod Answer
 pub mod Assembly
+pub mod Explained
 pub mod Failure
 pub mod Files
+pub mod Given
 pub mod Image
 pub mod Log
+pub mod Note
 pub mod Output
 pub mod Packing
 pub mod Reply
 pub mod Run
+pub mod Shown
+pub mod System

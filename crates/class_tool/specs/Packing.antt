@@ -8,11 +8,11 @@ use Rattle.bpf_decode.specs.Reading.{code_of}
 use Rattle.bpf_decode.specs.declared.decode_error.DecodeError.{DecodeError}
 use Rattle.bpf_decode.specs.declared.decode_error.DecodeError.TheVariants as decode
 use Rattle.bpf_decode.specs.declared.insn.Insn.{Insn}
-use Rattle.class_tool.specs.Files.{Disk, Holds, IsUnreadable, IsWritten, OthersStay}
+use Rattle.class_tool.specs.Files.{Disk, FailsToWrite, Holds, IsUnreadable, Storage, Writes}
 use Rattle.class_tool.specs.declared.action.Packing.{Packing}
 use Rattle.class_tool.specs.declared.action.RawMethod.{RawMethod}
 use Rattle.class_tool.specs.declared.failure.Failure.{Failure}
-use Rattle.class_tool.specs.declared.failure.Failure.TheVariants.{CannotRead, CannotWrite, NoMemory, Text, Image, Verdict, InputNotHex, Call}
+use Rattle.class_tool.specs.declared.failure.Failure.TheVariants.{CannotRead, CannotWrite, NoMemory, Text, Image, Verdict, InputNotHex, ObjectNotHex, Object, Call}
 
 -- the file holds the raw code of those instructions
 pub record IsCodeIn (disk : Option Disk) (name : List ℕ) (instructions : List Insn) : Type 0 where
@@ -42,11 +42,10 @@ pub record IsPackedOf (disk : Option Disk) (raws : List RawMethod) (bytes : List
   pub image : IsImage bytes (record { rules = One; methods = class })
 
 -- The image is written, and every other file is as it was.
-pub record Packs (before after : Option Disk) (asked : Packing) : Type 0 where
+pub record Packs (before after : Storage) (asked : Packing) : Type 0 where
   pub bytes : List ℕ
-  pub packed : IsPackedOf before asked.methods.items bytes
-  pub written : IsWritten after asked.image.now bytes
-  pub others : OthersStay before after asked.image.now
+  pub packed : IsPackedOf before.disk asked.methods.items bytes
+  pub writes : Writes before after asked.image.now bytes
 
 -- the file's bytes are refused as code, by the first refusal in reading order
 pub record IsCodeRefusedIn (disk : Option Disk) (name : List ℕ) (error : DecodeError) : Type 0 where
@@ -63,6 +62,8 @@ CodeFails disk name done (Text error) = ⊥
 CodeFails disk name done (Image error) = (error.methods ≡ done) × ((error.error ≡ decode.NoMemory) ⊎ IsCodeRefusedIn disk name error.error)
 CodeFails disk name done (Verdict refusal) = ⊥
 CodeFails disk name done InputNotHex = ⊥
+CodeFails disk name done ObjectNotHex = ⊥
+CodeFails disk name done (Object error) = ⊥
 CodeFails disk name done (Call error) = ⊥
 
 -- the first methods were read, and the next one's code was not
@@ -84,6 +85,8 @@ ClassFails methods (Text error) = ⊥
 ClassFails methods (Image error) = class_of One methods ≡ Err error
 ClassFails methods (Verdict refusal) = ⊥
 ClassFails methods InputNotHex = ⊥
+ClassFails methods ObjectNotHex = ⊥
+ClassFails methods (Object error) = ⊥
 ClassFails methods (Call error) = ⊥
 
 -- all methods were read, and have no image
@@ -92,14 +95,14 @@ pub record PackedFails (disk : Option Disk) (raws : List RawMethod) (failure : F
   pub read : AreMethodsIn disk raws methods
   pub why : ClassFails methods failure
 
--- the class was right, and the image could not be written
-pub record PackWriteFails (before after : Option Disk) (asked : Packing) (failure : Failure) : Type 0 where
-  pub failed : failure ≡ CannotWrite
+-- the class was right, and a write of the image failed
+pub record PackWriteFails (before after : Storage) (asked : Packing) (failure : Failure) : Type 0 where
+  pub said : failure ≡ CannotWrite
   pub bytes : List ℕ
-  pub packed : IsPackedOf before asked.methods.items bytes
-  pub others : OthersStay before after asked.image.now
+  pub packed : IsPackedOf before.disk asked.methods.items bytes
+  pub fails : FailsToWrite before after asked.image.now
 
 -- Why no image was written, in the order in which it is tried. Before the write every file is as it was.
-abbrev pub PackFails : Option Disk → Option Disk → Packing → Failure → Type 0
+abbrev pub PackFails : Storage → Storage → Packing → Failure → Type 0
 PackFails before after asked failure =
-    ((after ≡ before) × (MethodsFail before asked.methods.items failure ⊎ PackedFails before asked.methods.items failure)) ⊎ PackWriteFails before after asked failure
+    ((after ≡ before) × (MethodsFail before.disk asked.methods.items failure ⊎ PackedFails before.disk asked.methods.items failure)) ⊎ PackWriteFails before after asked failure

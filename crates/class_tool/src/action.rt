@@ -1,7 +1,16 @@
 use pg_log::ClientId;
 
-/// A call of a method of an image's class, beside an absent object.
+/// A name and a value that an object has, as words spell them.
 #[derive(Clone, Copy)]
+pub struct Entry<'a> {
+    /// The name: behind `0x` in hexadecimal, else as it stands.
+    pub name: &'a str,
+    /// The value, in hexadecimal.
+    pub value: &'a str,
+}
+
+/// A call of a method of an image's class, beside the object that is spelled, or none.
+#[derive(Drop)]
 pub struct Call<'a> {
     /// The file of the image.
     pub image: &'a str,
@@ -11,6 +20,14 @@ pub struct Call<'a> {
     pub input: &'a str,
     /// Who calls.
     pub caller: ClientId,
+    /// The object's data before the call, in hexadecimal. Without data, xattrs and keys there is no object.
+    pub data: Option<&'a str>,
+    /// Its xattrs, set in this order.
+    pub xattrs: Vec<Entry<'a>>,
+    /// The keys of its omap, set in this order.
+    pub keys: Vec<Entry<'a>>,
+    /// Whether the reply shows what the object holds after the call.
+    pub is_shown: bool,
 }
 
 /// A method of a class that is packed.
@@ -48,6 +65,6 @@ pub enum Action<'a> {
     Assemble { text: &'a str, image: &'a str },
     /// The image of a class of raw code.
     Pack(Packing<'a>),
-    /// The canonical text of the class in a file.
-    Disassemble { image: &'a str },
+    /// The canonical text of the class in a file, with each instruction's slot or without.
+    Disassemble { image: &'a str, has_slots: bool },
 }

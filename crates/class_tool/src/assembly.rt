@@ -1,11 +1,12 @@
-ghost use Rattle.std.specs.Prelude.{◌⊎◌, IfErr, IfOk, string_bytes};
-ghost use Rattle.class_tool.specs.Assembly.{Assembles, AssembleFails, IsSourceIn, IsTextOf, SourceFails, Spells, TextFails, ImageFails};
-ghost use Rattle.class_tool.specs.Files.{Holds};
+ghost use Rattle.std.specs.Prelude.{◌≡◌, ◌⊎◌, IfErr, IfOk, string_bytes};
+ghost use Rattle.class_tool.specs.Assembly.{Assembles, AssembleFails, IsSourceIn, IsTextOf, SourceFails, Spells, TextFails, ImageFails, text_of};
+ghost use Rattle.class_tool.specs.Files.{Holds, storage};
 ghost use Rattle.class_tool.specs.Image.{ReadFails};
 
 use crate::failure::Failure;
 use crate::files::{Files, Reads};
 use crate::image::read_class;
+use bpf_decode::ClassImage;
 use std::alloc::Global;
 
 /// What a file holds, where that is UTF-8.
@@ -55,8 +56,8 @@ pub fn assemble<F: Files>(
     text: &str,
     image: &str,
 ) -> Result<(), Failure>
-    ensures ok { IfOk result (λ _. Assembles (F.disk files.old) (F.disk files.new) text.now image.now) }
-    ensures err { IfErr result (AssembleFails (F.disk files.old) (F.disk files.new) text.now image.now) }
+    ensures ok { IfOk result (λ _. Assembles (storage F.disk F.failed files.old) (storage F.disk F.failed files.new) text.now image.now) }
+    ensures err { IfErr result (AssembleFails (storage F.disk F.failed files.old) (storage F.disk F.failed files.new) text.now image.now) }
 {
     let bytes = image_in(alloc, files, text)?;
     match files.write(image, &bytes) {
@@ -65,14 +66,32 @@ pub fn assemble<F: Files>(
     }
 }
 
-/// The canonical text of the class whose image a file holds.
-pub fn disassemble<F: Reads>(alloc: Global, files: &F, image: &str) -> Result<String, Failure>
-    ensures ok { IfOk result (λ text. IsTextOf (F.disk files.now) image.now (string_bytes text)) }
-    ensures err { IfErr result (ReadFails (F.disk files.now) image.now) }
+/// The canonical text of a class, with each instruction's slot or without.
+fn text_of(alloc: Global, class: &ClassImage, has_slots: bool) -> Result<String, Failure>
+    ensures text { IfOk result (λ text. string_bytes text ≡ text_of has_slots class.now) }
+    ensures fails { IfErr result (λ e. e ≡ Failure.NoMemory) }
 {
-    let class = read_class(alloc, files, image)?;
-    match bpf_asm::disassemble_class(alloc, &class) {
+    let text = if has_slots {
+        bpf_asm::disassemble_with_slots(alloc, class)
+    } else {
+        bpf_asm::disassemble_class(alloc, class)
+    };
+    match text {
         Ok(text) => Ok(text),
         Err(_) => Err(Failure::NoMemory),
     }
+}
+
+/// The canonical text of the class whose image a file holds, with each instruction's slot or without.
+pub fn disassemble<F: Reads>(
+    alloc: Global,
+    files: &F,
+    image: &str,
+    has_slots: bool,
+) -> Result<String, Failure>
+    ensures ok { IfOk result (λ text. IsTextOf has_slots (F.disk files.now) image.now (string_bytes text)) }
+    ensures err { IfErr result (ReadFails (F.disk files.now) image.now) }
+{
+    let class = read_class(alloc, files, image)?;
+    text_of(alloc, &class, has_slots)
 }

@@ -5,6 +5,7 @@ ghost use Rattle.class_tool.specs.declared.failure.Failure.TheVariants.{NoMemory
 use bpf_asm::AsmError;
 use bpf_decode::ImageError;
 use interp::CallError;
+use object_store::StoreError;
 use std::alloc::{AllocError, AllocFailed};
 use std::error::Error;
 use std::fmt;
@@ -28,6 +29,10 @@ pub enum Failure {
     Verdict(Refusal),
     /// The input is not pairs of hexadecimal digits.
     InputNotHex,
+    /// A part of the object is not pairs of hexadecimal digits.
+    ObjectNotHex,
+    /// There is no such object.
+    Object(StoreError),
     /// The call was not made, or not logged.
     Call(CallError),
 }
@@ -60,6 +65,8 @@ impl fmt::Display for Failure {
             Failure::Image(error) => error.fmt(f),
             Failure::Verdict(refusal) => refusal.fmt(f),
             Failure::InputNotHex => f.write_str("input is not hex"),
+            Failure::ObjectNotHex => f.write_str("object is not hex"),
+            Failure::Object(error) => write!(f, "object refused: {error}"),
             Failure::Call(error) => write!(f, "call refused: {error}"),
         }
     }

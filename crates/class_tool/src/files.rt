@@ -1,8 +1,9 @@
-ghost use Rattle.std.specs.Prelude.{◌≢◌, Option, None, IfOk, IfErr};
+ghost use Rattle.std.specs.Prelude.{◌≡◌, ◌≢◌, Option, None, Bool, true, IfOk, IfErr, IsOk, IsErr};
 ghost use Rattle.std.specs.IoError.{error_kind};
 ghost use Rattle.class_tool.specs.Files.{Disk, Holds, IsBeginning, IsUnreadable, IsWritten, OthersStay};
 
 use std::alloc::Global;
+use std::cell::Cell;
 use std::fs::{self, File};
 use std::io::{self, ErrorKind, Input, Read};
 
@@ -24,22 +25,45 @@ pub trait Reads {
 
 /// The files that can be read and written.
 pub trait Files: Reads {
-    /// Makes those bytes the whole of the file of that name. Every other file stays as it was, also where it fails.
+    // Whether a write failed.
+    ghost failed: { Self → Bool };
+
+    /// Makes those bytes the whole of the file of that name. Every other file stays as it was, also where it fails, which
+    /// `failed` tells from then on.
     fn write(&mut self, name: &str, bytes: &[u8]) -> io::Result<()>
         ensures written { IfOk result (λ _. IsWritten (Self.disk self.new) name.now bytes.now) }
-        ensures others { OthersStay (Self.disk self.old) (Self.disk self.new) name.now };
+        ensures others { OthersStay (Self.disk self.old) (Self.disk self.new) name.now }
+        ensures took { IsOk result → failed self.new ≡ failed self.old }
+        ensures lost { IsErr result → failed self.new ≡ true };
+
+    /// The name of the file that was last not read or written, and the system's reason, as a line; none where that isn't
+    /// known. Nothing is claimed of it.
+    fn fault(&self, _alloc: Global) -> Option<String> {
+        None
+    }
 }
 
 /// The files of the system, and standard input under the name `-`, where it is read. Nothing is claimed of what they hold.
 #[derive(Drop)]
 pub struct SystemFiles<'a, R> {
     rt: &'a R,
+    failed: bool,
+    fault: Cell<Option<String>>,
 }
 
 impl<'a, R> SystemFiles<'a, R> {
-    /// The files that this runtime reaches.
-    pub fn new(rt: &'a R) -> SystemFiles<'a, R> {
-        SystemFiles { rt }
+    ghost use Rattle.std.specs.Prelude.{◌≡◌, false};
+    ghost use Rattle.class_tool.specs.System.{has_failed};
+
+    /// The files that this runtime reaches, of which no write failed.
+    pub fn new(rt: &'a R) -> SystemFiles<'a, R>
+        ensures { has_failed result ≡ false }
+    {
+        SystemFiles {
+            rt,
+            failed: false,
+            fault: Cell::new(None),
+        }
     }
 }
 
@@ -50,15 +74,28 @@ fn read_all<S: Read + Drop>(alloc: Global, mut source: S) -> io::Result<Vec<u8>>
     Ok(bytes)
 }
 
-impl<R: std::rt::Files + AllocGlobal + Input> Reads for SystemFiles<'_, R> {
-    fn read(&self, alloc: Global, name: &str) -> io::Result<Vec<u8>> {
+impl<R: std::rt::Files + AllocGlobal + Input> SystemFiles<'_, R> {
+    /// Keeps the reason of a failed read or write of a file.
+    fn kept<T>(&self, name: &str, done: io::Result<T>) -> io::Result<T>
+        ensures { result ≡ done }
+    {
+        if let Err(error) = &done {
+            self.fault
+                .set(format!(in self.rt.alloc(); "  {name}: {error}\n").ok());
+        }
+        done
+    }
+
+    /// Standard input, or a file.
+    fn read_whole(&self, alloc: Global, name: &str) -> io::Result<Vec<u8>> {
         if name == "-" {
             return read_all(alloc, self.rt.reader());
         }
         fs::read(self.rt, name)
     }
 
-    fn read_first(&self, alloc: Global, name: &str, most: usize) -> io::Result<Vec<u8>> {
+    /// The first bytes of either.
+    fn read_beginning(&self, alloc: Global, name: &str, most: usize) -> io::Result<Vec<u8>> {
         if name == "-" {
             return read_all(alloc, self.rt.reader().take(most as u64));
         }
@@ -66,8 +103,30 @@ impl<R: std::rt::Files + AllocGlobal + Input> Reads for SystemFiles<'_, R> {
     }
 }
 
+impl<R: std::rt::Files + AllocGlobal + Input> Reads for SystemFiles<'_, R> {
+    fn read(&self, alloc: Global, name: &str) -> io::Result<Vec<u8>> {
+        self.kept(name, self.read_whole(alloc, name))
+    }
+
+    fn read_first(&self, alloc: Global, name: &str, most: usize) -> io::Result<Vec<u8>> {
+        self.kept(name, self.read_beginning(alloc, name, most))
+    }
+}
+
 impl<R: std::rt::Files + AllocGlobal + Input> Files for SystemFiles<'_, R> {
+    ghost use Rattle.class_tool.specs.System.{has_failed};
+
+    ghost failed = { λ f. has_failed f };
+
     fn write(&mut self, name: &str, bytes: &[u8]) -> io::Result<()> {
-        fs::write(self.rt, name, bytes)
+        let written = self.kept(name, fs::write(self.rt, name, bytes));
+        if written.is_err() {
+            self.failed = true;
+        }
+        written
+    }
+
+    fn fault(&self, _alloc: Global) -> Option<String> {
+        self.fault.take()
     }
 }

@@ -7,20 +7,25 @@
 mod action;
 mod answer;
 mod assembly;
+mod explained;
 mod failure;
 mod files;
+mod given;
 mod image;
 mod input;
 mod log;
+mod note;
 mod output;
 mod packing;
 mod reply;
 mod run;
+mod shown;
 mod tool;
 
-pub use action::{Action, Call, Packing, RawMethod};
+pub use action::{Action, Call, Entry, Packing, RawMethod};
 pub use answer::Answer;
 pub use assembly::read_text;
+pub use explained::find_noted;
 pub use failure::Failure;
 pub use files::{Files, Reads, SystemFiles};
 pub use image::load;

@@ -1,6 +1,7 @@
 ghost use Rattle.std.specs.Prelude.{◌⊎◌, IfOk, IfErr};
 ghost use Rattle.bpf_decode.specs.declared.rule_set.RuleSet.TheVariants.{One};
 ghost use Rattle.bpf_decode.specs.Class.{IsImage};
+ghost use Rattle.class_tool.specs.Files.{storage};
 ghost use Rattle.class_tool.specs.Packing.{AreMethodsIn, ClassFails, CodeFails, IsCodeIn, IsMethodIn, IsPackedOf, MethodsFail, PackFails, PackedFails, Packs};
 
 use crate::action::{Packing, RawMethod};
@@ -91,8 +92,8 @@ fn packed<F: Reads>(alloc: Global, files: &F, raws: &[RawMethod<'_>]) -> Result<
 /// Writes the image of the class of those methods, whose raw code files hold. Nothing is written before all files are
 /// read and the class is known to be right; the image may take the place of one of them.
 pub fn pack<F: Files>(alloc: Global, files: &mut F, asked: &Packing<'_>) -> Result<(), Failure>
-    ensures ok { IfOk result (λ _. Packs (F.disk files.old) (F.disk files.new) asked.now) }
-    ensures err { IfErr result (PackFails (F.disk files.old) (F.disk files.new) asked.now) }
+    ensures ok { IfOk result (λ _. Packs (storage F.disk F.failed files.old) (storage F.disk F.failed files.new) asked.now) }
+    ensures err { IfErr result (PackFails (storage F.disk F.failed files.old) (storage F.disk F.failed files.new) asked.now) }
 {
     let bytes = packed(alloc, files, &asked.methods)?;
     match files.write(asked.image, &bytes) {

@@ -1,24 +1,28 @@
 ghost use Rattle.std.specs.Prelude.{◌≡◌, IfOk, Some, option_map, string_bytes};
 ghost use Rattle.std.specs.Fmt.{DisplaysOnOk};
-ghost use Rattle.class_tool.specs.Reply.{IsReplyOf, holdings_of, object_line, shown};
+ghost use Rattle.class_tool.specs.Reply.{IsReplyOf, holdings_of, object_line};
+ghost use Rattle.class_tool.specs.Shown.{or_dash};
 
 use crate::log::Logged;
+use crate::shown::shown_text;
 use interp::Outcome;
 use object_store::Object;
 use std::alloc::{AllocError, Global};
 use std::fmt;
 
-/// What a call of a method beside an absent object, and its entry in a log, came to. It prints as four lines.
+/// What a call of a method came to. It prints as four lines, and those of what is shown of the object.
 #[derive(Drop)]
 pub struct Reply {
-    /// The code of the log's entry.
+    /// The code that was answered.
     pub code: i64,
-    /// The output of the log's entry in hexadecimal, two lower case digits a byte.
+    /// The output that was answered in hexadecimal, two lower case digits a byte.
     pub output: String,
     /// The instructions that the call executed.
     pub steps: usize,
     /// How much the object holds after the call; `None` where it is absent.
     pub object: Option<Holdings>,
+    /// The lines of all that the object holds then, where they are asked for.
+    pub shown: String,
 }
 
 /// How much an object holds.
@@ -49,25 +53,27 @@ impl Holdings {
 }
 
 impl Reply {
-    /// The reply of that entry and that outcome. It fails only for want of memory.
+    /// The reply of that answer and that outcome, with what the object holds or without. It fails only for want of memory.
     pub(crate) fn new(
         alloc: Global,
         logged: &Logged,
         outcome: &Outcome,
+        is_shown: bool,
     ) -> Result<Reply, AllocError>
-        ensures { IfOk result (IsReplyOf logged.now outcome.now) }
+        ensures { IfOk result (IsReplyOf is_shown logged.now outcome.now) }
     {
         Ok(Reply {
             code: logged.code,
             output: hex::encode(alloc, &logged.output)?,
             steps: outcome.steps,
             object: Holdings::of(&outcome.change.after),
+            shown: shown_text(alloc, is_shown, &outcome.change.after)?,
         })
     }
 
     /// The output as it is printed: its digits, or `-` where there are none.
     fn shown_output(&self) -> &str
-        ensures { result.now ≡ shown (string_bytes self.now.output) }
+        ensures { result.now ≡ or_dash (string_bytes self.now.output) }
     {
         if self.output.is_empty() {
             "-"
@@ -85,7 +91,8 @@ impl fmt::Display for Reply {
     fn fmt<W: fmt::Write>(&self, f: &mut fmt::Formatter<W>) -> fmt::Result {
         let (code, output, steps) = (self.code, self.shown_output(), self.steps);
         write!(f, "code {code}\noutput {output}\nsteps {steps}\n")?;
-        write_object(self.object, f)
+        write_object(self.object, f)?;
+        f.write_str(&self.shown)
     }
 }
 

@@ -1,5 +1,6 @@
 ghost use Rattle.std.specs.Prelude.{IfOk, IfErr};
 ghost use Rattle.class_tool.specs.Answer.{Settles, Fails};
+ghost use Rattle.class_tool.specs.Files.{storage};
 
 use crate::action::Action;
 use crate::answer::Answer;
@@ -15,8 +16,8 @@ use std::alloc::Global;
 /// for the image of a text or of raw code, and that one only where it is right; a failure says why, the first reason in the
 /// order of `Fails`.
 pub fn find<F: Files>(alloc: Global, files: &mut F, action: &Action<'_>) -> Result<Answer, Failure>
-    ensures settles { IfOk result (Settles (F.disk files.old) (F.disk files.new) action.now) }
-    ensures fails { IfErr result (Fails (F.disk files.old) (F.disk files.new) action.now) }
+    ensures settles { IfOk result (Settles (storage F.disk F.failed files.old) (storage F.disk F.failed files.new) action.now) }
+    ensures fails { IfErr result (Fails (storage F.disk F.failed files.old) (storage F.disk F.failed files.new) action.now) }
 {
     match action {
         Action::Verify { image } => match load(alloc, files, image) {
@@ -35,9 +36,11 @@ pub fn find<F: Files>(alloc: Global, files: &mut F, action: &Action<'_>) -> Resu
             Ok(()) => Ok(Answer::Assembled),
             Err(failure) => Err(failure),
         },
-        Action::Disassemble { image } => match disassemble(alloc, files, image) {
-            Ok(text) => Ok(Answer::Disassembled(text)),
-            Err(failure) => Err(failure),
-        },
+        Action::Disassemble { image, has_slots } => {
+            match disassemble(alloc, files, image, *has_slots) {
+                Ok(text) => Ok(Answer::Disassembled(text)),
+                Err(failure) => Err(failure),
+            }
+        }
     }
 }

@@ -26,6 +26,11 @@ impl Reads for Memory {
 }
 
 impl Files for Memory {
+    ghost use Rattle.std.specs.Prelude.{true};
+
+    // Each does.
+    ghost failed = { λ _. true };
+
     fn write(&mut self, _name: &str, _bytes: &[u8]) -> io::Result<()> {
         Err(io::Error::from(ErrorKind::StorageFull))
     }

@@ -72,7 +72,7 @@ fn is_written(alloc: Global, image: &ClassImage, bytes: &[u8]) -> bool {
     }
 }
 
-fn fate(alloc: Global, bytes: &[u8]) -> Fate {
+fn come_of(alloc: Global, bytes: &[u8]) -> Fate {
     match read_image(alloc, bytes) {
         Err(_) => Fate::Refused,
         Ok(image) if is_written(alloc, &image, bytes) => verdict(alloc, &image),
@@ -86,7 +86,7 @@ fn accepted_at(alloc: Global, bytes: &mut [u8], place: usize) -> Option<usize> {
     let mut accepted = 0usize;
     for value in 0..=255u8 {
         *bytes.get_mut(place)? = value;
-        match fate(alloc, bytes) {
+        match come_of(alloc, bytes) {
             Fate::Refused => {}
             Fate::Accepted => accepted = accepted.wrapping_add(1),
             Fate::Wrong => return None,

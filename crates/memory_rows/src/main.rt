@@ -15,7 +15,7 @@ fn main(rt: HostRuntime) -> ExitCode {
     let Some(words) = words(&rt) else {
         return ExitCode::FAILURE;
     };
-    match rows(&rt, rt.alloc(), &words, &mut rt.stdout()) {
+    match run(&rt, rt.alloc(), &words, &mut rt.stdout()) {
         Ok(true) => ExitCode::SUCCESS,
         Ok(false) => ExitCode::FAILURE,
         Err(_) => ExitCode::FAILURE,
@@ -35,15 +35,15 @@ fn words_once(rt: &HostRuntime) -> Option<Vec<String>> {
 }
 
 /// Makes the rows that the words ask for. Whether none differs.
-fn rows<R: Threads + Wait + Sync + Copy + Drop, O: io::Write>(
+fn run<R: Threads + Wait + Sync + Copy + Drop, O: io::Write>(
     rt: R,
     alloc: Global,
     words: &[String],
     out: &mut O,
 ) -> io::Result<bool> {
     match words {
-        [_] => all_rows(rt, alloc, out),
-        [_, name] => row(rt, alloc, name, out),
+        [_] => run_all(rt, alloc, out),
+        [_, name] => run_one(rt, alloc, name, out),
         _ => Ok(false),
     }
 }
@@ -55,7 +55,7 @@ fn print<O: io::Write>(name: &str, ending: Ending, out: &mut O) -> io::Result<bo
 }
 
 /// Makes the row of a name. False where there is none.
-fn row<R: Threads + Wait + Sync + Copy + Drop, O: io::Write>(
+fn run_one<R: Threads + Wait + Sync + Copy + Drop, O: io::Write>(
     rt: R,
     alloc: Global,
     name: &str,
@@ -70,7 +70,7 @@ fn row<R: Threads + Wait + Sync + Copy + Drop, O: io::Write>(
 }
 
 /// Makes every row.
-fn all_rows<R: Threads + Wait + Sync + Copy + Drop, O: io::Write>(
+fn run_all<R: Threads + Wait + Sync + Copy + Drop, O: io::Write>(
     rt: R,
     alloc: Global,
     out: &mut O,

@@ -1,4 +1,7 @@
 //! Rows of texts: 5 NoMemory, at line 0.
+ghost use Rattle.std.specs.Prelude.{◌≤◌, IfSome};
+ghost use Rattle.bpf_decode.specs.Instruction.{slot_total};
+ghost use Rattle.bpf_decode.specs.declared.limits.TheConstants.{SLOT_LIMIT};
 
 use crate::found::{Ending, Found};
 use crate::images::{TEXT, five, has_five};
@@ -46,14 +49,20 @@ pub fn assembled(alloc: Global) -> Ending {
 }
 
 /// The six instructions, read once more if memory was refused.
-fn six(alloc: Global) -> Option<Vec<Insn>> {
+fn six(alloc: Global) -> Option<Vec<Insn>>
+    ensures some { IfSome result (λ v. 1 ≤ slot_total v.items) }
+    ensures limit { IfSome result (λ v. slot_total v.items ≤ SLOT_LIMIT) }
+{
     match assemble(alloc, PLAIN) {
         Ok(insns) => Some(insns),
         Err(_) => assemble(alloc, PLAIN).ok(),
     }
 }
 
-fn disassemble_once(alloc: Global, insns: &[Insn]) -> Found {
+fn disassemble_once(alloc: Global, insns: &[Insn]) -> Found
+    requires some { 1 ≤ slot_total insns.now }
+    requires limit { slot_total insns.now ≤ SLOT_LIMIT }
+{
     match disassemble(alloc, insns) {
         Ok(text) => Found::of(text.as_str() == PLAIN),
         Err(error) => refused(error),

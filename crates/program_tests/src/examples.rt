@@ -103,7 +103,7 @@ const GREET: &str =
     ".method greet r 0 16\n; writes \"hi\" and answers 2\nstb [r3+0], 104\nstb [r3+1], 105\nmov r1, 2\ncall 13\nmov r0, 2\nexit\n";
 
 /// examples/count.txt.
-const COUNT: &str =
+pub const COUNT: &str =
     "; Counts its calls in the key \"n\" of the object's omap, and gives the number as 8 bytes.\n\
     .method count rw 0 8\nmov r6, r3          ; the output, out of the helpers' way\nstb [r10-1], 0x6e   ; \"n\"\n\
     mov r1, r10\nadd r1, -1          ; the key\nmov r2, 1\nmov r4, 8           ; its value, to the output\ncall 9              ; map_get\n\
@@ -112,7 +112,7 @@ const COUNT: &str =
     mov r1, 8\ncall 13             ; out_len\nmov r0, r7\ndone:\nexit\n";
 
 /// Classes, words on their images, and what they print.
-static SHOWN: [(&str, &[&str], &str); 5] = [
+static SHOWN: [(&str, &[&str], &str); 6] = [
     (GREET, &["verify", "image"], "greet ok 6\n"),
     (
         GREET,
@@ -129,6 +129,11 @@ static SHOWN: [(&str, &[&str], &str); 5] = [
         HELLO,
         &["dis", "image"],
         ".method hello r 0 5\nstw [r3+0], 1819043176\nstb [r3+4], 111\nmov r1, 5\ncall 13\nexit\n",
+    ),
+    (
+        ".method f r 0 0\nlddw r0, 1\nexit\n",
+        &["dis", "image", "--slots"],
+        ".method f r 0 0\nlddw r0, 0x0000000000000001 ; slot 0\nexit ; slot 2\n",
     ),
 ];
 

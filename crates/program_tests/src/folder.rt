@@ -23,6 +23,8 @@ pub struct Folder {
     pub out: Vec<u8>,
     /// How often a file was written.
     pub writes: usize,
+    /// Whether a write failed.
+    pub has_failed: bool,
     /// How many bytes of an image were asked for last.
     pub most_read: Cell<usize>,
 }
@@ -42,6 +44,7 @@ impl Folder {
             text: Vec::from_slice(rt.alloc(), text).expect(rt, "memory"),
             out: Vec::from_slice(rt.alloc(), b"before").expect(rt, "memory"),
             writes: 0,
+            has_failed: false,
             most_read: Cell::new(0),
         }
     }
@@ -76,6 +79,8 @@ impl Reads for Folder {
 }
 
 impl Files for Folder {
+    ghost failed = { λ f. f.has_failed };
+
     fn write(&mut self, name: &str, bytes: &[u8]) -> io::Result<()> {
         let written = match name {
             "image" => replace(&mut self.image, bytes),
@@ -83,8 +88,9 @@ impl Files for Folder {
             "out" => replace(&mut self.out, bytes),
             _ => Err(io::Error::from(ErrorKind::StorageFull)),
         };
-        if written.is_ok() {
-            self.writes = self.writes.wrapping_add(1);
+        match written {
+            Ok(()) => self.writes = self.writes.wrapping_add(1),
+            Err(_) => self.has_failed = true,
         }
         written
     }

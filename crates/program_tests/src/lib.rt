@@ -14,11 +14,15 @@ mod drawings;
 #[cfg(test)]
 mod examples;
 #[cfg(test)]
+mod explained;
+#[cfg(test)]
 mod folder;
 #[cfg(test)]
 mod images;
 #[cfg(test)]
 mod lines;
+#[cfg(test)]
+mod objects;
 #[cfg(test)]
 mod packs;
 #[cfg(test)]

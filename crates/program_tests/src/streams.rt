@@ -103,7 +103,7 @@ static TOLD: [(&[&str], &str); 21] = [
     ),
     (
         &["--help"],
-        "  run      Runs a method of a class image beside an absent object\n",
+        "  run      Runs a method of a class image beside an object\n",
     ),
     (
         &["--help"],
@@ -124,17 +124,23 @@ static TOLD: [(&[&str], &str); 21] = [
         "  cluster  Plays clients' calls on a cluster in threads\n",
     ),
     (&[], "Usage: radoscls <COMMAND>\n"),
-    (&["verify", "--help"], "Usage: radoscls verify <IN>\n"),
+    (
+        &["verify", "--help"],
+        "Usage: radoscls verify [OPTIONS] <IN>\n",
+    ),
     (
         &["run", "--help"],
         "Usage: radoscls run [OPTIONS] <IN> <METHOD>\n",
     ),
-    (&["asm", "--help"], "Usage: radoscls asm <IN> <OUT>\n"),
+    (
+        &["asm", "--help"],
+        "Usage: radoscls asm [OPTIONS] <IN> <OUT>\n",
+    ),
     (
         &["pack", "--help"],
-        "Usage: radoscls pack <OUT> <METHOD>...\n",
+        "Usage: radoscls pack [OPTIONS] <OUT> <METHOD>...\n",
     ),
-    (&["dis", "--help"], "Usage: radoscls dis <IN>\n"),
+    (&["dis", "--help"], "Usage: radoscls dis [OPTIONS] <IN>\n"),
     (&["sim", "--help"], "Usage: radoscls sim [OPTIONS] <FILE>\n"),
     (
         &["cluster", "--help"],

@@ -3,7 +3,7 @@ use Rattle.std.proofs.Common.{◌≡◌, ◌≢◌, ◌∙◌, inl, inr, refl, s
 use Rattle.clap.specs.Words.{Text, kind_of}
 use Rattle.clap.specs.declared.error.Error.{Error}
 use Rattle.clap.specs.declared.error.kind.ErrorKind.TheVariants.{OutOfMemory}
-use Rattle.class_tool.specs.Files.{Disk}
+use Rattle.class_tool.specs.Files.{Storage}
 use Rattle.class_tool.specs.declared.action.Action.{Action}
 use Rattle.class_tool.specs.declared.answer.Answer.{Answer}
 use Rattle.class_tool.specs.declared.failure.Failure.{Failure}
@@ -20,21 +20,23 @@ use Rattle.radoscls_program.specs.declared.task.Task.{Task}
 use Rattle.radoscls_program.specs.declared.task.Task.TheVariants.{Class, Sim, Cluster}
 
 -- where they name an action
-class_ended : (before after : Option Disk) (old new : Stream) (words : List Text) (a : Action) (found : Result Answer Failure) (status : Status)
-    → AreFor words (Class a) → Found before after a found → Responds old new found status → Ends before after old new words status
-class_ended before after old new words a (Ok answer) Done named found took = inl (record { action = a; named = named; answer = answer; settles = found; printed = took })
-class_ended before after old new words a (Ok answer) Refused named found failed =
-    inr (inl (record { action = a; named = named; answer = answer; settles = found; unprinted = failed }))
-class_ended before after old new words a (Ok answer) Usage named found none = absurd none
-class_ended before after old new words a (Err failure) Done named found none = absurd none
-class_ended before after old new words a (Err failure) Refused named found printed =
-    inl (record { action = a; named = named; failure = failure; fails = found; printed = printed })
-class_ended before after old new words a (Err failure) Usage named found none = absurd none
+class_ended : (before after : Storage) (old new : Stream) (words : List Text) (a : Action) (e : Bool) (found : Result Answer Failure) (note : List ℕ) (status : Status)
+    → AreFor words (Class a e) → Found before after a e found note → Responds old new found note status → Ends before after old new words status
+class_ended before after old new words a e (Ok answer) note Done named found took =
+    inl (record { action = a; is_explained = e; named = named; answer = answer; settles = found; printed = took })
+class_ended before after old new words a e (Ok answer) note Refused named found failed =
+    inr (inl (record { action = a; is_explained = e; named = named; answer = answer; settles = found; unprinted = failed }))
+class_ended before after old new words a e (Ok answer) note Usage named found none = absurd none
+class_ended before after old new words a e (Err failure) note Done named found none = absurd none
+class_ended before after old new words a e (Err failure) note Refused named found printed =
+    inl (record { action = a; is_explained = e; named = named; failure = failure; fails = found.0; note = note; told = found.1; printed = printed })
+class_ended before after old new words a e (Err failure) note Usage named found none = absurd none
 
 -- where the words name the task
-pub ended : (before after : Option Disk) (old new : Stream) (words : List Text) (task : Task) (status : Status)
+pub ended : (before after : Storage) (old new : Stream) (words : List Text) (task : Task) (status : Status)
     → AreFor words task → TaskEnds before after old new task status → Ends before after old new words status
-ended before after old new words (Class a) status named acts = class_ended before after old new words a acts.found status named acts.true_of acts.responds
+ended before after old new words (Class a e) status named acts =
+    class_ended before after old new words a e acts.found acts.note status named acts.true_of acts.responds
 ended before after old new words (Sim s) Done named played = inr (inl (record { simulation = s; named = named; left = played.0; ended = played.1 }))
 ended before after old new words (Sim s) Refused named played = inr (inr (inr (inl (record { simulation = s; named = named; left = played.0; ended = played.1 }))))
 ended before after old new words (Sim s) Usage named played = absurd played.1
@@ -45,15 +47,15 @@ ended before after old new words (Cluster c m) Refused named ran =
 ended before after old new words (Cluster c m) Usage named ran = absurd ran.1
 
 -- where they name none, and why was said
-pub explained : (disk : Option Disk) (old new : Stream) (words : List Text) (e : Error) (status : Status) → (kind_of e ≢ OutOfMemory → AreForNone words)
+pub explained : (files : Storage) (old new : Stream) (words : List Text) (e : Error) (status : Status) → (kind_of e ≢ OutOfMemory → AreForNone words)
     → status ≢ Done → (status ≡ Refused → IsPrinted old new (failure_line NoMemory))
-    → (status ≡ Usage → (kind_of e ≢ OutOfMemory) × (new ≡ old)) → Ends disk disk old new words status
-explained disk old new words e Done none done refused usage = absurd (done refl)
-explained disk old new words e Refused none done refused usage = inr (inr (inl (refl, refused refl)))
-explained disk old new words e Usage none done refused usage = record { unasked = none (usage refl).0; left = refl; silent = (usage refl).1 }
+    → (status ≡ Usage → (kind_of e ≢ OutOfMemory) × (new ≡ old)) → Ends files files old new words status
+explained files old new words e Done none done refused usage = absurd (done refl)
+explained files old new words e Refused none done refused usage = inr (inr (inl (refl, refused refl)))
+explained files old new words e Usage none done refused usage = record { unasked = none (usage refl).0; left = refl; silent = (usage refl).1 }
 
 -- what the status 1 says
-pub refused_by : (before after : Option Disk) (old new : Stream) (words : List Text) (status : Status) (n : ℕ)
+pub refused_by : (before after : Storage) (old new : Stream) (words : List Text) (status : Status) (n : ℕ)
     → n ≡ code_of status → Ends before after old new words status → n ≡ 1 → IsRefused before after old new words
 refused_by before after old new words Done n is ends one = let bad : 0 ≡ 1 = sym is ∙ one in absurd (omega arith)
 refused_by before after old new words Refused n is ends one = ends
@@ -66,13 +68,13 @@ plays_well true classes names text old new failed fails shows = shows.shown.well
 plays_well false classes names text old new failed fails prints = prints.shown.well
 
 -- nor does anything that is done
-done_well : (before after : Option Disk) (old new : Stream) (words : List Text) → IsDone before after old new words → new.failed ≡ old.failed
+done_well : (before after : Storage) (old new : Stream) (words : List Text) → IsDone before after old new words → new.failed ≡ old.failed
 done_well before after old new words (inl answered) = answered.printed.well
 done_well before after old new words (inr (inl played)) = let p = played.ended in plays_well played.simulation.is_drawn p.classes _ p.text _ _ _ _ p.played
 done_well before after old new words (inr (inr ran)) = ran.ended.ends.well
 
 -- where a write fails, the status is 1
-pub failed_by : (before after : Option Disk) (old new : Stream) (words : List Text) (status : Status) (n : ℕ)
+pub failed_by : (before after : Storage) (old new : Stream) (words : List Text) (status : Status) (n : ℕ)
     → n ≡ code_of status → Ends before after old new words status → old.failed ≡ false → new.failed ≡ true → n ≡ 1
 failed_by before after old new words Done n is ends well failed =
     let bad : false ≡ true = sym well ∙ sym (done_well before after old new words ends) ∙ failed in absurd cc
@@ -81,7 +83,7 @@ failed_by before after old new words Usage n is ends well failed =
     let bad : false ≡ true = sym well ∙ sym (ap (λ (s : Stream). s.failed) ends.silent) ∙ failed in absurd cc
 
 -- where the words were read, or not
-pub started : {A B : Type 0} (words : Result A B) (texts : A → List Text) (before after : Option Disk) (old new : Stream) (status : Status)
+pub started : {A B : Type 0} (words : Result A B) (texts : A → List Text) (before after : Storage) (old new : Stream) (status : Status)
     → IfOk words (λ all. Ends before after old new (texts all) status) → IfErr words (λ _. IsUnstarted before after old new status)
     → Starts before after old new status
 started (Ok all) texts before after old new status ends none = inl (texts all, ends)

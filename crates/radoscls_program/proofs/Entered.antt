@@ -1,12 +1,13 @@
 -- What the subcommand that a parse entered asks for.
-use Rattle.std.proofs.Common.{◌≡◌, ◌∙◌, ap₂, refl, subst, sym, List, Option, Some, None, option_map, codes}
+use Rattle.std.proofs.Common.{◌≡◌, ◌∙◌, ap, ap₂, refl, subst, sym, List, Option, Some, None, option_map, codes}
 use Rattle.std.specs.Prelude.{IfSome}
 use Rattle.std.proofs.lemmas.Option.{none-some, same_Some}
 use Rattle.clap.specs.Words.{Row, Text, all_of, first_value, found_of, rows_of, subcommand_name_of, subcommand_rows_of}
 use Rattle.clap.specs.declared.parser.matches.ArgMatches.{ArgMatches}
 use Rattle.clap.specs.declared.parser.matches.ArgMatches.TheViews.{out-ArgMatches}
 use Rattle.clap.proofs.WalkLemmas.{first_value-rows}
-use Rattle.radoscls_program.specs.Arguments.{AsksBy, Takes, texts_of}
+use Rattle.radoscls_program.specs.Arguments.{AsksBy, Takes, is_set, texts_of}
+use Rattle.radoscls_program.specs.Entries.{AreEntries}
 use Rattle.radoscls_program.specs.Raw.{AreRaw}
 use Rattle.radoscls_program.specs.CommandLine.{Asks}
 use Rattle.class_tool.specs.declared.action.Action.{Action}
@@ -29,18 +30,25 @@ entered m name rows named found = both_parts _ _ (out-ArgMatches m).subcommand n
 pub same_values : (u v : Text → Option Text) (us vs : Text → Option (List Text)) → ((id : Text) → u id ≡ v id) → ((id : Text) → us id ≡ vs id)
     → (a : Action) → Takes u us a → Takes v vs a
 same_values u v us vs same also (Verify image) takes = sym (same (codes "IN")) ∙ takes
-same_values u v us vs same also (Run call) takes = (
-  sym (same (codes "IN")) ∙ takes.0,
-  sym (same (codes "METHOD")) ∙ takes.1,
-  sym (same (codes "input")) ∙ takes.2,
-  (takes.3.0, sym (same (codes "caller")) ∙ takes.3.1, takes.3.2, takes.3.3),
-)
+same_values u v us vs same also (Run call) takes = record {
+  image = sym (same (codes "IN")) ∙ takes.image;
+  method = sym (same (codes "METHOD")) ∙ takes.method;
+  input = sym (same (codes "input")) ∙ takes.input;
+  caller_text = takes.caller_text;
+  caller_there = sym (same (codes "caller")) ∙ takes.caller_there;
+  caller_within = takes.caller_within;
+  caller = takes.caller;
+  data_text = sym (same (codes "object")) ∙ takes.data_text;
+  xattrs = subst (λ (texts : Option (List Text)). AreEntries (texts_of texts) call.xattrs.items) (also (codes "xattr")) takes.xattrs;
+  keys = subst (λ (texts : Option (List Text)). AreEntries (texts_of texts) call.keys.items) (also (codes "key")) takes.keys;
+  shown = takes.shown ∙ ap is_set (same (codes "show"));
+}
 same_values u v us vs same also (Assemble text image) takes = (sym (same (codes "IN")) ∙ takes.0, sym (same (codes "OUT")) ∙ takes.1)
 same_values u v us vs same also (Pack asked) takes = record {
   image = sym (same (codes "OUT")) ∙ takes.image;
   methods = subst (λ (texts : Option (List Text)). AreRaw (texts_of texts) asked.methods.items) (also (codes "METHOD")) takes.methods;
 }
-same_values u v us vs same also (Disassemble image) takes = sym (same (codes "IN")) ∙ takes
+same_values u v us vs same also (Disassemble image has_slots) takes = (sym (same (codes "IN")) ∙ takes.0, takes.1 ∙ ap is_set (same (codes "slots")))
 
 -- the action of the subcommand that was entered
 pub Asks-entered : (name : Text) (m found : ArgMatches) → subcommand_name_of m ≡ Some name

@@ -1,6 +1,8 @@
 mod Built
+mod Calling
 mod Ended
 mod Entered
+mod Entering
 mod OnCluster
 mod Packing
 mod Parsed

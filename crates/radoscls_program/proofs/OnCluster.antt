@@ -36,15 +36,15 @@ no_action value values (Verify image) asks = other (codes "cluster") (codes "ver
 no_action value values (Run call) asks = other (codes "cluster") (codes "run") refl asks.0
 no_action value values (Assemble text image) asks = other (codes "cluster") (codes "asm") refl asks.0
 no_action value values (Pack asked) asks = other (codes "cluster") (codes "pack") refl asks.0
-no_action value values (Disassemble image) asks = other (codes "cluster") (codes "dis") refl asks.0
+no_action value values (Disassemble image has_slots) asks = other (codes "cluster") (codes "dis") refl asks.0
 
 -- `cluster`, whose values ask for nothing
 pub cluster_asks_nothing : (m found : ArgMatches) → subcommand_name_of m ≡ Some (codes "cluster")
     → option_map (λ (p : Text × List Row). p.1) (subcommand_rows_of m) ≡ Some (rows_of (found_of found))
     → (NamesCluster (first_value (found_of found)) (λ id. all_of id (rows_of (found_of found))) → ⊥) → AsksNoTask (subcommand_rows_of m)
-cluster_asks_nothing m found named rows none (Class a) asks =
-    let same = some_pair_parts asks.name (codes "cluster") asks.rows (rows_of (found_of found)) (sym asks.entered ∙ entered m (codes "cluster") (rows_of (found_of found)) named rows) in
-    no_action (λ id. first_of id asks.rows) (λ id. all_of id asks.rows) a (sym same.0 ∙ asks.asked.0, asks.asked.1)
+cluster_asks_nothing m found named rows none (Class a is_explained) asks =
+    let same = some_pair_parts asks.0.name (codes "cluster") asks.0.rows (rows_of (found_of found)) (sym asks.0.entered ∙ entered m (codes "cluster") (rows_of (found_of found)) named rows) in
+    no_action (λ id. first_of id asks.0.rows) (λ id. all_of id asks.0.rows) a (sym same.0 ∙ asks.0.asked.0, asks.0.asked.1)
 cluster_asks_nothing m found named rows none (Sim s) asks =
     let same = some_pair_parts (codes "sim") (codes "cluster") asks.rows (rows_of (found_of found)) (sym asks.entered ∙ entered m (codes "cluster") (rows_of (found_of found)) named rows) in
     other (codes "sim") (codes "cluster") refl same.0

@@ -39,15 +39,15 @@ no_action value values (Verify image) asks = other (codes "sim") (codes "verify"
 no_action value values (Run call) asks = other (codes "sim") (codes "run") refl asks.0
 no_action value values (Assemble text image) asks = other (codes "sim") (codes "asm") refl asks.0
 no_action value values (Pack asked) asks = other (codes "sim") (codes "pack") refl asks.0
-no_action value values (Disassemble image) asks = other (codes "sim") (codes "dis") refl asks.0
+no_action value values (Disassemble image has_slots) asks = other (codes "sim") (codes "dis") refl asks.0
 
 -- `sim`, whose values ask for nothing
 pub sim_asks_nothing : (m found : ArgMatches) → subcommand_name_of m ≡ Some (codes "sim")
     → option_map (λ (p : Text × List Row). p.1) (subcommand_rows_of m) ≡ Some (rows_of (found_of found))
     → (NamesSim (first_value (found_of found)) (λ id. all_of id (rows_of (found_of found))) → ⊥) → AsksNoTask (subcommand_rows_of m)
-sim_asks_nothing m found named rows none (Class a) asks =
-    let same = some_pair_parts asks.name (codes "sim") asks.rows (rows_of (found_of found)) (sym asks.entered ∙ entered m (codes "sim") (rows_of (found_of found)) named rows) in
-    no_action (λ id. first_of id asks.rows) (λ id. all_of id asks.rows) a (sym same.0 ∙ asks.asked.0, asks.asked.1)
+sim_asks_nothing m found named rows none (Class a is_explained) asks =
+    let same = some_pair_parts asks.0.name (codes "sim") asks.0.rows (rows_of (found_of found)) (sym asks.0.entered ∙ entered m (codes "sim") (rows_of (found_of found)) named rows) in
+    no_action (λ id. first_of id asks.0.rows) (λ id. all_of id asks.0.rows) a (sym same.0 ∙ asks.0.asked.0, asks.0.asked.1)
 sim_asks_nothing m found named rows none (Sim s) asks =
     let same = some_pair_parts (codes "sim") (codes "sim") asks.rows (rows_of (found_of found)) (sym asks.entered ∙ entered m (codes "sim") (rows_of (found_of found)) named rows) in
     let takes = subst (λ (rs : List Row). TakesSim (λ id. first_of id rs) (λ id. all_of id rs) s) same.1 asks.asked in
@@ -59,6 +59,6 @@ sim_asks_nothing m found named rows none (Cluster c measured) asks =
 -- another subcommand asks for nothing that is played, nor for an action where it asks for none
 pub no_task : (m : ArgMatches) → (subcommand_name_of m ≡ Some (codes "sim") → ⊥) → (subcommand_name_of m ≡ Some (codes "cluster") → ⊥)
     → AsksNothing (subcommand_rows_of m) → AsksNoTask (subcommand_rows_of m)
-no_task m unnamed unasked none (Class a) asks = none a asks
+no_task m unnamed unasked none (Class a is_explained) asks = none a asks.0
 no_task m unnamed unasked none (Sim s) asks = unnamed (first_part _ _ (out-ArgMatches m).subcommand (codes "sim") asks.rows asks.entered)
 no_task m unnamed unasked none (Cluster c measured) asks = unasked (first_part _ _ (out-ArgMatches m).subcommand (codes "cluster") asks.rows asks.entered)

@@ -1,6 +1,6 @@
 -- Where the subcommand that a parse entered asks for nothing.
 use Rattle.std.proofs.Common.{◌≡◌, ◌≢◌, ◌∙◌, inl, inr, ap, sym, refl, subst, List, Option, Some, None, is_some, nat_eq, option_map, slice_index, codes, false, true}
-use Rattle.std.specs.Prelude.{IsNone, IsSome, IsSomeAnd}
+use Rattle.std.specs.Prelude.{IsNone, IsSome}
 use Rattle.std.proofs.lemmas.Bool.{eq-eqb}
 use Rattle.std.proofs.lemmas.Option.{none-some, some_pair_parts}
 use Rattle.clap.specs.Words.{HasKind, IsAmong, Kinds, Row, Text, all_of, fault_of, first_of, first_value, found_of, kind_of, rows_of, subcommand_name_of, subcommand_of, subcommand_rows_of}
@@ -9,12 +9,13 @@ use Rattle.clap.specs.declared.error.kind.ErrorKind.TheVariants.{OutOfMemory}
 use Rattle.clap.specs.declared.parser.matches.ArgMatches.{ArgMatches}
 use Rattle.clap.specs.declared.parser.matches.ArgMatches.TheViews.{out-ArgMatches}
 use Rattle.clap.proofs.WalkLemmas.{first_value-rows}
-use Rattle.radoscls_program.specs.Arguments.{AsksBy, IsClientNumber, NamesCall, NamesFiles, TakesPacking}
+use Rattle.radoscls_program.specs.Arguments.{AsksBy, NamesFiles, TakesCall, TakesPacking}
 use Rattle.radoscls_program.specs.CommandLine.{AsksNoTask, AsksNothing, command_line}
 use Rattle.radoscls_program.specs.Program.{AreForNone}
 use Rattle.radoscls_program.proofs.Entered.{entered, same_values}
 use Rattle.class_tool.specs.declared.action.Action.{Action}
 use Rattle.class_tool.specs.declared.action.Action.TheVariants.{Verify, Run, Assemble, Pack, Disassemble}
+use Rattle.class_tool.specs.declared.action.Call.{Call}
 use Rattle.class_tool.specs.declared.action.Packing.{Packing}
 
 -- the subcommand of that name and its values ask for no action
@@ -36,40 +37,35 @@ no_verify value values none (Verify image) asks = none-some image.now (sym none 
 no_verify value values none (Run call) asks = other (codes "verify") (codes "run") refl asks.0
 no_verify value values none (Assemble text image) asks = other (codes "verify") (codes "asm") refl asks.0
 no_verify value values none (Pack asked) asks = other (codes "verify") (codes "pack") refl asks.0
-no_verify value values none (Disassemble image) asks = other (codes "verify") (codes "dis") refl asks.0
+no_verify value values none (Disassemble image has_slots) asks = other (codes "verify") (codes "dis") refl asks.0
 
 pub no_dis : (value : Text → Option Text) (values : Text → Option (List Text)) → value (codes "IN") ≡ None → AsksNoneBy (codes "dis") value values
 no_dis value values none (Verify image) asks = other (codes "dis") (codes "verify") refl asks.0
 no_dis value values none (Run call) asks = other (codes "dis") (codes "run") refl asks.0
 no_dis value values none (Assemble text image) asks = other (codes "dis") (codes "asm") refl asks.0
 no_dis value values none (Pack asked) asks = other (codes "dis") (codes "pack") refl asks.0
-no_dis value values none (Disassemble image) asks = none-some image.now (sym none ∙ asks.1)
+no_dis value values none (Disassemble image has_slots) asks = none-some image.now (sym none ∙ asks.1.0)
 
-pub no_run : (value : Text → Option Text) (values : Text → Option (List Text)) → (NamesCall value → ⊥) → AsksNoneBy (codes "run") value values
+pub no_run : (value : Text → Option Text) (values : Text → Option (List Text)) → ((call : Call) → TakesCall value values call → ⊥) → AsksNoneBy (codes "run") value values
 no_run value values none (Verify image) asks = other (codes "run") (codes "verify") refl asks.0
-no_run value values none (Run call) asks = none (
-  ap is_some asks.1.0,
-  ap is_some asks.1.1,
-  ap is_some asks.1.2,
-  subst (λ (o : Option Text). IsSomeAnd o IsClientNumber) (sym asks.1.3.1) asks.1.3.2,
-)
+no_run value values none (Run call) asks = none call asks.1
 no_run value values none (Assemble text image) asks = other (codes "run") (codes "asm") refl asks.0
 no_run value values none (Pack asked) asks = other (codes "run") (codes "pack") refl asks.0
-no_run value values none (Disassemble image) asks = other (codes "run") (codes "dis") refl asks.0
+no_run value values none (Disassemble image has_slots) asks = other (codes "run") (codes "dis") refl asks.0
 
 pub no_asm : (value : Text → Option Text) (values : Text → Option (List Text)) → (NamesFiles value → ⊥) → AsksNoneBy (codes "asm") value values
 no_asm value values none (Verify image) asks = other (codes "asm") (codes "verify") refl asks.0
 no_asm value values none (Run call) asks = other (codes "asm") (codes "run") refl asks.0
 no_asm value values none (Assemble text image) asks = none (ap is_some asks.1.0, ap is_some asks.1.1)
 no_asm value values none (Pack asked) asks = other (codes "asm") (codes "pack") refl asks.0
-no_asm value values none (Disassemble image) asks = other (codes "asm") (codes "dis") refl asks.0
+no_asm value values none (Disassemble image has_slots) asks = other (codes "asm") (codes "dis") refl asks.0
 
 pub no_pack : (value : Text → Option Text) (values : Text → Option (List Text)) → ((asked : Packing) → TakesPacking value values asked → ⊥) → AsksNoneBy (codes "pack") value values
 no_pack value values none (Verify image) asks = other (codes "pack") (codes "verify") refl asks.0
 no_pack value values none (Run call) asks = other (codes "pack") (codes "run") refl asks.0
 no_pack value values none (Assemble text image) asks = other (codes "pack") (codes "asm") refl asks.0
 no_pack value values none (Pack asked) asks = none asked asks.1
-no_pack value values none (Disassemble image) asks = other (codes "pack") (codes "dis") refl asks.0
+no_pack value values none (Disassemble image has_slots) asks = other (codes "pack") (codes "dis") refl asks.0
 
 -- the subcommand that was entered asks for nothing
 pub AsksNothing-entered : (name : Text) (m found : ArgMatches) → subcommand_name_of m ≡ Some name
@@ -101,7 +97,7 @@ no_other m verify run asm dis pack (Verify image) asks = asked_is_entered m (cod
 no_other m verify run asm dis pack (Run call) asks = asked_is_entered m (codes "run") asks.name asks.rows asks.entered asks.asked.0 run
 no_other m verify run asm dis pack (Assemble text image) asks = asked_is_entered m (codes "asm") asks.name asks.rows asks.entered asks.asked.0 asm
 no_other m verify run asm dis pack (Pack asked) asks = asked_is_entered m (codes "pack") asks.name asks.rows asks.entered asks.asked.0 pack
-no_other m verify run asm dis pack (Disassemble image) asks = asked_is_entered m (codes "dis") asks.name asks.rows asks.entered asks.asked.0 dis
+no_other m verify run asm dis pack (Disassemble image has_slots) asks = asked_is_entered m (codes "dis") asks.name asks.rows asks.entered asks.asked.0 dis
 
 -- words with a fault name no task without one
 pub fault_asks_nothing : (words : List Text) (e : Error) → HasKind (fault_of command_line words) e → kind_of e ≢ OutOfMemory → AreForNone words

@@ -1,6 +1,8 @@
--- The command line: `verify IN`, `run IN METHOD [--input HEX] [--caller N]`, `asm IN OUT`, `pack OUT METHOD ..`, `dis IN`,
+-- The command line: `verify IN [--explain]`, `run IN METHOD [--input HEX] [--caller N]
+-- [--object HEX] [--xattr NAME=HEX ..] [--key KEY=HEX ..] [--show] [--explain]`, `asm IN OUT [--explain]`,
+-- `pack OUT METHOD .. [--explain]`, `dis IN [--slots] [--explain]`,
 -- `sim FILE [--class NAME=IMAGE ..] [--trace]`, and `cluster FILE [--class NAME=IMAGE ..] [--stats]`.
-use Rattle.std.specs.Prelude.{◌≡◌, Bool, List, [], ◌∷◌, Option, Some, true, pos, codes}
+use Rattle.std.specs.Prelude.{◌≡◌, Bool, List, [], ◌∷◌, Option, Some, None, true, false, pos, codes}
 use Rattle.clap.specs.Lexer.{usize_max}
 use Rattle.clap.specs.Words.{App, Row, Rule, Text, all_of, first_of, new_app, new_rule, with_rule, with_subcommand}
 use Rattle.clap.specs.declared.builder.action.ArgAction.TheVariants as argument
@@ -20,45 +22,68 @@ required_rule id = record (new_rule id) { required = true }
 abbrev pub option_rule : Text → Text → Rule
 option_rule id default = record (new_rule id) { long = Some id; value_names = 1; defaults = default ∷ [] }
 
+-- an option with one value and no default
+abbrev pub value_rule : Text → Rule
+value_rule id = record (new_rule id) { long = Some id; value_names = 1 }
+
+-- an option that may stand more than once, each with one value
+abbrev pub each_rule : Text → Rule
+each_rule id = record (new_rule id) { long = Some id; value_names = 1; action = Some argument.Append }
+
+-- a flag
+abbrev pub flag_rule : Text → Rule
+flag_rule id = record (new_rule id) { long = Some id; action = Some argument.SetTrue }
+
 -- the client's number, 1 to 4294967295
 abbrev pub caller_rule : Rule
 caller_rule = record (option_rule (codes "caller") (codes "1")) { parser = Some (parser.Signed (pos 1) (pos 4294967295)) }
 
-abbrev pub verify_line : App
-verify_line = with_rule (new_app (codes "verify")) (required_rule (codes "IN"))
+-- the flag that has a failure explained
+abbrev pub explain_rule : Rule
+explain_rule = flag_rule (codes "explain")
 
-abbrev pub run_line : App
-run_line =
+abbrev pub verify_line : App
+verify_line = with_rule (with_rule (new_app (codes "verify")) (required_rule (codes "IN"))) explain_rule
+
+-- a call of a method
+abbrev pub call_line : App
+call_line =
     with_rule (with_rule (with_rule (with_rule (new_app (codes "run")) (required_rule (codes "IN")))
     (required_rule (codes "METHOD"))) (option_rule (codes "input") (codes ""))) caller_rule
 
+-- beside an object
+abbrev pub run_line : App
+run_line =
+    with_rule (with_rule (with_rule (with_rule (with_rule call_line (value_rule (codes "object"))) (each_rule (codes "xattr")))
+    (each_rule (codes "key"))) (flag_rule (codes "show"))) explain_rule
+
 abbrev pub asm_line : App
-asm_line = with_rule (with_rule (new_app (codes "asm")) (required_rule (codes "IN"))) (required_rule (codes "OUT"))
+asm_line = with_rule (with_rule (with_rule (new_app (codes "asm")) (required_rule (codes "IN"))) (required_rule (codes "OUT"))) explain_rule
 
 -- the methods that are packed, one or more
 abbrev pub methods_rule : Rule
 methods_rule = record (required_rule (codes "METHOD")) { range = Some (record { start_inclusive = 1; end_inclusive = usize_max }) }
 
 abbrev pub pack_line : App
-pack_line = with_rule (with_rule (new_app (codes "pack")) (required_rule (codes "OUT"))) methods_rule
+pack_line = with_rule (with_rule (with_rule (new_app (codes "pack")) (required_rule (codes "OUT"))) methods_rule) explain_rule
 
 abbrev pub dis_line : App
-dis_line = with_rule (new_app (codes "dis")) (required_rule (codes "IN"))
+dis_line = with_rule (with_rule (with_rule (new_app (codes "dis")) (required_rule (codes "IN"))) (flag_rule (codes "slots"))) explain_rule
 
 -- the option of a tenant's class, which may stand more than once
 abbrev pub class_rule : Rule
-class_rule = record (new_rule (codes "class")) { long = Some (codes "class"); value_names = 1; action = Some argument.Append }
+class_rule = each_rule (codes "class")
 
 -- the flag that has the run drawn
 abbrev pub trace_rule : Rule
-trace_rule = record (new_rule (codes "trace")) { long = Some (codes "trace"); action = Some argument.SetTrue }
+trace_rule = flag_rule (codes "trace")
 
 abbrev pub sim_line : App
 sim_line = with_rule (with_rule (with_rule (new_app (codes "sim")) (required_rule (codes "FILE"))) class_rule) trace_rule
 
 -- the flag that has a run measured
 abbrev pub stats_rule : Rule
-stats_rule = record (new_rule (codes "stats")) { long = Some (codes "stats"); action = Some argument.SetTrue }
+stats_rule = flag_rule (codes "stats")
 
 abbrev pub cluster_line : App
 cluster_line = with_rule (with_rule (with_rule (new_app (codes "cluster")) (required_rule (codes "FILE"))) class_rule) stats_rule
@@ -108,9 +133,14 @@ pub record AsksCluster (subcommand : Option (Text × List Row)) (c : Clustering)
   pub asked : TakesCluster (λ id. first_of id rows) (λ id. all_of id rows) c
   pub measured : is_measured ≡ is_set (first_of (codes "stats") rows)
 
+-- --explain is there
+abbrev pub is_explained_in : Option (Text × List Row) → Bool
+is_explained_in None = false
+is_explained_in (Some subcommand) = is_set (first_of (codes "explain") subcommand.1)
+
 -- what the words ask for
 abbrev pub AsksTask : Option (Text × List Row) → Task → Type 0
-AsksTask subcommand (Class action) = Asks subcommand action
+AsksTask subcommand (Class action is_explained) = Asks subcommand action × (is_explained ≡ is_explained_in subcommand)
 AsksTask subcommand (Sim s) = AsksSim subcommand s
 AsksTask subcommand (Cluster c is_measured) = AsksCluster subcommand c is_measured
 

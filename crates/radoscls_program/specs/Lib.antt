@@ -1,6 +1,7 @@
 pub mod Arguments
 pub mod Clustered
 pub mod CommandLine
+pub mod Entries
 pub mod Own
 pub mod Playing
 pub mod Program

@@ -1,8 +1,9 @@
 -- How the program ends, and what it printed and wrote.
-use Rattle.std.specs.Prelude.{◌≡◌, ◌⊎◌, Bool, List, [], Option, Result, Ok, Err, true}
+use Rattle.std.specs.Prelude.{◌≡◌, ◌⊎◌, ◌++◌, ℕ, Bool, List, [], Option, Result, Ok, Err, true, false}
 use Rattle.clap.specs.Words.{Text, fault_of, subcommand_of}
 use Rattle.class_tool.specs.Answer.{Settles, Fails, answer_text}
-use Rattle.class_tool.specs.Files.{Disk}
+use Rattle.class_tool.specs.Explained.{IsNote}
+use Rattle.class_tool.specs.Files.{Disk, Storage}
 use Rattle.class_tool.specs.declared.action.Action.{Action}
 use Rattle.class_tool.specs.declared.answer.Answer.{Answer}
 use Rattle.class_tool.specs.declared.failure.Failure.{Failure}
@@ -28,103 +29,114 @@ abbrev pub AreForNone : List Text → Type 0
 AreForNone words = (task : Task) → AreFor words task → ⊥
 
 -- There was a true answer to the action that the words name, and its lines were printed.
-pub record IsAnswered (before after : Option Disk) (old new : Stream) (words : List Text) : Type 0 where
+pub record IsAnswered (before after : Storage) (old new : Stream) (words : List Text) : Type 0 where
   pub action : Action
-  pub named : AreFor words (Class action)
+  pub is_explained : Bool
+  pub named : AreFor words (Class action is_explained)
   pub answer : Answer
   pub settles : Settles before after action answer
   pub printed : Took old new (answer_text answer)
 
--- There was a reason against the action that the words name, and its line was printed.
-pub record IsFailed (before after : Option Disk) (old new : Stream) (words : List Text) : Type 0 where
+-- what is printed behind a failure's line, where that is asked for
+abbrev pub IsTold : Bool → Option Disk → Action → Failure → List ℕ → Type 0
+IsTold false disk action failure note = note ≡ []
+IsTold true disk action failure note = IsNote disk action failure note
+
+-- There was a reason against the action that the words name, and its line was printed, with --explain what is told beside it.
+pub record IsFailed (before after : Storage) (old new : Stream) (words : List Text) : Type 0 where
   pub action : Action
-  pub named : AreFor words (Class action)
+  pub is_explained : Bool
+  pub named : AreFor words (Class action is_explained)
   pub failure : Failure
   pub fails : Fails before after action failure
-  pub printed : IsPrinted old new (failure_line failure)
+  pub note : List ℕ
+  pub told : IsTold is_explained before.disk action failure note
+  pub printed : IsPrinted old new (failure_line failure ++ note)
 
 -- There was a true answer, and a write or a flush of standard output failed.
-pub record IsUnprinted (before after : Option Disk) (new : Stream) (words : List Text) : Type 0 where
+pub record IsUnprinted (before after : Storage) (new : Stream) (words : List Text) : Type 0 where
   pub action : Action
-  pub named : AreFor words (Class action)
+  pub is_explained : Bool
+  pub named : AreFor words (Class action is_explained)
   pub answer : Answer
   pub settles : Settles before after action answer
   pub unprinted : new.failed ≡ true
 
 -- Memory was refused before the words were known, nothing was done, and a line says so.
-abbrev pub IsUnread : Option Disk → Option Disk → Stream → Stream → Type 0
+abbrev pub IsUnread : Storage → Storage → Stream → Stream → Type 0
 IsUnread before after old new = (after ≡ before) × IsPrinted old new (failure_line NoMemory)
 
 -- The words name a file of events, which was played so; no file changed.
-pub record IsPlayed (before after : Option Disk) (old new : Stream) (words : List Text) (status : Status) : Type 0 where
+pub record IsPlayed (before after : Storage) (old new : Stream) (words : List Text) (status : Status) : Type 0 where
   pub simulation : Simulation
   pub named : AreFor words (Sim simulation)
   pub left : after ≡ before
-  pub ended : SimEnds before old new simulation status
+  pub ended : SimEnds before.disk old new simulation status
 
 -- The words name a file of calls and maps, which was played so; no file changed.
-pub record IsRun (before after : Option Disk) (old new : Stream) (words : List Text) (status : Status) : Type 0 where
+pub record IsRun (before after : Storage) (old new : Stream) (words : List Text) (status : Status) : Type 0 where
   pub asked : Clustering
   pub is_measured : Bool
   pub named : AreFor words (Cluster asked is_measured)
   pub left : after ≡ before
-  pub ended : ClusterEnds before old new asked status
+  pub ended : ClusterEnds before.disk old new asked status
 
 -- why the program ended with 0
-abbrev pub IsDone : Option Disk → Option Disk → Stream → Stream → List Text → Type 0
+abbrev pub IsDone : Storage → Storage → Stream → Stream → List Text → Type 0
 IsDone before after old new words =
     IsAnswered before after old new words ⊎ IsPlayed before after old new words Done ⊎ IsRun before after old new words Done
 
 -- why the program ended with 1
-abbrev pub IsRefused : Option Disk → Option Disk → Stream → Stream → List Text → Type 0
+abbrev pub IsRefused : Storage → Storage → Stream → Stream → List Text → Type 0
 IsRefused before after old new words =
     IsFailed before after old new words ⊎ IsUnprinted before after new words ⊎ IsUnread before after old new
     ⊎ IsPlayed before after old new words Refused ⊎ IsRun before after old new words Refused
 
 -- The words are at fault or ask for help; nothing was done or printed on standard output.
-pub record IsUsage (before after : Option Disk) (old new : Stream) (words : List Text) : Type 0 where
+pub record IsUsage (before after : Storage) (old new : Stream) (words : List Text) : Type 0 where
   pub unasked : AreForNone words
   pub left : after ≡ before
   pub silent : new ≡ old
 
 -- how an ending came about
-abbrev pub Ends : Option Disk → Option Disk → Stream → Stream → List Text → Status → Type 0
+abbrev pub Ends : Storage → Storage → Stream → Stream → List Text → Status → Type 0
 Ends before after old new words Done = IsDone before after old new words
 Ends before after old new words Refused = IsRefused before after old new words
 Ends before after old new words Usage = IsUsage before after old new words
 
 -- The words could not be read; nothing was done, and a line says why.
-pub record IsUnstarted (before after : Option Disk) (old new : Stream) (status : Status) : Type 0 where
+pub record IsUnstarted (before after : Storage) (old new : Stream) (status : Status) : Type 0 where
   pub refused : status ≡ Refused
   pub left : after ≡ before
   pub failure : Failure
   pub printed : IsPrinted old new (failure_line failure)
 
 -- how a process ends: as words ask, or without words
-abbrev pub Starts : Option Disk → Option Disk → Stream → Stream → Status → Type 0
+abbrev pub Starts : Storage → Storage → Stream → Stream → Status → Type 0
 Starts before after old new status = ((words : List Text) × Ends before after old new words status) ⊎ IsUnstarted before after old new status
 
 -- an answer was printed, or a write or a flush failed; a failure's line was printed, or a write or a flush failed
-abbrev pub Responds : Stream → Stream → Result Answer Failure → Status → Type 0
-Responds old new (Ok answer) Done = Took old new (answer_text answer)
-Responds old new (Ok answer) Refused = new.failed ≡ true
-Responds old new (Ok answer) Usage = ⊥
-Responds old new (Err failure) Done = ⊥
-Responds old new (Err failure) Refused = IsPrinted old new (failure_line failure)
-Responds old new (Err failure) Usage = ⊥
+abbrev pub Responds : Stream → Stream → Result Answer Failure → List ℕ → Status → Type 0
+Responds old new (Ok answer) note Done = Took old new (answer_text answer)
+Responds old new (Ok answer) note Refused = new.failed ≡ true
+Responds old new (Ok answer) note Usage = ⊥
+Responds old new (Err failure) note Done = ⊥
+Responds old new (Err failure) note Refused = IsPrinted old new (failure_line failure ++ note)
+Responds old new (Err failure) note Usage = ⊥
 
 -- what is done of a task: an action is answered or fails, and that is printed; a file of events, or of calls and maps, is
 -- played, and no file changes
-abbrev pub Found : Option Disk → Option Disk → Action → Result Answer Failure → Type 0
-Found before after action (Ok answer) = Settles before after action answer
-Found before after action (Err failure) = Fails before after action failure
+abbrev pub Found : Storage → Storage → Action → Bool → Result Answer Failure → List ℕ → Type 0
+Found before after action is_explained (Ok answer) note = Settles before after action answer
+Found before after action is_explained (Err failure) note = Fails before after action failure × IsTold is_explained before.disk action failure note
 
-pub record Acts (before after : Option Disk) (old new : Stream) (action : Action) (status : Status) : Type 0 where
+pub record Acts (before after : Storage) (old new : Stream) (action : Action) (is_explained : Bool) (status : Status) : Type 0 where
   pub found : Result Answer Failure
-  pub true_of : Found before after action found
-  pub responds : Responds old new found status
+  pub note : List ℕ
+  pub true_of : Found before after action is_explained found note
+  pub responds : Responds old new found note status
 
-abbrev pub TaskEnds : Option Disk → Option Disk → Stream → Stream → Task → Status → Type 0
-TaskEnds before after old new (Class action) status = Acts before after old new action status
-TaskEnds before after old new (Sim simulation) status = (after ≡ before) × SimEnds before old new simulation status
-TaskEnds before after old new (Cluster asked is_measured) status = (after ≡ before) × ClusterEnds before old new asked status
+abbrev pub TaskEnds : Storage → Storage → Stream → Stream → Task → Status → Type 0
+TaskEnds before after old new (Class action is_explained) status = Acts before after old new action is_explained status
+TaskEnds before after old new (Sim simulation) status = (after ≡ before) × SimEnds before.disk old new simulation status
+TaskEnds before after old new (Cluster asked is_measured) status = (after ≡ before) × ClusterEnds before.disk old new asked status

@@ -1,22 +1,26 @@
-ghost use Rattle.std.specs.Prelude.{◌≡◌, ◌≢◌, ◌↔◌, ◌≤◌, List, [], false, length, IfErr, IfNone, IfOk, IfSome, IsNone, IsSome, None, Ok, Some, codes, map};
+ghost use Rattle.std.specs.Prelude.{◌≡◌, ◌≢◌, ◌↔◌, ◌≤◌, ℕ, List, [], Option, false, length, IfErr, IfNone, IfOk, IfSome, IsNone, IsSome, None, Ok, Some, codes, map};
 ghost use Rattle.clap.specs.declared.builder.command.Command.{Command as ACommand};
 ghost use Rattle.clap.specs.declared.builder.command.Command.TheViews.{out-Command};
 ghost use Rattle.clap.specs.Words.{AddsArg, AddsSubcommand, all_of, app_of, fault_of, first_value, found_of, kind_of, new_app, rows_of, rule_of, subcommand_name_of, subcommand_of, subcommand_rows_of, with_rule};
 ghost use Rattle.tenant_classes.specs.declared.own_class.TheConstants.{OWN_LIMIT};
-ghost use Rattle.radoscls_program.specs.CommandLine.{Asks, AsksNoTask, AsksNothing, AsksTask, asm_line, caller_rule, class_rule, cluster_line, command_line, dis_line, image_line, methods_rule, option_rule, pack_line, plain_line, required_rule, run_line, sim_line, stats_rule, trace_rule, verify_line};
-ghost use Rattle.radoscls_program.specs.Arguments.{AsksBy, IsClientNumber, NamesCall, NamesCluster, NamesFiles, NamesSim, TakesCluster, TakesPacking, TakesSim, is_set, number_in, texts_of};
+ghost use Rattle.radoscls_program.specs.CommandLine.{Asks, AsksNoTask, AsksNothing, AsksTask, asm_line, call_line, caller_rule, class_rule, cluster_line, command_line, dis_line, each_rule, explain_rule, flag_rule, image_line, is_explained_in, methods_rule, option_rule, pack_line, plain_line, required_rule, run_line, sim_line, stats_rule, trace_rule, value_rule, verify_line};
+ghost use Rattle.radoscls_program.specs.Arguments.{AsksBy, IsClientNumber, NamesCluster, NamesFiles, NamesSim, TakesCall, TakesCluster, TakesPacking, TakesPlain, TakesSim, is_set, number_in, texts_of};
+ghost use Rattle.radoscls_program.specs.Entries.{AreEntries};
 ghost use Rattle.radoscls_program.specs.Own.{Owns, are_own};
 ghost use Rattle.radoscls_program.specs.Raw.{AreRaw};
+ghost use Rattle.class_tool.specs.declared.action.Call.{Call as ACall};
+ghost use Rattle.class_tool.specs.declared.action.Entry.{Entry as AnEntry};
 ghost use Rattle.class_tool.specs.declared.action.Packing.{Packing as APacking};
 ghost use Rattle.class_tool.specs.declared.action.RawMethod.{RawMethod as ARawMethod};
 ghost use Rattle.radoscls_program.specs.Program.{AreForNone};
 
+use crate::entry::entries;
 use crate::own_class::own_classes;
 use crate::raw_method::raw_methods;
 use crate::task::Task;
 use clap::error::{Error, ErrorKind};
 use clap::{Arg, ArgAction, ArgMatches, Command, value_parser};
-use class_tool::{Action, Call, Packing, RawMethod};
+use class_tool::{Action, Call, Entry, Packing, RawMethod};
 use cluster_tool::Clustering;
 use pg_log::ClientId;
 use sim::Simulation;
@@ -64,6 +68,37 @@ fn caller_option<'a>(alloc: Global) -> Arg<'a>
     let help = "The number of the client that calls, 1 to 4294967295";
     let numbers = value_parser!(u32).range(1..);
     option(alloc, "caller", "N", "1", help).value_parser(numbers)
+}
+
+/// An option with one value, and no default.
+fn value<'a>(alloc: Global, id: &'a str, value: &'a str, help: &'a str) -> Arg<'a>
+    ensures rule { rule_of result ≡ value_rule id.entry.now }
+    ensures local { result.global ≡ false }
+{
+    Arg::new(alloc, id).long(id).value_name(value).help(help)
+}
+
+/// An option that may stand more than once, each with one value.
+fn each<'a>(alloc: Global, id: &'a str, value: &'a str, help: &'a str) -> Arg<'a>
+    ensures rule { rule_of result ≡ each_rule id.entry.now }
+    ensures local { result.global ≡ false }
+{
+    Arg::new(alloc, id)
+        .long(id)
+        .value_name(value)
+        .action(ArgAction::Append)
+        .help(help)
+}
+
+/// A flag.
+fn flag<'a>(alloc: Global, id: &'a str, help: &'a str) -> Arg<'a>
+    ensures rule { rule_of result ≡ flag_rule id.entry.now }
+    ensures local { result.global ≡ false }
+{
+    Arg::new(alloc, id)
+        .long(id)
+        .action(ArgAction::SetTrue)
+        .help(help)
 }
 
 /// A subcommand that takes a file, by its place.
@@ -120,19 +155,33 @@ fn with_subcommand<'a>(
     }
 }
 
+/// The flag that has a failure explained.
+fn explain_flag<'a>(alloc: Global) -> Arg<'a>
+    ensures rule { rule_of result ≡ explain_rule }
+    ensures local { result.global ≡ false }
+{
+    flag(
+        alloc,
+        "explain",
+        "Says more of a failure, in lines below its own",
+    )
+}
+
 fn verify_command<'a>(alloc: Global) -> Result<Command<'a>, AllocError>
     ensures line { IfOk result (λ c. app_of c ≡ verify_line) }
     ensures local { IfOk result (λ c. (out-Command c).has_globals ≡ false) }
 {
     let about = "Tells whether the methods of a class image are safe";
-    file_command(alloc, "verify", about, "IN", "The file of the image")
+    let of_image = file_command(alloc, "verify", about, "IN", "The file of the image");
+    with_arg(of_image, explain_flag(alloc))
 }
 
-fn run_command<'a>(alloc: Global) -> Result<Command<'a>, AllocError>
-    ensures line { IfOk result (λ c. app_of c ≡ run_line) }
+/// The subcommand of a call, without the object.
+fn call_command<'a>(alloc: Global) -> Result<Command<'a>, AllocError>
+    ensures line { IfOk result (λ c. app_of c ≡ call_line) }
     ensures local { IfOk result (λ c. (out-Command c).has_globals ≡ false) }
 {
-    let about = "Runs a method of a class image beside an absent object";
+    let about = "Runs a method of a class image beside an object";
     let of_image = file_command(alloc, "run", about, "IN", "The file of the image");
     let method = required(alloc, "METHOD", "The name of the method");
     let input = option(alloc, "input", "HEX", "", "The input, in hexadecimal");
@@ -142,13 +191,38 @@ fn run_command<'a>(alloc: Global) -> Result<Command<'a>, AllocError>
     )
 }
 
+fn run_command<'a>(alloc: Global) -> Result<Command<'a>, AllocError>
+    ensures line { IfOk result (λ c. app_of c ≡ run_line) }
+    ensures local { IfOk result (λ c. (out-Command c).has_globals ≡ false) }
+{
+    let of_call = call_command(alloc);
+    let data = "The object's data, in hexadecimal; without it, xattrs and keys there is none";
+    let object = value(alloc, "object", "HEX", data);
+    let xattr = each(
+        alloc,
+        "xattr",
+        "NAME=HEX",
+        "An xattr of the object; NAME may be 0x..",
+    );
+    let key = each(
+        alloc,
+        "key",
+        "KEY=HEX",
+        "A key of the object's omap; KEY may be 0x..",
+    );
+    let show = flag(alloc, "show", "Prints all that the object holds afterwards");
+    let of_object = with_arg(with_arg(with_arg(of_call, object), xattr), key);
+    with_arg(with_arg(of_object, show), explain_flag(alloc))
+}
+
 fn asm_command<'a>(alloc: Global) -> Result<Command<'a>, AllocError>
     ensures line { IfOk result (λ c. app_of c ≡ asm_line) }
     ensures local { IfOk result (λ c. (out-Command c).has_globals ≡ false) }
 {
     let about = "Writes the image of a class from its text";
     let of_text = file_command(alloc, "asm", about, "IN", "The file of the text");
-    with_arg(of_text, required(alloc, "OUT", "The file of the image"))
+    let image = required(alloc, "OUT", "The file of the image");
+    with_arg(with_arg(of_text, image), explain_flag(alloc))
 }
 
 /// The methods that are packed, one or more.
@@ -166,7 +240,10 @@ fn pack_command<'a>(alloc: Global) -> Result<Command<'a>, AllocError>
 {
     let about = "Writes the image of a class from raw code";
     let of_image = file_command(alloc, "pack", about, "OUT", "The file of the image");
-    with_arg(of_image, methods_argument(alloc))
+    with_arg(
+        with_arg(of_image, methods_argument(alloc)),
+        explain_flag(alloc),
+    )
 }
 
 fn dis_command<'a>(alloc: Global) -> Result<Command<'a>, AllocError>
@@ -174,7 +251,9 @@ fn dis_command<'a>(alloc: Global) -> Result<Command<'a>, AllocError>
     ensures local { IfOk result (λ c. (out-Command c).has_globals ≡ false) }
 {
     let about = "Prints the text of a class image";
-    file_command(alloc, "dis", about, "IN", "The file of the image")
+    let of_image = file_command(alloc, "dis", about, "IN", "The file of the image");
+    let slots = flag(alloc, "slots", "Ends each instruction's line with its slot");
+    with_arg(with_arg(of_image, slots), explain_flag(alloc))
 }
 
 /// The option of a tenant's class, which may stand more than once.
@@ -182,11 +261,8 @@ fn class_option<'a>(alloc: Global) -> Arg<'a>
     ensures rule { rule_of result ≡ class_rule }
     ensures local { result.global ≡ false }
 {
-    Arg::new(alloc, "class")
-        .long("class")
-        .value_name("NAME=IMAGE")
-        .action(ArgAction::Append)
-        .help("A class beside lock and obj: the word that asks it, and the file of its image")
+    let help = "A class beside lock and obj: the word that asks it, and the file of its image";
+    each(alloc, "class", "NAME=IMAGE", help)
 }
 
 /// The flag that has the run drawn.
@@ -194,10 +270,7 @@ fn trace_flag<'a>(alloc: Global) -> Arg<'a>
     ensures rule { rule_of result ≡ trace_rule }
     ensures local { result.global ≡ false }
 {
-    Arg::new(alloc, "trace")
-        .long("trace")
-        .action(ArgAction::SetTrue)
-        .help("Draws the run as a message sequence")
+    flag(alloc, "trace", "Draws the run as a message sequence")
 }
 
 fn sim_command<'a>(alloc: Global) -> Result<Command<'a>, AllocError>
@@ -214,10 +287,8 @@ fn stats_flag<'a>(alloc: Global) -> Arg<'a>
     ensures rule { rule_of result ≡ stats_rule }
     ensures local { result.global ≡ false }
 {
-    Arg::new(alloc, "stats")
-        .long("stats")
-        .action(ArgAction::SetTrue)
-        .help("Writes what the run took to standard error")
+    let help = "Writes what the run took to standard error";
+    flag(alloc, "stats", help)
 }
 
 fn cluster_command<'a>(alloc: Global) -> Result<Command<'a>, AllocError>
@@ -285,16 +356,67 @@ fn verify_action<'a>(matches: &ArgMatches<'a>) -> Option<Action<'a>>
     })
 }
 
-/// What `run` asks for, where its caller is a client's number.
-fn run_action<'a>(matches: &ArgMatches<'a>) -> Option<Action<'a>>
-    ensures value { IfSome result (AsksBy (codes "run") (first_value (found_of matches.now)) (λ id. all_of id (rows_of (found_of matches.now)))) }
-    ensures answered { IsSome result ↔ NamesCall (first_value (found_of matches.now)) }
+/// The entries of an option that may stand more than once.
+fn entries_of<'a>(
+    alloc: Global,
+    matches: &ArgMatches<'a>,
+    id: &str,
+) -> Result<Option<Vec<Entry<'a>>>, AllocError>
+    ensures some { IfOk result (λ found. IfSome found (λ es. AreEntries (texts_of (all_of id.now (rows_of (found_of matches.now)))) es.items)) }
+    ensures none { IfOk result (λ found. IfNone found ((es : List AnEntry) → AreEntries (texts_of (all_of id.now (rows_of (found_of matches.now)))) es → ⊥)) }
 {
-    Some(Action::Run(Call {
+    match matches.get_strs(id) {
+        Some(texts) => entries(alloc, texts),
+        None => entries(alloc, &[]),
+    }
+}
+
+/// What `run` asks for without the object.
+#[derive(Clone, Copy)]
+pub(crate) struct Plain<'a> {
+    image: &'a str,
+    method: &'a str,
+    input: &'a str,
+    caller: ClientId,
+}
+
+/// What `run` asks for without the object, where its caller is a client's number.
+fn plain_call<'a>(matches: &ArgMatches<'a>) -> Option<Plain<'a>>
+    ensures some { IfSome result (TakesPlain (first_value (found_of matches.now))) }
+    ensures none { IfNone result ((call : ACall) → (values : List ℕ → Option (List (List ℕ))) → TakesCall (first_value (found_of matches.now)) values call → ⊥) }
+{
+    Some(Plain {
         image: matches.get_str("IN")?,
         method: matches.get_str("METHOD")?,
         input: matches.get_str("input")?,
         caller: caller_of(matches.get_str("caller")?)?,
+    })
+}
+
+/// What `run` asks for, where its caller is a client's number and each xattr and key has a value.
+fn call_of<'a>(alloc: Global, matches: &ArgMatches<'a>) -> Result<Option<Call<'a>>, AllocError>
+    ensures some { IfOk result (λ found. IfSome found (TakesCall (first_value (found_of matches.now)) (λ id. all_of id (rows_of (found_of matches.now))))) }
+    ensures none { IfOk result (λ found. IfNone found ((call : ACall) → TakesCall (first_value (found_of matches.now)) (λ id. all_of id (rows_of (found_of matches.now))) call → ⊥)) }
+{
+    let plain = match plain_call(matches) {
+        Some(plain) => plain,
+        None => return Ok(None),
+    };
+    let Some(xattrs) = entries_of(alloc, matches, "xattr")? else {
+        return Ok(None);
+    };
+    let Some(keys) = entries_of(alloc, matches, "key")? else {
+        return Ok(None);
+    };
+    Ok(Some(Call {
+        image: plain.image,
+        method: plain.method,
+        input: plain.input,
+        caller: plain.caller,
+        data: matches.get_str("object"),
+        xattrs,
+        keys,
+        is_shown: is_set(matches, "show"),
     }))
 }
 
@@ -316,6 +438,7 @@ fn dis_action<'a>(matches: &ArgMatches<'a>) -> Option<Action<'a>>
 {
     Some(Action::Disassemble {
         image: matches.get_str("IN")?,
+        has_slots: is_set(matches, "slots"),
     })
 }
 
@@ -350,16 +473,13 @@ fn packing_of<'a>(
     }
 }
 
-/// What the subcommand that was entered asks of a class, where it isn't `pack`.
+/// What the subcommand that was entered asks of a class, where it is neither `run` nor `pack`.
 fn action_of<'a>(matches: &ArgMatches<'a>) -> Option<Action<'a>>
     ensures asked { IfSome result (Asks (subcommand_rows_of matches.now)) }
-    ensures unasked { IsNone result → (subcommand_name_of matches.now ≡ Some (codes "pack") → ⊥) → AsksNothing (subcommand_rows_of matches.now) }
+    ensures unasked { IsNone result → (subcommand_name_of matches.now ≡ Some (codes "run") → ⊥) → (subcommand_name_of matches.now ≡ Some (codes "pack") → ⊥) → AsksNothing (subcommand_rows_of matches.now) }
 {
     if let Some(found) = matches.subcommand_matches("verify") {
         return verify_action(found);
-    }
-    if let Some(found) = matches.subcommand_matches("run") {
-        return run_action(found);
     }
     if let Some(found) = matches.subcommand_matches("asm") {
         return asm_action(found);
@@ -388,6 +508,16 @@ fn is_set(matches: &ArgMatches<'_>, id: &str) -> bool
 {
     match matches.get_str(id) {
         Some(value) => value == "true",
+        None => false,
+    }
+}
+
+/// Whether --explain is there.
+fn is_explained(matches: &ArgMatches<'_>) -> bool
+    ensures { result ≡ is_explained_in (subcommand_rows_of matches.now) }
+{
+    match matches.subcommand() {
+        Some((_, found)) => is_set(found, "explain"),
         None => false,
     }
 }
@@ -446,12 +576,18 @@ fn task_of<'a>(alloc: Global, matches: &ArgMatches<'a>) -> Result<Option<Task<'a
     }
     if let Some(found) = matches.subcommand_matches("pack") {
         return match packing_of(alloc, found)? {
-            Some(packing) => Ok(Some(Task::Class(Action::Pack(packing)))),
+            Some(packing) => Ok(Some(Task::Class(Action::Pack(packing), is_explained(matches)))),
+            None => Ok(None),
+        };
+    }
+    if let Some(found) = matches.subcommand_matches("run") {
+        return match call_of(alloc, found)? {
+            Some(call) => Ok(Some(Task::Class(Action::Run(call), is_explained(matches)))),
             None => Ok(None),
         };
     }
     match action_of(matches) {
-        Some(action) => Ok(Some(Task::Class(action))),
+        Some(action) => Ok(Some(Task::Class(action, is_explained(matches)))),
         None => Ok(None),
     }
 }

@@ -5,6 +5,7 @@
 #![tactic(auto)]
 
 mod arguments;
+mod entry;
 mod own_class;
 mod perform;
 mod process;
@@ -15,4 +16,5 @@ mod threads;
 
 pub use class_tool::Printer;
 pub use perform::program;
-pub use process::start;
+pub use process::{end_of, start};
+pub use status::Status;

@@ -1,8 +1,9 @@
-ghost use Rattle.std.specs.Prelude.{◌≡◌, ◌≢◌, true, false, map};
+ghost use Rattle.std.specs.Prelude.{◌≡◌, ◌≢◌, [], true, false, map, string_bytes};
 ghost use Rattle.clap.specs.Words.{kind_of};
 ghost use Rattle.radoscls_program.specs.Clustered.{ClusterEnds};
 ghost use Rattle.radoscls_program.specs.Playing.{SimEnds};
-ghost use Rattle.radoscls_program.specs.Program.{Ends, IsDone, IsRefused, IsUsage, Responds, TaskEnds};
+ghost use Rattle.radoscls_program.specs.Program.{Acts, Ends, Found, IsDone, IsRefused, IsUsage, Responds, TaskEnds};
+ghost use Rattle.class_tool.specs.Files.{storage};
 ghost use Rattle.radoscls_program.specs.Status.{code_of};
 ghost use Rattle.radoscls_program.specs.Streams.{stream, IsPrinted, failure_line};
 ghost use Rattle.radoscls_program.specs.declared.status.Status.{Status as AStatus};
@@ -12,7 +13,7 @@ use crate::status::Status;
 use crate::task::Task;
 use crate::threads::play_cluster;
 use clap::error::{Error, ErrorKind};
-use class_tool::{Answer, Failure, Files, Output, Reads, find};
+use class_tool::{Action, Answer, Failure, Files, Output, Reads, find, find_noted};
 use cluster_tool::{Clustering, Figures};
 use sim::{Ending, Simulation, simulate};
 use std::alloc::Global;
@@ -31,17 +32,53 @@ pub fn refuse<O: Output>(failure: Failure, out: &mut O) -> Status
     Status::Refused
 }
 
-/// Prints an answer or a failure.
-fn respond<O: Output>(found: Result<Answer, Failure>, out: &mut O) -> Status
-    ensures { Responds (stream O.printed O.failed out.old) (stream O.printed O.failed out.new) found result }
+/// Prints an answer, or a failure and the note below it.
+fn respond<O: Output>(found: Result<Answer, Failure>, note: &str, out: &mut O) -> Status
+    ensures { Responds (stream O.printed O.failed out.old) (stream O.printed O.failed out.new) found note.now result }
 {
     match found {
         Ok(answer) => match out.print(&answer) {
             Ok(()) => Status::Done,
             Err(_) => Status::Refused,
         },
-        Err(failure) => refuse(failure, out),
+        Err(failure) => {
+            let _ = out.print(format_args!("{failure}\n{note}"));
+            Status::Refused
+        }
     }
+}
+
+/// What was found, and the note where that is asked for.
+fn find_told<F: Files>(
+    alloc: Global,
+    files: &mut F,
+    action: &Action<'_>,
+    is_explained: bool,
+    note: &mut String,
+) -> Result<Answer, Failure>
+    requires { string_bytes note.old ≡ [] }
+    ensures { Found (storage F.disk F.failed files.old) (storage F.disk F.failed files.new) action.now is_explained result (string_bytes note.new) }
+{
+    if is_explained {
+        find_noted(alloc, files, action, note)
+    } else {
+        find(alloc, files, action)
+    }
+}
+
+/// Does what is asked of a class, and prints it.
+fn act<F: Files, O: Output>(
+    alloc: Global,
+    files: &mut F,
+    action: &Action<'_>,
+    is_explained: bool,
+    out: &mut O,
+) -> Status
+    ensures { Acts (storage F.disk F.failed files.old) (storage F.disk F.failed files.new) (stream O.printed O.failed out.old) (stream O.printed O.failed out.new) action.now is_explained result }
+{
+    let mut note = String::new(alloc);
+    let found = find_told(alloc, files, action, is_explained, &mut note);
+    respond(found, &note, out)
 }
 
 /// Plays a file of events, and prints why where that comes to nothing or ends for want of memory.
@@ -91,10 +128,10 @@ fn do_task<R: Threads + Wait + Clock + Sync, F: Files, O: Output, E: io::Write>(
     out: &mut O,
     err: &mut E,
 ) -> Status
-    ensures { TaskEnds (F.disk files.old) (F.disk files.new) (stream O.printed O.failed out.old) (stream O.printed O.failed out.new) task.now result }
+    ensures { TaskEnds (storage F.disk F.failed files.old) (storage F.disk F.failed files.new) (stream O.printed O.failed out.old) (stream O.printed O.failed out.new) task.now result }
 {
     match task {
-        Task::Class(action) => respond(find(alloc, files, action), out),
+        Task::Class(action, is_explained) => act(alloc, files, action, *is_explained, out),
         Task::Sim(simulation) => play(alloc, files, simulation, out),
         Task::Cluster(asked, is_measured) => measure(
             alloc,
@@ -129,7 +166,7 @@ pub(crate) fn perform<
     O: Output,
     E: io::Write,
 >(alloc: Global, rt: &R, words: &[S], files: &mut F, out: &mut O, err: &mut E) -> Status
-    ensures { Ends (F.disk files.old) (F.disk files.new) (stream O.printed O.failed out.old) (stream O.printed O.failed out.new) (map S.text words.now) result }
+    ensures { Ends (storage F.disk F.failed files.old) (storage F.disk F.failed files.new) (stream O.printed O.failed out.old) (stream O.printed O.failed out.new) (map S.text words.now) result }
 {
     match parse(alloc, words) {
         Ok(task) => {
@@ -164,9 +201,9 @@ pub fn program<S: AsStr, R: Threads + Wait + Clock + Sync, F: Files, O: Output, 
     err: &mut E,
 ) -> u8
     ensures status { (status : AStatus) × (result ≡ code_of status) }
-    ensures done { result ≡ 0 → IsDone (F.disk files.old) (F.disk files.new) (stream O.printed O.failed out.old) (stream O.printed O.failed out.new) (map S.text words.now) }
-    ensures refused { result ≡ 1 → IsRefused (F.disk files.old) (F.disk files.new) (stream O.printed O.failed out.old) (stream O.printed O.failed out.new) (map S.text words.now) }
-    ensures usage { result ≡ 2 → IsUsage (F.disk files.old) (F.disk files.new) (stream O.printed O.failed out.old) (stream O.printed O.failed out.new) (map S.text words.now) }
+    ensures done { result ≡ 0 → IsDone (storage F.disk F.failed files.old) (storage F.disk F.failed files.new) (stream O.printed O.failed out.old) (stream O.printed O.failed out.new) (map S.text words.now) }
+    ensures refused { result ≡ 1 → IsRefused (storage F.disk F.failed files.old) (storage F.disk F.failed files.new) (stream O.printed O.failed out.old) (stream O.printed O.failed out.new) (map S.text words.now) }
+    ensures usage { result ≡ 2 → IsUsage (storage F.disk F.failed files.old) (storage F.disk F.failed files.new) (stream O.printed O.failed out.old) (stream O.printed O.failed out.new) (map S.text words.now) }
     // Where a write or a flush of `out` fails, the ending is 1.
     ensures failed { O.failed out.old ≡ false → O.failed out.new ≡ true → result ≡ 1 }
 {

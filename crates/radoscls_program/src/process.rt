@@ -1,6 +1,7 @@
-ghost use Rattle.std.specs.Prelude.{◌≡◌, None, IfOk, IfErr, map, string_bytes};
+ghost use Rattle.std.specs.Prelude.{◌≡◌, IfOk, IfErr, map, string_bytes};
 ghost use Rattle.std.specs.Process.{exit_status};
 ghost use Rattle.radoscls_program.specs.Program.{Ends, IsUnstarted, Starts};
+ghost use Rattle.class_tool.specs.Files.{Storage, storage, unwritten};
 ghost use Rattle.radoscls_program.specs.Status.{code_of};
 ghost use Rattle.radoscls_program.specs.Streams.{stream};
 ghost use Rattle.radoscls_program.specs.declared.status.Status.{Status as AStatus};
@@ -22,8 +23,8 @@ fn words<R: Env + AllocGlobal>(rt: &R) -> io::Result<Vec<String>> {
     Ok(env::args(rt)?.collect(rt.alloc())?)
 }
 
-/// Runs the program on those words, or says why there are none.
-fn end_of<R: Threads + Wait + Clock + Sync, F: class_tool::Files, O: Output, E: io::Write>(
+/// Runs the program on those words, or says why there are none: `program`, on words that may be missing.
+pub fn end_of<R: Threads + Wait + Clock + Sync, F: class_tool::Files, O: Output, E: io::Write>(
     alloc: Global,
     rt: &R,
     words: &io::Result<Vec<String>>,
@@ -31,8 +32,8 @@ fn end_of<R: Threads + Wait + Clock + Sync, F: class_tool::Files, O: Output, E: 
     out: &mut O,
     err: &mut E,
 ) -> Status
-    ensures asked { IfOk words.now (λ all. Ends (F.disk files.old) (F.disk files.new) (stream O.printed O.failed out.old) (stream O.printed O.failed out.new) (map string_bytes all.items) result) }
-    ensures unread { IfErr words.now (λ _. IsUnstarted (F.disk files.old) (F.disk files.new) (stream O.printed O.failed out.old) (stream O.printed O.failed out.new) result) }
+    ensures asked { IfOk words.now (λ all. Ends (storage F.disk F.failed files.old) (storage F.disk F.failed files.new) (stream O.printed O.failed out.old) (stream O.printed O.failed out.new) (map string_bytes all.items) result) }
+    ensures unread { IfErr words.now (λ _. IsUnstarted (storage F.disk F.failed files.old) (storage F.disk F.failed files.new) (stream O.printed O.failed out.old) (stream O.printed O.failed out.new) result) }
 {
     match words {
         Ok(words) => perform(alloc, rt, words, files, out, err),
@@ -40,14 +41,14 @@ fn end_of<R: Threads + Wait + Clock + Sync, F: class_tool::Files, O: Output, E: 
     }
 }
 
-/// Runs the program on the process's own words and files, and gives what the process ends with: `program`'s answer, or 1
-/// where its words could not be read, of which a line is printed.
+/// Runs `end_of` on the process's own words and files, and gives the number of its status: `program`'s answer, or 1 where
+/// the words could not be read, of which a line is printed.
 pub fn start<
     R: Env + Files + AllocGlobal + Input + Threads + Wait + Clock + Sync,
     O: Output,
     E: io::Write,
 >(rt: &R, out: &mut O, err: &mut E) -> ExitCode
-    ensures { (status : AStatus) × (exit_status result ≡ code_of status) × Starts None None (stream O.printed O.failed out.old) (stream O.printed O.failed out.new) status }
+    ensures { (status : AStatus) × (exit_status result ≡ code_of status) × (after : Storage) × Starts unwritten after (stream O.printed O.failed out.old) (stream O.printed O.failed out.new) status }
 {
     let mut files = SystemFiles::new(rt);
     let words = words(rt);

@@ -5,8 +5,8 @@ use sim::Simulation;
 /// What the words ask for.
 #[derive(Drop)]
 pub(crate) enum Task<'a> {
-    /// Something of the class in a file.
-    Class(Action<'a>),
+    /// Something of the class in a file, and whether a failure is explained.
+    Class(Action<'a>, bool),
     /// A file of events, played.
     Sim(Simulation<'a>),
     /// A file of calls and maps, played on a cluster in threads.

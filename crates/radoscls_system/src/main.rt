@@ -19,7 +19,7 @@ const LONG: usize = 5_000;
 const MOST: usize = 4_999;
 
 /// Words behind the program's name.
-static CALLS: [&[&str]; 16] = [
+static CALLS: [&[&str]; 19] = [
     // each status
     &["radoscls", "verify", "keep.img"],
     &["radoscls", "verify", "missing.img"],
@@ -58,6 +58,18 @@ static CALLS: [&[&str]; 16] = [
     &["radoscls", "run", "out.img", "sum", "--input", "010203"],
     // a cluster in threads, which loses a primary
     &["radoscls", "cluster", "lost_primary.cluster"],
+    // the system's reason
+    &["radoscls", "verify", "missing.img", "--explain"],
+    &["radoscls", "asm", "keep.txt", ".", "--explain"],
+    // an object before the call, and after it
+    &[
+        "radoscls",
+        "run",
+        "keep.img",
+        "keep",
+        "--object=6162",
+        "--show",
+    ],
     // an image on standard input
     &["radoscls", "verify", "-"],
 ];

@@ -163,20 +163,21 @@ impl<C: Classes> Network<C> {
         requires { table.now ≡ C.classes }
     {
         let packet = self.sent.get(self.come)?;
-        let (receiver, sender) = (packet.receiver, packet.message.sender);
+        let stop = stop_of(packet.receiver);
         let is_lost = self.come == LOST;
         self.come = self.come.checked_add(1)?;
-        match receiver {
-            Party::Node(_) if is_lost => Some(()),
-            Party::Node(node) => {
+        match stop {
+            Stop::Node(_) if is_lost => Some(()),
+            Stop::Node(number) => {
                 let message = copy_message(self.alloc, &packet.message)?;
-                self.come_to(table, node.get(), Event::Message(message))
+                self.come_to(table, number, Event::Message(message))
             }
-            Party::Monitor => {
+            Stop::Monitor => {
+                let sender = packet.message.sender;
                 let interval = asked_interval(&packet.message.kind)?;
                 self.activate(sender, interval)
             }
-            Party::Client(_) => Some(()),
+            Stop::Client => Some(()),
         }
     }
 
@@ -188,6 +189,22 @@ impl<C: Classes> Network<C> {
             kind: Kind::Activated(interval),
         };
         self.sent.push(Packet { receiver, message }).ok()
+    }
+}
+
+/// Where a message comes to: a node by its number, the monitor, or a client.
+#[derive(Clone, Copy)]
+enum Stop {
+    Node(u64),
+    Monitor,
+    Client,
+}
+
+fn stop_of(receiver: Party) -> Stop {
+    match receiver {
+        Party::Node(node) => Stop::Node(node.get()),
+        Party::Monitor => Stop::Monitor,
+        Party::Client(_) => Stop::Client,
     }
 }
 

@@ -1,13 +1,15 @@
 use Rattle.std.proofs.Common.{map, arith}
 use Rattle.std.proofs.lemmas.Grind.{common_steps}
+use Rattle.class_tool.specs.Files.{storage}
 use Rattle.radoscls_program.specs.Streams.{stream}
 use Rattle.radoscls_program.proofs.Ended.{failed_by, refused_by}
 use Rattle.radoscls_program.proofs.perform.program.Goals as goal
 
 pub returns-clause-refused : goal.returns-clause-refused
 returns-clause-refused g c =
+    let files = storage g.F.Reads.disk g.F.Files.failed in
     let out = stream g.O.Output.printed g.O.Output.failed in
-    refused_by (g.F.Reads.disk c.args.files.now) (g.F.Reads.disk c.perform.new.files) (out c.args.out.now) (out c.perform.new.out) (map g.S.AsStr.text c.args.words.now)
+    refused_by (files c.args.files.now) (files c.perform.new.files) (out c.args.out.now) (out c.perform.new.out) (map g.S.AsStr.text c.args.words.now)
     c.perform.result c.code.result c.code.ensures c.perform.ensures
 
 pub returns-clause-done : goal.returns-clause-done
@@ -15,6 +17,7 @@ returns-clause-done g c = grind (arith, common_steps)
 
 pub returns-clause-failed : goal.returns-clause-failed
 returns-clause-failed g c =
+    let files = storage g.F.Reads.disk g.F.Files.failed in
     let out = stream g.O.Output.printed g.O.Output.failed in
-    failed_by (g.F.Reads.disk c.args.files.now) (g.F.Reads.disk c.perform.new.files) (out c.args.out.now) (out c.perform.new.out) (map g.S.AsStr.text c.args.words.now)
+    failed_by (files c.args.files.now) (files c.perform.new.files) (out c.args.out.now) (out c.perform.new.out) (map g.S.AsStr.text c.args.words.now)
     c.perform.result c.code.result c.code.ensures c.perform.ensures

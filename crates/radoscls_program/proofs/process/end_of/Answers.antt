@@ -1,11 +1,13 @@
 use Rattle.std.proofs.Common.{sym, subst, map, string_bytes, IfOk}
+use Rattle.class_tool.specs.Files.{storage}
 use Rattle.radoscls_program.specs.Program.{Ends}
 use Rattle.radoscls_program.specs.Streams.{stream}
 use Rattle.radoscls_program.proofs.process.end_of.Goals as goal
 
 pub returns-in-Ok-clause-asked : goal.returns-in-Ok-clause-asked
 returns-in-Ok-clause-asked g c =
+    let files = storage g.F.Reads.disk g.F.Files.failed in
     let out = stream g.O.Output.printed g.O.Output.failed in
-    let Ended = Ends (g.F.Reads.disk c.args.files.now) (g.F.Reads.disk c.perform.new.files) (out c.args.out.now) (out c.perform.new.out) in
+    let Ended = Ends (files c.args.files.now) (files c.perform.new.files) (out c.args.out.now) (out c.perform.new.out) in
     let ends = subst (λ ws. Ended (map string_bytes ws) c.perform.result) c.deref.ensures.value c.perform.ensures in
     subst (λ r. IfOk r (λ all. Ended (map string_bytes all.items) c.perform.result)) (sym c.in-Ok.is) ends

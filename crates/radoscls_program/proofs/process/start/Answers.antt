@@ -1,4 +1,7 @@
-use Rattle.std.proofs.Common.{map, string_bytes, ◌∙◌, None}
+use Rattle.std.proofs.Common.{Bool, map, string_bytes, ◌∙◌, None, subst}
+use Rattle.class_tool.specs.Files.{Storage}
+use Rattle.class_tool.specs.System.{has_failed}
+use Rattle.radoscls_program.specs.Program.{Starts}
 use Rattle.radoscls_program.specs.Streams.{stream}
 use Rattle.radoscls_program.proofs.Ended.{started}
 use Rattle.radoscls_program.proofs.process.start.Goals as goal
@@ -7,5 +10,8 @@ pub returns : goal.returns
 returns g c =
     let out = stream g.O.Output.printed g.O.Output.failed in
     let status = c.end_of-status.result in
-    let how = started c.words-words.result (λ all. map string_bytes all.items) None None (out c.args.out.now) (out c.end_of-status.new.out) status c.end_of-status.ensures.asked c.end_of-status.ensures.unread in
-    (status, c.from.ensures ∙ c.code.ensures, how)
+    let before : Storage = record { disk = None; failed = has_failed c.new-files.result } in
+    let after : Storage = record { disk = None; failed = has_failed c.end_of-status.new.files } in
+    let how = started c.words-words.result (λ all. map string_bytes all.items) before after (out c.args.out.now) (out c.end_of-status.new.out) status c.end_of-status.ensures.asked c.end_of-status.ensures.unread in
+    let S : Bool → Type 0 = λ failed. Starts (record { disk = None; failed = failed }) after (out c.args.out.now) (out c.end_of-status.new.out) status in
+    (status, c.from.ensures ∙ c.code.ensures, after, subst S c.new-files.ensures how)

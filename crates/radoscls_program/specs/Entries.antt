@@ -1,0 +1,19 @@
+-- The xattrs and the keys that `run` is given, each spelled `NAME=HEX`.
+use Rattle.std.specs.Prelude.{◌≡◌, ⊤, List, [], ◌∷◌, true}
+use Rattle.std.specs.List.{list_any}
+use Rattle.clap.specs.Words.{Text}
+use Rattle.class_tool.specs.declared.action.Entry.{Entry}
+use Rattle.radoscls_program.specs.Own.{image_in, is_equals, name_in}
+
+-- a text spells that entry: its name stands before the first `=`, its value behind it
+pub record IsEntry (text : Text) (e : Entry) : Type 0 where
+  pub ends : list_any is_equals text ≡ true
+  pub name : e.name.now ≡ name_in text
+  pub value : e.value.now ≡ image_in text
+
+-- the texts spell those entries, in their order
+abbrev pub AreEntries : List Text → List Entry → Type 0
+AreEntries [] [] = ⊤
+AreEntries [] (e ∷ es) = ⊥
+AreEntries (text ∷ texts) [] = ⊥
+AreEntries (text ∷ texts) (e ∷ es) = IsEntry text e × AreEntries texts es
