@@ -7,7 +7,9 @@ use Rattle.bpf_decode.specs.declared.insn.Operand.{Operand}
 use Rattle.bpf_decode.specs.declared.insn.Operand.TheVariants.{Immediate, Register}
 use Rattle.bpf_decode.specs.declared.insn.Insn.{Insn}
 use Rattle.bpf_decode.specs.declared.insn.Insn.TheVariants.{Alu, Neg, Mov, MovSigned, End, LoadWide, Load, LoadSigned, Store, Jump, JumpLong, Branch, Call, CallLocal, Exit}
-use Rattle.bpf_decode.specs.Class.{ClassMethod}
+use Rattle.bpf_decode.specs.declared.rule_set.RuleSet.{RuleSet}
+use Rattle.bpf_decode.specs.declared.rule_set.RuleSet.TheVariants.{One, Two}
+use Rattle.bpf_decode.specs.Class.{ClassMethod, Class}
 use Rattle.bpf_decode.specs.Instruction.{slot_count}
 use Rattle.asm_lines.specs.declared.form.Form.TheVariants as forms
 use Rattle.asm_lines.specs.Words.{word_of}
@@ -83,9 +85,18 @@ directive_line m = codes ".method " ++ m.name ++ codes " " ++ flags_text m.flags
 abbrev pub method_text : ClassMethod → List ℕ
 method_text m = directive_line m ++ codes "\n" ++ canonical_text m.instructions
 
--- the text of a class: its methods, one behind the other
-abbrev pub class_text : List ClassMethod → List ℕ
-class_text ms = flat_map method_text ms
+-- methods, one behind the other
+abbrev pub methods_text : List ClassMethod → List ℕ
+methods_text ms = flat_map method_text ms
+
+-- the line of a rule set, with its end: rule set 1 has none
+abbrev pub rules_text : RuleSet → List ℕ
+rules_text One = []
+rules_text Two = codes ".rules 2\n"
+
+-- the text of a class: its rule set, and its methods
+abbrev pub class_text : Class → List ℕ
+class_text c = rules_text c.rules ++ methods_text c.methods
 
 -- ---- the same with each instruction's slot in a comment
 
@@ -102,5 +113,8 @@ code_with_slots slot (i ∷ is) = slot_line slot i ++ codes "\n" ++ code_with_sl
 abbrev pub method_with_slots : ClassMethod → List ℕ
 method_with_slots m = directive_line m ++ codes "\n" ++ code_with_slots 0 m.instructions
 
-abbrev pub class_with_slots : List ClassMethod → List ℕ
-class_with_slots ms = flat_map method_with_slots ms
+abbrev pub methods_with_slots : List ClassMethod → List ℕ
+methods_with_slots ms = flat_map method_with_slots ms
+
+abbrev pub class_with_slots : Class → List ℕ
+class_with_slots c = rules_text c.rules ++ methods_with_slots c.methods

@@ -3,18 +3,20 @@ use Rattle.std.proofs.Common.{◌≡◌, ℕ, ◌==◌, ◌+◌, ◌≤◌, Bool
 use Rattle.std.specs.List.{list_all, before_first, AllByRecursion}
 use Rattle.std.specs.Fmt.{decimal}
 use Rattle.bpf_decode.specs.declared.insn.Insn.{Insn}
+use Rattle.bpf_decode.specs.declared.rule_set.RuleSet.{RuleSet}
+use Rattle.bpf_decode.specs.declared.rule_set.RuleSet.TheVariants.{One, Two}
 use Rattle.bpf_decode.specs.Instruction.{Fits, AllFit, slot_total, slot_count}
 use Rattle.bpf_decode.specs.Class.{ClassMethod, IsMethod}
 use Rattle.asm_lines.specs.Texts.{is_blank, onto_trimmed, trim_start, trim_end, trim, content}
 use Rattle.asm_lines.specs.Statements.{statement_of, statements_of}
-use Rattle.asm_lines.specs.Canonical.{line_of, directive_line, canonical_text, class_text, slot_line, code_with_slots, class_with_slots}
+use Rattle.asm_lines.specs.Canonical.{line_of, directive_line, canonical_text, methods_text, rules_text, class_text, slot_line, code_with_slots, methods_with_slots, class_with_slots}
 use Rattle.bpf_asm.specs.Classes.{class_assembled, read_class_text}
 use Rattle.bpf_asm.specs.Laws.{SlotTextsGiveBack, SlotTextsAreInGrammar}
 use Rattle.bpf_asm.proofs.PlainBytes.{is_quiet, Free, free_where, quiet_where, quiet_comment, quiet_feed, before_at, before_none, all_append}
 use Rattle.bpf_asm.proofs.NumberTexts.{decimal_plain}
 use Rattle.bpf_asm.proofs.InsnTexts.{line_quiet}
 use Rattle.bpf_asm.proofs.BodyTexts.{split_line, one_line}
-use Rattle.bpf_asm.proofs.ClassTexts.{directive_quiet, class_texts_give_back}
+use Rattle.bpf_asm.proofs.ClassTexts.{directive_quiet, rules_quiet, class_texts_give_back}
 use Rattle.bpf_asm.proofs.ClassGrammar.{read_is_class_text}
 
 -- ---- a comment says nothing
@@ -93,19 +95,23 @@ code_same slot (i ∷ is) a b fit few same =
     ∙ sym (one_line (line_of i) (canonical_text is ++ b) this (line_quiet i fit.0) refl)
     ∙ ap statements_of (sym (append_assoc (line_of i ++ codes "\n") (canonical_text is) b))
 
-class_same : (ms : List ClassMethod) → AllByRecursion IsMethod ms → statements_of (class_with_slots ms) ≡ statements_of (class_text ms)
-class_same [] h = refl
-class_same (m ∷ ms) h =
+methods_same : (ms : List ClassMethod) → AllByRecursion IsMethod ms → statements_of (methods_with_slots ms) ≡ statements_of (methods_text ms)
+methods_same [] h = refl
+methods_same (m ∷ ms) h =
     let few = h.0.slots in
-    let a = class_with_slots ms in
-    let b = class_text ms in
+    let a = methods_with_slots ms in
+    let b = methods_text ms in
     ap statements_of (append_assoc (directive_line m ++ codes "\n") (code_with_slots 0 m.instructions) a)
-    ∙ below_line (directive_line m) (code_with_slots 0 m.instructions ++ a) (canonical_text m.instructions ++ b) (directive_quiet m h.0) (code_same 0 m.instructions a b h.0.fit (omega arith) (class_same ms h.1))
+    ∙ below_line (directive_line m) (code_with_slots 0 m.instructions ++ a) (canonical_text m.instructions ++ b) (directive_quiet m h.0) (code_same 0 m.instructions a b h.0.fit (omega arith) (methods_same ms h.1))
     ∙ ap statements_of (sym (append_assoc (directive_line m ++ codes "\n") (canonical_text m.instructions) b))
+
+class_same : (rules : RuleSet) (ms : List ClassMethod) → AllByRecursion IsMethod ms → statements_of (rules_text rules ++ methods_with_slots ms) ≡ statements_of (rules_text rules ++ methods_text ms)
+class_same One ms h = methods_same ms h
+class_same Two ms h = below_line (codes ".rules 2") (methods_with_slots ms) (methods_text ms) rules_quiet (methods_same ms h)
 
 pub slot_texts_give_back : SlotTextsGiveBack
 unfolding read_class_text
-slot_texts_give_back ms h = ap class_assembled (class_same ms h.methods) ∙ class_texts_give_back ms h
+slot_texts_give_back c h = ap class_assembled (class_same c.rules c.methods h.methods) ∙ class_texts_give_back c h
 
 pub slot_texts_in_grammar : SlotTextsAreInGrammar
-slot_texts_in_grammar ms h = read_is_class_text (class_with_slots ms) ms (slot_texts_give_back ms h)
+slot_texts_in_grammar c h = read_is_class_text (class_with_slots c) c (slot_texts_give_back c h)

@@ -4,7 +4,7 @@ use Rattle.bpf_asm.specs.Canonical.{class_text, class_with_slots}
 use Rattle.bpf_asm.specs.Classes.{AsmError, read_class_text}
 use Rattle.bpf_asm.specs.Fault.{no_memory}
 use Rattle.bpf_asm.specs.Grammar.{IsClassText}
-use Rattle.bpf_decode.specs.Class.{ClassMethod, IsImage}
+use Rattle.bpf_decode.specs.Class.{Class, IsImage}
 use Rattle.class_tool.specs.Files.{Disk, FailsToWrite, Holds, IsUnreadable, Storage, Writes}
 use Rattle.class_tool.specs.Image.{IsImageIn}
 use Rattle.class_tool.specs.declared.failure.Failure.{Failure}
@@ -12,7 +12,7 @@ use Rattle.class_tool.specs.declared.failure.Failure.TheVariants.{CannotRead, Ca
 
 -- the bytes are the image of the class that the text is
 pub record Spells (text : List ℕ) (bytes : List ℕ) : Type 0 where
-  pub class : List ClassMethod
+  pub class : Class
   pub read : IsClassText text class
   pub image : IsImage bytes class
 
@@ -50,7 +50,7 @@ TextFails disk name (Call error) = ⊥
 -- the text is one of no class, and this is the first line that is refused and the least fault there
 pub record IsFaultOf (text : List ℕ) (error : AsmError) : Type 0 where
   pub first : read_class_text text ≡ Err error
-  pub none : (class : List ClassMethod) → IsClassText text class → ⊥
+  pub none : (class : Class) → IsClassText text class → ⊥
 
 -- Why a text has no image: memory was refused, or it is one of no class.
 abbrev pub ImageFails : List ℕ → Failure → Type 0
@@ -84,12 +84,12 @@ AssembleFails before after text image failure =
     ((after ≡ before) × (TextFails before.disk text failure ⊎ SourceFails before.disk text failure)) ⊎ WriteFails before after text image failure
 
 -- a class's canonical text, with each instruction's slot or without
-abbrev pub text_of : Bool → List ClassMethod → List ℕ
+abbrev pub text_of : Bool → Class → List ℕ
 text_of false class = class_text class
 text_of true class = class_with_slots class
 
 -- the text is that of the class whose image the file holds
 pub record IsTextOf (has_slots : Bool) (disk : Option Disk) (name : List ℕ) (text : List ℕ) : Type 0 where
-  pub class : List ClassMethod
+  pub class : Class
   pub image : IsImageIn disk name class
   pub canonical : text ≡ text_of has_slots class

@@ -1,6 +1,6 @@
 -- What is told beside a failure's line, where that is asked for.
 use Rattle.std.specs.Prelude.{◌≡◌, ⊤, ℕ, List, [], Option}
-use Rattle.bpf_decode.specs.Class.{ClassMethod}
+use Rattle.bpf_decode.specs.Class.{Class}
 use Rattle.verifier.specs.declared.refusal.Refusal.{Refusal}
 use Rattle.class_tool.specs.Files.{Disk}
 use Rattle.class_tool.specs.Image.{IsImageIn}
@@ -12,9 +12,9 @@ use Rattle.class_tool.specs.declared.failure.Failure.TheVariants as failure
 
 -- the note of the refusal of the class whose image the file holds
 pub record IsRefusalNote (disk : Option Disk) (name : List ℕ) (refusal : Refusal) (note : List ℕ) : Type 0 where
-  pub class : List ClassMethod
+  pub class : Class
   pub image : IsImageIn disk name class
-  pub told : note ≡ refusal_note class refusal
+  pub told : note ≡ refusal_note class.methods refusal
 
 -- of a failed load the note of the refusal, and else nothing
 abbrev pub IsLoadNote : Option Disk → List ℕ → Failure → List ℕ → Type 0

@@ -241,7 +241,7 @@ pub(crate) fn refusal_note(
     class: &ClassImage,
     refusal: &Refusal,
 ) -> Result<String, AllocError>
-    ensures { IfOk result (λ text. string_bytes text ≡ refusal_note class.now refusal.now) }
+    ensures { IfOk result (λ text. string_bytes text ≡ refusal_note class.now.methods refusal.now) }
 {
     if let Rule::NoMemory = refusal.rule {
         return Ok(String::new(alloc));

@@ -11,8 +11,8 @@ use bpf_decode::{
     SignedMove, SignedWidth, Width, encode,
 };
 use class_texts::{
-    LOCK, LOCK_PLAIN, ONE_METHOD, ONE_METHOD_PLAIN, OTHERS, SLOTS, SLOTS_PLAIN, TWO_METHODS,
-    TWO_METHODS_PLAIN,
+    LOCK, LOCK_PLAIN, ONE_METHOD, ONE_METHOD_PLAIN, OTHERS, RULED, RULED_PLAIN, SLOTS, SLOTS_PLAIN,
+    TWO_METHODS, TWO_METHODS_PLAIN,
 };
 use std::alloc::Global;
 use std::process::Abort;
@@ -244,6 +244,9 @@ const REFUSED: &str = "1 Range
 1 Range a:/
 1 Word .method f r 0 0/exit
 1 Word .method
+1 Word .rules 2/exit
+2 Word exit/.rules 3
+1 Word .rules 2
 3 Word /exit/foo r1
 1 Word foo r11/mov r11
 1 Operand mov r0
@@ -348,7 +351,7 @@ fn are_right(rt: &impl Abort, alloc: Global, rows: &str, of_class: bool, wanted:
 
 #[test]
 fn refused(rt: HostRuntime) {
-    are_right(&rt, rt.alloc(), REFUSED, false, 43);
+    are_right(&rt, rt.alloc(), REFUSED, false, 46);
 }
 
 /// A line so many times, and the lines behind it.
@@ -425,11 +428,13 @@ fn is_true(found: Result<bool, AsmError>) -> bool {
 }
 
 /// Texts of classes, and how they are printed.
-const CLASSES: [(&str, &str); 5] = [
+const CLASSES: [(&str, &str); 7] = [
     (LOCK, LOCK_PLAIN),
     (LOCK_PLAIN, LOCK_PLAIN),
     (ONE_METHOD, ONE_METHOD_PLAIN),
     (TWO_METHODS, TWO_METHODS_PLAIN),
+    (RULED, RULED_PLAIN),
+    (RULED_PLAIN, RULED_PLAIN),
     (SLOTS, SLOTS_PLAIN),
 ];
 
@@ -477,11 +482,26 @@ const REFUSED_CLASSES: &str = "1 Range
 3 Label .method g r 0 0/exit/.method f r 0 0/exit
 3 Label .method f r 0 0/exit/.method f r 0 0/exit
 5 Label .method f r 0 0/a:/exit/.method g r 0 0/ja a
+1 Operand .rules 1/.method f r 0 0/exit
+1 Operand .rules 0x2/.method f r 0 0/exit
+1 Operand .rules/.method f r 0 0/exit
+1 Operand .rules 2 2/.method f r 0 0/exit
+1 Word .rules2/.method f r 0 0/exit
+1 Operand .rules 3
+1 Range .rules 2
+1 Range .rules 2/.method f r 0 0
+2 Word .rules 2/.rules 2/.method f r 0 0/exit
+2 Word .rules 2/.rules 3/.method f r 0 0/exit
+2 Word .rules 2/exit/.method f r 0 0/exit
+2 Word .method f r 0 0/.rules 2/exit
+3 Word .method f r 0 0/exit/.rules 3/.method g r 0 0/exit
+1 Word a:/.rules 2/.method f r 0 0/exit
+2 Operand .rules 2/.method f/exit
 ";
 
 #[test]
 fn refused_classes(rt: HostRuntime) {
-    are_right(&rt, rt.alloc(), REFUSED_CLASSES, true, 22);
+    are_right(&rt, rt.alloc(), REFUSED_CLASSES, true, 37);
 }
 
 /// Memory ran out, at line 0.
