@@ -1,5 +1,5 @@
 -- The laws of the join of frames, and that a join holds what either part holds.
-use Rattle.std.specs.Prelude.{◌≡◌, ℕ, ◌+◌, ◌%◌, ◌^◌, ◌<◌, ◌≤◌, List, [], ◌∷◌, Option, Some, None, true, length}
+use Rattle.std.specs.Prelude.{◌≡◌, ℕ, ◌+◌, ◌%◌, ◌^◌, ◌<◌, ◌≤◌, List, [], ◌∷◌, Option, Some, None, true, length, replicate}
 use Rattle.abstract_num.specs.Plain.{Plain, Holds, Below}
 use Rattle.abstract_num.specs.Keeping.{Fits}
 use Rattle.bpf_decode.specs.declared.region.Region.TheVariants.{Input, Output, Stack}
@@ -45,16 +45,20 @@ JoinIsAbove = (xs ys : List Kind) → length xs ≡ length ys → BelowEach (see
 pub record JoinHolds (f g : PlainFrame) : Type 0 where
   pub left : (cs : List (Option Value)) → HoldsEach f.registers cs → HoldsEach (join f g).registers cs
   pub right : (cs : List (Option Value)) → HoldsEach g.registers cs → HoldsEach (join f g).registers cs
+  pub slots_left : (vs : List (Option Value)) → HoldsEach f.slots vs → HoldsEach (join f g).slots vs
+  pub slots_right : (vs : List (Option Value)) → HoldsEach g.slots vs → HoldsEach (join f g).slots vs
 
 abbrev pub JoinsHold : Type 0
 JoinsHold = (f g : PlainFrame) → JoinHolds f g
 
--- What a method begins with, an input of n bytes: the entry frame holds it.
-abbrev pub EntryHolds : Type 0
-EntryHolds =
-    (in_cap stack n : ℕ) → in_cap < 2 ^ 64 → stack < 2 ^ 64 → n ≤ in_cap →
-    HoldsEach (entry_frame in_cap stack).registers
+-- What a method begins with, an input of n bytes and a stack of zeros: the entry frame holds it.
+pub record EntryIsHeld (in_cap stack count n : ℕ) : Type 0 where
+  pub registers : HoldsEach (entry_frame in_cap stack count).registers
     (None ∷ Some (values.Ptr Input 0) ∷ Some (values.Num n) ∷ Some (values.Ptr Output 0) ∷ None ∷ None ∷ None ∷ None ∷ None ∷ None ∷ Some (values.Ptr Stack stack) ∷ [])
+  pub slots : HoldsEach (entry_frame in_cap stack count).slots (replicate count (Some (values.Num 0)))
+
+abbrev pub EntryHolds : Type 0
+EntryHolds = (in_cap stack count n : ℕ) → in_cap < 2 ^ 64 → stack < 2 ^ 64 → n ≤ in_cap → EntryIsHeld in_cap stack count n
 
 -- An access that fits by an offset stays within the first so many bytes, at every place that the offset holds.
 abbrev pub AccessesFit : Type 0
