@@ -35,8 +35,9 @@ use Rattle.abstract_num.specs.Keeping.{HeldIn, HeldInBoth, NumbersFit, Constants
 use Rattle.abstract_regs.specs.declared.kind.Kind.{Kind}
 use Rattle.abstract_regs.specs.declared.kind.Kind.TheVariants as code
 use Rattle.abstract_regs.specs.Kind.{PlainKind, Unset, Num, Ptr, HoldsKind, alu_kind, neg_kind, mov_kind, signed_move_kind, end_kind, both_nums, same_num, along_kinds, last_place, is_unset, is_num, is_ptr}
-use Rattle.abstract_regs.specs.Slots.{touches, access_span, range_span, whole_slot, slot_kind, spoiled, stored, meets}
-use Rattle.abstract_regs.specs.Frame.{PlainFrame, or_unset, kind_at, with_kind, stack_place, stack_range, room_span, kept_kind, after_store, after_call, operand_kind, HoldsEach}
+use Rattle.abstract_regs.specs.declared.content.Content.TheVariants.{Nothing, Pointer}
+use Rattle.abstract_regs.specs.Slots.{stack_place, stack_range, touches, access_span, range_span, whole_slot, slot_kind, spoiled, stored, meets}
+use Rattle.abstract_regs.specs.Frame.{PlainFrame, or_unset, kind_at, with_kind, room_span, kept_kind, after_store, after_call, operand_kind, HoldsEach}
 use Rattle.abstract_regs.specs.Flow.{target, edge_to, computed, with_both, along_edge, loaded_kind, flow}
 use Rattle.abstract_regs.specs.Moves.{value_at, operand_in, with_value, Touched, Reached, IsNumber, Loads, Stores, Overwrites, Overwritten, Reaches, KindFits, EachFits, AllowsRoom, Keeps}
 use Rattle.abstract_regs.proofs.SlotLemmas.{spoiled_holds, set_holds, inside_of, held_slot, all_numbers, access_touches, range_touches, whole_is, one_place}
@@ -295,7 +296,7 @@ module _ (law : Laws) where
         let is = loads.whole j (record { region = region; width = place.0; place = place.1; inside = omega (arith, long, inside) }) in
         subst (HoldsKind x) is (held_slot slots vs j x held there)
 
-    a_number : (P : Option Plain) (at w : ℕ) (r : Region) (v : Value) → HeldIn P at → Loads vs r at w v → meets is_unset (access_span P w) 0 slots ≡ false → meets is_ptr (access_span P w) 0 slots ≡ false → (n : ℕ) × (v ≡ values.Num n) × (n < 256 ^ w)
+    a_number : (P : Option Plain) (at w : ℕ) (r : Region) (v : Value) → HeldIn P at → Loads vs r at w v → meets Nothing (access_span P w) 0 slots ≡ false → meets Pointer (access_span P w) 0 slots ≡ false → (n : ℕ) × (v ≡ values.Num n) × (n < 256 ^ w)
     a_number P at w r v h loads unset ptr =
         loads.number (λ j lt reached. all_numbers (access_span P w) slots vs long held unset ptr j lt (reaches_some P at w h j reached.touched))
 
@@ -325,7 +326,7 @@ module _ (law : Laws) where
   is_output e = absurd cc
 
   load_left : (slots : List PlainKind) (vs : List (Option Value)) → length slots ≡ length vs → HoldsEach slots vs → (width : Width) (x : PlainKind) (distance : ℕ) (r : Region) (o : ℕ) (v : Value) → distance < 2 ^ 64 → KindFits x → HoldsKind x (Some (values.Ptr r o)) → Loads vs r ((o + distance) % 2 ^ 64) (byte_count width) v
-      → (is_ptr x ≡ true) × (meets is_unset (access_span (stack_place x distance) (byte_count width)) 0 slots ≡ false) × (slot_kind slots (whole_slot (stack_place x distance) (byte_count width)) ≡ None → meets is_ptr (access_span (stack_place x distance) (byte_count width)) 0 slots ≡ false)
+      → (is_ptr x ≡ true) × (meets Nothing (access_span (stack_place x distance) (byte_count width)) 0 slots ≡ false) × (slot_kind slots (whole_slot (stack_place x distance) (byte_count width)) ≡ None → meets Pointer (access_span (stack_place x distance) (byte_count width)) 0 slots ≡ false)
       → Left (loaded_kind (slot_kind slots (whole_slot (stack_place x distance) (byte_count width))) (option_map Num (tighten (ranged 0 (load_high width))))) v
   load_left slots vs long sl width Unset distance r o v small fit h loads ok = absurd cc
   load_left slots vs long sl width (Num k) distance r o v small fit h loads ok = absurd h
@@ -349,7 +350,7 @@ module _ (law : Laws) where
   num_is m n e = cc
 
   signed_small : (slots : List PlainKind) (vs : List (Option Value)) → length slots ≡ length vs → HoldsEach slots vs → (w : ℕ) (x : PlainKind) (distance : ℕ) (r : Region) (o n : ℕ) → distance < 2 ^ 64 → KindFits x → HoldsKind x (Some (values.Ptr r o)) → Loads vs r ((o + distance) % 2 ^ 64) w (values.Num n)
-      → is_ptr x ≡ true → meets is_unset (access_span (stack_place x distance) w) 0 slots ≡ false → meets is_ptr (access_span (stack_place x distance) w) 0 slots ≡ false → n < 256 ^ w
+      → is_ptr x ≡ true → meets Nothing (access_span (stack_place x distance) w) 0 slots ≡ false → meets Pointer (access_span (stack_place x distance) w) 0 slots ≡ false → n < 256 ^ w
   signed_small slots vs long sl w Unset distance r o n small fit h loads a b c = absurd cc
   signed_small slots vs long sl w (Num k) distance r o n small fit h loads a b c = absurd h
   signed_small slots vs long sl w (Ptr Input k) distance r o n small fit h loads a b c =

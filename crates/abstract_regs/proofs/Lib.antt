@@ -1,4 +1,6 @@
 mod Joins
+pub mod SlotLemmas
+pub mod SlotLists
 mod Keeping
 mod Places
 pub mod Flat

@@ -2,8 +2,6 @@
 use Rattle.std.proofs.Common.{◌≡◌, ℕ, zero, suc, ◌+◌, ◌%◌, ◌^◌, ◌≤◌, Option, Some, None, true, refl, arith}
 use Rattle.std.specs.Prelude.{replicate}
 use Rattle.std.proofs.lemmas.Bool.{leb-true}
-use Rattle.bpf_decode.specs.declared.rule_set.RuleSet.{RuleSet}
-use Rattle.bpf_decode.specs.declared.rule_set.RuleSet.TheVariants.{One, Two}
 use Rattle.bpf_decode.specs.declared.operation.Bits.TheVariants.{Bits64}
 use Rattle.bpf_decode.specs.declared.operation.Arithmetic.TheVariants.{Add}
 use Rattle.bpf_decode.specs.declared.value.Value.TheVariants as values
@@ -12,30 +10,25 @@ use Rattle.abstract_num.specs.Tighten.{tighten}
 use Rattle.abstract_num.specs.Transfer.{ranged}
 use Rattle.abstract_num.specs.Keeping.{HeldIn, ConstantsFit, ConstantHolds, ArithmeticKeeps, RangeKeeps}
 use Rattle.abstract_regs.specs.Kind.{HoldsKind, Num, places_fit, last_place}
-use Rattle.abstract_regs.specs.Slots.{entry_slots}
 use Rattle.abstract_regs.specs.Frame.{number_kind, HoldsEach}
-use Rattle.abstract_regs.specs.Laws.{zero_slots, EntryHolds, AccessesFit, RangesFit}
+use Rattle.abstract_regs.specs.Laws.{EntryHolds, AccessesFit, RangesFit}
 
 number_held : (o : Option Plain) (n : ℕ) → HeldIn o n → HoldsKind (number_kind o) (Some (values.Num n))
 number_held None n h = tt
 number_held (Some k) n h = h
 
+zeros_hold : ConstantHolds → (k : ℕ) → HoldsEach (replicate k (Num (constant 0))) (replicate k (Some (values.Num 0)))
+zeros_hold constants zero = tt
+zeros_hold constants (suc k) = (constants 0 (omega arith), zeros_hold constants k)
+
 pub entry_holds : ConstantHolds → RangeKeeps → EntryHolds
-entry_holds constants ranges rules in_cap stack n p q le =
+entry_holds constants ranges in_cap stack count n p q le =
     let zero_held = constants 0 (omega arith) in
     let few = number_held (tighten (ranged 0 in_cap)) n (ranges 0 in_cap n (omega arith) (omega arith) le) in
     record {
       registers = (tt, ((refl, zero_held), (few, ((refl, zero_held), (tt, (tt, (tt, (tt, (tt, (tt, ((refl, constants stack q), tt)))))))))));
-      slots = slots_hold rules;
+      slots = zeros_hold constants count;
     }
-  where
-    zeros_hold : (k : ℕ) → HoldsEach (replicate k (Num (constant 0))) (replicate k (Some (values.Num 0)))
-    zeros_hold zero = tt
-    zeros_hold (suc k) = (constants 0 (omega arith), zeros_hold k)
-
-    slots_hold : (rules : RuleSet) → HoldsEach (entry_slots rules) (zero_slots rules)
-    slots_hold One = tt
-    slots_hold Two = zeros_hold 64
 
 fits_at : (o : Option Plain) (at w size : ℕ) → HeldIn o at → places_fit o w size ≡ true → at + w ≤ size
 fits_at None at w size h e = absurd h

@@ -12,7 +12,9 @@ use Rattle.bpf_decode.specs.declared.value.Value.TheVariants as values
 use Rattle.abstract_num.specs.Plain.{Plain, Holds, any}
 use Rattle.abstract_num.specs.Keeping.{HeldIn, AnyHolds}
 use Rattle.abstract_regs.specs.Kind.{PlainKind, Unset, Num, Ptr, HoldsKind, is_unset, is_ptr}
-use Rattle.abstract_regs.specs.Slots.{Span, touches, access_span, range_span, whole_slot, slot_kind, overwritten, spoiled, stored, meets}
+use Rattle.abstract_regs.specs.declared.content.Content.{Content}
+use Rattle.abstract_regs.specs.declared.content.Content.TheVariants.{Nothing, Pointer}
+use Rattle.abstract_regs.specs.Slots.{Span, touches, access_span, range_span, whole_slot, slot_kind, overwritten, spoiled, stored, has, meets}
 use Rattle.abstract_regs.specs.Frame.{HoldsEach}
 use Rattle.abstract_regs.specs.Moves.{value_at, Touched, Reached, IsNumber, IsSlot, Loads, Stores, Overwrites}
 
@@ -52,18 +54,18 @@ spoiled_holds law span j (x ∷ xs) (v ∷ vs) (w ∷ ws) h e same n =
       (λ i out. let next : j + suc i ≡ j + 1 + i = omega arith in same (suc i) (ap (touches span) next ∙ out)) (λ i. n (suc i)),
     )
 
+others_hold : (xs : List PlainKind) (vs ws : List (Option Value)) → HoldsEach xs vs → length ws ≡ length vs → ((i : ℕ) → value_at ws i ≡ value_at vs i) → HoldsEach xs ws
+others_hold [] vs ws h e same = tt
+others_hold (z ∷ xs) [] ws h e same = absurd h
+others_hold (z ∷ xs) (v ∷ vs) [] h e same = absurd (none_there (length vs) e)
+others_hold (z ∷ xs) (v ∷ vs) (w ∷ ws) h e same = (subst (HoldsKind z) (sym (same 0)) h.0, others_hold xs vs ws h.1 (omega (arith, e)) (λ i. same (suc i)))
+
 pub set_holds : (xs : List PlainKind) (vs ws : List (Option Value)) (j : ℕ) (y : PlainKind) (x : Value) → HoldsEach xs vs → HoldsKind y (Some x) → length ws ≡ length vs → (j < length vs → value_at ws j ≡ Some x) → ((i : ℕ) → (i ≡ j → ⊥) → value_at ws i ≡ value_at vs i) → HoldsEach (slice_set xs j y) ws
 set_holds [] vs ws j y x h k e at same = tt
 set_holds (z ∷ xs) [] ws j y x h k e at same = absurd h
 set_holds (z ∷ xs) (v ∷ vs) [] j y x h k e at same = absurd (none_there (length vs) e)
 set_holds (z ∷ xs) (v ∷ vs) (w ∷ ws) zero y x h k e at same =
     (subst (HoldsKind y) (sym (at (omega arith))) k, others_hold xs vs ws h.1 (omega (arith, e)) (λ i. same (suc i) (λ never. omega (arith, never))))
-  where
-    others_hold : (xs : List PlainKind) (vs ws : List (Option Value)) → HoldsEach xs vs → length ws ≡ length vs → ((i : ℕ) → value_at ws i ≡ value_at vs i) → HoldsEach xs ws
-    others_hold [] vs ws h e same = tt
-    others_hold (z ∷ xs) [] ws h e same = absurd h
-    others_hold (z ∷ xs) (v ∷ vs) [] h e same = absurd (none_there (length vs) e)
-    others_hold (z ∷ xs) (v ∷ vs) (w ∷ ws) h e same = (subst (HoldsKind z) (sym (same 0)) h.0, others_hold xs vs ws h.1 (omega (arith, e)) (λ i. same (suc i)))
 set_holds (z ∷ xs) (v ∷ vs) (w ∷ ws) (suc j) y x h k e at same =
     (subst (HoldsKind z) (sym (same 0 (λ never. omega (arith, never)))) h.0, set_holds xs vs ws j y x h.1 k (omega (arith, e)) (λ lt. at (omega (arith, lt))) (λ i ne. same (suc i) (λ s. ne (omega (arith, s)))))
 
@@ -78,15 +80,15 @@ rest_out : (b rest : Bool) → cond b true rest ≡ false → rest ≡ false
 rest_out true rest e = absurd cc
 rest_out false rest e = e
 
-meets_none : (test : PlainKind → Bool) (span : Option Span) (j : ℕ) (xs : List PlainKind) (i : ℕ) (x : PlainKind) → meets test span j xs ≡ false → slice_get xs i ≡ Some x → touches span (j + i) ≡ true → test x ≡ false
-meets_none test span j [] i x e at t = absurd (none-some x at)
-meets_none test span j (y ∷ xs) zero x e at t =
+meets_none : (content : Content) (span : Option Span) (j : ℕ) (xs : List PlainKind) (i : ℕ) (x : PlainKind) → meets content span j xs ≡ false → slice_get xs i ≡ Some x → touches span (j + i) ≡ true → has content x ≡ false
+meets_none content span j [] i x e at t = absurd (none-some x at)
+meets_none content span j (y ∷ xs) zero x e at t =
     let here : j + 0 ≡ j = omega arith in
     let same : y ≡ x = same_Some y x at in
-    subst (λ (z : PlainKind). test z ≡ false) same (test_out (touches span j) (test y) (meets test span (j + 1) xs) e (sym (ap (touches span) here) ∙ t)).0
-meets_none test span j (y ∷ xs) (suc i) x e at t =
+    subst (λ (z : PlainKind). has content z ≡ false) same (test_out (touches span j) (has content y) (meets content span (j + 1) xs) e (sym (ap (touches span) here) ∙ t)).0
+meets_none content span j (y ∷ xs) (suc i) x e at t =
     let next : j + suc i ≡ j + 1 + i = omega arith in
-    meets_none test span (j + 1) xs i x (rest_out (touches span j && test y) (meets test span (j + 1) xs) e) at (sym (ap (touches span) next) ∙ t)
+    meets_none content span (j + 1) xs i x (rest_out (touches span j && has content y) (meets content span (j + 1) xs) e) at (sym (ap (touches span) next) ∙ t)
 
 some_there : (xs : List PlainKind) (i : ℕ) → i < length xs → (x : PlainKind) × (slice_get xs i ≡ Some x)
 some_there [] i lt = absurd (omega (arith, lt))
@@ -110,11 +112,11 @@ held_slot (y ∷ xs) (v ∷ vs) zero x h e = subst (λ (z : PlainKind). HoldsKin
 held_slot (y ∷ xs) (v ∷ vs) (suc i) x h e = held_slot xs vs i x h.1 e
 
 -- each slot that bytes reach is a number, where none that they may touch is unset or a place
-pub all_numbers : (span : Option Span) (xs : List PlainKind) (vs : List (Option Value)) → length xs ≡ length vs → HoldsEach xs vs → meets is_unset span 0 xs ≡ false → meets is_ptr span 0 xs ≡ false → (i : ℕ) → i < length vs → touches span i ≡ true → IsNumber (value_at vs i)
+pub all_numbers : (span : Option Span) (xs : List PlainKind) (vs : List (Option Value)) → length xs ≡ length vs → HoldsEach xs vs → meets Nothing span 0 xs ≡ false → meets Pointer span 0 xs ≡ false → (i : ℕ) → i < length vs → touches span i ≡ true → IsNumber (value_at vs i)
 all_numbers span xs vs long h a b i lt t =
     let there = some_there xs i (omega (arith, long, lt)) in
     let x = there.0 in
-    numbered x (value_at vs i) (held_slot xs vs i x h there.1) (meets_none is_unset span 0 xs i x a there.1 t) (meets_none is_ptr span 0 xs i x b there.1 t)
+    numbered x (value_at vs i) (held_slot xs vs i x h there.1) (meets_none Nothing span 0 xs i x a there.1 t) (meets_none Pointer span 0 xs i x b there.1 t)
 
 -- ---- where an access is
 

@@ -205,10 +205,10 @@ impl Frame {
     }
 
     /// Gives what a comparison compared the kinds that it has along another edge.
-    pub fn refine(&mut self, refined: &Refined)
-        ensures { self.new ≡ refined self.old refined.now }
+    pub fn refine(&mut self, edge: &Refined)
+        ensures { self.new ≡ refined self.old edge.now }
     {
-        self.put_both(refined.dst, &refined.source, refined.kinds);
+        self.put_both(edge.dst, &edge.source, edge.kinds);
     }
 
     /// Gives the registers of a comparison other kinds.

@@ -11,7 +11,7 @@ use bpf_decode::{Arithmetic, Bits, Region};
 use std::marker::Model;
 
 /// Bytes of the stack: as many as `bytes`, from a place between `low` and `high` on.
-#[derive(Clone, Copy)]
+#[derive(Drop)]
 pub(crate) struct StackSpan {
     low: u64,
     high: u64,

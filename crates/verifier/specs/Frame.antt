@@ -10,7 +10,7 @@ use Rattle.abstract_regs.specs.Frame.{PlainFrame, HoldsEach, entry_frame}
 
 -- what is known as a method begins
 abbrev pub entry : Caps → PlainFrame
-entry caps = entry_frame caps.in_cap (size caps Stack)
+entry caps = entry_frame caps.in_cap (size caps Stack) 0
 
 -- what holds of every state within the limits: regions no longer than a value may be, an object within its limits, a
 -- client's number

@@ -13,7 +13,7 @@ use Rattle.verifier.specs.declared.refusal.Refusal.{Refusal}
 use Rattle.abstract_regs.specs.Frame.{PlainFrame, join}
 use Rattle.abstract_regs.specs.Flow.{flow}
 use Rattle.verifier.specs.Frame.{entry}
-use Rattle.verifier.specs.Rules.{breaks, rule_at}
+use Rattle.verifier.specs.Rules.{breaks, rule_at, room_of}
 
 -- the frames of a method by slot, none where no flow comes
 abbrev pub Table : Type 0
@@ -46,7 +46,7 @@ abbrev pub flow_from : Caps → List (Option Insn) → ℕ → ℕ → Option In
 flow_from caps code p q None frame inflow = inflow
 flow_from caps code p q (Some i) None inflow = inflow
 flow_from caps code p q (Some i) (Some f) inflow =
-    unless_refused (rule_at caps code p i (Some f)) (along (flow i p f) q inflow) inflow
+    unless_refused (rule_at caps code p i (Some f)) (along (flow (room_of i) i p f) q inflow) inflow
 
 -- what a method begins with, at slot 0
 abbrev pub start : Caps → ℕ → Option PlainFrame

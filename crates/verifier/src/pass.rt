@@ -2,8 +2,10 @@ ghost use Rattle.std.specs.Prelude.{◌≡◌, ◌+◌, ◌<◌, ◌^◌, length
 ghost use Rattle.verifier.specs.Rules.{rule_at};
 ghost use Rattle.verifier.specs.Verdict.{code_verdict};
 ghost use Rattle.verifier.specs.Frame.{entry};
+ghost use Rattle.verifier.specs.Kept.{unbox};
 ghost use Rattle.verifier.specs.Pass.{IsSpaced, awaited, HasLeft, IsSound, AllSound};
 
+use crate::fault::room;
 use crate::kept::Kept;
 use crate::rule::Rule;
 use crate::rules::refusing_rule;
@@ -17,7 +19,7 @@ use std::alloc::{AllocError, Global};
 #[derive(Drop)]
 pub struct Pass {
     /// The frame that falls through to the slot `landing`; at a slot, its frame.
-    current: Option<Frame>,
+    current: Option<Box<Frame>>,
     landing: usize,
     kept: Kept,
 }
@@ -42,11 +44,13 @@ impl Pass {
     /// Before slot 0, with the frame that a method begins with.
     fn new(alloc: Global, caps: &Caps, slots: usize) -> Result<Pass, AllocError>
         ensures kept { IfOk result (λ p. p.kept ≡ replicate slots None) }
-        ensures current { IfOk result (λ p. p.current ≡ Some (entry caps.now)) }
+        ensures current { IfOk result (λ p. unbox p.current ≡ Some (entry caps.now)) }
         ensures landing { IfOk result (λ p. p.landing ≡ 0) }
     {
+        let stack = caps.size(Region::Stack) as u64;
+        let entry = Frame::entry(alloc, u64::from(caps.in_cap), stack, 0)?;
         Ok(Pass {
-            current: Some(Frame::entry(u64::from(caps.in_cap), caps.size(Region::Stack) as u64)),
+            current: Some(Box::new(alloc, entry)?),
             landing: 0,
             kept: Kept::new(alloc, slots)?,
         })
@@ -62,7 +66,7 @@ impl Pass {
         requires small { length code.now < 2 ^ 62 }
         requires spaced { IsSpaced code.now }
         requires kept { self.old.kept ≡ replicate (length code.now) None }
-        requires current { self.old.current ≡ Some (entry caps.now) }
+        requires current { unbox self.old.current ≡ Some (entry caps.now) }
         requires landing { self.old.landing ≡ 0 }
         ensures verdict { IfOk result (λ r. r ≡ code_verdict caps.now code.now) }
         ensures sound { IfOk result (λ r. r ≡ None → AllSound caps.now code.now) }
@@ -101,7 +105,7 @@ impl Pass {
 
     /// Comes to a slot: what falls through to it joins what is kept for it.
     fn arrive(&mut self, slot: usize)
-        ensures current { self.new.current ≡ awaited self.old slot }
+        ensures current { unbox self.new.current ≡ awaited self.old slot }
         ensures kept { self.new.kept ≡ slice_set self.old.kept slot None }
     {
         if self.landing != slot {
@@ -118,19 +122,22 @@ impl Pass {
     /// Goes on from a slot, whose instruction no rule refuses.
     fn leave(&mut self, alloc: Global, slot: usize, insn: &Insn) -> Result<(), AllocError>
         requires { slot < 2 ^ 62 }
-        ensures left { IfOk result (λ _. HasLeft self.old.current self.old.kept insn.now slot self.new) }
-        ensures sound { IfOk result (λ _. IsSound insn.now slot self.old.current) }
+        ensures left { IfOk result (λ _. HasLeft (unbox self.old.current) self.old.kept insn.now slot self.new) }
+        ensures sound { IfOk result (λ _. IsSound insn.now slot (unbox self.old.current)) }
     {
         self.landing = slot + width(insn);
         if let Some(frame) = &mut self.current {
-            match frame.flow(insn, slot) {
+            match frame.flow(room(insn), insn, slot) {
                 Edges::Leaves => self.current = None,
                 Edges::Falls => {}
                 Edges::Jumps(target) => {
                     self.kept.keep(alloc, target, frame)?;
                     self.current = None;
                 }
-                Edges::Branches(target, taken) => self.kept.keep(alloc, target, &taken)?,
+                Edges::Branches(target, fallen) => {
+                    self.kept.keep(alloc, target, frame)?;
+                    frame.refine(&fallen);
+                }
             }
         }
         Ok(())

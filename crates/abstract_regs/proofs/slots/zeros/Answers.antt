@@ -1,0 +1,19 @@
+use Rattle.std.proofs.Common.{◌≡◌, List, [], ◌∷◌, ◌++◌, refl, ap, ◌∙◌, arith}
+use Rattle.std.specs.Prelude.{replicate}
+use Rattle.std.proofs.lemmas.List.{replicate-append-replicate}
+use Rattle.abstract_num.specs.Plain.{constant}
+use Rattle.abstract_regs.specs.declared.kind.Kind.{Kind}
+use Rattle.abstract_regs.specs.Kind.{PlainKind, Num}
+use Rattle.abstract_regs.specs.Seen.{seen, seen_each}
+use Rattle.abstract_regs.proofs.slots.zeros.Goals as goal
+
+seen_push : (f : List Kind) (x : Kind) → seen_each (f ++ x ∷ []) ≡ seen_each f ++ seen x ∷ []
+seen_push [] x = refl
+seen_push (a ∷ f) x = ap (λ t. seen a ∷ t) (seen_push f x)
+
+pub loop-preserved : goal.loop-preserved
+loop-preserved c =
+    ap seen_each c.in_ok-push.ensures.items
+    ∙ seen_push _ _
+    ∙ ap (λ (t : List PlainKind). t ++ Num (constant 0) ∷ []) c.loop.invariant
+    ∙ replicate-append-replicate c.loop.counter 1 (Num (constant 0))
