@@ -2,9 +2,9 @@
 use Rattle.std.specs.Prelude.{◌≡◌, ℕ, ◌+◌, Option, Some, None, Bool, true, false, if◌then◌else◌, nat_le}
 use Rattle.std.specs.Option.{option_map}
 use Rattle.bpf_decode.specs.declared.region.Region.{Region}
+use Rattle.bpf_decode.specs.declared.region.Region.TheVariants.{Input, Output, Stack}
 use Rattle.bpf_decode.specs.declared.value.Value.{Value}
 use Rattle.bpf_decode.specs.declared.value.Value.TheVariants as values
-pub use Rattle.bpf_decode.specs.Values.{same_region}
 use Rattle.bpf_decode.specs.declared.operation.Bits.{Bits}
 use Rattle.bpf_decode.specs.declared.operation.Bits.TheVariants.{Bits32, Bits64}
 use Rattle.bpf_decode.specs.declared.operation.Arithmetic.{Arithmetic}
@@ -48,6 +48,17 @@ abbrev pub is_ptr : PlainKind → Bool
 is_ptr Unset = false
 is_ptr (Num k) = false
 is_ptr (Ptr r k) = true
+
+abbrev pub same_region : Region → Region → Bool
+same_region Input Input = true
+same_region Input Output = false
+same_region Input Stack = false
+same_region Output Input = false
+same_region Output Output = true
+same_region Output Stack = false
+same_region Stack Input = false
+same_region Stack Output = false
+same_region Stack Stack = true
 
 -- a number joined with a pointer, two regions, and Unset with anything give Unset; nothing is tightened
 abbrev pub join_kind : PlainKind → PlainKind → PlainKind

@@ -1,5 +1,5 @@
 -- Cells, and the bytes that they are in a layout.
-use Rattle.std.proofs.Common.{◌≡◌, ℕ, zero, suc, ◌+◌, ◌*◌, ◌/◌, ◌%◌, ◌^◌, ◌<◌, List, [], ◌∷◌, ◌++◌, Option, Some, None, Bool, true, false, cond, refl, ap, ◌∙◌, sym, subst, arith, length, take, drop}
+use Rattle.std.proofs.Common.{◌≡◌, ℕ, zero, suc, ◌+◌, ◌/◌, ◌%◌, ◌^◌, ◌<◌, List, [], ◌∷◌, ◌++◌, Option, Some, None, Bool, true, false, refl, ap, ◌∙◌, sym, arith, length, take, drop}
 use Rattle.std.specs.Prelude.{map, ◌==◌, ◌&&◌}
 use Rattle.std.proofs.Math.Nat.{pow-succ'}
 use Rattle.std.proofs.lemmas.Bool.{and_parts, eqb-true}
@@ -9,24 +9,23 @@ use Rattle.bpf_decode.specs.declared.region.Region.{Region}
 use Rattle.bpf_decode.specs.declared.region.Region.TheVariants.{Input, Output, Stack}
 use Rattle.bpf_decode.specs.declared.value.Value.{Value}
 use Rattle.bpf_decode.specs.declared.value.Value.TheVariants.{Num, Ptr}
-use Rattle.bpf_decode.specs.Values.{same_region}
 use Rattle.object_store.specs.Object.{part}
 use Rattle.bpf_machine.specs.State.{◌>>=◌, only, le_value, le_bytes, Memory, cells, written, put}
 use Rattle.bpf_machine.specs.Helper.{bytes_in, write_room}
 use Rattle.bpf_machine.specs.Flat.{Layout}
-use Rattle.bpf_machine.specs.Typed.{Cell, Byte, PartOf, TypedMemory, as_cells, parts_from, parts_of, are_parts, place_of, plain_bytes, is_slot, number_or, value_of, cells_at, over, put_bytes, stored, typed_text, typed_room, plain, address, byte_of, image_memory}
-use Rattle.bpf_machine.proofs.Sim.{Sim, Any, same, sim_none, sim_some, sim_guard}
+use Rattle.bpf_machine.specs.Typed.{Cell, equal_regions, Byte, PartOf, TypedMemory, as_cells, parts_from, parts_of, are_parts, place_of, plain_bytes, is_slot, number_or, value_of, cells_at, over, put_bytes, stored, typed_text, typed_room, plain, address, byte_of, image_memory}
+use Rattle.bpf_machine.proofs.Sim.{Sim, Any, same, sim_some, sim_guard}
 
-pub same_means : (r q : Region) → same_region r q ≡ true → r ≡ q
-same_means Input Input h = refl
-same_means Input Output h = absurd cc
-same_means Input Stack h = absurd cc
-same_means Output Input h = absurd cc
-same_means Output Output h = refl
-same_means Output Stack h = absurd cc
-same_means Stack Input h = absurd cc
-same_means Stack Output h = absurd cc
-same_means Stack Stack h = refl
+pub equal_means : (r q : Region) → equal_regions r q ≡ true → r ≡ q
+equal_means Input Input h = refl
+equal_means Input Output h = absurd cc
+equal_means Input Stack h = absurd cc
+equal_means Output Input h = absurd cc
+equal_means Output Output h = refl
+equal_means Output Stack h = absurd cc
+equal_means Stack Input h = absurd cc
+equal_means Stack Output h = absurd cc
+equal_means Stack Stack h = refl
 
 -- the number of w bytes of a number below 256 ^ w
 pub le_value-le_bytes : (w n : ℕ) → n < 256 ^ w → le_value (le_bytes w n) ≡ n
@@ -44,10 +43,10 @@ parts_are r at k zero (c ∷ cs) h = absurd cc
 parts_are r at k (suc n) [] h = absurd cc
 parts_are r at k (suc n) (Byte b ∷ cs) h = absurd cc
 parts_are r at k (suc n) (PartOf q b j ∷ cs) h =
-    let both = and_parts (same_region r q && ((at == b) && (k == j))) (are_parts r at (k + 1) n cs) h in
-    let first = and_parts (same_region r q) ((at == b) && (k == j)) both.0 in
+    let both = and_parts (equal_regions r q && ((at == b) && (k == j))) (are_parts r at (k + 1) n cs) h in
+    let first = and_parts (equal_regions r q) ((at == b) && (k == j)) both.0 in
     let second = and_parts (at == b) (k == j) first.1 in
-    let region : q ≡ r = sym (same_means r q first.0) in
+    let region : q ≡ r = sym (equal_means r q first.0) in
     let place : b ≡ at = sym (eqb-true at b second.0) in
     let number : j ≡ k = sym (eqb-true k j second.1) in
     rw (region, place, number, parts_are r at (k + 1) n cs both.1) refl
@@ -149,9 +148,9 @@ module _ (lay : Layout) where
 
   slot_is : (m : TypedMemory) (p : Region × ℕ) (w : ℕ) (r : Region) (at : ℕ) → is_slot p w ≡ true → put (image_memory lay m) p.0 p.1 (le_bytes w (address lay (Ptr r at))) ≡ image_memory lay (record m { stack = over m.stack p.1 (parts_of r at) })
   slot_is m p w r at h =
-      let two = and_parts (same_region p.0 Stack && (w == 8)) (p.1 % 8 == 0) h in
-      let one = and_parts (same_region p.0 Stack) (w == 8) two.0 in
-      let region : p.0 ≡ Stack = same_means p.0 Stack one.0 in
+      let two = and_parts (equal_regions p.0 Stack && (w == 8)) (p.1 % 8 == 0) h in
+      let one = and_parts (equal_regions p.0 Stack) (w == 8) two.0 in
+      let region : p.0 ≡ Stack = equal_means p.0 Stack one.0 in
       let eight : w ≡ 8 = eqb-true w 8 one.1 in
       ap (λ (q : Region). put (image_memory lay m) q p.1 (le_bytes w (address lay (Ptr r at)))) region
       ∙ ap (λ (k : ℕ). put (image_memory lay m) Stack p.1 (le_bytes k (address lay (Ptr r at)))) eight
