@@ -2,6 +2,7 @@ pub mod Sim
 pub mod Place
 pub mod Cells
 pub mod OneMemory
+pub mod Parts
 pub mod Slot
 pub mod Registers
 pub mod Alu

@@ -25,7 +25,7 @@ use Rattle.bpf_machine.specs.declared.caps.Caps.{Caps}
 use Rattle.object_store.specs.Object.{part}
 use Rattle.helpers.specs.Laws.{EffectsAreWithinLimits}
 use Rattle.bpf_machine.specs.State.{le_value, le_bytes, cells, put, size, AreCapacities, set_reg, go}
-use Rattle.bpf_machine.specs.Typed.{Typed, operand_value, locate, typed_after, typed_act, typed_exit_of}
+use Rattle.bpf_machine.specs.Typed.{Typed, plain_bytes, value_of, cells_at, put_bytes, operand_value, locate, typed_after, typed_act, typed_exit_of}
 use Rattle.abstract_regs.specs.Kind.{PlainKind, Unset, Num, Ptr, is_unset, is_ptr}
 use Rattle.abstract_regs.specs.Frame.{PlainFrame, kind_at, operand_kind}
 use Rattle.abstract_regs.specs.Moves.{Moves, KindFits, EachFits}
@@ -34,7 +34,7 @@ use Rattle.verifier.specs.Kind.{stays, is_read_only}
 use Rattle.verifier.specs.Frame.{IsWithin, Holds}
 use Rattle.verifier.specs.Rules.{operand_is_unset}
 use Rattle.verifier.proofs.Holding.{HoldsValue, read, value_is, operand_is, not_ptr_is_num, numbered, form_of, number_of, operand_read, operand_is_set, computes, copies, extended_small16, not_false}
-use Rattle.verifier.proofs.Bytes.{value_in, put_is, number_bytes, bytes_of_number, bytes_drop}
+use Rattle.verifier.proofs.Bytes.{value_in, put_is, number_bytes, bytes_of_number, bytes_drop, plain_part, plain_value, plain_put}
 use Rattle.verifier.proofs.Passed.{neither, Passed}
 use Rattle.verifier.proofs.Calls.{one_more, size_short, call_made, fits_in}
 
@@ -71,10 +71,10 @@ set_to s d v le ok = cond-true _ _ _ (below_ten d le ok)
 
 -- registers and the slot are no limits of a state
 within_regs : (s : Typed) (q : ℕ) (regs : List (Option Value)) → IsWithin s → IsWithin (go q (record s { regs = regs }))
-within_regs s q regs w = record { memory = w.memory; object = w.object; client = w.client }
+within_regs s q regs w = record { bytes = w.bytes; is_plain = w.is_plain; memory = w.memory; object = w.object; client = w.client }
 
 within_slot : (s : Typed) (q : ℕ) → IsWithin s → IsWithin (go q s)
-within_slot s q w = record { memory = w.memory; object = w.object; client = w.client }
+within_slot s q w = record { bytes = w.bytes; is_plain = w.is_plain; memory = w.memory; object = w.object; client = w.client }
 
 module _ (law : AccessesFit) (effects : EffectsAreWithinLimits) (caps : Caps) (sizes : AreCapacities caps) (code : List (Option Insn)) (p : ℕ) (f : PlainFrame) (s : Typed) (h : Holds f s) (fits : EachFits f.registers) where
   computed_step : (i : Insn) (d : ℕ) (v : Value) (q : ℕ) → typed_act caps i s ≡ Some (go q (record s { regs = slice_set s.regs d (Some v) })) → Moves i s.slot s.regs q (slice_set s.regs d (Some v)) → Steps caps i s
@@ -131,10 +131,12 @@ module _ (law : AccessesFit) (effects : EffectsAreWithinLimits) (caps : Caps) (s
       let v = read f s base h ok.unset in
       let w = byte_count width in
       let at = found law caps (kind_at f base) v.value (extended offset) w (extended_small16 offset fit.2) (fits_in f.registers base fits) v.holds (not_false _ ok.bounds) in
-      let n = le_value (part (cells s.memory at.at.0) at.at.1 w) in
-      let small = value_in w _ (bytes_drop at.at.1 (cells s.memory at.at.0) ((h.within).memory at.at.0).1) in
+      let m = (h.within).bytes in
+      let n = le_value (part (cells m at.at.0) at.at.1 w) in
+      let small = value_in w _ (bytes_drop at.at.1 (cells m at.at.0) ((h.within).memory at.at.0).1) in
+      let read = ap (λ m. value_of at.at w (cells_at m at.at.0 at.at.1 w)) (h.within).is_plain ∙ plain_value m at.at w in
       computed_step (Load width d base offset) d (values.Num n) (s.slot + 1)
-      (one_more _ _ _ _ v.there (ap (typed_after s) (one_more _ _ _ _ at.is (set_to s d (values.Num n) fit.0 ok.r10))))
+      (one_more _ _ _ _ v.there (ap (typed_after s) (one_more _ _ _ _ at.is (one_more _ _ _ _ read (set_to s d (values.Num n) fit.0 ok.r10)))))
       (n, small, refl, refl)
 
   signed_load_steps : (width : SignedWidth) (d base : ℕ) (offset : ℤ) → Fits (LoadSigned width d base offset) → Passed caps code p (LoadSigned width d base offset) f → Steps caps (LoadSigned width d base offset) s
@@ -142,19 +144,21 @@ module _ (law : AccessesFit) (effects : EffectsAreWithinLimits) (caps : Caps) (s
       let v = read f s base h ok.unset in
       let w = signed_byte_count width in
       let at = found law caps (kind_at f base) v.value (extended offset) w (extended_small16 offset fit.2) (fits_in f.registers base fits) v.holds (not_false _ ok.bounds) in
-      let n = le_value (part (cells s.memory at.at.0) at.at.1 w) in
-      let small = value_in w _ (bytes_drop at.at.1 (cells s.memory at.at.0) ((h.within).memory at.at.0).1) in
+      let m = (h.within).bytes in
+      let n = le_value (part (cells m at.at.0) at.at.1 w) in
+      let small = value_in w _ (bytes_drop at.at.1 (cells m at.at.0) ((h.within).memory at.at.0).1) in
+      let read = ap (λ m. plain_bytes (cells_at m at.at.0 at.at.1 w)) (h.within).is_plain ∙ plain_part m at.at.0 at.at.1 w in
       computed_step (LoadSigned width d base offset) d (values.Num (signed_load_value width n)) (s.slot + 1)
-      (one_more _ _ _ _ v.there (ap (typed_after s) (one_more _ _ _ _ at.is (set_to s d (values.Num (signed_load_value width n)) fit.0 ok.r10))))
+      (one_more _ _ _ _ v.there (ap (typed_after s) (one_more _ _ _ _ at.is (one_more _ _ _ _ read (set_to s d (values.Num (signed_load_value width n)) fit.0 ok.r10)))))
       (n, small, refl, refl)
 
   -- what a store stores is a number
-  stored : (x : Operand) → operand_is_unset f x ≡ false → ((r : ℕ) → x ≡ Register r → is_ptr (kind_at f r) ≡ false) → (v : Value) × (n : ℕ) × (operand_value s x ≡ Some v) × (number v ≡ Some n)
-  stored (Immediate imm) ok num = (values.Num (extended imm), extended imm, refl, refl)
+  stored : (x : Operand) → operand_is_unset f x ≡ false → ((r : ℕ) → x ≡ Register r → is_ptr (kind_at f r) ≡ false) → (n : ℕ) × (operand_value s x ≡ Some (values.Num n))
+  stored (Immediate imm) ok num = (extended imm, refl)
   stored (Register r) ok num =
       let v = read f s r h ok in
       let n = numbered (kind_at f r) v.value v.holds (not_ptr_is_num _ ok (num r refl)) in
-      (v.value, n.0, v.there, n.1)
+      (n.0, v.there ∙ ap Some n.3)
 
   never_pointer : (width : Width) (base : ℕ) (offset : ℤ) (x : Operand) → Passed caps code p (Store width base offset x) f → (r : ℕ) → x ≡ Register r → is_ptr (kind_at f r) ≡ false
   never_pointer width base offset (Immediate imm) ok r e = cc
@@ -167,14 +171,17 @@ module _ (law : AccessesFit) (effects : EffectsAreWithinLimits) (caps : Caps) (s
       let y = stored x unset.1 (never_pointer width base offset x ok) in
       let w = byte_count width in
       let at = found law caps (kind_at f base) v.value (extended offset) w (extended_small16 offset fit.1) (fits_in f.registers base fits) v.holds (not_false _ ok.bounds) in
-      let bytes = le_bytes w y.1 in
-      let t : Typed = record s { memory = put s.memory at.at.0 at.at.1 bytes } in
+      let bytes = le_bytes w y.0 in
+      let m = (h.within).bytes in
+      let t : Typed = record s { memory = put_bytes s.memory at.at.0 at.at.1 bytes } in
       record {
         to = go (s.slot + 1) t;
-        act = one_more _ _ _ _ v.there (one_more _ _ _ _ y.2 (one_more _ _ _ _ y.3 (ap (typed_after s) (one_more _ _ _ t at.is (cond-true _ _ _ (at.writable ok.read_only))))));
+        act = one_more _ _ _ _ v.there (one_more _ _ _ _ y.1 (ap (typed_after s) (one_more _ _ _ t at.is (cond-true _ _ _ (at.writable ok.read_only)))));
         moves = (refl, refl);
         within = record {
-          memory = put_is s.memory at.at.0 at.at.1 bytes (h.within).memory (bytes_of_number w y.1) (omega (arith, at.inside, number_bytes w y.1, size_short caps sizes at.at.0));
+          bytes = put m at.at.0 at.at.1 bytes;
+          is_plain = ap (λ m. put_bytes m at.at.0 at.at.1 bytes) (h.within).is_plain ∙ plain_put m at.at.0 at.at.1 bytes;
+          memory = put_is m at.at.0 at.at.1 bytes (h.within).memory (bytes_of_number w y.0) (omega (arith, at.inside, number_bytes w y.0, size_short caps sizes at.at.0));
           object = (h.within).object;
           client = (h.within).client;
         };

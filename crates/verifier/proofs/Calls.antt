@@ -18,7 +18,7 @@ use Rattle.helpers.specs.Laws.{EffectsAreWithinLimits}
 use Rattle.helpers.specs.Table.{signature_of, effect}
 use Rattle.bpf_machine.specs.State.{◌>>=◌, only, Memory, cells, may_store, size, AreCapacities, reg}
 use Rattle.bpf_machine.specs.Helper.{Given, nothing_given, with_number, with_text, with_room, asked, answered, bytes_in, write_room}
-use Rattle.bpf_machine.specs.Typed.{Typed, number, locate, typed_range, typed_arguments, typed_help}
+use Rattle.bpf_machine.specs.Typed.{Typed, number, locate, typed_range, typed_text, typed_room, typed_arguments, typed_help}
 use Rattle.abstract_regs.specs.Kind.{PlainKind, Unset, Num, Ptr}
 use Rattle.verifier.specs.declared.fault.Fault.TheVariants.{OutOfRegion, ReadOnly, WrongKind}
 use Rattle.abstract_regs.specs.Kind.{is_num, is_ptr}
@@ -28,7 +28,7 @@ use Rattle.abstract_regs.specs.Moves.{KindFits, EachFits}
 use Rattle.verifier.specs.Frame.{IsWithin, Holds}
 use Rattle.verifier.specs.Rules.{has_fault, some_fault, taken_fault, call_fault, writes_object}
 use Rattle.verifier.proofs.Holding.{not_false, HoldsValue, Read, read, num_is_set, ptr_is_set, numbered}
-use Rattle.verifier.proofs.Bytes.{bytes_take, bytes_drop, put_is}
+use Rattle.verifier.proofs.Bytes.{bytes_take, bytes_drop, put_is, plain_text, plain_room}
 use Rattle.verifier.proofs.Numbers.{answer_small}
 use Rattle.verifier.proofs.Passed.{neither}
 
@@ -138,11 +138,11 @@ module _ (caps : Caps) (f : PlainFrame) (s : Typed) (h : Holds f s) where
 
   readable_gets : (more : List Argument) (k : ℕ) (v : Read f s k) (n : Counted f s (k + 1)) (p : Option (Region × ℕ)) → typed_range caps false v.value n.n ≡ Some p → Gets caps s more (k + 2) → Gets caps s (Readable ∷ more) k
   readable_gets more k v n p e g = record {
-    given = with_text (bytes_in s.memory p n.n) g.given;
-    is = one_more _ _ _ _ v.there (one_more _ _ _ _ n.there (one_more _ _ _ _ n.is (one_more _ _ _ _ e (one_more _ _ _ _ g.is refl))));
+    given = with_text (bytes_in (h.within).bytes p n.n) g.given;
+    is = one_more _ _ _ _ v.there (one_more _ _ _ _ n.there (one_more _ _ _ _ n.is (one_more _ _ _ _ e (one_more _ _ _ _ (ap (λ m. typed_text m p n.n) (h.within).is_plain ∙ plain_text (h.within).bytes p n.n) (one_more _ _ _ _ g.is refl)))));
     small = g.small;
     room = g.room;
-    texts = (text_is s.memory p n.n (h.within).memory, g.texts);
+    texts = (text_is (h.within).bytes p n.n (h.within).memory, g.texts);
     caller = g.caller;
   }
 
@@ -234,7 +234,7 @@ call_made law caps sizes helper f s h known a b c w =
     let e = effect helper s.object (asked g.given) in
     let l = law helper s.object (asked g.given) (h.within).object g.texts in
     let client : g.given.caller < 2 ^ 32 = subst (λ n. n < 2 ^ 32) (sym g.caller) (h.within).client in
-    let t : Typed = record { slot = s.slot; regs = answered s.regs (values.Num e.answer); memory = write_room s.memory g.given.target e.bytes; object = e.object; out_len = unwrap_or e.out_len s.out_len; caller = s.caller } in
+    let t : Typed = record { slot = s.slot; regs = answered s.regs (values.Num e.answer); memory = typed_room s.memory g.given.target e.bytes; object = e.object; out_len = unwrap_or e.out_len s.out_len; caller = s.caller } in
     record {
       to = t;
       made = one_more (signature_of helper) takes _ t sig.1 (cond-true _ _ _ (may_write takes.writes caps.writes w') ∙ one_more _ _ _ _ g.is refl);
@@ -242,7 +242,9 @@ call_made law caps sizes helper f s h known a b c w =
       small = answer_small helper s.object (asked g.given) (h.within).object g.small client;
       regs = refl;
       within = record {
-        memory = room_is caps sizes s.memory g.given.target g.given.room e.bytes (h.within).memory g.room l.short l.bytes;
+        bytes = write_room (h.within).bytes g.given.target e.bytes;
+        is_plain = ap (λ m. typed_room m g.given.target e.bytes) (h.within).is_plain ∙ plain_room (h.within).bytes g.given.target e.bytes;
+        memory = room_is caps sizes (h.within).bytes g.given.target g.given.room e.bytes (h.within).memory g.room l.short l.bytes;
         object = l.object;
         client = (h.within).client;
       };

@@ -12,8 +12,8 @@ use Rattle.bpf_machine.specs.declared.caps.Caps.{Caps}
 use Rattle.object_store.specs.Object.{PlainObject, IsObject, AreBytes, IsValue}
 use Rattle.helpers.specs.Laws.{EffectsAreWithinLimits}
 use Rattle.bpf_machine.specs.declared.limits.TheConstants.{STACK_SIZE}
-use Rattle.bpf_machine.specs.State.{◌>>=◌, cells, AreCapacities, opening, Outcome, Ended, Stuck, outcome_of, one_more, goes_on, ends}
-use Rattle.bpf_machine.specs.Typed.{Typed, fetch, typed_act, typed_exit_of, typed_run, typed_entry}
+use Rattle.bpf_machine.specs.State.{◌>>=◌, cells, AreCapacities, opening, Outcome, Ended, Stuck, one_more, goes_on}
+use Rattle.bpf_machine.specs.Typed.{Typed, fetch, typed_act, typed_exit_of, typed_outcome, typed_ends, typed_run, typed_entry}
 use Rattle.abstract_regs.specs.Frame.{PlainFrame, HoldsEach}
 use Rattle.verifier.specs.Frame.{entry, Holds}
 use Rattle.abstract_regs.specs.Laws.{JoinsHold, EntryHolds, AccessesFit}
@@ -114,8 +114,8 @@ module _ (joins : JoinsHold) (accesses : AccessesFit) (effects : EffectsAreWithi
       let rest = later t.to le' (record { insn = e.to; there = e.begins; frame = meets.frame; is_frame = meets.is; holds = record { regs = meets.holds; within = t.within } }) in (
         rest.0,
         suc rest.1,
-        ap (λ o. ends before s (o >>= λ i. typed_exit_of i s) (goes_on (o >>= λ i. typed_act caps i s) (typed_run caps (slots is) before n))) a.there
-            ∙ ap (λ c. ends before s c (goes_on (typed_act caps a.insn s) (typed_run caps (slots is) before n))) no_code
+        ap (λ o. typed_ends before s (o >>= λ i. typed_exit_of i s) (goes_on (o >>= λ i. typed_act caps i s) (typed_run caps (slots is) before n))) a.there
+            ∙ ap (λ c. typed_ends before s c (goes_on (typed_act caps a.insn s) (typed_run caps (slots is) before n))) no_code
             ∙ ap (λ o. goes_on o (typed_run caps (slots is) before n)) t.act
             ∙ ap one_more rest.2,
       )
@@ -124,10 +124,10 @@ module _ (joins : JoinsHold) (accesses : AccessesFit) (effects : EffectsAreWithi
   out n s a exit =
       let ok = subst (λ i. Passed caps (slots is) s.slot i a.frame) exit (passed caps (slots is) s.slot a.insn a.frame (clear_at s a)) in
       let c = exits caps (slots is) s.slot a.frame s a.holds ok in (
-        outcome_of before c.0 s,
+        typed_outcome before c.0 s,
         1,
-        ap (λ o. ends before s (o >>= λ i. typed_exit_of i s) (goes_on (o >>= λ i. typed_act caps i s) (typed_run caps (slots is) before n))) (a.there ∙ ap Some exit)
-            ∙ ap (λ c. ends before s c Stuck) c.1,
+        ap (λ o. typed_ends before s (o >>= λ i. typed_exit_of i s) (goes_on (o >>= λ i. typed_act caps i s) (typed_run caps (slots is) before n))) (a.there ∙ ap Some exit)
+            ∙ ap (λ c. typed_ends before s c Stuck) c.1,
       )
 
   here : (n : ℕ) (s : Typed) (a : At s) (i : Insn) → a.insn ≡ i → left (drop s.slot (slots is)) ≤ suc n → Later n → Ends (suc n) s
@@ -163,7 +163,7 @@ module _ (joins : JoinsHold) (accesses : AccessesFit) (effects : EffectsAreWithi
 pub entry_is_held : EntryHolds → (caps : Caps) → AreCapacities caps → (object : PlainObject) (caller : ℕ) (input : List ℕ) → IsObject object → caller < 2 ^ 32 → length input ≤ caps.in_cap → AreBytes input → Holds (entry caps) (typed_entry caps object caller input)
 entry_is_held law caps sizes object caller input ob client le bytes =
     let most = sizes.input in
-    record { regs = law caps.in_cap STACK_SIZE (length input) (omega (arith, most)) (omega arith) le; within = record { memory = cells_are; object = ob; client = client } }
+    record { regs = law caps.in_cap STACK_SIZE (length input) (omega (arith, most)) (omega arith) le; within = record { bytes = opening caps input; is_plain = refl; memory = cells_are; object = ob; client = client } }
   where
     cells_are : (r : Region) → IsValue (cells (opening caps input) r)
     cells_are Input =
