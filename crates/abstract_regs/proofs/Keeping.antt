@@ -270,20 +270,20 @@ module _ (law : Laws) where
   slot_or_number (Some x) number v whole other = whole x refl
 
   -- where an access through a pointer is
-  place_held : (k : Plain) (o distance : ℕ) → KindFits (Ptr Stack k) → distance < 2 ^ 64 → Holds k o → HeldIn (last_place k distance) ((o + distance) % 2 ^ 64)
+  pub place_held : (k : Plain) (o distance : ℕ) → KindFits (Ptr Stack k) → distance < 2 ^ 64 → Holds k o → HeldIn (last_place k distance) ((o + distance) % 2 ^ 64)
   place_held k o distance fit small h =
       law.arithmetic Bits64 Add k (constant distance) fit (law.constants_fit distance small) o distance h (law.constant distance small)
 
   -- the slots that an access reaches, where it is in the stack
-  reaches_some : (P : Option Plain) (at w : ℕ) → HeldIn P at → (j : ℕ) → Touched at w j → touches (access_span P w) j ≡ true
+  pub reaches_some : (P : Option Plain) (at w : ℕ) → HeldIn P at → (j : ℕ) → Touched at w j → touches (access_span P w) j ≡ true
   reaches_some None at w h j t = absurd h
   reaches_some (Some place) at w h j t = access_touches place at w j h t
 
-  whole_place : (P : Option Plain) (at w j : ℕ) → HeldIn P at → whole_slot P w ≡ Some j → (w ≡ 8) × (at ≡ 8 * j)
+  pub whole_place : (P : Option Plain) (at w j : ℕ) → HeldIn P at → whole_slot P w ≡ Some j → (w ≡ 8) × (at ≡ 8 * j)
   whole_place None at w j h e = absurd h
   whole_place (Some place) at w j h e = let whole = whole_is place w j e in (whole.width, one_place place at w j h whole)
 
-  not_stack : (r q : Region) (at w j : ℕ) → r ≡ q → (q ≡ Stack → ⊥) → Reached r at w j → ⊥
+  pub not_stack : (r q : Region) (at w j : ℕ) → r ≡ q → (q ≡ Stack → ⊥) → Reached r at w j → ⊥
   not_stack r q at w j same other reached = let region = reached.region in other (sym same ∙ region)
 
   module _ (slots : List PlainKind) (vs : List (Option Value)) (long : length slots ≡ length vs) (held : HoldsEach slots vs) where
@@ -319,10 +319,10 @@ module _ (law : Laws) where
     untouched : (ws : List (Option Value)) → length ws ≡ length vs → ((i : ℕ) → value_at ws i ≡ value_at vs i) → ((i : ℕ) → IsNumber (value_at vs i) → IsNumber (value_at ws i)) → HoldsEach (spoiled None 0 slots) ws
     untouched ws e same n = spoiled_holds law.any None 0 slots vs ws held e (λ i out. same i) n
 
-  is_input : Input ≡ Stack → ⊥
+  pub is_input : Input ≡ Stack → ⊥
   is_input e = absurd cc
 
-  is_output : Output ≡ Stack → ⊥
+  pub is_output : Output ≡ Stack → ⊥
   is_output e = absurd cc
 
   load_left : (slots : List PlainKind) (vs : List (Option Value)) → length slots ≡ length vs → HoldsEach slots vs → (width : Width) (x : PlainKind) (distance : ℕ) (r : Region) (o : ℕ) (v : Value) → distance < 2 ^ 64 → KindFits x → HoldsKind x (Some (values.Ptr r o)) → Loads vs r ((o + distance) % 2 ^ 64) (byte_count width) v

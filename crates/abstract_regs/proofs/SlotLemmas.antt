@@ -80,7 +80,7 @@ rest_out : (b rest : Bool) → cond b true rest ≡ false → rest ≡ false
 rest_out true rest e = absurd cc
 rest_out false rest e = e
 
-meets_none : (content : Content) (span : Option Span) (j : ℕ) (xs : List PlainKind) (i : ℕ) (x : PlainKind) → meets content span j xs ≡ false → slice_get xs i ≡ Some x → touches span (j + i) ≡ true → has content x ≡ false
+pub meets_none : (content : Content) (span : Option Span) (j : ℕ) (xs : List PlainKind) (i : ℕ) (x : PlainKind) → meets content span j xs ≡ false → slice_get xs i ≡ Some x → touches span (j + i) ≡ true → has content x ≡ false
 meets_none content span j [] i x e at t = absurd (none-some x at)
 meets_none content span j (y ∷ xs) zero x e at t =
     let here : j + 0 ≡ j = omega arith in

@@ -6,9 +6,15 @@ use Rattle.bpf_decode.specs.declared.region.Region.TheVariants.{Input, Output, S
 use Rattle.bpf_decode.specs.declared.value.Value.TheVariants as values
 use Rattle.bpf_decode.specs.declared.value.Value.{Value}
 use Rattle.abstract_regs.specs.declared.kind.Kind.{Kind}
-use Rattle.abstract_regs.specs.Kind.{PlainKind, Unset, Num, Ptr, access_fits, range_fits}
+use Rattle.abstract_regs.specs.declared.content.Content.TheVariants.{Nothing, Pointer}
+use Rattle.abstract_regs.specs.Kind.{PlainKind, Unset, Num, Ptr, HoldsKind, is_ptr, is_num, access_fits, range_fits}
+use Rattle.abstract_regs.specs.Slots.{stack_range, meets}
+use Rattle.bpf_decode.specs.declared.region.Region.{Region}
 use Rattle.abstract_regs.specs.Frame.{PlainFrame, join_each, join, entry_frame, HoldsEach}
+use Rattle.abstract_regs.specs.Flow.{flow}
+use Rattle.abstract_regs.specs.Moves.{Among, KindFits, AllowsLoad, LoadIsKnown, Reached, IsNumber, value_at}
 use Rattle.abstract_regs.specs.Seen.{seen_each}
+use Rattle.bpf_decode.specs.declared.insn.Insn.{Insn}
 
 -- the order: what a kind holds, each greater one holds
 abbrev pub BelowKind : PlainKind → PlainKind → Type 0
@@ -72,3 +78,25 @@ abbrev pub RangesFit : Type 0
 RangesFit =
     (k l : Plain) → (size : ℕ) → range_fits k l size ≡ true →
     (at n : ℕ) → Holds k at → Holds l n → at + n ≤ size
+
+-- An instruction keeps the number of slots, along each of its edges; so does a join.
+abbrev pub FlowsKeepSlots : Type 0
+FlowsKeepSlots =
+    (room : Option ℕ) (i : Insn) (p q : ℕ) (f g : PlainFrame) → Among q g (flow room i p f) → length g.slots ≡ length f.slots
+
+abbrev pub JoinsKeepSlots : Type 0
+JoinsKeepSlots = (f g : PlainFrame) → length g.slots ≡ length f.slots → length (join f g).slots ≡ length f.slots
+
+-- Of a load that the rules leave, what it reads is known, wherever it is.
+abbrev pub LoadsAreKnown : Type 0
+LoadsAreKnown =
+    (f : PlainFrame) (x : PlainKind) (distance w : ℕ) → KindFits x → distance < 2 ^ 64 → AllowsLoad f x distance w →
+    (vs : List (Option Value)) → length f.slots ≡ length vs → HoldsEach f.slots vs →
+    (r : Region) (at : ℕ) → HoldsKind x (Some (values.Ptr r at)) → LoadIsKnown vs r ((at + distance) % 2 ^ 64) w
+
+-- Where a helper's range meets nothing that isn't to be read, each slot that it reaches is a number.
+abbrev pub RangesAreKnown : Type 0
+RangesAreKnown =
+    (f : PlainFrame) (x y : PlainKind) → meets Nothing (stack_range x y) 0 f.slots ≡ false → meets Pointer (stack_range x y) 0 f.slots ≡ false →
+    (vs : List (Option Value)) → length f.slots ≡ length vs → HoldsEach f.slots vs → is_ptr x ≡ true → is_num y ≡ true →
+    (r : Region) (at n j : ℕ) → HoldsKind x (Some (values.Ptr r at)) → HoldsKind y (Some (values.Num n)) → j < length vs → 1 ≤ n → Reached r at n j → IsNumber (value_at vs j)

@@ -156,3 +156,8 @@ Allows room i f = Unit {0}
 abbrev pub Keeps : Option ℕ → Insn → ℕ → PlainFrame → Type 0
 Keeps room i p f =
     Fits i → Allows room i f → (cs ds vs ws : List (Option Value)) (q : ℕ) → length f.slots ≡ length vs → HoldsEach f.registers cs → HoldsEach f.slots vs → Moves room i p cs vs q ds ws → Reaches (flow room i p f) q ds ws
+
+-- Each slot that w bytes reach is a number, or they are a slot that has a value.
+abbrev pub LoadIsKnown : List (Option Value) → Region → ℕ → ℕ → Type 0
+LoadIsKnown vs r at w =
+    ((j : ℕ) → j < length vs → Reached r at w j → IsNumber (value_at vs j)) ⊎ ((j : ℕ) × IsSlot vs r at w j × (v : Value) × (value_at vs j ≡ Some v))

@@ -1,4 +1,4 @@
-ghost use Rattle.abstract_regs.specs.Laws.{JoinCommutes, JoinAssociates, JoinOfSame, JoinIsAbove, JoinsHold, EntryHolds, AccessesFit, RangesFit};
+ghost use Rattle.abstract_regs.specs.Laws.{JoinCommutes, JoinAssociates, JoinOfSame, JoinIsAbove, JoinsHold, EntryHolds, AccessesFit, RangesFit, FlowsKeepSlots, JoinsKeepSlots, LoadsAreKnown, RangesAreKnown};
 
 use abstract_num::keeping_laws;
 
@@ -21,6 +21,20 @@ pub fn holding_laws()
     ensures entry { EntryHolds }
     ensures accesses { AccessesFit }
     ensures ranges { RangesFit }
+{
+    keeping_laws();
+}
+
+/// A law. An instruction, along each of its edges, and a join keep the number of slots.
+pub fn slots_stay()
+    ensures flows { FlowsKeepSlots }
+    ensures joins { JoinsKeepSlots }
+{}
+
+/// A law. What a load reads of the stack's slots that no rule refuses is known, and so is what a helper's range does.
+pub fn slots_known()
+    ensures loads { LoadsAreKnown }
+    ensures ranges { RangesAreKnown }
 {
     keeping_laws();
 }

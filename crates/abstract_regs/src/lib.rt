@@ -23,4 +23,4 @@ pub use edges::{Edges, Refined};
 pub use flat_laws::registers_as_numbers;
 pub use frame::Frame;
 pub use kind::Kind;
-pub use laws::{holding_laws, join_laws};
+pub use laws::{holding_laws, join_laws, slots_known, slots_stay};

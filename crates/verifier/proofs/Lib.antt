@@ -6,6 +6,7 @@ pub mod Tables
 pub mod Numbers
 pub mod Calls
 pub mod Flows
+pub mod Allowed
 pub mod Acts
 pub mod Verdicts
 pub mod Runs

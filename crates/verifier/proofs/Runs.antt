@@ -22,7 +22,8 @@ use Rattle.verifier.specs.Rules.{rule_at}
 use Rattle.verifier.specs.Verdict.{frame_at, whole_table, code_verdict}
 use Rattle.verifier.proofs.Bytes.{bytes_append, bytes_zeros}
 use Rattle.verifier.proofs.Passed.{Passed, passed}
-use Rattle.verifier.proofs.Acts.{steps, exits}
+use Rattle.verifier.proofs.Allowed.{allowed}
+use Rattle.verifier.proofs.Acts.{no_slots, steps, exits}
 use Rattle.verifier.proofs.Tables.{whole_at}
 use Rattle.verifier.proofs.Flows.{arrives, edge}
 use Rattle.verifier.proofs.Verdicts.{passes}
@@ -94,6 +95,9 @@ module _ (joins : JoinsHold) (accesses : AccessesFit) (effects : EffectsAreWithi
   regs_of : (s : Typed) (a : At s) → HoldsEach (a.frame).registers s.regs
   regs_of s a = let h = a.holds in h.regs
 
+  slots_of : (s : Typed) (a : At s) → HoldsEach (a.frame).slots []
+  slots_of s a = let h = a.holds in h.slots
+
   abbrev Later : ℕ → Type 0
   Later n = (t : Typed) → left (drop t.slot (slots is)) ≤ n → At t → Ends n t
 
@@ -104,14 +108,15 @@ module _ (joins : JoinsHold) (accesses : AccessesFit) (effects : EffectsAreWithi
       let fits = fit_at is s.slot a.insn fit a.there in
       let kept = sound_at s a in
       let t = steps accesses effects caps sizes (slots is) s.slot a.frame s a.holds kept.fits a.insn fits ok not_exit in
-      let reached = kept.keeps fits s.regs t.to.regs t.to.slot (regs_of s a) t.moves in
+      let none = no_slots (a.frame).slots (slots_of s a) in
+      let reached = kept.keeps fits (allowed caps (slots is) s.slot a.frame a.insn ok) s.regs t.to.regs [] [] t.to.slot (ap length none) (regs_of s a) (slots_of s a) t.moves in
       let inside = slice_get_within (slots is) s.slot (Some a.insn) (inner _ _ a.there) in
       let e = edge caps (slots is) s.slot t.to.slot a.insn a.frame reached.frame (omega arith) fits ok reached.there in
       let inside' = slice_get_within (slots is) t.to.slot (Some e.to) (inner _ _ e.begins) in
-      let meets = arrives joins caps (slots is) s.slot t.to.slot a.insn a.frame reached.frame t.to.regs a.there a.is_frame rule reached.holds reached.there e.forward inside' in
+      let meets = arrives joins caps (slots is) s.slot t.to.slot a.insn a.frame reached.frame t.to.regs [] a.there a.is_frame rule (record { holds = reached.holds; slots = reached.slots }) reached.there e.forward inside' in
       let fewer = left_further (slots is) s.slot t.to.slot a.insn a.there e.forward in
       let le' : left (drop t.to.slot (slots is)) ≤ n = omega arith in
-      let rest = later t.to le' (record { insn = e.to; there = e.begins; frame = meets.frame; is_frame = meets.is; holds = record { regs = meets.holds; within = t.within } }) in (
+      let rest = later t.to le' (record { insn = e.to; there = e.begins; frame = meets.frame; is_frame = meets.is; holds = record { regs = meets.holds; slots = meets.slots; within = t.within } }) in (
         rest.0,
         suc rest.1,
         ap (λ o. typed_ends before s (o >>= λ i. typed_exit_of i s) (goes_on (o >>= λ i. typed_act caps i s) (typed_run caps (slots is) before n))) a.there
@@ -163,7 +168,8 @@ module _ (joins : JoinsHold) (accesses : AccessesFit) (effects : EffectsAreWithi
 pub entry_is_held : EntryHolds → (caps : Caps) → AreCapacities caps → (object : PlainObject) (caller : ℕ) (input : List ℕ) → IsObject object → caller < 2 ^ 32 → length input ≤ caps.in_cap → AreBytes input → Holds (entry caps) (typed_entry caps object caller input)
 entry_is_held law caps sizes object caller input ob client le bytes =
     let most = sizes.input in
-    record { regs = law caps.in_cap STACK_SIZE (length input) (omega (arith, most)) (omega arith) le; within = record { bytes = opening caps input; is_plain = refl; memory = cells_are; object = ob; client = client } }
+    let first = law caps.in_cap STACK_SIZE 0 (length input) (omega (arith, most)) (omega arith) le in
+    record { regs = first.registers; slots = first.slots; within = record { bytes = opening caps input; is_plain = refl; memory = cells_are; object = ob; client = client } }
   where
     cells_are : (r : Region) → IsValue (cells (opening caps input) r)
     cells_are Input =

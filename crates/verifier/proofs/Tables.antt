@@ -14,7 +14,8 @@ use Rattle.abstract_regs.specs.Frame.{PlainFrame}
 use Rattle.abstract_regs.specs.Flow.{flow}
 use Rattle.verifier.specs.declared.pass.Pass.{Pass}
 use Rattle.verifier.specs.Frame.{entry}
-use Rattle.verifier.specs.Rules.{rule_at}
+use Rattle.verifier.specs.Rules.{rule_at, room_of}
+use Rattle.verifier.specs.Kept.{unbox}
 use Rattle.verifier.specs.Verdict.{Table, frame_at, joined, met, along, unless_refused, flow_from, start, incoming, frames, whole_table, IsTable, or_else, first_refused}
 use Rattle.verifier.specs.Pass.{merged, fallen, awaited, flown, HasLeft, IsSpaced, IsSound}
 
@@ -56,12 +57,13 @@ merged_is table a q g lt = ⊎_elim
     (λ n. ap (λ o. o >>= λ f. f) (get_other table a q _ n) ∙ sym (cond-false _ _ _ (ne_eqb a q n))) (cases_eq a q)
 
 -- both edges of a jump: one is kept, the other falls through
-pub leaves_both : (frame : Option PlainFrame) (f g h : PlainFrame) (kept kept' : Table) (i : Insn) (p a w : ℕ) → frame ≡ Some f → flow i p f ≡ (a, h) ∷ (p + slot_count i, g) ∷ [] → w ≡ slot_count i → kept' ≡ merged kept a h → HasLeft frame kept i p (record { current = Some g; landing = p + w; kept = kept' })
-leaves_both frame f g h kept kept' i p a w is flows width merges = record {
-  landing = ap (λ n. p + n) width;
+pub leaves_both : (frame : Option PlainFrame) (f g h : PlainFrame) (kept : Table) (pass : Pass) (i : Insn) (p a w : ℕ) → frame ≡ Some f → flow (room_of i) i p f ≡ (a, h) ∷ (p + slot_count i, g) ∷ [] → w ≡ slot_count i → pass.kept ≡ merged kept a h → unbox pass.current ≡ Some g → pass.landing ≡ p + w → HasLeft frame kept i p pass
+leaves_both frame f g h kept pass i p a w is flows width merges current landing = record {
+  landing = landing ∙ ap (λ n. p + n) width;
   size = ap length merges ∙ length-set kept a _;
   flows = λ q lt.
-      ap (λ n. met (p + n) g q (frame_at kept' q)) width
+      ap (λ o. fallen o pass.landing q (frame_at pass.kept q)) current
+      ∙ ap (λ n. met n g q (frame_at pass.kept q)) (landing ∙ ap (λ n. p + n) width)
       ∙ ap (met (p + slot_count i) g q) (ap (λ t. frame_at t q) merges ∙ merged_is kept a q h lt)
       ∙ sym (ap (λ o. flown o i p q (frame_at kept q)) is ∙ ap (λ edges. along edges q (frame_at kept q)) flows);
 }
@@ -130,7 +132,7 @@ module _ (caps : Caps) (code : List (Option Insn)) where
   begins zero = refl
   begins (suc q) = cond-false (0 == suc q) (Some (entry caps)) None (ne_eqb 0 (suc q) (λ e. absurd (omega (arith, e))))
 
-  pub brought_first : (pass : Pass) → pass.kept ≡ replicate (length code) None → pass.current ≡ Some (entry caps) → pass.landing ≡ 0 → Brought 0 pass
+  pub brought_first : (pass : Pass) → pass.kept ≡ replicate (length code) None → unbox pass.current ≡ Some (entry caps) → pass.landing ≡ 0 → Brought 0 pass
   brought_first pass kept current landing =
       let none : Table = replicate (length code) None in
       record {
@@ -161,7 +163,7 @@ module _ (caps : Caps) (code : List (Option Insn)) where
 
   flows_on : (p q : ℕ) (i : Insn) (frame inflow : Option PlainFrame) → rule_at caps code p i frame ≡ None → flow_from caps code p q (Some i) frame inflow ≡ flown frame i p q inflow
   flows_on p q i None inflow none = refl
-  flows_on p q i (Some f) inflow none = ap (λ r. unless_refused r (along (flow i p f) q inflow) inflow) none
+  flows_on p q i (Some f) inflow none = ap (λ r. unless_refused r (along (flow (room_of i) i p f) q inflow) inflow) none
 
   -- a slot that no rule refuses brings its flow
   pub brought_more : (p : ℕ) (i : Insn) (pass pass' : Pass) → IsSpaced code → p < length code → fetch code p ≡ Some i → rule_at caps code p i (awaited pass p) ≡ None → HasLeft (awaited pass p) (slice_set pass.kept p None) i p pass' → Brought p pass → Brought (p + 1) pass'
@@ -177,7 +179,7 @@ module _ (caps : Caps) (code : List (Option Insn)) where
             left.flows q (omega (arith, long, b.size))
             ∙ ap (λ o. flown o i p q (frame_at (slice_set pass.kept p None) q)) frame
             ∙ ap (flown (frame_at table p) i p q) (ap (λ o. o >>= λ f. f) (get_other pass.kept p q None (λ e. absurd (omega (arith, e))))
-            ∙ sym (elsewhere pass.current pass.landing q (frame_at pass.kept q) (λ e. absurd (omega (arith, e, landed))))
+            ∙ sym (elsewhere (unbox pass.current) pass.landing q (frame_at pass.kept q) (λ e. absurd (omega (arith, e, landed))))
             ∙ b.at q (omega arith) lt)
             ∙ sym (ap (λ j. flow_from caps code p q j (frame_at table p) (incoming caps code table q p)) at
             ∙ flows_on p q i (frame_at table p) (incoming caps code table q p) clear);

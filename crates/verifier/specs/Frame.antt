@@ -1,5 +1,5 @@
 -- The frame of a method's entry, and what a frame is true of.
-use Rattle.std.specs.Prelude.{◌≡◌, ◌^◌, ◌<◌}
+use Rattle.std.specs.Prelude.{◌≡◌, ◌^◌, ◌<◌, []}
 use Rattle.bpf_decode.specs.declared.region.Region.{Region}
 use Rattle.bpf_decode.specs.declared.region.Region.TheVariants.{Stack}
 use Rattle.bpf_machine.specs.declared.caps.Caps.{Caps}
@@ -24,4 +24,6 @@ pub record IsWithin (s : Typed) : Type 0 where
 -- a state that a frame is true of
 pub record Holds (f : PlainFrame) (s : Typed) : Type 0 where
   pub regs : HoldsEach f.registers s.regs
+  -- nothing is known of the stack
+  pub slots : HoldsEach f.slots []
   pub within : IsWithin s
