@@ -9,11 +9,12 @@ use Rattle.asm_lines.specs.declared.statement.Statement.{Statement}
 use Rattle.asm_lines.specs.declared.statement.Statement.TheVariants.{Empty, Directive}
 use Rattle.std.proofs.lemmas.Bool.Decides.{nat_tests}
 use Rattle.bpf_decode.specs.Instruction.{slot_total}
+use Rattle.bpf_decode.specs.declared.rule_set.RuleSet.{RuleSet}
 use Rattle.bpf_decode.specs.Class.{ClassMethod}
 use Rattle.bpf_decode.specs.declared.image_error.ImageError.{ImageError}
 use Rattle.bpf_decode.specs.Reading.{◌>>=◌}
 use Rattle.bpf_decode.specs.Limits.{between, is_name_byte, are_name_bytes}
-use Rattle.bpf_decode.specs.ImageReading.{after, is_above, method_after, methods_after, class_of}
+use Rattle.bpf_decode.specs.ImageReading.{after, is_above, method_after, methods_after, methods_of, class_of}
 use Rattle.asm_lines.specs.declared.fault.AsmFault.{AsmFault}
 use Rattle.asm_lines.specs.declared.fault.AsmError.{AsmError}
 use Rattle.asm_lines.specs.Fault.{no_memory}
@@ -75,11 +76,11 @@ header_passes before h m valid above a b c d some few =
     (grind (arith, nat_tests))
 
 -- 1 to 32 right methods are a class
-pub is_class : (ms : List ClassMethod) → methods_after 0 [] ms ≡ Ok ms → 1 ≤ length ms → length ms ≤ 32 → class_of ms ≡ Ok ms
-unfolding class_of
-is_class ms h some few =
+pub is_class : (ms : List ClassMethod) → methods_after 0 [] ms ≡ Ok ms → 1 ≤ length ms → length ms ≤ 32 → (rules : RuleSet) → class_of rules ms ≡ Ok (record { rules = rules; methods = ms })
+unfolding methods_of
+is_class ms h some few rules =
     let counted : between 1 32 (length ms) ≡ true = grind (arith, nat_tests) in
-    rw counted h
+    rw (counted, h) refl
 
 class_step : (ms : List ClassMethod) (m : ClassMethod) (line : ℕ) (header : Result MethodHeader AsmFault) (rest : List Statement) → method_at ms line header (before_first is_directive rest) ≡ Ok m → class_from ms line (Directive header ∷ rest) ≡ class_from (ms ++ (m ∷ [])) (line + 1) rest
 unfolding class_from
