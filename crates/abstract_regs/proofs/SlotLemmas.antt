@@ -111,12 +111,15 @@ held_slot (y ∷ xs) [] i x h e = absurd h
 held_slot (y ∷ xs) (v ∷ vs) zero x h e = subst (λ (z : PlainKind). HoldsKind z v) (same_Some y x e) h.0
 held_slot (y ∷ xs) (v ∷ vs) (suc i) x h e = held_slot xs vs i x h.1 e
 
+pub at_start : (span : Option Span) (i : ℕ) → touches span (0 + i) ≡ touches span i
+at_start span i = let same : 0 + i ≡ i = omega arith in ap (touches span) same
+
 -- each slot that bytes reach is a number, where none that they may touch is unset or a place
 pub all_numbers : (span : Option Span) (xs : List PlainKind) (vs : List (Option Value)) → length xs ≡ length vs → HoldsEach xs vs → meets Nothing span 0 xs ≡ false → meets Pointer span 0 xs ≡ false → (i : ℕ) → i < length vs → touches span i ≡ true → IsNumber (value_at vs i)
 all_numbers span xs vs long h a b i lt t =
     let there = some_there xs i (omega (arith, long, lt)) in
     let x = there.0 in
-    numbered x (value_at vs i) (held_slot xs vs i x h there.1) (meets_none Nothing span 0 xs i x a there.1 t) (meets_none Pointer span 0 xs i x b there.1 t)
+    numbered x (value_at vs i) (held_slot xs vs i x h there.1) (meets_none Nothing span 0 xs i x a there.1 (at_start span i ∙ t)) (meets_none Pointer span 0 xs i x b there.1 (at_start span i ∙ t))
 
 -- ---- where an access is
 

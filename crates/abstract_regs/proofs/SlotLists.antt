@@ -121,15 +121,6 @@ set_past [] i x le = refl
 set_past (y ∷ xs) zero x le = absurd (omega (arith, le))
 set_past (y ∷ xs) (suc i) x le = ap (λ t. y ∷ t) (set_past xs i x (omega (arith, le)))
 
--- ---- joins
-
--- a join has no more slots than the other frame
-pub join_cut : (xs ys : List PlainKind) → join_each (take (length ys) xs) ys ≡ join_each xs ys
-join_cut [] [] = refl
-join_cut [] (y ∷ ys) = refl
-join_cut (x ∷ xs) [] = refl
-join_cut (x ∷ xs) (y ∷ ys) = ap (λ t. join_kind x y ∷ t) (join_cut xs ys)
-
 -- ---- other kinds of what was compared, put in twice
 
 set_again : (xs : List PlainKind) (d : ℕ) (a b : PlainKind) → slice_set (slice_set xs d a) d b ≡ slice_set xs d b

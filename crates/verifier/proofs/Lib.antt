@@ -1,12 +1,15 @@
 pub mod Bytes
+pub mod Stack
+pub mod States
 pub mod Holding
 pub mod Passed
 pub mod Boxes
 pub mod Tables
+pub mod Lengths
 pub mod Numbers
+pub mod Allowed
 pub mod Calls
 pub mod Flows
-pub mod Allowed
 pub mod Acts
 pub mod Verdicts
 pub mod Runs

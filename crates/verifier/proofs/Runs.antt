@@ -1,5 +1,5 @@
 -- A run from a slot whose frame is true of the state ends at an exit.
-use Rattle.std.proofs.Common.{◌≡◌, ◌≢◌, ℕ, zero, suc, ◌+◌, ◌-◌, ◌^◌, ◌<◌, ◌≤◌, List, [], ◌∷◌, ◌++◌, Option, Some, None, refl, ap, ◌∙◌, sym, subst, arith, length, length-append, drop}
+use Rattle.std.proofs.Common.{◌≡◌, ◌≢◌, ℕ, zero, suc, ◌+◌, ◌-◌, ◌*◌, ◌^◌, ◌<◌, ◌≤◌, List, [], ◌∷◌, ◌++◌, Option, Some, None, refl, ap, ◌∙◌, sym, subst, arith, length, length-append, drop}
 use Rattle.std.specs.Prelude.{replicate}
 use Rattle.std.proofs.lemmas.List.{length-replicate}
 use Rattle.std.proofs.lemmas.Option.{none-some, same_Some, slice_get_within}
@@ -9,21 +9,28 @@ use Rattle.bpf_decode.specs.Instruction.{Fits, AllFit, slots, slot_count}
 use Rattle.bpf_decode.specs.declared.region.Region.{Region}
 use Rattle.bpf_decode.specs.declared.region.Region.TheVariants.{Input, Output, Stack}
 use Rattle.bpf_machine.specs.declared.caps.Caps.{Caps}
-use Rattle.object_store.specs.Object.{PlainObject, IsObject, AreBytes, IsValue}
+use Rattle.object_store.specs.Object.{PlainObject, IsObject, AreBytes}
 use Rattle.helpers.specs.Laws.{EffectsAreWithinLimits}
 use Rattle.bpf_machine.specs.declared.limits.TheConstants.{STACK_SIZE}
-use Rattle.bpf_machine.specs.State.{◌>>=◌, cells, AreCapacities, opening, Outcome, Ended, Stuck, one_more, goes_on}
-use Rattle.bpf_machine.specs.Typed.{Typed, fetch, typed_act, typed_exit_of, typed_outcome, typed_ends, typed_run, typed_entry}
+use Rattle.bpf_machine.specs.State.{◌>>=◌, AreCapacities, Outcome, Ended, Stuck, one_more, goes_on}
+use Rattle.bpf_machine.specs.Typed.{Typed, fetch, typed_act, typed_exit_of, typed_outcome, typed_ends, typed_run, typed_entry, Byte, as_cells}
 use Rattle.abstract_regs.specs.Frame.{PlainFrame, HoldsEach}
-use Rattle.verifier.specs.Frame.{entry, Holds}
-use Rattle.abstract_regs.specs.Laws.{JoinsHold, EntryHolds, AccessesFit}
+use Rattle.verifier.specs.Frame.{known_slots, entry}
+use Rattle.abstract_regs.specs.Kind as kinds
+use Rattle.abstract_num.specs.Plain.{constant}
+use Rattle.abstract_regs.specs.Laws.{JoinsHold, EntryHolds, FlowsKeepSlots, JoinsKeepSlots}
+use Rattle.bpf_decode.specs.declared.value.Value.TheVariants as forms
+use Rattle.bpf_decode.specs.declared.rule_set.RuleSet.{RuleSet}
 use Rattle.verifier.specs.Pass.{Sound, IsSound, AllSound}
 use Rattle.verifier.specs.Rules.{rule_at}
 use Rattle.verifier.specs.Verdict.{frame_at, whole_table, code_verdict}
 use Rattle.verifier.proofs.Bytes.{bytes_append, bytes_zeros}
 use Rattle.verifier.proofs.Passed.{Passed, passed}
 use Rattle.verifier.proofs.Allowed.{allowed}
-use Rattle.verifier.proofs.Acts.{no_slots, steps, exits}
+use Rattle.verifier.proofs.Stack.{slot_values, cell_at, length_values, IsByte}
+use Rattle.verifier.proofs.States.{values, Holds, known_fit}
+use Rattle.verifier.proofs.Lengths.{long_at}
+use Rattle.verifier.proofs.Acts.{AccessLaws, steps, exits}
 use Rattle.verifier.proofs.Tables.{whole_at}
 use Rattle.verifier.proofs.Flows.{arrives, edge}
 use Rattle.verifier.proofs.Verdicts.{passes}
@@ -74,7 +81,7 @@ pub inner : {A : Type 0} (o : Option (Option A)) (x : A) → (o >>= λ c. c) ≡
 inner None x h = absurd (none-some x h)
 inner (Some o) x h = ap Some h
 
-module _ (joins : JoinsHold) (accesses : AccessesFit) (effects : EffectsAreWithinLimits) (caps : Caps) (sizes : AreCapacities caps) (is : List Insn) (sound : AllSound caps (slots is)) (fit : AllFit is) (small : length (slots is) < 2 ^ 62) (clear : code_verdict caps (slots is) ≡ None) (before : PlainObject) where
+module _ (joins : JoinsHold) (flows : FlowsKeepSlots) (lengths : JoinsKeepSlots) (accesses : AccessLaws) (effects : EffectsAreWithinLimits) (rules : RuleSet) (caps : Caps) (sizes : AreCapacities caps) (is : List Insn) (sound : AllSound rules caps (slots is)) (fit : AllFit is) (small : length (slots is) < 2 ^ 62) (clear : code_verdict rules caps (slots is) ≡ None) (before : PlainObject) where
   abbrev Ends : ℕ → Typed → Type 0
   Ends n s = (o : Outcome) × (k : ℕ) × (typed_run caps (slots is) before n s ≡ Ended o k)
 
@@ -83,11 +90,11 @@ module _ (joins : JoinsHold) (accesses : AccessesFit) (effects : EffectsAreWithi
     insn : Insn
     there : fetch (slots is) s.slot ≡ Some insn
     frame : PlainFrame
-    is_frame : frame_at (whole_table caps (slots is)) s.slot ≡ Some frame
-    holds : Holds frame s
+    is_frame : frame_at (whole_table rules caps (slots is)) s.slot ≡ Some frame
+    holds : Holds rules frame s
 
   clear_at : (s : Typed) (a : At s) → rule_at caps (slots is) s.slot a.insn (Some a.frame) ≡ None
-  clear_at s a = sym (ap (rule_at caps (slots is) s.slot a.insn) a.is_frame) ∙ passes caps (slots is) s.slot a.insn clear a.there
+  clear_at s a = sym (ap (rule_at caps (slots is) s.slot a.insn) a.is_frame) ∙ passes rules caps (slots is) s.slot a.insn clear a.there
 
   sound_at : (s : Typed) (a : At s) → Sound a.insn s.slot a.frame
   sound_at s a = subst (IsSound a.insn s.slot) a.is_frame (sound s.slot a.insn a.there)
@@ -95,8 +102,11 @@ module _ (joins : JoinsHold) (accesses : AccessesFit) (effects : EffectsAreWithi
   regs_of : (s : Typed) (a : At s) → HoldsEach (a.frame).registers s.regs
   regs_of s a = let h = a.holds in h.regs
 
-  slots_of : (s : Typed) (a : At s) → HoldsEach (a.frame).slots []
+  slots_of : (s : Typed) (a : At s) → HoldsEach (a.frame).slots (values rules s.memory)
   slots_of s a = let h = a.holds in h.slots
+
+  long_of : (s : Typed) (a : At s) → length (a.frame).slots ≡ length (values rules s.memory)
+  long_of s a = let h = a.holds in h.long ∙ sym (length_values (known_slots rules) s.memory.stack)
 
   abbrev Later : ℕ → Type 0
   Later n = (t : Typed) → left (drop t.slot (slots is)) ≤ n → At t → Ends n t
@@ -107,16 +117,17 @@ module _ (joins : JoinsHold) (accesses : AccessesFit) (effects : EffectsAreWithi
       let ok = passed caps (slots is) s.slot a.insn a.frame rule in
       let fits = fit_at is s.slot a.insn fit a.there in
       let kept = sound_at s a in
-      let t = steps accesses effects caps sizes (slots is) s.slot a.frame s a.holds kept.fits a.insn fits ok not_exit in
-      let none = no_slots (a.frame).slots (slots_of s a) in
-      let reached = kept.keeps fits (allowed caps (slots is) s.slot a.frame a.insn ok) s.regs t.to.regs [] [] t.to.slot (ap length none) (regs_of s a) (slots_of s a) t.moves in
+      let t = steps accesses effects rules caps sizes (slots is) s.slot a.frame s a.holds kept.fits a.insn fits ok not_exit in
+      let vs = values rules s.memory in
+      let ws = values rules t.to.memory in
+      let reached = kept.keeps fits (allowed caps (slots is) s.slot a.frame a.insn ok) s.regs t.to.regs vs ws t.to.slot (long_of s a) (regs_of s a) (slots_of s a) t.moves in
       let inside = slice_get_within (slots is) s.slot (Some a.insn) (inner _ _ a.there) in
       let e = edge caps (slots is) s.slot t.to.slot a.insn a.frame reached.frame (omega arith) fits ok reached.there in
       let inside' = slice_get_within (slots is) t.to.slot (Some e.to) (inner _ _ e.begins) in
-      let meets = arrives joins caps (slots is) s.slot t.to.slot a.insn a.frame reached.frame t.to.regs [] a.there a.is_frame rule (record { holds = reached.holds; slots = reached.slots }) reached.there e.forward inside' in
+      let meets = arrives joins rules caps (slots is) s.slot t.to.slot a.insn a.frame reached.frame t.to.regs ws a.there a.is_frame rule (record { holds = reached.holds; slots = reached.slots }) reached.there e.forward inside' in
       let fewer = left_further (slots is) s.slot t.to.slot a.insn a.there e.forward in
       let le' : left (drop t.to.slot (slots is)) ≤ n = omega arith in
-      let rest = later t.to le' (record { insn = e.to; there = e.begins; frame = meets.frame; is_frame = meets.is; holds = record { regs = meets.holds; slots = meets.slots; within = t.within } }) in (
+      let rest = later t.to le' (record { insn = e.to; there = e.begins; frame = meets.frame; is_frame = meets.is; holds = record { regs = meets.holds; slots = meets.slots; long = long_at flows lengths rules caps (slots is) t.to.slot meets.frame inside' meets.is; within = t.within } }) in (
         rest.0,
         suc rest.1,
         ap (λ o. typed_ends before s (o >>= λ i. typed_exit_of i s) (goes_on (o >>= λ i. typed_act caps i s) (typed_run caps (slots is) before n))) a.there
@@ -157,22 +168,53 @@ module _ (joins : JoinsHold) (accesses : AccessesFit) (effects : EffectsAreWithi
       let none = left_further (slots is) s.slot (s.slot + 1) a.insn a.there (omega arith) in absurd (omega arith)
   ends_from (suc n) s le a = here n s a a.insn refl le (ends_from n)
 
-  pub ends_at_exit : (s : Typed) (i : Insn) → s.slot ≡ 0 → fetch (slots is) 0 ≡ Some i → Holds (entry caps) s → Ends (length is) s
+  pub ends_at_exit : (s : Typed) (i : Insn) → s.slot ≡ 0 → fetch (slots is) 0 ≡ Some i → Holds rules (entry rules caps) s → Ends (length is) s
   ends_at_exit s i first at h =
       let all = left_slots is in
       let some = slice_get_within (slots is) 0 (Some i) (inner _ _ at) in
       let whole : drop s.slot (slots is) ≡ slots is = ap (λ n. drop n (slots is)) first in
       let le : left (drop s.slot (slots is)) ≤ length is = omega (arith, ap left whole) in
-      ends_from (length is) s le (record { insn = i; there = ap (fetch (slots is)) first ∙ at; frame = entry caps; is_frame = ap (frame_at (whole_table caps (slots is))) first ∙ whole_at caps (slots is) 0 some; holds = h })
+      ends_from (length is) s le (record { insn = i; there = ap (fetch (slots is)) first ∙ at; frame = entry rules caps; is_frame = ap (frame_at (whole_table rules caps (slots is))) first ∙ whole_at rules caps (slots is) 0 some; holds = h })
 
-pub entry_is_held : EntryHolds → (caps : Caps) → AreCapacities caps → (object : PlainObject) (caller : ℕ) (input : List ℕ) → IsObject object → caller < 2 ^ 32 → length input ≤ caps.in_cap → AreBytes input → Holds (entry caps) (typed_entry caps object caller input)
-entry_is_held law caps sizes object caller input ob client le bytes =
+-- ---- a method's entry
+
+zero_byte : (n i : ℕ) → i < n → IsByte (cell_at (as_cells (replicate n 0)) i)
+zero_byte zero i lt = absurd (omega (arith, lt))
+zero_byte (suc n) zero lt = record { n = 0; is = refl; small = omega arith }
+zero_byte (suc n) (suc i) lt = zero_byte n i (omega (arith, lt))
+
+past_zeros : (n i b : ℕ) → cell_at (as_cells (replicate n 0)) i ≡ Byte b → b < 256
+past_zeros zero i b e = let same : 0 ≡ b = cc in omega (arith, same)
+past_zeros (suc n) zero b e = let same : 0 ≡ b = cc in omega (arith, same)
+past_zeros (suc n) (suc i) b e = past_zeros n i b e
+
+zeros_long : (n : ℕ) → length (as_cells (replicate n 0)) ≡ n
+zeros_long zero = refl
+zeros_long (suc n) = ap suc (zeros_long n)
+
+zero_values : (n m : ℕ) → 8 * n ≤ m → slot_values n (as_cells (replicate m 0)) ≡ replicate n (Some (forms.Num 0))
+zero_values zero m le = refl
+zero_values (suc n) m le =
+    let rest : m ≡ 8 + (m - 8) = omega (arith, le) in
+    ap (λ k. slot_values (suc n) (as_cells (replicate k 0))) rest ∙ ap (λ vs. Some (forms.Num 0) ∷ vs) (zero_values n (m - 8) (omega (arith, le)))
+
+pub entry_is_held : EntryHolds → (rules : RuleSet) (caps : Caps) → AreCapacities caps → (object : PlainObject) (caller : ℕ) (input : List ℕ) → IsObject object → caller < 2 ^ 32 → length input ≤ caps.in_cap → AreBytes input → Holds rules (entry rules caps) (typed_entry caps object caller input)
+entry_is_held law rules caps sizes object caller input ob client le bytes =
     let most = sizes.input in
-    let first = law caps.in_cap STACK_SIZE 0 (length input) (omega (arith, most)) (omega arith) le in
-    record { regs = first.registers; slots = first.slots; within = record { bytes = opening caps input; is_plain = refl; memory = cells_are; object = ob; client = client } }
-  where
-    cells_are : (r : Region) → IsValue (cells (opening caps input) r)
-    cells_are Input =
-        (omega (arith, le, sizes.input, length-append input (replicate (caps.in_cap - length input) 0), length-replicate {A = ℕ} (caps.in_cap - length input) 0), bytes_append input _ bytes (bytes_zeros _))
-    cells_are Output = (omega (arith, sizes.output, length-replicate {A = ℕ} caps.out_cap 0), bytes_zeros caps.out_cap)
-    cells_are Stack = (omega (arith, length-replicate {A = ℕ} STACK_SIZE 0), bytes_zeros STACK_SIZE)
+    let n = known_slots rules in
+    let first = law caps.in_cap STACK_SIZE n (length input) (omega (arith, most)) (omega arith) le in
+    record {
+      regs = first.registers;
+      slots = subst (HoldsEach (entry rules caps).slots) (sym (zero_values n STACK_SIZE (known_fit rules))) first.slots;
+      long = length-replicate n (kinds.Num (constant 0));
+      within = record {
+        memory = record {
+          input = (omega (arith, le, sizes.input, length-append input (replicate (caps.in_cap - length input) 0), length-replicate {A = ℕ} (caps.in_cap - length input) 0), bytes_append input _ bytes (bytes_zeros _));
+          output = (omega (arith, sizes.output, length-replicate {A = ℕ} caps.out_cap 0), bytes_zeros caps.out_cap);
+          stack = record { long = zeros_long STACK_SIZE; small = past_zeros STACK_SIZE };
+          bytes = λ _. zero_byte STACK_SIZE;
+        };
+        object = ob;
+        client = client;
+      };
+    }

@@ -9,11 +9,20 @@ use Rattle.bpf_decode.specs.declared.region.Region.TheVariants.{Input, Output, S
 use Rattle.bpf_decode.specs.declared.value.Value.{Value}
 use Rattle.bpf_decode.specs.declared.value.Value.TheVariants.{Num, Ptr}
 use Rattle.object_store.specs.Object.{AreBytes}
+use Rattle.bpf_machine.specs.declared.limits.TheConstants.{STACK_SIZE}
 use Rattle.bpf_machine.specs.State.{◌>>=◌, only, le_value}
-use Rattle.bpf_machine.specs.Typed.{Cell, Byte, PartOf, as_cells, parts_of, equal_regions, are_parts, place_of, plain_bytes, number_or, over}
+use Rattle.bpf_machine.specs.Typed.{Cell, Byte, PartOf, as_cells, parts_from, parts_of, equal_regions, are_parts, place_of, plain_bytes, number_or, over}
 use Rattle.abstract_regs.specs.Moves.{value_at, Touched, IsNumber}
-use Rattle.verifier.specs.Frame.{slot_value, slot_values}
 use Rattle.verifier.proofs.Bytes.{le_value_below}
+
+-- the value of a slot's eight cells: a number, a place, or none where a place was overwritten in part
+abbrev pub slot_value : List Cell → Option Value
+slot_value cs = number_or (plain_bytes cs) (place_of cs)
+
+-- those of the first n slots
+abbrev pub slot_values : ℕ → List Cell → List (Option Value)
+slot_values zero cs = []
+slot_values (suc n) cs = slot_value (take 8 cs) ∷ slot_values n (drop 8 cs)
 
 abbrev pub cell_at : List Cell → ℕ → Cell
 cell_at cs i = get_or cs i (Byte 0)
@@ -96,8 +105,8 @@ plain_is_number cs p long =
 
 -- ---- a stack: each of its bytes is one
 
-pub record IsStack (n : ℕ) (cs : List Cell) : Type 0 where
-  pub long : length cs ≡ 8 * n
+pub record IsStack (cs : List Cell) : Type 0 where
+  pub long : length cs ≡ STACK_SIZE
   pub small : (i b : ℕ) → cell_at cs i ≡ Byte b → b < 256
 
 chunk_cell : (cs : List Cell) (j i : ℕ) → i < 8 → cell_at (chunk cs j) i ≡ cell_at cs (8 * j + i)
@@ -107,8 +116,8 @@ pub chunk_length : (cs : List Cell) (j : ℕ) → 8 * j + 8 ≤ length cs → le
 chunk_length cs j le = omega (arith, le, length-take 8 (drop (8 * j) cs), length-drop (8 * j) cs)
 
 -- a byte of a slot that is a number
-byte_in_slot : (n : ℕ) (cs : List Cell) → IsStack n cs → (i : ℕ) → i < 8 * n → IsNumber (slot_value (chunk cs (i / 8))) → IsByte (cell_at cs i)
-byte_in_slot n cs ok i lt h =
+byte_in_slot : (cs : List Cell) → IsStack cs → (i : ℕ) → i < STACK_SIZE → IsNumber (slot_value (chunk cs (i / 8))) → IsByte (cell_at cs i)
+byte_in_slot cs ok i lt h =
     let j = i / 8 in
     let p = slot_is_plain (chunk cs j) h in
     let in_chunk : i % 8 < 8 = omega arith in
@@ -120,16 +129,16 @@ byte_in_slot n cs ok i lt h =
     record { n = b.0; is = is; small = ok.small i b.0 is }
 
 -- w cells that reach numbers alone are bytes
-pub read_plain : (n : ℕ) (cs : List Cell) → IsStack n cs → (at w : ℕ) → at + w ≤ 8 * n → ((j : ℕ) → j < n → Touched at w j → IsNumber (value_at (slot_values n cs) j)) → ArePlain (take w (drop at cs))
-read_plain n cs ok at w le h = plain_if (take w (drop at cs)) each
+pub read_plain : (n : ℕ) (cs : List Cell) → IsStack cs → STACK_SIZE ≡ 8 * n → (at w : ℕ) → at + w ≤ STACK_SIZE → ((j : ℕ) → j < n → Touched at w j → IsNumber (value_at (slot_values n cs) j)) → ArePlain (take w (drop at cs))
+read_plain n cs ok whole at w le h = plain_if (take w (drop at cs)) each
   where
     each : (i : ℕ) → i < length (take w (drop at cs)) → IsByte (cell_at (take w (drop at cs)) i)
     each i lt =
         let in_w : i < w = omega (arith, lt, length-take w (drop at cs)) in
-        let inside : (at + i) / 8 < n = omega (arith, in_w, le) in
+        let inside : (at + i) / 8 < n = omega (arith, in_w, le, whole) in
         let touched : Touched at w ((at + i) / 8) = record { below = omega (arith, in_w); above = omega (arith, in_w) } in
         let number = subst IsNumber (value_at_slot n cs ((at + i) / 8) inside) (h ((at + i) / 8) inside touched) in
-        subst IsByte (sym (get_or-take w (drop at cs) i (Byte 0) in_w ∙ get_or-drop at cs i (Byte 0))) (byte_in_slot n cs ok (at + i) (omega (arith, in_w, le)) number)
+        subst IsByte (sym (get_or-take w (drop at cs) i (Byte 0) in_w ∙ get_or-drop at cs i (Byte 0))) (byte_in_slot cs ok (at + i) (omega (arith, in_w, le)) number)
 
 -- ---- writes
 
@@ -184,12 +193,12 @@ chunk_same cs ds j le long h =
         chunk_cell ds j i few ∙ h (8 * j + i) (omega arith) (omega (arith, few)) ∙ sym (chunk_cell cs j i few))
 
 -- a slot that no written cell is in stays as it is
-pub chunk_outside : (cs : List Cell) (at : ℕ) (new : List Cell) (j : ℕ) → at + length new ≤ length cs → 8 * j + 8 ≤ length cs → (Touched at (length new) j → ⊥) → chunk (over cs at new) j ≡ chunk cs j
+pub chunk_outside : (cs : List Cell) (at : ℕ) (new : List Cell) (j : ℕ) → at + length new ≤ length cs → 8 * j + 8 ≤ length cs → (1 ≤ length new → Touched at (length new) j → ⊥) → chunk (over cs at new) j ≡ chunk cs j
 chunk_outside cs at new j le inside out =
     chunk_same cs (over cs at new) j inside (length_over cs at new le) (λ i lo hi. ⊎_elim
         (λ (lt : i < at). over_before cs at new le i lt)
         (λ (past : at ≤ i). ⊎_elim
-            (λ (lt : i < at + length new). absurd (out (record { below = omega (arith, lo, lt); above = omega (arith, past, hi) })))
+            (λ (lt : i < at + length new). absurd (out (omega (arith, past, lt)) (record { below = omega (arith, lo, lt); above = omega (arith, past, hi) })))
             (λ (behind : at + length new ≤ i). over_behind cs at new le i behind)
             (cases_lt i (at + length new)))
         (cases_lt i at))
@@ -210,8 +219,8 @@ as_byte (b ∷ bs) ok zero lt = record { n = b; is = refl; small = ok.0 }
 as_byte (b ∷ bs) ok (suc k) lt = as_byte bs ok.1 k (omega (arith, lt))
 
 -- a slot that is a number stays one where bytes are written
-pub chunk_stays_number : (n : ℕ) (cs : List Cell) → IsStack n cs → (at : ℕ) (bs : List ℕ) → AreBytes bs → at + length (as_cells bs) ≤ length cs → (j : ℕ) → j < n → IsNumber (slot_value (chunk cs j)) → IsNumber (slot_value (chunk (over cs at (as_cells bs)) j))
-chunk_stays_number n cs ok at bs small le j lt number =
+pub chunk_stays_number : (cs : List Cell) → IsStack cs → (at : ℕ) (bs : List ℕ) → AreBytes bs → at + length (as_cells bs) ≤ length cs → (j : ℕ) → 8 * j + 8 ≤ STACK_SIZE → IsNumber (slot_value (chunk cs j)) → IsNumber (slot_value (chunk (over cs at (as_cells bs)) j))
+chunk_stays_number cs ok at bs small le j lt number =
     let ds = over cs at (as_cells bs) in
     let inside : 8 * j + 8 ≤ length (over cs at (as_cells bs)) = omega (arith, lt, ok.long, length_over cs at (as_cells bs) le) in
     let eight = chunk_length (over cs at (as_cells bs)) j inside in
@@ -223,11 +232,16 @@ chunk_stays_number n cs ok at bs small le j lt number =
         let eight = chunk_length (over cs at (as_cells bs)) j inside in
         let in_chunk : i < 8 = omega (arith, few, eight) in
         let slot : (8 * j + i) / 8 ≡ j = omega (arith, in_chunk) in
-        let old = byte_in_slot n cs ok (8 * j + i) (omega (arith, in_chunk, lt)) (subst (λ k. IsNumber (slot_value (chunk cs k))) (sym slot) number) in
+        let old = byte_in_slot cs ok (8 * j + i) (omega (arith, in_chunk, lt)) (subst (λ k. IsNumber (slot_value (chunk cs k))) (sym slot) number) in
         subst IsByte (sym (chunk_cell (over cs at (as_cells bs)) j i in_chunk))
         (stays_or cs at (as_cells bs) le IsByte (8 * j + i) (λ k less is. as_byte bs small k less) old)
 
 -- ---- places
+
+part_no_byte : (r : Region) (at k n i b : ℕ) → i < n → cell_at (parts_from r at k n) i ≡ Byte b → ⊥
+part_no_byte r at k zero i b lt e = omega (arith, lt)
+part_no_byte r at k (suc n) zero b lt e = absurd cc
+part_no_byte r at k (suc n) (suc i) b lt e = part_no_byte r at (k + 1) n i b (omega (arith, lt)) e
 
 region_same : (r : Region) → equal_regions r r ≡ true
 region_same Input = refl
@@ -239,3 +253,63 @@ pub place_of_parts : (r : Region) (at : ℕ) → slot_value (parts_of r at) ≡ 
 place_of_parts r at =
     let same = eq-eqb at at refl in
     rw (region_same r, same) refl
+
+-- past the last slot
+value_past : (n : ℕ) (cs : List Cell) (j : ℕ) → n ≤ j → value_at (slot_values n cs) j ≡ None
+value_past zero cs j le = refl
+value_past (suc n) cs zero le = absurd (omega (arith, le))
+value_past (suc n) cs (suc j) le = value_past n (drop 8 cs) j (omega (arith, le))
+
+-- ---- the values of a stack that was written
+
+pub value_outside : (n : ℕ) (cs : List Cell) → IsStack cs → 8 * n ≤ STACK_SIZE → (at : ℕ) (new : List Cell) → at + length new ≤ STACK_SIZE → (j : ℕ) → (1 ≤ length new → Touched at (length new) j → ⊥) → value_at (slot_values n (over cs at new)) j ≡ value_at (slot_values n cs) j
+value_outside n cs ok most at new le j out = ⊎_elim
+    (λ (lt : j < n).
+        let here : 8 * j + 8 ≤ length cs = omega (arith, lt, most, ok.long) in
+        let fits : at + length new ≤ length cs = omega (arith, le, ok.long) in
+        value_at_slot n (over cs at new) j lt ∙ ap slot_value (chunk_outside cs at new j fits here out) ∙ sym (value_at_slot n cs j lt))
+    (λ (past : n ≤ j). value_past n (over cs at new) j past ∙ sym (value_past n cs j past))
+    (cases_lt j n)
+
+pub value_whole : (n : ℕ) (cs : List Cell) → IsStack cs → 8 * n ≤ STACK_SIZE → (new : List Cell) (at j : ℕ) → length new ≡ 8 → at ≡ 8 * j → j < n → value_at (slot_values n (over cs at new)) j ≡ slot_value new
+value_whole n cs ok most new at j eight is lt =
+    let here : 8 * j + 8 ≤ length cs = omega (arith, lt, most, ok.long) in
+    ap (λ a. value_at (slot_values n (over cs a new)) j) is ∙ value_at_slot n (over cs (8 * j) new) j lt ∙ ap slot_value (chunk_whole cs new j eight here)
+
+pub value_stays_number : (n : ℕ) (cs : List Cell) → IsStack cs → 8 * n ≤ STACK_SIZE → (at : ℕ) (bs : List ℕ) → AreBytes bs → at + length bs ≤ STACK_SIZE → (j : ℕ) → IsNumber (value_at (slot_values n cs) j) → IsNumber (value_at (slot_values n (over cs at (as_cells bs))) j)
+value_stays_number n cs ok most at bs small le j number = ⊎_elim
+    (λ (lt : j < n).
+        let here : 8 * j + 8 ≤ STACK_SIZE = omega (arith, lt, most) in
+        let fits : at + length (as_cells bs) ≤ length cs = omega (arith, le, ok.long, length-map bs Byte) in
+        subst IsNumber (sym (value_at_slot n (over cs at (as_cells bs)) j lt))
+        (chunk_stays_number cs ok at bs small fits j here (subst IsNumber (value_at_slot n cs j lt) number)))
+    (λ (past : n ≤ j). absurd (subst IsNumber (value_past n cs j past) number))
+    (cases_lt j n)
+
+-- a stack over which bytes are written, or a place's parts, is one
+pub bytes_over : (cs : List Cell) → IsStack cs → (at : ℕ) (bs : List ℕ) → AreBytes bs → at + length bs ≤ STACK_SIZE → IsStack (over cs at (as_cells bs))
+bytes_over cs ok at bs small le =
+    let fits : at + length (as_cells bs) ≤ length cs = omega (arith, le, ok.long, length-map bs Byte) in
+    record {
+      long = length_over cs at (as_cells bs) fits ∙ ok.long;
+      small = λ i b. stays_or cs at (as_cells bs) fits (λ (c : Cell). c ≡ Byte b → b < 256) i
+          (λ k lt is e. byte_small (cell_at (as_cells bs) k) b (as_byte bs small k lt) e) (ok.small i b);
+    }
+  where
+    byte_small : (c : Cell) (b : ℕ) → IsByte c → c ≡ Byte b → b < 256
+    byte_small c b h e = let same : h.n ≡ b = let both = sym h.is ∙ e in cc in omega (arith, h.small, same)
+
+pub parts_over : (cs : List Cell) → IsStack cs → (at : ℕ) (r : Region) (to : ℕ) → at + 8 ≤ STACK_SIZE → IsStack (over cs at (parts_of r to))
+parts_over cs ok at r to le =
+    let fits : at + length (parts_of r to) ≤ length cs = omega (arith, le, ok.long) in
+    record {
+      long = length_over cs at (parts_of r to) fits ∙ ok.long;
+      small = λ i b. stays_or cs at (parts_of r to) fits (λ (c : Cell). c ≡ Byte b → b < 256) i
+          (λ k lt is e. absurd (part_no_byte r to 0 8 k b (omega (arith, lt)) e)) (ok.small i b);
+    }
+
+-- and where all were bytes, all are, once bytes are written
+pub all_bytes_over : (cs : List Cell) → IsStack cs → ((i : ℕ) → i < STACK_SIZE → IsByte (cell_at cs i)) → (at : ℕ) (bs : List ℕ) → AreBytes bs → at + length bs ≤ STACK_SIZE → (i : ℕ) → i < STACK_SIZE → IsByte (cell_at (over cs at (as_cells bs)) i)
+all_bytes_over cs ok all at bs small le i lt =
+    let fits : at + length (as_cells bs) ≤ length cs = omega (arith, le, ok.long, length-map bs Byte) in
+    stays_or cs at (as_cells bs) fits IsByte i (λ k less is. as_byte bs small k less) (all i lt)

@@ -10,7 +10,7 @@ use crate::kept::Kept;
 use crate::rule::Rule;
 use crate::rules::refusing_rule;
 use abstract_regs::{Edges, Frame};
-use bpf_decode::{Insn, Region, width};
+use bpf_decode::{Insn, Region, RuleSet, width};
 use bpf_machine::Caps;
 use std::alloc::{AllocError, Global};
 
@@ -28,27 +28,32 @@ pub struct Pass {
 /// One pass over the slots in order, since no flow that is not refused goes back: its cost is linear in their number.
 pub fn first_refusal(
     alloc: Global,
+    rules: RuleSet,
     caps: &Caps,
     code: &[Option<Insn>],
 ) -> Result<Option<(usize, Rule)>, AllocError>
     requires small { length code.now < 2 ^ 62 }
     requires spaced { IsSpaced code.now }
-    ensures verdict { IfOk result (λ r. r ≡ code_verdict caps.now code.now) }
-    ensures sound { IfOk result (λ r. r ≡ None → AllSound caps.now code.now) }
+    ensures verdict { IfOk result (λ r. r ≡ code_verdict rules caps.now code.now) }
+    ensures sound { IfOk result (λ r. r ≡ None → AllSound rules caps.now code.now) }
 {
-    let mut pass = Pass::new(alloc, caps, code.len())?;
-    pass.run(alloc, caps, code)
+    let mut pass = Pass::new(alloc, rules, caps, code.len())?;
+    pass.run(alloc, rules, caps, code)
 }
 
 impl Pass {
     /// Before slot 0, with the frame that a method begins with.
-    fn new(alloc: Global, caps: &Caps, slots: usize) -> Result<Pass, AllocError>
+    fn new(alloc: Global, rules: RuleSet, caps: &Caps, slots: usize) -> Result<Pass, AllocError>
         ensures kept { IfOk result (λ p. p.kept ≡ replicate slots None) }
-        ensures current { IfOk result (λ p. unbox p.current ≡ Some (entry caps.now)) }
+        ensures current { IfOk result (λ p. unbox p.current ≡ Some (entry rules caps.now)) }
         ensures landing { IfOk result (λ p. p.landing ≡ 0) }
     {
-        let stack = caps.size(Region::Stack) as u64;
-        let entry = Frame::entry(alloc, u64::from(caps.in_cap), stack, 0)?;
+        let stack = caps.size(Region::Stack);
+        let count = match rules {
+            RuleSet::One => 0,
+            RuleSet::Two => stack / 8,
+        };
+        let entry = Frame::entry(alloc, u64::from(caps.in_cap), stack as u64, count)?;
         Ok(Pass {
             current: Some(Box::new(alloc, entry)?),
             landing: 0,
@@ -60,16 +65,17 @@ impl Pass {
     fn run(
         &mut self,
         alloc: Global,
+        rules: RuleSet,
         caps: &Caps,
         code: &[Option<Insn>],
     ) -> Result<Option<(usize, Rule)>, AllocError>
         requires small { length code.now < 2 ^ 62 }
         requires spaced { IsSpaced code.now }
         requires kept { self.old.kept ≡ replicate (length code.now) None }
-        requires current { unbox self.old.current ≡ Some (entry caps.now) }
+        requires current { unbox self.old.current ≡ Some (entry rules caps.now) }
         requires landing { self.old.landing ≡ 0 }
-        ensures verdict { IfOk result (λ r. r ≡ code_verdict caps.now code.now) }
-        ensures sound { IfOk result (λ r. r ≡ None → AllSound caps.now code.now) }
+        ensures verdict { IfOk result (λ r. r ≡ code_verdict rules caps.now code.now) }
+        ensures sound { IfOk result (λ r. r ≡ None → AllSound rules caps.now code.now) }
     {
         for (slot, begun) in code.iter().enumerate() {
             if let Some(insn) = begun {
