@@ -37,7 +37,7 @@ use Rattle.abstract_regs.specs.declared.kind.Kind.TheVariants as code
 use Rattle.abstract_regs.specs.Kind.{PlainKind, Unset, Num, Ptr, HoldsKind, alu_kind, neg_kind, mov_kind, signed_move_kind, end_kind, both_nums, same_num, along_kinds, last_place, is_unset, is_num, is_ptr}
 use Rattle.abstract_regs.specs.declared.content.Content.TheVariants.{Nothing, Pointer}
 use Rattle.abstract_regs.specs.Slots.{stack_place, stack_range, touches, access_span, range_span, whole_slot, slot_kind, spoiled, stored, meets}
-use Rattle.abstract_regs.specs.Frame.{PlainFrame, or_unset, kind_at, with_kind, room_span, kept_kind, after_store, after_call, operand_kind, HoldsEach}
+use Rattle.abstract_regs.specs.Frame.{PlainFrame, or_unset, kind_at, with_kind, room_span, after_store, after_call, operand_kind, HoldsEach}
 use Rattle.abstract_regs.specs.Flow.{target, edge_to, computed, with_both, along_edge, loaded_kind, flow}
 use Rattle.abstract_regs.specs.Moves.{value_at, operand_in, with_value, Touched, Reached, IsNumber, Loads, Stores, Overwrites, Overwritten, Reaches, KindFits, EachFits, AllowsRoom, Keeps}
 use Rattle.abstract_regs.proofs.SlotLemmas.{at_start, spoiled_holds, set_holds, inside_of, held_slot, all_numbers, access_touches, range_touches, whole_is, one_place}
@@ -343,8 +343,8 @@ module _ (law : Laws) where
       slot_or_number (slot_kind slots (whole_slot P (byte_count width))) _ v
       (slot_value slots vs long sl P at (byte_count width) r v (sym h.0) held loads (whole_slot P (byte_count width)) refl)
       (λ none.
-          let n = a_number slots vs long sl P at (byte_count width) r v held loads ok.1 (ok.2 none) in
-          subst (Left (option_map Num (tighten (ranged 0 (load_high width))))) (sym n.1) (left_num _ n.0 (law.loads width n.0 n.2)))
+      let n = a_number slots vs long sl P at (byte_count width) r v held loads ok.1 (ok.2 none) in
+      subst (Left (option_map Num (tighten (ranged 0 (load_high width))))) (sym n.1) (left_num _ n.0 (law.loads width n.0 n.2)))
 
   num_is : (m n : ℕ) → values.Num m ≡ values.Num n → m ≡ n
   num_is m n e = cc

@@ -1,19 +1,18 @@
 -- What a load or a helper's range that the rules leave reads of the stack's slots.
-use Rattle.std.proofs.Common.{◌≡◌, ℕ, ◌+◌, ◌*◌, ◌%◌, ◌^◌, ◌<◌, ◌≤◌, List, Option, Some, None, true, false, refl, inl, inr, ap, ◌∙◌, sym, subst, arith, length}
-use Rattle.std.specs.Prelude.{slice_get, is_some}
+use Rattle.std.proofs.Common.{◌≡◌, ℕ, ◌+◌, ◌*◌, ◌%◌, ◌^◌, List, Option, Some, None, true, false, refl, inl, inr, ap, ◌∙◌, sym, arith, length}
+use Rattle.std.specs.Prelude.{is_some}
 use Rattle.std.proofs.lemmas.Bool.{false≢true}
 use Rattle.std.proofs.lemmas.Option.{none-some}
 use Rattle.bpf_decode.specs.declared.region.Region.{Region}
 use Rattle.bpf_decode.specs.declared.region.Region.TheVariants.{Input, Output, Stack}
 use Rattle.bpf_decode.specs.declared.value.Value.{Value}
-use Rattle.bpf_decode.specs.declared.value.Value.TheVariants as values
 use Rattle.abstract_num.specs.Plain.{Plain}
 use Rattle.abstract_num.specs.Keeping.{HeldIn}
 use Rattle.abstract_regs.specs.declared.content.Content.TheVariants.{Nothing, Pointer}
-use Rattle.abstract_regs.specs.Kind.{PlainKind, Unset, Num, Ptr, HoldsKind, last_place, is_unset, is_ptr}
-use Rattle.abstract_regs.specs.Slots.{touches, access_span, range_span, whole_slot, slot_kind, meets}
-use Rattle.abstract_regs.specs.Frame.{PlainFrame, HoldsEach}
-use Rattle.abstract_regs.specs.Moves.{value_at, Touched, Reached, IsSlot, IsNumber, LoadIsKnown}
+use Rattle.abstract_regs.specs.Kind.{PlainKind, Unset, Num, Ptr, HoldsKind, last_place, is_unset}
+use Rattle.abstract_regs.specs.Slots.{access_span, range_span, whole_slot, slot_kind, meets}
+use Rattle.abstract_regs.specs.Frame.{HoldsEach}
+use Rattle.abstract_regs.specs.Moves.{value_at, Touched, Reached, IsSlot, LoadIsKnown}
 use Rattle.abstract_regs.specs.Laws.{SlotsAreKnown, LoadsAreKnown, RangesAreKnown}
 use Rattle.abstract_regs.proofs.SlotLemmas.{at_start, meets_none, inside_of, held_slot, all_numbers, range_touches}
 use Rattle.abstract_regs.proofs.Keeping.{Laws, place_held, reaches_some, whole_place, not_stack, is_input, is_output}

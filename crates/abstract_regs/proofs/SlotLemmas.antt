@@ -1,22 +1,19 @@
 -- What is known of the stack's slots stays true over loads, stores and a helper's range.
-use Rattle.std.proofs.Common.{◌≡◌, ℕ, zero, suc, ◌+◌, ◌*◌, ◌/◌, ◌%◌, ◌^◌, ◌<◌, ◌≤◌, List, [], ◌∷◌, length, Option, Some, None, Bool, true, false, cond, refl, ap, ◌∙◌, sym, subst, arith, IsSomeAnd}
+use Rattle.std.proofs.Common.{◌≡◌, ℕ, zero, suc, ◌+◌, ◌*◌, ◌/◌, ◌%◌, ◌<◌, ◌≤◌, List, [], ◌∷◌, length, Option, Some, None, Bool, true, false, cond, refl, ap, ◌∙◌, sym, subst, arith}
 use Rattle.std.specs.Prelude.{slice_get, slice_set, ◌==◌, ◌&&◌, nat_lt}
-use Rattle.std.specs.Option.{option_map}
-use Rattle.std.proofs.lemmas.Bool.{false≢true, and_parts, eqb-true}
+use Rattle.std.proofs.lemmas.Bool.{and_parts, eqb-true}
 use Rattle.std.proofs.lemmas.Bool.Decides.{nat_tests}
 use Rattle.std.proofs.lemmas.Option.{none-some, same_Some}
-use Rattle.bpf_decode.specs.declared.region.Region.{Region}
-use Rattle.bpf_decode.specs.declared.region.Region.TheVariants.{Input, Output, Stack}
 use Rattle.bpf_decode.specs.declared.value.Value.{Value}
 use Rattle.bpf_decode.specs.declared.value.Value.TheVariants as values
 use Rattle.abstract_num.specs.Plain.{Plain, Holds, any}
-use Rattle.abstract_num.specs.Keeping.{HeldIn, AnyHolds}
+use Rattle.abstract_num.specs.Keeping.{AnyHolds}
 use Rattle.abstract_regs.specs.Kind.{PlainKind, Unset, Num, Ptr, HoldsKind, is_unset, is_ptr}
 use Rattle.abstract_regs.specs.declared.content.Content.{Content}
 use Rattle.abstract_regs.specs.declared.content.Content.TheVariants.{Nothing, Pointer}
-use Rattle.abstract_regs.specs.Slots.{Span, touches, access_span, range_span, whole_slot, slot_kind, overwritten, spoiled, stored, has, meets}
+use Rattle.abstract_regs.specs.Slots.{Span, touches, access_span, range_span, whole_slot, overwritten, spoiled, has, meets}
 use Rattle.abstract_regs.specs.Frame.{HoldsEach}
-use Rattle.abstract_regs.specs.Moves.{value_at, Touched, Reached, IsNumber, IsSlot, Loads, Stores, Overwrites}
+use Rattle.abstract_regs.specs.Moves.{value_at, Touched, IsNumber}
 
 -- ---- kinds of slots
 
@@ -51,7 +48,7 @@ spoiled_holds law span j (x ∷ xs) (v ∷ vs) (w ∷ ws) h e same n =
     let less : length ws ≡ length vs = omega (arith, e) in (
       spoiled_one law (touches span j) x v w h.0 (λ out. same 0 (ap (touches span) here ∙ out)) (n 0),
       spoiled_holds law span (j + 1) xs vs ws h.1 less
-      (λ i out. let next : j + suc i ≡ j + 1 + i = omega arith in same (suc i) (ap (touches span) next ∙ out)) (λ i. n (suc i)),
+          (λ i out. let next : j + suc i ≡ j + 1 + i = omega arith in same (suc i) (ap (touches span) next ∙ out)) (λ i. n (suc i)),
     )
 
 others_hold : (xs : List PlainKind) (vs ws : List (Option Value)) → HoldsEach xs vs → length ws ≡ length vs → ((i : ℕ) → value_at ws i ≡ value_at vs i) → HoldsEach xs ws

@@ -1,15 +1,14 @@
 -- Slots that bytes may touch: from the first to the one before the end, in lists of kinds.
-use Rattle.std.proofs.Common.{◌≡◌, ℕ, zero, suc, ◌+◌, ◌*◌, ◌/◌, ◌<◌, ◌≤◌, List, [], ◌∷◌, length, Option, Some, None, Bool, true, false, cond, refl, ap, ◌∙◌, sym, subst, arith, get_or, set, take}
-use Rattle.std.specs.Prelude.{slice_get, slice_set, ◌&&◌, nat_lt, min}
+use Rattle.std.proofs.Common.{◌≡◌, ℕ, zero, suc, ◌+◌, ◌/◌, ◌<◌, ◌≤◌, List, [], ◌∷◌, length, Option, Some, None, Bool, true, false, cond, refl, ap, ◌∙◌, sym, arith, get_or, set}
+use Rattle.std.specs.Prelude.{slice_set, ◌&&◌, nat_lt, min}
 use Rattle.std.proofs.lemmas.Bool.{false≢true}
 use Rattle.std.proofs.lemmas.Bool.Decides.{nat_tests}
-use Rattle.std.proofs.lemmas.Option.{none-some, same_Some}
 use Rattle.bpf_decode.specs.declared.insn.Operand.{Operand}
 use Rattle.bpf_decode.specs.declared.insn.Operand.TheVariants.{Immediate, Register}
 use Rattle.abstract_regs.specs.declared.content.Content.{Content}
-use Rattle.abstract_regs.specs.Kind.{PlainKind, join_kind}
+use Rattle.abstract_regs.specs.Kind.{PlainKind}
 use Rattle.abstract_regs.specs.Slots.{Span, touches, slot_kind, overwritten, spoiled, has, meets}
-use Rattle.abstract_regs.specs.Frame.{PlainFrame, join_each}
+use Rattle.abstract_regs.specs.Frame.{PlainFrame}
 use Rattle.abstract_regs.specs.Flow.{with_both}
 
 -- ---- which slots

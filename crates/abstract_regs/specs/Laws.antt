@@ -60,7 +60,7 @@ JoinsHold = (f g : PlainFrame) → JoinHolds f g
 -- What a method begins with, an input of n bytes and a stack of zeros: the entry frame holds it.
 pub record EntryIsHeld (in_cap stack count n : ℕ) : Type 0 where
   pub registers : HoldsEach (entry_frame in_cap stack count).registers
-    (None ∷ Some (values.Ptr Input 0) ∷ Some (values.Num n) ∷ Some (values.Ptr Output 0) ∷ None ∷ None ∷ None ∷ None ∷ None ∷ None ∷ Some (values.Ptr Stack stack) ∷ [])
+      (None ∷ Some (values.Ptr Input 0) ∷ Some (values.Num n) ∷ Some (values.Ptr Output 0) ∷ None ∷ None ∷ None ∷ None ∷ None ∷ None ∷ Some (values.Ptr Stack stack) ∷ [])
   pub slots : HoldsEach (entry_frame in_cap stack count).slots (replicate count (Some (values.Num 0)))
 
 abbrev pub EntryHolds : Type 0

@@ -1,4 +1,4 @@
-use Rattle.std.proofs.Common.{◌≡◌, ℕ, zero, suc, ◌+◌, ◌<◌, ◌≤◌, List, [], ◌∷◌, ◌++◌, refl, ap, ◌∙◌, sym, arith, length, take, drop, get_or, rules}
+use Rattle.std.proofs.Common.{◌≡◌, ℕ, zero, suc, ◌+◌, ◌<◌, ◌≤◌, List, [], ◌∷◌, ◌++◌, refl, ap, ◌∙◌, sym, arith, length, take, drop, get_or}
 use Rattle.std.proofs.lemmas.List.{take_more, take_more_set, length-take-le, length-set, drop_more, drop-set-lt, take_all}
 use Rattle.abstract_regs.specs.declared.kind.Kind.{Kind}
 use Rattle.abstract_regs.specs.Kind.{join_kind}

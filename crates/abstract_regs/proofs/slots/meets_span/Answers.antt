@@ -37,8 +37,8 @@ loop-j-preserved c =
     let a = c.index-slots-j.result in
     below_more (λ (k : ℕ). (d : PlainKind) → k < length xs → touches (Some span) k ≡ true → has content (get_or (seen_each xs) k d) ≡ false) j c.loop-j.invariant
     (λ d lt t.
-        let inside : j < length (seen_each xs) = omega (arith, lt, length-map xs seen) in
-        ap (has content) (get_or_default (seen_each xs) j d (seen a) inside ∙ sym (ap seen c.index-slots-j.is ∙ seen_get xs j a)) ∙ sym c.is_in.ensures ∙ c.if-is_in.false)
+    let inside : j < length (seen_each xs) = omega (arith, lt, length-map xs seen) in
+    ap (has content) (get_or_default (seen_each xs) j d (seen a) inside ∙ sym (ap seen c.index-slots-j.is ∙ seen_get xs j a)) ∙ sym c.is_in.ensures ∙ c.if-is_in.false)
 
 pub returns : goal.returns
 returns c =
@@ -47,11 +47,11 @@ returns c =
     let j = c.loop-j.j in
     let xs = c.args.slots.now in
     sym (meets_nothing content (Some span) 0 (seen_each xs) Unset (λ i lt t.
-        let short : i < length xs = omega (arith, lt, length-map xs seen) in
-        let touched = sym (at_start (Some span) i) ∙ t in
-        ⊎_elim
-        (λ (below : i < j). c.loop-j.invariant i below Unset short touched)
-        (λ (past : j ≤ i).
-            let behind : (span.high + 7) / 8 ≤ i = omega arith in
-            absurd (false≢true (sym (untouched_behind span i behind) ∙ touched)))
-        (cases_lt i j)))
+    let short : i < length xs = omega (arith, lt, length-map xs seen) in
+    let touched = sym (at_start (Some span) i) ∙ t in
+    ⊎_elim
+    (λ (below : i < j). c.loop-j.invariant i below Unset short touched)
+    (λ (past : j ≤ i).
+    let behind : (span.high + 7) / 8 ≤ i = omega arith in
+    absurd (false≢true (sym (untouched_behind span i behind) ∙ touched)))
+    (cases_lt i j)))

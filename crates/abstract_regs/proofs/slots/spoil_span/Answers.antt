@@ -1,9 +1,9 @@
-use Rattle.std.proofs.Common.{◌≡◌, ℕ, zero, suc, ◌+◌, ◌/◌, ◌<◌, ◌≤◌, List, [], ◌∷◌, true, refl, ap, ◌∙◌, sym, arith, length, get_or, set}
-use Rattle.std.specs.Prelude.{Some, min}
+use Rattle.std.proofs.Common.{◌≡◌, ℕ, zero, suc, ◌+◌, ◌/◌, ◌<◌, ◌≤◌, List, [], ◌∷◌, refl, ap, ◌∙◌, sym, arith, length, get_or, set}
+use Rattle.std.specs.Prelude.{min}
 use Rattle.std.proofs.lemmas.List.{length-set, length-map, map-set}
 use Rattle.abstract_regs.specs.declared.kind.Kind.{Kind}
 use Rattle.abstract_regs.specs.Kind.{PlainKind}
-use Rattle.abstract_regs.specs.Slots.{overwritten, touches}
+use Rattle.abstract_regs.specs.Slots.{overwritten}
 use Rattle.abstract_regs.specs.Seen.{seen, seen_each}
 use Rattle.abstract_regs.proofs.SlotLists.{below_first, below_all, below_more, touched_between}
 use Rattle.abstract_regs.proofs.slots.spoil_span.Goals as goal

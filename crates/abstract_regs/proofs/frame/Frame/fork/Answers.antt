@@ -1,4 +1,4 @@
-use Rattle.std.proofs.Common.{◌≡◌, ℕ, List, [], ◌∷◌, ◌++◌, Option, ap, ◌∙◌, sym}
+use Rattle.std.proofs.Common.{ℕ, [], ◌∷◌, ◌++◌, Option, ap, ◌∙◌, sym}
 use Rattle.std.specs.Option.{option_map}
 use Rattle.abstract_regs.specs.declared.kind.Kinds.{Kinds}
 use Rattle.abstract_regs.specs.Seen.{seen_both}
