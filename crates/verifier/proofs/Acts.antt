@@ -39,7 +39,7 @@ use Rattle.verifier.specs.Rules.{load_meets, operand_is_unset, room_of}
 use Rattle.verifier.proofs.Allowed.{allowed}
 use Rattle.verifier.proofs.Holding.{HoldsValue, HasForm, read, value_is, operand_is, not_ptr_is_num, numbered, form_of, number_of, operand_read, operand_is_set, computes, copies, extended_small16, not_false}
 use Rattle.verifier.proofs.Stack.{length_values}
-use Rattle.verifier.proofs.States.{IsMemory, IsWithin, Holds, value_short, plain_at, reads_number, reads, StoresValue, stores_number, stores_place}
+use Rattle.verifier.proofs.States.{IsMemory, IsWithin, Holds, value_short, plain_at, number_loads, reads, StoresValue, stores_number, stores_place}
 use Rattle.verifier.proofs.States as states
 use Rattle.verifier.proofs.Passed.{neither, Passed}
 use Rattle.verifier.proofs.Calls.{one_more, size_short, call_made, fits_in}
@@ -212,10 +212,10 @@ module _ (law : AccessLaws) (effects : EffectsAreWithinLimits) (rules : RuleSet)
       let r = plain_at rules s.memory (h.within).memory caps at.at.0 at.at.1 w at.inside (numbers_alone at.at.0 at.at.1 width here) in
       let n = le_value r.bytes in
       let below = value_short w r.bytes r.short r.small in
-      let all = reads_number rules s.memory (h.within).memory at.at.0 at.at.1 w r in
+      let loads = number_loads rules s.memory (h.within).memory at.at.0 at.at.1 w r in
       computed_step (LoadSigned width d base offset) d (values.Num (signed_load_value width n)) (s.slot + 1)
       (one_more _ _ _ _ v.there (ap (typed_after s) (one_more _ _ _ _ at.is (one_more _ _ _ _ r.are (set_to s d (values.Num (signed_load_value width n)) fit.0 ok.r10)))))
-      (at.at.0, at.offset, n, value_is s base v.value v.there ∙ ap Some at.points, subst (λ a. Loads vs at.at.0 a w (values.Num n)) at.place all.loads, refl, refl, refl)
+      (at.at.0, at.offset, n, value_is s base v.value v.there ∙ ap Some at.points, subst (λ a. Loads vs at.at.0 a w (values.Num n)) at.place loads, refl, refl, refl)
 
   -- a load of less than eight bytes is no slot
   numbers_alone : (r : Region) (at : ℕ) (width : SignedWidth) → LoadIsKnown vs r at (signed_byte_count width) → (j : ℕ) → j < length vs → Reached r at (signed_byte_count width) j → IsNumber (value_at vs j)
@@ -233,6 +233,11 @@ module _ (law : AccessLaws) (effects : EffectsAreWithinLimits) (rules : RuleSet)
   operand_bound (Immediate imm) fit e = (values.Num (extended imm), refl, tt, λ n is. let same : extended imm ≡ n = cc in omega (arith, extended_small32 imm fit, same))
   operand_bound (Register r) fit e =
       let v = read f s r h e in (v.value, v.there, form_of (kind_at f r) v.value v.holds, value_bound (kind_at f r) v.value v.holds e)
+
+  slot_of : (b : PlainKind) (distance w : ℕ) → KindFits b → distance < 2 ^ 64 → (r : Region) (at o : ℕ) → HoldsValue b (values.Ptr r o) → at ≡ (o + distance) % 2 ^ 64 → (t : Bool) → (t ≡ true → is_some (kept_kind f b distance w) ≡ true) → t ≡ true → (j : ℕ) × IsSlot vs r at w j
+  slot_of b distance w fit small r at o pointer place t kept ptr =
+      let k = law.slots f b distance w fit small (kept ptr) vs long r o pointer in
+      (k.0, subst (λ a. IsSlot vs r a w k.0) (sym place) k.1)
 
   store_value : (r : Region) (at w : ℕ) (v : Value) (x : PlainKind) → is_unset x ≡ false → HasForm x v → ((n : ℕ) → v ≡ values.Num n → n < 2 ^ 64) → at + w ≤ size caps r → (is_ptr x ≡ true → (j : ℕ) × IsSlot vs r at w j) → StoresValue rules s.memory (r, at) w v
   store_value r at w (values.Num n) x set form bound inside slot = stores_number rules s.memory (h.within).memory caps sizes r at w n (bound n refl) inside
@@ -252,13 +257,13 @@ module _ (law : AccessLaws) (effects : EffectsAreWithinLimits) (rules : RuleSet)
       let at = found law.fit caps b v.value distance w small kind_fits v.holds (not_false _ ok.bounds) in
       let allow = allowed caps code p f (Store width base offset x) ok in
       let pointer = at_pointer b v.value distance w v.holds at in
-      let slot : is_ptr (operand_kind f x) ≡ true → (j : ℕ) × IsSlot vs at.at.0 at.at.1 w j = λ ptr.
-          let k = law.slots f b distance w kind_fits small (kept_if (kept_kind f b distance w) (is_ptr (operand_kind f x)) allow.2 ptr) vs long at.at.0 at.offset pointer in
-          (k.0, subst (λ a. IsSlot vs at.at.0 a w k.0) (sym at.place) k.1) in
+      let kept = kept_if (kept_kind f b distance w) (is_ptr (operand_kind f x)) allow.2 in
+      let slot = slot_of b distance w kind_fits small at.at.0 at.at.1 at.offset pointer at.place (is_ptr (operand_kind f x)) kept in
       let t = store_value at.at.0 at.at.1 w y.0 (operand_kind f x) (operand_is_set f x unset.1) y.2 y.3 at.inside slot in
+      let after : Typed = record s { memory = t.to } in
       record {
-        to = go (s.slot + 1) (record s { memory = t.to });
-        act = one_more _ _ _ _ v.there (one_more _ _ _ _ y.1 (ap (typed_after s) (one_more _ _ _ (record s { memory = t.to }) at.is (cond-true _ _ _ (at.writable ok.read_only) ∙ one_more _ _ _ _ t.is refl))));
+        to = go (s.slot + 1) after;
+        act = one_more _ _ _ _ v.there (one_more _ _ _ _ y.1 (ap (typed_after s) (one_more _ _ _ after at.is (cond-true _ _ _ (at.writable ok.read_only) ∙ one_more _ _ _ _ t.is refl))));
         moves = (at.at.0, at.offset, y.0, value_is s base v.value v.there ∙ ap Some at.points, operand_is s x y.0 y.1, subst (λ a. Stores vs at.at.0 a w y.0 (states.values rules t.to)) at.place t.stores, refl, refl);
         within = within_memory rules s (s.slot + 1) t.to h.within t.memory;
       }

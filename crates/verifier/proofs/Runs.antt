@@ -19,6 +19,7 @@ use Rattle.verifier.specs.Frame.{known_slots, entry}
 use Rattle.abstract_regs.specs.Kind as kinds
 use Rattle.abstract_num.specs.Plain.{constant}
 use Rattle.abstract_regs.specs.Laws.{JoinsHold, EntryHolds, FlowsKeepSlots, JoinsKeepSlots}
+use Rattle.bpf_decode.specs.declared.value.Value.{Value}
 use Rattle.bpf_decode.specs.declared.value.Value.TheVariants as forms
 use Rattle.bpf_decode.specs.declared.rule_set.RuleSet.{RuleSet}
 use Rattle.verifier.specs.Pass.{Sound, IsSound, AllSound}
@@ -195,8 +196,8 @@ zeros_long (suc n) = ap suc (zeros_long n)
 zero_values : (n m : ℕ) → 8 * n ≤ m → slot_values n (as_cells (replicate m 0)) ≡ replicate n (Some (forms.Num 0))
 zero_values zero m le = refl
 zero_values (suc n) m le =
-    let rest : m ≡ 8 + (m - 8) = omega (arith, le) in
-    ap (λ k. slot_values (suc n) (as_cells (replicate k 0))) rest ∙ ap (λ vs. Some (forms.Num 0) ∷ vs) (zero_values n (m - 8) (omega (arith, le)))
+    let rest : m ≡ suc (suc (suc (suc (suc (suc (suc (suc (m - 8)))))))) = omega (arith, le) in
+    ap (λ k. slot_values (suc n) (as_cells (replicate k 0))) rest ∙ ap (λ (vs : List (Option Value)). Some (forms.Num 0) ∷ vs) (zero_values n (m - 8) (omega (arith, le)))
 
 pub entry_is_held : EntryHolds → (rules : RuleSet) (caps : Caps) → AreCapacities caps → (object : PlainObject) (caller : ℕ) (input : List ℕ) → IsObject object → caller < 2 ^ 32 → length input ≤ caps.in_cap → AreBytes input → Holds rules (entry rules caps) (typed_entry caps object caller input)
 entry_is_held law rules caps sizes object caller input ob client le bytes =

@@ -297,7 +297,10 @@ bytes_over cs ok at bs small le =
     }
   where
     byte_small : (c : Cell) (b : ℕ) → IsByte c → c ≡ Byte b → b < 256
-    byte_small c b h e = let same : h.n ≡ b = let both = sym h.is ∙ e in cc in omega (arith, h.small, same)
+    byte_small c b h e =
+        let both : Byte h.n ≡ Byte b = sym h.is ∙ e in
+        let same : h.n ≡ b = cc in
+        omega (arith, h.small, same)
 
 pub parts_over : (cs : List Cell) → IsStack cs → (at : ℕ) (r : Region) (to : ℕ) → at + 8 ≤ STACK_SIZE → IsStack (over cs at (parts_of r to))
 parts_over cs ok at r to le =

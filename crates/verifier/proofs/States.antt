@@ -126,14 +126,17 @@ is_slot_at r at w j region width place =
 
 module _ (rules : RuleSet) (m : TypedMemory) (ok : IsMemory rules m) where
   -- of bytes alone
+  pub number_loads : (r : Region) (at w : ℕ) (p : PlainAt m r at w) → Loads (values rules m) r at w (Num (le_value p.bytes))
+  number_loads r at w p = record {
+    whole = λ j slot. cells_of rules m ok r at w j slot ∙ ap (λ (o : Option (List ℕ)). number_or o (place_of (cells_at m r at w))) p.are;
+    number = λ _. (le_value p.bytes, refl, value_short w p.bytes p.short p.small);
+  }
+
   reads_number : (r : Region) (at w : ℕ) → PlainAt m r at w → ReadsValue rules m (r, at) w
   reads_number r at w p = record {
     value = Num (le_value p.bytes);
     is = ap (λ (o : Option (List ℕ)). number_or o (only (is_slot (r, at) w) (place_of (cells_at m r at w)))) p.are;
-    loads = record {
-      whole = λ j slot. cells_of rules m ok r at w j slot ∙ ap (λ (o : Option (List ℕ)). number_or o (place_of (cells_at m r at w))) p.are;
-      number = λ _. (le_value p.bytes, refl, value_short w p.bytes p.short p.small);
-    };
+    loads = number_loads r at w p;
   }
 
   -- of a slot that has a value
