@@ -151,11 +151,11 @@ impl Program {
     }
 }
 
-/// A method of sixty steps. It answers with the output and what it added up, as a code that is zero or positive.
-fn program(rt: &impl Abort, alloc: Global, seed: u64) -> Vec<u8> {
+/// A method of forty steps. It answers with the output and what it added up, as a code that is zero or positive.
+fn code_of(rt: &impl Abort, alloc: Global, seed: u64) -> Vec<u8> {
     let mut random = Random::new(seed);
     let mut program = Program::new(rt, alloc);
-    for _ in 0..60 {
+    for _ in 0..40 {
         program.step(rt, &mut random);
     }
     let Program { mut code, kept: _ } = program;
@@ -204,7 +204,7 @@ fn verified(rt: &impl Abort, alloc: Global, code: &[u8]) -> Option<VerifiedClass
 
 /// Whether the method of a seed is accepted, and answers as its plain run in a layout.
 fn agrees_on(rt: &impl Abort, alloc: Global, seed: u64, layout: Layout) -> bool {
-    let code = program(rt, alloc, seed);
+    let code = code_of(rt, alloc, seed);
     match verified(rt, alloc, &code) {
         None => false,
         Some(class) => {
