@@ -37,10 +37,10 @@ use Rattle.abstract_regs.specs.declared.kind.Kind.TheVariants as code
 use Rattle.abstract_regs.specs.Kind.{PlainKind, Unset, Num, Ptr, HoldsKind, alu_kind, neg_kind, mov_kind, signed_move_kind, end_kind, both_nums, same_num, along_kinds, last_place, is_unset, is_num, is_ptr}
 use Rattle.abstract_regs.specs.declared.content.Content.TheVariants.{Nothing, Pointer}
 use Rattle.abstract_regs.specs.Slots.{stack_place, stack_range, touches, access_span, range_span, whole_slot, slot_kind, spoiled, stored, meets}
-use Rattle.abstract_regs.specs.Frame.{PlainFrame, or_unset, kind_at, with_kind, room_span, kept_kind, after_store, after_call, operand_kind, HoldsEach}
+use Rattle.abstract_regs.specs.Frame.{PlainFrame, or_unset, kind_at, with_kind, room_span, after_store, after_call, operand_kind, HoldsEach}
 use Rattle.abstract_regs.specs.Flow.{target, edge_to, computed, with_both, along_edge, loaded_kind, flow}
 use Rattle.abstract_regs.specs.Moves.{value_at, operand_in, with_value, Touched, Reached, IsNumber, Loads, Stores, Overwrites, Overwritten, Reaches, KindFits, EachFits, AllowsRoom, Keeps}
-use Rattle.abstract_regs.proofs.SlotLemmas.{spoiled_holds, set_holds, inside_of, held_slot, all_numbers, access_touches, range_touches, whole_is, one_place}
+use Rattle.abstract_regs.proofs.SlotLemmas.{at_start, spoiled_holds, set_holds, inside_of, held_slot, all_numbers, access_touches, range_touches, whole_is, one_place}
 use Rattle.abstract_regs.specs.Seen.{seen, seen_each}
 
 -- the laws of numbers
@@ -307,7 +307,7 @@ module _ (law : Laws) where
     store_slot : (P : Option Plain) (at w : ℕ) (r : Region) (x : Value) (y : PlainKind) (ws : List (Option Value)) → r ≡ Stack → HeldIn P at → HoldsKind y (Some x) → Stores vs r at w x ws → (slot_kind slots (whole_slot P w) ≡ None → IsNumber (Some x)) → (o : Option ℕ) → o ≡ whole_slot P w → HoldsEach (stored slots o (access_span P w) y) ws
     store_slot P at w r x y ws region h k stores number None e =
         spoiled_holds law.any (access_span P w) 0 slots vs ws held stores.long
-        (λ i out. stores.others i (λ reached. false≢true (sym out ∙ reaches_some P at w h i reached.touched)))
+        (λ i out. stores.others i (λ reached. false≢true (sym out ∙ at_start (access_span P w) i ∙ reaches_some P at w h i reached.touched)))
         (stores.numbers (number (ap (slot_kind slots) (sym e))))
     store_slot P at w r x y ws region h k stores number (Some j) e =
         let place = whole_place P at w j h (sym e) in
@@ -343,8 +343,8 @@ module _ (law : Laws) where
       slot_or_number (slot_kind slots (whole_slot P (byte_count width))) _ v
       (slot_value slots vs long sl P at (byte_count width) r v (sym h.0) held loads (whole_slot P (byte_count width)) refl)
       (λ none.
-          let n = a_number slots vs long sl P at (byte_count width) r v held loads ok.1 (ok.2 none) in
-          subst (Left (option_map Num (tighten (ranged 0 (load_high width))))) (sym n.1) (left_num _ n.0 (law.loads width n.0 n.2)))
+      let n = a_number slots vs long sl P at (byte_count width) r v held loads ok.1 (ok.2 none) in
+      subst (Left (option_map Num (tighten (ranged 0 (load_high width))))) (sym n.1) (left_num _ n.0 (law.loads width n.0 n.2)))
 
   num_is : (m n : ℕ) → values.Num m ≡ values.Num n → m ≡ n
   num_is m n e = cc
@@ -398,7 +398,7 @@ module _ (law : Laws) where
   range_left slots vs ws long sl (Ptr Stack l) (Ptr s m) r at n h k p q over = absurd k
   range_left slots vs ws long sl (Ptr Stack l) (Num m) r at n h k p q over =
       spoiled_holds law.any (range_span l m) 0 slots vs ws sl over.long
-      (λ i out. over.others i (λ reached. let t = reached.1 in false≢true (sym out ∙ range_touches l m at n i h.1 k reached.0 t.touched))) over.numbers
+      (λ i out. over.others i (λ reached. let t = reached.1 in false≢true (sym out ∙ at_start (range_span l m) i ∙ range_touches l m at n i h.1 k reached.0 t.touched))) over.numbers
 
   room_left : (f : PlainFrame) (cs vs ws : List (Option Value)) → length f.slots ≡ length vs → HoldsEach f.registers cs → HoldsEach f.slots vs → (room : Option ℕ) → AllowsRoom room f → Overwritten room cs vs ws → HoldsEach (spoiled (room_span f room) 0 f.slots) ws
   room_left f cs vs ws long h sl None ok over =

@@ -1,21 +1,20 @@
 -- What a load or a helper's range that the rules leave reads of the stack's slots.
-use Rattle.std.proofs.Common.{◌≡◌, ℕ, ◌+◌, ◌*◌, ◌%◌, ◌^◌, ◌<◌, ◌≤◌, List, Option, Some, None, true, false, refl, inl, inr, ap, ◌∙◌, sym, subst, arith, length}
-use Rattle.std.specs.Prelude.{slice_get, ◌⊎◌}
+use Rattle.std.proofs.Common.{◌≡◌, ℕ, ◌+◌, ◌*◌, ◌%◌, ◌^◌, List, Option, Some, None, true, false, refl, inl, inr, ap, ◌∙◌, sym, arith, length}
+use Rattle.std.specs.Prelude.{is_some}
 use Rattle.std.proofs.lemmas.Bool.{false≢true}
 use Rattle.std.proofs.lemmas.Option.{none-some}
 use Rattle.bpf_decode.specs.declared.region.Region.{Region}
 use Rattle.bpf_decode.specs.declared.region.Region.TheVariants.{Input, Output, Stack}
 use Rattle.bpf_decode.specs.declared.value.Value.{Value}
-use Rattle.bpf_decode.specs.declared.value.Value.TheVariants as values
 use Rattle.abstract_num.specs.Plain.{Plain}
 use Rattle.abstract_num.specs.Keeping.{HeldIn}
 use Rattle.abstract_regs.specs.declared.content.Content.TheVariants.{Nothing, Pointer}
-use Rattle.abstract_regs.specs.Kind.{PlainKind, Unset, Num, Ptr, HoldsKind, last_place, is_unset, is_ptr}
-use Rattle.abstract_regs.specs.Slots.{touches, access_span, range_span, whole_slot, slot_kind, meets}
-use Rattle.abstract_regs.specs.Frame.{PlainFrame, HoldsEach}
-use Rattle.abstract_regs.specs.Moves.{value_at, Touched, Reached, IsNumber, LoadIsKnown}
-use Rattle.abstract_regs.specs.Laws.{LoadsAreKnown, RangesAreKnown}
-use Rattle.abstract_regs.proofs.SlotLemmas.{meets_none, inside_of, held_slot, all_numbers, range_touches}
+use Rattle.abstract_regs.specs.Kind.{PlainKind, Unset, Num, Ptr, HoldsKind, last_place, is_unset}
+use Rattle.abstract_regs.specs.Slots.{access_span, range_span, whole_slot, slot_kind, meets}
+use Rattle.abstract_regs.specs.Frame.{HoldsEach}
+use Rattle.abstract_regs.specs.Moves.{value_at, Touched, Reached, IsSlot, LoadIsKnown}
+use Rattle.abstract_regs.specs.Laws.{SlotsAreKnown, LoadsAreKnown, RangesAreKnown}
+use Rattle.abstract_regs.proofs.SlotLemmas.{at_start, meets_none, inside_of, held_slot, all_numbers, range_touches}
 use Rattle.abstract_regs.proofs.Keeping.{Laws, place_held, reaches_some, whole_place, not_stack, is_input, is_output}
 
 set_value : (x : PlainKind) (c : Option Value) → HoldsKind x c → is_unset x ≡ false → (v : Value) × (c ≡ Some v)
@@ -39,12 +38,28 @@ module _ (law : Laws) where
       let width : w ≡ 8 = place.0 in
       let start : at ≡ 8 * j = place.1 in
       let touched : Touched at w j = record { below = omega arith; above = omega arith } in
-      let set = meets_none Nothing (access_span P w) 0 slots j y unset (sym n) (reaches_some law P at w h j touched) in
+      let set = meets_none Nothing (access_span P w) 0 slots j y unset (sym n) (at_start (access_span P w) j ∙ reaches_some law P at w h j touched) in
       let value = set_value y (value_at vs j) (held_slot slots vs j y sl (sym n)) set in
       inr (j, record { region = region; width = width; place = start; inside = omega (arith, long, inside) }, value.0, value.1)
 
   elsewhere : (vs : List (Option Value)) (r q : Region) (at w : ℕ) → r ≡ q → (q ≡ Stack → ⊥) → LoadIsKnown vs r at w
   elsewhere vs r q at w same other = inl (λ j lt reached. absurd (not_stack law r q at w j same other reached))
+
+  slot_there : (slots : List PlainKind) (vs : List (Option Value)) → length slots ≡ length vs → (P : Option Plain) (r : Region) (at w : ℕ) → r ≡ Stack → HeldIn P at → (o : Option ℕ) → o ≡ whole_slot P w → (u : Option PlainKind) → u ≡ slot_kind slots o → is_some u ≡ true → (j : ℕ) × IsSlot vs r at w j
+  slot_there slots vs long P r at w region h o e None n t = absurd (false≢true t)
+  slot_there slots vs long P r at w region h None e (Some y) n t = absurd (none-some y (sym n))
+  slot_there slots vs long P r at w region h (Some j) e (Some y) n t =
+      let place = whole_place law P at w j h (sym e) in
+      let inside = inside_of slots j y (sym n) in
+      (j, record { region = region; width = place.0; place = place.1; inside = omega (arith, long, inside) })
+
+  pub slots_known : SlotsAreKnown
+  slots_known f Unset distance w fit small t vs long r at h = absurd (false≢true t)
+  slots_known f (Num k) distance w fit small t vs long r at h = absurd (false≢true t)
+  slots_known f (Ptr Input k) distance w fit small t vs long r at h = absurd (false≢true t)
+  slots_known f (Ptr Output k) distance w fit small t vs long r at h = absurd (false≢true t)
+  slots_known f (Ptr Stack k) distance w fit small t vs long r at h =
+      slot_there f.slots vs long (last_place k distance) r ((at + distance) % 2 ^ 64) w (sym h.0) (place_held law k at distance fit small h.1) (whole_slot (last_place k distance) w) refl (slot_kind f.slots (whole_slot (last_place k distance) w)) refl t
 
   pub loads_known : LoadsAreKnown
   loads_known f Unset distance w fit small ok vs long sl r at h = absurd (false≢true ok.0)

@@ -1,17 +1,17 @@
 -- Instructions and joins keep the number of slots.
-use Rattle.std.proofs.Common.{◌≡◌, ℕ, suc, ◌+◌, List, [], ◌∷◌, ◌++◌, ◌⊎◌, Option, Some, None, true, false, refl, ap, ◌∙◌, sym, arith, length, ⊎_elim}
+use Rattle.std.proofs.Common.{◌≡◌, ℕ, suc, ◌+◌, List, [], ◌∷◌, ◌++◌, Option, Some, None, true, false, refl, ap, ◌∙◌, arith, length, ⊎_elim}
 use Rattle.std.specs.Option.{option_map}
 use Rattle.std.proofs.lemmas.List.{length-set}
 use Rattle.bpf_decode.specs.declared.insn.Operand.{Operand}
 use Rattle.bpf_decode.specs.declared.insn.Operand.TheVariants.{Immediate, Register}
-use Rattle.bpf_decode.specs.declared.insn.Insn.{Insn}
 use Rattle.bpf_decode.specs.declared.insn.Insn.TheVariants.{Alu, Neg, Mov, MovSigned, End, LoadWide, Load, LoadSigned, Store, Jump, JumpLong, Branch, Call, CallLocal, Exit}
 use Rattle.bpf_decode.specs.Instruction.{byte_count}
 use Rattle.bpf_decode.specs.Values.{extended}
-use Rattle.abstract_regs.specs.Kind.{PlainKind, Num, join_kind}
+use Rattle.abstract_num.specs.Plain.{constant}
+use Rattle.abstract_regs.specs.Kind.{PlainKind, Num}
 use Rattle.abstract_regs.specs.Slots.{Span, stack_place, access_span, whole_slot, spoiled, stored}
 use Rattle.abstract_regs.specs.Frame.{PlainFrame, kind_at, with_kind, room_span, after_store, after_call, operand_kind, join_each}
-use Rattle.abstract_regs.specs.Flow.{target, edge_to, computed, with_both, along_edge, flow}
+use Rattle.abstract_regs.specs.Flow.{target, edge_to, with_both, along_edge}
 use Rattle.abstract_regs.specs.Moves.{Among}
 use Rattle.abstract_regs.specs.Laws.{FlowsKeepSlots, JoinsKeepSlots}
 
@@ -52,7 +52,7 @@ flows_keep room (Neg bits d) p q f g e = one q (p + 1) (length f.slots) g _ (eac
 flows_keep room (Mov bits d x) p q f g e = one q (p + 1) (length f.slots) g _ (each_computed f d _) e
 flows_keep room (MovSigned extension d src) p q f g e = one q (p + 1) (length f.slots) g _ (each_computed f d _) e
 flows_keep room (End order width d) p q f g e = one q (p + 1) (length f.slots) g _ (each_computed f d _) e
-flows_keep room (LoadWide d value) p q f g e = one q (p + 2) (length f.slots) g _ (each_computed f d _) e
+flows_keep room (LoadWide d value) p q f g e = one q (p + 2) (length f.slots) g (option_map (with_kind f d) (Some (Num (constant value)))) (each_computed f d (Some (Num (constant value)))) e
 flows_keep room (Load width d from offset) p q f g e = one q (p + 1) (length f.slots) g _ (each_computed f d _) e
 flows_keep room (LoadSigned width d from offset) p q f g e = one q (p + 1) (length f.slots) g _ (each_computed f d _) e
 flows_keep room (Store width to offset x) p q f g e =

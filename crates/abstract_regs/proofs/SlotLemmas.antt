@@ -1,22 +1,19 @@
 -- What is known of the stack's slots stays true over loads, stores and a helper's range.
-use Rattle.std.proofs.Common.{◌≡◌, ℕ, zero, suc, ◌+◌, ◌*◌, ◌/◌, ◌%◌, ◌^◌, ◌<◌, ◌≤◌, List, [], ◌∷◌, length, Option, Some, None, Bool, true, false, cond, refl, ap, ◌∙◌, sym, subst, arith, IsSomeAnd}
+use Rattle.std.proofs.Common.{◌≡◌, ℕ, zero, suc, ◌+◌, ◌*◌, ◌/◌, ◌%◌, ◌<◌, ◌≤◌, List, [], ◌∷◌, length, Option, Some, None, Bool, true, false, cond, refl, ap, ◌∙◌, sym, subst, arith}
 use Rattle.std.specs.Prelude.{slice_get, slice_set, ◌==◌, ◌&&◌, nat_lt}
-use Rattle.std.specs.Option.{option_map}
-use Rattle.std.proofs.lemmas.Bool.{false≢true, and_parts, eqb-true}
+use Rattle.std.proofs.lemmas.Bool.{and_parts, eqb-true}
 use Rattle.std.proofs.lemmas.Bool.Decides.{nat_tests}
 use Rattle.std.proofs.lemmas.Option.{none-some, same_Some}
-use Rattle.bpf_decode.specs.declared.region.Region.{Region}
-use Rattle.bpf_decode.specs.declared.region.Region.TheVariants.{Input, Output, Stack}
 use Rattle.bpf_decode.specs.declared.value.Value.{Value}
 use Rattle.bpf_decode.specs.declared.value.Value.TheVariants as values
 use Rattle.abstract_num.specs.Plain.{Plain, Holds, any}
-use Rattle.abstract_num.specs.Keeping.{HeldIn, AnyHolds}
+use Rattle.abstract_num.specs.Keeping.{AnyHolds}
 use Rattle.abstract_regs.specs.Kind.{PlainKind, Unset, Num, Ptr, HoldsKind, is_unset, is_ptr}
 use Rattle.abstract_regs.specs.declared.content.Content.{Content}
 use Rattle.abstract_regs.specs.declared.content.Content.TheVariants.{Nothing, Pointer}
-use Rattle.abstract_regs.specs.Slots.{Span, touches, access_span, range_span, whole_slot, slot_kind, overwritten, spoiled, stored, has, meets}
+use Rattle.abstract_regs.specs.Slots.{Span, touches, access_span, range_span, whole_slot, overwritten, spoiled, has, meets}
 use Rattle.abstract_regs.specs.Frame.{HoldsEach}
-use Rattle.abstract_regs.specs.Moves.{value_at, Touched, Reached, IsNumber, IsSlot, Loads, Stores, Overwrites}
+use Rattle.abstract_regs.specs.Moves.{value_at, Touched, IsNumber}
 
 -- ---- kinds of slots
 
@@ -51,7 +48,7 @@ spoiled_holds law span j (x ∷ xs) (v ∷ vs) (w ∷ ws) h e same n =
     let less : length ws ≡ length vs = omega (arith, e) in (
       spoiled_one law (touches span j) x v w h.0 (λ out. same 0 (ap (touches span) here ∙ out)) (n 0),
       spoiled_holds law span (j + 1) xs vs ws h.1 less
-      (λ i out. let next : j + suc i ≡ j + 1 + i = omega arith in same (suc i) (ap (touches span) next ∙ out)) (λ i. n (suc i)),
+          (λ i out. let next : j + suc i ≡ j + 1 + i = omega arith in same (suc i) (ap (touches span) next ∙ out)) (λ i. n (suc i)),
     )
 
 others_hold : (xs : List PlainKind) (vs ws : List (Option Value)) → HoldsEach xs vs → length ws ≡ length vs → ((i : ℕ) → value_at ws i ≡ value_at vs i) → HoldsEach xs ws
@@ -111,12 +108,15 @@ held_slot (y ∷ xs) [] i x h e = absurd h
 held_slot (y ∷ xs) (v ∷ vs) zero x h e = subst (λ (z : PlainKind). HoldsKind z v) (same_Some y x e) h.0
 held_slot (y ∷ xs) (v ∷ vs) (suc i) x h e = held_slot xs vs i x h.1 e
 
+pub at_start : (span : Option Span) (i : ℕ) → touches span (0 + i) ≡ touches span i
+at_start span i = let same : 0 + i ≡ i = omega arith in ap (touches span) same
+
 -- each slot that bytes reach is a number, where none that they may touch is unset or a place
 pub all_numbers : (span : Option Span) (xs : List PlainKind) (vs : List (Option Value)) → length xs ≡ length vs → HoldsEach xs vs → meets Nothing span 0 xs ≡ false → meets Pointer span 0 xs ≡ false → (i : ℕ) → i < length vs → touches span i ≡ true → IsNumber (value_at vs i)
 all_numbers span xs vs long h a b i lt t =
     let there = some_there xs i (omega (arith, long, lt)) in
     let x = there.0 in
-    numbered x (value_at vs i) (held_slot xs vs i x h there.1) (meets_none Nothing span 0 xs i x a there.1 t) (meets_none Pointer span 0 xs i x b there.1 t)
+    numbered x (value_at vs i) (held_slot xs vs i x h there.1) (meets_none Nothing span 0 xs i x a there.1 (at_start span i ∙ t)) (meets_none Pointer span 0 xs i x b there.1 (at_start span i ∙ t))
 
 -- ---- where an access is
 

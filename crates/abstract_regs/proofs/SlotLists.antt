@@ -1,15 +1,14 @@
 -- Slots that bytes may touch: from the first to the one before the end, in lists of kinds.
-use Rattle.std.proofs.Common.{◌≡◌, ℕ, zero, suc, ◌+◌, ◌*◌, ◌/◌, ◌<◌, ◌≤◌, List, [], ◌∷◌, length, Option, Some, None, Bool, true, false, cond, refl, ap, ◌∙◌, sym, subst, arith, get_or, set, take}
-use Rattle.std.specs.Prelude.{slice_get, slice_set, ◌&&◌, nat_lt, min}
+use Rattle.std.proofs.Common.{◌≡◌, ℕ, zero, suc, ◌+◌, ◌/◌, ◌<◌, ◌≤◌, List, [], ◌∷◌, length, Option, Some, None, Bool, true, false, cond, refl, ap, ◌∙◌, sym, arith, get_or, set}
+use Rattle.std.specs.Prelude.{slice_set, ◌&&◌, nat_lt, min}
 use Rattle.std.proofs.lemmas.Bool.{false≢true}
 use Rattle.std.proofs.lemmas.Bool.Decides.{nat_tests}
-use Rattle.std.proofs.lemmas.Option.{none-some, same_Some}
 use Rattle.bpf_decode.specs.declared.insn.Operand.{Operand}
 use Rattle.bpf_decode.specs.declared.insn.Operand.TheVariants.{Immediate, Register}
 use Rattle.abstract_regs.specs.declared.content.Content.{Content}
-use Rattle.abstract_regs.specs.Kind.{PlainKind, join_kind}
+use Rattle.abstract_regs.specs.Kind.{PlainKind}
 use Rattle.abstract_regs.specs.Slots.{Span, touches, slot_kind, overwritten, spoiled, has, meets}
-use Rattle.abstract_regs.specs.Frame.{PlainFrame, join_each}
+use Rattle.abstract_regs.specs.Frame.{PlainFrame}
 use Rattle.abstract_regs.specs.Flow.{with_both}
 
 -- ---- which slots
@@ -120,15 +119,6 @@ pub set_past : (xs : List PlainKind) (i : ℕ) (x : PlainKind) → length xs ≤
 set_past [] i x le = refl
 set_past (y ∷ xs) zero x le = absurd (omega (arith, le))
 set_past (y ∷ xs) (suc i) x le = ap (λ t. y ∷ t) (set_past xs i x (omega (arith, le)))
-
--- ---- joins
-
--- a join has no more slots than the other frame
-pub join_cut : (xs ys : List PlainKind) → join_each (take (length ys) xs) ys ≡ join_each xs ys
-join_cut [] [] = refl
-join_cut [] (y ∷ ys) = refl
-join_cut (x ∷ xs) [] = refl
-join_cut (x ∷ xs) (y ∷ ys) = ap (λ t. join_kind x y ∷ t) (join_cut xs ys)
 
 -- ---- other kinds of what was compared, put in twice
 

@@ -1,5 +1,5 @@
 -- The laws of the join of frames, and that a join holds what either part holds.
-use Rattle.std.specs.Prelude.{◌≡◌, ℕ, ◌+◌, ◌%◌, ◌^◌, ◌<◌, ◌≤◌, List, [], ◌∷◌, Option, Some, None, true, length, replicate}
+use Rattle.std.specs.Prelude.{◌≡◌, ℕ, ◌+◌, ◌%◌, ◌^◌, ◌<◌, ◌≤◌, List, [], ◌∷◌, Option, Some, None, true, false, length, replicate, is_some}
 use Rattle.abstract_num.specs.Plain.{Plain, Holds, Below}
 use Rattle.abstract_num.specs.Keeping.{Fits}
 use Rattle.bpf_decode.specs.declared.region.Region.TheVariants.{Input, Output, Stack}
@@ -10,9 +10,9 @@ use Rattle.abstract_regs.specs.declared.content.Content.TheVariants.{Nothing, Po
 use Rattle.abstract_regs.specs.Kind.{PlainKind, Unset, Num, Ptr, HoldsKind, is_ptr, is_num, access_fits, range_fits}
 use Rattle.abstract_regs.specs.Slots.{stack_range, meets}
 use Rattle.bpf_decode.specs.declared.region.Region.{Region}
-use Rattle.abstract_regs.specs.Frame.{PlainFrame, join_each, join, entry_frame, HoldsEach}
+use Rattle.abstract_regs.specs.Frame.{PlainFrame, kept_kind, join_each, join, entry_frame, HoldsEach}
 use Rattle.abstract_regs.specs.Flow.{flow}
-use Rattle.abstract_regs.specs.Moves.{Among, KindFits, AllowsLoad, LoadIsKnown, Reached, IsNumber, value_at}
+use Rattle.abstract_regs.specs.Moves.{Among, KindFits, AllowsLoad, LoadIsKnown, Reached, IsSlot, IsNumber, value_at}
 use Rattle.abstract_regs.specs.Seen.{seen_each}
 use Rattle.bpf_decode.specs.declared.insn.Insn.{Insn}
 
@@ -60,7 +60,7 @@ JoinsHold = (f g : PlainFrame) → JoinHolds f g
 -- What a method begins with, an input of n bytes and a stack of zeros: the entry frame holds it.
 pub record EntryIsHeld (in_cap stack count n : ℕ) : Type 0 where
   pub registers : HoldsEach (entry_frame in_cap stack count).registers
-    (None ∷ Some (values.Ptr Input 0) ∷ Some (values.Num n) ∷ Some (values.Ptr Output 0) ∷ None ∷ None ∷ None ∷ None ∷ None ∷ None ∷ Some (values.Ptr Stack stack) ∷ [])
+      (None ∷ Some (values.Ptr Input 0) ∷ Some (values.Num n) ∷ Some (values.Ptr Output 0) ∷ None ∷ None ∷ None ∷ None ∷ None ∷ None ∷ Some (values.Ptr Stack stack) ∷ [])
   pub slots : HoldsEach (entry_frame in_cap stack count).slots (replicate count (Some (values.Num 0)))
 
 abbrev pub EntryHolds : Type 0
@@ -100,3 +100,10 @@ RangesAreKnown =
     (f : PlainFrame) (x y : PlainKind) → meets Nothing (stack_range x y) 0 f.slots ≡ false → meets Pointer (stack_range x y) 0 f.slots ≡ false →
     (vs : List (Option Value)) → length f.slots ≡ length vs → HoldsEach f.slots vs → is_ptr x ≡ true → is_num y ≡ true →
     (r : Region) (at n j : ℕ) → HoldsKind x (Some (values.Ptr r at)) → HoldsKind y (Some (values.Num n)) → j < length vs → 1 ≤ n → Reached r at n j → IsNumber (value_at vs j)
+
+-- Where the kind of an access's slot is known, the access is that slot.
+abbrev pub SlotsAreKnown : Type 0
+SlotsAreKnown =
+    (f : PlainFrame) (x : PlainKind) (distance w : ℕ) → KindFits x → distance < 2 ^ 64 → is_some (kept_kind f x distance w) ≡ true →
+    (vs : List (Option Value)) → length f.slots ≡ length vs →
+    (r : Region) (at : ℕ) → HoldsKind x (Some (values.Ptr r at)) → (j : ℕ) × IsSlot vs r ((at + distance) % 2 ^ 64) w j

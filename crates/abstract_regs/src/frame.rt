@@ -35,12 +35,7 @@ impl Model for Frame {
 impl Frame {
     /// As a method begins: 1 points to the input, 2 is its length, at most `in_cap`, 3 points to the output, 10 to the
     /// end of a stack of `stack` bytes. So many slots are known: each is the number 0.
-    pub fn entry(
-        alloc: Global,
-        in_cap: u64,
-        stack: u64,
-        count: usize,
-    ) -> Result<Frame, AllocError>
+    pub fn entry(alloc: Global, in_cap: u64, stack: u64, count: usize) -> Result<Frame, AllocError>
         ensures { IfOk result (λ f. f ≡ entry_frame in_cap stack count) }
     {
         let slots = zeros(alloc, count)?;

@@ -1,4 +1,4 @@
-ghost use Rattle.abstract_regs.specs.Laws.{JoinCommutes, JoinAssociates, JoinOfSame, JoinIsAbove, JoinsHold, EntryHolds, AccessesFit, RangesFit, FlowsKeepSlots, JoinsKeepSlots, LoadsAreKnown, RangesAreKnown};
+ghost use Rattle.abstract_regs.specs.Laws.{JoinCommutes, JoinAssociates, JoinOfSame, JoinIsAbove, JoinsHold, EntryHolds, AccessesFit, RangesFit, FlowsKeepSlots, JoinsKeepSlots, SlotsAreKnown, LoadsAreKnown, RangesAreKnown};
 
 use abstract_num::keeping_laws;
 
@@ -31,8 +31,10 @@ pub fn slots_stay()
     ensures joins { JoinsKeepSlots }
 {}
 
-/// A law. What a load reads of the stack's slots that no rule refuses is known, and so is what a helper's range does.
+/// A law. An access whose slot's kind is known is that slot; what a load that no rule refuses reads of the stack's slots
+/// is known, and so is what a helper's range does.
 pub fn slots_known()
+    ensures slots { SlotsAreKnown }
     ensures loads { LoadsAreKnown }
     ensures ranges { RangesAreKnown }
 {

@@ -1,4 +1,4 @@
-use Rattle.std.proofs.Common.{◌≡◌, ℕ, zero, suc, ◌+◌, ◌<◌, ◌≤◌, List, [], ◌∷◌, ◌++◌, refl, ap, ◌∙◌, sym, arith, length, take, drop, get_or, rules}
+use Rattle.std.proofs.Common.{◌≡◌, ℕ, zero, suc, ◌+◌, ◌<◌, ◌≤◌, List, [], ◌∷◌, ◌++◌, refl, ap, ◌∙◌, sym, arith, length, take, drop, get_or}
 use Rattle.std.proofs.lemmas.List.{take_more, take_more_set, length-take-le, length-set, drop_more, drop-set-lt, take_all}
 use Rattle.abstract_regs.specs.declared.kind.Kind.{Kind}
 use Rattle.abstract_regs.specs.Kind.{join_kind}
@@ -52,9 +52,23 @@ loop-i-preserved c =
           ap seen_each (take_more_set xs i k in_x)
           ∙ seen_push (take i xs) k
           ∙ ap (λ t. t ++ seen k ∷ []) c.loop-i.invariant.joined
-          ∙ ap (λ v. join_each (seen_each (take i f)) (seen_each (take i g)) ++ v ∷ []) (c.join.ensures ∙ ap (λ x. join_kind (seen x) (seen (get_or g i b))) here)
+          ∙ ap (λ v. join_each (seen_each (take i f)) (seen_each (take i g)) ++ v ∷ []) (c.join.ensures ∙ ap (λ x. join_kind (seen x) (seen b)) (c.index-kinds-i.is ∙ here) ∙ ap (λ y. join_kind (seen (get_or f i a)) (seen y)) c.index-others-i.is)
           ∙ sym (join_push (take i f) (take i g) (get_or f i a) (get_or g i b) (m ∙ sym n))
           ∙ ap (λ t. join_each (seen_each t) (seen_each (take i g ++ get_or g i b ∷ []))) (sym (take_more f i a in_f))
           ∙ ap (λ t. join_each (seen_each (take (i + 1) f)) (seen_each t)) (sym (take_more g i b in_g));
       rest = drop-set-lt (i + 1) xs i k (omega arith) ∙ ap (drop 1) same;
     }
+
+pub returns : goal.returns
+returns c =
+    let i = c.loop-i.i in
+    let xs = c.loop-i.kinds in
+    let f = c.args.kinds.now in
+    let g = c.args.others.now in
+    let lx = c.loop-i.invariant.long in
+    let past : length f ≤ i = omega arith in
+    let past' : length xs ≤ i = omega (arith, lx) in
+    sym (ap seen_each (take_all i xs past'))
+    ∙ c.loop-i.invariant.joined
+    ∙ ap (λ t. join_each (seen_each t) (seen_each (take i g))) (take_all i f past)
+    ∙ join_front f g i past

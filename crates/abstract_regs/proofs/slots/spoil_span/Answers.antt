@@ -1,9 +1,9 @@
-use Rattle.std.proofs.Common.{◌≡◌, ℕ, zero, suc, ◌+◌, ◌/◌, ◌<◌, ◌≤◌, List, [], ◌∷◌, true, refl, ap, ◌∙◌, sym, arith, length, get_or, set}
-use Rattle.std.specs.Prelude.{Some, min}
+use Rattle.std.proofs.Common.{◌≡◌, ℕ, zero, suc, ◌+◌, ◌/◌, ◌<◌, ◌≤◌, List, [], ◌∷◌, refl, ap, ◌∙◌, sym, arith, length, get_or, set}
+use Rattle.std.specs.Prelude.{min}
 use Rattle.std.proofs.lemmas.List.{length-set, length-map, map-set}
 use Rattle.abstract_regs.specs.declared.kind.Kind.{Kind}
 use Rattle.abstract_regs.specs.Kind.{PlainKind}
-use Rattle.abstract_regs.specs.Slots.{overwritten, touches}
+use Rattle.abstract_regs.specs.Slots.{overwritten}
 use Rattle.abstract_regs.specs.Seen.{seen, seen_each}
 use Rattle.abstract_regs.proofs.SlotLists.{below_first, below_all, below_more, touched_between}
 use Rattle.abstract_regs.proofs.slots.spoil_span.Goals as goal
@@ -15,8 +15,8 @@ seen_get (x ∷ xs) (suc i) a = seen_get xs i a
 
 pub loop-j-init : goal.loop-j-init
 loop-j-init c =
-    let le : c.first.result ≤ c.args.span.low / 8 = omega arith in
-    record { long = refl; spoiled = sym (below_first c.args.span c.first.result 0 (seen_each c.args.slots.now) le) }
+    let le : c.first-j.result ≤ c.args.span.low / 8 = omega arith in
+    record { long = refl; spoiled = sym (below_first c.args.span c.first-j.result 0 (seen_each c.args.slots.now) le) }
 
 pub loop-j-preserved : goal.loop-j-preserved
 loop-j-preserved c =
@@ -34,7 +34,7 @@ loop-j-preserved c =
       long = length-set xs i k ∙ lx;
       spoiled =
           map-set seen xs i k
-          ∙ ap (set (seen_each xs) i) (c.overwritten.ensures ∙ ap overwritten (seen_get xs i a))
+          ∙ ap (set (seen_each xs) i) (c.overwritten.ensures ∙ ap overwritten (ap seen c.index-slots-j.is ∙ seen_get xs i a))
           ∙ ap (λ (zs : List PlainKind). set zs i (overwritten (get_or zs i (seen a)))) c.loop-j.invariant.spoiled
           ∙ below_more c.args.span i 0 i ys (seen a) here in_y (touched_between c.args.span i from to);
     }
