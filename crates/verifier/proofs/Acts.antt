@@ -38,7 +38,8 @@ use Rattle.verifier.proofs.Allowed.{stored_if_kept, allowed}
 use Rattle.verifier.proofs.Holding.{HoldsValue, read, num_is_set, ptr_is_set, value_is, operand_is, not_ptr_is_num, numbered, form_of, number_of, operand_read, operand_is_set, computes, copies, extended_small16, not_false}
 use Rattle.verifier.proofs.Bytes.{value_in, put_is, number_bytes, bytes_of_number, bytes_drop, plain_part, plain_value, plain_put}
 use Rattle.verifier.proofs.Passed.{neither, Passed}
-use Rattle.verifier.proofs.Calls.{one_more, size_short, call_made, fits_in}
+use Rattle.verifier.proofs.Calls.{one_more, call_made, fits_in}
+use Rattle.verifier.proofs.Memory.{size_short}
 
 -- the step is made, and takes the registers on
 pub record Steps (caps : Caps) (i : Insn) (s : Typed) : Type 0 where

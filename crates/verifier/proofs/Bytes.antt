@@ -61,7 +61,7 @@ written_short : (xs : List ℕ) (at : ℕ) (bytes : List ℕ) (most : ℕ) → l
 written_short xs at bytes most h i =
     omega (arith, h, i, length-append (take at xs) (bytes ++ drop (at + length bytes) xs), length-append bytes (drop (at + length bytes) xs), length-take at xs, length-drop (at + length bytes) xs)
 
-written_is : (xs : List ℕ) (at : ℕ) (bytes : List ℕ) → IsValue xs → AreBytes bytes → at + length bytes ≤ VALUE_LIMIT → IsValue (written xs at bytes)
+pub written_is : (xs : List ℕ) (at : ℕ) (bytes : List ℕ) → IsValue xs → AreBytes bytes → at + length bytes ≤ VALUE_LIMIT → IsValue (written xs at bytes)
 written_is xs at bytes h b le =
     (written_short xs at bytes VALUE_LIMIT h.0 le, bytes_append (take at xs) _ (bytes_take at xs h.1) (bytes_append bytes _ b (bytes_drop (at + length bytes) xs h.1)))
 
@@ -87,7 +87,7 @@ number_bytes (suc w) n = let h = number_bytes w (n / 256) in omega (arith, h)
 
 -- ---- memory without places
 
-as_plain : (bytes : List ℕ) → plain_bytes (as_cells bytes) ≡ Some bytes
+pub as_plain : (bytes : List ℕ) → plain_bytes (as_cells bytes) ≡ Some bytes
 as_plain [] = refl
 as_plain (b ∷ bytes) = ap (λ (o : Option (List ℕ)). o >>= λ bs. Some (b ∷ bs)) (as_plain bytes)
 

@@ -30,6 +30,7 @@ use Rattle.verifier.specs.Rules.{has_fault, some_fault, taken_fault, call_fault,
 use Rattle.verifier.proofs.Holding.{not_false, HoldsValue, Read, read, num_is_set, ptr_is_set, numbered}
 use Rattle.verifier.proofs.Bytes.{bytes_take, bytes_drop, put_is, plain_text, plain_room}
 use Rattle.verifier.proofs.Numbers.{answer_small}
+use Rattle.verifier.proofs.Memory.{size_short}
 use Rattle.verifier.proofs.Passed.{neither}
 
 pub one_more : {A B : Type 0} (o : Option A) (x : A) (g : A → Option B) (y : B) → o ≡ Some x → g x ≡ Some y → (o >>= g) ≡ Some y
@@ -191,11 +192,6 @@ module _ (caps : Caps) (f : PlainFrame) (s : Typed) (h : Holds f s) where
       let n = counted f s (k + 1) h count in
       let p = range_of true k v n pointer count a1.0 (λ e. b1.0) in
       writable_gets more k v n p.0 p.1 p.2 (gets more (k + 2) a1.1 b1.1 c1.1)
-
-pub size_short : (caps : Caps) → AreCapacities caps → (r : Region) → size caps r ≤ VALUE_LIMIT
-size_short caps a Input = let h = a.input in omega (arith, h)
-size_short caps a Output = let h = a.output in omega (arith, h)
-size_short caps a Stack = omega arith
 
 -- what a helper writes into its range
 room_is : (caps : Caps) → AreCapacities caps → (m : Memory) (p : Option (Region × ℕ)) (room : ℕ) (bytes : List ℕ) → ((r : Region) → IsValue (cells m r)) → HasRoom caps room p → length bytes ≤ room → AreBytes bytes → (r : Region) → IsValue (cells (write_room m p bytes) r)

@@ -4,6 +4,7 @@ pub mod Passed
 pub mod Boxes
 pub mod Tables
 pub mod Numbers
+pub mod Memory
 pub mod Calls
 pub mod Flows
 pub mod Allowed
