@@ -7,6 +7,7 @@ pub mod Numbers
 pub mod Memory
 pub mod Calls
 pub mod Flows
+pub mod Lengths
 pub mod Allowed
 pub mod Acts
 pub mod Verdicts

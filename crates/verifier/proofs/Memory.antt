@@ -1,9 +1,10 @@
 -- What loads, stores and helpers' ranges do to memory, by the values of the stack's slots: of the first slots, so many, a
 -- frame may know something; the others are numbers.
-use Rattle.std.proofs.Common.{◌≡◌, ◌⊎◌, inl, inr, ℕ, zero, suc, ◌+◌, ◌*◌, ◌/◌, ◌%◌, ◌^◌, ◌<◌, ◌≤◌, List, Option, Some, None, Bool, true, refl, ap, ◌∙◌, sym, subst, arith, length, take, drop, length-take}
+use Rattle.std.proofs.Common.{◌≡◌, ◌⊎◌, inl, inr, ℕ, zero, suc, ◌+◌, ◌*◌, ◌/◌, ◌%◌, ◌^◌, ◌<◌, ◌≤◌, List, Option, Some, None, Bool, true, refl, ap, ◌∙◌, sym, subst, arith, length, take, drop, length-take, drop-drop, replicate, ◌∷◌}
+use Rattle.std.specs.Prelude.{slice_get}
 use Rattle.std.proofs.lemmas.Bool.{cases_lt, eq-eqb}
 use Rattle.std.proofs.lemmas.List.{length-drop}
-use Rattle.std.proofs.lemmas.Option.{slice_get_past}
+use Rattle.std.proofs.lemmas.Option.{slice_get_past, same_Some}
 use Rattle.bpf_decode.specs.declared.region.Region.{Region}
 use Rattle.bpf_decode.specs.declared.region.Region.TheVariants.{Input, Output, Stack}
 use Rattle.bpf_decode.specs.declared.value.Value.{Value}
@@ -14,24 +15,35 @@ use Rattle.bpf_machine.specs.declared.caps.Caps.{Caps}
 use Rattle.bpf_machine.specs.State.{only, le_value, le_bytes, AreCapacities, size}
 use Rattle.bpf_machine.specs.Typed.{Cell, TypedMemory, as_cells, parts_of, place_of, plain_bytes, is_slot, number_or, value_of, cells_at, over, put_bytes, stored, typed_room}
 use Rattle.bpf_machine.specs.Slots as machine
-use Rattle.bpf_machine.specs.Slots.{slot_value, slot_values, IsStack, Touches, SlotsHaveValues, NumbersAreRead, LeavesNumbers, BytesAreWritten, PlacesAreWritten, NumbersAreTheirBytes}
+use Rattle.bpf_machine.specs.declared.limits.TheConstants.{STACK_SIZE}
+use Rattle.bpf_machine.specs.Slots.{IsStack, slot_of, slot_value, slot_values, Touches, SlotsHaveValues, SlotsBeginAtZero, NumbersAreRead, LeavesNumbers, BytesAreWritten, PlacesAreWritten, NumbersAreTheirBytes}
 use Rattle.abstract_regs.specs.Moves.{flat_option, value_at, Reached, IsNumber, IsSlot, Loads, Stores, Overwrites, LoadIsKnown}
+use Rattle.abstract_regs.specs.Laws.{JoinsHold, EntryHolds, AccessesFit, FlowsKeepSlots, JoinsKeepSlots, SlotsAreKnown, LoadsAreKnown, RangesAreKnown}
+use Rattle.helpers.specs.Laws.{EffectsAreWithinLimits}
+use Rattle.verifier.specs.Frame.{IsMemory}
 use Rattle.verifier.proofs.Bytes.{bytes_take, bytes_drop, bytes_of_number, le_value_below, value_in, written_is, as_plain}
 
 -- the laws of the stack's slots
 pub record SlotLaws : Type 0 where
   pub values : SlotsHaveValues
+  pub begin : SlotsBeginAtZero
   pub read : NumbersAreRead
   pub bytes : BytesAreWritten
   pub places : PlacesAreWritten
   pub numbers : NumbersAreTheirBytes
 
--- memory within the limits, all of whose slots but the first n are numbers
-pub record IsMemory (n : ℕ) (m : TypedMemory) : Type 0 where
-  pub input : IsValue m.input
-  pub output : IsValue m.output
-  pub stack : IsStack 64 m.stack
-  pub rest : (j : ℕ) → n ≤ j → j < 64 → machine.IsNumber (slot_value m.stack j)
+-- and all that a run stands on
+pub record Laws : Type 0 where
+  pub joins : JoinsHold
+  pub entry : EntryHolds
+  pub accesses : AccessesFit
+  pub along : FlowsKeepSlots
+  pub joined : JoinsKeepSlots
+  pub places : SlotsAreKnown
+  pub loads : LoadsAreKnown
+  pub ranges : RangesAreKnown
+  pub slots : SlotLaws
+  pub effects : EffectsAreWithinLimits
 
 pub length-values : (n : ℕ) (cs : List Cell) → length (slot_values n cs) ≡ n
 length-values zero cs = refl
@@ -61,7 +73,7 @@ size_short caps a Input = let h = a.input in omega (arith, h)
 size_short caps a Output = let h = a.output in omega (arith, h)
 size_short caps a Stack = omega arith
 
-abbrev placed : Region → ℕ → Region × ℕ
+abbrev pub placed : Region → ℕ → Region × ℕ
 placed r at = (r, at)
 
 same_place : (p : Region × ℕ) (at : ℕ) → p.0 ≡ Stack → p.1 ≡ at → p ≡ placed Stack at
@@ -125,7 +137,7 @@ module _ (laws : SlotLaws) (caps : Caps) (sizes : AreCapacities caps) (n : ℕ) 
   none_past cs j h = ap flat_option (slice_get_past (slot_values n cs) j (omega (arith, h, length-values n cs)))
 
   -- what each slot that an access reaches is, so long as those are numbers of which something may be known
-  abbrev AreNumbersReached : Region → ℕ → ℕ → Type 0
+  abbrev pub AreNumbersReached : Region → ℕ → ℕ → Type 0
   AreNumbersReached r at w = (j : ℕ) → j < length known → Reached r at w j → IsNumber (value_at known j)
 
   touched : (at w : ℕ) → AreNumbersReached Stack at w → (j : ℕ) → j < 64 → Touches at w j → machine.IsNumber (slot_value m.stack j)
@@ -171,14 +183,17 @@ module _ (laws : SlotLaws) (caps : Caps) (sizes : AreCapacities caps) (n : ℕ) 
       ap (λ (q : Region). cells_at m q at w) region ∙ ap (λ (k : ℕ). cells_at m Stack at k) width ∙ ap (λ (k : ℕ). cells_at m Stack k 8) place in
       ap (λ (o : Option (List ℕ)). number_or o (place_of cs)) (sym (ap plain_bytes same) ∙ e)
 
+  pub number_loads : (r : Region) (at w : ℕ) (b : ReadsBytes m r at w) → Loads known r at w (Num (le_value b.bytes))
+  number_loads r at w b = record {
+    whole = λ j s. known_at m.stack j (inside_known j s.inside) ∙ bytes_are_slot r at w j b.bytes b.are s.region s.width s.place;
+    number = λ _. (le_value b.bytes, refl, b.number);
+  }
+
   number_loaded : (p : Region × ℕ) (w : ℕ) → ReadsBytes m p.0 p.1 w → Loaded n m p w
   number_loaded p w b = record {
     value = Num (le_value b.bytes);
     is = ap (λ (o : Option (List ℕ)). number_or o (only (is_slot p w) (place_of (cells_at m p.0 p.1 w)))) b.are;
-    loads = record {
-      whole = λ j s. known_at m.stack j (inside_known j s.inside) ∙ bytes_are_slot p.0 p.1 w j b.bytes b.are s.region s.width s.place;
-      number = λ _. (le_value b.bytes, refl, b.number);
-    };
+    loads = number_loads p.0 p.1 w b;
   }
 
   slot_loaded : (p : Region × ℕ) (w j : ℕ) → IsSlot known p.0 p.1 w j → (v : Value) → value_at known j ≡ Some v → Loaded n m p w
@@ -315,3 +330,41 @@ module _ (laws : SlotLaws) (caps : Caps) (sizes : AreCapacities caps) (n : ℕ) 
   -- a range of no bytes leaves memory as it was
   pub no_room_written : (r : Region) (at count : ℕ) (bytes : List ℕ) → Wrote n m r at count (typed_room m None bytes)
   no_room_written r at count bytes = record { memory = mem; overwrites = record { long = refl; others = λ j out. refl; numbers = λ j is. is } }
+
+-- ---- as a method begins
+
+zero_values : (n : ℕ) (cs : List Cell) → ((j : ℕ) → j < n → slot_value cs j ≡ Some (Num 0)) → slot_values n cs ≡ replicate n (Some (Num 0))
+zero_values zero cs h = refl
+zero_values (suc n) cs h =
+    let later = λ (j : ℕ) (lt : j < n). ap (λ (ds : List Cell). slot_of (take 8 ds)) (drop-drop (8 * j) 8 cs ∙ ap (λ (k : ℕ). drop k cs) (eight_more j)) ∙ h (suc j) (omega (arith, lt)) in
+    ap (λ (v : Option Value). v ∷ slot_values n (drop 8 cs)) (h zero (omega arith))
+    ∙ ap (λ (vs : List (Option Value)). Some (Num 0) ∷ vs) (zero_values n (drop 8 cs) later)
+  where
+    eight_more : (j : ℕ) → 8 + 8 * j ≡ 8 * suc j
+    eight_more j = omega arith
+
+zero_at : (n j : ℕ) → j < n → slice_get {X = Option Value} (replicate n (Some (Num 0))) j ≡ Some (Some (Num 0))
+zero_at zero j lt = absurd (omega arith)
+zero_at (suc n) zero lt = refl
+zero_at (suc n) (suc j) lt = zero_at n j (omega arith)
+
+abbrev pub zeros : List Cell
+zeros = as_cells (replicate STACK_SIZE 0)
+
+module _ (laws : SlotLaws) where
+  zero_slot : (j : ℕ) → j < 64 → slot_value zeros j ≡ Some (Num 0)
+  zero_slot j lt =
+      let all = laws.begin 64 in
+      same_Some _ _ (sym (laws.values 64 zeros j lt) ∙ ap (λ (vs : List (Option Value)). slice_get vs j) all.1 ∙ zero_at 64 j lt)
+
+  pub zeros_known : (n : ℕ) → n ≤ 64 → slot_values n zeros ≡ replicate n (Some (Num 0))
+  zeros_known n few = zero_values n zeros (λ j lt. zero_slot j (omega (arith, few, lt)))
+
+  pub begins_within : (n : ℕ) (m : TypedMemory) → IsValue m.input → IsValue m.output → m.stack ≡ zeros → IsMemory n m
+  begins_within n m input output stack = record {
+    input = input;
+    output = output;
+    stack = let all = laws.begin 64 in subst (IsStack 64) (sym stack) all.0;
+    rest = λ j past lt.
+        subst (λ (cs : List Cell). machine.IsNumber (slot_value cs j)) (sym stack) (subst machine.IsNumber (sym (zero_slot j lt)) (omega arith));
+  }

@@ -6,24 +6,23 @@ use Rattle.std.proofs.lemmas.Option.{none-some, same_Some, slice_get_within}
 use Rattle.bpf_decode.specs.declared.insn.Insn.{Insn}
 use Rattle.bpf_decode.specs.declared.insn.Insn.TheVariants.{Alu, Neg, Mov, MovSigned, End, LoadWide, Load, LoadSigned, Store, Jump, JumpLong, Branch, Call, CallLocal, Exit}
 use Rattle.bpf_decode.specs.Instruction.{Fits, AllFit, slots, slot_count}
-use Rattle.bpf_decode.specs.declared.region.Region.{Region}
-use Rattle.bpf_decode.specs.declared.region.Region.TheVariants.{Input, Output, Stack}
 use Rattle.bpf_machine.specs.declared.caps.Caps.{Caps}
 use Rattle.object_store.specs.Object.{PlainObject, IsObject, AreBytes, IsValue}
-use Rattle.helpers.specs.Laws.{EffectsAreWithinLimits}
 use Rattle.bpf_machine.specs.declared.limits.TheConstants.{STACK_SIZE}
-use Rattle.bpf_machine.specs.State.{◌>>=◌, cells, AreCapacities, opening, Outcome, Ended, Stuck, one_more, goes_on}
+use Rattle.bpf_machine.specs.State.{◌>>=◌, AreCapacities, opening, Outcome, Ended, Stuck, one_more, goes_on}
+use Rattle.bpf_machine.specs.Slots.{slot_values}
 use Rattle.bpf_machine.specs.Typed.{Typed, fetch, typed_act, typed_exit_of, typed_outcome, typed_ends, typed_run, typed_entry}
 use Rattle.abstract_regs.specs.Frame.{PlainFrame, HoldsEach}
 use Rattle.verifier.specs.Frame.{entry, Holds}
-use Rattle.abstract_regs.specs.Laws.{JoinsHold, EntryHolds, AccessesFit}
 use Rattle.verifier.specs.Pass.{Sound, IsSound, AllSound}
 use Rattle.verifier.specs.Rules.{rule_at}
 use Rattle.verifier.specs.Verdict.{frame_at, whole_table, code_verdict}
 use Rattle.verifier.proofs.Bytes.{bytes_append, bytes_zeros}
 use Rattle.verifier.proofs.Passed.{Passed, passed}
 use Rattle.verifier.proofs.Allowed.{allowed}
-use Rattle.verifier.proofs.Acts.{no_slots, steps, exits}
+use Rattle.verifier.proofs.Acts.{steps, exits}
+use Rattle.verifier.proofs.Memory.{Laws, length-values, zeros_known, begins_within}
+use Rattle.verifier.proofs.Lengths.{long_at}
 use Rattle.verifier.proofs.Tables.{whole_at}
 use Rattle.verifier.proofs.Flows.{arrives, edge}
 use Rattle.verifier.proofs.Verdicts.{passes}
@@ -74,7 +73,7 @@ pub inner : {A : Type 0} (o : Option (Option A)) (x : A) → (o >>= λ c. c) ≡
 inner None x h = absurd (none-some x h)
 inner (Some o) x h = ap Some h
 
-module _ (joins : JoinsHold) (accesses : AccessesFit) (effects : EffectsAreWithinLimits) (caps : Caps) (sizes : AreCapacities caps) (is : List Insn) (sound : AllSound caps (slots is)) (fit : AllFit is) (small : length (slots is) < 2 ^ 62) (clear : code_verdict caps (slots is) ≡ None) (before : PlainObject) where
+module _ (laws : Laws) (caps : Caps) (sizes : AreCapacities caps) (known : ℕ) (few : known ≤ 64) (first : length (entry caps).slots ≡ known) (is : List Insn) (sound : AllSound caps (slots is)) (fit : AllFit is) (small : length (slots is) < 2 ^ 62) (clear : code_verdict caps (slots is) ≡ None) (before : PlainObject) where
   abbrev Ends : ℕ → Typed → Type 0
   Ends n s = (o : Outcome) × (k : ℕ) × (typed_run caps (slots is) before n s ≡ Ended o k)
 
@@ -84,19 +83,13 @@ module _ (joins : JoinsHold) (accesses : AccessesFit) (effects : EffectsAreWithi
     there : fetch (slots is) s.slot ≡ Some insn
     frame : PlainFrame
     is_frame : frame_at (whole_table caps (slots is)) s.slot ≡ Some frame
-    holds : Holds frame s
+    holds : Holds known frame s
 
   clear_at : (s : Typed) (a : At s) → rule_at caps (slots is) s.slot a.insn (Some a.frame) ≡ None
   clear_at s a = sym (ap (rule_at caps (slots is) s.slot a.insn) a.is_frame) ∙ passes caps (slots is) s.slot a.insn clear a.there
 
   sound_at : (s : Typed) (a : At s) → Sound a.insn s.slot a.frame
   sound_at s a = subst (IsSound a.insn s.slot) a.is_frame (sound s.slot a.insn a.there)
-
-  regs_of : (s : Typed) (a : At s) → HoldsEach (a.frame).registers s.regs
-  regs_of s a = let h = a.holds in h.regs
-
-  slots_of : (s : Typed) (a : At s) → HoldsEach (a.frame).slots []
-  slots_of s a = let h = a.holds in h.slots
 
   abbrev Later : ℕ → Type 0
   Later n = (t : Typed) → left (drop t.slot (slots is)) ≤ n → At t → Ends n t
@@ -107,16 +100,18 @@ module _ (joins : JoinsHold) (accesses : AccessesFit) (effects : EffectsAreWithi
       let ok = passed caps (slots is) s.slot a.insn a.frame rule in
       let fits = fit_at is s.slot a.insn fit a.there in
       let kept = sound_at s a in
-      let t = steps accesses effects caps sizes (slots is) s.slot a.frame s a.holds kept.fits a.insn fits ok not_exit in
-      let none = no_slots (a.frame).slots (slots_of s a) in
-      let reached = kept.keeps fits (allowed caps (slots is) s.slot a.frame a.insn ok) s.regs t.to.regs [] [] t.to.slot (ap length none) (regs_of s a) (slots_of s a) t.moves in
+      let h = a.holds in
+      let t = steps laws caps sizes (slots is) s.slot known few a.frame s h kept.fits a.insn fits ok not_exit in
+      let vs = slot_values known s.memory.stack in
+      let ws = slot_values known (t.to).memory.stack in
+      let reached = kept.keeps fits (allowed caps (slots is) s.slot a.frame a.insn ok) s.regs t.to.regs vs ws t.to.slot (h.long ∙ sym (length-values known s.memory.stack)) h.regs h.slots t.moves in
       let inside = slice_get_within (slots is) s.slot (Some a.insn) (inner _ _ a.there) in
       let e = edge caps (slots is) s.slot t.to.slot a.insn a.frame reached.frame (omega arith) fits ok reached.there in
       let inside' = slice_get_within (slots is) t.to.slot (Some e.to) (inner _ _ e.begins) in
-      let meets = arrives joins caps (slots is) s.slot t.to.slot a.insn a.frame reached.frame t.to.regs [] a.there a.is_frame rule (record { holds = reached.holds; slots = reached.slots }) reached.there e.forward inside' in
+      let meets = arrives laws.joins caps (slots is) s.slot t.to.slot a.insn a.frame reached.frame t.to.regs ws a.there a.is_frame rule (record { holds = reached.holds; slots = reached.slots }) reached.there e.forward inside' in
       let fewer = left_further (slots is) s.slot t.to.slot a.insn a.there e.forward in
       let le' : left (drop t.to.slot (slots is)) ≤ n = omega arith in
-      let rest = later t.to le' (record { insn = e.to; there = e.begins; frame = meets.frame; is_frame = meets.is; holds = record { regs = meets.holds; slots = meets.slots; within = t.within } }) in (
+      let rest = later t.to le' (record { insn = e.to; there = e.begins; frame = meets.frame; is_frame = meets.is; holds = record { regs = meets.holds; long = long_at laws.along laws.joined known caps (slots is) first t.to.slot inside' meets.frame meets.is; slots = meets.slots; within = t.within } }) in (
         rest.0,
         suc rest.1,
         ap (λ o. typed_ends before s (o >>= λ i. typed_exit_of i s) (goes_on (o >>= λ i. typed_act caps i s) (typed_run caps (slots is) before n))) a.there
@@ -157,22 +152,29 @@ module _ (joins : JoinsHold) (accesses : AccessesFit) (effects : EffectsAreWithi
       let none = left_further (slots is) s.slot (s.slot + 1) a.insn a.there (omega arith) in absurd (omega arith)
   ends_from (suc n) s le a = here n s a a.insn refl le (ends_from n)
 
-  pub ends_at_exit : (s : Typed) (i : Insn) → s.slot ≡ 0 → fetch (slots is) 0 ≡ Some i → Holds (entry caps) s → Ends (length is) s
-  ends_at_exit s i first at h =
+  pub ends_at_exit : (s : Typed) (i : Insn) → s.slot ≡ 0 → fetch (slots is) 0 ≡ Some i → Holds known (entry caps) s → Ends (length is) s
+  ends_at_exit s i zero_slot at h =
       let all = left_slots is in
       let some = slice_get_within (slots is) 0 (Some i) (inner _ _ at) in
-      let whole : drop s.slot (slots is) ≡ slots is = ap (λ n. drop n (slots is)) first in
+      let whole : drop s.slot (slots is) ≡ slots is = ap (λ n. drop n (slots is)) zero_slot in
       let le : left (drop s.slot (slots is)) ≤ length is = omega (arith, ap left whole) in
-      ends_from (length is) s le (record { insn = i; there = ap (fetch (slots is)) first ∙ at; frame = entry caps; is_frame = ap (frame_at (whole_table caps (slots is))) first ∙ whole_at caps (slots is) 0 some; holds = h })
+      ends_from (length is) s le (record { insn = i; there = ap (fetch (slots is)) zero_slot ∙ at; frame = entry caps; is_frame = ap (frame_at (whole_table caps (slots is))) zero_slot ∙ whole_at caps (slots is) 0 some; holds = h })
 
-pub entry_is_held : EntryHolds → (caps : Caps) → AreCapacities caps → (object : PlainObject) (caller : ℕ) (input : List ℕ) → IsObject object → caller < 2 ^ 32 → length input ≤ caps.in_cap → AreBytes input → Holds (entry caps) (typed_entry caps object caller input)
-entry_is_held law caps sizes object caller input ob client le bytes =
+-- what a method begins with, the entry frame is true of: it speaks of no slots
+pub entry_is_held : Laws → (caps : Caps) → AreCapacities caps → (object : PlainObject) (caller : ℕ) (input : List ℕ) → IsObject object → caller < 2 ^ 32 → length input ≤ caps.in_cap → AreBytes input → Holds 0 (entry caps) (typed_entry caps object caller input)
+entry_is_held laws caps sizes object caller input ob client le bytes =
     let most = sizes.input in
-    let first = law caps.in_cap STACK_SIZE 0 (length input) (omega (arith, most)) (omega arith) le in
-    record { regs = first.registers; slots = first.slots; within = record { bytes = opening caps input; is_plain = refl; memory = cells_are; object = ob; client = client } }
+    let first = laws.entry caps.in_cap STACK_SIZE 0 (length input) (omega (arith, most)) (omega arith) le in
+    record {
+      regs = first.registers;
+      long = refl;
+      slots = subst (HoldsEach (entry caps).slots) (sym (zeros_known laws.slots 0 (omega arith))) first.slots;
+      within = record { memory = begins_within laws.slots 0 (typed_entry caps object caller input).memory input_is output_is refl; object = ob; client = client };
+    }
   where
-    cells_are : (r : Region) → IsValue (cells (opening caps input) r)
-    cells_are Input =
+    input_is : IsValue (opening caps input).input
+    input_is =
         (omega (arith, le, sizes.input, length-append input (replicate (caps.in_cap - length input) 0), length-replicate {A = ℕ} (caps.in_cap - length input) 0), bytes_append input _ bytes (bytes_zeros _))
-    cells_are Output = (omega (arith, sizes.output, length-replicate {A = ℕ} caps.out_cap 0), bytes_zeros caps.out_cap)
-    cells_are Stack = (omega (arith, length-replicate {A = ℕ} STACK_SIZE 0), bytes_zeros STACK_SIZE)
+
+    output_is : IsValue (opening caps input).output
+    output_is = (omega (arith, sizes.output, length-replicate {A = ℕ} caps.out_cap 0), bytes_zeros caps.out_cap)
