@@ -16,3 +16,4 @@ pub mod Runs
 pub mod Bytes
 pub mod Kept
 pub mod Ranges
+pub mod StackSlots

@@ -9,15 +9,15 @@ use Rattle.bpf_decode.specs.declared.insn.Insn.TheVariants.{Alu, Neg, Mov, MovSi
 use Rattle.bpf_decode.specs.Instruction.{slots, slot_count, slot_total}
 use Rattle.bpf_decode.specs.Class.{ClassMethod, IsMethod}
 use Rattle.bpf_machine.specs.Typed.{fetch, typed_entry}
-use Rattle.helpers.specs.Laws.{EffectsAreWithinLimits}
 use Rattle.bpf_machine.specs.State.{AreCapacities}
 use Rattle.bpf_machine.specs.Safe.{caps_of, EndsAlways, EndsAlwaysIsSafe}
 use Rattle.verifier.specs.Pass.{IsSpaced, AllSound}
 use Rattle.verifier.specs.Verified.{IsVerified}
 use Rattle.verifier.specs.Verdict.{method_verdict}
-use Rattle.verifier.proofs.Runs.{ends_at_exit, entry_is_held}
-use Rattle.abstract_regs.specs.Laws.{JoinsHold, EntryHolds, AccessesFit, FlowsKeepSlots, JoinsKeepSlots, SlotsAreKnown, LoadsAreKnown, RangesAreKnown}
 use Rattle.bpf_decode.specs.declared.rule_set.RuleSet.{RuleSet}
+use Rattle.verifier.specs.Frame.{known_slots}
+use Rattle.verifier.proofs.Runs.{ends_at_exit, entry_is_held, entry_long, known_few}
+use Rattle.verifier.proofs.Memory.{Laws}
 
 length-slots : (is : List Insn) → length (slots is) ≡ slot_total is
 length-slots [] = refl
@@ -74,25 +74,13 @@ slots_spaced (j ∷ is) zero (suc q) i at lt le =
 slots_spaced (j ∷ is) (suc p) zero i at lt le = absurd (omega arith)
 slots_spaced (j ∷ is) (suc p) (suc q) i at lt le = spaced_past (slot_count j - 1) (slots is) p q i (slots_spaced is) at (omega arith) (omega arith)
 
--- the laws of frames and of helpers
-pub record Laws : Type 0 where
-  pub joins : JoinsHold
-  pub entry : EntryHolds
-  pub accesses : AccessesFit
-  pub flows : FlowsKeepSlots
-  pub lengths : JoinsKeepSlots
-  pub slots : SlotsAreKnown
-  pub loads : LoadsAreKnown
-  pub ranges : RangesAreKnown
-  pub effects : EffectsAreWithinLimits
-
 ends_always : Laws → (rules : RuleSet) (m : ClassMethod) → IsMethod m → AllSound rules (caps_of m) (slots m.instructions) → method_verdict rules m ≡ None → EndsAlways m
 ends_always laws rules m ok sound clear object caller input call =
     let sizes : AreCapacities (caps_of m) = record { input = ok.in_cap; output = ok.out_cap } in
     let first = first_begins m.instructions ok.some_slot in
     let s = typed_entry (caps_of m) object caller input in
-    ends_at_exit laws.joins laws.flows laws.lengths (record { fit = laws.accesses; slots = laws.slots; loads = laws.loads; ranges = laws.ranges }) laws.effects rules (caps_of m) sizes m.instructions sound ok.fit (slots_small m ok) clear object s first.0 refl first.1
-    (entry_is_held laws.entry rules (caps_of m) sizes object caller input call.within_limits call.client call.short call.bytes)
+    ends_at_exit laws rules (caps_of m) sizes (known_slots rules) (known_few rules) (entry_long rules (caps_of m)) m.instructions sound ok.fit (slots_small m ok) clear object s first.0 refl first.1
+    (entry_is_held laws rules (caps_of m) sizes object caller input call.within_limits call.client call.short call.bytes)
 
 pub accept : EndsAlwaysIsSafe → Laws → (rules : RuleSet) (m : ClassMethod) → IsMethod m → AllSound rules (caps_of m) (slots m.instructions) → method_verdict rules m ≡ None → IsVerified m
 accept law laws rules m ok sound clear =

@@ -29,7 +29,7 @@ when_right true true e f = absurd (false≢true (sym e))
 when_right true false e f = absurd (false≢true f)
 when_right false b e f = refl
 
-when_left : (a b : Bool) → (a && b) ≡ false → a ≡ true → b ≡ false
+pub when_left : (a b : Bool) → (a && b) ≡ false → a ≡ true → b ≡ false
 when_left true b e f = e
 when_left false b e f = absurd (false≢true f)
 

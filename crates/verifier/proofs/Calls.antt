@@ -1,15 +1,14 @@
 -- A helper's call that no rule refuses has its arguments, and what it leaves is what its frame says.
-use Rattle.std.proofs.Common.{◌≡◌, ℕ, zero, suc, ◌+◌, ◌%◌, ◌^◌, ◌<◌, ◌≤◌, List, [], ◌∷◌, Option, Some, None, Bool, true, false, refl, inl, inr, ap, ◌∙◌, sym, subst, arith, length, ◌⊎◌, ⊎_elim}
+use Rattle.std.proofs.Common.{◌≡◌, ℕ, zero, suc, ◌+◌, ◌%◌, ◌^◌, ◌<◌, ◌≤◌, List, [], ◌∷◌, Option, Some, None, Bool, true, false, refl, ap, ◌∙◌, sym, subst, arith, length}
 use Rattle.std.specs.Prelude.{◌==◌, ◌&&◌, ◌||◌, not, nat_le, if◌then◌else◌, is_some, slice_get, unwrap_or}
 use Rattle.std.specs.List.{AllByRecursion}
-use Rattle.std.proofs.lemmas.Bool.{leb-true, le-leb, false≢true, cond-true}
+use Rattle.std.proofs.lemmas.Bool.{eqb-false, leb-true, le-leb, false≢true, cond-true}
 use Rattle.std.proofs.lemmas.Option.{same_Some}
 use Rattle.bpf_decode.specs.declared.region.Region.{Region}
-use Rattle.bpf_decode.specs.declared.region.Region.TheVariants.{Input, Output, Stack}
+use Rattle.bpf_decode.specs.declared.insn.Insn.TheVariants.{Call}
 use Rattle.bpf_decode.specs.declared.value.Value.{Value}
 use Rattle.bpf_decode.specs.declared.value.Value.TheVariants as values
 use Rattle.bpf_machine.specs.declared.caps.Caps.{Caps}
-use Rattle.object_store.specs.declared.limits.TheConstants.{VALUE_LIMIT}
 use Rattle.object_store.specs.Object.{AreBytes, IsValue}
 use Rattle.helpers.specs.declared.argument.Argument.{Argument}
 use Rattle.helpers.specs.declared.argument.Argument.TheVariants.{Number, OutputLength, Readable, Writable}
@@ -18,25 +17,23 @@ use Rattle.helpers.specs.Laws.{EffectsAreWithinLimits}
 use Rattle.helpers.specs.Table.{signature_of, effect}
 use Rattle.bpf_machine.specs.State.{◌>>=◌, only, may_store, size, AreCapacities, reg}
 use Rattle.bpf_machine.specs.Helper.{Given, nothing_given, with_number, with_text, with_room, asked, answered}
-use Rattle.bpf_machine.specs.Typed.{Typed, TypedMemory, number, locate, typed_range, typed_text, typed_room, typed_arguments, typed_help}
+use Rattle.bpf_machine.specs.Typed.{Typed, TypedMemory, number, plain_bytes, cells_at, typed_range, typed_text, typed_room, typed_arguments, typed_help}
+use Rattle.bpf_machine.specs.Slots.{slot_values}
 use Rattle.abstract_regs.specs.Kind.{PlainKind, Unset, Num, Ptr}
 use Rattle.verifier.specs.declared.fault.Fault.TheVariants.{NotSet, OutOfRegion, ReadOnly, WrongKind, HasPointer}
+use Rattle.abstract_regs.specs.declared.content.Content.TheVariants.{Nothing, Pointer}
 use Rattle.abstract_regs.specs.Kind.{is_unset, is_num, is_ptr}
+use Rattle.abstract_regs.specs.Slots.{stack_range, meets}
 use Rattle.verifier.specs.Kind.{is_at_most, range_leaves, range_is_read_only}
 use Rattle.abstract_regs.specs.Frame.{PlainFrame, or_unset, kind_at}
-use Rattle.abstract_regs.specs.declared.content.Content.TheVariants.{Nothing, Pointer}
-use Rattle.abstract_regs.specs.Slots.{stack_range, meets}
-use Rattle.abstract_regs.specs.Moves.{value_at, Reached, IsNumber, Overwrites, Overwritten, KindFits, EachFits}
+use Rattle.abstract_regs.specs.Moves.{value_at, Reached, IsNumber, Overwritten, KindFits, EachFits}
 use Rattle.abstract_regs.specs.Laws.{RangesAreKnown}
-use Rattle.bpf_decode.specs.declared.rule_set.RuleSet.{RuleSet}
-use Rattle.verifier.specs.Rules.{range_meets, has_fault, some_fault, taken_fault, call_fault, writes_object, room_in, room_of_takes}
+use Rattle.verifier.specs.Frame.{IsMemory, IsWithin, Holds}
+use Rattle.verifier.specs.Rules.{range_meets, has_fault, some_fault, taken_fault, call_fault, room_in, room_of_takes, room_of, writes_object}
 use Rattle.verifier.proofs.Holding.{not_false, HoldsValue, Read, read, value_is, num_is_set, ptr_is_set, numbered}
-use Rattle.verifier.proofs.Allowed.{when_right}
-use Rattle.verifier.proofs.States.{IsMemory, IsWithin, Holds, PlainAt, plain_at, Puts, puts}
-use Rattle.verifier.proofs.States as states
-use Rattle.verifier.proofs.Stack.{length_values}
-use Rattle.verifier.specs.Frame.{known_slots}
 use Rattle.verifier.proofs.Numbers.{answer_small}
+use Rattle.verifier.proofs.Memory.{SlotLaws, Wrote, length-values, placed, reads_bytes, room_written, no_room_written}
+use Rattle.verifier.proofs.Allowed.{when_right}
 use Rattle.verifier.proofs.Passed.{neither}
 
 pub one_more : {A B : Type 0} (o : Option A) (x : A) (g : A → Option B) (y : B) → o ≡ Some x → g x ≡ Some y → (o >>= g) ≡ Some y
@@ -52,7 +49,7 @@ record Counted (f : PlainFrame) (s : Typed) (k : ℕ) : Type 0 where
   holds : HoldsValue (kind_at f k) value
   small : n < 2 ^ 64
 
-counted : {rules : RuleSet} (f : PlainFrame) (s : Typed) (k : ℕ) → Holds rules f s → is_num (kind_at f k) ≡ true → Counted f s k
+counted : {known : ℕ} (f : PlainFrame) (s : Typed) (k : ℕ) → Holds known f s → is_num (kind_at f k) ≡ true → Counted f s k
 counted f s k h b =
     let v = read f s k h (num_is_set _ b) in
     let n = numbered (kind_at f k) v.value v.holds b in
@@ -72,32 +69,34 @@ below_cap (Num k) (values.Num m) n cap h e b =
     le-leb n cap (omega (arith, le, h.below, same))
 below_cap (Num k) (values.Ptr r at) n cap h e b = absurd h
 
--- the place of a range, where it has one, leaves room for so many bytes
-abbrev HasRoom : Caps → ℕ → Option (Region × ℕ) → Type 0
-HasRoom caps n None = Unit {0}
-HasRoom caps n (Some p) = p.1 + n ≤ size caps p.0
+some_bytes : (n : ℕ) → (n == 0) ≡ false → 1 ≤ n
+some_bytes n e = let no = eqb-false n 0 e in omega (arith, no)
 
--- a range that is one: nothing, or from the pointer's place on
-record RangeOf (caps : Caps) (writes : Bool) (v : Value) (n : ℕ) : Type 0 where
+there_is : (p : Region × ℕ) (r : Region) (at : ℕ) → p.0 ≡ r → p.1 ≡ at → p ≡ placed r at
+there_is p r at e f = ap (λ (q : Region). placed q p.1) e ∙ ap (λ (k : ℕ). placed r k) f
+
+-- the place of a range of n bytes from a place on: none, where there are none
+abbrev HasRoom : Caps → Region → ℕ → ℕ → Option (Region × ℕ) → Type 0
+HasRoom caps r at n None = Unit {0}
+HasRoom caps r at n (Some p) = (p.0 ≡ r) × (p.1 ≡ at) × (1 ≤ n) × (at + n ≤ size caps r)
+
+-- a range that was not refused
+record Ranged (caps : Caps) (writes : Bool) (v : Value) (n : ℕ) : Type 0 where
   region : Region
   at : ℕ
   points : v ≡ values.Ptr region at
-  target : Option (Region × ℕ)
-  is : typed_range caps writes v n ≡ Some target
-  room : HasRoom caps n target
-  there : (target ≡ None) ⊎ ((target ≡ Some (region, at)) × (1 ≤ n))
+  place : Option (Region × ℕ)
+  is : typed_range caps writes v n ≡ Some place
+  room : HasRoom caps region at n place
 
-target_of : (caps : Caps) (n : ℕ) (none writes : Bool) (p : Region × ℕ) → HasRoom caps n (Some p) → (none ≡ false → 1 ≤ n) → (writes ≡ true → may_store p.0 ≡ true) → (t : Option (Region × ℕ)) × ((if none then Some None else if writes then only (may_store p.0) (Some (Some p)) else Some (Some p)) ≡ Some t) × HasRoom caps n t × ((t ≡ None) ⊎ ((t ≡ Some p) × (1 ≤ n)))
-target_of caps n true writes p r some h = (None, refl, tt, inl refl)
-target_of caps n false true p r some h = (Some p, cond-true (may_store p.0) (Some (Some p)) None (h refl), r, inr (refl, some refl))
-target_of caps n false false p r some h = (Some p, refl, r, inr (refl, some refl))
-
-not_none : (n : ℕ) → (n == 0) ≡ false → 1 ≤ n
-not_none zero e = absurd (false≢true (sym e))
-not_none (suc n) e = omega arith
+target_of : (caps : Caps) (n : ℕ) (none writes : Bool) (r : Region) (at : ℕ) (p : Region × ℕ) → (n == 0) ≡ none → p.0 ≡ r → p.1 ≡ at → at + n ≤ size caps r → (writes ≡ true → may_store p.0 ≡ true) → (t : Option (Region × ℕ)) × ((if none then Some None else if writes then only (may_store p.0) (Some (Some p)) else Some (Some p)) ≡ Some t) × HasRoom caps r at n t
+target_of caps n true writes r at p e same place fits h = (None, refl, tt)
+target_of caps n false true r at p e same place fits h =
+    (Some p, cond-true (may_store p.0) (Some (Some p)) None (h refl), (same, place, some_bytes n e, fits))
+target_of caps n false false r at p e same place fits h = (Some p, refl, (same, place, some_bytes n e, fits))
 
 -- a range that was not refused is one
-ranged : (caps : Caps) (writes : Bool) (x y : PlainKind) (v w : Value) (n : ℕ) → HoldsValue x v → HoldsValue y w → number w ≡ Some n → is_ptr x ≡ true → is_num y ≡ true → range_leaves caps x y ≡ false → (writes ≡ true → range_is_read_only x y ≡ false) → RangeOf caps writes v n
+ranged : (caps : Caps) (writes : Bool) (x y : PlainKind) (v w : Value) (n : ℕ) → HoldsValue x v → HoldsValue y w → number w ≡ Some n → is_ptr x ≡ true → is_num y ≡ true → range_leaves caps x y ≡ false → (writes ≡ true → range_is_read_only x y ≡ false) → Ranged caps writes v n
 ranged caps writes Unset y v w n h i e a b c d = absurd (false≢true a)
 ranged caps writes (Num k) y v w n h i e a b c d = absurd (false≢true a)
 ranged caps writes (Ptr r k) Unset v w n h i e a b c d = absurd (false≢true b)
@@ -115,62 +114,53 @@ ranged caps writes (Ptr r k) (Num l) (values.Ptr q at) (values.Num m) n h i e a 
     let whole : (at + 0) % 2 ^ 64 ≡ at = omega arith in
     let fits : at + n ≤ size caps q = omega arith in
     let fits' : (at + 0) % 2 ^ 64 + n ≤ size caps q = omega arith in
-    let found = cond-true (nat_le ((at + 0) % 2 ^ 64 + n) (size caps q)) (Some (q, (at + 0) % 2 ^ 64)) None (le-leb _ _ fits') ∙ ap (λ a. Some (q, a)) whole in
-    let t = target_of caps n (n == 0) writes (q, at) fits (not_none n) (λ t. ap may_store (sym h.0) ∙ not_false _ (d t)) in
+    let found = cond-true (nat_le ((at + 0) % 2 ^ 64 + n) (size caps q)) (Some (q, (at + 0) % 2 ^ 64)) None (le-leb _ _ fits') in
+    let t = target_of caps n (n == 0) writes q at (q, (at + 0) % 2 ^ 64) refl refl whole fits (λ t. ap may_store (sym h.0) ∙ not_false _ (d t)) in
     record {
       region = q;
       at = at;
       points = refl;
-      target = t.0;
+      place = t.0;
       is = ap (λ p. p >>= λ p. if n == 0 then Some None else if writes then only (may_store p.0) (Some (Some p)) else Some (Some p)) found ∙ t.1;
       room = t.2;
-      there = t.3;
     }
 
--- where a helper writes: nowhere, or into the range that begins at a register
-abbrev Targets : Option ℕ → Typed → Given → Type 0
-Targets None s g = g.target ≡ None
-Targets (Some k) s g =
-    (r : Region) × (at n : ℕ) × (value_at s.regs k ≡ Some (values.Ptr r at)) × (value_at s.regs (k + 1) ≡ Some (values.Num n)) × (g.room ≡ n) × ((g.target ≡ None) ⊎ (g.target ≡ Some (r, at)))
+-- where a helper writes: in the range that begins at a register, if there is one
+pub record RoomAt (caps : Caps) (s : Typed) (k room : ℕ) (target : Option (Region × ℕ)) : Type 0 where
+  region : Region
+  at : ℕ
+  pointer : value_at s.regs k ≡ Some (values.Ptr region at)
+  count : value_at s.regs (k + 1) ≡ Some (values.Num room)
+  place : HasRoom caps region at room target
 
-targets_same : (o : Option ℕ) (s : Typed) (g g' : Given) → g'.target ≡ g.target → g'.room ≡ g.room → Targets o s g → Targets o s g'
-targets_same None s g g' t r h = t ∙ h
-targets_same (Some k) s g g' t r h =
-    (h.0, h.1, h.2, h.3, h.4, r ∙ h.5, ⊎_elim (λ (e : g.target ≡ None). inl (t ∙ e)) (λ (e : g.target ≡ Some (h.0, h.1)). inr (t ∙ e)) h.6)
+abbrev Targets : Caps → Typed → Option ℕ → ℕ → Option (Region × ℕ) → Type 0
+Targets caps s None room target = target ≡ None
+Targets caps s (Some k) room target = RoomAt caps s k room target
 
 -- the arguments of a helper that was not refused
 record Gets (caps : Caps) (s : Typed) (arguments : List Argument) (k : ℕ) : Type 0 where
   given : Given
   is : typed_arguments caps s arguments k ≡ Some given
   small : given.room < 2 ^ 64
-  room : HasRoom caps given.room given.target
+  targets : Targets caps s (room_in arguments k) given.room given.target
   texts : AllByRecursion IsValue given.texts
   caller : given.caller ≡ s.caller
-  writes : Targets (room_in arguments k) s given
 
-pub size_short : (caps : Caps) → AreCapacities caps → (r : Region) → size caps r ≤ VALUE_LIMIT
-size_short caps a Input = let h = a.input in omega (arith, h)
-size_short caps a Output = let h = a.output in omega (arith, h)
-size_short caps a Stack = omega arith
+-- a text that a helper reads
+record Texted (m : TypedMemory) (place : Option (Region × ℕ)) (n : ℕ) : Type 0 where
+  text : List ℕ
+  is : typed_text m place n ≡ Some text
+  value : IsValue text
 
--- the bytes of a range are such as a value may have
-text_of : (rules : RuleSet) (m : TypedMemory) → IsMemory rules m → (caps : Caps) → AreCapacities caps → (t : Option (Region × ℕ)) (r : Region) (at n : ℕ) → HasRoom caps n t → (t ≡ None) ⊎ ((t ≡ Some (r, at)) × (1 ≤ n)) → (1 ≤ n → (j : ℕ) → j < length (states.values rules m) → Reached r at n j → IsNumber (value_at (states.values rules m) j)) → (bytes : List ℕ) × (typed_text m t n ≡ Some bytes) × IsValue bytes
-text_of rules m ok caps sizes t r at n room (inl e) numbers = ([], ap (λ t. typed_text m t n) e, (omega arith, tt))
-text_of rules m ok caps sizes t r at n room (inr e) numbers =
-    let fits : at + n ≤ size caps r = subst (HasRoom caps n) e.0 room in
-    let p = plain_at rules m ok caps r at n fits (numbers e.1) in
-    (p.bytes, ap (λ t. typed_text m t n) e.0 ∙ p.are, (omega (arith, p.short, fits, size_short caps sizes r), p.small))
-
-module _ (law : RangesAreKnown) (rules : RuleSet) (caps : Caps) (sizes : AreCapacities caps) (f : PlainFrame) (s : Typed) (h : Holds rules f s) where
+module _ (laws : SlotLaws) (ranges : RangesAreKnown) (caps : Caps) (sizes : AreCapacities caps) (known : ℕ) (few : known ≤ 64) (f : PlainFrame) (s : Typed) (h : Holds known f s) where
   number_gets : (more : List Argument) (k : ℕ) → Counted f s k → Gets caps s more (k + 1) → Gets caps s (Number ∷ more) k
   number_gets more k n g = record {
     given = with_number n.n g.given;
     is = one_more _ _ _ _ n.there (one_more _ _ _ _ n.is (one_more _ _ _ _ g.is refl));
     small = g.small;
-    room = g.room;
+    targets = g.targets;
     texts = g.texts;
     caller = g.caller;
-    writes = targets_same (room_in more (k + 1)) s g.given (with_number n.n g.given) refl refl g.writes;
   }
 
   length_gets : (more : List Argument) (k : ℕ) (n : Counted f s k) → nat_le n.n caps.out_cap ≡ true → Gets caps s more (k + 1) → Gets caps s (OutputLength ∷ more) k
@@ -178,140 +168,115 @@ module _ (law : RangesAreKnown) (rules : RuleSet) (caps : Caps) (sizes : AreCapa
     given = with_number n.n g.given;
     is = one_more _ _ _ _ n.there (one_more _ _ _ _ n.is (cond-true _ _ _ le ∙ one_more _ _ _ _ g.is refl));
     small = g.small;
-    room = g.room;
+    targets = g.targets;
     texts = g.texts;
     caller = g.caller;
-    writes = targets_same (room_in more (k + 1)) s g.given (with_number n.n g.given) refl refl g.writes;
   }
 
-  readable_gets : (more : List Argument) (k : ℕ) (v : Read f s k) (n : Counted f s (k + 1)) (p : RangeOf caps false v.value n.n) (bytes : List ℕ) → typed_text s.memory p.target n.n ≡ Some bytes → IsValue bytes → Gets caps s more (k + 2) → Gets caps s (Readable ∷ more) k
-  readable_gets more k v n p bytes text value g = record {
-    given = with_text bytes g.given;
-    is = one_more _ _ _ _ v.there (one_more _ _ _ _ n.there (one_more _ _ _ _ n.is (one_more _ _ _ _ p.is (one_more _ _ _ _ text (one_more _ _ _ _ g.is refl)))));
+  long_values : length f.slots ≡ length (slot_values known s.memory.stack)
+  long_values = h.long ∙ sym (length-values known s.memory.stack)
+
+  -- bytes that the rules leave to be read
+  texted : (r : Region) (at n : ℕ) (place : Option (Region × ℕ)) → HasRoom caps r at n place → (1 ≤ n → (j : ℕ) → j < length (slot_values known s.memory.stack) → Reached r at n j → IsNumber (value_at (slot_values known s.memory.stack) j)) → Texted s.memory place n
+  texted r at n None room numbers = record { text = []; is = refl; value = (omega arith, tt) }
+  texted r at n (Some p) room numbers =
+      let b = reads_bytes laws caps sizes known few s.memory (h.within).memory r at n room.3 (numbers room.2) in
+      record {
+        text = b.bytes;
+        is = ap (λ (q : Region). plain_bytes (cells_at s.memory q p.1 n)) room.0 ∙ ap (λ (k : ℕ). plain_bytes (cells_at s.memory r k n)) room.1 ∙ b.are;
+        value = b.value;
+      }
+
+  readable_gets : (more : List Argument) (k : ℕ) (v : Read f s k) (n : Counted f s (k + 1)) (p : Option (Region × ℕ)) → typed_range caps false v.value n.n ≡ Some p → Texted s.memory p n.n → Gets caps s more (k + 2) → Gets caps s (Readable ∷ more) k
+  readable_gets more k v n p e t g = record {
+    given = with_text t.text g.given;
+    is = one_more _ _ _ _ v.there (one_more _ _ _ _ n.there (one_more _ _ _ _ n.is (one_more _ _ _ _ e (one_more _ _ _ _ t.is (one_more _ _ _ _ g.is refl)))));
     small = g.small;
-    room = g.room;
-    texts = (value, g.texts);
+    targets = g.targets;
+    texts = (t.value, g.texts);
     caller = g.caller;
-    writes = targets_same (room_in more (k + 2)) s g.given (with_text bytes g.given) refl refl g.writes;
   }
 
-  writable_gets : (more : List Argument) (k : ℕ) (v : Read f s k) (n : Counted f s (k + 1)) (p : RangeOf caps true v.value n.n) → Gets caps s more (k + 2) → Gets caps s (Writable ∷ more) k
+  writable_gets : (more : List Argument) (k : ℕ) (v : Read f s k) (n : Counted f s (k + 1)) (p : Ranged caps true v.value n.n) → Gets caps s more (k + 2) → Gets caps s (Writable ∷ more) k
   writable_gets more k v n p g = record {
-    given = with_room n.n p.target g.given;
+    given = with_room n.n p.place g.given;
     is = one_more _ _ _ _ v.there (one_more _ _ _ _ n.there (one_more _ _ _ _ n.is (one_more _ _ _ _ p.is (one_more _ _ _ _ g.is refl))));
     small = n.small;
-    room = p.room;
+    targets = record {
+      region = p.region;
+      at = p.at;
+      pointer = value_is s k v.value v.there ∙ ap Some p.points;
+      count = value_is s (k + 1) n.value n.there ∙ ap Some n.same;
+      place = p.room;
+    };
     texts = g.texts;
     caller = g.caller;
-    writes = (
-      p.region,
-      p.at,
-      n.n,
-      value_is s k v.value v.there ∙ ap Some p.points,
-      value_is s (k + 1) n.value n.there ∙ ap Some n.same,
-      refl,
-      ⊎_elim (λ (e : p.target ≡ None). inl e) (λ (e : (p.target ≡ Some (p.region, p.at)) × (1 ≤ n.n)). inr e.0) p.there,
-    );
   }
 
   -- a pointer and a length whose range may be read, or written
-  range_of : (writes : Bool) (k : ℕ) (v : Read f s k) (n : Counted f s (k + 1)) → is_ptr (kind_at f k) ≡ true → is_num (kind_at f (k + 1)) ≡ true → range_leaves caps (kind_at f k) (kind_at f (k + 1)) ≡ false → (writes ≡ true → range_is_read_only (kind_at f k) (kind_at f (k + 1)) ≡ false) → RangeOf caps writes v.value n.n
+  range_of : (writes : Bool) (k : ℕ) (v : Read f s k) (n : Counted f s (k + 1)) → is_ptr (kind_at f k) ≡ true → is_num (kind_at f (k + 1)) ≡ true → range_leaves caps (kind_at f k) (kind_at f (k + 1)) ≡ false → (writes ≡ true → range_is_read_only (kind_at f k) (kind_at f (k + 1)) ≡ false) → Ranged caps writes v.value n.n
   range_of writes k v n pointer count stays writable = ranged caps writes (kind_at f k) (kind_at f (k + 1)) v.value n.value n.n v.holds n.holds n.is pointer count stays writable
 
-  -- a range that meets nothing that isn't to be read
-  unmet : (x y : PlainKind) (b : Bool) → range_leaves caps x y ≡ false → (b && not (range_leaves caps x y)) ≡ false → b ≡ false
-  unmet x y b stays e = when_right b (not (range_leaves caps x y)) e (ap not stays)
-
-  -- the bytes of a range that is read
-  text_read : (k : ℕ) (v : Read f s k) (n : Counted f s (k + 1)) (p : RangeOf caps false v.value n.n) → is_ptr (kind_at f k) ≡ true → is_num (kind_at f (k + 1)) ≡ true → meets Nothing (stack_range (kind_at f k) (kind_at f (k + 1))) 0 f.slots ≡ false → meets Pointer (stack_range (kind_at f k) (kind_at f (k + 1))) 0 f.slots ≡ false → (bytes : List ℕ) × (typed_text s.memory p.target n.n ≡ Some bytes) × IsValue bytes
-  text_read k v n p pointer count unset parts =
-      let x = kind_at f k in
-      let y = kind_at f (k + 1) in
-      let m = s.memory in
-      let long = h.long ∙ sym (length_values (known_slots rules) m.stack) in
-      let at = subst (HoldsValue (kind_at f k)) p.points v.holds in
-      let most = subst (HoldsValue (kind_at f (k + 1))) n.same n.holds in
-      text_of rules m (h.within).memory caps sizes p.target p.region p.at n.n p.room p.there
-      (λ some j lt reached. law f x y unset parts (states.values rules m) long h.slots pointer count p.region p.at n.n j at most lt some reached)
-
-  gets : (arguments : List Argument) (k : ℕ) → some_fault caps f OutOfRegion arguments k ≡ false → some_fault caps f ReadOnly arguments k ≡ false → some_fault caps f WrongKind arguments k ≡ false → some_fault caps f NotSet arguments k ≡ false → some_fault caps f HasPointer arguments k ≡ false → Gets caps s arguments k
-  gets [] k a b c d e = record { given = nothing_given s.caller; is = refl; small = omega arith; room = tt; texts = tt; caller = refl; writes = refl }
-  gets (Number ∷ more) k a b c d e =
+  gets : (arguments : List Argument) (k : ℕ) → some_fault caps f NotSet arguments k ≡ false → some_fault caps f OutOfRegion arguments k ≡ false → some_fault caps f ReadOnly arguments k ≡ false → some_fault caps f WrongKind arguments k ≡ false → some_fault caps f HasPointer arguments k ≡ false → Gets caps s arguments k
+  gets [] k u a b c d = record { given = nothing_given s.caller; is = refl; small = omega arith; targets = refl; texts = tt; caller = refl }
+  gets (Number ∷ more) k u a b c d =
+      let u1 = neither (has_fault caps f NotSet Number k) (some_fault caps f NotSet more (k + 1)) u in
       let two = neither (has_fault caps f WrongKind Number k) (some_fault caps f WrongKind more (k + 1)) c in
-      let d1 = neither (has_fault caps f NotSet Number k) (some_fault caps f NotSet more (k + 1)) d in
-      number_gets more k (counted f s k h (not_false _ two.0)) (gets more (k + 1) a b two.1 d1.1 e)
-  gets (OutputLength ∷ more) k a b c d e =
+      number_gets more k (counted f s k h (not_false _ two.0)) (gets more (k + 1) u1.1 a b two.1 d)
+  gets (OutputLength ∷ more) k u a b c d =
+      let u1 = neither (has_fault caps f NotSet OutputLength k) (some_fault caps f NotSet more (k + 1)) u in
       let two = neither (has_fault caps f WrongKind OutputLength k) (some_fault caps f WrongKind more (k + 1)) c in
-      let d1 = neither (has_fault caps f NotSet OutputLength k) (some_fault caps f NotSet more (k + 1)) d in
       let most = not_false _ two.0 in
       let n = counted f s k h (at_most_is_num caps.out_cap (kind_at f k) most) in
-      length_gets more k n (below_cap (kind_at f k) n.value n.n caps.out_cap n.holds n.is most) (gets more (k + 1) a b two.1 d1.1 e)
-  gets (Readable ∷ more) k a b c d e =
+      length_gets more k n (below_cap (kind_at f k) n.value n.n caps.out_cap n.holds n.is most) (gets more (k + 1) u1.1 a b two.1 d)
+  gets (Readable ∷ more) k u a b c d =
       let x = kind_at f k in
       let y = kind_at f (k + 1) in
+      let u1 = neither (has_fault caps f NotSet Readable k) (some_fault caps f NotSet more (k + 2)) u in
+      let u2 = neither (is_unset x || is_unset y) (range_meets Nothing caps f x y) u1.0 in
       let a1 = neither (has_fault caps f OutOfRegion Readable k) (some_fault caps f OutOfRegion more (k + 2)) a in
       let c1 = neither (has_fault caps f WrongKind Readable k) (some_fault caps f WrongKind more (k + 2)) c in
-      let d1 = neither (has_fault caps f NotSet Readable k) (some_fault caps f NotSet more (k + 2)) d in
-      let e1 = neither (has_fault caps f HasPointer Readable k) (some_fault caps f HasPointer more (k + 2)) e in
       let c2 = neither (not (is_ptr x)) (not (is_num y)) c1.0 in
-      let d2 = neither (is_unset x || is_unset y) (range_meets Nothing caps f x y) d1.0 in
+      let d1 = neither (has_fault caps f HasPointer Readable k) (some_fault caps f HasPointer more (k + 2)) d in
       let pointer = not_false _ c2.0 in
       let count = not_false _ c2.1 in
       let v = read f s k h (ptr_is_set x pointer) in
       let n = counted f s (k + 1) h count in
       let p = range_of false k v n pointer count a1.0 (λ e. absurd (false≢true e)) in
-      let text = text_read k v n p pointer count (unmet x y (meets Nothing (stack_range x y) 0 f.slots) a1.0 d2.1) (unmet x y (meets Pointer (stack_range x y) 0 f.slots) a1.0 e1.0) in
-      readable_gets more k v n p text.0 text.1 text.2 (gets more (k + 2) a1.1 b c1.1 d1.1 e1.1)
-  gets (Writable ∷ more) k a b c d e =
+      let inside : not (range_leaves caps x y) ≡ true = ap not a1.0 in
+      let unset = when_right (meets Nothing (stack_range x y) 0 f.slots) (not (range_leaves caps x y)) u2.1 inside in
+      let parts = when_right (meets Pointer (stack_range x y) 0 f.slots) (not (range_leaves caps x y)) d1.0 inside in
+      let holds : HoldsValue x (values.Ptr p.region p.at) = subst (HoldsValue x) p.points v.holds in
+      let long : HoldsValue y (values.Num n.n) = subst (HoldsValue y) n.same n.holds in
+      let t = texted p.region p.at n.n p.place p.room (λ one j lt reached. ranges f x y unset parts (slot_values known s.memory.stack) long_values h.slots pointer count p.region p.at n.n j holds long lt one reached) in
+      readable_gets more k v n p.place p.is t (gets more (k + 2) u1.1 a1.1 b c1.1 d1.1)
+  gets (Writable ∷ more) k u a b c d =
+      let u1 = neither (has_fault caps f NotSet Writable k) (some_fault caps f NotSet more (k + 2)) u in
       let a1 = neither (has_fault caps f OutOfRegion Writable k) (some_fault caps f OutOfRegion more (k + 2)) a in
       let b1 = neither (has_fault caps f ReadOnly Writable k) (some_fault caps f ReadOnly more (k + 2)) b in
       let c1 = neither (has_fault caps f WrongKind Writable k) (some_fault caps f WrongKind more (k + 2)) c in
-      let d1 = neither (has_fault caps f NotSet Writable k) (some_fault caps f NotSet more (k + 2)) d in
       let c2 = neither (not (is_ptr (kind_at f k))) (not (is_num (kind_at f (k + 1)))) c1.0 in
       let pointer = not_false _ c2.0 in
       let count = not_false _ c2.1 in
       let v = read f s k h (ptr_is_set (kind_at f k) pointer) in
       let n = counted f s (k + 1) h count in
       let p = range_of true k v n pointer count a1.0 (λ e. b1.0) in
-      writable_gets more k v n p (gets more (k + 2) a1.1 b1.1 c1.1 d1.1 e)
+      writable_gets more k v n p (gets more (k + 2) u1.1 a1.1 b1.1 c1.1 d)
 
--- what a helper writes into its range
-record RoomDone (rules : RuleSet) (s : Typed) (o : Option ℕ) (to : TypedMemory) : Type 0 where
-  memory : IsMemory rules to
-  overwritten : Overwritten o s.regs (states.values rules s.memory) (states.values rules to)
+  -- what a helper writes into its range
+  room_at : (r : Region) (at room : ℕ) (target : Option (Region × ℕ)) (bytes : List ℕ) → HasRoom caps r at room target → length bytes ≤ room → AreBytes bytes → Wrote known s.memory r at room (typed_room s.memory target bytes)
+  room_at r at room None bytes place short b = no_room_written laws caps sizes known few s.memory (h.within).memory r at room bytes
+  room_at r at room (Some p) bytes place short b =
+      subst (λ (q : Region × ℕ). Wrote known s.memory r at room (typed_room s.memory (Some q) bytes)) (sym (there_is p r at place.0 place.1))
+      (room_written laws caps sizes known few s.memory (h.within).memory (r, at) room bytes place.2 place.3 short b)
 
-wider : (r : Region) (at m n j : ℕ) → m ≤ n → Reached r at m j → Reached r at n j
-wider r at m n j le reached =
-    let t = reached.touched in
-    let below = t.below in
-    let above = t.above in
-    record { region = reached.region; touched = record { below = omega (arith, le, below); above = above } }
-
-room_done : (rules : RuleSet) (caps : Caps) → AreCapacities caps → (s : Typed) → IsMemory rules s.memory → (o : Option ℕ) (g : Given) (bytes : List ℕ) → Targets o s g → HasRoom caps g.room g.target → length bytes ≤ g.room → AreBytes bytes → RoomDone rules s o (typed_room s.memory g.target bytes)
-room_done rules caps sizes s ok None g bytes e room short small =
-    subst (λ (t : Option (Region × ℕ)). RoomDone rules s None (typed_room s.memory t bytes)) (sym e) (record { memory = ok; overwritten = refl })
-room_done rules caps sizes s ok (Some k) g bytes w room short small =
-    ⊎_elim
-    (λ (e : g.target ≡ None). subst (λ (t : Option (Region × ℕ)). RoomDone rules s (Some k) (typed_room s.memory t bytes)) (sym e) (record {
-      memory = ok;
-      overwritten = (w.0, w.1, w.2, w.3, w.4, record { long = refl; others = λ j _. refl; numbers = λ j n. n });
-    }))
-    (λ (e : g.target ≡ Some (w.0, w.1)).
-        let fits : w.1 + g.room ≤ size caps w.0 = subst (HasRoom caps g.room) e room in
-        let p = puts rules s.memory ok caps w.0 w.1 bytes small (omega (arith, fits, short)) sizes in
-        let le : length bytes ≤ w.2 = omega (arith, short, w.5) in
-        subst (λ (t : Option (Region × ℕ)). RoomDone rules s (Some k) (typed_room s.memory t bytes)) (sym e) (record {
-          memory = p.memory;
-          overwritten = (
-            w.0,
-            w.1,
-            w.2,
-            w.3,
-            w.4,
-            record { long = p.long; others = λ j no. p.others j (λ some reached. no (omega (arith, some, le), wider w.0 w.1 (length bytes) w.2 j le reached)); numbers = p.numbers },
-          );
-        }))
-    w.6
+  overwritten : (o : Option ℕ) (room : ℕ) (target : Option (Region × ℕ)) (bytes : List ℕ) → Targets caps s o room target → length bytes ≤ room → AreBytes bytes → IsMemory known (typed_room s.memory target bytes) × Overwritten o s.regs (slot_values known s.memory.stack) (slot_values known (typed_room s.memory target bytes).stack)
+  overwritten None room target bytes none short b =
+      subst (λ (t : Option (Region × ℕ)). IsMemory known (typed_room s.memory t bytes) × Overwritten None s.regs (slot_values known s.memory.stack) (slot_values known (typed_room s.memory t bytes).stack)) (sym none)
+      ((h.within).memory, refl)
+  overwritten (Some k) room target bytes t short b =
+      let w = room_at t.region t.at room target bytes t.place short b in
+      (w.memory, (t.region, t.at, room, t.pointer, t.count, w.overwrites))
 
 there : (o : Option Takes) → not (is_some o) ≡ false → (takes : Takes) × (o ≡ Some takes)
 there None h = absurd (false≢true (sym h))
@@ -323,40 +288,40 @@ may_write true false h = absurd (false≢true (sym h))
 may_write false c h = refl
 
 -- a call that was made
-pub record Made (rules : RuleSet) (caps : Caps) (helper : ℕ) (s : Typed) : Type 0 where
+pub record Made (known : ℕ) (caps : Caps) (helper : ℕ) (s : Typed) : Type 0 where
   pub to : Typed
   pub made : typed_help caps helper s ≡ Some to
   pub answer : ℕ
   pub small : answer < 2 ^ 64
   pub regs : to.regs ≡ answered s.regs (values.Num answer)
-  pub within : IsWithin rules to
-  pub overwritten : Overwritten (room_of_takes (signature_of helper)) s.regs (states.values rules s.memory) (states.values rules to.memory)
+  pub slots : Overwritten (room_of (Call helper)) s.regs (slot_values known s.memory.stack) (slot_values known to.memory.stack)
+  pub within : IsWithin known to
 
 -- a call that no rule refuses is made
-pub call_made : EffectsAreWithinLimits → RangesAreKnown → (rules : RuleSet) (caps : Caps) → AreCapacities caps → (helper : ℕ) (f : PlainFrame) (s : Typed) → Holds rules f s → not (is_some (signature_of helper)) ≡ false → call_fault caps f OutOfRegion helper ≡ false → call_fault caps f ReadOnly helper ≡ false → call_fault caps f WrongKind helper ≡ false → call_fault caps f NotSet helper ≡ false → call_fault caps f HasPointer helper ≡ false → (writes_object (signature_of helper) && not caps.writes) ≡ false → Made rules caps helper s
-call_made law ranges rules caps sizes helper f s h known a b c d e w =
-    let sig = there (signature_of helper) known in
+pub call_made : SlotLaws → RangesAreKnown → EffectsAreWithinLimits → (caps : Caps) → AreCapacities caps → (known : ℕ) → known ≤ 64 → (helper : ℕ) (f : PlainFrame) (s : Typed) → Holds known f s → not (is_some (signature_of helper)) ≡ false → call_fault caps f NotSet helper ≡ false → call_fault caps f OutOfRegion helper ≡ false → call_fault caps f ReadOnly helper ≡ false → call_fault caps f WrongKind helper ≡ false → call_fault caps f HasPointer helper ≡ false → (writes_object (signature_of helper) && not caps.writes) ≡ false → Made known caps helper s
+call_made slots ranges law caps sizes known few helper f s h is_known u a b c d w =
+    let sig = there (signature_of helper) is_known in
     let takes = sig.0 in
+    let u' = sym (ap (taken_fault caps f NotSet) sig.1) ∙ u in
     let a' = sym (ap (taken_fault caps f OutOfRegion) sig.1) ∙ a in
     let b' = sym (ap (taken_fault caps f ReadOnly) sig.1) ∙ b in
     let c' = sym (ap (taken_fault caps f WrongKind) sig.1) ∙ c in
-    let d' = sym (ap (taken_fault caps f NotSet) sig.1) ∙ d in
-    let e' = sym (ap (taken_fault caps f HasPointer) sig.1) ∙ e in
+    let d' = sym (ap (taken_fault caps f HasPointer) sig.1) ∙ d in
     let w' = sym (ap (λ o. writes_object o && not caps.writes) sig.1) ∙ w in
-    let g = gets ranges rules caps sizes f s h takes.arguments 1 a' b' c' d' e' in
-    let x = effect helper s.object (asked g.given) in
+    let g = gets slots ranges caps sizes known few f s h takes.arguments 1 u' a' b' c' d' in
+    let e = effect helper s.object (asked g.given) in
     let l = law helper s.object (asked g.given) (h.within).object g.texts in
     let client : g.given.caller < 2 ^ 32 = subst (λ n. n < 2 ^ 32) (sym g.caller) (h.within).client in
-    let t : Typed = record { slot = s.slot; regs = answered s.regs (values.Num x.answer); memory = typed_room s.memory g.given.target x.bytes; object = x.object; out_len = unwrap_or x.out_len s.out_len; caller = s.caller } in
-    let done = room_done rules caps sizes s (h.within).memory (room_in takes.arguments 1) g.given x.bytes g.writes g.room l.short l.bytes in
+    let t : Typed = record { slot = s.slot; regs = answered s.regs (values.Num e.answer); memory = typed_room s.memory g.given.target e.bytes; object = e.object; out_len = unwrap_or e.out_len s.out_len; caller = s.caller } in
+    let left = overwritten slots ranges caps sizes known few f s h (room_in takes.arguments 1) g.given.room g.given.target e.bytes g.targets l.short l.bytes in
     record {
       to = t;
       made = one_more (signature_of helper) takes _ t sig.1 (cond-true _ _ _ (may_write takes.writes caps.writes w') ∙ one_more _ _ _ _ g.is refl);
-      answer = x.answer;
+      answer = e.answer;
       small = answer_small helper s.object (asked g.given) (h.within).object g.small client;
       regs = refl;
-      within = record { memory = done.memory; object = l.object; client = (h.within).client };
-      overwritten = subst (λ (o : Option Takes). Overwritten (room_of_takes o) s.regs (states.values rules s.memory) (states.values rules t.memory)) (sym sig.1) done.overwritten;
+      slots = subst (λ (o : Option Takes). Overwritten (room_of_takes o) s.regs (slot_values known s.memory.stack) (slot_values known t.memory.stack)) (sym sig.1) left.1;
+      within = record { memory = left.0; object = l.object; client = (h.within).client };
     }
 
 -- the numbers of a register's kind fit

@@ -18,8 +18,7 @@ use Rattle.abstract_regs.specs.Kind.{PlainKind, Unset, Num, Ptr, HoldsKind, is_u
 use Rattle.abstract_regs.specs.Frame.{PlainFrame, or_unset, kind_at, operand_kind, HoldsEach}
 use Rattle.abstract_regs.specs.Moves.{flat_option, value_at, operand_in}
 use Rattle.verifier.specs.Kind.{alu_refused, mov_refused}
-use Rattle.bpf_decode.specs.declared.rule_set.RuleSet.{RuleSet}
-use Rattle.verifier.proofs.States.{Holds}
+use Rattle.verifier.specs.Frame.{Holds}
 use Rattle.verifier.specs.Rules.{operand_is_unset}
 
 pub extended_small16 : (z : ℤ) → FitsSigned w16 z → extended z < 2 ^ 64
@@ -65,7 +64,7 @@ pub record Read (f : PlainFrame) (s : Typed) (r : ℕ) : Type 0 where
   pub there : reg s r ≡ Some value
   pub holds : HoldsValue (kind_at f r) value
 
-pub read : {rules : RuleSet} (f : PlainFrame) (s : Typed) (r : ℕ) → Holds rules f s → is_unset (kind_at f r) ≡ false → Read f s r
+pub read : {known : ℕ} (f : PlainFrame) (s : Typed) (r : ℕ) → Holds known f s → is_unset (kind_at f r) ≡ false → Read f s r
 read f s r h e = let v = set_in f.registers s.regs r h.regs e in record { value = v.0; there = v.1; holds = v.2 }
 
 pub num_is_set : (x : PlainKind) → is_num x ≡ true → is_unset x ≡ false
@@ -106,7 +105,7 @@ form_of (Ptr r k) (values.Num n) h = h
 form_of (Ptr r k) (values.Ptr q at) h = tt
 
 -- what an instruction reads beside its destination
-pub operand_read : {rules : RuleSet} (f : PlainFrame) (s : Typed) (source : Operand) → Holds rules f s → operand_is_unset f source ≡ false → (v : Value) × (operand_value s source ≡ Some v) × HasForm (operand_kind f source) v
+pub operand_read : {known : ℕ} (f : PlainFrame) (s : Typed) (source : Operand) → Holds known f s → operand_is_unset f source ≡ false → (v : Value) × (operand_value s source ≡ Some v) × HasForm (operand_kind f source) v
 operand_read f s (Immediate imm) h e = (values.Num (extended imm), refl, tt)
 operand_read f s (Register r) h e = let v = read f s r h e in (v.value, v.there, form_of (kind_at f r) v.value v.holds)
 

@@ -1,66 +1,73 @@
--- Each frame of a method knows as many slots as its rule set does.
-use Rattle.std.proofs.Common.{◌≡◌, ℕ, zero, suc, ◌+◌, ◌<◌, List, [], ◌∷◌, Option, Some, None, refl, inl, inr, ap, ◌∙◌, sym, subst, arith, length, ⊎_elim}
+-- Every frame of a method speaks of as many slots as the frame that it begins with.
+use Rattle.std.proofs.Common.{◌≡◌, ℕ, zero, suc, ◌<◌, List, [], ◌∷◌, Option, Some, None, refl, inl, inr, ◌∙◌, sym, subst, arith, length, ⊎_elim}
 use Rattle.std.specs.Prelude.{◌==◌}
-use Rattle.std.proofs.lemmas.Bool.{cond_both, cases_lt}
-use Rattle.std.proofs.lemmas.List.{length-replicate}
+use Rattle.std.proofs.lemmas.Bool.{cases_lt, cond_both}
+use Rattle.std.proofs.lemmas.Option.{none-some, same_Some}
 use Rattle.bpf_decode.specs.declared.insn.Insn.{Insn}
 use Rattle.bpf_decode.specs.declared.rule_set.RuleSet.{RuleSet}
 use Rattle.bpf_machine.specs.declared.caps.Caps.{Caps}
 use Rattle.bpf_machine.specs.Typed.{fetch}
-use Rattle.abstract_num.specs.Plain.{constant}
-use Rattle.abstract_regs.specs.Kind.{Num}
+use Rattle.verifier.specs.declared.rule.Rule.{Rule}
 use Rattle.abstract_regs.specs.Frame.{PlainFrame}
 use Rattle.abstract_regs.specs.Flow.{flow}
 use Rattle.abstract_regs.specs.Moves.{Among}
 use Rattle.abstract_regs.specs.Laws.{FlowsKeepSlots, JoinsKeepSlots}
-use Rattle.verifier.specs.declared.rule.Rule.{Rule}
-use Rattle.verifier.specs.Frame.{known_slots, entry}
+use Rattle.verifier.specs.Frame.{entry}
 use Rattle.verifier.specs.Rules.{rule_at, room_of}
 use Rattle.verifier.specs.Verdict.{Table, frame_at, joined, met, along, unless_refused, flow_from, start, incoming, whole_table}
 use Rattle.verifier.proofs.Tables.{whole_at}
 
-module _ (flows : FlowsKeepSlots) (joins : JoinsKeepSlots) (rules : RuleSet) (caps : Caps) (code : List (Option Insn)) where
-  -- a frame that is there knows so many
-  abbrev pub Long : Option PlainFrame → Type 0
-  Long None = Unit {0}
-  Long (Some f) = length f.slots ≡ known_slots rules
+-- a frame, if there is one, speaks of so many slots
+abbrev IsLong : ℕ → Option PlainFrame → Type 0
+IsLong known o = (g : PlainFrame) → o ≡ Some g → length g.slots ≡ known
 
-  long_joined : (inflow : Option PlainFrame) (g : PlainFrame) → length g.slots ≡ known_slots rules → Long inflow → length (joined inflow g).slots ≡ known_slots rules
-  long_joined None g h k = h
-  long_joined (Some f) g h k = joins f g (h ∙ sym k) ∙ k
+module _ (flows : FlowsKeepSlots) (joins : JoinsKeepSlots) (known : ℕ) where
+  joined_long : (inflow : Option PlainFrame) (g : PlainFrame) → IsLong known inflow → length g.slots ≡ known → length (joined inflow g).slots ≡ known
+  joined_long None g h long = long
+  joined_long (Some f) g h long = let f_long = h f refl in joins f g (long ∙ sym f_long) ∙ f_long
 
-  long_met : (a q : ℕ) (g : PlainFrame) (inflow : Option PlainFrame) → length g.slots ≡ known_slots rules → Long inflow → Long (met a g q inflow)
-  long_met a q g inflow h k = cond_both (a == q) (Some (joined inflow g)) inflow Long (λ _. long_joined inflow g h k) (λ _. k)
+  met_long : (a q : ℕ) (g : PlainFrame) (inflow : Option PlainFrame) → IsLong known inflow → length g.slots ≡ known → IsLong known (met a g q inflow)
+  met_long a q g inflow h long =
+      cond_both (a == q) (Some (joined inflow g)) inflow (IsLong known)
+      (λ _ k e. subst (λ (f : PlainFrame). length f.slots ≡ known) (same_Some (joined inflow g) k e) (joined_long inflow g h long))
+      (λ _. h)
 
-  long_along : (edges : List (ℕ × PlainFrame)) (q : ℕ) (inflow : Option PlainFrame) → ((a : ℕ) (g : PlainFrame) → Among a g edges → length g.slots ≡ known_slots rules) → Long inflow → Long (along edges q inflow)
-  long_along [] q inflow each h = h
-  long_along (edge ∷ edges) q inflow each h =
-      long_along edges q (met edge.0 edge.1 q inflow) (λ a g e. each a g (inr e)) (long_met edge.0 q edge.1 inflow (each edge.0 edge.1 (inl (refl, refl))) h)
+  along_long : (edges : List (ℕ × PlainFrame)) (q : ℕ) (inflow : Option PlainFrame) → IsLong known inflow → ((a : ℕ) (g : PlainFrame) → Among a g edges → length g.slots ≡ known) → IsLong known (along edges q inflow)
+  along_long [] q inflow h all = h
+  along_long (edge ∷ edges) q inflow h all =
+      along_long edges q (met edge.0 edge.1 q inflow) (met_long edge.0 q edge.1 inflow h (all edge.0 edge.1 (inl (refl, refl)))) (λ a g e. all a g (inr e))
 
-  long_unless : (r : Option Rule) (flown inflow : Option PlainFrame) → Long flown → Long inflow → Long (unless_refused r flown inflow)
-  long_unless None flown inflow a b = a
-  long_unless (Some rule) flown inflow a b = b
+  unless_long : (r : Option Rule) (flown inflow : Option PlainFrame) → IsLong known flown → IsLong known inflow → IsLong known (unless_refused r flown inflow)
+  unless_long None flown inflow a b = a
+  unless_long (Some rule) flown inflow a b = b
 
-  long_from : (p q : ℕ) (o : Option Insn) (frame inflow : Option PlainFrame) → Long frame → Long inflow → Long (flow_from caps code p q o frame inflow)
-  long_from p q None frame inflow f h = h
-  long_from p q (Some i) None inflow f h = h
-  long_from p q (Some i) (Some g) inflow f h =
-      long_unless (rule_at caps code p i (Some g)) (along (flow (room_of i) i p g) q inflow) inflow
-      (long_along (flow (room_of i) i p g) q inflow (λ a k e. flows (room_of i) i p a g k e ∙ f) h) h
+  module _ (rules : RuleSet) (caps : Caps) (code : List (Option Insn)) (first : length (entry rules caps).slots ≡ known) where
+    flow_long : (p q : ℕ) (o : Option Insn) (frame inflow : Option PlainFrame) → IsLong known frame → IsLong known inflow → IsLong known (flow_from caps code p q o frame inflow)
+    flow_long p q None frame inflow f h = h
+    flow_long p q (Some i) None inflow f h = h
+    flow_long p q (Some i) (Some g) inflow f h =
+        unless_long (rule_at caps code p i (Some g)) (along (flow (room_of i) i p g) q inflow) inflow
+        (along_long (flow (room_of i) i p g) q inflow h (λ a k e. flows (room_of i) i p a g k e ∙ f g refl)) h
 
-  long_start : (q : ℕ) → Long (start rules caps q)
-  long_start zero = length-replicate (known_slots rules) (Num (constant 0))
-  long_start (suc q) = tt
+    start_long : (q : ℕ) → IsLong known (start rules caps q)
+    start_long zero g e = subst (λ (f : PlainFrame). length f.slots ≡ known) (same_Some (entry rules caps) g e) first
+    start_long (suc q) g e = absurd (none-some g e)
 
-  long_incoming : (table : Table) (q m : ℕ) → ((p : ℕ) → p < m → Long (frame_at table p)) → Long (incoming rules caps code table q m)
-  long_incoming table q zero h = long_start q
-  long_incoming table q (suc m) h =
-      long_from m q (fetch code m) (frame_at table m) (incoming rules caps code table q m) (h m (omega arith)) (long_incoming table q m (λ p lt. h p (omega arith)))
+    incoming_long : (table : Table) (q n : ℕ) → ((p : ℕ) → p < n → IsLong known (frame_at table p)) → IsLong known (incoming rules caps code table q n)
+    incoming_long table q zero h = start_long q
+    incoming_long table q (suc p) h =
+        flow_long p q (fetch code p) (frame_at table p) (incoming rules caps code table q p) (h p (omega arith))
+        (incoming_long table q p (λ k lt. h k (omega (arith, lt))))
 
-  long_below : (k q : ℕ) → q < k → q < length code → Long (frame_at (whole_table rules caps code) q)
-  long_below zero q lt inside = absurd (omega (arith, lt))
-  long_below (suc k) q lt inside =
-      subst Long (sym (whole_at rules caps code q inside)) (long_incoming (whole_table rules caps code) q q (λ p less. long_below k p (omega (arith, lt, less)) (omega (arith, less, inside))))
+    table_long : (n p : ℕ) → p < n → p < length code → IsLong known (frame_at (whole_table rules caps code) p)
+    table_long zero p lt inside = absurd (omega (arith, lt))
+    table_long (suc n) p lt inside = ⊎_elim
+        (λ less. table_long n p less inside)
+        (λ le.
+        let same : n ≡ p = omega (arith, lt, le) in
+        subst (IsLong known) (sym (whole_at rules caps code p inside))
+        (incoming_long (whole_table rules caps code) p p (λ k less. table_long n k (omega (arith, less, same)) (omega (arith, less, inside)))))
+        (cases_lt p n)
 
-  pub long_at : (q : ℕ) (f : PlainFrame) → q < length code → frame_at (whole_table rules caps code) q ≡ Some f → length f.slots ≡ known_slots rules
-  long_at q f inside e = subst Long e (long_below (suc q) q (omega arith) inside)
+    pub long_at : (p : ℕ) → p < length code → (g : PlainFrame) → frame_at (whole_table rules caps code) p ≡ Some g → length g.slots ≡ known
+    long_at p inside g e = table_long (suc p) p (omega arith) inside g e

@@ -1,37 +1,32 @@
 -- A run from a slot whose frame is true of the state ends at an exit.
-use Rattle.std.proofs.Common.{◌≡◌, ◌≢◌, ℕ, zero, suc, ◌+◌, ◌-◌, ◌*◌, ◌^◌, ◌<◌, ◌≤◌, List, [], ◌∷◌, ◌++◌, Option, Some, None, refl, ap, ◌∙◌, sym, subst, arith, length, length-append, drop}
+use Rattle.std.proofs.Common.{◌≡◌, ◌≢◌, ℕ, zero, suc, ◌+◌, ◌-◌, ◌^◌, ◌<◌, ◌≤◌, List, [], ◌∷◌, ◌++◌, Option, Some, None, refl, ap, ◌∙◌, sym, subst, arith, length, length-append, drop}
 use Rattle.std.specs.Prelude.{replicate}
 use Rattle.std.proofs.lemmas.List.{length-replicate}
 use Rattle.std.proofs.lemmas.Option.{none-some, same_Some, slice_get_within}
 use Rattle.bpf_decode.specs.declared.insn.Insn.{Insn}
 use Rattle.bpf_decode.specs.declared.insn.Insn.TheVariants.{Alu, Neg, Mov, MovSigned, End, LoadWide, Load, LoadSigned, Store, Jump, JumpLong, Branch, Call, CallLocal, Exit}
 use Rattle.bpf_decode.specs.Instruction.{Fits, AllFit, slots, slot_count}
-use Rattle.bpf_decode.specs.declared.region.Region.{Region}
-use Rattle.bpf_decode.specs.declared.region.Region.TheVariants.{Input, Output, Stack}
 use Rattle.bpf_machine.specs.declared.caps.Caps.{Caps}
-use Rattle.object_store.specs.Object.{PlainObject, IsObject, AreBytes}
-use Rattle.helpers.specs.Laws.{EffectsAreWithinLimits}
+use Rattle.object_store.specs.Object.{PlainObject, IsObject, AreBytes, IsValue}
 use Rattle.bpf_machine.specs.declared.limits.TheConstants.{STACK_SIZE}
-use Rattle.bpf_machine.specs.State.{◌>>=◌, AreCapacities, Outcome, Ended, Stuck, one_more, goes_on}
-use Rattle.bpf_machine.specs.Typed.{Typed, fetch, typed_act, typed_exit_of, typed_outcome, typed_ends, typed_run, typed_entry, Byte, as_cells}
+use Rattle.bpf_machine.specs.State.{◌>>=◌, AreCapacities, opening, Outcome, Ended, Stuck, one_more, goes_on}
+use Rattle.bpf_machine.specs.Slots.{slot_values}
+use Rattle.bpf_machine.specs.Typed.{Typed, fetch, typed_act, typed_exit_of, typed_outcome, typed_ends, typed_run, typed_entry}
 use Rattle.abstract_regs.specs.Frame.{PlainFrame, HoldsEach}
-use Rattle.verifier.specs.Frame.{known_slots, entry}
-use Rattle.abstract_regs.specs.Kind as kinds
 use Rattle.abstract_num.specs.Plain.{constant}
-use Rattle.abstract_regs.specs.Laws.{JoinsHold, EntryHolds, FlowsKeepSlots, JoinsKeepSlots}
-use Rattle.bpf_decode.specs.declared.value.Value.{Value}
-use Rattle.bpf_decode.specs.declared.value.Value.TheVariants as forms
+use Rattle.abstract_regs.specs.Kind as kinds
 use Rattle.bpf_decode.specs.declared.rule_set.RuleSet.{RuleSet}
+use Rattle.bpf_decode.specs.declared.rule_set.RuleSet.TheVariants.{One, Two}
+use Rattle.verifier.specs.Frame.{known_slots, entry, Holds}
 use Rattle.verifier.specs.Pass.{Sound, IsSound, AllSound}
 use Rattle.verifier.specs.Rules.{rule_at}
 use Rattle.verifier.specs.Verdict.{frame_at, whole_table, code_verdict}
 use Rattle.verifier.proofs.Bytes.{bytes_append, bytes_zeros}
 use Rattle.verifier.proofs.Passed.{Passed, passed}
 use Rattle.verifier.proofs.Allowed.{allowed}
-use Rattle.verifier.proofs.Stack.{slot_values, cell_at, length_values, IsByte}
-use Rattle.verifier.proofs.States.{values, Holds, known_fit}
+use Rattle.verifier.proofs.Acts.{steps, exits}
+use Rattle.verifier.proofs.Memory.{Laws, length-values, zeros_known, begins_within}
 use Rattle.verifier.proofs.Lengths.{long_at}
-use Rattle.verifier.proofs.Acts.{AccessLaws, steps, exits}
 use Rattle.verifier.proofs.Tables.{whole_at}
 use Rattle.verifier.proofs.Flows.{arrives, edge}
 use Rattle.verifier.proofs.Verdicts.{passes}
@@ -82,7 +77,7 @@ pub inner : {A : Type 0} (o : Option (Option A)) (x : A) → (o >>= λ c. c) ≡
 inner None x h = absurd (none-some x h)
 inner (Some o) x h = ap Some h
 
-module _ (joins : JoinsHold) (flows : FlowsKeepSlots) (lengths : JoinsKeepSlots) (accesses : AccessLaws) (effects : EffectsAreWithinLimits) (rules : RuleSet) (caps : Caps) (sizes : AreCapacities caps) (is : List Insn) (sound : AllSound rules caps (slots is)) (fit : AllFit is) (small : length (slots is) < 2 ^ 62) (clear : code_verdict rules caps (slots is) ≡ None) (before : PlainObject) where
+module _ (laws : Laws) (rules : RuleSet) (caps : Caps) (sizes : AreCapacities caps) (known : ℕ) (few : known ≤ 64) (first : length (entry rules caps).slots ≡ known) (is : List Insn) (sound : AllSound rules caps (slots is)) (fit : AllFit is) (small : length (slots is) < 2 ^ 62) (clear : code_verdict rules caps (slots is) ≡ None) (before : PlainObject) where
   abbrev Ends : ℕ → Typed → Type 0
   Ends n s = (o : Outcome) × (k : ℕ) × (typed_run caps (slots is) before n s ≡ Ended o k)
 
@@ -92,22 +87,13 @@ module _ (joins : JoinsHold) (flows : FlowsKeepSlots) (lengths : JoinsKeepSlots)
     there : fetch (slots is) s.slot ≡ Some insn
     frame : PlainFrame
     is_frame : frame_at (whole_table rules caps (slots is)) s.slot ≡ Some frame
-    holds : Holds rules frame s
+    holds : Holds known frame s
 
   clear_at : (s : Typed) (a : At s) → rule_at caps (slots is) s.slot a.insn (Some a.frame) ≡ None
   clear_at s a = sym (ap (rule_at caps (slots is) s.slot a.insn) a.is_frame) ∙ passes rules caps (slots is) s.slot a.insn clear a.there
 
   sound_at : (s : Typed) (a : At s) → Sound a.insn s.slot a.frame
   sound_at s a = subst (IsSound a.insn s.slot) a.is_frame (sound s.slot a.insn a.there)
-
-  regs_of : (s : Typed) (a : At s) → HoldsEach (a.frame).registers s.regs
-  regs_of s a = let h = a.holds in h.regs
-
-  slots_of : (s : Typed) (a : At s) → HoldsEach (a.frame).slots (values rules s.memory)
-  slots_of s a = let h = a.holds in h.slots
-
-  long_of : (s : Typed) (a : At s) → length (a.frame).slots ≡ length (values rules s.memory)
-  long_of s a = let h = a.holds in h.long ∙ sym (length_values (known_slots rules) s.memory.stack)
 
   abbrev Later : ℕ → Type 0
   Later n = (t : Typed) → left (drop t.slot (slots is)) ≤ n → At t → Ends n t
@@ -118,17 +104,18 @@ module _ (joins : JoinsHold) (flows : FlowsKeepSlots) (lengths : JoinsKeepSlots)
       let ok = passed caps (slots is) s.slot a.insn a.frame rule in
       let fits = fit_at is s.slot a.insn fit a.there in
       let kept = sound_at s a in
-      let t = steps accesses effects rules caps sizes (slots is) s.slot a.frame s a.holds kept.fits a.insn fits ok not_exit in
-      let vs = values rules s.memory in
-      let ws = values rules t.to.memory in
-      let reached = kept.keeps fits (allowed caps (slots is) s.slot a.frame a.insn ok) s.regs t.to.regs vs ws t.to.slot (long_of s a) (regs_of s a) (slots_of s a) t.moves in
+      let h = a.holds in
+      let t = steps laws caps sizes (slots is) s.slot known few a.frame s h kept.fits a.insn fits ok not_exit in
+      let vs = slot_values known s.memory.stack in
+      let ws = slot_values known (t.to).memory.stack in
+      let reached = kept.keeps fits (allowed caps (slots is) s.slot a.frame a.insn ok) s.regs t.to.regs vs ws t.to.slot (h.long ∙ sym (length-values known s.memory.stack)) h.regs h.slots t.moves in
       let inside = slice_get_within (slots is) s.slot (Some a.insn) (inner _ _ a.there) in
       let e = edge caps (slots is) s.slot t.to.slot a.insn a.frame reached.frame (omega arith) fits ok reached.there in
       let inside' = slice_get_within (slots is) t.to.slot (Some e.to) (inner _ _ e.begins) in
-      let meets = arrives joins rules caps (slots is) s.slot t.to.slot a.insn a.frame reached.frame t.to.regs ws a.there a.is_frame rule (record { holds = reached.holds; slots = reached.slots }) reached.there e.forward inside' in
+      let meets = arrives laws.joins rules caps (slots is) s.slot t.to.slot a.insn a.frame reached.frame t.to.regs ws a.there a.is_frame rule (record { holds = reached.holds; slots = reached.slots }) reached.there e.forward inside' in
       let fewer = left_further (slots is) s.slot t.to.slot a.insn a.there e.forward in
       let le' : left (drop t.to.slot (slots is)) ≤ n = omega arith in
-      let rest = later t.to le' (record { insn = e.to; there = e.begins; frame = meets.frame; is_frame = meets.is; holds = record { regs = meets.holds; slots = meets.slots; long = long_at flows lengths rules caps (slots is) t.to.slot meets.frame inside' meets.is; within = t.within } }) in (
+      let rest = later t.to le' (record { insn = e.to; there = e.begins; frame = meets.frame; is_frame = meets.is; holds = record { regs = meets.holds; long = long_at laws.along laws.joined known rules caps (slots is) first t.to.slot inside' meets.frame meets.is; slots = meets.slots; within = t.within } }) in (
         rest.0,
         suc rest.1,
         ap (λ o. typed_ends before s (o >>= λ i. typed_exit_of i s) (goes_on (o >>= λ i. typed_act caps i s) (typed_run caps (slots is) before n))) a.there
@@ -169,53 +156,38 @@ module _ (joins : JoinsHold) (flows : FlowsKeepSlots) (lengths : JoinsKeepSlots)
       let none = left_further (slots is) s.slot (s.slot + 1) a.insn a.there (omega arith) in absurd (omega arith)
   ends_from (suc n) s le a = here n s a a.insn refl le (ends_from n)
 
-  pub ends_at_exit : (s : Typed) (i : Insn) → s.slot ≡ 0 → fetch (slots is) 0 ≡ Some i → Holds rules (entry rules caps) s → Ends (length is) s
-  ends_at_exit s i first at h =
+  pub ends_at_exit : (s : Typed) (i : Insn) → s.slot ≡ 0 → fetch (slots is) 0 ≡ Some i → Holds known (entry rules caps) s → Ends (length is) s
+  ends_at_exit s i zero_slot at h =
       let all = left_slots is in
       let some = slice_get_within (slots is) 0 (Some i) (inner _ _ at) in
-      let whole : drop s.slot (slots is) ≡ slots is = ap (λ n. drop n (slots is)) first in
+      let whole : drop s.slot (slots is) ≡ slots is = ap (λ n. drop n (slots is)) zero_slot in
       let le : left (drop s.slot (slots is)) ≤ length is = omega (arith, ap left whole) in
-      ends_from (length is) s le (record { insn = i; there = ap (fetch (slots is)) first ∙ at; frame = entry rules caps; is_frame = ap (frame_at (whole_table rules caps (slots is))) first ∙ whole_at rules caps (slots is) 0 some; holds = h })
+      ends_from (length is) s le (record { insn = i; there = ap (fetch (slots is)) zero_slot ∙ at; frame = entry rules caps; is_frame = ap (frame_at (whole_table rules caps (slots is))) zero_slot ∙ whole_at rules caps (slots is) 0 some; holds = h })
 
--- ---- a method's entry
+-- frames speak of no more slots than there are
+pub known_few : (rules : RuleSet) → known_slots rules ≤ 64
+known_few One = omega arith
+known_few Two = omega arith
 
-zero_byte : (n i : ℕ) → i < n → IsByte (cell_at (as_cells (replicate n 0)) i)
-zero_byte zero i lt = absurd (omega (arith, lt))
-zero_byte (suc n) zero lt = record { n = 0; is = refl; small = omega arith }
-zero_byte (suc n) (suc i) lt = zero_byte n i (omega (arith, lt))
+-- and the entry frame of so many
+pub entry_long : (rules : RuleSet) (caps : Caps) → length (entry rules caps).slots ≡ known_slots rules
+entry_long rules caps = length-replicate (known_slots rules) (kinds.Num (constant 0))
 
-past_zeros : (n i b : ℕ) → cell_at (as_cells (replicate n 0)) i ≡ Byte b → b < 256
-past_zeros zero i b e = let same : 0 ≡ b = cc in omega (arith, same)
-past_zeros (suc n) zero b e = let same : 0 ≡ b = cc in omega (arith, same)
-past_zeros (suc n) (suc i) b e = past_zeros n i b e
-
-zeros_long : (n : ℕ) → length (as_cells (replicate n 0)) ≡ n
-zeros_long zero = refl
-zeros_long (suc n) = ap suc (zeros_long n)
-
-zero_values : (n m : ℕ) → 8 * n ≤ m → slot_values n (as_cells (replicate m 0)) ≡ replicate n (Some (forms.Num 0))
-zero_values zero m le = refl
-zero_values (suc n) m le =
-    let rest : m ≡ suc (suc (suc (suc (suc (suc (suc (suc (m - 8)))))))) = omega (arith, le) in
-    ap (λ k. slot_values (suc n) (as_cells (replicate k 0))) rest ∙ ap (λ (vs : List (Option Value)). Some (forms.Num 0) ∷ vs) (zero_values n (m - 8) (omega (arith, le)))
-
-pub entry_is_held : EntryHolds → (rules : RuleSet) (caps : Caps) → AreCapacities caps → (object : PlainObject) (caller : ℕ) (input : List ℕ) → IsObject object → caller < 2 ^ 32 → length input ≤ caps.in_cap → AreBytes input → Holds rules (entry rules caps) (typed_entry caps object caller input)
-entry_is_held law rules caps sizes object caller input ob client le bytes =
+-- what a method begins with, the entry frame is true of
+pub entry_is_held : Laws → (rules : RuleSet) (caps : Caps) → AreCapacities caps → (object : PlainObject) (caller : ℕ) (input : List ℕ) → IsObject object → caller < 2 ^ 32 → length input ≤ caps.in_cap → AreBytes input → Holds (known_slots rules) (entry rules caps) (typed_entry caps object caller input)
+entry_is_held laws rules caps sizes object caller input ob client le bytes =
     let most = sizes.input in
-    let n = known_slots rules in
-    let first = law caps.in_cap STACK_SIZE n (length input) (omega (arith, most)) (omega arith) le in
+    let first = laws.entry caps.in_cap STACK_SIZE (known_slots rules) (length input) (omega (arith, most)) (omega arith) le in
     record {
       regs = first.registers;
-      slots = subst (HoldsEach (entry rules caps).slots) (sym (zero_values n STACK_SIZE (known_fit rules))) first.slots;
-      long = length-replicate n (kinds.Num (constant 0));
-      within = record {
-        memory = record {
-          input = (omega (arith, le, sizes.input, length-append input (replicate (caps.in_cap - length input) 0), length-replicate {A = ℕ} (caps.in_cap - length input) 0), bytes_append input _ bytes (bytes_zeros _));
-          output = (omega (arith, sizes.output, length-replicate {A = ℕ} caps.out_cap 0), bytes_zeros caps.out_cap);
-          stack = record { long = zeros_long STACK_SIZE; small = past_zeros STACK_SIZE };
-          bytes = λ _. zero_byte STACK_SIZE;
-        };
-        object = ob;
-        client = client;
-      };
+      long = entry_long rules caps;
+      slots = subst (HoldsEach (entry rules caps).slots) (sym (zeros_known laws.slots (known_slots rules) (known_few rules))) first.slots;
+      within = record { memory = begins_within laws.slots (known_slots rules) (typed_entry caps object caller input).memory input_is output_is refl; object = ob; client = client };
     }
+  where
+    input_is : IsValue (opening caps input).input
+    input_is =
+        (omega (arith, le, sizes.input, length-append input (replicate (caps.in_cap - length input) 0), length-replicate {A = ℕ} (caps.in_cap - length input) 0), bytes_append input _ bytes (bytes_zeros _))
+
+    output_is : IsValue (opening caps input).output
+    output_is = (omega (arith, sizes.output, length-replicate {A = ℕ} caps.out_cap 0), bytes_zeros caps.out_cap)
