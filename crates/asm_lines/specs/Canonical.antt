@@ -1,5 +1,5 @@
 -- The one text of a method's instructions, and of a class.
-use Rattle.std.specs.Prelude.{ℕ, ℤ, pos, negsuc, ◌/◌, ◌%◌, suc, zero, List, [], ◌∷◌, ◌++◌, ◌==◌, if◌then◌else◌, codes}
+use Rattle.std.specs.Prelude.{ℕ, ℤ, pos, negsuc, ◌+◌, ◌/◌, ◌%◌, suc, zero, List, [], ◌∷◌, ◌++◌, ◌==◌, if◌then◌else◌, codes}
 use Rattle.std.specs.List.{flat_map}
 use Rattle.std.specs.Fmt.{decimal, signed_decimal}
 use Rattle.std.specs.Char.{digit_char}
@@ -7,7 +7,10 @@ use Rattle.bpf_decode.specs.declared.insn.Operand.{Operand}
 use Rattle.bpf_decode.specs.declared.insn.Operand.TheVariants.{Immediate, Register}
 use Rattle.bpf_decode.specs.declared.insn.Insn.{Insn}
 use Rattle.bpf_decode.specs.declared.insn.Insn.TheVariants.{Alu, Neg, Mov, MovSigned, End, LoadWide, Load, LoadSigned, Store, Jump, JumpLong, Branch, Call, CallLocal, Exit}
-use Rattle.bpf_decode.specs.Class.{ClassMethod}
+use Rattle.bpf_decode.specs.declared.rule_set.RuleSet.{RuleSet}
+use Rattle.bpf_decode.specs.declared.rule_set.RuleSet.TheVariants.{One, Two}
+use Rattle.bpf_decode.specs.Class.{ClassMethod, Class}
+use Rattle.bpf_decode.specs.Instruction.{slot_count}
 use Rattle.asm_lines.specs.declared.form.Form.TheVariants as forms
 use Rattle.asm_lines.specs.Words.{word_of}
 
@@ -82,6 +85,36 @@ directive_line m = codes ".method " ++ m.name ++ codes " " ++ flags_text m.flags
 abbrev pub method_text : ClassMethod → List ℕ
 method_text m = directive_line m ++ codes "\n" ++ canonical_text m.instructions
 
--- the text of a class: its methods, one behind the other
-abbrev pub class_text : List ClassMethod → List ℕ
-class_text ms = flat_map method_text ms
+-- methods, one behind the other
+abbrev pub methods_text : List ClassMethod → List ℕ
+methods_text ms = flat_map method_text ms
+
+-- the line of a rule set, with its end: rule set 1 has none
+abbrev pub rules_text : RuleSet → List ℕ
+rules_text One = []
+rules_text Two = codes ".rules 2\n"
+
+-- the text of a class: its rule set, and its methods
+abbrev pub class_text : Class → List ℕ
+class_text c = rules_text c.rules ++ methods_text c.methods
+
+-- ---- the same with each instruction's slot in a comment
+
+-- an instruction's line and its slot, without its end
+abbrev pub slot_line : ℕ → Insn → List ℕ
+slot_line slot i = line_of i ++ codes " ; slot " ++ decimal slot
+
+-- instructions, the first of them at that slot
+abbrev pub code_with_slots : ℕ → List Insn → List ℕ
+code_with_slots slot [] = []
+code_with_slots slot (i ∷ is) = slot_line slot i ++ codes "\n" ++ code_with_slots (slot + slot_count i) is
+
+-- a method's slots begin at 0
+abbrev pub method_with_slots : ClassMethod → List ℕ
+method_with_slots m = directive_line m ++ codes "\n" ++ code_with_slots 0 m.instructions
+
+abbrev pub methods_with_slots : List ClassMethod → List ℕ
+methods_with_slots ms = flat_map method_with_slots ms
+
+abbrev pub class_with_slots : Class → List ℕ
+class_with_slots c = rules_text c.rules ++ methods_with_slots c.methods

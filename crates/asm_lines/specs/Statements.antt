@@ -1,15 +1,17 @@
 -- What a line says.
-use Rattle.std.specs.Prelude.{ℕ, ◌==◌, ◌&&◌, ◌-◌, Bool, List, length, take, slice_index, if◌then◌else◌, Option, Some, None, Result, Err, codes, map}
+use Rattle.std.specs.Prelude.{ℕ, ◌==◌, ◌&&◌, ◌-◌, Bool, List, length, take, slice_index, if◌then◌else◌, Option, Some, None, Result, Ok, Err, codes, map}
 use Rattle.std.specs.Str.{bytes_eq}
 use Rattle.std.specs.List.{slice_split}
 use Rattle.asm_lines.specs.declared.fault.AsmFault.{AsmFault}
 use Rattle.asm_lines.specs.declared.fault.AsmFault.TheVariants as faults
 use Rattle.asm_lines.specs.Headers.{MethodHeader}
 use Rattle.asm_lines.specs.declared.statement.Statement.{Statement}
-use Rattle.asm_lines.specs.declared.statement.Statement.TheVariants.{Empty, Label, Directive, Instruction}
+use Rattle.asm_lines.specs.declared.statement.Statement.TheVariants.{Empty, Label, Rules, Directive, Instruction}
 use Rattle.asm_lines.specs.Texts.{content, first_word, after_word, is_label_name}
 use Rattle.asm_lines.specs.Operands.{filled, both, unsigned_of}
 use Rattle.asm_lines.specs.Drafts.{instruction_of}
+use Rattle.bpf_decode.specs.declared.rule_set.RuleSet.{RuleSet}
+use Rattle.bpf_decode.specs.declared.rule_set.RuleSet.TheVariants.{Two}
 use Rattle.bpf_decode.specs.Limits.{is_method_name}
 use Rattle.bpf_decode.specs.declared.limits.TheConstants.{CAPACITY_LIMIT}
 
@@ -30,6 +32,10 @@ unfoldable pub header_of : List ℕ → Result MethodHeader AsmFault
 header_of text =
     header_with (is_method_name (first_word text)) (first_word text) (flags_of (first_word (after_word text))) (after_word (after_word text))
 
+-- what stands behind `.rules`: 2, since a class of rule set 1 has no such line
+abbrev pub rules_of : List ℕ → Result RuleSet AsmFault
+rules_of text = if bytes_eq text (codes "2") then Ok Two else Err faults.Operand
+
 -- a label's line: its name and a colon
 unfoldable pub is_label_line : List ℕ → Bool
 is_label_line text = slice_index text (length text - 1) == 58 && is_label_name (take (length text - 1) text)
@@ -39,8 +45,9 @@ unfoldable pub statement_of : List ℕ → Statement
 statement_of text =
     if length text == 0 then Empty
     else (if is_label_line text then Label (take (length text - 1) text)
+    else (if bytes_eq (first_word text) (codes ".rules") then Rules (rules_of (after_word text))
     else (if bytes_eq (first_word text) (codes ".method") then Directive (header_of (after_word text))
-    else Instruction (instruction_of text)))
+    else Instruction (instruction_of text))))
 
 -- the lines of a text: what stands between line feeds, so that an empty one may be the last
 abbrev pub lines_of : List ℕ → List (List ℕ)

@@ -18,6 +18,6 @@ pub use fault::{AsmError, AsmFault};
 pub use form::Form;
 pub use header::Header;
 pub use number::Number;
-pub use print::{insns_text, methods_text};
+pub use print::{class_text, class_with_slots, insns_text};
 pub use statement::{Statement, statements};
 pub use target::{Name, Target};

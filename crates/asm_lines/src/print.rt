@@ -1,10 +1,10 @@
 ghost use Rattle.std.specs.Prelude.{◌≡◌, ◌++◌, ◌<◌, IfOk, OnOk, string_bytes, codes};
-ghost use Rattle.asm_lines.specs.Canonical.{register_text, source_text, offset_text, memory_text, hex_digits, wide_text, line_of, canonical_text, with_one, with_two, with_three, flags_text, directive_line, class_text};
+ghost use Rattle.asm_lines.specs.Canonical.{register_text, source_text, offset_text, memory_text, hex_digits, wide_text, line_of, canonical_text, with_one, with_two, with_three, flags_text, directive_line, methods_text, rules_text, class_text, slot_line, code_with_slots, methods_with_slots, class_with_slots};
 ghost use Rattle.asm_lines.specs.Printing.{item_text};
 ghost use Rattle.asm_lines.specs.Words.{word_of};
 
 use crate::form::Form;
-use bpf_decode::{Insn, Method, Operand, Register};
+use bpf_decode::{ClassImage, Insn, Method, Operand, Register, RuleSet, width};
 use std::alloc::{AllocError, Global};
 
 fn push_register(out: &mut String, register: Register) -> Result<(), AllocError>
@@ -281,12 +281,43 @@ fn push_directive(out: &mut String, method: &Method) -> Result<(), AllocError>
 }
 
 fn push_methods(out: &mut String, methods: &[Method]) -> Result<(), AllocError>
-    ensures { OnOk result (string_bytes out.new ≡ string_bytes out.old ++ class_text methods.now) }
+    ensures { OnOk result (string_bytes out.new ≡ string_bytes out.old ++ methods_text methods.now) }
 {
     for method in methods {
         push_directive(out, method)?;
         out.push_str("\n")?;
         push_insns(out, method.instructions())?;
+    }
+    Ok(())
+}
+
+/// An instruction's line with its slot in a comment, without its end.
+fn push_at_slot(out: &mut String, insn: Insn, slot: usize) -> Result<(), AllocError>
+    ensures { OnOk result (string_bytes out.new ≡ string_bytes out.old ++ slot_line slot insn) }
+{
+    push_insn(out, insn)?;
+    write!(out, " ; slot {slot}")
+}
+
+fn push_code_with_slots(out: &mut String, insns: &[Insn]) -> Result<(), AllocError>
+    ensures { OnOk result (string_bytes out.new ≡ string_bytes out.old ++ code_with_slots 0 insns.now) }
+{
+    let mut slot = 0;
+    for insn in insns {
+        push_at_slot(out, *insn, slot)?;
+        out.push_str("\n")?;
+        slot += width(insn);
+    }
+    Ok(())
+}
+
+fn push_methods_with_slots(out: &mut String, methods: &[Method]) -> Result<(), AllocError>
+    ensures { OnOk result (string_bytes out.new ≡ string_bytes out.old ++ methods_with_slots methods.now) }
+{
+    for method in methods {
+        push_directive(out, method)?;
+        out.push_str("\n")?;
+        push_code_with_slots(out, method.instructions())?;
     }
     Ok(())
 }
@@ -300,11 +331,32 @@ pub fn insns_text(alloc: Global, insns: &[Insn]) -> Result<String, AllocError>
     Ok(out)
 }
 
-/// The canonical text of methods. It is refused for want of memory alone.
-pub fn methods_text(alloc: Global, methods: &[Method]) -> Result<String, AllocError>
-    ensures { IfOk result (λ s. string_bytes s ≡ class_text methods.now) }
+/// The line of a rule set, with its end: rule set 1 has none.
+fn rules_line(rules: RuleSet) -> &'static str
+    ensures { result.now ≡ rules_text rules }
+{
+    match rules {
+        RuleSet::One => "",
+        RuleSet::Two => ".rules 2\n",
+    }
+}
+
+/// The canonical text of a class. It is refused for want of memory alone.
+pub fn class_text(alloc: Global, class: &ClassImage) -> Result<String, AllocError>
+    ensures { IfOk result (λ s. string_bytes s ≡ class_text class.now) }
 {
     let mut out = String::new(alloc);
-    push_methods(&mut out, methods)?;
+    out.push_str(rules_line(class.rules()))?;
+    push_methods(&mut out, class.methods())?;
+    Ok(out)
+}
+
+/// The canonical text of a class, with each instruction's slot in a comment. It is refused for want of memory alone.
+pub fn class_with_slots(alloc: Global, class: &ClassImage) -> Result<String, AllocError>
+    ensures { IfOk result (λ s. string_bytes s ≡ class_with_slots class.now) }
+{
+    let mut out = String::new(alloc);
+    out.push_str(rules_line(class.rules()))?;
+    push_methods_with_slots(&mut out, class.methods())?;
     Ok(out)
 }

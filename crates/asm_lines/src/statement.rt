@@ -3,7 +3,7 @@ ghost use Rattle.bpf_decode.specs.Limits.{between};
 ghost use Rattle.std.specs.Option.{option_map};
 ghost use Rattle.asm_lines.specs.Operands.{unsigned_of};
 ghost use Rattle.asm_lines.specs.Texts.{content};
-ghost use Rattle.asm_lines.specs.Statements.{flags_of, header_of, is_label_line, statement_of, lines_of, statements_of};
+ghost use Rattle.asm_lines.specs.Statements.{flags_of, header_of, rules_of, is_label_line, statement_of, lines_of, statements_of};
 
 use crate::draft::{Draft, instruction};
 use crate::fault::AsmFault;
@@ -11,7 +11,7 @@ use crate::header::Header;
 use crate::operand::{both, unsigned};
 use crate::target::Name;
 use crate::text::{after_word, content, first_word, is_label_name};
-use bpf_decode::{CAPACITY_LIMIT, is_method_name};
+use bpf_decode::{CAPACITY_LIMIT, RuleSet, is_method_name};
 use std::alloc::{AllocError, Global};
 
 /// What a line says, or its fault.
@@ -19,6 +19,7 @@ use std::alloc::{AllocError, Global};
 pub enum Statement<'a> {
     Empty,
     Label(Name<'a>),
+    Rules(Result<RuleSet, AsmFault>),
     Directive(Result<Header<'a>, AsmFault>),
     Instruction(Result<Draft<'a>, AsmFault>),
 }
@@ -71,6 +72,17 @@ fn read_header(text: &[u8]) -> Result<Header, AsmFault>
     }
 }
 
+/// What stands after `.rules`: 2. A class of rule set 1 has no such line.
+fn read_rules(text: &[u8]) -> Result<RuleSet, AsmFault>
+    ensures { result ≡ rules_of text.now }
+{
+    if text == b"2".as_slice() {
+        Ok(RuleSet::Two)
+    } else {
+        Err(AsmFault::Operand)
+    }
+}
+
 /// A label's name, if that is what the line has.
 #[tactic(auto, unfolding(crate::specs::Statements::is_label_line))]
 fn label_name(text: &[u8]) -> Option<&[u8]>
@@ -92,6 +104,9 @@ fn read_line(text: &[u8]) -> Statement
     }
     if let Some(name) = label_name(text) {
         return Statement::Label(Name::new(name));
+    }
+    if first_word(text) == b".rules".as_slice() {
+        return Statement::Rules(read_rules(after_word(text)));
     }
     if first_word(text) == b".method".as_slice() {
         return Statement::Directive(read_header(after_word(text)));

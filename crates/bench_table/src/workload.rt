@@ -2,7 +2,7 @@ ghost use Rattle.std.specs.Prelude.{◌≡◌, IfOk};
 ghost use Rattle.bench_table.specs.Workload.{code_bytes, first_length, IsClassOf, IsReady, RunsIn};
 
 use anyhow::Result;
-use bpf_decode::{ClassImage, Method, decode};
+use bpf_decode::{ClassImage, Method, RuleSet, decode};
 use interp::call;
 use std::alloc::{AllocError, Global};
 use verifier::{VerifiedClass, verify};
@@ -221,7 +221,7 @@ pub fn class_of(alloc: Global, code: &[u8], flags: u8, in_cap: u16) -> Result<Cl
     let code = decode(alloc, code)?;
     let mut methods = Vec::new(alloc);
     methods.push(Method::new(String::from_str(alloc, "f")?, flags, in_cap, 0, code))?;
-    Ok(ClassImage::new(methods)?)
+    Ok(ClassImage::new(methods, RuleSet::One)?)
 }
 
 /// How many instructions the class's first method has.

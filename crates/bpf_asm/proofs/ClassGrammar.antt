@@ -6,21 +6,23 @@ use Rattle.std.specs.List.{before_first, position_or_len}
 use Rattle.std.proofs.lemmas.Bool.Decides.{nat_tests}
 use Rattle.std.proofs.lemmas.List.{append-nil, length-append, take-append-drop}
 use Rattle.bpf_decode.specs.declared.insn.Insn.{Insn}
-use Rattle.bpf_decode.specs.Class.{ClassMethod}
+use Rattle.bpf_decode.specs.declared.rule_set.RuleSet.{RuleSet}
+use Rattle.bpf_decode.specs.declared.rule_set.RuleSet.TheVariants.{One}
+use Rattle.bpf_decode.specs.Class.{ClassMethod, Class}
 use Rattle.bpf_decode.specs.ImageReading.{is_above}
 use Rattle.asm_lines.specs.declared.fault.AsmFault.{AsmFault}
 use Rattle.asm_lines.specs.declared.fault.AsmFault.TheVariants as faults
 use Rattle.asm_lines.specs.declared.fault.AsmError.{AsmError}
 use Rattle.asm_lines.specs.declared.statement.Statement.{Statement}
-use Rattle.asm_lines.specs.declared.statement.Statement.TheVariants.{Empty, Label, Directive, Instruction}
+use Rattle.asm_lines.specs.declared.statement.Statement.TheVariants.{Empty, Label, Rules, Directive, Instruction}
 use Rattle.asm_lines.specs.Headers.{MethodHeader}
 use Rattle.asm_lines.specs.Statements.{statements_of}
 use Rattle.bpf_asm.specs.Bodies.{body, is_instruction, has_instruction}
-use Rattle.bpf_asm.specs.Classes.{is_directive, last_name, opening_fault, method_with, with_body, unless_fault, method_at, next_method, class_from, bare_class_fault, read_class_text}
+use Rattle.bpf_asm.specs.Classes.{is_directive, last_name, opening_fault, method_with, with_body, unless_fault, method_at, next_method, class_from, with_rules, ruled_from, bare_class_fault, read_class_text}
 use Rattle.asm_lines.specs.Fault.{no_memory}
 use Rattle.asm_lines.specs.Canonical.{class_text}
 use Rattle.bpf_asm.specs.Laws.{ClassTextsAreInGrammar}
-use Rattle.bpf_asm.specs.Grammar.{AreMethodLines, BeginsWithMethod, SayMethods, NamesAbove, AreClassLines, IsClassText}
+use Rattle.bpf_asm.specs.Grammar.{AreMethodLines, BeginsWithMethod, BeginsWith, SayMethods, NamesAbove, AreClassLines, IsClassText}
 use Rattle.bpf_asm.proofs.StatementRelations.{text_says, says_text}
 use Rattle.bpf_asm.proofs.ClassTexts.{class_texts_give_back}
 use Rattle.bpf_asm.proofs.GrammarLemmas.{lines_read, read_lines, lines_have}
@@ -68,6 +70,8 @@ class_reads [] ms (Empty ∷ ss) line s b n few some = class_reads [] ms ss (lin
 class_reads (d ∷ ds) ms (Empty ∷ ss) line s b n few some = class_reads (d ∷ ds) ms ss (line + 1) s tt n few some
 class_reads [] ms (Label name ∷ ss) line s b n few some = absurd b
 class_reads (d ∷ ds) ms (Label name ∷ ss) line s b n few some = rw (some_methods d ds) (class_reads (d ∷ ds) ms ss (line + 1) s tt n few some)
+class_reads [] ms (Rules r ∷ ss) line s b n few some = absurd b
+class_reads (d ∷ ds) ms (Rules r ∷ ss) line s b n few some = rw (some_methods d ds) (class_reads (d ∷ ds) ms ss (line + 1) s tt n few some)
 class_reads [] ms (Instruction i ∷ ss) line s b n few some = absurd b
 class_reads (d ∷ ds) ms (Instruction i ∷ ss) line s b n few some = rw (some_methods d ds) (class_reads (d ∷ ds) ms ss (line + 1) s tt n few some)
 class_reads done [] (Directive h ∷ ss) line s b n few some = absurd s
@@ -77,6 +81,19 @@ class_reads done (m ∷ ms) (Directive (Ok h) ∷ ss) line s b n few some =
     let next : NamesAbove (last_name [] (done ++ (m ∷ []))) ms = rw (last_push [] done m) n.1 in
     rw (opens done line h m (before_first is_directive ss) (omega arith) n.0 s.0 s.1)
     (class_reads (done ++ (m ∷ [])) ms ss (line + 1) s.2 (begun_push done m ss) next (omega arith) (omega arith) ∙ ap (λ r. Ok r) (append_assoc done (m ∷ []) ms))
+
+abbrev class_with : RuleSet → List ClassMethod → Class
+class_with rules ms = record { rules = rules; methods = ms }
+
+ruled_reads : (rules : RuleSet) (ms : List ClassMethod) (ss : List Statement) (line : ℕ) → BeginsWith rules ss → SayMethods ss ms → NamesAbove [] ms → 1 ≤ length ms → length ms ≤ 32 → ruled_from line ss ≡ Ok (class_with rules ms)
+unfolding ruled_from
+ruled_reads rules ms [] line b s n some few = rw (b, class_reads [] ms [] line s tt n (omega arith) (omega arith)) refl
+ruled_reads rules ms (Empty ∷ ss) line b s n some few = ruled_reads rules ms ss (line + 1) b s n some few
+ruled_reads rules ms (Label name ∷ ss) line b s n some few = absurd b
+ruled_reads rules ms (Rules (Ok set) ∷ ss) line b s n some few = rw (b.0, class_reads [] ms ss (line + 1) s b.1 n (omega arith) (omega arith)) refl
+ruled_reads rules ms (Rules (Err f) ∷ ss) line b s n some few = absurd b
+ruled_reads rules ms (Directive h ∷ ss) line b s n some few = rw (b, class_reads [] ms (Directive h ∷ ss) line s tt n (omega arith) (omega arith)) refl
+ruled_reads rules ms (Instruction i ∷ ss) line b s n some few = absurd b
 
 -- ---- what is read is in the grammar
 
@@ -144,6 +161,10 @@ was_class [] line (Label name ∷ ss) r few h = absurd cc
 was_class (d ∷ ds) line (Label name ∷ ss) r few h =
     let rest = was_class (d ∷ ds) (line + 1) ss r few (rw (some_methods d ds) at h) in
     record { methods = rest.methods; whole = rest.whole; says = rest.says; begins = tt; names = rest.names; limit = rest.limit; some = rest.some }
+was_class [] line (Rules set ∷ ss) r few h = absurd cc
+was_class (d ∷ ds) line (Rules set ∷ ss) r few h =
+    let rest = was_class (d ∷ ds) (line + 1) ss r few (rw (some_methods d ds) at h) in
+    record { methods = rest.methods; whole = rest.whole; says = rest.says; begins = tt; names = rest.names; limit = rest.limit; some = rest.some }
 was_class [] line (Instruction i ∷ ss) r few h = absurd cc
 was_class (d ∷ ds) line (Instruction i ∷ ss) r few h =
     let rest = was_class (d ∷ ds) (line + 1) ss r few (rw (some_methods d ds) at h) in
@@ -167,27 +188,50 @@ was_class done line (Directive (Ok k) ∷ ss) r few h =
       some = omega arith;
     }
 
+-- with a rule set
+read_with : (rules : RuleSet) (r : Result (List ClassMethod) AsmError) (c : Class) → with_rules rules r ≡ Ok c → (r ≡ Ok c.methods) × (rules ≡ c.rules)
+read_with rules (Err e) c h = absurd cc
+read_with rules (Ok ms) c h =
+    let same : class_with rules ms ≡ c = cc in
+    (ap (λ (x : Class). Ok x.methods) same, ap (λ (x : Class). x.rules) same)
+
+-- what class_from reads behind the rule set
+behind : (c : Class) (line : ℕ) (ss all : List Statement) → class_from [] line ss ≡ Ok c.methods → (SayMethods ss c.methods → SayMethods all c.methods) → (BeginsWithMethod ss → BeginsWith c.rules all) → AreClassLines all c
+behind c line ss all h says begins =
+    let w = was_class [] line ss c.methods (omega arith) h in
+    let P : List ClassMethod → Type 0 = λ v. SayMethods ss v × NamesAbove [] v × (1 ≤ length v) × (length v ≤ 32) in
+    let read = subst P (sym w.whole) (w.says, w.names, omega (arith, w.some), omega (arith, w.limit)) in
+    record { begins = begins w.begins; methods = says read.0; names = read.1; some = read.2; limit = read.3 }
+
+was_ruled : (line : ℕ) (ss : List Statement) (c : Class) → ruled_from line ss ≡ Ok c → AreClassLines ss c
+unfolding ruled_from
+was_ruled line [] c h = let r = read_with One (class_from [] line []) c h in behind c line [] [] r.0 (λ s. s) (λ b. sym r.1)
+was_ruled line (Empty ∷ ss) c h =
+    let rest = was_ruled (line + 1) ss c h in
+    record { begins = rest.begins; methods = rest.methods; names = rest.names; some = rest.some; limit = rest.limit }
+was_ruled line (Label name ∷ ss) c h = let r = read_with One (class_from [] line (Label name ∷ ss)) c h in behind c line (Label name ∷ ss) (Label name ∷ ss) r.0 (λ s. s) (λ b. absurd b)
+was_ruled line (Rules (Ok set) ∷ ss) c h = let r = read_with set (class_from [] (line + 1) ss) c h in behind c (line + 1) ss (Rules (Ok set) ∷ ss) r.0 (λ s. s) (λ b. (r.1, b))
+was_ruled line (Rules (Err f) ∷ ss) c h = absurd cc
+was_ruled line (Directive d ∷ ss) c h = let r = read_with One (class_from [] line (Directive d ∷ ss)) c h in behind c line (Directive d ∷ ss) (Directive d ∷ ss) r.0 (λ s. s) (λ b. sym r.1)
+was_ruled line (Instruction i ∷ ss) c h = let r = read_with One (class_from [] line (Instruction i ∷ ss)) c h in behind c line (Instruction i ∷ ss) (Instruction i ∷ ss) r.0 (λ s. s) (λ b. absurd b)
+
 -- ---- both ways
 
-if_then : (b : Bool) (x : Result (List ClassMethod) AsmError) (e : AsmError) (ms : List ClassMethod) → cond b x (Err e) ≡ Ok ms → (b ≡ true) × (x ≡ Ok ms)
-if_then true x e ms h = (refl, h)
-if_then false x e ms h = absurd cc
+if_then : (b : Bool) (x : Result Class AsmError) (e : AsmError) (c : Class) → cond b x (Err e) ≡ Ok c → (b ≡ true) × (x ≡ Ok c)
+if_then true x e c h = (refl, h)
+if_then false x e c h = absurd cc
 
 pub before_other : (s : Statement) (ss : List Statement) → is_directive s ≡ false → before_first is_directive (s ∷ ss) ≡ s ∷ before_first is_directive ss
 before_other s ss h =
     let next : 1 + position_or_len is_directive ss ≡ suc (position_or_len is_directive ss) = omega arith in
     rw (h, next) refl
 
-pub read_is_class_text : (text : List ℕ) (ms : List ClassMethod) → read_class_text text ≡ Ok ms → IsClassText text ms
+pub read_is_class_text : (text : List ℕ) (c : Class) → read_class_text text ≡ Ok c → IsClassText text c
 unfolding read_class_text
-read_is_class_text text ms h =
+read_is_class_text text c h =
     let ss = statements_of text in
-    let p = if_then (has_instruction ss) (class_from [] 1 ss) (record { line = 1; fault = bare_class_fault ss }) ms h in
-    let w = was_class [] 1 ss ms (omega arith) p.1 in
-    let P : List ClassMethod → Type 0 = λ v. SayMethods ss v × NamesAbove [] v × (1 ≤ length v) × (length v ≤ 32) in
-    let all = subst P (sym w.whole) (w.says, w.names, omega (arith, w.some), omega (arith, w.limit)) in
-    let lines : AreClassLines ss ms = record { begins = w.begins; methods = all.0; names = all.1; some = all.2; limit = all.3 } in
-    record { lines = ss; say = text_says text; class = lines }
+    let p = if_then (has_instruction ss) (ruled_from 1 ss) (record { line = 1; fault = bare_class_fault ss }) c h in
+    record { lines = ss; say = text_says text; class = was_ruled 1 ss c p.1 }
 
 prefix_has : (n : ℕ) (xs : List Statement) → has_instruction (take n xs) ≡ true → has_instruction xs ≡ true
 prefix_has n xs h =
@@ -202,40 +246,39 @@ says_have [] [] s n = absurd (omega arith)
 says_have [] (m ∷ ms) s n = absurd s
 says_have (Empty ∷ ss) ms s n = says_have ss ms s n
 says_have (Label name ∷ ss) ms s n = says_have ss ms s n
+says_have (Rules r ∷ ss) ms s n = says_have ss ms s n
 says_have (Instruction i ∷ ss) ms s n = some_instruction i ss
 says_have (Directive h ∷ ss) [] s n = absurd s
 says_have (Directive h ∷ ss) (m ∷ ms) s n = prefix_has _ ss (lines_have (before_first is_directive ss) m.instructions s.1)
 
-pub class_text_is_read : (text : List ℕ) (ms : List ClassMethod) → IsClassText text ms → read_class_text text ≡ Ok ms
+pub class_text_is_read : (text : List ℕ) (c : Class) → IsClassText text c → read_class_text text ≡ Ok c
 unfolding read_class_text
-class_text_is_read text ms h =
-    let c = h.class in
-    let some = c.some in
-    let limit = c.limit in
-    rw (says_text text h.lines h.say, says_have h.lines ms c.methods some) (class_reads [] ms h.lines 1 c.methods c.begins c.names (omega arith) (omega arith))
+class_text_is_read text c h =
+    let l = h.class in
+    rw (says_text text h.lines h.say, says_have h.lines c.methods l.methods l.some) (ruled_reads c.rules c.methods h.lines 1 l.begins l.methods l.names l.some l.limit)
 
 -- a text that is refused is none of the grammar
-refused_is_no_class : (text : List ℕ) (e : AsmError) (ms : List ClassMethod) → read_class_text text ≡ Err e → IsClassText text ms → ⊥
-refused_is_no_class text e ms h t = let read = class_text_is_read text ms t in absurd cc
+refused_is_no_class : (text : List ℕ) (e : AsmError) (c : Class) → read_class_text text ≡ Err e → IsClassText text c → ⊥
+refused_is_no_class text e c h t = let read = class_text_is_read text c t in absurd cc
 
-pub no_class_if_refused : {V : Type 0} (r : Result V AsmError) (text : List ℕ) → IfErr r (λ e. (e ≡ no_memory) ⊎ (read_class_text text ≡ Err e)) → IfErr r (λ e. (e ≡ no_memory) ⊎ ((ms : List ClassMethod) → ¬ IsClassText text ms))
+pub no_class_if_refused : {V : Type 0} (r : Result V AsmError) (text : List ℕ) → IfErr r (λ e. (e ≡ no_memory) ⊎ (read_class_text text ≡ Err e)) → IfErr r (λ e. (e ≡ no_memory) ⊎ ((c : Class) → ¬ IsClassText text c))
 no_class_if_refused (Ok v) text h = tt
 no_class_if_refused (Err e) text (inl h) = inl h
-no_class_if_refused (Err e) text (inr h) = inr (λ ms t. refused_is_no_class text e ms h t)
+no_class_if_refused (Err e) text (inr h) = inr (λ c t. refused_is_no_class text e c h t)
 
 -- a text is of one class alone
-one_class_reading : (text : List ℕ) (v ms : List ClassMethod) → read_class_text text ≡ Ok v → IsClassText text ms → ms ≡ v
-one_class_reading text v ms h t = let read = class_text_is_read text ms t in cc
+one_class_reading : (text : List ℕ) (c d : Class) → read_class_text text ≡ Ok c → IsClassText text d → d ≡ c
+one_class_reading text c d h t = let read = class_text_is_read text d t in cc
 
-pub one_class_if_read : (r : Result (List ClassMethod) AsmError) (text : List ℕ) → IfOk r (λ c. read_class_text text ≡ Ok c) → IfOk r (λ c. (ms : List ClassMethod) → IsClassText text ms → ms ≡ c)
+pub one_class_if_read : (r : Result Class AsmError) (text : List ℕ) → IfOk r (λ c. read_class_text text ≡ Ok c) → IfOk r (λ c. (d : Class) → IsClassText text d → d ≡ c)
 one_class_if_read (Err e) text h = tt
-one_class_if_read (Ok v) text h = λ ms t. one_class_reading text v ms h t
+one_class_if_read (Ok c) text h = λ d t. one_class_reading text c d h t
 
 -- and what is read is in the grammar
-pub class_text_if_read : (r : Result (List ClassMethod) AsmError) (text : List ℕ) → IfOk r (λ c. read_class_text text ≡ Ok c) → IfOk r (λ c. IsClassText text c)
+pub class_text_if_read : (r : Result Class AsmError) (text : List ℕ) → IfOk r (λ c. read_class_text text ≡ Ok c) → IfOk r (λ c. IsClassText text c)
 class_text_if_read (Err e) text h = tt
 class_text_if_read (Ok v) text h = read_is_class_text text v h
 
 -- the canonical text of a class is in the grammar
 pub class_texts_in_grammar : ClassTextsAreInGrammar
-class_texts_in_grammar ms h = read_is_class_text (class_text ms) ms (class_texts_give_back ms h)
+class_texts_in_grammar c h = read_is_class_text (class_text c) c (class_texts_give_back c h)

@@ -8,20 +8,22 @@ use Rattle.std.proofs.lemmas.Fmt.{decimal_nonempty}
 use Rattle.std.proofs.lemmas.List.{append-nil, length-append}
 use Rattle.bpf_decode.specs.declared.insn.Insn.{Insn}
 use Rattle.bpf_decode.specs.Instruction.{AllFit, slot_total, slot_count}
-use Rattle.bpf_decode.specs.Class.{ClassMethod, IsNameByte, IsMethod, NamesRise}
+use Rattle.bpf_decode.specs.declared.rule_set.RuleSet.{RuleSet}
+use Rattle.bpf_decode.specs.declared.rule_set.RuleSet.TheVariants.{One, Two}
+use Rattle.bpf_decode.specs.Class.{ClassMethod, Class, IsClass, IsNameByte, IsMethod, NamesRise}
 use Rattle.bpf_decode.specs.Limits.{between, is_name_byte, are_name_bytes}
 use Rattle.bpf_decode.specs.ImageReading.{is_above}
 use Rattle.asm_lines.specs.declared.fault.AsmFault.{AsmFault}
 use Rattle.asm_lines.specs.declared.fault.AsmError.{AsmError}
 use Rattle.asm_lines.specs.declared.statement.Statement.{Statement}
-use Rattle.asm_lines.specs.declared.statement.Statement.TheVariants.{Empty, Directive, Instruction}
+use Rattle.asm_lines.specs.declared.statement.Statement.TheVariants.{Empty, Rules, Directive, Instruction}
 use Rattle.asm_lines.specs.Headers.{MethodHeader}
 use Rattle.asm_lines.specs.Texts.{is_blank, trim_start, trim_end, content, first_word, after_word}
 use Rattle.asm_lines.specs.Operands.{unsigned_of}
 use Rattle.asm_lines.specs.Statements.{flags_of, header_of, statement_of, statements_of}
-use Rattle.asm_lines.specs.Canonical.{flags_text, directive_line, canonical_text, class_text, line_of}
+use Rattle.asm_lines.specs.Canonical.{flags_text, directive_line, canonical_text, methods_text, rules_text, class_text, line_of}
 use Rattle.bpf_asm.specs.Bodies.{body_from, body, has_instruction}
-use Rattle.bpf_asm.specs.Classes.{is_directive, last_name, method_at, class_from, read_class_text}
+use Rattle.bpf_asm.specs.Classes.{is_directive, last_name, method_at, class_from, with_rules, ruled_from, read_class_text}
 use Rattle.bpf_asm.specs.Laws.{ClassTextsGiveBack}
 use Rattle.bpf_asm.proofs.PlainBytes.{is_plain, is_quiet, Free, and_left, plain_blank, before_at, before_none, drop_seam, trim_end_free, trim_end_behind, trim_start_stays, trim_start_space, blanks_free, quiet_where, all_append}
 use Rattle.bpf_asm.proofs.NumberTexts.{plain_decimal, decimal_plain}
@@ -147,7 +149,7 @@ words_quiet m h =
     (all_append is_quiet (flags_text m.flags) (32 ∷ (decimal m.in_cap ++ (32 ∷ decimal m.out_cap))) (quiet_where (flags_text m.flags) (flags_plain m.flags))
     (all_append is_quiet (decimal m.in_cap) (32 ∷ decimal m.out_cap) in_quiet out_quiet))
 
-directive_quiet : (m : ClassMethod) → IsMethod m → list_all is_quiet (directive_line m) ≡ true
+pub directive_quiet : (m : ClassMethod) → IsMethod m → list_all is_quiet (directive_line m) ≡ true
 directive_quiet m h = ap (list_all is_quiet) (shape m) ∙ words_quiet m h
 
 states_directive : (m : ClassMethod) → IsMethod m → statement_of (codes ".method " ++ words m) ≡ Directive (Ok (header m))
@@ -182,12 +184,12 @@ insns_text (i ∷ is) rest h =
     ∙ one_line (line_of i) (canonical_text is ++ rest) (Instruction (Ok (unresolved i))) (line_quiet i h.0) (line_says i h.0)
     ∙ ap (λ r. Instruction (Ok (unresolved i)) ∷ r) (insns_text is rest h.1)
 
-class_says : (ms : List ClassMethod) → AllByRecursion IsMethod ms → statements_of (class_text ms) ≡ said_class ms
+class_says : (ms : List ClassMethod) → AllByRecursion IsMethod ms → statements_of (methods_text ms) ≡ said_class ms
 class_says [] h = no_line
 class_says (m ∷ ms) h =
-    ap statements_of (append_assoc (directive_line m ++ codes "\n") (canonical_text m.instructions) (class_text ms))
-    ∙ one_line (directive_line m) (canonical_text m.instructions ++ class_text ms) (Directive (Ok (header m))) (directive_quiet m h.0) (says_directive m h.0)
-    ∙ ap (λ r. Directive (Ok (header m)) ∷ r) (insns_text m.instructions (class_text ms) h.0.fit ∙ ap (λ r. said m.instructions ++ r) (class_says ms h.1))
+    ap statements_of (append_assoc (directive_line m ++ codes "\n") (canonical_text m.instructions) (methods_text ms))
+    ∙ one_line (directive_line m) (canonical_text m.instructions ++ methods_text ms) (Directive (Ok (header m))) (directive_quiet m h.0) (says_directive m h.0)
+    ∙ ap (λ r. Directive (Ok (header m)) ∷ r) (insns_text m.instructions (methods_text ms) h.0.fit ∙ ap (λ r. said m.instructions ++ r) (class_says ms h.1))
 
 -- ---- reading them
 
@@ -296,11 +298,57 @@ names_from : (ms : List ClassMethod) → AllByRecursion IsMethod ms → NamesRis
 names_from [] h r = tt
 names_from (m ∷ ms) h r = (above_none m.name h.0.named, names_above m ms r)
 
+-- ---- the rule set
+
+pub rules_quiet : list_all is_quiet (codes ".rules 2") ≡ true
+rules_quiet = refl
+
+states_rules : statement_of (codes ".rules 2") ≡ Rules (Ok Two)
+unfolding statement_of first_word after_word trim_start
+states_rules = rw (no_label_line (codes ".rules 2") rules_quiet) refl
+
+rules_solid : trim_end (codes ".rules 2") ≡ codes ".rules 2"
+unfolding trim_end
+rules_solid = refl
+
+says_rules : statement_of (content (codes ".rules 2")) ≡ Rules (Ok Two)
+says_rules = ap statement_of (content_same 46 (codes "rules 2") rules_quiet refl rules_solid) ∙ states_rules
+
+-- what the lines of a class say
+abbrev said_ruled : RuleSet → List ClassMethod → List Statement
+said_ruled One ms = said_class ms
+said_ruled Two ms = Rules (Ok Two) ∷ said_class ms
+
+ruled_says : (rules : RuleSet) (ms : List ClassMethod) → AllByRecursion IsMethod ms → statements_of (rules_text rules ++ methods_text ms) ≡ said_ruled rules ms
+ruled_says One ms h = class_says ms h
+ruled_says Two ms h = one_line (codes ".rules 2") (methods_text ms) (Rules (Ok Two)) rules_quiet says_rules ∙ ap (λ r. Rules (Ok Two) ∷ r) (class_says ms h)
+
+rules_has : (rest : List Statement) → has_instruction rest ≡ true → has_instruction (Rules (Ok Two) ∷ rest) ≡ true
+rules_has rest h = h
+
+ruled_has : (rules : RuleSet) (ms : List ClassMethod) → AllByRecursion IsMethod ms → 1 ≤ length ms → has_instruction (said_ruled rules ms) ≡ true
+ruled_has One ms h some = class_has ms h some
+ruled_has Two ms h some = rules_has (said_class ms) (class_has ms h some)
+
+-- methods alone are a class of rule set 1
+ruled_one : (ms : List ClassMethod) (line : ℕ) → 1 ≤ length ms → ruled_from line (said_class ms) ≡ with_rules One (class_from [] line (said_class ms))
+unfolding ruled_from
+ruled_one [] line some = absurd (omega arith)
+ruled_one (m ∷ ms) line some = refl
+
+ruled_reads : (rules : RuleSet) (ms : List ClassMethod) → IsClass ms → ruled_from 1 (said_ruled rules ms) ≡ Ok (record { rules = rules; methods = ms })
+unfolding ruled_from
+ruled_reads One ms c =
+    let some = c.some in
+    let limit = c.limit in
+    ruled_one ms 1 some ∙ ap (with_rules One) (class_reads [] ms c.methods (omega arith) (names_from ms c.methods c.names) (omega arith) 1)
+ruled_reads Two ms c =
+    let some = c.some in
+    let limit = c.limit in
+    ap (with_rules Two) (class_reads [] ms c.methods (omega arith) (names_from ms c.methods c.names) (omega arith) 2)
+
 -- the canonical text gives the class back
 pub class_texts_give_back : ClassTextsGiveBack
 unfolding read_class_text
-class_texts_give_back ms c =
-    let methods = c.methods in
-    let some = c.some in
-    let limit = c.limit in
-    rw (class_says ms methods, class_has ms methods some) (class_reads [] ms methods (omega arith) (names_from ms methods c.names) (omega arith) 1)
+class_texts_give_back c h =
+    rw (ruled_says c.rules c.methods h.methods, ruled_has c.rules c.methods h.methods h.some) (ruled_reads c.rules c.methods h)

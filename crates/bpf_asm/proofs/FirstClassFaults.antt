@@ -5,20 +5,22 @@ use Rattle.std.specs.List.{before_first}
 use Rattle.std.proofs.lemmas.Bool.Decides.{nat_tests}
 use Rattle.std.proofs.lemmas.List.{length-append}
 use Rattle.bpf_decode.specs.declared.insn.Insn.{Insn}
-use Rattle.bpf_decode.specs.Class.{ClassMethod}
+use Rattle.bpf_decode.specs.declared.rule_set.RuleSet.{RuleSet}
+use Rattle.bpf_decode.specs.declared.rule_set.RuleSet.TheVariants.{One}
+use Rattle.bpf_decode.specs.Class.{ClassMethod, Class}
 use Rattle.bpf_decode.specs.ImageReading.{is_above}
 use Rattle.asm_lines.specs.declared.fault.AsmFault.{AsmFault}
 use Rattle.asm_lines.specs.declared.fault.AsmFault.TheVariants as faults
 use Rattle.asm_lines.specs.declared.fault.AsmError.{AsmError}
 use Rattle.asm_lines.specs.declared.draft.Draft.{Draft}
 use Rattle.asm_lines.specs.declared.statement.Statement.{Statement}
-use Rattle.asm_lines.specs.declared.statement.Statement.TheVariants.{Empty, Label, Directive, Instruction}
+use Rattle.asm_lines.specs.declared.statement.Statement.TheVariants.{Empty, Label, Rules, Directive, Instruction}
 use Rattle.asm_lines.specs.Fault.{fault_number, no_memory}
 use Rattle.asm_lines.specs.Headers.{MethodHeader}
 use Rattle.asm_lines.specs.Statements.{statements_of}
 use Rattle.bpf_asm.specs.Bodies.{body, has_instruction}
-use Rattle.bpf_asm.specs.Classes.{is_directive, last_name, method_with, with_body, unless_fault, next_method, class_from, bare_class_fault, read_class_text}
-use Rattle.bpf_asm.specs.Faults.{LineFault, LinesHaveFault, slot_behind, Place, top, next_place, OpeningFault, EarlyFault, ClassLineFault, ClassLinesHaveFault, HasClassFault, IsFirstFault, RefusesClassText, IsFaultlessClass}
+use Rattle.bpf_asm.specs.Classes.{is_directive, last_name, method_with, with_body, unless_fault, next_method, class_from, with_rules, ruled_from, bare_class_fault, read_class_text}
+use Rattle.bpf_asm.specs.Faults.{LineFault, LinesHaveFault, slot_behind, Place, top, next_place, OpeningFault, RulesFault, EarlyFault, ClassLineFault, ClassLinesHaveFault, HasClassFault, IsFirstFault, RefusesClassText, IsFaultlessClass}
 use Rattle.bpf_asm.proofs.StatementRelations.{text_says}
 use Rattle.bpf_asm.proofs.BodyTexts.{some_instruction}
 use Rattle.bpf_asm.proofs.ClassGrammar.{last_push, before_other, some_methods}
@@ -102,6 +104,13 @@ label_inside p name ss some = record { above = refl; to = at; from = λ g h. inr
     at : (g : AsmFault) → ClassLineFault p (Label name) ss g → LineFault p.lines p.above p.slot (Label name) g
     at g (inl h) = not_early p g some h
     at g (inr h) = h
+
+rules_inside : (p : Place) (r : Result RuleSet AsmFault) (ss : List Statement) → 1 ≤ p.methods → IsInside p (Rules r) ss
+rules_inside p r ss some = record { above = refl; to = at; from = λ g h. inl (inr some, h) }
+  where
+    at : (g : AsmFault) → ClassLineFault p (Rules r) ss g → LineFault p.lines p.above p.slot (Rules r) g
+    at g (inl h) = h.1
+    at g (inr h) = let none = h.0 in absurd (omega arith)
 
 instruction_inside : (p : Place) (d : Result Draft AsmFault) (ss : List Statement) → 1 ≤ p.methods → IsInside p (Instruction d) ss
 instruction_inside p d ss some = record { above = refl; to = at; from = λ g h. inr h }
@@ -190,6 +199,12 @@ below line (Label name ∷ ss) (d ∷ ds) p br k some jb =
     (inside p line (Label name) ss (before_first is_directive ss) br _ (label_inside p name ss (omega arith))
     (rw (before_other (Label name) ss refl) at jb)
     (below (line + 1) ss (d ∷ ds) (next_place p (Label name) ss) br (record { count = k.count; named = k.named }) some))
+below line (Rules r ∷ ss) (d ∷ ds) p br k some jb =
+    let count = k.count in
+    rw (some_methods d ds)
+    (inside p line (Rules r) ss (before_first is_directive ss) br _ (rules_inside p r ss (omega arith))
+    (rw (before_other (Rules r) ss refl) at jb)
+    (below (line + 1) ss (d ∷ ds) (next_place p (Rules r) ss) br (record { count = k.count; named = k.named }) some))
 below line (Instruction i ∷ ss) (d ∷ ds) p br k some jb =
     let count = k.count in
     rw (some_methods d ds)
@@ -198,13 +213,52 @@ below line (Instruction i ∷ ss) (d ∷ ds) p br k some jb =
     (below (line + 1) ss (d ∷ ds) (next_place p (Instruction i) ss) br (record { count = k.count; named = k.named }) some))
 
 -- before the first `.method`
-early : (p : Place) (line : ℕ) (ss : List Statement) → Knows p [] → has_instruction ss ≡ true → Judged (ClassLinesHaveFault p line ss) (class_from [] line ss)
+early_label : (p : Place) (line : ℕ) (name : List ℕ) (ss : List Statement) → Knows p [] → Judged (ClassLinesHaveFault p line (Label name ∷ ss)) (class_from [] line (Label name ∷ ss))
 unfolding class_from
-early p line [] k some = absurd cc
-early p line (Empty ∷ ss) k some = goes_on p line Empty ss _ (λ g h. h) (early (next_place p Empty ss) (line + 1) ss (record { count = k.count; named = k.named }) some)
-early p line (Label name ∷ ss) k some = stops p line (Label name) ss faults.Word (inl (k.count, refl)) (λ g h. some_number g)
-early p line (Instruction d ∷ ss) k some = stops p line (Instruction d) ss faults.Word (inl (k.count, refl)) (λ g h. some_number g)
-early p line (Directive h ∷ ss) k some = directive [] p line h ss k (below (line + 1) ss)
+early_label p line name ss k = stops p line (Label name) ss faults.Word (inl (k.count, refl)) (λ g h. some_number g)
+
+early_instruction : (p : Place) (line : ℕ) (d : Result Draft AsmFault) (ss : List Statement) → Knows p [] → Judged (ClassLinesHaveFault p line (Instruction d ∷ ss)) (class_from [] line (Instruction d ∷ ss))
+unfolding class_from
+early_instruction p line d ss k = stops p line (Instruction d) ss faults.Word (inl (k.count, refl)) (λ g h. some_number g)
+
+-- and behind a `.rules`
+early : (p : Place) (line : ℕ) (ss : List Statement) → Knows p [] → p.ruled ≡ true → has_instruction ss ≡ true → Judged (ClassLinesHaveFault p line ss) (class_from [] line ss)
+unfolding class_from
+early p line [] k ruled some = absurd cc
+early p line (Empty ∷ ss) k ruled some = goes_on p line Empty ss _ (λ g h. h) (early (next_place p Empty ss) (line + 1) ss (record { count = k.count; named = k.named }) ruled some)
+early p line (Label name ∷ ss) k ruled some = early_label p line name ss k
+early p line (Rules r ∷ ss) k ruled some = stops p line (Rules r) ss faults.Word (inl (inl ruled, refl)) (λ g h. some_number g)
+early p line (Instruction d ∷ ss) k ruled some = early_instruction p line d ss k
+early p line (Directive h ∷ ss) k ruled some = directive [] p line h ss k (below (line + 1) ss)
+
+-- the same answer with a rule set
+ruled : (rules : RuleSet) (Has : ℕ → AsmFault → Type 0) (r : Result (List ClassMethod) AsmError) → Judged Has r → Judged Has (with_rules rules r)
+ruled rules Has (Ok ms) j = j
+ruled rules Has (Err e) j = j
+
+-- a `.rules` that nothing stands above has no fault of its place
+unruled : (p : Place) (r : Result RuleSet AsmFault) (g : AsmFault) → Knows p [] → p.ruled ≡ false → RulesFault p r g → (f : AsmFault) → r ≡ Err f → g ≡ f
+unruled p r g k none (inl (inl h, w)) f e = absurd cc
+unruled p r g k none (inl (inr h, w)) f e = let count = k.count in absurd (omega arith)
+unruled p (Ok set) g k none (inr h) f e = absurd h.1
+unruled p (Err d) g k none (inr h) f e = let same : d ≡ f = cc in h.1 ∙ same
+
+fine_rules : (p : Place) (rules : RuleSet) (ss : List Statement) → Knows p [] → p.ruled ≡ false → (g : AsmFault) → ClassLineFault p (Rules (Ok rules)) ss g → ⊥
+fine_rules p rules ss k none g (inl (inl h, w)) = absurd cc
+fine_rules p rules ss k none g (inl (inr h, w)) = let count = k.count in absurd (omega arith)
+fine_rules p rules ss k none g (inr h) = h.1
+
+first : (p : Place) (line : ℕ) (ss : List Statement) → Knows p [] → p.ruled ≡ false → has_instruction ss ≡ true → Judged (ClassLinesHaveFault p line ss) (ruled_from line ss)
+unfolding ruled_from
+first p line [] k none some = absurd cc
+first p line (Empty ∷ ss) k none some = goes_on p line Empty ss _ (λ g h. h) (first (next_place p Empty ss) (line + 1) ss (record { count = k.count; named = k.named }) none some)
+first p line (Label name ∷ ss) k none some = ruled One (ClassLinesHaveFault p line (Label name ∷ ss)) _ (early_label p line name ss k)
+first p line (Rules (Ok rules) ∷ ss) k none some =
+    goes_on p line (Rules (Ok rules)) ss _ (fine_rules p rules ss k none)
+    (ruled rules (ClassLinesHaveFault (next_place p (Rules (Ok rules)) ss) (line + 1) ss) _ (early (next_place p (Rules (Ok rules)) ss) (line + 1) ss (record { count = k.count; named = k.named }) refl some))
+first p line (Rules (Err f) ∷ ss) k none some = stops p line (Rules (Err f)) ss f (inr (k.count, refl)) (λ g h. rw (unruled p (Err f) g k none h f refl) (omega arith))
+first p line (Instruction d ∷ ss) k none some = ruled One (ClassLinesHaveFault p line (Instruction d ∷ ss)) _ (early_instruction p line d ss k)
+first p line (Directive h ∷ ss) k none some = ruled One (ClassLinesHaveFault p line (Directive h ∷ ss)) _ (directive [] p line h ss k (below (line + 1) ss))
 
 -- ---- texts
 
@@ -236,6 +290,10 @@ lower_is : (f : AsmFault) (b : Bool) → b ≡ nat_le (fault_number f) 3 → (fa
 lower_is f true e = let low : fault_number f ≤ 3 = grind (arith, nat_tests) in (low, omega arith)
 lower_is f false e = let high : 3 < fault_number f = grind (arith, nat_tests) in (omega arith, omega arith)
 
+has_lower_rules : (f : AsmFault) (ss : List Statement) (b : Bool) → has_instruction (Rules (Err f) ∷ ss) ≡ false → HasClassFault (Rules (Err f) ∷ ss) 1 (cond b f faults.Range)
+has_lower_rules f ss true none = inr (inl (refl, inr (refl, refl)))
+has_lower_rules f ss false none = inl (refl, none, refl)
+
 has_lower : (f : AsmFault) (ss : List Statement) (b : Bool) → has_instruction (Directive (Err f) ∷ ss) ≡ false → HasClassFault (Directive (Err f) ∷ ss) 1 (cond b f faults.Range)
 has_lower f ss true none = inr (inl (refl, refl))
 has_lower f ss false none = inl (refl, none, refl)
@@ -244,6 +302,11 @@ bare_fault : (ss : List Statement) → has_instruction ss ≡ false → IsBareFa
 bare_fault [] none = record { has = inl (refl, none, refl); small = omega arith; low = λ g h. absurd h }
 bare_fault (Empty ∷ ss) none = record { has = inl (refl, none, refl); small = omega arith; low = λ g h. absurd h }
 bare_fault (Label name ∷ ss) none = record { has = inr (inl (refl, inl (refl, refl))); small = omega arith; low = λ g h. some_number g }
+bare_fault (Rules (Ok rules) ∷ ss) none =
+    record { has = inl (refl, none, refl); small = omega arith; low = λ g h. absurd (fine_rules top rules ss (record { count = refl; named = refl }) refl g h) }
+bare_fault (Rules (Err f) ∷ ss) none =
+    let lower = lower_is f (nat_le (fault_number f) 3) refl in
+    record { has = has_lower_rules f ss (nat_le (fault_number f) 3) none; small = lower.0; low = λ g h. rw (unruled top (Err f) g (record { count = refl; named = refl }) refl h f refl) lower.1 }
 bare_fault (Directive (Ok h) ∷ ss) none = record { has = inl (refl, none, refl); small = omega arith; low = late_opening top h ss }
 bare_fault (Directive (Err f) ∷ ss) none =
     let lower = lower_is f (nat_le (fault_number f) 3) refl in
@@ -255,8 +318,8 @@ bare_among [] f low n g h = absurd h
 bare_among (s ∷ ss) f low n g (inl h) = inr (sym h.0, low g h.1)
 bare_among (s ∷ ss) f low n g (inr h) = let more = numbers_rise (next_place top s ss) 2 ss n g h in inl (omega arith)
 
-by_lines : (ss : List Statement) (b : Bool) → b ≡ has_instruction ss → Judged (HasClassFault ss) (cond b (class_from [] 1 ss) (Err (record { line = 1; fault = bare_class_fault ss })))
-by_lines ss true e = add_bare ss (class_from [] 1 ss) (sym e) (early top 1 ss (record { count = refl; named = refl }) (sym e))
+by_lines : (ss : List Statement) (b : Bool) → b ≡ has_instruction ss → Judged (HasClassFault ss) (cond b (ruled_from 1 ss) (Err (record { line = 1; fault = bare_class_fault ss })))
+by_lines ss true e = add_bare ss (ruled_from 1 ss) (sym e) (first top 1 ss (record { count = refl; named = refl }) refl (sym e))
 by_lines ss false e = record { has = bare.has; least = among }
   where
     bare : IsBareFault ss (bare_class_fault ss)
@@ -270,23 +333,23 @@ text_judged : (text : List ℕ) → Judged (HasClassFault (statements_of text)) 
 unfolding read_class_text
 text_judged text = by_lines (statements_of text) (has_instruction (statements_of text)) refl
 
-refused_first : (text : List ℕ) (r : Result (List ClassMethod) AsmError) → r ≡ read_class_text text → (e : AsmError) → r ≡ Err e → RefusesClassText text e
+refused_first : (text : List ℕ) (r : Result Class AsmError) → r ≡ read_class_text text → (e : AsmError) → r ≡ Err e → RefusesClassText text e
 refused_first text (Ok is) q e h = absurd cc
 refused_first text (Err d) q e h =
     let same : d ≡ e = cc in
-    let first : IsFirstFault (HasClassFault (statements_of text)) d.line d.fault = subst (λ (v : Result (List ClassMethod) AsmError). Judged (HasClassFault (statements_of text)) v) (sym q) (text_judged text) in
+    let first : IsFirstFault (HasClassFault (statements_of text)) d.line d.fault = subst (λ (v : Result Class AsmError). Judged (HasClassFault (statements_of text)) v) (sym q) (text_judged text) in
     subst (λ (v : AsmError). RefusesClassText text v) same (record { lines = statements_of text; say = text_says text; first = first })
 
-read_faultless : (text : List ℕ) (r : Result (List ClassMethod) AsmError) → r ≡ read_class_text text → (ms : List ClassMethod) → r ≡ Ok ms → IsFaultlessClass text
+read_faultless : (text : List ℕ) (r : Result Class AsmError) → r ≡ read_class_text text → (c : Class) → r ≡ Ok c → IsFaultlessClass text
 read_faultless text (Err d) q ms h = absurd cc
 read_faultless text (Ok ns) q ms h =
-    record { lines = statements_of text; say = text_says text; none = subst (λ (v : Result (List ClassMethod) AsmError). Judged (HasClassFault (statements_of text)) v) (sym q) (text_judged text) }
+    record { lines = statements_of text; say = text_says text; none = subst (λ (v : Result Class AsmError). Judged (HasClassFault (statements_of text)) v) (sym q) (text_judged text) }
 
 pub first_if_refused : {V : Type 0} (r : Result V AsmError) (text : List ℕ) → IfErr r (λ e. (e ≡ no_memory) ⊎ (read_class_text text ≡ Err e)) → IfErr r (λ e. (e ≡ no_memory) ⊎ RefusesClassText text e)
 first_if_refused (Ok v) text h = tt
 first_if_refused (Err e) text (inl h) = inl h
 first_if_refused (Err e) text (inr h) = inr (refused_first text (read_class_text text) refl e h)
 
-pub faultless_if_read : (r : Result (List ClassMethod) AsmError) (text : List ℕ) → IfOk r (λ c. read_class_text text ≡ Ok c) → IfOk r (λ _. IsFaultlessClass text)
+pub faultless_if_read : (r : Result Class AsmError) (text : List ℕ) → IfOk r (λ c. read_class_text text ≡ Ok c) → IfOk r (λ _. IsFaultlessClass text)
 faultless_if_read (Err e) text h = tt
 faultless_if_read (Ok v) text h = read_faultless text (read_class_text text) refl v h

@@ -14,7 +14,7 @@ use Rattle.asm_lines.specs.declared.target.Target.TheVariants as targets
 use Rattle.asm_lines.specs.declared.draft.Draft.{Draft}
 use Rattle.asm_lines.specs.declared.draft.Draft.TheVariants as drafts
 use Rattle.asm_lines.specs.declared.statement.Statement.{Statement}
-use Rattle.asm_lines.specs.declared.statement.Statement.TheVariants.{Empty, Label, Directive, Instruction}
+use Rattle.asm_lines.specs.declared.statement.Statement.TheVariants.{Empty, Label, Rules, Directive, Instruction}
 use Rattle.asm_lines.specs.Operands.{filled}
 use Rattle.asm_lines.specs.Statements.{statements_of}
 use Rattle.bpf_asm.specs.Bodies.{draft_slots, slot_of_label, distance_within, distance_to, resolved, finished, proceed, body_from, body, bare_fault, has_instruction, read_text}
@@ -180,6 +180,7 @@ judged all above line slot done [] = λ n g h. h
 judged all above line slot done (Empty ∷ ss) = goes_on all above line slot Empty ss _ (λ g h. h) (judged all (above ++ (Empty ∷ [])) (line + 1) slot done ss)
 judged all above line slot done (Label name ∷ ss) =
     at_label all above line slot name ss (slot_of_label name 0 above) refl _ (λ i. body_from all (above ++ (Label name ∷ [])) (line + 1) (slot + slot_count i) (done ++ (i ∷ [])) ss) (judged all (above ++ (Label name ∷ [])) (line + 1) slot done ss)
+judged all above line slot done (Rules h ∷ ss) = stops all above line slot (Rules h) ss faults.Word refl (λ g k. rw k (omega arith))
 judged all above line slot done (Directive h ∷ ss) = stops all above line slot (Directive h) ss faults.Word refl (λ g k. rw k (omega arith))
 judged all above line slot done (Instruction (Err f) ∷ ss) = stops all above line slot (Instruction (Err f)) ss f refl (λ g k. rw k (omega arith))
 judged all above line slot done (Instruction (Ok d) ∷ ss) =
@@ -210,6 +211,8 @@ bare_least (Empty ∷ ss) none n g (inl h) = absurd h.1
 bare_least (Empty ∷ ss) none n g (inr h) = let more = numbers_rise (Empty ∷ ss) (Empty ∷ []) 2 0 ss n g h in inl (omega arith)
 bare_least (Label name ∷ ss) none n g (inl h) = inr (sym h.0, rw h.1.1 (omega arith))
 bare_least (Label name ∷ ss) none n g (inr h) = let more = numbers_rise (Label name ∷ ss) (Label name ∷ []) 2 0 ss n g h in inl (omega arith)
+bare_least (Rules d ∷ ss) none n g (inl h) = inr (sym h.0, rw h.1 (omega arith))
+bare_least (Rules d ∷ ss) none n g (inr h) = let more = numbers_rise (Rules d ∷ ss) (Rules d ∷ []) 2 0 ss n g h in inl (omega arith)
 bare_least (Directive d ∷ ss) none n g (inl h) = inr (sym h.0, rw h.1 (omega arith))
 bare_least (Directive d ∷ ss) none n g (inr h) = let more = numbers_rise (Directive d ∷ ss) (Directive d ∷ []) 2 0 ss n g h in inl (omega arith)
 bare_least (Instruction d ∷ ss) none n g h = let some = some_instruction d ss in absurd cc
@@ -218,6 +221,7 @@ bare_small : (ss : List Statement) → fault_number (bare_fault ss) ≤ 3
 bare_small [] = omega arith
 bare_small (Empty ∷ ss) = omega arith
 bare_small (Label name ∷ ss) = omega arith
+bare_small (Rules d ∷ ss) = omega arith
 bare_small (Directive d ∷ ss) = omega arith
 bare_small (Instruction d ∷ ss) = omega arith
 
@@ -225,6 +229,7 @@ bare_has : (ss : List Statement) → has_instruction ss ≡ false → HasFault s
 bare_has [] none = inl (refl, none, refl)
 bare_has (Empty ∷ ss) none = inl (refl, none, refl)
 bare_has (Label name ∷ ss) none = inl (refl, none, refl)
+bare_has (Rules d ∷ ss) none = inr (inl (refl, refl))
 bare_has (Directive d ∷ ss) none = inr (inl (refl, refl))
 bare_has (Instruction d ∷ ss) none = inl (refl, none, refl)
 

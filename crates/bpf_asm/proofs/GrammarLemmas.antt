@@ -12,7 +12,7 @@ use Rattle.asm_lines.specs.declared.fault.AsmError.{AsmError}
 use Rattle.asm_lines.specs.declared.draft.Draft.{Draft}
 use Rattle.asm_lines.specs.declared.draft.Draft.TheVariants as drafts
 use Rattle.asm_lines.specs.declared.statement.Statement.{Statement}
-use Rattle.asm_lines.specs.declared.statement.Statement.TheVariants.{Empty, Label, Directive, Instruction}
+use Rattle.asm_lines.specs.declared.statement.Statement.TheVariants.{Empty, Label, Rules, Directive, Instruction}
 use Rattle.asm_lines.specs.Operands.{filled}
 use Rattle.asm_lines.specs.Statements.{statements_of}
 use Rattle.bpf_asm.specs.Bodies.{draft_slots, slot_of_label, near, far, finished, instruction_at, proceed, body_from, body, bare_fault, is_instruction, has_instruction, read_text}
@@ -50,6 +50,7 @@ reads all before line slot done [] [] l s room = ap (λ r. Ok r) (sym (append-ni
 reads all before line slot done (i ∷ is) [] l s room = absurd s
 reads all before line slot done is (Empty ∷ ss) l s room = reads all (before ++ (Empty ∷ [])) (line + 1) slot done is ss l.1 s room
 reads all before line slot done is (Label name ∷ ss) l s room = rw l.0 (reads all (before ++ (Label name ∷ [])) (line + 1) slot done is ss l.1 s room)
+reads all before line slot done is (Rules r ∷ ss) l s room = absurd s
 reads all before line slot done is (Directive h ∷ ss) l s room = absurd s
 reads all before line slot done [] (Instruction d ∷ ss) l s room = absurd s
 reads all before line slot done (i ∷ is) (Instruction (Err f) ∷ ss) l s room = absurd s.0
@@ -108,6 +109,7 @@ was_read all before line slot done (Label name ∷ ss) r room h =
     let first = first_label line faults.Label (slot_of_label name 0 before) (body_from all (before ++ (Label name ∷ [])) (line + 1) slot done ss) (λ i. body_from all (before ++ (Label name ∷ [])) (line + 1) (slot + slot_count i) (done ++ (i ∷ [])) ss) r h in
     let rest = was_read all (before ++ (Label name ∷ [])) (line + 1) slot done ss r room first.1 in
     record { insns = rest.insns; whole = rest.whole; labels = (first.0, rest.labels); says = rest.says; limit = rest.limit }
+was_read all before line slot done (Rules d ∷ ss) r room h = absurd cc
 was_read all before line slot done (Directive d ∷ ss) r room h = absurd cc
 was_read all before line slot done (Instruction d ∷ ss) r room h =
     let s = stood all line slot d (body_from all (before ++ (Instruction d ∷ [])) (line + 1) slot done ss) (λ i. body_from all (before ++ (Instruction d ∷ [])) (line + 1) (slot + slot_count i) (done ++ (i ∷ [])) ss) r h in
@@ -124,6 +126,7 @@ counts all slot [] [] s = refl
 counts all slot [] (i ∷ is) s = absurd s
 counts all slot (Empty ∷ ss) is s = omega (arith, count_cons Empty ss, counts all slot ss is s)
 counts all slot (Label name ∷ ss) is s = omega (arith, count_cons (Label name) ss, counts all slot ss is s)
+counts all slot (Rules d ∷ ss) is s = absurd s
 counts all slot (Directive d ∷ ss) is s = absurd s
 counts all slot (Instruction d ∷ ss) [] s = absurd s
 counts all slot (Instruction d ∷ ss) (i ∷ is) s = omega (arith, count_cons (Instruction d) ss, counts all (slot + slot_count i) ss is s.1)

@@ -20,6 +20,7 @@ pub mod StatementRelations
 pub mod JumpRelations
 pub mod GrammarLemmas
 pub mod ClassGrammar
+pub mod SlotTexts
 pub mod FirstFaults
 pub mod FirstClassFaults
 pub mod ShapeLemmas

@@ -41,6 +41,10 @@ form_of_directive : form_of (codes ".method") ≡ None
 unfolding form_of word_of arithmetic_word comparison_word signed_move_word end_word
 form_of_directive = refl
 
+form_of_rules : form_of (codes ".rules") ≡ None
+unfolding form_of word_of arithmetic_word comparison_word signed_move_word end_word
+form_of_rules = refl
+
 pub none_is_some : (f : Form) → None ≡ Some f → ⊥
 none_is_some f h = absurd cc
 
@@ -52,6 +56,15 @@ not_directive_by w f known true e =
 
 pub not_directive : (w : List ℕ) (f : Form) → form_of w ≡ Some f → bytes_eq w (codes ".method") ≡ false
 not_directive w f known = not_directive_by w f known (bytes_eq w (codes ".method")) refl
+
+not_rules_by : (w : List ℕ) (f : Form) → form_of w ≡ Some f → (b : Bool) → b ≡ bytes_eq w (codes ".rules") → b ≡ false
+not_rules_by w f known false e = refl
+not_rules_by w f known true e =
+    let same : w ≡ codes ".rules" = (bytes_eq-Decides w (codes ".rules")).0 (sym e) in
+    absurd (none_is_some f (sym form_of_rules ∙ sym (ap form_of same) ∙ known))
+
+pub not_rules : (w : List ℕ) (f : Form) → form_of w ≡ Some f → bytes_eq w (codes ".rules") ≡ false
+not_rules w f known = not_rules_by w f known (bytes_eq w (codes ".rules")) refl
 
 space_stays : (x : ℕ) (xs : List ℕ) → trim_end (x ∷ xs) ≡ x ∷ xs → trim_end (32 ∷ x ∷ xs) ≡ 32 ∷ x ∷ xs
 unfolding trim_end
@@ -66,7 +79,7 @@ states f y ys x xs p known quiet s =
     let word : before_first is_blank line ≡ w = before_at is_blank w 32 (x ∷ xs) (blanks_free w p) refl in
     let rest : trim_start (32 ∷ x ∷ xs) ≡ x ∷ xs = trim_start_space (x ∷ xs) ∙ trim_start_stays x xs s in
     let some : (length line == 0) ≡ false = length_some y (ys ++ (32 ∷ x ∷ xs)) in
-    rw (some, no_label_line line quiet, word, not_directive w f known, known, drop_seam w (32 ∷ x ∷ xs), rest) refl
+    rw (some, no_label_line line quiet, word, not_rules w f known, not_directive w f known, known, drop_seam w (32 ∷ x ∷ xs), rest) refl
 
 -- a word, a space and what begins and ends with no blank
 worded : (f : Form) (w : List ℕ) (x : ℕ) (xs : List ℕ) → list_all is_plain w ≡ true → form_of w ≡ Some f → list_all is_quiet (x ∷ xs) ≡ true → is_blank x ≡ false → trim_end (x ∷ xs) ≡ x ∷ xs → statement_of (content (w ++ (32 ∷ x ∷ xs))) ≡ Instruction (draft f (x ∷ xs))

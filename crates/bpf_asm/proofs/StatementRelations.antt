@@ -21,10 +21,11 @@ use Rattle.asm_lines.specs.Words.{word_of, form_of}
 use Rattle.asm_lines.specs.Texts.{is_blank, content, first_word, after_word, is_label_name}
 use Rattle.asm_lines.specs.Operands.{both, unsigned_of}
 use Rattle.asm_lines.specs.Drafts.{draft_of, instruction_of}
-use Rattle.asm_lines.specs.Statements.{flags_of, header_with, header_of, is_label_line, statement_of, lines_of, statements_of}
-use Rattle.bpf_asm.specs.Syntax.{Without, HasWord, IsDraftText, IsPlainText, AreFlags, IsDirectiveText}
+use Rattle.bpf_decode.specs.declared.rule_set.RuleSet.TheVariants.{Two}
+use Rattle.asm_lines.specs.Statements.{flags_of, header_with, header_of, rules_of, is_label_line, statement_of, lines_of, statements_of}
+use Rattle.bpf_asm.specs.Syntax.{Without, HasWord, IsDraftText, IsPlainText, AreFlags, IsRulesText, IsDirectiveText}
 use Rattle.bpf_asm.specs.Lines.{TextSays, IsStatementText, IsLine, AreLines}
-use Rattle.bpf_asm.specs.Shapes.{AnyNumber, IsLabelText, AnyDirective, DirectiveFault, IsFaultyInstruction}
+use Rattle.bpf_asm.specs.Shapes.{AnyNumber, IsLabelText, AnyDirective, DirectiveFault, IsFaultyRules, IsFaultyInstruction}
 use Rattle.asm_lines.specs.declared.fault.AsmFault.TheVariants as faults
 use Rattle.bpf_asm.proofs.ShapeLemmas.{Judged, judged_filled, judged_by, judged_both, judged_unsigned}
 use Rattle.bpf_asm.proofs.FaultyLines.{other_shape, no_such, fault_is, is_fault}
@@ -33,7 +34,7 @@ use Rattle.bpf_asm.proofs.PlainBytes.{Free, and_left, and_right, before_none, qu
 use Rattle.bpf_asm.proofs.TextLemmas.{front}
 use Rattle.bpf_asm.proofs.OperandTexts.{length_some, last_byte}
 use Rattle.bpf_asm.proofs.WordLemmas.{word_plain}
-use Rattle.bpf_asm.proofs.LineTexts.{form_of_nil, none_is_some, not_directive, no_label_line}
+use Rattle.bpf_asm.proofs.LineTexts.{form_of_nil, none_is_some, not_rules, not_directive, no_label_line}
 use Rattle.bpf_asm.proofs.ClassTexts.{flags_read}
 use Rattle.bpf_asm.proofs.NumberRelations.{filled_is, unsigned_is, is_unsigned}
 use Rattle.bpf_asm.proofs.BodyTexts.{split_line}
@@ -243,6 +244,30 @@ fault_header text rest faults.Range w h = no_such (AnyDirective rest) (header_of
 fault_header text rest faults.Label w h = absurd h
 fault_header text rest faults.NoMemory w h = absurd h
 
+-- ---- `.rules`
+
+says_rules_at : (text : List ℕ) (b : Bool) → b ≡ bytes_eq (after_word text) (codes "2") → first_word text ≡ codes ".rules" → IsStatementText text (statements.Rules (cond b (Ok Two) (Err faults.Operand)))
+says_rules_at text true e w =
+    let rest : after_word text ≡ codes "2" = (bytes_eq-Decides (after_word text) (codes "2")).0 (sym e) in
+    record { rest = after_word text; word = subst (λ (v : List ℕ). HasWord text v (after_word text)) w (has_word text); says = rest; is_set = refl }
+says_rules_at text false e w =
+    record {
+      rest = after_word text;
+      word = subst (λ (v : List ℕ). HasWord text v (after_word text)) w (has_word text);
+      other = λ h. true_false (sym ((bytes_eq-Decides (after_word text) (codes "2")).1 h) ∙ sym e);
+      is_fault = refl;
+    }
+
+other_rules : (rest : List ℕ) (b : Bool) → b ≡ bytes_eq rest (codes "2") → ¬ (rest ≡ codes "2") → b ≡ false
+other_rules rest false e h = refl
+other_rules rest true e h = absurd (h ((bytes_eq-Decides rest (codes "2")).0 (sym e)))
+
+faulty_rules : (rest : List ℕ) (f : AsmFault) → ¬ (rest ≡ codes "2") → f ≡ faults.Operand → rules_of rest ≡ Err f
+faulty_rules rest f h e = rw (other_rules rest (bytes_eq rest (codes "2")) refl h) (ap (λ (v : AsmFault). Err v) (sym e))
+
+some_rules : (text rest : List ℕ) → HasWord text (codes ".rules") rest → (length text == 0) ≡ false
+some_rules text rest h = ap (λ t. length t == 0) h.whole ∙ length_some 46 (codes "rules" ++ (h.gap ++ rest))
+
 -- ---- lines
 
 no_bytes : (text : List ℕ) → true ≡ (length text == 0) → text ≡ []
@@ -257,36 +282,40 @@ says_directive text (Ok h) w e = directive_is text h w (sym e)
 says_directive text (Err f) w e =
     record { rest = after_word text; word = subst (λ (v : List ℕ). HasWord text v (after_word text)) w (has_word text); faulty = header_fault text (header_of (after_word text)) f refl (sym e) (judged_header (after_word text)) }
 
-says_fault : (text : List ℕ) (f : AsmFault) → false ≡ (length text == 0) → false ≡ is_label_line text → false ≡ bytes_eq (first_word text) (codes ".method") → Err f ≡ instruction_of text → IsFaultyInstruction text f
+says_fault : (text : List ℕ) (f : AsmFault) → false ≡ (length text == 0) → false ≡ is_label_line text → false ≡ bytes_eq (first_word text) (codes ".rules") → false ≡ bytes_eq (first_word text) (codes ".method") → Err f ≡ instruction_of text → IsFaultyInstruction text f
 unfolding instruction_of
-says_fault text f a b c e =
+says_fault text f a b r c e =
     record {
       word = first_word text;
       rest = after_word text;
       parts = has_word text;
       some = some_bytes text a;
       no_label = λ name h. true_false (sym (ap is_label_line h.0 ∙ label_line name h.1) ∙ sym b);
+      no_rules = λ h. true_false (sym ((bytes_eq-Decides (first_word text) (codes ".rules")).1 h) ∙ sym r);
       no_method = λ h. true_false (sym ((bytes_eq-Decides (first_word text) (codes ".method")).1 h) ∙ sym c);
       faulty = fault_is (first_word text) (after_word text) f (sym e);
     }
 
-says_instruction : (text : List ℕ) (r : Result Draft AsmFault) → false ≡ (length text == 0) → false ≡ is_label_line text → false ≡ bytes_eq (first_word text) (codes ".method") → r ≡ instruction_of text → IsStatementText text (statements.Instruction r)
-says_instruction text (Ok d) a b c e = instruction_is text d (sym e)
-says_instruction text (Err f) a b c e = says_fault text f a b c e
+says_instruction : (text : List ℕ) (r : Result Draft AsmFault) → false ≡ (length text == 0) → false ≡ is_label_line text → false ≡ bytes_eq (first_word text) (codes ".rules") → false ≡ bytes_eq (first_word text) (codes ".method") → r ≡ instruction_of text → IsStatementText text (statements.Instruction r)
+says_instruction text (Ok d) a b r c e = instruction_is text d (sym e)
+says_instruction text (Err f) a b r c e = says_fault text f a b r c e
 
-says_at : (text : List ℕ) (a b c : Bool) → a ≡ (length text == 0) → b ≡ is_label_line text → c ≡ bytes_eq (first_word text) (codes ".method") → IsStatementText text (cond a statements.Empty (cond b (statements.Label (take (length text - 1) text)) (cond c (statements.Directive (header_of (after_word text))) (statements.Instruction (instruction_of text)))))
-says_at text true b c e f g = no_bytes text e
-says_at text false true c e f g =
+says_at : (text : List ℕ) (a b r c : Bool) → a ≡ (length text == 0) → b ≡ is_label_line text → r ≡ bytes_eq (first_word text) (codes ".rules") → c ≡ bytes_eq (first_word text) (codes ".method") → IsStatementText text (cond a statements.Empty (cond b (statements.Label (take (length text - 1) text)) (cond r (statements.Rules (rules_of (after_word text))) (cond c (statements.Directive (header_of (after_word text))) (statements.Instruction (instruction_of text))))))
+says_at text true b r c e f i g = no_bytes text e
+says_at text false true r c e f i g =
     let l = label_is text (sym f) in
     (l.whole, l.name)
-says_at text false false true e f g =
+says_at text false false true c e f i g =
+    let word : first_word text ≡ codes ".rules" = (bytes_eq-Decides (first_word text) (codes ".rules")).0 (sym i) in
+    says_rules_at text (bytes_eq (after_word text) (codes "2")) refl word
+says_at text false false false true e f i g =
     let word : first_word text ≡ codes ".method" = (bytes_eq-Decides (first_word text) (codes ".method")).0 (sym g) in
     says_directive text (header_of (after_word text)) word refl
-says_at text false false false e f g = says_instruction text (instruction_of text) e f g refl
+says_at text false false false false e f i g = says_instruction text (instruction_of text) e f i g refl
 
 statement_is : (text : List ℕ) → IsStatementText text (statement_of text)
 unfolding statement_of
-statement_is text = says_at text (length text == 0) (is_label_line text) (bytes_eq (first_word text) (codes ".method")) refl refl refl
+statement_is text = says_at text (length text == 0) (is_label_line text) (bytes_eq (first_word text) (codes ".rules")) (bytes_eq (first_word text) (codes ".method")) refl refl refl refl
 
 -- ---- and back
 
@@ -340,6 +369,10 @@ unmethod : (word : List ℕ) (b : Bool) → b ≡ bytes_eq word (codes ".method"
 unmethod word false e h = refl
 unmethod word true e h = absurd (h ((bytes_eq-Decides word (codes ".method")).0 (sym e)))
 
+unruled : (word : List ℕ) (b : Bool) → b ≡ bytes_eq word (codes ".rules") → ¬ (word ≡ codes ".rules") → b ≡ false
+unruled word false e h = refl
+unruled word true e h = absurd (h ((bytes_eq-Decides word (codes ".rules")).0 (sym e)))
+
 faulty_instruction : (text : List ℕ) (f : AsmFault) → IsFaultyInstruction text f → instruction_of text ≡ Err f
 unfolding instruction_of
 faulty_instruction text f h =
@@ -351,6 +384,12 @@ is_statement : (text : List ℕ) (s : Statement) → IsStatementText text s → 
 unfolding statement_of
 is_statement text statements.Empty h = rw h refl
 is_statement text (statements.Label name) h = ap statement_of h.0 ∙ is_label name h.1
+is_statement text (statements.Rules (Err fault)) h =
+    let label = no_label text (codes ".rules") h.rest h.word (no_label_line (codes ".rules") refl) in
+    rw (some_rules text h.rest h.word, label, is_first text (codes ".rules") h.rest h.word, is_rest text (codes ".rules") h.rest h.word, faulty_rules h.rest fault h.other h.is_fault) refl
+is_statement text (statements.Rules (Ok rules)) h =
+    let label = no_label text (codes ".rules") h.rest h.word (no_label_line (codes ".rules") refl) in
+    rw (some_rules text h.rest h.word, label, is_first text (codes ".rules") h.rest h.word, is_rest text (codes ".rules") h.rest h.word, h.says, h.is_set) refl
 is_statement text (statements.Directive (Err fault)) h =
     let label = no_label text (codes ".method") h.rest h.word (no_label_line (codes ".method") refl) in
     rw (some_directive text h.rest h.word, label, is_first text (codes ".method") h.rest h.word, is_rest text (codes ".method") h.rest h.word, fault_header text h.rest fault h.word h.faulty) refl
@@ -359,14 +398,15 @@ is_statement text (statements.Directive (Ok header)) h =
     rw (some_directive text h.behind_word h.word, label, is_first text (codes ".method") h.behind_word h.word, is_directive text header h) refl
 is_statement text (statements.Instruction (Err fault)) h =
     let label = unlabelled text (is_label_line text) refl h.no_label in
+    let rules = unruled h.word (bytes_eq h.word (codes ".rules")) refl h.no_rules in
     let method = unmethod h.word (bytes_eq h.word (codes ".method")) refl h.no_method in
-    rw (no_bytes_left (length text) h.some, label, is_first text h.word h.rest h.parts, method, faulty_instruction text fault h) refl
+    rw (no_bytes_left (length text) h.some, label, is_first text h.word h.rest h.parts, rules, method, faulty_instruction text fault h) refl
 is_statement text (statements.Instruction (Ok d)) h =
     let f = draft_form d h.word h.rest h.says in
     let known = known_word f.form h.word f.is in
     let quiet : is_label_line h.word ≡ false = ap is_label_line f.is ∙ no_label_line (word_of f.form) (quiet_where (word_of f.form) (word_plain f.form)) in
     let label = no_label text h.word h.rest h.parts quiet in
-    rw (some_word text h.word h.rest f.form h.parts known, label, is_first text h.word h.rest h.parts, not_directive h.word f.form known, is_instruction text d h) refl
+    rw (some_word text h.word h.rest f.form h.parts known, label, is_first text h.word h.rest h.parts, not_rules h.word f.form known, not_directive h.word f.form known, is_instruction text d h) refl
 
 line_is : (line : List ℕ) → IsLine line (statement_of (content line))
 line_is line = record { content = content line; has_content = has_content line; says = statement_is (content line) }

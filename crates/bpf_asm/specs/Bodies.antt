@@ -12,7 +12,7 @@ use Rattle.asm_lines.specs.declared.target.Target.TheVariants as targets
 use Rattle.asm_lines.specs.declared.draft.Draft.{Draft}
 use Rattle.asm_lines.specs.declared.draft.Draft.TheVariants as drafts
 use Rattle.asm_lines.specs.declared.statement.Statement.{Statement}
-use Rattle.asm_lines.specs.declared.statement.Statement.TheVariants.{Empty, Label, Directive, Instruction}
+use Rattle.asm_lines.specs.declared.statement.Statement.TheVariants.{Empty, Label, Rules, Directive, Instruction}
 use Rattle.asm_lines.specs.Operands.{filled}
 use Rattle.asm_lines.specs.Statements.{statements_of}
 use Rattle.bpf_decode.specs.declared.limits.TheConstants.{SLOT_LIMIT}
@@ -29,6 +29,7 @@ draft_slots (Err fault) = 1
 abbrev pub line_slots : Statement → ℕ
 line_slots Empty = 0
 line_slots (Label name) = 0
+line_slots (Rules rules) = 0
 line_slots (Directive header) = 0
 line_slots (Instruction d) = draft_slots d
 
@@ -36,6 +37,7 @@ line_slots (Instruction d) = draft_slots d
 abbrev pub is_label : List ℕ → Statement → Bool
 is_label name Empty = false
 is_label name (Label other) = bytes_eq other name
+is_label name (Rules rules) = false
 is_label name (Directive header) = false
 is_label name (Instruction d) = false
 
@@ -83,6 +85,7 @@ instruction_at all slot (Ok d) = if nat_le (slot + draft_slots (Ok d)) SLOT_LIMI
 abbrev pub line_at : List Statement → List Statement → ℕ → Statement → Result (Option Insn) AsmFault
 line_at all before slot Empty = Ok None
 line_at all before slot (Label name) = if is_some (slot_of_label name 0 before) then Err faults.Label else Ok None
+line_at all before slot (Rules rules) = Err faults.Word
 line_at all before slot (Directive header) = Err faults.Word
 line_at all before slot (Instruction d) = instruction_at all slot d
 
@@ -108,6 +111,7 @@ body first lines = body_from lines [] first 0 [] lines
 abbrev pub is_instruction : Statement → Bool
 is_instruction Empty = false
 is_instruction (Label name) = false
+is_instruction (Rules rules) = false
 is_instruction (Directive header) = false
 is_instruction (Instruction d) = true
 
@@ -115,12 +119,14 @@ is_instruction (Instruction d) = true
 abbrev pub has_instruction : List Statement → Bool
 has_instruction lines = nat_lt 0 (count_by is_instruction lines)
 
--- the fault on the first line of a text without instructions, where one method's text is read: `.method` is 1 Word
+-- the fault on the first line of a text without instructions, where one method's text is read: `.rules` and `.method` are
+-- 1 Word
 abbrev pub bare_fault : List Statement → AsmFault
 bare_fault [] = faults.Range
 bare_fault (Empty ∷ rest) = faults.Range
 bare_fault (Label name ∷ rest) = faults.Range
 bare_fault (Instruction d ∷ rest) = faults.Range
+bare_fault (Rules rules ∷ rest) = faults.Word
 bare_fault (Directive header ∷ rest) = faults.Word
 
 -- what `assemble` answers

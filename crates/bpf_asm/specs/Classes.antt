@@ -1,15 +1,17 @@
--- Classes: methods read one behind the other, up to the first line that is refused.
+-- Classes: the rule set, and methods read one behind the other, up to the first line that is refused.
 use Rattle.std.specs.Prelude.{ℕ, ◌+◌, ◌==◌, ◌||◌, not, nat_le, Bool, true, false, List, [], ◌∷◌, ◌++◌, length, if◌then◌else◌, Option, Some, None, Result, Ok, Err}
 use Rattle.std.specs.List.{before_first}
 use Rattle.bpf_decode.specs.declared.insn.Insn.{Insn}
-use Rattle.bpf_decode.specs.Class.{ClassMethod}
+use Rattle.bpf_decode.specs.declared.rule_set.RuleSet.{RuleSet}
+use Rattle.bpf_decode.specs.declared.rule_set.RuleSet.TheVariants.{One}
+use Rattle.bpf_decode.specs.Class.{ClassMethod, Class}
 use Rattle.bpf_decode.specs.ImageReading.{is_above}
 use Rattle.asm_lines.specs.declared.fault.AsmFault.{AsmFault}
 use Rattle.asm_lines.specs.declared.fault.AsmFault.TheVariants as faults
 pub use Rattle.asm_lines.specs.declared.fault.AsmError.{AsmError}
 use Rattle.asm_lines.specs.Headers.{MethodHeader}
 use Rattle.asm_lines.specs.declared.statement.Statement.{Statement}
-use Rattle.asm_lines.specs.declared.statement.Statement.TheVariants.{Empty, Label, Directive, Instruction}
+use Rattle.asm_lines.specs.declared.statement.Statement.TheVariants.{Empty, Label, Rules, Directive, Instruction}
 use Rattle.asm_lines.specs.Operands.{least}
 use Rattle.asm_lines.specs.Statements.{statements_of}
 use Rattle.bpf_asm.specs.Bodies.{body, has_instruction}
@@ -18,6 +20,7 @@ use Rattle.bpf_decode.specs.declared.limits.TheConstants.{METHOD_LIMIT}
 abbrev pub is_directive : Statement → Bool
 is_directive Empty = false
 is_directive (Label name) = false
+is_directive (Rules rules) = false
 is_directive (Directive header) = true
 is_directive (Instruction d) = false
 
@@ -60,21 +63,39 @@ class_from done line (Directive header ∷ rest) =
     next_method (method_at done line header (before_first is_directive rest)) (λ m. class_from (done ++ (m ∷ [])) (line + 1) rest)
 class_from done line (Empty ∷ rest) = class_from done (line + 1) rest
 class_from done line (Label name ∷ rest) = if length done == 0 then Err (record { line = line; fault = faults.Word }) else class_from done (line + 1) rest
+class_from done line (Rules rules ∷ rest) = if length done == 0 then Err (record { line = line; fault = faults.Word }) else class_from done (line + 1) rest
 class_from done line (Instruction d ∷ rest) = if length done == 0 then Err (record { line = line; fault = faults.Word }) else class_from done (line + 1) rest
 
+abbrev pub with_rules : RuleSet → Result (List ClassMethod) AsmError → Result Class AsmError
+with_rules rules (Ok ms) = Ok (record { rules = rules; methods = ms })
+with_rules rules (Err e) = Err e
+
+-- The class of lines in order: its rule set is 1, or what the first line that isn't empty says by `.rules`. Behind it
+-- stand the methods, with no `.rules` among them.
+unfoldable pub ruled_from : ℕ → List Statement → Result Class AsmError
+ruled_from line [] = with_rules One (class_from [] line [])
+ruled_from line (Empty ∷ rest) = ruled_from (line + 1) rest
+ruled_from line (Rules (Ok rules) ∷ rest) = with_rules rules (class_from [] (line + 1) rest)
+ruled_from line (Rules (Err fault) ∷ rest) = Err (record { line = line; fault = fault })
+ruled_from line (Label name ∷ rest) = with_rules One (class_from [] line (Label name ∷ rest))
+ruled_from line (Directive header ∷ rest) = with_rules One (class_from [] line (Directive header ∷ rest))
+ruled_from line (Instruction d ∷ rest) = with_rules One (class_from [] line (Instruction d ∷ rest))
+
 -- the fault on the first line of a text without instructions: a label before the first `.method` is 1 Word, and a
--- `.method` of the wrong form 2 Operand
+-- `.rules` or `.method` of the wrong form 2 Operand
 abbrev pub bare_class_fault : List Statement → AsmFault
 bare_class_fault [] = faults.Range
 bare_class_fault (Empty ∷ rest) = faults.Range
 bare_class_fault (Label name ∷ rest) = faults.Word
+bare_class_fault (Rules (Ok rules) ∷ rest) = faults.Range
+bare_class_fault (Rules (Err fault) ∷ rest) = least fault faults.Range
 bare_class_fault (Directive (Ok header) ∷ rest) = faults.Range
 bare_class_fault (Directive (Err fault) ∷ rest) = least fault faults.Range
 bare_class_fault (Instruction d ∷ rest) = faults.Range
 
-abbrev pub class_assembled : List Statement → Result (List ClassMethod) AsmError
-class_assembled lines = if has_instruction lines then class_from [] 1 lines else Err (record { line = 1; fault = bare_class_fault lines })
+abbrev pub class_assembled : List Statement → Result Class AsmError
+class_assembled lines = if has_instruction lines then ruled_from 1 lines else Err (record { line = 1; fault = bare_class_fault lines })
 
--- Reading a class's text: its methods, or the first line that is refused and the least fault there.
-unfoldable pub read_class_text : List ℕ → Result (List ClassMethod) AsmError
+-- Reading a class's text: the class, or the first line that is refused and the least fault there.
+unfoldable pub read_class_text : List ℕ → Result Class AsmError
 read_class_text text = class_assembled (statements_of text)

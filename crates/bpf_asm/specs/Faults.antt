@@ -1,9 +1,10 @@
 -- Why a text is refused, beside its grammar: "line n has fault f" as a relation, and the first fault of a text. A line's
 -- faults are those of its place, whatever is wrong elsewhere; a line that is none of its form has its own (Shapes).
-use Rattle.std.specs.Prelude.{◌≡◌, ◌⊎◌, ℕ, ℤ, pos, ◌+◌, ◌-ℤ◌, ◌<◌, ◌≤◌, false, List, [], ◌∷◌, ◌++◌, Option, Some, None, IsSome, Result, Ok, Err, FitsSigned}
+use Rattle.std.specs.Prelude.{◌≡◌, ◌⊎◌, ℕ, ℤ, pos, ◌+◌, ◌-ℤ◌, ◌<◌, ◌≤◌, Bool, true, false, List, [], ◌∷◌, ◌++◌, Option, Some, None, IsSome, Result, Ok, Err, FitsSigned}
 use Rattle.std.specs.Int.{w16, w32}
 use Rattle.std.specs.List.{before_first}
 use Rattle.bpf_decode.specs.declared.limits.TheConstants.{METHOD_LIMIT, SLOT_LIMIT}
+use Rattle.bpf_decode.specs.declared.rule_set.RuleSet.{RuleSet}
 use Rattle.bpf_decode.specs.ImageReading.{is_above}
 use Rattle.asm_lines.specs.declared.fault.AsmFault.{AsmFault}
 use Rattle.asm_lines.specs.declared.fault.AsmFault.TheVariants as faults
@@ -13,7 +14,7 @@ use Rattle.asm_lines.specs.declared.target.Target.TheVariants as targets
 use Rattle.asm_lines.specs.declared.draft.Draft.{Draft}
 use Rattle.asm_lines.specs.declared.draft.Draft.TheVariants as drafts
 use Rattle.asm_lines.specs.declared.statement.Statement.{Statement}
-use Rattle.asm_lines.specs.declared.statement.Statement.TheVariants.{Empty, Label, Directive, Instruction}
+use Rattle.asm_lines.specs.declared.statement.Statement.TheVariants.{Empty, Label, Rules, Directive, Instruction}
 use Rattle.asm_lines.specs.Fault.{fault_number}
 use Rattle.asm_lines.specs.Headers.{MethodHeader}
 use Rattle.bpf_asm.specs.Lines.{TextSays}
@@ -40,10 +41,11 @@ DraftFault all slot (drafts.Branch bits comparison dst source target) f = Target
 DraftFault all slot (drafts.CallLocal target) f = TargetFault (FitsSigned w32) all slot target f
 
 -- a line at a slot, among all lines of its method and behind those above it: its own fault where it isn't of the form, a
--- label that stands above, a `.method` inside, an instruction that passes the limit of slots, or one that goes nowhere
+-- label that stands above, a `.rules` or `.method` inside, an instruction that passes the limit of slots, or one that goes nowhere
 abbrev pub LineFault : List Statement → List Statement → ℕ → Statement → AsmFault → Type 0
 LineFault all above slot Empty f = ⊥
 LineFault all above slot (Label name) f = IsSome (slot_of_label name 0 above) × (f ≡ faults.Label)
+LineFault all above slot (Rules rules) f = f ≡ faults.Word
 LineFault all above slot (Directive header) f = f ≡ faults.Word
 LineFault all above slot (Instruction (Err g)) f = f ≡ g
 LineFault all above slot (Instruction (Ok d)) f = ((SLOT_LIMIT < slot + draft_slots (Ok d)) × (f ≡ faults.Range)) ⊎ DraftFault all slot d f
@@ -52,6 +54,7 @@ LineFault all above slot (Instruction (Ok d)) f = ((SLOT_LIMIT < slot + draft_sl
 abbrev pub slot_behind : ℕ → Statement → ℕ
 slot_behind slot Empty = slot
 slot_behind slot (Label name) = slot
+slot_behind slot (Rules rules) = slot
 slot_behind slot (Directive header) = slot
 slot_behind slot (Instruction d) = slot + draft_slots d
 
@@ -71,9 +74,10 @@ HasFault lines n f = IsBare lines n f ⊎ LinesHaveFault lines [] 1 0 lines n f
 
 -- ---- the lines of a class
 
--- where a line of a class stands: how many methods begin above it and the last one's name, all lines of that method, those
--- above the line, and the line's slot
+-- where a line of a class stands: whether a `.rules` stands above it, how many methods begin above it and the last one's
+-- name, all lines of that method, those above the line, and the line's slot
 pub record Place : Type 0 where
+  pub ruled : Bool
   pub methods : ℕ
   pub name : List ℕ
   pub lines : List Statement
@@ -82,14 +86,15 @@ pub record Place : Type 0 where
 
 -- above the first line
 abbrev pub top : Place
-top = record { methods = 0; name = []; lines = []; above = []; slot = 0 }
+top = record { ruled = false; methods = 0; name = []; lines = []; above = []; slot = 0 }
 
 -- the place of the next line; `below` are all of them
 abbrev pub next_place : Place → Statement → List Statement → Place
-next_place p (Directive (Ok h)) below = record { methods = p.methods + 1; name = h.name; lines = before_first is_directive below; above = []; slot = 0 }
-next_place p (Directive (Err f)) below = record { methods = p.methods + 1; name = p.name; lines = before_first is_directive below; above = []; slot = 0 }
+next_place p (Directive (Ok h)) below = record { ruled = p.ruled; methods = p.methods + 1; name = h.name; lines = before_first is_directive below; above = []; slot = 0 }
+next_place p (Directive (Err f)) below = record { ruled = p.ruled; methods = p.methods + 1; name = p.name; lines = before_first is_directive below; above = []; slot = 0 }
 next_place p Empty below = record p { above = p.above ++ (Empty ∷ []) }
 next_place p (Label name) below = record p { above = p.above ++ (Label name ∷ []) }
+next_place p (Rules rules) below = record p { ruled = true; above = p.above ++ (Rules rules ∷ []) }
 next_place p (Instruction d) below = record p { above = p.above ++ (Instruction d ∷ []); slot = p.slot + draft_slots d }
 
 -- a `.method` line: its own fault where it isn't of the form; a method too many, or one without instruction; a name that
@@ -100,6 +105,15 @@ OpeningFault p (Ok h) below f =
     ((METHOD_LIMIT ≤ p.methods) × (f ≡ faults.Range))
     ⊎ (((has_instruction (before_first is_directive below) ≡ false) × (f ≡ faults.Range)) ⊎ ((is_above p.name h.name ≡ false) × (f ≡ faults.Label)))
 
+-- a `.rules` of the wrong form
+abbrev pub RulesOperand : Result RuleSet AsmFault → AsmFault → Type 0
+RulesOperand (Ok rules) f = ⊥
+RulesOperand (Err g) f = f ≡ g
+
+-- a `.rules` line: one behind another or behind a `.method`; one before the first `.method` that is of the wrong form
+abbrev pub RulesFault : Place → Result RuleSet AsmFault → AsmFault → Type 0
+RulesFault p rules f = (((p.ruled ≡ true) ⊎ (1 ≤ p.methods)) × (f ≡ faults.Word)) ⊎ ((p.methods ≡ 0) × RulesOperand rules f)
+
 -- what stands before the first `.method`
 abbrev pub EarlyFault : Place → AsmFault → Type 0
 EarlyFault p f = (p.methods ≡ 0) × (f ≡ faults.Word)
@@ -108,6 +122,7 @@ abbrev pub ClassLineFault : Place → Statement → List Statement → AsmFault 
 ClassLineFault p Empty below f = ⊥
 ClassLineFault p (Label name) below f = EarlyFault p f ⊎ LineFault p.lines p.above p.slot (Label name) f
 ClassLineFault p (Instruction d) below f = EarlyFault p f ⊎ LineFault p.lines p.above p.slot (Instruction d) f
+ClassLineFault p (Rules rules) below f = RulesFault p rules f
 ClassLineFault p (Directive header) below f = OpeningFault p header below f
 
 -- of lines that begin at a place and with that number, line n has fault f

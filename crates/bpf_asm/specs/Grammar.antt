@@ -11,9 +11,11 @@ use Rattle.asm_lines.specs.declared.target.Target.TheVariants as targets
 use Rattle.asm_lines.specs.declared.draft.Draft.{Draft}
 use Rattle.asm_lines.specs.declared.draft.Draft.TheVariants as drafts
 use Rattle.asm_lines.specs.declared.statement.Statement.{Statement}
-use Rattle.asm_lines.specs.declared.statement.Statement.TheVariants.{Empty, Label, Directive, Instruction}
+use Rattle.asm_lines.specs.declared.statement.Statement.TheVariants.{Empty, Label, Rules, Directive, Instruction}
 use Rattle.std.specs.List.{before_first}
-use Rattle.bpf_decode.specs.Class.{ClassMethod}
+use Rattle.bpf_decode.specs.declared.rule_set.RuleSet.{RuleSet}
+use Rattle.bpf_decode.specs.declared.rule_set.RuleSet.TheVariants.{One}
+use Rattle.bpf_decode.specs.Class.{ClassMethod, Class}
 use Rattle.bpf_decode.specs.ImageReading.{is_above}
 use Rattle.asm_lines.specs.Headers.{MethodHeader}
 use Rattle.bpf_asm.specs.Classes.{is_directive, method_with}
@@ -25,6 +27,7 @@ use Rattle.bpf_decode.specs.declared.limits.TheConstants.{METHOD_LIMIT, SLOT_LIM
 abbrev pub IsFirst : List Statement → Statement → Type 0
 IsFirst before Empty = Unit {0}
 IsFirst before (Label name) = slot_of_label name 0 before ≡ None
+IsFirst before (Rules rules) = Unit {0}
 IsFirst before (Directive header) = Unit {0}
 IsFirst before (Instruction d) = Unit {0}
 
@@ -65,6 +68,7 @@ Says all slot [] [] = Unit {0}
 Says all slot [] (i ∷ is) = ⊥
 Says all slot (Empty ∷ ss) is = Says all slot ss is
 Says all slot (Label name ∷ ss) is = Says all slot ss is
+Says all slot (Rules rules ∷ ss) is = ⊥
 Says all slot (Directive header ∷ ss) is = ⊥
 Says all slot (Instruction d ∷ ss) [] = ⊥
 Says all slot (Instruction d ∷ ss) (i ∷ is) = SaysInsn all slot d i × Says all (slot + slot_count i) ss is
@@ -87,8 +91,19 @@ abbrev pub BeginsWithMethod : List Statement → Type 0
 BeginsWithMethod [] = Unit {0}
 BeginsWithMethod (Empty ∷ ss) = BeginsWithMethod ss
 BeginsWithMethod (Label name ∷ ss) = ⊥
+BeginsWithMethod (Rules rules ∷ ss) = ⊥
 BeginsWithMethod (Directive header ∷ ss) = Unit {0}
 BeginsWithMethod (Instruction d ∷ ss) = ⊥
+
+-- above the first `.method` stands `.rules` with the rule set, or nothing where the set is 1
+abbrev pub BeginsWith : RuleSet → List Statement → Type 0
+BeginsWith rules [] = rules ≡ One
+BeginsWith rules (Empty ∷ ss) = BeginsWith rules ss
+BeginsWith rules (Label name ∷ ss) = ⊥
+BeginsWith rules (Rules (Ok set) ∷ ss) = (set ≡ rules) × BeginsWithMethod ss
+BeginsWith rules (Rules (Err fault) ∷ ss) = ⊥
+BeginsWith rules (Directive header ∷ ss) = rules ≡ One
+BeginsWith rules (Instruction d ∷ ss) = ⊥
 
 -- a method of that header
 abbrev pub HasHeader : Result MethodHeader AsmFault → ClassMethod → Type 0
@@ -101,6 +116,7 @@ SayMethods [] [] = Unit {0}
 SayMethods [] (m ∷ ms) = ⊥
 SayMethods (Empty ∷ ss) ms = SayMethods ss ms
 SayMethods (Label name ∷ ss) ms = SayMethods ss ms
+SayMethods (Rules rules ∷ ss) ms = SayMethods ss ms
 SayMethods (Instruction d ∷ ss) ms = SayMethods ss ms
 SayMethods (Directive header ∷ ss) [] = ⊥
 SayMethods (Directive header ∷ ss) (m ∷ ms) = HasHeader header m × AreMethodLines (before_first is_directive ss) m.instructions × SayMethods ss ms
@@ -110,16 +126,16 @@ abbrev pub NamesAbove : List ℕ → List ClassMethod → Type 0
 NamesAbove before [] = Unit {0}
 NamesAbove before (m ∷ ms) = (is_above before m.name ≡ true) × NamesAbove m.name ms
 
--- The lines of a class: its methods.
-pub record AreClassLines (lines : List Statement) (ms : List ClassMethod) : Type 0 where
-  pub begins : BeginsWithMethod lines
-  pub methods : SayMethods lines ms
-  pub names : NamesAbove [] ms
-  pub some : 1 ≤ length ms
-  pub limit : length ms ≤ METHOD_LIMIT
+-- The lines of a class: its rule set and its methods.
+pub record AreClassLines (lines : List Statement) (c : Class) : Type 0 where
+  pub begins : BeginsWith c.rules lines
+  pub methods : SayMethods lines c.methods
+  pub names : NamesAbove [] c.methods
+  pub some : 1 ≤ length c.methods
+  pub limit : length c.methods ≤ METHOD_LIMIT
 
 -- The text of a class.
-pub record IsClassText (text : List ℕ) (ms : List ClassMethod) : Type 0 where
+pub record IsClassText (text : List ℕ) (c : Class) : Type 0 where
   pub lines : List Statement
   pub say : TextSays text lines
-  pub class : AreClassLines lines ms
+  pub class : AreClassLines lines c

@@ -2,13 +2,13 @@
 use Rattle.std.specs.Prelude.{◌≡◌, ℕ, ◌≤◌, List, Ok}
 use Rattle.bpf_decode.specs.declared.insn.Insn.{Insn}
 use Rattle.bpf_decode.specs.Instruction.{AllFit, slot_total}
-use Rattle.asm_lines.specs.Canonical.{canonical_text, class_text}
+use Rattle.asm_lines.specs.Canonical.{canonical_text, class_text, class_with_slots}
 use Rattle.bpf_asm.specs.Grammar.{IsMethodText, IsClassText}
 use Rattle.asm_lines.specs.declared.statement.Statement.{Statement}
 use Rattle.bpf_asm.specs.Lines.{TextSays}
 use Rattle.bpf_asm.specs.Bodies.{read_text}
 use Rattle.bpf_asm.specs.Classes.{read_class_text}
-use Rattle.bpf_decode.specs.Class.{ClassMethod, IsClass}
+use Rattle.bpf_decode.specs.Class.{Class, IsClass}
 use Rattle.bpf_decode.specs.declared.limits.TheConstants.{SLOT_LIMIT}
 
 -- the canonical text of instructions is read as those instructions
@@ -21,11 +21,19 @@ TextsAreInGrammar = (is : List Insn) → AllFit is → 1 ≤ slot_total is → s
 
 -- the canonical text of a class is read as that class
 abbrev pub ClassTextsGiveBack : Type 0
-ClassTextsGiveBack = (ms : List ClassMethod) → IsClass ms → read_class_text (class_text ms) ≡ Ok ms
+ClassTextsGiveBack = (c : Class) → IsClass c.methods → read_class_text (class_text c) ≡ Ok c
 
 -- and is in the grammar
 abbrev pub ClassTextsAreInGrammar : Type 0
-ClassTextsAreInGrammar = (ms : List ClassMethod) → IsClass ms → IsClassText (class_text ms) ms
+ClassTextsAreInGrammar = (c : Class) → IsClass c.methods → IsClassText (class_text c) c
+
+-- the text of a class with slots is read as that class
+abbrev pub SlotTextsGiveBack : Type 0
+SlotTextsGiveBack = (c : Class) → IsClass c.methods → read_class_text (class_with_slots c) ≡ Ok c
+
+-- and is in the grammar
+abbrev pub SlotTextsAreInGrammar : Type 0
+SlotTextsAreInGrammar = (c : Class) → IsClass c.methods → IsClassText (class_with_slots c) c
 
 -- Each text says one list of lines, and only one.
 pub record SaysOnce (text : List ℕ) : Type 0 where

@@ -1,15 +1,18 @@
--- What a line says, and the lines of a text: nothing, a label, a `.method`, an instruction, or why it is none of its form.
+-- What a line says, and the lines of a text: nothing, a label, a `.rules`, a `.method`, an instruction, or why it is none
+-- of its form.
 use Rattle.std.specs.Prelude.{◌≡◌, ℕ, ◌≤◌, List, [], ◌∷◌, length, Ok, Err}
 use Rattle.std.specs.List.{join_with_byte}
 use Rattle.asm_lines.specs.declared.statement.Statement.{Statement}
 use Rattle.asm_lines.specs.declared.statement.Statement.TheVariants as statements
-use Rattle.bpf_asm.specs.Syntax.{Without, HasContent, IsInstructionText, IsDirectiveText}
-use Rattle.bpf_asm.specs.Shapes.{IsLabelText, IsFaultyDirective, IsFaultyInstruction}
+use Rattle.bpf_asm.specs.Syntax.{Without, HasContent, IsInstructionText, IsRulesText, IsDirectiveText}
+use Rattle.bpf_asm.specs.Shapes.{IsLabelText, IsFaultyRules, IsFaultyDirective, IsFaultyInstruction}
 
 -- what a line says whose content that is
 abbrev pub IsStatementText : List ℕ → Statement → Type 0
 IsStatementText text statements.Empty = text ≡ []
 IsStatementText text (statements.Label name) = IsLabelText text name
+IsStatementText text (statements.Rules (Ok rules)) = IsRulesText text rules
+IsStatementText text (statements.Rules (Err fault)) = IsFaultyRules text fault
 IsStatementText text (statements.Directive (Ok header)) = IsDirectiveText text header
 IsStatementText text (statements.Directive (Err fault)) = IsFaultyDirective text fault
 IsStatementText text (statements.Instruction (Ok draft)) = IsInstructionText text draft

@@ -108,15 +108,23 @@ InstructionFault word rest faults.NoMemory = ⊥
 abbrev pub IsLabelText : List ℕ → List ℕ → Type 0
 IsLabelText text name = (text ≡ name ++ codes ":") × (is_label_name name ≡ true)
 
--- a line that is neither empty nor a label nor a `.method`, and no instruction
+-- a line that is neither empty nor a label nor a `.rules` nor a `.method`, and no instruction
 pub record IsFaultyInstruction (text : List ℕ) (fault : AsmFault) : Type 0 where
   pub word : List ℕ
   pub rest : List ℕ
   pub parts : HasWord text word rest
   pub some : 1 ≤ length text
   pub no_label : (name : List ℕ) → ¬ IsLabelText text name
+  pub no_rules : ¬ (word ≡ codes ".rules")
   pub no_method : ¬ (word ≡ codes ".method")
   pub faulty : InstructionFault word rest fault
+
+-- 2 Operand: what stands behind `.rules` is no 2
+pub record IsFaultyRules (text : List ℕ) (fault : AsmFault) : Type 0 where
+  pub rest : List ℕ
+  pub word : HasWord text (codes ".rules") rest
+  pub other : ¬ (rest ≡ codes "2")
+  pub is_fault : fault ≡ faults.Operand
 
 -- `.method`, a name, flags and two numbers, whatever they are
 pub record AnyDirective (text : List ℕ) : Type 0 where

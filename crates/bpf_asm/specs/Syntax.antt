@@ -15,6 +15,8 @@ use Rattle.asm_lines.specs.declared.draft.Draft.TheVariants as drafts
 use Rattle.asm_lines.specs.Texts.{is_blank, is_label_name}
 use Rattle.asm_lines.specs.Numbers.{all_digits}
 use Rattle.asm_lines.specs.Words.{word_of}
+use Rattle.bpf_decode.specs.declared.rule_set.RuleSet.{RuleSet}
+use Rattle.bpf_decode.specs.declared.rule_set.RuleSet.TheVariants as rule_sets
 use Rattle.asm_lines.specs.Canonical.{flags_text}
 use Rattle.asm_lines.specs.Headers.{MethodHeader}
 use Rattle.bpf_decode.specs.Limits.{is_method_name}
@@ -216,6 +218,13 @@ pub record IsInstructionText (text : List ℕ) (draft : Draft) : Type 0 where
   pub rest : List ℕ
   pub parts : HasWord text word rest
   pub says : IsDraftText draft word rest
+
+-- `.rules` and a 2, for rule set 2
+pub record IsRulesText (text : List ℕ) (rules : RuleSet) : Type 0 where
+  pub rest : List ℕ
+  pub word : HasWord text (codes ".rules") rest
+  pub says : rest ≡ codes "2"
+  pub is_set : rules ≡ rule_sets.Two
 
 -- 1 reads, 2 writes, 3 both
 abbrev pub AreFlags : List ℕ → ℕ → Type 0

@@ -16,7 +16,7 @@ fn bare_fault(lines: &[Statement]) -> AsmFault
     ensures { result ≡ bare_fault lines.now }
 {
     match lines {
-        [Statement::Directive(_), ..] => AsmFault::Word,
+        [Statement::Rules(_) | Statement::Directive(_), ..] => AsmFault::Word,
         _ => AsmFault::Range,
     }
 }

@@ -171,7 +171,7 @@ fn line_at(
             }
             Ok(None)
         }
-        Statement::Directive(_) => Err(AsmFault::Word),
+        Statement::Rules(_) | Statement::Directive(_) => Err(AsmFault::Word),
         Statement::Instruction(draft) => instruction_at(labels, slot, draft),
     }
 }

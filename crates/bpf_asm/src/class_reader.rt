@@ -1,17 +1,17 @@
-ghost use Rattle.std.specs.Prelude.{◌≡◌, ◌⊎◌, ◌+◌, ◌<◌, ◌≤◌, ◌^◌, ℕ, true, List, [], Ok, Err, IfOk, OnOk, IfErr, IsTrue, MatchResult, length, drop, string_bytes};
+ghost use Rattle.std.specs.Prelude.{◌≡◌, ◌⊎◌, ◌+◌, ◌<◌, ◌≤◌, ◌^◌, true, [], Ok, Err, IfOk, OnOk, IfErr, IsTrue, MatchResult, length, drop, string_bytes};
 ghost use Rattle.std.specs.List.{position_or_len};
 ghost use Rattle.bpf_decode.specs.Limits.{are_name_bytes};
 ghost use Rattle.bpf_decode.specs.ImageReading.{is_above, method_after, methods_after};
-ghost use Rattle.bpf_decode.specs.Class.{ClassMethod};
+ghost use Rattle.bpf_decode.specs.Class.{Class};
 ghost use Rattle.bpf_asm.specs.Grammar.{IsClassText};
 ghost use Rattle.asm_lines.specs.Fault.{no_memory};
 ghost use Rattle.bpf_asm.specs.Faults.{RefusesClassText, IsFaultlessClass};
 ghost use Rattle.bpf_asm.specs.Bodies.{body, has_instruction};
-ghost use Rattle.bpf_asm.specs.Classes.{is_directive, last_name, opening_fault, with_body, method_at, class_from, bare_class_fault, class_assembled, read_class_text};
+ghost use Rattle.bpf_asm.specs.Classes.{is_directive, last_name, opening_fault, with_body, method_at, class_from, with_rules, ruled_from, bare_class_fault, class_assembled, read_class_text};
 
 use crate::body::{has_instruction, read_body};
 use asm_lines::{AsmError, AsmFault, Header, Statement, statements};
-use bpf_decode::{ClassImage, METHOD_LIMIT, Method};
+use bpf_decode::{ClassImage, METHOD_LIMIT, Method, RuleSet};
 use std::alloc::{AllocError, Global};
 
 /// Whether a line begins a method.
@@ -128,7 +128,9 @@ fn bare_class_fault(lines: &[Statement]) -> AsmFault
         [] => AsmFault::Range,
         [first, ..] => match first {
             Statement::Label(_) => AsmFault::Word,
-            Statement::Directive(Err(fault)) => fault.least(AsmFault::Range),
+            Statement::Rules(Err(fault)) | Statement::Directive(Err(fault)) => {
+                fault.least(AsmFault::Range)
+            }
             _ => AsmFault::Range,
         },
     }
@@ -179,17 +181,44 @@ fn push_line(
     Ok(())
 }
 
-/// The methods of lines, as `class_from` reads them.
-#[tactic(auto, unfolding(crate::specs::Classes::class_from, bpf_decode::specs::ImageReading::methods_after))]
-fn methods_of(alloc: Global, lines: &[Statement]) -> Result<Vec<Method>, AsmError>
+/// The rule set of a class's lines, and the place of the line from which on its methods are read.
+#[tactic(auto, unfolding(crate::specs::Classes::ruled_from))]
+fn rules_of(lines: &[Statement]) -> Result<(RuleSet, usize), AsmError>
     requires { length lines.now + 2 < 2 ^ 64 }
-    ensures read { MatchResult result (λ v. class_from [] 1 lines.now ≡ Ok v.items) (λ e. (e ≡ no_memory) ⊎ (class_from [] 1 lines.now ≡ Err e)) }
+    ensures read { MatchResult result (λ r. ruled_from 1 lines.now ≡ with_rules r.0 (class_from [] (r.1 + 1) (drop r.1 lines.now))) (λ e. ruled_from 1 lines.now ≡ Err e) }
+    ensures inside { IfOk result (λ r. r.1 ≤ length lines.now) }
+{
+    let mut index = 0;
+    while index < lines.len() {
+        match &lines[index] {
+            Statement::Empty => index += 1,
+            Statement::Rules(Ok(rules)) => return Ok((*rules, index + 1)),
+            Statement::Rules(Err(fault)) => {
+                return Err(AsmError {
+                    line: index + 1,
+                    fault: *fault,
+                });
+            }
+            Statement::Label(_) | Statement::Directive(_) | Statement::Instruction(_) => {
+                return Ok((RuleSet::One, index));
+            }
+        }
+    }
+    Ok((RuleSet::One, index))
+}
+
+/// The methods of the lines from a place on, as `class_from` reads them.
+#[tactic(auto, unfolding(crate::specs::Classes::class_from, bpf_decode::specs::ImageReading::methods_after))]
+fn methods_of(alloc: Global, lines: &[Statement], first: usize) -> Result<Vec<Method>, AsmError>
+    requires room { length lines.now + 2 < 2 ^ 64 }
+    requires inside { first ≤ length lines.now }
+    ensures read { MatchResult result (λ v. class_from [] (first + 1) (drop first lines.now) ≡ Ok v.items) (λ e. (e ≡ no_memory) ⊎ (class_from [] (first + 1) (drop first lines.now) ≡ Err e)) }
     ensures right { IfOk result (λ v. methods_after 0 [] v.items ≡ Ok v.items) }
     ensures some { IfOk result (λ v. 1 ≤ length v.items) }
     ensures few { IfOk result (λ v. length v.items ≤ METHOD_LIMIT) }
 {
     let mut methods = Vec::new(alloc);
-    let mut index = 0;
+    let mut index = first;
     while index < lines.len() {
         push_line(alloc, lines, index, &mut methods)?;
         index += 1;
@@ -215,8 +244,12 @@ fn class_assembled(alloc: Global, lines: &[Statement]) -> Result<ClassImage, Asm
             fault: bare_class_fault(lines),
         });
     }
-    match methods_of(alloc, lines) {
-        Ok(methods) => match ClassImage::new(methods) {
+    let (rules, first) = match rules_of(lines) {
+        Ok(found) => found,
+        Err(error) => return Err(error),
+    };
+    match methods_of(alloc, lines, first) {
+        Ok(methods) => match ClassImage::new(methods, rules) {
             Ok(class) => Ok(class),
             Err(_) => unreachable!(),
         },
@@ -239,8 +272,8 @@ pub fn assemble_class(alloc: Global, text: &str) -> Result<ClassImage, AsmError>
     ensures found { IfOk result (λ c. read_class_text text.now ≡ Ok c) }
     ensures refused { IfErr result (λ e. (e ≡ no_memory) ⊎ (read_class_text text.now ≡ Err e)) }
     ensures grammar { IfOk result (λ c. IsClassText text.now c) }
-    ensures one { IfOk result (λ c. (ms : List ClassMethod) → IsClassText text.now ms → ms ≡ c) }
-    ensures only { IfErr result (λ e. (e ≡ no_memory) ⊎ ((ms : List ClassMethod) → ¬ IsClassText text.now ms)) }
+    ensures one { IfOk result (λ c. (d : Class) → IsClassText text.now d → d ≡ c) }
+    ensures only { IfErr result (λ e. (e ≡ no_memory) ⊎ ((c : Class) → ¬ IsClassText text.now c)) }
     // The refusal is the text's first fault: of all faults of its lines that of the lowest line, and there the least.
     ensures first { IfErr result (λ e. (e ≡ no_memory) ⊎ RefusesClassText text.now e) }
     ensures faultless { IfOk result (λ _. IsFaultlessClass text.now) }

@@ -1,9 +1,9 @@
 ghost use Rattle.std.specs.Prelude.{◌≡◌, ◌≤◌, IfOk, IfErr, string_bytes};
 ghost use Rattle.bpf_decode.specs.Instruction.{slot_total};
-ghost use Rattle.asm_lines.specs.Canonical.{canonical_text, class_text};
+ghost use Rattle.asm_lines.specs.Canonical.{canonical_text, class_text, class_with_slots};
 ghost use Rattle.asm_lines.specs.Fault.{no_memory};
 
-use asm_lines::{AsmError, insns_text, methods_text};
+use asm_lines::{AsmError, class_text, class_with_slots, insns_text};
 use bpf_decode::{ClassImage, Insn, SLOT_LIMIT};
 use std::alloc::Global;
 
@@ -23,5 +23,14 @@ pub fn disassemble_class(alloc: Global, class: &ClassImage) -> Result<String, As
     ensures text { IfOk result (λ s. string_bytes s ≡ class_text class.now) }
     ensures memory { IfErr result (λ e. e ≡ no_memory) }
 {
-    Ok(methods_text(alloc, class.methods())?)
+    Ok(class_text(alloc, class)?)
+}
+
+/// The canonical text of a class where each instruction's line ends with ` ; slot N`, N being the slot by which a refusal
+/// names the instruction. It assembles to the same class (`one_slot_text`). It is refused for want of memory alone.
+pub fn disassemble_with_slots(alloc: Global, class: &ClassImage) -> Result<String, AsmError>
+    ensures text { IfOk result (λ s. string_bytes s ≡ class_with_slots class.now) }
+    ensures memory { IfErr result (λ e. e ≡ no_memory) }
+{
+    Ok(class_with_slots(alloc, class)?)
 }

@@ -11,5 +11,5 @@ mod laws;
 pub use asm_lines::{AsmError, AsmFault};
 pub use assembler::assemble;
 pub use class_reader::assemble_class;
-pub use disassembler::{disassemble, disassemble_class};
-pub use laws::{one_class_text, one_reading, one_text};
+pub use disassembler::{disassemble, disassemble_class, disassemble_with_slots};
+pub use laws::{one_class_text, one_reading, one_slot_text, one_text};

@@ -11,7 +11,7 @@ use Rattle.bpf_decode.specs.declared.image_error.ImageError.{ImageError}
 use Rattle.bpf_decode.specs.Instruction.{AllFit, slot_total}
 use Rattle.bpf_decode.specs.Class.{ClassMethod, IsMethod, IsClass}
 use Rattle.bpf_decode.specs.Reading.{◌>>=◌, checked}
-use Rattle.bpf_decode.specs.ImageReading.{after, is_above, method_after, methods_after, class_of}
+use Rattle.bpf_decode.specs.ImageReading.{after, is_above, method_after, methods_after, methods_of}
 use Rattle.bpf_decode.proofs.Bytes.{bind_ok, checked_ok}
 use Rattle.bpf_decode.specs.Limits.{between, are_name_bytes}
 use Rattle.bpf_decode.proofs.ImageFields.{between-true, between-is, letters_are, letters_again, above_is, above_again}
@@ -71,22 +71,22 @@ goes_on ms done before m lt is h fit p =
 abbrev by_count : List ClassMethod → Bool → Tested
 by_count ms b = after 0 (checked b Limit ms) >>= λ some. methods_after 0 [] ms
 
-counted : (ms : List ClassMethod) → between 1 32 (length ms) ≡ true → class_of ms ≡ methods_after 0 [] ms
-unfolding class_of
+counted : (ms : List ClassMethod) → between 1 32 (length ms) ≡ true → methods_of ms ≡ methods_after 0 [] ms
+unfolding methods_of
 counted ms some = ap (by_count ms) some
 
-pub not_counted : (ms : List ClassMethod) → between 1 32 (length ms) ≡ false → class_of ms ≡ Err (record { methods = 0; error = Limit })
-unfolding class_of
+pub not_counted : (ms : List ClassMethod) → between 1 32 (length ms) ≡ false → methods_of ms ≡ Err (record { methods = 0; error = Limit })
+unfolding methods_of
 not_counted ms none = ap (by_count ms) none
 
 pub is_refused : (ms : List ClassMethod) (done : ℕ) (before : List ℕ) (m : ClassMethod) (e : DecodeError) → between 1 32 (length ms) ≡ true → done < length ms → m ≡ get_or ms done m → method_after before m ≡ Err e → Progress ms done before
-    → class_of ms ≡ Err (record { methods = done; error = e })
+    → methods_of ms ≡ Err (record { methods = done; error = e })
 is_refused ms done before m e some lt is h p =
     let front = take done ms in
     let behind = drop (done + 1) ms in
     counted ms some ∙ sym p.so_far ∙ ap (λ (xs : List ClassMethod). with_front front (methods_after done before xs)) (here ms done m lt is) ∙ ap (with_front front) (one_more done before m behind (Err e) h)
 
-pub all_pass : (ms : List ClassMethod) (done : ℕ) (before : List ℕ) → between 1 32 (length ms) ≡ true → length ms ≤ done → Progress ms done before → class_of ms ≡ Ok ms
+pub all_pass : (ms : List ClassMethod) (done : ℕ) (before : List ℕ) → between 1 32 (length ms) ≡ true → length ms ≤ done → Progress ms done before → methods_of ms ≡ Ok ms
 unfolding methods_after
 all_pass ms done before some le p =
     counted ms some ∙ sym p.so_far ∙ ap (λ (xs : List ClassMethod). with_front (take done ms) (methods_after done before xs)) (drop_all done ms le) ∙ ap (λ (xs : List ClassMethod). Ok xs) (append-nil (take done ms) ∙ take_all done ms le)
@@ -144,14 +144,14 @@ methods_again done before [] all rises = refl
 methods_again done before (m ∷ ms) all rises =
     ap (first_tested done m.name ms) (method_again before m all.0 rises.0) ∙ ap (λ (r : Tested). r >>= λ others. Ok (m ∷ others)) (methods_again (done + 1) m.name ms all.1 rises.1)
 
-pub class_again : (ms : List ClassMethod) → IsClass ms → class_of ms ≡ Ok ms
+pub class_again : (ms : List ClassMethod) → IsClass ms → methods_of ms ≡ Ok ms
 class_again ms class = counted ms (between-is 1 32 (length ms) class.some class.limit) ∙ methods_again 0 [] ms class.methods (rises_first ms class.methods class.names)
 
 abbrev passed : List ClassMethod → Tested
 passed ms = Ok ms
 
-pub class_passes : (ms xs : List ClassMethod) → AllCodeFits ms → class_of ms ≡ Ok xs → IsClass ms
-unfolding class_of
+pub class_passes : (ms xs : List ClassMethod) → AllCodeFits ms → methods_of ms ≡ Ok xs → IsClass ms
+unfolding methods_of
 class_passes ms xs fit e =
     let a = bind_ok (after 0 (checked (between 1 32 (length ms)) Limit ms)) (λ some. methods_after 0 [] ms) xs e in
     let some = between-true 1 32 (length ms) (checked_ok (between 1 32 (length ms)) Limit ms a.0 (after_ok 0 (checked (between 1 32 (length ms)) Limit ms) a.0 a.1)).0 in
@@ -159,7 +159,7 @@ class_passes ms xs fit e =
     record { some = some.0; limit = some.1; methods = all.0; names = rises_on [] ms all.1 }
 
 -- refused methods are no class
-pub refused_is_none : (ms : List ClassMethod) (e : ImageError) → class_of ms ≡ Err e → IsClass ms → ⊥
+pub refused_is_none : (ms : List ClassMethod) (e : ImageError) → methods_of ms ≡ Err e → IsClass ms → ⊥
 refused_is_none ms e h class =
     let both : Err e ≡ passed ms = sym h ∙ class_again ms class in
     cc

@@ -1,6 +1,6 @@
 -- The two laws of images: what is read is spelled so, and what is spelled so is read.
-use Rattle.std.proofs.Common.{◌≡◌, ℕ, zero, suc, ◌+◌, ◌≤◌, Bool, List, [], ◌∷◌, ◌++◌, length, Result, Ok, Err, refl, sym, ap, subst, ◌∙◌, append_assoc, arith}
-use Rattle.std.specs.Prelude.{nat_eq, codes, IfOk, ◌==◌}
+use Rattle.std.proofs.Common.{◌≡◌, ℕ, zero, suc, ◌+◌, ◌≤◌, Bool, true, false, List, [], ◌∷◌, ◌++◌, length, Result, Ok, Err, refl, sym, ap, subst, ◌∙◌, append_assoc, arith}
+use Rattle.std.specs.Prelude.{nat_eq, codes, IfOk, ◌==◌, if◌then◌else◌}
 use Rattle.std.specs.List.{AllByRecursion, flat_map}
 use Rattle.std.specs.Cmp.Lexicographic.{slice_cmp, pointwise, same_text}
 use Rattle.std.specs.Ordering.{nat_cmp}
@@ -14,9 +14,12 @@ use Rattle.bpf_decode.specs.declared.decode_error.DecodeError.TheVariants.{Magic
 use Rattle.bpf_decode.specs.declared.image_error.ImageError.{ImageError}
 use Rattle.bpf_decode.specs.declared.insn.Insn.{Insn}
 use Rattle.bpf_decode.specs.Instruction.{spelling, slot_total}
-use Rattle.bpf_decode.specs.Class.{ClassMethod, IsMethod, NamesRise, IsClass, IsImage, method_bytes, image_bytes}
+use Rattle.bpf_decode.specs.declared.image.Header.{Header}
+use Rattle.bpf_decode.specs.declared.rule_set.RuleSet.{RuleSet}
+use Rattle.bpf_decode.specs.declared.rule_set.RuleSet.TheVariants.{One, Two}
+use Rattle.bpf_decode.specs.Class.{ClassMethod, IsMethod, NamesRise, IsClass, Class, IsImage, method_bytes, magic, image_bytes}
 use Rattle.bpf_decode.specs.Reading.{◌>>=◌, checked}
-use Rattle.bpf_decode.specs.ImageReading.{GivesImage, after, name_at, flags_at, capacity_at, code_at, method_at, methods_at, number_at, bytes_at, header_at, image_of}
+use Rattle.bpf_decode.specs.ImageReading.{GivesImage, after, name_at, flags_at, capacity_at, code_at, method_at, methods_at, number_at, bytes_at, rules_of, rules_at, header_at, image_of}
 use Rattle.bpf_decode.proofs.Bytes.{IsBytes, bind_ok, checked_ok}
 use Rattle.bpf_decode.specs.Limits.{between}
 use Rattle.bpf_decode.proofs.ImageFields.{Takes, Takes-then, ok_is, same_value, between-true, between-is, number_takes, number_again, bytes_take, bytes_again, name_takes, name_again, flags_take, flags_again, capacity_takes, capacity_again, IsCodeField, code_field, code_field_takes, code_field_again}
@@ -145,85 +148,119 @@ methods_again k before (m ∷ ms) rest all rises =
 
 -- ---- the image
 
-abbrev header_bytes : ℕ → List ℕ
-header_bytes n = codes "RCL1" ++ (little_bytes 2 n ++ (0 ∷ 0 ∷ []))
+abbrev named : RuleSet → Result RuleSet DecodeError
+named rules = Ok rules
 
--- the same of an equal number and an equal rest
-same_header : (bytes : List ℕ) (k n : ℕ) (behind rest : List ℕ) → k ≡ n → behind ≡ rest → Takes bytes (header_bytes k) behind → Takes bytes (header_bytes n) rest
-same_header bytes k n behind rest same end taken = subst (λ (j : ℕ). Takes bytes (header_bytes j) rest) same (subst (λ (r : List ℕ). Takes bytes (header_bytes k) r) end taken)
+-- what names a rule set is its magic
+by_texts : (m : List ℕ) (rules : RuleSet) (one two : Bool) → one ≡ pointwise nat_eq m (codes "RCL1") → two ≡ pointwise nat_eq m (codes "RCL2") → (if one then Ok One else (if two then Ok Two else Err Magic)) ≡ named rules → m ≡ magic rules
+by_texts m One true two e f h = same_text m (codes "RCL1") e
+by_texts m Two true two e f h = absurd cc
+by_texts m One false true e f h = absurd cc
+by_texts m Two false true e f h = same_text m (codes "RCL2") f
+by_texts m rules false false e f h = absurd cc
 
-pub header_takes : (bytes : List ℕ) (n : ℕ) (rest : List ℕ) → IsBytes bytes → header_at bytes ≡ Ok (n, rest) → Takes bytes (codes "RCL1" ++ (little_bytes 2 n ++ (0 ∷ 0 ∷ []))) rest × (1 ≤ n) × (n ≤ 32)
+rules_take : (bytes : List ℕ) (rules : RuleSet) (rest : List ℕ) → IsBytes bytes → rules_at bytes ≡ Ok (rules, rest) → Takes bytes (magic rules) rest
+unfolding rules_at
+rules_take bytes rules rest fits e =
+    let a = bind_ok (bytes_at 4 bytes) (λ m. rules_of m.0 >>= λ r. Ok (r, m.1)) (rules, rest) e in
+    let t = bytes_take 4 bytes a.0.0 a.0.1 fits a.1 in
+    let b = bind_ok (rules_of a.0.0) (λ r. Ok (r, a.0.1)) (rules, rest) a.2 in
+    let is : a.0.0 ≡ magic b.0 = by_texts a.0.0 b.0 (pointwise nat_eq a.0.0 (codes "RCL1")) (pointwise nat_eq a.0.0 (codes "RCL2")) refl refl b.1 in
+    let last = same_value b.0 rules a.0.1 rest b.2 in
+    let here : Takes bytes (magic b.0) a.0.1 = subst (λ (x : List ℕ). Takes bytes x a.0.1) is t.0 in
+    subst (λ (r : RuleSet). Takes bytes (magic r) rest) last.0 (subst (λ (r : List ℕ). Takes bytes (magic b.0) r) last.1 here)
+
+rules_again : (rules : RuleSet) (rest : List ℕ) → rules_at (magic rules ++ rest) ≡ Ok (rules, rest)
+unfolding rules_at
+rules_again One rest = ap (λ (r : Result (List ℕ × List ℕ) DecodeError). r >>= λ m. rules_of m.0 >>= λ s. Ok (s, m.1)) (bytes_again 4 (codes "RCL1") rest refl)
+rules_again Two rest = ap (λ (r : Result (List ℕ × List ℕ) DecodeError). r >>= λ m. rules_of m.0 >>= λ s. Ok (s, m.1)) (bytes_again 4 (codes "RCL2") rest refl)
+
+abbrev header : RuleSet → ℕ → Header
+header rules count = record { rules = rules; count = count }
+
+abbrev header_bytes : Header → List ℕ
+header_bytes h = magic h.rules ++ (little_bytes 2 h.count ++ (0 ∷ 0 ∷ []))
+
+-- the same of an equal header and an equal rest
+same_header : (bytes : List ℕ) (k h : Header) (behind rest : List ℕ) → k ≡ h → behind ≡ rest → Takes bytes (header_bytes k) behind → Takes bytes (header_bytes h) rest
+same_header bytes k h behind rest same end taken = subst (λ (j : Header). Takes bytes (header_bytes j) rest) same (subst (λ (r : List ℕ). Takes bytes (header_bytes k) r) end taken)
+
+pub header_takes : (bytes : List ℕ) (h : Header) (rest : List ℕ) → IsBytes bytes → header_at bytes ≡ Ok (h, rest) → Takes bytes (header_bytes h) rest × (1 ≤ h.count) × (h.count ≤ 32)
 unfolding header_at
-header_takes bytes n rest fits e =
-    let a = bind_ok (bytes_at 4 bytes) (λ magic. checked (pointwise nat_eq magic.0 (codes "RCL1")) Magic magic >>= λ known. number_at magic.1 >>= λ count. checked (between 1 32 count.0) Limit count >>= λ some. number_at count.1 >>= λ none. checked (none.0 == 0) Magic none >>= λ nothing. Ok (count.0, none.1)) (n, rest) e in
-    let t0 = bytes_take 4 bytes a.0.0 a.0.1 fits a.1 in
-    let b = bind_ok (checked (pointwise nat_eq a.0.0 (codes "RCL1")) Magic a.0) (λ known. number_at a.0.1 >>= λ count. checked (between 1 32 count.0) Limit count >>= λ some. number_at count.1 >>= λ none. checked (none.0 == 0) Magic none >>= λ nothing. Ok (count.0, none.1)) (n, rest) a.2 in
-    let magic : a.0.0 ≡ codes "RCL1" = same_text a.0.0 (codes "RCL1") (sym (checked_ok (pointwise nat_eq a.0.0 (codes "RCL1")) Magic a.0 b.0 b.1).0) in
-    let c = bind_ok (number_at a.0.1) (λ count. checked (between 1 32 count.0) Limit count >>= λ some. number_at count.1 >>= λ none. checked (none.0 == 0) Magic none >>= λ nothing. Ok (count.0, none.1)) (n, rest) b.2 in
-    let t1 = number_takes a.0.1 c.0.0 c.0.1 t0.0.rest_fits c.1 in
-    let d = bind_ok (checked (between 1 32 c.0.0) Limit c.0) (λ some. number_at c.0.1 >>= λ none. checked (none.0 == 0) Magic none >>= λ nothing. Ok (c.0.0, none.1)) (n, rest) c.2 in
+header_takes bytes h rest fits e =
+    let a = bind_ok (rules_at bytes) (λ rules. number_at rules.1 >>= λ count. checked (between 1 32 count.0) Limit count >>= λ some. number_at count.1 >>= λ none. checked (none.0 == 0) Magic none >>= λ nothing. Ok (header rules.0 count.0, none.1)) (h, rest) e in
+    let t0 = rules_take bytes a.0.0 a.0.1 fits a.1 in
+    let c = bind_ok (number_at a.0.1) (λ count. checked (between 1 32 count.0) Limit count >>= λ some. number_at count.1 >>= λ none. checked (none.0 == 0) Magic none >>= λ nothing. Ok (header a.0.0 count.0, none.1)) (h, rest) a.2 in
+    let t1 = number_takes a.0.1 c.0.0 c.0.1 t0.rest_fits c.1 in
+    let d = bind_ok (checked (between 1 32 c.0.0) Limit c.0) (λ some. number_at c.0.1 >>= λ none. checked (none.0 == 0) Magic none >>= λ nothing. Ok (header a.0.0 c.0.0, none.1)) (h, rest) c.2 in
     let some = between-true 1 32 c.0.0 (checked_ok (between 1 32 c.0.0) Limit c.0 d.0 d.1).0 in
-    let f = bind_ok (number_at c.0.1) (λ none. checked (none.0 == 0) Magic none >>= λ nothing. Ok (c.0.0, none.1)) (n, rest) d.2 in
+    let f = bind_ok (number_at c.0.1) (λ none. checked (none.0 == 0) Magic none >>= λ nothing. Ok (header a.0.0 c.0.0, none.1)) (h, rest) d.2 in
     let t2 = number_takes c.0.1 f.0.0 f.0.1 t1.0.rest_fits f.1 in
-    let g = bind_ok (checked (f.0.0 == 0) Magic f.0) (λ nothing. Ok (c.0.0, f.0.1)) (n, rest) f.2 in
+    let g = bind_ok (checked (f.0.0 == 0) Magic f.0) (λ nothing. Ok (header a.0.0 c.0.0, f.0.1)) (h, rest) f.2 in
     let none : f.0.0 ≡ 0 = eqb-true f.0.0 0 (checked_ok (f.0.0 == 0) Magic f.0 g.0 g.1).0 in
-    let last = same_value c.0.0 n f.0.1 rest g.2 in
+    let last = same_value (header a.0.0 c.0.0) h f.0.1 rest g.2 in
     let zero_field : Takes c.0.1 (0 ∷ 0 ∷ []) f.0.1 = subst (λ (k : ℕ). Takes c.0.1 (little_bytes 2 k) f.0.1) none t2.0 in
-    let first : Takes bytes (codes "RCL1") a.0.1 = subst (λ (x : List ℕ). Takes bytes x a.0.1) magic t0.0 in
     let e12 = Takes-then a.0.1 (little_bytes 2 c.0.0) c.0.1 (0 ∷ 0 ∷ []) f.0.1 t1.0 zero_field in
-    let e02 = Takes-then bytes (codes "RCL1") a.0.1 (little_bytes 2 c.0.0 ++ (0 ∷ 0 ∷ [])) f.0.1 first e12 in
-    (same_header bytes c.0.0 n f.0.1 rest last.0 last.1 e02, omega (arith, some.0, last.0), omega (arith, some.1, last.0))
+    let e02 = Takes-then bytes (magic a.0.0) a.0.1 (little_bytes 2 c.0.0 ++ (0 ∷ 0 ∷ [])) f.0.1 t0 e12 in
+    let counted : c.0.0 ≡ h.count = ap (λ (x : Header). x.count) last.0 in
+    (same_header bytes (header a.0.0 c.0.0) h f.0.1 rest last.0 last.1 e02, omega (arith, some.0, counted), omega (arith, some.1, counted))
 
-pub header_again : (n : ℕ) (rest : List ℕ) → 1 ≤ n → n ≤ 32 → header_at (codes "RCL1" ++ (little_bytes 2 n ++ (0 ∷ 0 ∷ rest))) ≡ Ok (n, rest)
+pub header_again : (rules : RuleSet) (n : ℕ) (rest : List ℕ) → 1 ≤ n → n ≤ 32 → header_at (magic rules ++ (little_bytes 2 n ++ (0 ∷ 0 ∷ rest))) ≡ Ok (header rules n, rest)
 unfolding header_at
-header_again n rest h k =
+header_again rules n rest h k =
     let behind : List ℕ = little_bytes 2 n ++ (0 ∷ 0 ∷ rest) in
     let counted : ℕ × List ℕ = (n, 0 ∷ 0 ∷ rest) in
-    ap (λ (r : Result (List ℕ × List ℕ) DecodeError). r >>= λ magic. checked (pointwise nat_eq magic.0 (codes "RCL1")) Magic magic >>= λ known. number_at magic.1 >>= λ count. checked (between 1 32 count.0) Limit count >>= λ some. number_at count.1 >>= λ none. checked (none.0 == 0) Magic none >>= λ nothing. Ok (count.0, none.1)) (bytes_again 4 (codes "RCL1") behind refl)
-    ∙ ap (λ (r : Result (ℕ × List ℕ) DecodeError). r >>= λ count. checked (between 1 32 count.0) Limit count >>= λ some. number_at count.1 >>= λ none. checked (none.0 == 0) Magic none >>= λ nothing. Ok (count.0, none.1)) (number_again n (0 ∷ 0 ∷ rest) (omega arith))
-    ∙ ap (λ (b : Bool). checked b Limit counted >>= λ some. number_at (0 ∷ 0 ∷ rest) >>= λ none. checked (none.0 == 0) Magic none >>= λ nothing. Ok (n, none.1)) (between-is 1 32 n h k)
-    ∙ ap (λ (r : Result (ℕ × List ℕ) DecodeError). r >>= λ none. checked (none.0 == 0) Magic none >>= λ nothing. Ok (n, none.1)) (number_again 0 rest (omega arith))
+    ap (λ (r : Result (RuleSet × List ℕ) DecodeError). r >>= λ rules. number_at rules.1 >>= λ count. checked (between 1 32 count.0) Limit count >>= λ some. number_at count.1 >>= λ none. checked (none.0 == 0) Magic none >>= λ nothing. Ok (header rules.0 count.0, none.1)) (rules_again rules behind)
+    ∙ ap (λ (r : Result (ℕ × List ℕ) DecodeError). r >>= λ count. checked (between 1 32 count.0) Limit count >>= λ some. number_at count.1 >>= λ none. checked (none.0 == 0) Magic none >>= λ nothing. Ok (header rules count.0, none.1)) (number_again n (0 ∷ 0 ∷ rest) (omega arith))
+    ∙ ap (λ (b : Bool). checked b Limit counted >>= λ some. number_at (0 ∷ 0 ∷ rest) >>= λ none. checked (none.0 == 0) Magic none >>= λ nothing. Ok (header rules n, none.1)) (between-is 1 32 n h k)
+    ∙ ap (λ (r : Result (ℕ × List ℕ) DecodeError). r >>= λ none. checked (none.0 == 0) Magic none >>= λ nothing. Ok (header rules n, none.1)) (number_again 0 rest (omega arith))
 
-pub image_takes : (bytes : List ℕ) (ms : List ClassMethod) → IsBytes bytes → image_of bytes ≡ Ok ms → IsImage bytes ms
+abbrev class_with : RuleSet → List ClassMethod → Class
+class_with rules ms = record { rules = rules; methods = ms }
+
+pub image_takes : (bytes : List ℕ) (c : Class) → IsBytes bytes → image_of bytes ≡ Ok c → IsImage bytes c
 unfolding image_of
-image_takes bytes ms fits e =
-    let a = bind_ok (after 0 (header_at bytes)) (λ h. methods_at h.0 0 [] h.1 >>= λ x. after h.0 (checked (length x.1 == 0) Trailing x.0)) ms e in
-    let n = a.0.0 in
-    let t = header_takes bytes n a.0.1 fits (after_ok 0 (header_at bytes) a.0 a.1) in
-    let b = bind_ok (methods_at n 0 [] a.0.1) (λ x. after n (checked (length x.1 == 0) Trailing x.0)) ms a.2 in
+image_takes bytes c fits e =
+    let a = bind_ok (after 0 (header_at bytes)) (λ h. methods_at h.0.count 0 [] h.1 >>= λ x. after h.0.count (checked (length x.1 == 0) Trailing (class_with h.0.rules x.0))) c e in
+    let h = a.0.0 in
+    let n = h.count in
+    let t = header_takes bytes h a.0.1 fits (after_ok 0 (header_at bytes) a.0 a.1) in
+    let b = bind_ok (methods_at n 0 [] a.0.1) (λ x. after n (checked (length x.1 == 0) Trailing (class_with h.rules x.0))) c a.2 in
     let u = methods_take n 0 [] a.0.1 b.0 t.0.rest_fits b.1 in
-    let last = checked_ok (length b.0.1 == 0) Trailing b.0.0 ms (after_ok n (checked (length b.0.1 == 0) Trailing b.0.0) ms b.2) in
+    let last = checked_ok (length b.0.1 == 0) Trailing (class_with h.rules b.0.0) c (after_ok n (checked (length b.0.1 == 0) Trailing (class_with h.rules b.0.0)) c b.2) in
     let nothing : b.0.1 ≡ [] = nil_from_length b.0.1 (eqb-true (length b.0.1) 0 last.0) in
     let all = flat_map method_bytes b.0.0 in
-    let both = (Takes-then bytes (codes "RCL1" ++ (little_bytes 2 n ++ (0 ∷ 0 ∷ []))) a.0.1 all b.0.1 t.0 u.0).parts in
-    let whole : bytes ≡ image_bytes b.0.0 =
-    both ∙ ap (λ (r : List ℕ). (codes "RCL1" ++ (little_bytes 2 n ++ (0 ∷ 0 ∷ []))) ++ all ++ r) nothing ∙ append-nil (codes "RCL1" ++ (little_bytes 2 n ++ (0 ∷ 0 ∷ all)))
-    ∙ ap (λ (k : ℕ). codes "RCL1" ++ (little_bytes 2 k ++ (0 ∷ 0 ∷ all))) (sym u.1) in
+    let both = (Takes-then bytes (header_bytes h) a.0.1 all b.0.1 t.0 u.0).parts in
+    let whole : bytes ≡ image_bytes (class_with h.rules b.0.0) =
+    both ∙ ap (λ (r : List ℕ). (header_bytes h ++ all) ++ r) nothing ∙ append-nil (header_bytes h ++ all) ∙ append_assoc (magic h.rules) (little_bytes 2 n ++ (0 ∷ 0 ∷ [])) all
+    ∙ ap (λ (k : ℕ). magic h.rules ++ (little_bytes 2 k ++ (0 ∷ 0 ∷ all))) (sym u.1) ∙ sym (append_assoc (magic h.rules) (little_bytes 2 (length b.0.0)) (0 ∷ 0 ∷ all)) in
     let class : IsClass b.0.0 = record { some = omega (arith, t.1, u.1); limit = omega (arith, t.2, u.1); methods = u.2; names = rises_on [] b.0.0 u.3 } in
-    subst (λ (x : List ClassMethod). IsImage bytes x) last.1 (record { class = class; spelled = whole })
+    subst (λ (x : Class). IsImage bytes x) last.1 (record { class = class; spelled = whole })
 
-pub image_again : (ms : List ClassMethod) → IsClass ms → image_of (image_bytes ms) ≡ Ok ms
+pub image_again : (c : Class) → IsClass c.methods → image_of (image_bytes c) ≡ Ok c
 unfolding image_of
-image_again ms class =
+image_again c class =
+    let ms = c.methods in
     let all = flat_map method_bytes ms in
     let rest : methods_at (length ms) 0 [] all ≡ Ok (ms, []) = ap (methods_at (length ms) 0 []) (sym (append-nil all)) ∙ methods_again 0 [] ms [] class.methods (rises_first ms class.methods class.names) in
-    ap (λ (r : Result (ℕ × List ℕ) DecodeError). after 0 r >>= λ h. methods_at h.0 0 [] h.1 >>= λ x. after h.0 (checked (length x.1 == 0) Trailing x.0)) (header_again (length ms) all class.some class.limit)
-    ∙ ap (λ (r : Result (List ClassMethod × List ℕ) ImageError). r >>= λ x. after (length ms) (checked (length x.1 == 0) Trailing x.0)) rest
+    ap image_of (append_assoc (magic c.rules) (little_bytes 2 (length ms)) (0 ∷ 0 ∷ all))
+    ∙ ap (λ (r : Result (Header × List ℕ) DecodeError). after 0 r >>= λ h. methods_at h.0.count 0 [] h.1 >>= λ x. after h.0.count (checked (length x.1 == 0) Trailing (class_with h.0.rules x.0))) (header_again c.rules (length ms) all class.some class.limit)
+    ∙ ap (λ (r : Result (List ClassMethod × List ℕ) ImageError). r >>= λ x. after (length ms) (checked (length x.1 == 0) Trailing (class_with c.rules x.0))) rest
 
-pub image_is : (bytes : List ℕ) (ms : List ClassMethod) → IsImage bytes ms → image_of bytes ≡ Ok ms
-image_is bytes ms image = ap image_of image.spelled ∙ image_again ms image.class
+pub image_is : (bytes : List ℕ) (c : Class) → IsImage bytes c → image_of bytes ≡ Ok c
+image_is bytes c image = ap image_of image.spelled ∙ image_again c image.class
 
 -- ---- for the callers
 
-pub read_found : (bytes : List ℕ) (r : Result (List ClassMethod) ImageError) → IsBytes bytes → GivesImage (λ c. c) r (image_of bytes) → IfOk r (λ c. IsImage bytes c)
+pub read_found : (bytes : List ℕ) (r : Result Class ImageError) → IsBytes bytes → GivesImage (λ c. c) r (image_of bytes) → IfOk r (λ c. IsImage bytes c)
 read_found bytes (Ok c) fits given = image_takes bytes c fits given
 read_found bytes (Err e) fits given = tt
 
-pub read_only : (bytes : List ℕ) (ms : List ClassMethod) (r : Result (List ClassMethod) ImageError) → IsImage bytes ms → GivesImage (λ c. c) r (image_of bytes) → GivesImage (λ c. c) r (Ok ms)
-read_only bytes ms r image given = subst (λ (x : Result (List ClassMethod) ImageError). GivesImage (λ (c : List ClassMethod). c) r x) (image_is bytes ms image) given
+pub read_only : (bytes : List ℕ) (c : Class) (r : Result Class ImageError) → IsImage bytes c → GivesImage (λ c. c) r (image_of bytes) → GivesImage (λ c. c) r (Ok c)
+read_only bytes c r image given = subst (λ (x : Result Class ImageError). GivesImage (λ (c : Class). c) r x) (image_is bytes c image) given
 
-abbrev pub read_image : List ClassMethod → Result (List ClassMethod) ImageError
-read_image ms = Ok ms
+abbrev pub read_image : Class → Result Class ImageError
+read_image c = Ok c
 
-pub ok_image : (ms ns : List ClassMethod) → read_image ms ≡ read_image ns → ms ≡ ns
-ok_image ms ns e = cc
+pub ok_image : (c d : Class) → read_image c ≡ read_image d → c ≡ d
+ok_image c d e = cc

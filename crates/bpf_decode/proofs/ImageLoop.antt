@@ -5,7 +5,9 @@ use Rattle.std.proofs.Math.Nat.{sub-zero}
 use Rattle.bpf_decode.specs.declared.decode_error.DecodeError.{DecodeError}
 use Rattle.bpf_decode.specs.declared.decode_error.DecodeError.TheVariants.{Trailing}
 use Rattle.bpf_decode.specs.declared.image_error.ImageError.{ImageError}
-use Rattle.bpf_decode.specs.Class.{ClassMethod}
+use Rattle.bpf_decode.specs.declared.image.Header.{Header}
+use Rattle.bpf_decode.specs.declared.rule_set.RuleSet.{RuleSet}
+use Rattle.bpf_decode.specs.Class.{ClassMethod, Class}
 use Rattle.std.specs.Prelude.{◌==◌}
 use Rattle.bpf_decode.specs.Reading.{◌>>=◌, checked}
 use Rattle.bpf_decode.specs.ImageReading.{after, method_at, methods_at, header_at, image_of, ReadsSoFar}
@@ -79,29 +81,32 @@ so_far count bytes front done before rest lt a =
 
 -- ---- the whole image
 
-abbrev by_header : Result (ℕ × List ℕ) DecodeError → Result (List ClassMethod) ImageError
-by_header read = after 0 read >>= λ h. methods_at h.0 0 [] h.1 >>= λ ms. after h.0 (checked (length ms.1 == 0) Trailing ms.0)
+abbrev class_with : RuleSet → List ClassMethod → Class
+class_with rules ms = record { rules = rules; methods = ms }
 
-abbrev by_methods : ℕ → Methods → Result (List ClassMethod) ImageError
-by_methods n read = read >>= λ ms. after n (checked (length ms.1 == 0) Trailing ms.0)
+abbrev by_header : Result (Header × List ℕ) DecodeError → Result Class ImageError
+by_header read = after 0 read >>= λ h. methods_at h.0.count 0 [] h.1 >>= λ ms. after h.0.count (checked (length ms.1 == 0) Trailing (class_with h.0.rules ms.0))
+
+abbrev by_methods : Header → Methods → Result Class ImageError
+by_methods h read = read >>= λ ms. after h.count (checked (length ms.1 == 0) Trailing (class_with h.rules ms.0))
 
 pub header_refused : (bytes : List ℕ) (e : DecodeError) → header_at bytes ≡ Err e → image_of bytes ≡ Err (record { methods = 0; error = e })
 unfolding image_of
 header_refused bytes e h = ap by_header h
 
-pub methods_refused : (bytes : List ℕ) (n : ℕ) (rest : List ℕ) (e : ImageError) → header_at bytes ≡ Ok (n, rest) → methods_at n 0 [] rest ≡ Err e → image_of bytes ≡ Err e
+pub methods_refused : (bytes : List ℕ) (h : Header) (rest : List ℕ) (e : ImageError) → header_at bytes ≡ Ok (h, rest) → methods_at h.count 0 [] rest ≡ Err e → image_of bytes ≡ Err e
 unfolding image_of
-methods_refused bytes n rest e h k = ap by_header h ∙ ap (by_methods n) k
+methods_refused bytes h rest e read k = ap by_header read ∙ ap (by_methods h) k
 
-abbrev by_end : ℕ → List ClassMethod → Bool → Result (List ClassMethod) ImageError
-by_end n ms b = after n (checked b Trailing ms)
+abbrev by_end : Header → List ClassMethod → Bool → Result Class ImageError
+by_end h ms b = after h.count (checked b Trailing (class_with h.rules ms))
 
-pub trailing : (bytes : List ℕ) (n : ℕ) (rest : List ℕ) (ms : List ClassMethod) (behind : List ℕ) → header_at bytes ≡ Ok (n, rest) → methods_at n 0 [] rest ≡ Ok (ms, behind) → (length behind == 0) ≡ false
-    → image_of bytes ≡ Err (record { methods = n; error = Trailing })
+pub trailing : (bytes : List ℕ) (h : Header) (rest : List ℕ) (ms : List ClassMethod) (behind : List ℕ) → header_at bytes ≡ Ok (h, rest) → methods_at h.count 0 [] rest ≡ Ok (ms, behind) → (length behind == 0) ≡ false
+    → image_of bytes ≡ Err (record { methods = h.count; error = Trailing })
 unfolding image_of
-trailing bytes n rest ms behind h k some = ap by_header h ∙ ap (by_methods n) k ∙ ap (by_end n ms) some
+trailing bytes h rest ms behind read k some = ap by_header read ∙ ap (by_methods h) k ∙ ap (by_end h ms) some
 
-pub all_read : (bytes : List ℕ) (n : ℕ) (rest : List ℕ) (ms : List ClassMethod) (behind : List ℕ) → header_at bytes ≡ Ok (n, rest) → methods_at n 0 [] rest ≡ Ok (ms, behind) → (length behind == 0) ≡ true
-    → image_of bytes ≡ Ok ms
+pub all_read : (bytes : List ℕ) (h : Header) (rest : List ℕ) (ms : List ClassMethod) (behind : List ℕ) → header_at bytes ≡ Ok (h, rest) → methods_at h.count 0 [] rest ≡ Ok (ms, behind) → (length behind == 0) ≡ true
+    → image_of bytes ≡ Ok (class_with h.rules ms)
 unfolding image_of
-all_read bytes n rest ms behind h k none = ap by_header h ∙ ap (by_methods n) k ∙ ap (by_end n ms) none
+all_read bytes h rest ms behind read k none = ap by_header read ∙ ap (by_methods h) k ∙ ap (by_end h ms) none

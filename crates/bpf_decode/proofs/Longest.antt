@@ -1,7 +1,6 @@
 -- Bytes behind the longest image change nothing of what is read.
 use Rattle.std.proofs.Common.{◌≡◌, ℕ, zero, suc, ◌+◌, ◌*◌, ◌≤◌, Bool, true, false, List, [], ◌∷◌, ◌++◌, length, take, drop, Result, Ok, Err, refl, sym, ap, subst, ◌∙◌, arith, inl, inr}
-use Rattle.std.specs.Prelude.{⊤, nat_le, nat_eq, codes, ◌==◌}
-use Rattle.std.specs.Cmp.Lexicographic.{pointwise}
+use Rattle.std.specs.Prelude.{⊤, nat_le, ◌==◌}
 use Rattle.byteorder.specs.Endian.{little_number}
 use Rattle.std.proofs.lemmas.Bool.{cases_lt, leb-true, le-leb, ne_eqb}
 use Rattle.std.proofs.lemmas.List.{take-append-drop, take-append-le, drop-append-le, take_all, length-take, length-take-le, length-drop, length-append}
@@ -9,10 +8,12 @@ use Rattle.bpf_decode.specs.declared.decode_error.DecodeError.{DecodeError}
 use Rattle.bpf_decode.specs.declared.decode_error.DecodeError.TheVariants.{Truncated, Magic, Name, Order, Flags, Limit, Trailing}
 use Rattle.bpf_decode.specs.declared.image_error.ImageError.{ImageError}
 use Rattle.bpf_decode.specs.declared.insn.Insn.{Insn}
-use Rattle.bpf_decode.specs.Class.{ClassMethod, IsImage}
+use Rattle.bpf_decode.specs.declared.image.Header.{Header}
+use Rattle.bpf_decode.specs.declared.rule_set.RuleSet.{RuleSet}
+use Rattle.bpf_decode.specs.Class.{ClassMethod, Class, IsImage}
 use Rattle.bpf_decode.specs.Limits.{is_method_count, is_name_length, are_name_bytes, are_flags, is_capacity, is_slot_count}
 use Rattle.bpf_decode.specs.Reading.{◌>>=◌, checked, code_of}
-use Rattle.bpf_decode.specs.ImageReading.{is_above, after, byte_at, number_at, bytes_at, name_at, flags_at, capacity_at, code_at, method_at, methods_at, header_at, image_of}
+use Rattle.bpf_decode.specs.ImageReading.{is_above, after, byte_at, number_at, bytes_at, name_at, flags_at, capacity_at, code_at, method_at, methods_at, rules_of, rules_at, header_at, image_of}
 use Rattle.bpf_decode.proofs.Bytes.{bind_ok, checked_ok}
 use Rattle.bpf_decode.proofs.ImageFields.{between-true, ok_is}
 use Rattle.bpf_decode.proofs.ImageLaws.{image_is}
@@ -186,59 +187,64 @@ methods_local (suc n) done before =
 
 -- ---- the image
 
-abbrev header_rest : List ℕ → Result (ℕ × List ℕ) DecodeError
-header_rest bytes = number_at bytes >>= λ count. checked (is_method_count count.0) Limit count >>= λ some. number_at count.1 >>= λ none. checked (none.0 == 0) Magic none >>= λ nothing. Ok (count.0, none.1)
+rules_local : Local 4 rules_at
+unfolding rules_at
+rules_local = Local-then 4 0 (bytes_at 4) (λ magic. rules_of magic.0 >>= λ r. Ok (r, magic.1)) (bytes_local 4) (λ magic. Local-made (rules_of magic) (λ r. r))
 
-header_rest_local : Local 4 header_rest
-header_rest_local =
-    Local-then 2 2 number_at (λ count. checked (is_method_count count.0) Limit count >>= λ some. number_at count.1 >>= λ none. checked (none.0 == 0) Magic none >>= λ nothing. Ok (count.0, none.1)) number_local (λ count.
-    Local-checked 2 (is_method_count count) Limit count (λ rest. number_at rest >>= λ none. checked (none.0 == 0) Magic none >>= λ nothing. Ok (count, none.1)) (λ _.
-    Local-then 2 0 number_at (λ none. checked (none.0 == 0) Magic none >>= λ nothing. Ok (count, none.1)) number_local (λ none.
-    Local-checked 0 (none == 0) Magic none (λ rest. Ok (count, rest)) (λ _. Local-ok count))))
+abbrev header : RuleSet → ℕ → Header
+header rules count = record { rules = rules; count = count }
+
+abbrev header_rest : RuleSet → List ℕ → Result (Header × List ℕ) DecodeError
+header_rest rules bytes = number_at bytes >>= λ count. checked (is_method_count count.0) Limit count >>= λ some. number_at count.1 >>= λ none. checked (none.0 == 0) Magic none >>= λ nothing. Ok (header rules count.0, none.1)
+
+header_rest_local : (rules : RuleSet) → Local 4 (header_rest rules)
+header_rest_local rules =
+    Local-then 2 2 number_at (λ count. checked (is_method_count count.0) Limit count >>= λ some. number_at count.1 >>= λ none. checked (none.0 == 0) Magic none >>= λ nothing. Ok (header rules count.0, none.1)) number_local (λ count.
+    Local-checked 2 (is_method_count count) Limit count (λ rest. number_at rest >>= λ none. checked (none.0 == 0) Magic none >>= λ nothing. Ok (header rules count, none.1)) (λ _.
+    Local-then 2 0 number_at (λ none. checked (none.0 == 0) Magic none >>= λ nothing. Ok (header rules count, none.1)) number_local (λ none.
+    Local-checked 0 (none == 0) Magic none (λ rest. Ok (header rules count, rest)) (λ _. Local-ok (header rules count)))))
 
 header_local : Local 8 header_at
 unfolding header_at
-header_local =
-    Local-then 4 4 (bytes_at 4) (λ magic. checked (pointwise nat_eq magic.0 (codes "RCL1")) Magic magic >>= λ known. header_rest magic.1) (bytes_local 4) (λ magic.
-    Local-checked 4 (pointwise nat_eq magic (codes "RCL1")) Magic magic header_rest (λ _. header_rest_local))
+header_local = Local-then 4 4 rules_at (λ rules. header_rest rules.0 rules.1) rules_local (λ rules. header_rest_local rules)
 
 -- a header that is read has at most 32 methods
-header_few : (bytes : List ℕ) (h : ℕ × List ℕ) → header_at bytes ≡ Ok h → h.0 ≤ 32
+header_few : (bytes : List ℕ) (h : Header × List ℕ) → header_at bytes ≡ Ok h → h.0.count ≤ 32
 unfolding header_at
 header_few bytes h e =
-    let a = bind_ok (bytes_at 4 bytes) (λ magic. checked (pointwise nat_eq magic.0 (codes "RCL1")) Magic magic >>= λ known. header_rest magic.1) h e in
-    let b = bind_ok (checked (pointwise nat_eq a.0.0 (codes "RCL1")) Magic a.0) (λ known. header_rest a.0.1) h a.2 in
-    let c = bind_ok (number_at a.0.1) (λ count. checked (is_method_count count.0) Limit count >>= λ some. number_at count.1 >>= λ none. checked (none.0 == 0) Magic none >>= λ nothing. Ok (count.0, none.1)) h b.2 in
-    let d = bind_ok (checked (is_method_count c.0.0) Limit c.0) (λ some. number_at c.0.1 >>= λ none. checked (none.0 == 0) Magic none >>= λ nothing. Ok (c.0.0, none.1)) h c.2 in
-    let f = bind_ok (number_at c.0.1) (λ none. checked (none.0 == 0) Magic none >>= λ nothing. Ok (c.0.0, none.1)) h d.2 in
-    let g = bind_ok (checked (f.0.0 == 0) Magic f.0) (λ nothing. Ok (c.0.0, f.0.1)) h f.2 in
+    let b = bind_ok (rules_at bytes) (λ rules. header_rest rules.0 rules.1) h e in
+    let rules = b.0.0 in
+    let c = bind_ok (number_at b.0.1) (λ count. checked (is_method_count count.0) Limit count >>= λ some. number_at count.1 >>= λ none. checked (none.0 == 0) Magic none >>= λ nothing. Ok (header rules count.0, none.1)) h b.2 in
+    let d = bind_ok (checked (is_method_count c.0.0) Limit c.0) (λ some. number_at c.0.1 >>= λ none. checked (none.0 == 0) Magic none >>= λ nothing. Ok (header rules c.0.0, none.1)) h c.2 in
+    let f = bind_ok (number_at c.0.1) (λ none. checked (none.0 == 0) Magic none >>= λ nothing. Ok (header rules c.0.0, none.1)) h d.2 in
+    let g = bind_ok (checked (f.0.0 == 0) Magic f.0) (λ nothing. Ok (header rules c.0.0, f.0.1)) h f.2 in
     let few = (between-true 1 32 c.0.0 (checked_ok (is_method_count c.0.0) Limit c.0 d.0 d.1).0).1 in
-    let same : (c.0.0, f.0.1) ≡ h = ok_is (c.0.0, f.0.1) h g.2 in
-    omega (arith, few, ap (λ (p : ℕ × List ℕ). p.0) same)
+    let same : (header rules c.0.0, f.0.1) ≡ h = ok_is (header rules c.0.0, f.0.1) h g.2 in
+    omega (arith, few, ap (λ (p : Header × List ℕ). p.0.count) same)
 
 -- the end of an image, behind its methods
-abbrev at_end : ℕ → List ClassMethod × List ℕ → Result (List ClassMethod) ImageError
-at_end count ms = after count (checked (length ms.1 == 0) Trailing ms.0)
+abbrev at_end : Header → List ClassMethod × List ℕ → Result Class ImageError
+at_end h ms = after h.count (checked (length ms.1 == 0) Trailing (record { rules = h.rules; methods = ms.0 }))
 
 some_left : (rest : List ℕ) → 1 ≤ length rest → (length rest == 0) ≡ false
 some_left rest some = ne_eqb (length rest) 0 (λ e. omega (arith, some, e))
 
-trailing : (count : ℕ) (ms : List ClassMethod) (rest : List ℕ) → 1 ≤ length rest → at_end count (ms, rest) ≡ Err (record { methods = count; error = Trailing })
-trailing count ms rest some = rw (some_left rest some) refl
+trailing : (h : Header) (ms : List ClassMethod) (rest : List ℕ) → 1 ≤ length rest → at_end h (ms, rest) ≡ Err (record { methods = h.count; error = Trailing })
+trailing h ms rest some = rw (some_left rest some) refl
 
-end_same : (count : ℕ) (ms : List ClassMethod) (rest more : List ℕ) → 1 ≤ length rest → at_end count (ms, rest ++ more) ≡ at_end count (ms, rest)
-end_same count ms rest more some = trailing count ms (rest ++ more) (omega (arith, some, length-append rest more)) ∙ sym (trailing count ms rest some)
+end_same : (h : Header) (ms : List ClassMethod) (rest more : List ℕ) → 1 ≤ length rest → at_end h (ms, rest ++ more) ≡ at_end h (ms, rest)
+end_same h ms rest more some = trailing h ms (rest ++ more) (omega (arith, some, length-append rest more)) ∙ sym (trailing h ms rest some)
 
-methods_end : (count k : ℕ) (front more : List ℕ) → k + 1 ≤ length front → (read whole : Result (List ClassMethod × List ℕ) ImageError) → whole ≡ longer more read → Leaves k front read → (whole >>= at_end count) ≡ (read >>= at_end count)
-methods_end count k front more long (Ok x) whole e l = rw e (end_same count x.0 x.1 more (omega (arith, long, l)))
-methods_end count k front more long (Err d) whole e l = rw e refl
+methods_end : (h : Header) (k : ℕ) (front more : List ℕ) → k + 1 ≤ length front → (read whole : Result (List ClassMethod × List ℕ) ImageError) → whole ≡ longer more read → Leaves k front read → (whole >>= at_end h) ≡ (read >>= at_end h)
+methods_end h k front more long (Ok x) whole e l = rw e (end_same h x.0 x.1 more (omega (arith, long, l)))
+methods_end h k front more long (Err d) whole e l = rw e refl
 
-behind_header : (front more : List ℕ) → 1050889 ≤ length front → (read whole : Result (ℕ × List ℕ) DecodeError) → ((h : ℕ × List ℕ) → read ≡ Ok h → h.0 ≤ 32) → whole ≡ longer more read → Leaves 8 front read → (after 0 whole >>= λ h. methods_at h.0 0 [] h.1 >>= at_end h.0) ≡ (after 0 read >>= λ h. methods_at h.0 0 [] h.1 >>= at_end h.0)
+behind_header : (front more : List ℕ) → 1050889 ≤ length front → (read whole : Result (Header × List ℕ) DecodeError) → ((h : Header × List ℕ) → read ≡ Ok h → h.0.count ≤ 32) → whole ≡ longer more read → Leaves 8 front read → (after 0 whole >>= λ h. methods_at h.0.count 0 [] h.1 >>= at_end h.0) ≡ (after 0 read >>= λ h. methods_at h.0.count 0 [] h.1 >>= at_end h.0)
 behind_header front more long (Ok h) whole few e l =
     let n = few h refl in
-    let m = methods_local h.0 0 [] in
-    let rest : h.0 * 32840 + 1 ≤ length h.1 = omega (arith, long, l, n) in
-    rw e (methods_end h.0 (h.0 * 32840) h.1 more rest (methods_at h.0 0 [] h.1) (methods_at h.0 0 [] (h.1 ++ more)) (m.same h.1 more (omega (arith, rest))) (m.few h.1))
+    let m = methods_local h.0.count 0 [] in
+    let rest : h.0.count * 32840 + 1 ≤ length h.1 = omega (arith, long, l, n) in
+    rw e (methods_end h.0 (h.0.count * 32840) h.1 more rest (methods_at h.0.count 0 [] h.1) (methods_at h.0.count 0 [] (h.1 ++ more)) (m.same h.1 more (omega (arith, rest))) (m.few h.1))
 behind_header front more long (Err d) whole few e l = rw e refl
 
 -- bytes behind the first 1,050,889 change no answer
@@ -256,40 +262,40 @@ image_of-take bytes =
 
 -- ---- an image is no longer
 
-refusal-ne-class : (e : ImageError) (out : List ClassMethod) (r : Result (List ClassMethod) ImageError) → r ≡ Err e → r ≡ Ok out → ⊥
+refusal-ne-class : (e : ImageError) (out : Class) (r : Result Class ImageError) → r ≡ Err e → r ≡ Ok out → ⊥
 refusal-ne-class e out (Ok x) f g = absurd cc
 refusal-ne-class e out (Err d) f g = absurd cc
 
-end_refused : (count : ℕ) (ms : List ClassMethod) (rest : List ℕ) (out : List ClassMethod) → 1 ≤ length rest → at_end count (ms, rest) ≡ Ok out → ⊥
-end_refused count ms rest out some e = refusal-ne-class (record { methods = count; error = Trailing }) out (at_end count (ms, rest)) (trailing count ms rest some) e
+end_refused : (h : Header) (ms : List ClassMethod) (rest : List ℕ) (out : Class) → 1 ≤ length rest → at_end h (ms, rest) ≡ Ok out → ⊥
+end_refused h ms rest out some e = refusal-ne-class (record { methods = h.count; error = Trailing }) out (at_end h (ms, rest)) (trailing h ms rest some) e
 
-methods_refused : (count k : ℕ) (front : List ℕ) (out : List ClassMethod) (read : Result (List ClassMethod × List ℕ) ImageError) → k + 1 ≤ length front → Leaves k front read → (read >>= at_end count) ≡ Ok out → ⊥
-methods_refused count k front out (Ok x) long l e = end_refused count x.0 x.1 out (omega (arith, long, l)) e
-methods_refused count k front out (Err d) long l e = absurd cc
+methods_refused : (h : Header) (k : ℕ) (front : List ℕ) (out : Class) (read : Result (List ClassMethod × List ℕ) ImageError) → k + 1 ≤ length front → Leaves k front read → (read >>= at_end h) ≡ Ok out → ⊥
+methods_refused h k front out (Ok x) long l e = end_refused h x.0 x.1 out (omega (arith, long, l)) e
+methods_refused h k front out (Err d) long l e = absurd cc
 
-header_refused : (front : List ℕ) (out : List ClassMethod) (read : Result (ℕ × List ℕ) DecodeError) → 1050889 ≤ length front → ((h : ℕ × List ℕ) → read ≡ Ok h → h.0 ≤ 32) → Leaves 8 front read → (after 0 read >>= λ h. methods_at h.0 0 [] h.1 >>= at_end h.0) ≡ Ok out → ⊥
+header_refused : (front : List ℕ) (out : Class) (read : Result (Header × List ℕ) DecodeError) → 1050889 ≤ length front → ((h : Header × List ℕ) → read ≡ Ok h → h.0.count ≤ 32) → Leaves 8 front read → (after 0 read >>= λ h. methods_at h.0.count 0 [] h.1 >>= at_end h.0) ≡ Ok out → ⊥
 header_refused front out (Ok h) long few l e =
     let n = few h refl in
-    methods_refused h.0 (h.0 * 32840) h.1 out (methods_at h.0 0 [] h.1) (omega (arith, long, l, n)) ((methods_local h.0 0 []).few h.1) e
+    methods_refused h.0 (h.0.count * 32840) h.1 out (methods_at h.0.count 0 [] h.1) (omega (arith, long, l, n)) ((methods_local h.0.count 0 []).few h.1) e
 header_refused front out (Err d) long few l e = absurd cc
 
-refused : (bytes : List ℕ) (ms : List ClassMethod) → 1050889 ≤ length bytes → image_of bytes ≡ Ok ms → ⊥
+refused : (bytes : List ℕ) (c : Class) → 1050889 ≤ length bytes → image_of bytes ≡ Ok c → ⊥
 unfolding image_of
-refused bytes ms long e = header_refused bytes ms (header_at bytes) long (header_few bytes) (header_local.few bytes) e
+refused bytes c long e = header_refused bytes c (header_at bytes) long (header_few bytes) (header_local.few bytes) e
 
-pub length-image : (bytes : List ℕ) (ms : List ClassMethod) → IsImage bytes ms → length bytes ≤ 1050888
-length-image bytes ms i =
+pub length-image : (bytes : List ℕ) (c : Class) → IsImage bytes c → length bytes ≤ 1050888
+length-image bytes c i =
     elim (cases_lt (length bytes) 1050889) [
       | inl short ↦ omega (arith, short)
-      | inr long ↦ absurd (refused bytes ms long (image_is bytes ms i))
+      | inr long ↦ absurd (refused bytes c long (image_is bytes c i))
     ]
 
 -- the bytes are an image where their first 1,050,889 are
-take_whole : (bytes : List ℕ) (ms : List ClassMethod) → IsImage (take 1050889 bytes) ms → take 1050889 bytes ≡ bytes
-take_whole bytes ms i = take_all 1050889 bytes (omega (arith, length-take 1050889 bytes, length-image (take 1050889 bytes) ms i))
+take_whole : (bytes : List ℕ) (c : Class) → IsImage (take 1050889 bytes) c → take 1050889 bytes ≡ bytes
+take_whole bytes c i = take_all 1050889 bytes (omega (arith, length-take 1050889 bytes, length-image (take 1050889 bytes) c i))
 
-pub IsImage-from_take : (bytes : List ℕ) (ms : List ClassMethod) → IsImage (take 1050889 bytes) ms → IsImage bytes ms
-IsImage-from_take bytes ms i = subst (λ (b : List ℕ). IsImage b ms) (take_whole bytes ms i) i
+pub IsImage-from_take : (bytes : List ℕ) (c : Class) → IsImage (take 1050889 bytes) c → IsImage bytes c
+IsImage-from_take bytes c i = subst (λ (b : List ℕ). IsImage b c) (take_whole bytes c i) i
 
-pub IsImage-take : (bytes : List ℕ) (ms : List ClassMethod) → IsImage bytes ms → IsImage (take 1050889 bytes) ms
-IsImage-take bytes ms i = subst (λ (b : List ℕ). IsImage b ms) (sym (take_all 1050889 bytes (omega (arith, length-image bytes ms i)))) i
+pub IsImage-take : (bytes : List ℕ) (c : Class) → IsImage bytes c → IsImage (take 1050889 bytes) c
+IsImage-take bytes c i = subst (λ (b : List ℕ). IsImage b c) (sym (take_all 1050889 bytes (omega (arith, length-image bytes c i)))) i

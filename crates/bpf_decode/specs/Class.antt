@@ -1,4 +1,4 @@
--- The class image `RCL1`: what a class is, and the one spelling of each.
+-- The class images `RCL1` and `RCL2`: what a class is, and the one spelling of each.
 use Rattle.std.specs.Prelude.{◌≡◌, ℕ, ◌≤◌, List, [], ◌∷◌, ◌++◌, ◌⊎◌, length, codes}
 use Rattle.std.specs.Ordering.{nat_cmp}
 use Rattle.std.specs.List.{flat_map, AllByRecursion}
@@ -6,6 +6,8 @@ use Rattle.std.specs.Cmp.Lexicographic.{slice_cmp}
 use Rattle.std.specs.declared.cmp.Ordering.TheVariants.{Less}
 use Rattle.byteorder.specs.Endian.{little_bytes}
 use Rattle.bpf_decode.specs.declared.insn.Insn.{Insn}
+use Rattle.bpf_decode.specs.declared.rule_set.RuleSet.{RuleSet}
+use Rattle.bpf_decode.specs.declared.rule_set.RuleSet.TheVariants.{One, Two}
 use Rattle.bpf_decode.specs.declared.limits.TheConstants.{METHOD_LIMIT, NAME_LIMIT, CAPACITY_LIMIT, SLOT_LIMIT}
 use Rattle.bpf_decode.specs.Instruction.{AllFit, spelling, slot_total}
 
@@ -40,7 +42,7 @@ NamesRise [] = Unit {0}
 NamesRise (m ∷ []) = Unit {0}
 NamesRise (m ∷ n ∷ ms) = (slice_cmp nat_cmp m.name n.name ≡ Less) × NamesRise (n ∷ ms)
 
--- a class: 1 to 32 methods within the limits, each name once and in order
+-- methods of a class: 1 to 32 within the limits, each name once and in order
 pub record IsClass (ms : List ClassMethod) : Type 0 where
   pub some : 1 ≤ length ms
   pub limit : length ms ≤ METHOD_LIMIT
@@ -53,11 +55,21 @@ method_bytes m =
     (length m.name ∷ m.name)
     ++ (m.flags ∷ little_bytes 2 m.in_cap ++ little_bytes 2 m.out_cap ++ little_bytes 2 (slot_total m.instructions) ++ spelling m.instructions)
 
--- a class's bytes: `RCL1`, the number of methods, a zero number, and each method
-abbrev pub image_bytes : List ClassMethod → List ℕ
-image_bytes ms = codes "RCL1" ++ little_bytes 2 (length ms) ++ (0 ∷ 0 ∷ flat_map method_bytes ms)
+-- a class as it is written: by which rules it is verified, and its methods
+pub record Class : Type 0 where
+  pub rules : RuleSet
+  pub methods : List ClassMethod
+
+-- the first four bytes say the rule set
+abbrev pub magic : RuleSet → List ℕ
+magic One = codes "RCL1"
+magic Two = codes "RCL2"
+
+-- a class's bytes: its magic, the number of methods, a zero number, and each method
+abbrev pub image_bytes : Class → List ℕ
+image_bytes c = magic c.rules ++ little_bytes 2 (length c.methods) ++ (0 ∷ 0 ∷ flat_map method_bytes c.methods)
 
 -- The grammar of images: the bytes spell the class, and nothing else.
-pub record IsImage (bytes : List ℕ) (ms : List ClassMethod) : Type 0 where
-  pub class : IsClass ms
-  pub spelled : bytes ≡ image_bytes ms
+pub record IsImage (bytes : List ℕ) (c : Class) : Type 0 where
+  pub class : IsClass c.methods
+  pub spelled : bytes ≡ image_bytes c

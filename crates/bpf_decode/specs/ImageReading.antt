@@ -1,5 +1,5 @@
 -- Reading a class image from left to right, with the first refusal that is met.
-use Rattle.std.specs.Prelude.{◌≡◌, ◌<◌, ℕ, zero, suc, ◌+◌, ◌*◌, ◌==◌, ◌⊎◌, nat_le, nat_eq, Bool, List, [], ◌∷◌, length, take, drop, codes, Result, Ok, Err}
+use Rattle.std.specs.Prelude.{◌≡◌, ◌<◌, ℕ, zero, suc, ◌+◌, ◌*◌, ◌==◌, ◌⊎◌, nat_le, nat_eq, Bool, List, [], ◌∷◌, length, take, drop, codes, Result, Ok, Err, if◌then◌else◌}
 use Rattle.std.specs.Cmp.Lexicographic.{slice_cmp, pointwise}
 use Rattle.std.specs.Ordering.{nat_cmp, is_lt}
 use Rattle.byteorder.specs.Endian.{little_number}
@@ -8,7 +8,10 @@ use Rattle.bpf_decode.specs.declared.decode_error.DecodeError.TheVariants.{Trunc
 use Rattle.bpf_decode.specs.declared.image_error.ImageError.{ImageError}
 use Rattle.bpf_decode.specs.declared.insn.Insn.{Insn}
 use Rattle.bpf_decode.specs.Instruction.{slot_total}
-use Rattle.bpf_decode.specs.Class.{ClassMethod}
+use Rattle.bpf_decode.specs.declared.image.Header.{Header}
+use Rattle.bpf_decode.specs.declared.rule_set.RuleSet.{RuleSet}
+use Rattle.bpf_decode.specs.declared.rule_set.RuleSet.TheVariants.{One, Two}
+use Rattle.bpf_decode.specs.Class.{ClassMethod, Class}
 use Rattle.bpf_decode.specs.Limits.{is_method_count, is_name_length, are_name_bytes, are_flags, is_capacity, is_slot_count}
 use Rattle.bpf_decode.specs.Reading.{◌>>=◌, checked, code_of}
 
@@ -66,16 +69,25 @@ method_at before bytes = do
   code ← code_at out_cap.1
   Ok (record { name = name.0; flags = flags.0; in_cap = in_cap.0; out_cap = out_cap.0; instructions = code.0 }, code.1)
 
--- the number of methods behind `RCL1`, and a zero number
-unfoldable pub header_at : List ℕ → Result (ℕ × List ℕ) DecodeError
-header_at bytes = do
+-- the rule set that four bytes name
+abbrev pub rules_of : List ℕ → Result RuleSet DecodeError
+rules_of magic = if pointwise nat_eq magic (codes "RCL1") then Ok One else (if pointwise nat_eq magic (codes "RCL2") then Ok Two else Err Magic)
+
+unfoldable pub rules_at : List ℕ → Result (RuleSet × List ℕ) DecodeError
+rules_at bytes = do
   magic ← bytes_at 4 bytes
-  known ← checked (pointwise nat_eq magic.0 (codes "RCL1")) Magic magic
-  count ← number_at magic.1
+  rules ← rules_of magic.0
+  Ok (rules, magic.1)
+
+-- the rule set, the number of methods, and a zero number
+unfoldable pub header_at : List ℕ → Result (Header × List ℕ) DecodeError
+header_at bytes = do
+  rules ← rules_at bytes
+  count ← number_at rules.1
   some ← checked (is_method_count count.0) Limit count
   none ← number_at count.1
   nothing ← checked (none.0 == 0) Magic none
-  Ok (count.0, none.1)
+  Ok (record { rules = rules.0; count = count.0 }, none.1)
 
 -- ---- the image
 
@@ -90,8 +102,8 @@ methods_at zero done before bytes = Ok ([], bytes)
 methods_at (suc n) done before bytes = after done (method_at before bytes) >>= λ first. methods_at n (done + 1) first.0.name first.1 >>= λ others. Ok (first.0 ∷ others.0, others.1)
 
 -- all of the bytes
-unfoldable pub image_of : List ℕ → Result (List ClassMethod) ImageError
-image_of bytes = after 0 (header_at bytes) >>= λ h. methods_at h.0 0 [] h.1 >>= λ ms. after h.0 (checked (length ms.1 == 0) Trailing ms.0)
+unfoldable pub image_of : List ℕ → Result Class ImageError
+image_of bytes = after 0 (header_at bytes) >>= λ h. methods_at h.0.count 0 [] h.1 >>= λ ms. after h.0.count (checked (length ms.1 == 0) Trailing (record { rules = h.0.rules; methods = ms.0 }))
 
 -- What reading an image returned is what the definition gives, unless memory ran out.
 abbrev pub GivesImage : {X Y : Type 0} → (X → Y) → Result X ImageError → Result Y ImageError → Type 0
@@ -110,10 +122,10 @@ RefusesMethods count bytes e = ((e.error ≡ NoMemory) × ReadsSoFar count bytes
 
 -- n methods of an image are read whole, and it is to have more
 pub record ReadsMethods (bytes : List ℕ) (n : ℕ) : Type 0 where
-  pub count : ℕ
+  pub header : Header
   pub rest : List ℕ
-  pub header : header_at bytes ≡ Ok (count, rest)
-  pub so_far : ReadsSoFar count rest n
+  pub read : header_at bytes ≡ Ok (header, rest)
+  pub so_far : ReadsSoFar header.count rest n
 
 -- A refusal is the one that reading gives, or want of memory behind as many methods as it says.
 abbrev pub RefusesImage : List ℕ → ImageError → Type 0
@@ -136,6 +148,10 @@ unfoldable pub methods_after : ℕ → List ℕ → List ClassMethod → Result 
 methods_after done before [] = Ok []
 methods_after done before (m ∷ ms) = after done (method_after before m) >>= λ first. methods_after (done + 1) m.name ms >>= λ others. Ok (first ∷ others)
 
--- a class of those methods, or the first refusal in the order of an image's fields
-unfoldable pub class_of : List ClassMethod → Result (List ClassMethod) ImageError
-class_of ms = after 0 (checked (is_method_count (length ms)) Limit ms) >>= λ some. methods_after 0 [] ms
+-- methods that are a class's, or the first refusal in the order of an image's fields
+unfoldable pub methods_of : List ClassMethod → Result (List ClassMethod) ImageError
+methods_of ms = after 0 (checked (is_method_count (length ms)) Limit ms) >>= λ some. methods_after 0 [] ms
+
+-- a class of that rule set and those methods, or the first refusal
+abbrev pub class_of : RuleSet → List ClassMethod → Result Class ImageError
+class_of rules ms = methods_of ms >>= λ passed. Ok (record { rules = rules; methods = passed })

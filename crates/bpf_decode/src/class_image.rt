@@ -2,34 +2,35 @@ ghost use Rattle.std.specs.Prelude.{◌≡◌, IfOk};
 ghost use Rattle.bpf_decode.specs.Class.{IsClass};
 ghost use Rattle.bpf_decode.specs.Instruction.{AllFit};
 ghost use Rattle.bpf_decode.specs.Reading.{Reads};
-ghost use Rattle.bpf_decode.specs.ImageReading.{method_after, class_of};
+ghost use Rattle.bpf_decode.specs.ImageReading.{method_after, methods_of, class_of};
 
 use crate::code::slots;
 use crate::decode_error::DecodeError;
 use crate::image_error::ImageError;
 use crate::limits;
 use crate::method::Method;
+use crate::rule_set::RuleSet;
 use std::marker::Model;
 
-/// A class: 1 to 32 methods within the limits, by rising names. Contracts see the list of its methods.
+/// A class: its rule set, and 1 to 32 methods within the limits, by rising names. Contracts see a `Class`.
 pub struct ClassImage {
+    rules: RuleSet,
     methods: Vec<Method>,
 }
 
 impl Drop for ClassImage {
     fn drop(self) {
-        let ClassImage { methods } = self;
+        let ClassImage { rules: _, methods } = self;
         drop(methods);
     }
 }
 
 impl Model for ClassImage {
-    ghost use Rattle.std.specs.Prelude.{List};
-    ghost use Rattle.bpf_decode.specs.Class.{ClassMethod, IsClass};
+    ghost use Rattle.bpf_decode.specs.Class.{Class, IsClass};
 
-    ghost Value = { List ClassMethod };
+    ghost Value = { Class };
 
-    ghost view = { λ c. c.methods.items };
+    ghost view = { λ c. record { rules = c.rules; methods = c.methods.items } };
 
     ghost invariant = { λ c. IsClass c.methods.items };
 }
@@ -37,42 +38,49 @@ impl Model for ClassImage {
 impl ClassImage {
     ghost use Rattle.std.specs.Prelude.{◌↔◌, IsOk};
 
-    /// The class of those methods. It takes no memory.
+    /// The class of those methods that is verified by that rule set. It takes no memory.
     ///
     /// Refusals, in the order of the image's fields, with the number of methods that are right before it: `Limit` for
     /// their count; of a method `Name`, `Order`, `Flags`, and `Limit` for a capacity or its slots. Such methods may have no
     /// image (a name of 300 bytes has no length byte), so this order is a definition of its own.
-    pub fn new(methods: Vec<Method>) -> Result<ClassImage, ImageError>
-        ensures exact { result ≡ class_of methods.items }
+    pub fn new(methods: Vec<Method>, rules: RuleSet) -> Result<ClassImage, ImageError>
+        ensures exact { result ≡ class_of rules methods.items }
         ensures accepts { IsOk result ↔ IsClass methods.items }
-        ensures value { IfOk result (λ c. c ≡ methods.items) }
+        ensures value { IfOk result (λ c. c ≡ record { rules = rules; methods = methods.items }) }
     {
         match check_methods(&methods) {
-            Ok(()) => Ok(ClassImage { methods }),
+            Ok(()) => Ok(ClassImage { rules, methods }),
             Err(error) => Err(error),
         }
     }
 
-    /// A class of methods that are one.
-    pub(crate) fn of(methods: Vec<Method>) -> ClassImage
+    /// A class of methods that are a class's.
+    pub(crate) fn of(rules: RuleSet, methods: Vec<Method>) -> ClassImage
         requires { IsClass methods.items }
-        ensures { result ≡ methods.items }
+        ensures { result ≡ record { rules = rules; methods = methods.items } }
     {
-        ClassImage { methods }
+        ClassImage { rules, methods }
+    }
+
+    /// The rules by which it is verified.
+    pub fn rules(&self) -> RuleSet
+        ensures { result ≡ self.now.rules }
+    {
+        self.rules
     }
 
     /// Its methods, by rising names.
     pub fn methods(&self) -> &[Method]
-        ensures methods { result.now ≡ self.now }
-        ensures class { IsClass self.now }
+        ensures methods { result.now ≡ self.now.methods }
+        ensures class { IsClass self.now.methods }
     {
         &self.methods
     }
 }
 
-/// Whether they are a class, or the first refusal.
+/// Whether they are a class's, or the first refusal.
 fn check_methods(methods: &[Method]) -> Result<(), ImageError>
-    ensures read { Reads (λ _. methods.now) result (class_of methods.now) }
+    ensures read { Reads (λ _. methods.now) result (methods_of methods.now) }
     ensures class { IfOk result (λ _. IsClass methods.now) }
 {
     if !limits::is_method_count(methods.len()) {

@@ -11,7 +11,7 @@ use thiserror::Error;
 pub enum DecodeError {
     /// A field passes the end; of code alone, the length is no multiple of 8.
     Truncated,
-    /// The first four bytes aren't `RCL1`, or the number behind the count of methods isn't 0.
+    /// The first four bytes are neither `RCL1` nor `RCL2`, or the number behind the count of methods isn't 0.
     Magic,
     /// No instruction has the opcode of that slot.
     Opcode(usize),

@@ -1,12 +1,12 @@
 //! Class images as bytes: reading, and the one spelling.
 
-ghost use Rattle.std.specs.Prelude.{◌≡◌, ◌++◌, List, [], length, string_bytes, IsTrue, IfOk, IfErr, OnOk};
+ghost use Rattle.std.specs.Prelude.{◌≡◌, ◌++◌, [], length, string_bytes, IsTrue, IfOk, IfErr, OnOk};
 ghost use Rattle.std.specs.List.{flat_map};
-ghost use Rattle.bpf_decode.specs.Class.{ClassMethod, IsMethod, IsClass, IsImage, method_bytes, image_bytes};
+ghost use Rattle.bpf_decode.specs.Class.{Class, IsMethod, IsClass, IsImage, method_bytes, magic, image_bytes};
 ghost use Rattle.byteorder.specs.Endian.{little_bytes};
 ghost use Rattle.bpf_decode.specs.Reading.{Reads, Gives};
 ghost use Rattle.bpf_decode.specs.Limits.{are_name_bytes};
-ghost use Rattle.bpf_decode.specs.ImageReading.{GivesImage, RefusesMethods, RefusesImage, byte_at, number_at, bytes_at, name_at, flags_at, capacity_at, code_at, method_at, methods_at, header_at, image_of};
+ghost use Rattle.bpf_decode.specs.ImageReading.{GivesImage, RefusesMethods, RefusesImage, byte_at, number_at, bytes_at, name_at, flags_at, capacity_at, code_at, method_at, methods_at, rules_of, rules_at, header_at, image_of};
 ghost use Rattle.bpf_decode.specs.declared.decode_error.DecodeError.TheVariants.{NoMemory};
 
 use crate::class_image::ClassImage;
@@ -16,6 +16,7 @@ use crate::image_error::ImageError;
 use crate::insn::{Insn, Operand};
 use crate::limits;
 use crate::method::Method;
+use crate::rule_set::RuleSet;
 use byteorder::{ByteOrder, LittleEndian};
 use std::alloc::{AllocError, Global};
 
@@ -132,14 +133,39 @@ fn text_of(alloc: Global, name: &[u8]) -> Result<String, AllocError>
     String::from_utf8_lossy(alloc, name)
 }
 
-#[tactic(auto, unfolding(crate::specs::ImageReading::header_at))]
-fn header_at(bytes: &[u8]) -> Result<(u16, &[u8]), DecodeError>
-    ensures { Reads (λ x. (x.0, x.1.now)) result (header_at bytes.now) }
+/// What stands before an image's methods.
+#[derive(Clone, Copy)]
+struct Header {
+    rules: RuleSet,
+    count: u16,
+}
+
+/// The rule set that four bytes name.
+fn rules_of(magic: &[u8]) -> Result<RuleSet, DecodeError>
+    ensures { result ≡ rules_of magic.now }
+{
+    if magic == b"RCL1".as_slice() {
+        Ok(RuleSet::One)
+    } else if magic == b"RCL2".as_slice() {
+        Ok(RuleSet::Two)
+    } else {
+        Err(DecodeError::Magic)
+    }
+}
+
+#[tactic(auto, unfolding(crate::specs::ImageReading::rules_at))]
+fn rules_at(bytes: &[u8]) -> Result<(RuleSet, &[u8]), DecodeError>
+    ensures { Reads (λ x. (x.0, x.1.now)) result (rules_at bytes.now) }
 {
     let (magic, rest) = bytes_at(4, bytes)?;
-    if magic != b"RCL1".as_slice() {
-        return Err(DecodeError::Magic);
-    }
+    Ok((rules_of(magic)?, rest))
+}
+
+#[tactic(auto, unfolding(crate::specs::ImageReading::header_at))]
+fn header_at(bytes: &[u8]) -> Result<(Header, &[u8]), DecodeError>
+    ensures { Reads (λ x. (x.0, x.1.now)) result (header_at bytes.now) }
+{
+    let (rules, rest) = rules_at(bytes)?;
     let (count, rest) = number_at(rest)?;
     if !limits::is_method_count(count as usize) {
         return Err(DecodeError::Limit);
@@ -148,7 +174,7 @@ fn header_at(bytes: &[u8]) -> Result<(u16, &[u8]), DecodeError>
     if zero != 0 {
         return Err(DecodeError::Magic);
     }
-    Ok((count, rest))
+    Ok((Header { rules, count }, rest))
 }
 
 fn methods_at(alloc: Global, count: u16, bytes: &[u8]) -> Result<(Vec<Method>, &[u8]), ImageError>
@@ -173,17 +199,17 @@ fn methods_at(alloc: Global, count: u16, bytes: &[u8]) -> Result<(Vec<Method>, &
     Ok((methods, rest))
 }
 
-fn read(alloc: Global, bytes: &[u8]) -> Result<Vec<Method>, ImageError>
-    ensures read { GivesImage (λ v. v.items) result (image_of bytes.now) }
+fn read(alloc: Global, bytes: &[u8]) -> Result<(RuleSet, Vec<Method>), ImageError>
+    ensures read { GivesImage (λ x. record { rules = x.0; methods = x.1.items }) result (image_of bytes.now) }
     ensures refused { IfErr result (RefusesImage bytes.now) }
 {
     match header_at(bytes) {
-        Ok((count, rest)) => {
-            let (methods, rest) = methods_at(alloc, count, rest)?;
+        Ok((header, rest)) => {
+            let (methods, rest) = methods_at(alloc, header.count, rest)?;
             if !rest.is_empty() {
-                return Err(ImageError::after(count as usize, DecodeError::Trailing));
+                return Err(ImageError::after(header.count as usize, DecodeError::Trailing));
             }
-            Ok(methods)
+            Ok((header.rules, methods))
         }
         Err(error) => Err(ImageError::after(0, error)),
     }
@@ -194,7 +220,7 @@ fn class(alloc: Global, bytes: &[u8]) -> Result<ClassImage, ImageError>
     ensures refused { IfErr result (RefusesImage bytes.now) }
 {
     match read(alloc, bytes) {
-        Ok(methods) => Ok(ClassImage::of(methods)),
+        Ok((rules, methods)) => Ok(ClassImage::of(rules, methods)),
         Err(error) => Err(error),
     }
 }
@@ -210,7 +236,7 @@ pub fn read_image(alloc: Global, bytes: &[u8]) -> Result<ClassImage, ImageError>
     // What is read is the class's spelling.
     ensures found { IfOk result (λ c. IsImage bytes.now c) }
     // A class's spelling is read, unless memory runs out.
-    ensures only { (ms : List ClassMethod) → IsImage bytes.now ms → GivesImage (λ c. c) result (Ok ms) }
+    ensures only { (c : Class) → IsImage bytes.now c → GivesImage (λ c. c) result (Ok c) }
 {
     class(alloc, bytes)
 }
@@ -249,12 +275,23 @@ fn put_methods(out: &mut Vec<u8>, methods: &[Method]) -> Result<(), AllocError>
     Ok(())
 }
 
-/// Writes the image of those methods at the end.
-fn put_image(out: &mut Vec<u8>, methods: &[Method]) -> Result<(), AllocError>
-    requires { IsClass methods.now }
-    ensures { OnOk result (out.new.items ≡ out.old.items ++ image_bytes methods.now) }
+/// The four bytes that name a rule set.
+fn magic(rules: RuleSet) -> &'static [u8]
+    ensures { result.now ≡ magic rules }
 {
-    out.extend_from_slice(b"RCL1")?;
+    match rules {
+        RuleSet::One => b"RCL1",
+        RuleSet::Two => b"RCL2",
+    }
+}
+
+/// Writes the class's image at the end.
+fn put_image(out: &mut Vec<u8>, image: &ClassImage) -> Result<(), AllocError>
+    ensures class { IsClass image.now.methods }
+    ensures bytes { OnOk result (out.new.items ≡ out.old.items ++ image_bytes image.now) }
+{
+    let methods = image.methods();
+    out.extend_from_slice(magic(image.rules()))?;
     put_number(out, methods.len() as u16)?;
     put_number(out, 0)?;
     put_methods(out, methods)
@@ -266,6 +303,6 @@ pub fn write_image(alloc: Global, image: &ClassImage) -> Result<Vec<u8>, DecodeE
     ensures refused { IfErr result (λ e. e ≡ NoMemory) }
 {
     let mut out = Vec::new(alloc);
-    put_image(&mut out, image.methods())?;
+    put_image(&mut out, image)?;
     Ok(out)
 }

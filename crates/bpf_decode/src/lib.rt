@@ -22,6 +22,7 @@ mod operation;
 mod region;
 mod register;
 mod row;
+mod rule_set;
 mod slot;
 mod value;
 
@@ -42,5 +43,6 @@ pub use method::Method;
 pub use operation::{Arithmetic, Bits, ByteOrder, Comparison, EndWidth, SignedMove};
 pub use region::Region;
 pub use register::Register;
+pub use rule_set::RuleSet;
 pub use slot::Slot;
 pub use value::Value;

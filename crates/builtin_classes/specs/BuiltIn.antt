@@ -1,7 +1,7 @@
 -- What a built-in class is to its text, and why one can't be had.
 use Rattle.std.specs.Prelude.{◌≡◌, ⊤, ℕ, List, [], ◌∷◌, None, Some, Err, codes}
 use Rattle.std.specs.List.{AllByRecursion}
-use Rattle.bpf_decode.specs.Class.{ClassMethod}
+use Rattle.bpf_decode.specs.Class.{ClassMethod, Class}
 use Rattle.bpf_asm.specs.Classes.{read_class_text}
 use Rattle.bpf_asm.specs.Fault.{error_text}
 use Rattle.bpf_asm.specs.Grammar.{IsClassText}
@@ -12,10 +12,12 @@ use Rattle.verifier.specs.declared.refusal.Refusal.{Refusal}
 use Rattle.builtin_classes.specs.declared.failure.BuiltInFailure.{BuiltInFailure}
 use Rattle.builtin_classes.specs.declared.failure.BuiltInFailure.TheVariants.{NoMemory, Text, Verdict}
 
--- the class is the one that the text is, the verifier accepts it, and each of its methods is safe
+-- the methods are those of the class that the text is, the verifier accepts it, and each method is safe
 pub record IsLoaded (text : List ℕ) (class : List ClassMethod) : Type 0 where
-  pub read : IsClassText text class
-  pub accepted : class_verdict class ≡ None
+  pub written : Class
+  pub read : IsClassText text written
+  pub methods : class ≡ written.methods
+  pub accepted : class_verdict written ≡ None
   pub safe : AllByRecursion IsSafe class
 
 -- the classes of two texts, in their order
@@ -28,7 +30,7 @@ pub record AreLoaded (first second : List ℕ) (classes : List (List ClassMethod
 
 -- the text is a class's, which the verifier refuses
 pub record IsRefused (text : List ℕ) (refusal : Refusal) : Type 0 where
-  pub class : List ClassMethod
+  pub class : Class
   pub read : IsClassText text class
   pub verdict : class_verdict class ≡ Some refusal
 

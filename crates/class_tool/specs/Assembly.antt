@@ -4,7 +4,7 @@ use Rattle.bpf_asm.specs.Canonical.{class_text}
 use Rattle.bpf_asm.specs.Classes.{AsmError, read_class_text}
 use Rattle.bpf_asm.specs.Fault.{no_memory}
 use Rattle.bpf_asm.specs.Grammar.{IsClassText}
-use Rattle.bpf_decode.specs.Class.{ClassMethod, IsImage}
+use Rattle.bpf_decode.specs.Class.{Class, IsImage}
 use Rattle.class_tool.specs.Files.{Disk, Holds, IsUnreadable, IsWritten, OthersStay}
 use Rattle.class_tool.specs.Image.{IsImageIn}
 use Rattle.class_tool.specs.declared.failure.Failure.{Failure}
@@ -12,7 +12,7 @@ use Rattle.class_tool.specs.declared.failure.Failure.TheVariants.{CannotRead, Ca
 
 -- the bytes are the image of the class that the text is
 pub record Spells (text : List ℕ) (bytes : List ℕ) : Type 0 where
-  pub class : List ClassMethod
+  pub class : Class
   pub read : IsClassText text class
   pub image : IsImage bytes class
 
@@ -49,7 +49,7 @@ TextFails disk name (Call error) = ⊥
 -- the text is one of no class, and this is the first line that is refused and the least fault there
 pub record IsFaultOf (text : List ℕ) (error : AsmError) : Type 0 where
   pub first : read_class_text text ≡ Err error
-  pub none : (class : List ClassMethod) → IsClassText text class → ⊥
+  pub none : (class : Class) → IsClassText text class → ⊥
 
 -- Why a text has no image: memory was refused, or it is one of no class.
 abbrev pub ImageFails : List ℕ → Failure → Type 0
@@ -82,6 +82,6 @@ AssembleFails before after text image failure =
 
 -- the text is the canonical one of the class whose image the file holds
 pub record IsTextOf (disk : Option Disk) (name : List ℕ) (text : List ℕ) : Type 0 where
-  pub class : List ClassMethod
+  pub class : Class
   pub image : IsImageIn disk name class
   pub canonical : text ≡ class_text class

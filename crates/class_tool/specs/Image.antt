@@ -1,7 +1,7 @@
 -- What a file says as an image, and why it says nothing.
 use Rattle.std.specs.Prelude.{◌≡◌, ◌⊎◌, ⊤, ℕ, List, Option, Some, Err}
 use Rattle.std.specs.List.{AllByRecursion}
-use Rattle.bpf_decode.specs.Class.{ClassMethod, IsImage}
+use Rattle.bpf_decode.specs.Class.{ClassMethod, Class, IsImage}
 use Rattle.bpf_decode.specs.ImageReading.{image_of}
 use Rattle.bpf_decode.specs.declared.decode_error.DecodeError.TheVariants as decode
 use Rattle.bpf_decode.specs.declared.image_error.ImageError.{ImageError}
@@ -14,14 +14,16 @@ use Rattle.class_tool.specs.declared.failure.Failure.TheVariants.{CannotRead, Ca
 use Rattle.class_tool.specs.Files.{IsUnreadable}
 
 -- the file holds the image of the class
-pub record IsImageIn (disk : Option Disk) (name : List ℕ) (class : List ClassMethod) : Type 0 where
+pub record IsImageIn (disk : Option Disk) (name : List ℕ) (class : Class) : Type 0 where
   pub bytes : List ℕ
   pub held : Holds disk name bytes
   pub image : IsImage bytes class
 
--- and each of its methods is safe
+-- the methods are those of a class whose image the file holds, and each is safe
 pub record IsSafeIn (disk : Option Disk) (name : List ℕ) (class : List ClassMethod) : Type 0 where
-  pub image : IsImageIn disk name class
+  pub written : Class
+  pub image : IsImageIn disk name written
+  pub methods : class ≡ written.methods
   pub safe : AllByRecursion IsSafe class
 
 -- the file's bytes are refused so, the first refusal in reading order
@@ -32,7 +34,7 @@ pub record IsRefusedIn (disk : Option Disk) (name : List ℕ) (error : ImageErro
 
 -- the file holds the image of a class whose verdict is that refusal; or memory was refused
 pub record IsVerdictIn (disk : Option Disk) (name : List ℕ) (refusal : Refusal) : Type 0 where
-  pub class : List ClassMethod
+  pub class : Class
   pub image : IsImageIn disk name class
   pub verdict : (refusal ≡ out_of_memory) ⊎ (class_verdict class ≡ Some refusal)
 

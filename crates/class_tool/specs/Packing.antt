@@ -1,5 +1,6 @@
 -- What `pack` writes, and why it does not.
 use Rattle.std.specs.Prelude.{◌≡◌, ◌⊎◌, ⊤, ℕ, List, [], ◌∷◌, ◌++◌, Option, Err, length}
+use Rattle.bpf_decode.specs.declared.rule_set.RuleSet.TheVariants.{One}
 use Rattle.bpf_decode.specs.Class.{ClassMethod, IsImage}
 use Rattle.bpf_decode.specs.ImageReading.{class_of}
 use Rattle.bpf_decode.specs.Instruction.{IsCode}
@@ -34,11 +35,11 @@ AreMethodsIn disk [] (method ∷ methods) = ⊥
 AreMethodsIn disk (raw ∷ raws) [] = ⊥
 AreMethodsIn disk (raw ∷ raws) (method ∷ methods) = IsMethodIn disk raw method × AreMethodsIn disk raws methods
 
--- the bytes are the image of the class of those methods
+-- the bytes are the image of the class of those methods, in rule set 1
 pub record IsPackedOf (disk : Option Disk) (raws : List RawMethod) (bytes : List ℕ) : Type 0 where
   pub class : List ClassMethod
   pub methods : AreMethodsIn disk raws class
-  pub image : IsImage bytes class
+  pub image : IsImage bytes (record { rules = One; methods = class })
 
 -- The image is written, and every other file is as it was.
 pub record Packs (before after : Option Disk) (asked : Packing) : Type 0 where
@@ -80,7 +81,7 @@ ClassFails methods CannotRead = ⊥
 ClassFails methods CannotWrite = ⊥
 ClassFails methods NoMemory = ⊤
 ClassFails methods (Text error) = ⊥
-ClassFails methods (Image error) = class_of methods ≡ Err error
+ClassFails methods (Image error) = class_of One methods ≡ Err error
 ClassFails methods (Verdict refusal) = ⊥
 ClassFails methods InputNotHex = ⊥
 ClassFails methods (Call error) = ⊥

@@ -1,11 +1,12 @@
 ghost use Rattle.std.specs.Prelude.{◌⊎◌, IfOk, IfErr};
+ghost use Rattle.bpf_decode.specs.declared.rule_set.RuleSet.TheVariants.{One};
 ghost use Rattle.bpf_decode.specs.Class.{IsImage};
 ghost use Rattle.class_tool.specs.Packing.{AreMethodsIn, ClassFails, CodeFails, IsCodeIn, IsMethodIn, IsPackedOf, MethodsFail, PackFails, PackedFails, Packs};
 
 use crate::action::{Packing, RawMethod};
 use crate::failure::Failure;
 use crate::files::{Files, Reads};
-use bpf_decode::{ClassImage, ImageError, Insn, Method, decode, write_image};
+use bpf_decode::{ClassImage, ImageError, Insn, Method, RuleSet, decode, write_image};
 use std::alloc::Global;
 
 /// The instructions of the raw code that a file holds. A refusal of the code is an image's, after so many methods.
@@ -63,12 +64,12 @@ fn methods_in<F: Reads>(
     Ok(methods)
 }
 
-/// The image of the class of those methods.
+/// The image of the class of those methods, in rule set 1.
 fn image_of(alloc: Global, methods: Vec<Method>) -> Result<Vec<u8>, Failure>
-    ensures image { IfOk result (λ bytes. IsImage bytes.items methods.items) }
+    ensures image { IfOk result (λ bytes. IsImage bytes.items (record { rules = One; methods = methods.items })) }
     ensures fails { IfErr result (ClassFails methods.items) }
 {
-    let class = match ClassImage::new(methods) {
+    let class = match ClassImage::new(methods, RuleSet::One) {
         Ok(class) => class,
         Err(error) => return Err(Failure::Image(error)),
     };

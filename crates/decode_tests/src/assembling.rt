@@ -3,15 +3,16 @@ mod limits;
 
 use super::decoding::{are_read, are_written, is_printed, mov, register_of};
 use bpf_asm::{
-    AsmError, AsmFault, assemble, assemble_class, disassemble, disassemble_class, one_class_text,
-    one_reading, one_text,
+    AsmError, AsmFault, assemble, assemble_class, disassemble, disassemble_class,
+    disassemble_with_slots, one_class_text, one_reading, one_slot_text, one_text,
 };
 use bpf_decode::{
     Arithmetic, Bits, ByteOrder, ClassImage, Comparison, EndWidth, Insn, Operand, Register,
     SignedMove, SignedWidth, Width, encode,
 };
 use class_texts::{
-    LOCK, LOCK_PLAIN, ONE_METHOD, ONE_METHOD_PLAIN, OTHERS, TWO_METHODS, TWO_METHODS_PLAIN,
+    LOCK, LOCK_PLAIN, ONE_METHOD, ONE_METHOD_PLAIN, OTHERS, RULED, RULED_PLAIN, SLOTS, SLOTS_PLAIN,
+    TWO_METHODS, TWO_METHODS_PLAIN,
 };
 use std::alloc::Global;
 use std::process::Abort;
@@ -243,6 +244,9 @@ const REFUSED: &str = "1 Range
 1 Range a:/
 1 Word .method f r 0 0/exit
 1 Word .method
+1 Word .rules 2/exit
+2 Word exit/.rules 3
+1 Word .rules 2
 3 Word /exit/foo r1
 1 Word foo r11/mov r11
 1 Operand mov r0
@@ -347,7 +351,7 @@ fn are_right(rt: &impl Abort, alloc: Global, rows: &str, of_class: bool, wanted:
 
 #[test]
 fn refused(rt: HostRuntime) {
-    are_right(&rt, rt.alloc(), REFUSED, false, 43);
+    are_right(&rt, rt.alloc(), REFUSED, false, 46);
 }
 
 /// A line so many times, and the lines behind it.
@@ -376,6 +380,7 @@ fn a_slot_too_many(rt: HostRuntime) {
 fn laws(_rt: HostRuntime) {
     one_text();
     one_class_text();
+    one_slot_text();
     one_reading();
 }
 
@@ -412,11 +417,14 @@ fn is_true(found: Result<bool, AsmError>) -> bool {
 }
 
 /// Texts of classes, and how they are printed.
-const CLASSES: [(&str, &str); 4] = [
+const CLASSES: [(&str, &str); 7] = [
     (LOCK, LOCK_PLAIN),
     (LOCK_PLAIN, LOCK_PLAIN),
     (ONE_METHOD, ONE_METHOD_PLAIN),
     (TWO_METHODS, TWO_METHODS_PLAIN),
+    (RULED, RULED_PLAIN),
+    (RULED_PLAIN, RULED_PLAIN),
+    (SLOTS, SLOTS_PLAIN),
 ];
 
 #[test]
@@ -428,6 +436,16 @@ fn classes(rt: HostRuntime) {
             "{text}"
         );
     }
+}
+
+/// The class of the text, with slots.
+fn with_slots(alloc: Global, text: &str) -> Result<String, AsmError> {
+    disassemble_with_slots(alloc, &assemble_class(alloc, text)?)
+}
+
+#[test]
+fn shows_slots(rt: HostRuntime) {
+    assert!(rt; is_text(with_slots(rt.alloc(), SLOTS_PLAIN), SLOTS));
 }
 
 /// The same of classes.
@@ -453,11 +471,26 @@ const REFUSED_CLASSES: &str = "1 Range
 3 Label .method g r 0 0/exit/.method f r 0 0/exit
 3 Label .method f r 0 0/exit/.method f r 0 0/exit
 5 Label .method f r 0 0/a:/exit/.method g r 0 0/ja a
+1 Operand .rules 1/.method f r 0 0/exit
+1 Operand .rules 0x2/.method f r 0 0/exit
+1 Operand .rules/.method f r 0 0/exit
+1 Operand .rules 2 2/.method f r 0 0/exit
+1 Word .rules2/.method f r 0 0/exit
+1 Operand .rules 3
+1 Range .rules 2
+1 Range .rules 2/.method f r 0 0
+2 Word .rules 2/.rules 2/.method f r 0 0/exit
+2 Word .rules 2/.rules 3/.method f r 0 0/exit
+2 Word .rules 2/exit/.method f r 0 0/exit
+2 Word .method f r 0 0/.rules 2/exit
+3 Word .method f r 0 0/exit/.rules 3/.method g r 0 0/exit
+1 Word a:/.rules 2/.method f r 0 0/exit
+2 Operand .rules 2/.method f/exit
 ";
 
 #[test]
 fn refused_classes(rt: HostRuntime) {
-    are_right(&rt, rt.alloc(), REFUSED_CLASSES, true, 22);
+    are_right(&rt, rt.alloc(), REFUSED_CLASSES, true, 37);
 }
 
 /// Memory ran out, at line 0.

@@ -2,9 +2,9 @@ mod largest;
 mod opcodes;
 
 use bpf_decode::{
-    Arithmetic, Bits, ClassImage, DecodeError, ImageError, Insn, Method, Operand, Register, Width,
-    beginning, check, decode, encode, every_row, one_class, one_spelling, read_image, round_trip,
-    width, write_image,
+    Arithmetic, Bits, ClassImage, DecodeError, ImageError, Insn, Method, Operand, Register,
+    RuleSet, Width, beginning, check, decode, encode, every_row, one_class, one_spelling,
+    read_image, round_trip, width, write_image,
 };
 use std::alloc::Global;
 use std::fmt::Display;
@@ -17,8 +17,10 @@ const IMAGE: [u8; 33] = [
 ];
 
 /// A place of the image, the byte that is put there, the methods read whole, and the refusal.
-const REFUSED: [(usize, u8, usize, DecodeError); 21] = [
+const REFUSED: [(usize, u8, usize, DecodeError); 23] = [
     (0, 0x53, 0, DecodeError::Magic),
+    (3, 0x30, 0, DecodeError::Magic),
+    (3, 0x33, 0, DecodeError::Magic),
     (6, 1, 0, DecodeError::Magic),
     (4, 0, 0, DecodeError::Limit),
     (4, 0x21, 0, DecodeError::Limit),
@@ -343,11 +345,31 @@ fn writes_the_image(rt: HostRuntime) {
     assert!(rt; is_kept(rt.alloc(), &IMAGE, false));
 }
 
-/// A class of two methods.
+/// The fourth byte of the image, and the rule set of its class.
+const RULE_SETS: [(u8, RuleSet); 2] = [(0x31, RuleSet::One), (0x32, RuleSet::Two)];
+
+/// Whether the class of the image has that rule set.
+fn has_rules(alloc: Global, image: &[u8], rules: RuleSet) -> bool {
+    match read_image(alloc, image) {
+        Ok(class) => class.rules() == rules,
+        Err(_) => false,
+    }
+}
+
+#[test]
+fn rule_sets(rt: HostRuntime) {
+    for row in &RULE_SETS {
+        let (byte, rules) = *row;
+        assert!(rt; has_rules(rt.alloc(), &changed(3, byte), rules));
+        assert!(rt; is_kept(rt.alloc(), &changed(3, byte), false));
+    }
+}
+
+/// A class of two methods, of rule set 2.
 fn two_methods(rt: &impl Abort, alloc: Global) -> ClassImage {
     let first = method(rt, alloc, "get_2", 1, 0);
     let second = method(rt, alloc, "set", 3, 4096);
-    ClassImage::new(methods(rt, alloc, first, second)).expect(rt, "a class")
+    ClassImage::new(methods(rt, alloc, first, second), RuleSet::Two).expect(rt, "a class")
 }
 
 /// Its image.
@@ -364,10 +386,10 @@ fn have_in_caps(methods: &[Method]) -> bool {
     }
 }
 
-/// Whether the class of the image has two such methods.
+/// Whether the class of the image has two such methods, and that rule set.
 fn has_in_caps(alloc: Global, image: &[u8]) -> bool {
     match read_image(alloc, image) {
-        Ok(class) => have_in_caps(class.methods()),
+        Ok(class) => have_in_caps(class.methods()) && class.rules() == RuleSet::Two,
         Err(_) => false,
     }
 }
@@ -402,7 +424,7 @@ fn refusal_of(
 ) -> Option<ImageError> {
     let first = method(rt, alloc, "a", 1, 0);
     let second = method(rt, alloc, name, flags, in_cap);
-    ClassImage::new(methods(rt, alloc, first, second)).err()
+    ClassImage::new(methods(rt, alloc, first, second), RuleSet::One).err()
 }
 
 #[test]
@@ -417,7 +439,7 @@ fn refuses_methods(rt: HostRuntime) {
 #[test]
 fn refuses_no_methods(rt: HostRuntime) {
     let (methods, error) = (0, DecodeError::Limit);
-    let found = ClassImage::new(Vec::new(rt.alloc())).err();
+    let found = ClassImage::new(Vec::new(rt.alloc()), RuleSet::Two).err();
     assert!(rt; found == Some(ImageError { methods, error }));
 }
 

@@ -1,5 +1,5 @@
 //! Classes from their instructions.
-use bpf_decode::{ClassImage, Method, decode};
+use bpf_decode::{ClassImage, Method, RuleSet, decode};
 use interp::ClassTable;
 use std::alloc::Global;
 use std::process::Abort;
@@ -29,7 +29,7 @@ pub(super) fn class<R: Abort>(
     let mut methods = Vec::new(alloc);
     let method = method(rt, alloc, "f", flags, in_cap, code);
     methods.push(method).expect(rt, "memory");
-    let image = ClassImage::new(methods).expect(rt, "a class");
+    let image = ClassImage::new(methods, RuleSet::One).expect(rt, "a class");
     verify(alloc, &image).expect(rt, "a safe class")
 }
 

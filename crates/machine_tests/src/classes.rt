@@ -1,6 +1,6 @@
 //! Classes with one method.
 
-use bpf_decode::{ClassImage, Method, decode};
+use bpf_decode::{ClassImage, Method, RuleSet, decode};
 use std::alloc::Global;
 use std::process::Abort;
 use verifier::{VerifiedClass, verify};
@@ -23,7 +23,7 @@ fn method_of(
 fn image_with(rt: &impl Abort, alloc: Global, method: Method) -> ClassImage {
     let mut methods = Vec::with_capacity(alloc, 1).expect(rt, "memory");
     methods.push_reserved(method);
-    ClassImage::new(methods).expect(rt, "a class")
+    ClassImage::new(methods, RuleSet::One).expect(rt, "a class")
 }
 
 /// The image of a class with one method `f` of that code.

@@ -273,12 +273,20 @@ static RUNS: [Row; 15] = [
 ];
 
 /// Rows of `dis`.
-static SHOWN: [Row; 6] = [
+static SHOWN: [Row; 7] = [
     Row {
         words: &["dis", "image"],
         image: TWO,
         text: "",
         printed: ".method f r 0 0\nmov r0, 0\nexit\n",
+        status: 0,
+    },
+    // a class of rule set 2
+    Row {
+        words: &["dis", "image"],
+        image: "52434c32 0100 0000 01 66 01 0000 0000 0200 b700000000000000 9500000000000000",
+        text: "",
+        printed: ".rules 2\n.method f r 0 0\nmov r0, 0\nexit\n",
         status: 0,
     },
     // the canonical text of a class of two methods

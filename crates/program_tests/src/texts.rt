@@ -25,13 +25,23 @@ const LOOSE_TEXT: &str =
 const LOOSE: &str = "52434c31 0100 0000 01 66 01 0000 0000 0400 b700000000000000 1500010000000000 \
     b700000001000000 9500000000000000";
 
+/// The two instructions in rule set 2.
+const RULED_TEXT: &str = ".rules 2\n.method f r 0 0\nmov r0, 0\nexit\n";
+
+const RULED: &str = "52434c32 0100 0000 01 66 01 0000 0000 0200 b700000000000000 9500000000000000";
+
 const ASM: [&str; 3] = ["asm", "text", "out"];
 
 /// Texts and their images.
-static ASSEMBLED: [(&str, &str); 3] = [(TWO_TEXT, TWO), (KEEP_TEXT, KEEP), (LOOSE_TEXT, LOOSE)];
+static ASSEMBLED: [(&str, &str); 4] = [
+    (TWO_TEXT, TWO),
+    (KEEP_TEXT, KEEP),
+    (LOOSE_TEXT, LOOSE),
+    (RULED_TEXT, RULED),
+];
 
 /// Texts that are refused, and their lines.
-static REFUSED: [Row; 6] = [
+static REFUSED: [Row; 8] = [
     Row {
         words: &ASM,
         image: "",
@@ -72,6 +82,20 @@ static REFUSED: [Row; 6] = [
         image: "",
         text: "mov r0, 0\nexit\n",
         printed: "line 1: 1 Word\n",
+        status: 1,
+    },
+    Row {
+        words: &ASM,
+        image: "",
+        text: ".rules 1\n.method f r 0 0\nexit\n",
+        printed: "line 1: 2 Operand\n",
+        status: 1,
+    },
+    Row {
+        words: &ASM,
+        image: "",
+        text: ".method f r 0 0\n.rules 2\nexit\n",
+        printed: "line 2: 1 Word\n",
         status: 1,
     },
 ];

@@ -1,6 +1,6 @@
 -- The classes of a cluster that hasn't run, and why a class isn't loaded.
 use Rattle.std.specs.Prelude.{◌≡◌, ℕ, suc, List, [], ◌∷◌, ◌++◌, length, ◌==◌, Option, Some, None, Result, Ok, Err, Bool, true, false}
-use Rattle.bpf_decode.specs.Class.{ClassMethod}
+use Rattle.bpf_decode.specs.Class.{ClassMethod, Class}
 use Rattle.bpf_decode.specs.ImageReading.{image_of}
 use Rattle.bpf_decode.specs.declared.image_error.ImageError.{ImageError}
 use Rattle.verifier.specs.Verdict.{class_verdict}
@@ -30,10 +30,12 @@ pub record HasBuiltIn (config : Config) (s : ClusterState) : Type 0 where
   pub is : s ≡ record { count = 2; config = Some config; classes = Some table }
   pub built_in : IsBuiltIn table
 
--- the class is the image's, and it is accepted
+-- the methods are those of the image's class, which is accepted
 pub record IsVerified (image : List ℕ) (class : List ClassMethod) : Type 0 where
-  pub read : image_of image ≡ Ok class
-  pub accepted : class_verdict class ≡ None
+  pub written : Class
+  pub read : image_of image ≡ Ok written
+  pub methods : class ≡ written.methods
+  pub accepted : class_verdict written ≡ None
 
 -- the image's class, which is accepted, is one more at the end, and its id is that place; what the cluster is made of stays
 pub record IsAdded (image : List ℕ) (old new : ClusterState) (id : ℕ) : Type 0 where
@@ -48,7 +50,7 @@ abbrev pub verdict_refusal : Option Refusal → Option LoadError
 verdict_refusal None = None
 verdict_refusal (Some refusal) = Some (load.Verdict refusal)
 
-abbrev pub refusal_of_read : Result (List ClassMethod) ImageError → Option LoadError
+abbrev pub refusal_of_read : Result Class ImageError → Option LoadError
 refusal_of_read (Ok class) = verdict_refusal (class_verdict class)
 refusal_of_read (Err e) = Some (load.Image e)
 

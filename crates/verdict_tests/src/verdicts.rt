@@ -8,7 +8,7 @@ mod longest;
 mod methods;
 mod ranges;
 
-use bpf_decode::{ClassImage, Method, decode};
+use bpf_decode::{ClassImage, Method, RuleSet, decode};
 use std::alloc::Global;
 use std::process::Abort;
 use verifier::{Refusal, verify};
@@ -102,7 +102,7 @@ fn class(alloc: Global, row: &str) -> Option<ClassImage> {
     if !put(&mut methods, method_of(alloc, "f", row)) {
         return None;
     }
-    ClassImage::new(methods).ok()
+    ClassImage::new(methods, RuleSet::One).ok()
 }
 
 /// Whether a refusal is of that method and of the slot and the rule that a word tells.

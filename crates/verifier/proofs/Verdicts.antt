@@ -11,7 +11,7 @@ use Rattle.bpf_machine.specs.Safe.{caps_of}
 use Rattle.verifier.specs.declared.rule.Rule.{Rule}
 use Rattle.verifier.specs.declared.refusal.Refusal.{Refusal}
 use Rattle.verifier.specs.Rules.{rule_at}
-use Rattle.verifier.specs.Verdict.{Table, frame_at, whole_table, or_else, first_refused, code_verdict, method_verdict, or_later, verdict_from, class_verdict, Refuses, IsDeserved}
+use Rattle.verifier.specs.Verdict.{Table, frame_at, whole_table, or_else, first_refused, code_verdict, method_verdict, or_later, verdict_from, Refuses, IsDeserved}
 use Rattle.verifier.proofs.Passed.{rule_is_broken}
 
 none_left : (p : ℕ) (r : Option Rule) (later : Option (ℕ × Rule)) → or_else p r later ≡ None → (r ≡ None) × (later ≡ None)
@@ -98,7 +98,7 @@ found_from [] k r h = absurd (none-some r h)
 found_from (m ∷ ms) k r h = in_method m ms k r (method_verdict m) refl (found_from ms (k + 1) r) h
 
 -- the rule of a refusal refuses the instruction at its slot of its method
-pub deserved : (ms : List ClassMethod) (r : Refusal) → class_verdict ms ≡ Some r → IsDeserved ms r
+pub deserved : (ms : List ClassMethod) (r : Refusal) → verdict_from 0 ms ≡ Some r → IsDeserved ms r
 deserved ms r h =
     let f = found_from ms 0 r h in
     let same : f.past ≡ r.method = omega (arith, f.is) in

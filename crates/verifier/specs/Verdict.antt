@@ -2,7 +2,7 @@
 use Rattle.std.specs.Prelude.{◌≡◌, ℕ, zero, suc, ◌+◌, ◌<◌, List, [], ◌∷◌, ◌++◌, Option, Some, None, true, if◌then◌else◌, ◌==◌, slice_get, length}
 use Rattle.bpf_decode.specs.declared.insn.Insn.{Insn}
 use Rattle.bpf_decode.specs.Instruction.{slots}
-use Rattle.bpf_decode.specs.Class.{ClassMethod}
+use Rattle.bpf_decode.specs.Class.{ClassMethod, Class}
 use Rattle.bpf_machine.specs.declared.caps.Caps.{Caps}
 use Rattle.bpf_machine.specs.State.{◌>>=◌}
 use Rattle.bpf_machine.specs.Typed.{fetch}
@@ -107,9 +107,10 @@ verdict_from k (m ∷ ms) = or_later k (method_verdict m) (verdict_from (k + 1) 
 abbrev pub IsFirst : ℕ → ClassMethod → Refusal → Type 0
 IsFirst number m r = (r.method ≡ number) × (method_verdict m ≡ Some (r.slot, r.rule))
 
--- The verdict: the first method with a refusal, its lowest refused slot, and at it the lowest rule.
-abbrev pub class_verdict : List ClassMethod → Option Refusal
-class_verdict ms = verdict_from 0 ms
+-- The verdict: the first method with a refusal, its lowest refused slot, and at it the lowest rule. A class of rule set 2
+-- is judged by the rules of set 1 too.
+abbrev pub class_verdict : Class → Option Refusal
+class_verdict c = verdict_from 0 c.methods
 
 abbrev pub out_of_memory : Refusal
 out_of_memory = record { method = 0; slot = 0; rule = NoMemory }

@@ -13,14 +13,15 @@ use std::alloc::Global;
 /// Accepts a class, each of whose methods then runs to its exit on every object and input, or gives the first refusal:
 /// the first method with one, its lowest refused slot, and there the lowest rule. `Rule::NoMemory`, with method and
 /// slot 0, says that memory was refused. One pass over the slots of each method.
+/// A class of rule set 2 is judged by the rules of set 1 too.
 pub fn verify(alloc: Global, image: &ClassImage) -> Result<VerifiedClass, Refusal>
-    ensures value { IfOk result (λ v. v ≡ image.now) }
+    ensures value { IfOk result (λ v. v ≡ image.now.methods) }
     // Accepted means safe: never stuck, in every layout of the regions.
-    ensures safe { IfOk result (λ _. AllByRecursion IsSafe image.now) }
+    ensures safe { IfOk result (λ _. AllByRecursion IsSafe image.now.methods) }
     ensures accepted { IfOk result (λ _. class_verdict image.now ≡ None) }
     // The refusal is the verdict, and its rule refuses the instruction at its slot.
     ensures refused { IfErr result (λ r. (r ≡ out_of_memory) ⊎ (class_verdict image.now ≡ Some r)) }
-    ensures deserved { IfErr result (λ r. (r ≡ out_of_memory) ⊎ IsDeserved image.now r) }
+    ensures deserved { IfErr result (λ r. (r ≡ out_of_memory) ⊎ IsDeserved image.now.methods r) }
 {
     let mut methods = Vec::new(alloc);
     for (number, method) in image.methods().iter().enumerate() {

@@ -69,6 +69,31 @@ pub const TWO_METHODS: &str =
 
 pub const TWO_METHODS_PLAIN: &str = ".method a rw 16 4096\nja -1\n.method b w 0 0\nja +0\nexit\n";
 
+/// A class of rule set 2, and its canonical text.
+pub const RULED: &str =
+    "; spills\n\n \t.rules  2\t; not 1\n\n.method f r 0 1\nstxdw [r10-8], r3\nmov r0, 0\nexit";
+
+pub const RULED_PLAIN: &str = ".rules 2\n.method f r 0 1\nstxdw [r10-8], r3\nmov r0, 0\nexit\n";
+
+/// A class with a wide load, which takes two slots, with slots and as its canonical text.
+pub const SLOTS: &str = ".rules 2
+.method f r 0 0
+lddw r1, 0x0000000000000010 ; slot 0
+mov r0, 0 ; slot 2
+exit ; slot 3
+.method g w 0 0
+exit ; slot 0
+";
+
+pub const SLOTS_PLAIN: &str = ".rules 2
+.method f r 0 0
+lddw r1, 0x0000000000000010
+mov r0, 0
+exit
+.method g w 0 0
+exit
+";
+
 /// The forms without arithmetic and comparisons, a canonical line each.
 pub const OTHERS: &str = "neg r1
 neg32 r1

@@ -1,7 +1,7 @@
 //! Whole classes: which method is refused, what a verified one keeps, and every byte of an image.
 
 use super::{class, is_judged, method_of, put};
-use bpf_decode::{ClassImage, Method, encode, read_image};
+use bpf_decode::{ClassImage, Method, RuleSet, encode, read_image};
 use bpf_machine::Caps;
 use flat_machine::{Ending, Layout, flat_run, is_layout};
 use std::alloc::Global;
@@ -95,7 +95,7 @@ fn three(alloc: Global) -> Option<ClassImage> {
     if !put_three(alloc, &mut methods) {
         return None;
     }
-    ClassImage::new(methods).ok()
+    ClassImage::new(methods, RuleSet::One).ok()
 }
 
 #[test]

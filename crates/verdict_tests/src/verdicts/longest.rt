@@ -1,7 +1,7 @@
 //! The longest methods and the largest class.
 
 use super::{is_judged, method, put};
-use bpf_decode::{ClassImage, Method};
+use bpf_decode::{ClassImage, Method, RuleSet};
 use std::alloc::{AllocError, Global};
 use verifier::verify;
 
@@ -60,7 +60,7 @@ fn class(alloc: Global, names: &str, first: u64, pair: u128) -> Option<ClassImag
     if !put_longest(alloc, &mut methods, names, first, pair) {
         return None;
     }
-    ClassImage::new(methods).ok()
+    ClassImage::new(methods, RuleSet::One).ok()
 }
 
 /// Whether `verify` says so of a class of one such method.

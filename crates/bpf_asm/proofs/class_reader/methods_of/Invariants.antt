@@ -10,7 +10,7 @@ invariant-loop-index l =
       inside : l.index ≤ length l.lines;
       right : methods_after 0 [] l.methods.items ≡ Ok l.methods.items;
       few : length l.methods.items ≤ 32;
-      same : class_from l.methods.items (l.index + 1) (drop l.index l.lines) ≡ class_from [] 1 l.lines;
+      same : class_from l.methods.items (l.index + 1) (drop l.index l.lines) ≡ class_from [] (l.first + 1) (drop l.first l.lines);
     }
 
 abbrev pub decreases-loop-index : goal.decreases-loop-index

@@ -3,4 +3,4 @@ use Rattle.bpf_decode.proofs.ImageLaws.{image_takes}
 use Rattle.bpf_decode.proofs.image.class.Goals as goal
 
 pub of-requires : goal.of-requires
-of-requires c = (image_takes c.args.bytes.now c.in-Ok.methods.items (λ i. omega (arith, c.type_inv.bytes i)) c.in-Ok.ensures.read).class
+of-requires c = (image_takes c.args.bytes.now (record { rules = c.in-Ok.rules; methods = c.in-Ok.methods.items }) (λ i. omega (arith, c.type_inv.bytes i)) c.in-Ok.ensures.read).class

@@ -6,7 +6,7 @@ use Rattle.std.specs.List.{AllByRecursion}
 use Rattle.bpf_decode.specs.Class.{ClassMethod, IsClass, IsMethod}
 use Rattle.bpf_machine.specs.Safe.{IsSafe}
 use Rattle.verifier.specs.declared.refusal.Refusal.{Refusal}
-use Rattle.verifier.specs.Verdict.{verdict_from, or_later, class_verdict, out_of_memory, IsFirst, IsDeserved}
+use Rattle.verifier.specs.Verdict.{verdict_from, or_later, out_of_memory, IsFirst, IsDeserved}
 use Rattle.verifier.proofs.Verdicts.{deserved}
 use Rattle.std.specs.Prelude.{slice_get}
 use Rattle.verifier.proofs.Tables.{drop_head}
@@ -14,19 +14,19 @@ use Rattle.verifier.proofs.Accepts.{all_at, all_more, take_next}
 use Rattle.verifier.proofs.class.verify.Goals as goal
 
 -- the refusal of a method is the verdict, where the methods below it have none
-refusal_is : (ms : List ClassMethod) (number : ℕ) (m : ClassMethod) (r : Refusal) → slice_get ms number ≡ Some m → verdict_from number (drop number ms) ≡ class_verdict ms → (r ≡ out_of_memory) ⊎ IsFirst number m r → (r ≡ out_of_memory) ⊎ (class_verdict ms ≡ Some r)
+refusal_is : (ms : List ClassMethod) (number : ℕ) (m : ClassMethod) (r : Refusal) → slice_get ms number ≡ Some m → verdict_from number (drop number ms) ≡ verdict_from 0 ms → (r ≡ out_of_memory) ⊎ IsFirst number m r → (r ≡ out_of_memory) ⊎ (verdict_from 0 ms ≡ Some r)
 refusal_is ms number m r at rest (inl e) = inl e
 refusal_is ms number m r at rest (inr first) =
     let later = verdict_from (number + 1) (drop (number + 1) ms) in
     inr (sym rest ∙ ap (verdict_from number) (drop_head ms number m at) ∙ ap (λ o. or_later number o later) first.1 ∙ ap (λ k. Some (record { method = k; slot = r.slot; rule = r.rule })) (sym first.0))
 
-deserved_if : (ms : List ClassMethod) (r : Refusal) → (r ≡ out_of_memory) ⊎ (class_verdict ms ≡ Some r) → (r ≡ out_of_memory) ⊎ IsDeserved ms r
+deserved_if : (ms : List ClassMethod) (r : Refusal) → (r ≡ out_of_memory) ⊎ (verdict_from 0 ms ≡ Some r) → (r ≡ out_of_memory) ⊎ IsDeserved ms r
 deserved_if ms r (inl e) = inl e
 deserved_if ms r (inr e) = inr (deserved ms r e)
 
 pub returns-in_err-push_verified-clause-refused : goal.returns-in_err-push_verified-clause-refused
 returns-in_err-push_verified-clause-refused c =
-    let image = c.args.image.now in
+    let image = c.args.image.now.methods in
     let number = c.loop-number.number in
     let few : number < length image = omega (arith, ap length c.methods-method-items.ensures.methods) in
     let at : slice_get image number ≡ Some c.method-item.result =
@@ -36,7 +36,7 @@ returns-in_err-push_verified-clause-refused c =
 
 pub returns-in_err-push_verified-clause-deserved : goal.returns-in_err-push_verified-clause-deserved
 returns-in_err-push_verified-clause-deserved c =
-    let image = c.args.image.now in
+    let image = c.args.image.now.methods in
     let number = c.loop-number.number in
     let few : number < length image = omega (arith, ap length c.methods-method-items.ensures.methods) in
     let at : slice_get image number ≡ Some c.method-item.result =
@@ -46,28 +46,28 @@ returns-in_err-push_verified-clause-deserved c =
 
 pub returns-clause-safe : goal.returns-clause-safe
 returns-clause-safe c =
-    let past : length c.args.image.now ≤ c.loop-number.number = omega (arith, ap length c.methods-method-items.ensures.methods) in
-    subst (AllByRecursion IsSafe) (take_all c.loop-number.number c.args.image.now past) c.loop-number.invariant.safe
+    let past : length c.args.image.now.methods ≤ c.loop-number.number = omega (arith, ap length c.methods-method-items.ensures.methods) in
+    subst (AllByRecursion IsSafe) (take_all c.loop-number.number c.args.image.now.methods past) c.loop-number.invariant.safe
 
 pub returns-clause-value : goal.returns-clause-value
 returns-clause-value c =
-    let past : length c.args.image.now ≤ c.loop-number.number = omega (arith, ap length c.methods-method-items.ensures.methods) in
-    c.new.ensures ∙ c.loop-number.invariant.sofar ∙ take_all c.loop-number.number c.args.image.now past
+    let past : length c.args.image.now.methods ≤ c.loop-number.number = omega (arith, ap length c.methods-method-items.ensures.methods) in
+    c.new.ensures ∙ c.loop-number.invariant.sofar ∙ take_all c.loop-number.number c.args.image.now.methods past
 
 pub returns-clause-accepted : goal.returns-clause-accepted
 returns-clause-accepted c =
-    let past : length c.args.image.now ≤ c.loop-number.number = omega (arith, ap length c.methods-method-items.ensures.methods) in
-    sym c.loop-number.invariant.rest ∙ ap (verdict_from c.loop-number.number) (drop_all c.loop-number.number c.args.image.now past)
+    let past : length c.args.image.now.methods ≤ c.loop-number.number = omega (arith, ap length c.methods-method-items.ensures.methods) in
+    sym c.loop-number.invariant.rest ∙ ap (verdict_from c.loop-number.number) (drop_all c.loop-number.number c.args.image.now.methods past)
 
 pub new-requires-clause-class : goal.new-requires-clause-class
 new-requires-clause-class c =
-    let past : length c.args.image.now ≤ c.loop-number.number = omega (arith, ap length c.methods-method-items.ensures.methods) in
-    let whole = c.loop-number.invariant.sofar ∙ take_all c.loop-number.number c.args.image.now past in
+    let past : length c.args.image.now.methods ≤ c.loop-number.number = omega (arith, ap length c.methods-method-items.ensures.methods) in
+    let whole = c.loop-number.invariant.sofar ∙ take_all c.loop-number.number c.args.image.now.methods past in
     subst IsClass (sym whole) c.methods-method-items.ensures.class
 
 pub push_verified-requires : goal.push_verified-requires
 push_verified-requires c =
-    let image = c.args.image.now in
+    let image = c.args.image.now.methods in
     let number = c.loop-number.number in
     let few : number < length image = omega (arith, ap length c.methods-method-items.ensures.methods) in
     let at : slice_get image number ≡ Some c.method-item.result =
@@ -79,7 +79,7 @@ new-requires-clause-safe c = subst (AllByRecursion IsSafe) (sym c.loop-number.in
 
 pub loop-number-preserved : goal.loop-number-preserved
 loop-number-preserved c =
-    let image = c.args.image.now in
+    let image = c.args.image.now.methods in
     let number = c.loop-number.number in
     let m = c.method-item.result in
     let few : number < length image = omega (arith, ap length c.methods-method-items.ensures.methods) in

@@ -6,7 +6,7 @@ use Rattle.verifier.proofs.class.verify.Given as goal
 
 abbrev pub invariant-loop-number : goal.invariant-loop-number
 invariant-loop-number l = record {
-  safe : AllByRecursion IsSafe (take l.number l.fn.image);
-  sofar : l.methods.items ≡ take l.number l.fn.image;
-  rest : verdict_from l.number (drop l.number l.fn.image) ≡ class_verdict l.fn.image;
+  safe : AllByRecursion IsSafe (take l.number l.fn.image.methods);
+  sofar : l.methods.items ≡ take l.number l.fn.image.methods;
+  rest : verdict_from l.number (drop l.number l.fn.image.methods) ≡ class_verdict l.fn.image;
 }
