@@ -8,6 +8,7 @@ use Rattle.bpf_decode.specs.declared.insn.Insn.{Insn}
 use Rattle.bpf_decode.specs.declared.insn.Insn.TheVariants.{Alu, Neg, Mov, MovSigned, End, LoadWide, Load, LoadSigned, Store, Jump, JumpLong, Branch, Call, CallLocal, Exit}
 use Rattle.bpf_decode.specs.Instruction.{Fits, byte_count}
 use Rattle.bpf_decode.specs.Values.{extended}
+use Rattle.bpf_decode.specs.declared.rule_set.RuleSet.{RuleSet}
 use Rattle.bpf_decode.specs.declared.value.Value.{Value}
 use Rattle.bpf_machine.specs.declared.caps.Caps.{Caps}
 use Rattle.bpf_machine.specs.Typed.{fetch}
@@ -74,7 +75,7 @@ module _ (law : JoinsHold) where
       (λ (here : (q ≡ edge.0) × (g ≡ edge.1)). along_keeps edges q (met edge.0 edge.1 q inflow) cs vs (one_meets edge.0 q edge.1 inflow cs vs (subst (λ (k : PlainFrame). Both k cs vs) here.1 h) here.0))
       (λ (later : Among q g edges). along_meets edges q g (met edge.0 edge.1 q inflow) cs vs h later) e
 
-module _ (law : JoinsHold) (caps : Caps) (code : List (Option Insn)) where
+module _ (law : JoinsHold) (rules : RuleSet) (caps : Caps) (code : List (Option Insn)) where
   unless_keeps : (r : Option Rule) (flown inflow : Option PlainFrame) (cs vs : List (Option Value)) → Meets flown cs vs → Meets inflow cs vs → Meets (unless_refused r flown inflow) cs vs
   unless_keeps None flown inflow cs vs a b = a
   unless_keeps (Some rule) flown inflow cs vs a b = b
@@ -85,23 +86,23 @@ module _ (law : JoinsHold) (caps : Caps) (code : List (Option Insn)) where
   flow_keeps p q (Some i) (Some f) inflow cs vs h = unless_keeps (rule_at caps code p i (Some f)) (along (flow (room_of i) i p f) q inflow) inflow cs vs (along_keeps law (flow (room_of i) i p f) q inflow cs vs h) h
 
   -- the flow from slot p is in what the slots below n bring to q, where p is below n
-  flowed : (table : Table) (p q : ℕ) (i : Insn) (f g : PlainFrame) (cs vs : List (Option Value)) → fetch code p ≡ Some i → frame_at table p ≡ Some f → rule_at caps code p i (Some f) ≡ None → Both g cs vs → Among q g (flow (room_of i) i p f) → (n : ℕ) → p < n → Meets (incoming caps code table q n) cs vs
+  flowed : (table : Table) (p q : ℕ) (i : Insn) (f g : PlainFrame) (cs vs : List (Option Value)) → fetch code p ≡ Some i → frame_at table p ≡ Some f → rule_at caps code p i (Some f) ≡ None → Both g cs vs → Among q g (flow (room_of i) i p f) → (n : ℕ) → p < n → Meets (incoming rules caps code table q n) cs vs
   flowed table p q i f g cs vs at is none h to zero lt = absurd (omega arith)
   flowed table p q i f g cs vs at is none h to (suc n) lt =
-      ⊎_elim (λ less. flow_keeps n q (fetch code n) (frame_at table n) (incoming caps code table q n) cs vs (flowed table p q i f g cs vs at is none h to n less))
-      (λ le. let same : p ≡ n = omega arith in subst (λ n. Meets (incoming caps code table q (suc n)) cs vs) same here) (cases_lt p n)
+      ⊎_elim (λ less. flow_keeps n q (fetch code n) (frame_at table n) (incoming rules caps code table q n) cs vs (flowed table p q i f g cs vs at is none h to n less))
+      (λ le. let same : p ≡ n = omega arith in subst (λ n. Meets (incoming rules caps code table q (suc n)) cs vs) same here) (cases_lt p n)
     where
-      here : Meets (incoming caps code table q (suc p)) cs vs
+      here : Meets (incoming rules caps code table q (suc p)) cs vs
       here =
-          let inflow = incoming caps code table q p in
+          let inflow = incoming rules caps code table q p in
           subst (λ o. Meets o cs vs) (sym (ap (λ o. flow_from caps code p q o (frame_at table p) inflow) at
           ∙ ap (λ f. flow_from caps code p q (Some i) f inflow) is
           ∙ ap (λ r. unless_refused r (along (flow (room_of i) i p f) q inflow) inflow) none)) (along_meets law (flow (room_of i) i p f) q g inflow cs vs h to)
 
   -- so the frame at the slot is true of what the flow is true of
-  pub arrives : (p q : ℕ) (i : Insn) (f g : PlainFrame) (cs vs : List (Option Value)) → fetch code p ≡ Some i → frame_at (whole_table caps code) p ≡ Some f → rule_at caps code p i (Some f) ≡ None → Both g cs vs → Among q g (flow (room_of i) i p f) → p < q → q < length code → Meets (frame_at (whole_table caps code) q) cs vs
+  pub arrives : (p q : ℕ) (i : Insn) (f g : PlainFrame) (cs vs : List (Option Value)) → fetch code p ≡ Some i → frame_at (whole_table rules caps code) p ≡ Some f → rule_at caps code p i (Some f) ≡ None → Both g cs vs → Among q g (flow (room_of i) i p f) → p < q → q < length code → Meets (frame_at (whole_table rules caps code) q) cs vs
   arrives p q i f g cs vs at is none h to lt inside =
-      subst (λ o. Meets o cs vs) (sym (whole_at caps code q inside)) (flowed (whole_table caps code) p q i f g cs vs at is none h to q lt)
+      subst (λ o. Meets o cs vs) (sym (whole_at rules caps code q inside)) (flowed (whole_table rules caps code) p q i f g cs vs at is none h to q lt)
 
 module _ (caps : Caps) (code : List (Option Insn)) where
   -- an edge goes forward, to an instruction

@@ -4,6 +4,7 @@ use Rattle.std.specs.Prelude.{◌==◌}
 use Rattle.std.proofs.lemmas.Bool.{cases_lt, cond_both}
 use Rattle.std.proofs.lemmas.Option.{none-some, same_Some}
 use Rattle.bpf_decode.specs.declared.insn.Insn.{Insn}
+use Rattle.bpf_decode.specs.declared.rule_set.RuleSet.{RuleSet}
 use Rattle.bpf_machine.specs.declared.caps.Caps.{Caps}
 use Rattle.bpf_machine.specs.Typed.{fetch}
 use Rattle.verifier.specs.declared.rule.Rule.{Rule}
@@ -40,7 +41,7 @@ module _ (flows : FlowsKeepSlots) (joins : JoinsKeepSlots) (known : ℕ) where
   unless_long None flown inflow a b = a
   unless_long (Some rule) flown inflow a b = b
 
-  module _ (caps : Caps) (code : List (Option Insn)) (first : length (entry caps).slots ≡ known) where
+  module _ (rules : RuleSet) (caps : Caps) (code : List (Option Insn)) (first : length (entry rules caps).slots ≡ known) where
     flow_long : (p q : ℕ) (o : Option Insn) (frame inflow : Option PlainFrame) → IsLong known frame → IsLong known inflow → IsLong known (flow_from caps code p q o frame inflow)
     flow_long p q None frame inflow f h = h
     flow_long p q (Some i) None inflow f h = h
@@ -48,25 +49,25 @@ module _ (flows : FlowsKeepSlots) (joins : JoinsKeepSlots) (known : ℕ) where
         unless_long (rule_at caps code p i (Some g)) (along (flow (room_of i) i p g) q inflow) inflow
         (along_long (flow (room_of i) i p g) q inflow h (λ a k e. flows (room_of i) i p a g k e ∙ f g refl)) h
 
-    start_long : (q : ℕ) → IsLong known (start caps q)
-    start_long zero g e = subst (λ (f : PlainFrame). length f.slots ≡ known) (same_Some (entry caps) g e) first
+    start_long : (q : ℕ) → IsLong known (start rules caps q)
+    start_long zero g e = subst (λ (f : PlainFrame). length f.slots ≡ known) (same_Some (entry rules caps) g e) first
     start_long (suc q) g e = absurd (none-some g e)
 
-    incoming_long : (table : Table) (q n : ℕ) → ((p : ℕ) → p < n → IsLong known (frame_at table p)) → IsLong known (incoming caps code table q n)
+    incoming_long : (table : Table) (q n : ℕ) → ((p : ℕ) → p < n → IsLong known (frame_at table p)) → IsLong known (incoming rules caps code table q n)
     incoming_long table q zero h = start_long q
     incoming_long table q (suc p) h =
-        flow_long p q (fetch code p) (frame_at table p) (incoming caps code table q p) (h p (omega arith))
+        flow_long p q (fetch code p) (frame_at table p) (incoming rules caps code table q p) (h p (omega arith))
         (incoming_long table q p (λ k lt. h k (omega (arith, lt))))
 
-    table_long : (n p : ℕ) → p < n → p < length code → IsLong known (frame_at (whole_table caps code) p)
+    table_long : (n p : ℕ) → p < n → p < length code → IsLong known (frame_at (whole_table rules caps code) p)
     table_long zero p lt inside = absurd (omega (arith, lt))
     table_long (suc n) p lt inside = ⊎_elim
         (λ less. table_long n p less inside)
         (λ le.
         let same : n ≡ p = omega (arith, lt, le) in
-        subst (IsLong known) (sym (whole_at caps code p inside))
-        (incoming_long (whole_table caps code) p p (λ k less. table_long n k (omega (arith, less, same)) (omega (arith, less, inside)))))
+        subst (IsLong known) (sym (whole_at rules caps code p inside))
+        (incoming_long (whole_table rules caps code) p p (λ k less. table_long n k (omega (arith, less, same)) (omega (arith, less, inside)))))
         (cases_lt p n)
 
-    pub long_at : (p : ℕ) → p < length code → (g : PlainFrame) → frame_at (whole_table caps code) p ≡ Some g → length g.slots ≡ known
+    pub long_at : (p : ℕ) → p < length code → (g : PlainFrame) → frame_at (whole_table rules caps code) p ≡ Some g → length g.slots ≡ known
     long_at p inside g e = table_long (suc p) p (omega arith) inside g e

@@ -6,6 +6,8 @@ use Rattle.std.proofs.lemmas.Option.{none-some, same_Some, slice_get_within}
 use Rattle.bpf_decode.specs.declared.insn.Insn.{Insn}
 use Rattle.bpf_decode.specs.declared.insn.Insn.TheVariants.{Alu, Neg, Mov, MovSigned, End, LoadWide, Load, LoadSigned, Store, Jump, JumpLong, Branch, Call, CallLocal, Exit}
 use Rattle.bpf_decode.specs.Instruction.{Fits, AllFit, slots, slot_count}
+use Rattle.bpf_decode.specs.declared.rule_set.RuleSet.{RuleSet}
+use Rattle.bpf_decode.specs.declared.rule_set.RuleSet.TheVariants.{One, Two}
 use Rattle.bpf_machine.specs.declared.caps.Caps.{Caps}
 use Rattle.object_store.specs.Object.{PlainObject, IsObject, AreBytes, IsValue}
 use Rattle.bpf_machine.specs.declared.limits.TheConstants.{STACK_SIZE}
@@ -13,7 +15,9 @@ use Rattle.bpf_machine.specs.State.{◌>>=◌, AreCapacities, opening, Outcome, 
 use Rattle.bpf_machine.specs.Slots.{slot_values}
 use Rattle.bpf_machine.specs.Typed.{Typed, fetch, typed_act, typed_exit_of, typed_outcome, typed_ends, typed_run, typed_entry}
 use Rattle.abstract_regs.specs.Frame.{PlainFrame, HoldsEach}
-use Rattle.verifier.specs.Frame.{entry, Holds}
+use Rattle.abstract_regs.specs.Kind.{Num}
+use Rattle.abstract_num.specs.Plain.{constant}
+use Rattle.verifier.specs.Frame.{known_slots, entry, Holds}
 use Rattle.verifier.specs.Pass.{Sound, IsSound, AllSound}
 use Rattle.verifier.specs.Rules.{rule_at}
 use Rattle.verifier.specs.Verdict.{frame_at, whole_table, code_verdict}
@@ -73,7 +77,18 @@ pub inner : {A : Type 0} (o : Option (Option A)) (x : A) → (o >>= λ c. c) ≡
 inner None x h = absurd (none-some x h)
 inner (Some o) x h = ap Some h
 
-module _ (laws : Laws) (caps : Caps) (sizes : AreCapacities caps) (known : ℕ) (few : known ≤ 64) (first : length (entry caps).slots ≡ known) (is : List Insn) (sound : AllSound caps (slots is)) (fit : AllFit is) (small : length (slots is) < 2 ^ 62) (clear : code_verdict caps (slots is) ≡ None) (before : PlainObject) where
+few_known : (rules : RuleSet) → known_slots rules ≤ 64
+few_known One = omega arith
+few_known Two = omega arith
+
+first_long : (rules : RuleSet) (caps : Caps) → length (entry rules caps).slots ≡ known_slots rules
+first_long rules caps = length-replicate (known_slots rules) (Num (constant 0))
+
+module _ (laws : Laws) (caps : Caps) (sizes : AreCapacities caps) (rules : RuleSet) (is : List Insn) (sound : AllSound rules caps (slots is)) (fit : AllFit is) (small : length (slots is) < 2 ^ 62) (clear : code_verdict rules caps (slots is) ≡ None) (before : PlainObject) where
+  -- of how many slots frames speak
+  abbrev known : ℕ
+  known = known_slots rules
+
   abbrev Ends : ℕ → Typed → Type 0
   Ends n s = (o : Outcome) × (k : ℕ) × (typed_run caps (slots is) before n s ≡ Ended o k)
 
@@ -82,11 +97,11 @@ module _ (laws : Laws) (caps : Caps) (sizes : AreCapacities caps) (known : ℕ) 
     insn : Insn
     there : fetch (slots is) s.slot ≡ Some insn
     frame : PlainFrame
-    is_frame : frame_at (whole_table caps (slots is)) s.slot ≡ Some frame
+    is_frame : frame_at (whole_table rules caps (slots is)) s.slot ≡ Some frame
     holds : Holds known frame s
 
   clear_at : (s : Typed) (a : At s) → rule_at caps (slots is) s.slot a.insn (Some a.frame) ≡ None
-  clear_at s a = sym (ap (rule_at caps (slots is) s.slot a.insn) a.is_frame) ∙ passes caps (slots is) s.slot a.insn clear a.there
+  clear_at s a = sym (ap (rule_at caps (slots is) s.slot a.insn) a.is_frame) ∙ passes rules caps (slots is) s.slot a.insn clear a.there
 
   sound_at : (s : Typed) (a : At s) → Sound a.insn s.slot a.frame
   sound_at s a = subst (IsSound a.insn s.slot) a.is_frame (sound s.slot a.insn a.there)
@@ -101,17 +116,17 @@ module _ (laws : Laws) (caps : Caps) (sizes : AreCapacities caps) (known : ℕ) 
       let fits = fit_at is s.slot a.insn fit a.there in
       let kept = sound_at s a in
       let h = a.holds in
-      let t = steps laws caps sizes (slots is) s.slot known few a.frame s h kept.fits a.insn fits ok not_exit in
+      let t = steps laws caps sizes (slots is) s.slot known (few_known rules) a.frame s h kept.fits a.insn fits ok not_exit in
       let vs = slot_values known s.memory.stack in
       let ws = slot_values known (t.to).memory.stack in
       let reached = kept.keeps fits (allowed caps (slots is) s.slot a.frame a.insn ok) s.regs t.to.regs vs ws t.to.slot (h.long ∙ sym (length-values known s.memory.stack)) h.regs h.slots t.moves in
       let inside = slice_get_within (slots is) s.slot (Some a.insn) (inner _ _ a.there) in
       let e = edge caps (slots is) s.slot t.to.slot a.insn a.frame reached.frame (omega arith) fits ok reached.there in
       let inside' = slice_get_within (slots is) t.to.slot (Some e.to) (inner _ _ e.begins) in
-      let meets = arrives laws.joins caps (slots is) s.slot t.to.slot a.insn a.frame reached.frame t.to.regs ws a.there a.is_frame rule (record { holds = reached.holds; slots = reached.slots }) reached.there e.forward inside' in
+      let meets = arrives laws.joins rules caps (slots is) s.slot t.to.slot a.insn a.frame reached.frame t.to.regs ws a.there a.is_frame rule (record { holds = reached.holds; slots = reached.slots }) reached.there e.forward inside' in
       let fewer = left_further (slots is) s.slot t.to.slot a.insn a.there e.forward in
       let le' : left (drop t.to.slot (slots is)) ≤ n = omega arith in
-      let rest = later t.to le' (record { insn = e.to; there = e.begins; frame = meets.frame; is_frame = meets.is; holds = record { regs = meets.holds; long = long_at laws.along laws.joined known caps (slots is) first t.to.slot inside' meets.frame meets.is; slots = meets.slots; within = t.within } }) in (
+      let rest = later t.to le' (record { insn = e.to; there = e.begins; frame = meets.frame; is_frame = meets.is; holds = record { regs = meets.holds; long = long_at laws.along laws.joined known rules caps (slots is) (first_long rules caps) t.to.slot inside' meets.frame meets.is; slots = meets.slots; within = t.within } }) in (
         rest.0,
         suc rest.1,
         ap (λ o. typed_ends before s (o >>= λ i. typed_exit_of i s) (goes_on (o >>= λ i. typed_act caps i s) (typed_run caps (slots is) before n))) a.there
@@ -152,24 +167,24 @@ module _ (laws : Laws) (caps : Caps) (sizes : AreCapacities caps) (known : ℕ) 
       let none = left_further (slots is) s.slot (s.slot + 1) a.insn a.there (omega arith) in absurd (omega arith)
   ends_from (suc n) s le a = here n s a a.insn refl le (ends_from n)
 
-  pub ends_at_exit : (s : Typed) (i : Insn) → s.slot ≡ 0 → fetch (slots is) 0 ≡ Some i → Holds known (entry caps) s → Ends (length is) s
+  pub ends_at_exit : (s : Typed) (i : Insn) → s.slot ≡ 0 → fetch (slots is) 0 ≡ Some i → Holds known (entry rules caps) s → Ends (length is) s
   ends_at_exit s i zero_slot at h =
       let all = left_slots is in
       let some = slice_get_within (slots is) 0 (Some i) (inner _ _ at) in
       let whole : drop s.slot (slots is) ≡ slots is = ap (λ n. drop n (slots is)) zero_slot in
       let le : left (drop s.slot (slots is)) ≤ length is = omega (arith, ap left whole) in
-      ends_from (length is) s le (record { insn = i; there = ap (fetch (slots is)) zero_slot ∙ at; frame = entry caps; is_frame = ap (frame_at (whole_table caps (slots is))) zero_slot ∙ whole_at caps (slots is) 0 some; holds = h })
+      ends_from (length is) s le (record { insn = i; there = ap (fetch (slots is)) zero_slot ∙ at; frame = entry rules caps; is_frame = ap (frame_at (whole_table rules caps (slots is))) zero_slot ∙ whole_at rules caps (slots is) 0 some; holds = h })
 
--- what a method begins with, the entry frame is true of: it speaks of no slots
-pub entry_is_held : Laws → (caps : Caps) → AreCapacities caps → (object : PlainObject) (caller : ℕ) (input : List ℕ) → IsObject object → caller < 2 ^ 32 → length input ≤ caps.in_cap → AreBytes input → Holds 0 (entry caps) (typed_entry caps object caller input)
-entry_is_held laws caps sizes object caller input ob client le bytes =
+-- what a method begins with, the entry frame is true of
+pub entry_is_held : Laws → (rules : RuleSet) (caps : Caps) → AreCapacities caps → (object : PlainObject) (caller : ℕ) (input : List ℕ) → IsObject object → caller < 2 ^ 32 → length input ≤ caps.in_cap → AreBytes input → Holds (known_slots rules) (entry rules caps) (typed_entry caps object caller input)
+entry_is_held laws rules caps sizes object caller input ob client le bytes =
     let most = sizes.input in
-    let first = laws.entry caps.in_cap STACK_SIZE 0 (length input) (omega (arith, most)) (omega arith) le in
+    let first = laws.entry caps.in_cap STACK_SIZE (known_slots rules) (length input) (omega (arith, most)) (omega arith) le in
     record {
       regs = first.registers;
-      long = refl;
-      slots = subst (HoldsEach (entry caps).slots) (sym (zeros_known laws.slots 0 (omega arith))) first.slots;
-      within = record { memory = begins_within laws.slots 0 (typed_entry caps object caller input).memory input_is output_is refl; object = ob; client = client };
+      long = first_long rules caps;
+      slots = subst (HoldsEach (entry rules caps).slots) (sym (zeros_known laws.slots (known_slots rules) (few_known rules))) first.slots;
+      within = record { memory = begins_within laws.slots (known_slots rules) (typed_entry caps object caller input).memory input_is output_is refl; object = ob; client = client };
     }
   where
     input_is : IsValue (opening caps input).input

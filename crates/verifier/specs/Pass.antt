@@ -2,6 +2,7 @@
 use Rattle.std.specs.Prelude.{◌≡◌, ℕ, ◌+◌, ◌<◌, List, Option, Some, None, slice_set, length}
 use Rattle.bpf_decode.specs.declared.insn.Insn.{Insn}
 use Rattle.bpf_decode.specs.Instruction.{slot_count}
+use Rattle.bpf_decode.specs.declared.rule_set.RuleSet.{RuleSet}
 use Rattle.bpf_machine.specs.Typed.{fetch}
 use Rattle.abstract_regs.specs.Frame.{PlainFrame}
 use Rattle.abstract_regs.specs.Flow.{flow}
@@ -45,8 +46,8 @@ IsSound i p None = Unit {0}
 IsSound i p (Some f) = Sound i p f
 
 -- every flow of a method keeps what its frame holds
-abbrev pub AllSound : Caps → List (Option Insn) → Type 0
-AllSound caps code = (p : ℕ) (i : Insn) → fetch code p ≡ Some i → IsSound i p (frame_at (whole_table caps code) p)
+abbrev pub AllSound : RuleSet → Caps → List (Option Insn) → Type 0
+AllSound rules caps code = (p : ℕ) (i : Insn) → fetch code p ≡ Some i → IsSound i p (frame_at (whole_table rules caps code) p)
 
 -- no instruction begins within another
 abbrev pub IsSpaced : List (Option Insn) → Type 0

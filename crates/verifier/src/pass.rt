@@ -1,7 +1,7 @@
 ghost use Rattle.std.specs.Prelude.{◌≡◌, ◌+◌, ◌<◌, ◌^◌, length, IfOk, Some, None, replicate, slice_set};
 ghost use Rattle.verifier.specs.Rules.{rule_at};
 ghost use Rattle.verifier.specs.Verdict.{code_verdict};
-ghost use Rattle.verifier.specs.Frame.{entry};
+ghost use Rattle.verifier.specs.Frame.{known_slots, entry};
 ghost use Rattle.verifier.specs.Kept.{unbox};
 ghost use Rattle.verifier.specs.Pass.{IsSpaced, awaited, HasLeft, IsSound, AllSound};
 
@@ -10,7 +10,7 @@ use crate::kept::Kept;
 use crate::rule::Rule;
 use crate::rules::refusing_rule;
 use abstract_regs::{Edges, Frame};
-use bpf_decode::{Insn, Region, width};
+use bpf_decode::{Insn, Region, RuleSet, width};
 use bpf_machine::Caps;
 use std::alloc::{AllocError, Global};
 
@@ -28,27 +28,43 @@ pub struct Pass {
 /// One pass over the slots in order, since no flow that is not refused goes back: its cost is linear in their number.
 pub fn first_refusal(
     alloc: Global,
+    rules: RuleSet,
     caps: &Caps,
     code: &[Option<Insn>],
 ) -> Result<Option<(usize, Rule)>, AllocError>
     requires small { length code.now < 2 ^ 62 }
     requires spaced { IsSpaced code.now }
-    ensures verdict { IfOk result (λ r. r ≡ code_verdict caps.now code.now) }
-    ensures sound { IfOk result (λ r. r ≡ None → AllSound caps.now code.now) }
+    ensures verdict { IfOk result (λ r. r ≡ code_verdict rules caps.now code.now) }
+    ensures sound { IfOk result (λ r. r ≡ None → AllSound rules caps.now code.now) }
 {
-    let mut pass = Pass::new(alloc, caps, code.len())?;
-    pass.run(alloc, caps, code)
+    let mut pass = Pass::new(alloc, rules, caps, code.len())?;
+    pass.run(alloc, rules, caps, code)
+}
+
+/// Of how many slots of the stack frames speak.
+fn frame_slots(rules: RuleSet) -> usize
+    ensures { result ≡ known_slots rules }
+{
+    match rules {
+        RuleSet::One => 0,
+        RuleSet::Two => 64,
+    }
 }
 
 impl Pass {
     /// Before slot 0, with the frame that a method begins with.
-    fn new(alloc: Global, caps: &Caps, slots: usize) -> Result<Pass, AllocError>
+    fn new(
+        alloc: Global,
+        rules: RuleSet,
+        caps: &Caps,
+        slots: usize,
+    ) -> Result<Pass, AllocError>
         ensures kept { IfOk result (λ p. p.kept ≡ replicate slots None) }
-        ensures current { IfOk result (λ p. unbox p.current ≡ Some (entry caps.now)) }
+        ensures current { IfOk result (λ p. unbox p.current ≡ Some (entry rules caps.now)) }
         ensures landing { IfOk result (λ p. p.landing ≡ 0) }
     {
         let stack = caps.size(Region::Stack) as u64;
-        let entry = Frame::entry(alloc, u64::from(caps.in_cap), stack, 0)?;
+        let entry = Frame::entry(alloc, u64::from(caps.in_cap), stack, frame_slots(rules))?;
         Ok(Pass {
             current: Some(Box::new(alloc, entry)?),
             landing: 0,
@@ -60,16 +76,17 @@ impl Pass {
     fn run(
         &mut self,
         alloc: Global,
+        rules: RuleSet,
         caps: &Caps,
         code: &[Option<Insn>],
     ) -> Result<Option<(usize, Rule)>, AllocError>
         requires small { length code.now < 2 ^ 62 }
         requires spaced { IsSpaced code.now }
         requires kept { self.old.kept ≡ replicate (length code.now) None }
-        requires current { unbox self.old.current ≡ Some (entry caps.now) }
+        requires current { unbox self.old.current ≡ Some (entry rules caps.now) }
         requires landing { self.old.landing ≡ 0 }
-        ensures verdict { IfOk result (λ r. r ≡ code_verdict caps.now code.now) }
-        ensures sound { IfOk result (λ r. r ≡ None → AllSound caps.now code.now) }
+        ensures verdict { IfOk result (λ r. r ≡ code_verdict rules caps.now code.now) }
+        ensures sound { IfOk result (λ r. r ≡ None → AllSound rules caps.now code.now) }
     {
         for (slot, begun) in code.iter().enumerate() {
             if let Some(insn) = begun {
