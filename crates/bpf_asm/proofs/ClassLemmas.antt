@@ -3,14 +3,15 @@ use Rattle.std.proofs.Common.{◌≡◌, ◌⊎◌, inl, inr, ℕ, ◌+◌, ◌�
 use Rattle.std.specs.Str.{IsAscii, IsUtf8}
 use Rattle.std.proofs.lemmas.Str.{IsUtf8-from_ascii}
 use Rattle.std.proofs.lemmas.Str.Ascii.{IsAscii-nil, IsAscii-cons}
-use Rattle.std.proofs.lemmas.List.{drop_more, take_all, length-drop}
+use Rattle.std.proofs.lemmas.List.{drop_more, drop_all, take_all, length-drop}
 use Rattle.std.specs.List.{before_first}
 use Rattle.asm_lines.specs.declared.statement.Statement.{Statement}
-use Rattle.asm_lines.specs.declared.statement.Statement.TheVariants.{Empty, Directive}
+use Rattle.asm_lines.specs.declared.statement.Statement.TheVariants.{Empty, Label, Rules, Directive, Instruction}
 use Rattle.std.proofs.lemmas.Bool.Decides.{nat_tests}
 use Rattle.bpf_decode.specs.Instruction.{slot_total}
 use Rattle.bpf_decode.specs.declared.rule_set.RuleSet.{RuleSet}
-use Rattle.bpf_decode.specs.Class.{ClassMethod}
+use Rattle.bpf_decode.specs.declared.rule_set.RuleSet.TheVariants.{One}
+use Rattle.bpf_decode.specs.Class.{ClassMethod, Class}
 use Rattle.bpf_decode.specs.declared.image_error.ImageError.{ImageError}
 use Rattle.bpf_decode.specs.Reading.{◌>>=◌}
 use Rattle.bpf_decode.specs.Limits.{between, is_name_byte, are_name_bytes}
@@ -19,7 +20,8 @@ use Rattle.asm_lines.specs.declared.fault.AsmFault.{AsmFault}
 use Rattle.asm_lines.specs.declared.fault.AsmError.{AsmError}
 use Rattle.asm_lines.specs.Fault.{no_memory}
 use Rattle.asm_lines.specs.Headers.{MethodHeader, is_header}
-use Rattle.bpf_asm.specs.Classes.{last_name, is_directive, method_at, next_method, class_from}
+use Rattle.asm_lines.specs.declared.draft.Draft.{Draft}
+use Rattle.bpf_asm.specs.Classes.{last_name, is_directive, method_at, next_method, class_from, with_rules, ruled_from}
 use Rattle.bpf_decode.specs.Limits.{is_method_name}
 
 and_left : (a b : Bool) → IsTrue (a && b) → a ≡ true
@@ -113,3 +115,47 @@ class_goes_on ms m line i header lines x inside at is read =
 -- a rest of known length is the rest
 pub rest_whole : (lines : List Statement) (k : ℕ) → take (length lines - k) (drop k lines) ≡ drop k lines
 rest_whole lines k = take_all (length lines - k) (drop k lines) (omega (arith, length-drop {A = Statement} k lines))
+
+-- ---- the rule set
+
+pub rules_go_on : (line i : ℕ) (lines : List Statement) (x : Statement) → i < length lines → x ≡ get_or lines i x → x ≡ Empty → ruled_from line (drop i lines) ≡ ruled_from (line + 1) (drop (i + 1) lines)
+unfolding ruled_from
+rules_go_on line i lines x inside at is = ap (ruled_from line) (line_parts lines i x Empty inside at is)
+
+pub rules_stand : (line i : ℕ) (rules : RuleSet) (lines : List Statement) (x : Statement) → i < length lines → x ≡ get_or lines i x → x ≡ Rules (Ok rules) → ruled_from line (drop i lines) ≡ with_rules rules (class_from [] (line + 1) (drop (i + 1) lines))
+unfolding ruled_from
+rules_stand line i rules lines x inside at is = ap (ruled_from line) (line_parts lines i x (Rules (Ok rules)) inside at is)
+
+pub rules_stop : (line i : ℕ) (fault : AsmFault) (lines : List Statement) (x : Statement) → i < length lines → x ≡ get_or lines i x → x ≡ Rules (Err fault) → ruled_from line (drop i lines) ≡ Err (record { line = line; fault = fault })
+unfolding ruled_from
+rules_stop line i fault lines x inside at is = ap (ruled_from line) (line_parts lines i x (Rules (Err fault)) inside at is)
+
+-- nothing but methods, from a line on
+
+abbrev by_methods : ℕ → List Statement → Result Class AsmError
+by_methods line lines = with_rules One (class_from [] line lines)
+
+at_label : (line : ℕ) (name : List ℕ) (rest lines : List Statement) → lines ≡ Label name ∷ rest → ruled_from line lines ≡ with_rules One (class_from [] line lines)
+unfolding ruled_from
+at_label line name rest lines is = ap (ruled_from line) is ∙ ap (by_methods line) (sym is)
+
+at_directive : (line : ℕ) (header : Result MethodHeader AsmFault) (rest lines : List Statement) → lines ≡ Directive header ∷ rest → ruled_from line lines ≡ with_rules One (class_from [] line lines)
+unfolding ruled_from
+at_directive line header rest lines is = ap (ruled_from line) is ∙ ap (by_methods line) (sym is)
+
+at_instruction : (line : ℕ) (d : Result Draft AsmFault) (rest lines : List Statement) → lines ≡ Instruction d ∷ rest → ruled_from line lines ≡ with_rules One (class_from [] line lines)
+unfolding ruled_from
+at_instruction line d rest lines is = ap (ruled_from line) is ∙ ap (by_methods line) (sym is)
+
+pub no_rules_by_label : (line i : ℕ) (name : List ℕ) (lines : List Statement) (x : Statement) → i < length lines → x ≡ get_or lines i x → x ≡ Label name → ruled_from line (drop i lines) ≡ with_rules One (class_from [] line (drop i lines))
+no_rules_by_label line i name lines x inside at is = at_label line name (drop (i + 1) lines) (drop i lines) (line_parts lines i x (Label name) inside at is)
+
+pub no_rules_by_directive : (line i : ℕ) (header : Result MethodHeader AsmFault) (lines : List Statement) (x : Statement) → i < length lines → x ≡ get_or lines i x → x ≡ Directive header → ruled_from line (drop i lines) ≡ with_rules One (class_from [] line (drop i lines))
+no_rules_by_directive line i header lines x inside at is = at_directive line header (drop (i + 1) lines) (drop i lines) (line_parts lines i x (Directive header) inside at is)
+
+pub no_rules_by_instruction : (line i : ℕ) (d : Result Draft AsmFault) (lines : List Statement) (x : Statement) → i < length lines → x ≡ get_or lines i x → x ≡ Instruction d → ruled_from line (drop i lines) ≡ with_rules One (class_from [] line (drop i lines))
+no_rules_by_instruction line i d lines x inside at is = at_instruction line d (drop (i + 1) lines) (drop i lines) (line_parts lines i x (Instruction d) inside at is)
+
+pub no_rules_at_end : (line i : ℕ) (lines : List Statement) → length lines ≤ i → ruled_from line (drop i lines) ≡ with_rules One (class_from [] line (drop i lines))
+unfolding ruled_from
+no_rules_at_end line i lines past = ap (ruled_from line) (drop_all i lines past) ∙ ap (by_methods line) (sym (drop_all i lines past))

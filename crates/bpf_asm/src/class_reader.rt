@@ -199,7 +199,9 @@ fn rules_of(lines: &[Statement]) -> Result<(RuleSet, usize), AsmError>
                     fault: *fault,
                 });
             }
-            _ => return Ok((RuleSet::One, index)),
+            Statement::Label(_) | Statement::Directive(_) | Statement::Instruction(_) => {
+                return Ok((RuleSet::One, index));
+            }
         }
     }
     Ok((RuleSet::One, index))

@@ -8,6 +8,7 @@ use Rattle.bpf_decode.specs.declared.insn.Insn.{Insn}
 use Rattle.bpf_decode.specs.declared.insn.Insn.TheVariants.{Alu, Neg, Mov, MovSigned, End, LoadWide, Load, LoadSigned, Store, Jump, JumpLong, Branch, Call, CallLocal, Exit}
 use Rattle.bpf_decode.specs.Instruction.{slots, slot_count, slot_total}
 use Rattle.bpf_decode.specs.Class.{ClassMethod, IsMethod}
+use Rattle.bpf_decode.specs.declared.rule_set.RuleSet.{RuleSet}
 use Rattle.bpf_machine.specs.Typed.{fetch, typed_entry}
 use Rattle.bpf_machine.specs.State.{AreCapacities}
 use Rattle.bpf_machine.specs.Safe.{caps_of, EndsAlways, EndsAlwaysIsSafe}
@@ -79,7 +80,7 @@ ends_always laws rules m ok sound clear object caller input call =
     let sizes : AreCapacities (caps_of m) = record { input = ok.in_cap; output = ok.out_cap } in
     let first = first_begins m.instructions ok.some_slot in
     let s = typed_entry (caps_of m) object caller input in
-    ends_at_exit laws rules (caps_of m) sizes (known_slots rules) (known_few rules) (entry_long rules (caps_of m)) m.instructions sound ok.fit (slots_small m ok) clear object s first.0 refl first.1
+    ends_at_exit laws (caps_of m) sizes rules m.instructions sound ok.fit (slots_small m ok) clear object s first.0 refl first.1
     (entry_is_held laws rules (caps_of m) sizes object caller input call.within_limits call.client call.short call.bytes)
 
 pub accept : EndsAlwaysIsSafe → Laws → (rules : RuleSet) (m : ClassMethod) → IsMethod m → AllSound rules (caps_of m) (slots m.instructions) → method_verdict rules m ≡ None → IsVerified m

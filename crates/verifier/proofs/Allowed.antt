@@ -1,6 +1,6 @@
 -- What the rules leave of loads, stores and helpers' ranges.
-use Rattle.std.proofs.Common.{◌≡◌, ℕ, ◌+◌, List, [], ◌∷◌, Option, Some, None, Bool, true, false, refl, ap, ◌∙◌, sym}
-use Rattle.std.specs.Prelude.{◌&&◌, ◌||◌, not, is_some}
+use Rattle.std.proofs.Common.{◌≡◌, ℕ, ◌+◌, List, [], ◌∷◌, Option, Some, None, Bool, true, false, refl, sym}
+use Rattle.std.specs.Prelude.{◌&&◌, not, is_some}
 use Rattle.std.proofs.lemmas.Bool.{false≢true}
 use Rattle.bpf_decode.specs.declared.insn.Operand.TheVariants.{Immediate, Register}
 use Rattle.bpf_decode.specs.declared.insn.Insn.{Insn}
@@ -16,12 +16,12 @@ use Rattle.abstract_regs.specs.declared.content.Content.{Content}
 use Rattle.abstract_regs.specs.declared.content.Content.TheVariants.{Nothing, Pointer}
 use Rattle.abstract_regs.specs.Kind.{PlainKind, Unset, Num, Ptr, is_unset, is_num, is_ptr}
 use Rattle.abstract_regs.specs.Slots.{stack_place, access_span, meets}
-use Rattle.abstract_regs.specs.Frame.{PlainFrame, kind_at, operand_kind, kept_kind}
-use Rattle.abstract_regs.specs.Moves.{AllowsLoad, AllowsRoom, Allows}
+use Rattle.abstract_regs.specs.Frame.{PlainFrame, kind_at, kept_kind}
+use Rattle.abstract_regs.specs.Moves.{AllowsRoom, Allows}
 use Rattle.verifier.specs.declared.fault.Fault.TheVariants.{WrongKind}
 use Rattle.verifier.specs.Kind.{stays}
-use Rattle.verifier.specs.Rules.{has_fault, some_fault, taken_fault, load_meets, operand_is_unset, room_in, room_of_takes, room_of}
-use Rattle.verifier.proofs.Holding.{not_false, operand_is_set}
+use Rattle.verifier.specs.Rules.{has_fault, some_fault, taken_fault, load_meets, room_in, room_of_takes, room_of}
+use Rattle.verifier.proofs.Holding.{not_false}
 use Rattle.verifier.proofs.Passed.{neither, Passed}
 
 pub when_right : (a b : Bool) → (a && b) ≡ false → b ≡ true → a ≡ false

@@ -6,6 +6,8 @@ use Rattle.std.proofs.lemmas.Option.{none-some, same_Some, slice_get_within}
 use Rattle.bpf_decode.specs.declared.insn.Insn.{Insn}
 use Rattle.bpf_decode.specs.declared.insn.Insn.TheVariants.{Alu, Neg, Mov, MovSigned, End, LoadWide, Load, LoadSigned, Store, Jump, JumpLong, Branch, Call, CallLocal, Exit}
 use Rattle.bpf_decode.specs.Instruction.{Fits, AllFit, slots, slot_count}
+use Rattle.bpf_decode.specs.declared.rule_set.RuleSet.{RuleSet}
+use Rattle.bpf_decode.specs.declared.rule_set.RuleSet.TheVariants.{One, Two}
 use Rattle.bpf_machine.specs.declared.caps.Caps.{Caps}
 use Rattle.object_store.specs.Object.{PlainObject, IsObject, AreBytes, IsValue}
 use Rattle.bpf_machine.specs.declared.limits.TheConstants.{STACK_SIZE}
@@ -13,10 +15,8 @@ use Rattle.bpf_machine.specs.State.{◌>>=◌, AreCapacities, opening, Outcome, 
 use Rattle.bpf_machine.specs.Slots.{slot_values}
 use Rattle.bpf_machine.specs.Typed.{Typed, fetch, typed_act, typed_exit_of, typed_outcome, typed_ends, typed_run, typed_entry}
 use Rattle.abstract_regs.specs.Frame.{PlainFrame, HoldsEach}
+use Rattle.abstract_regs.specs.Kind.{Num}
 use Rattle.abstract_num.specs.Plain.{constant}
-use Rattle.abstract_regs.specs.Kind as kinds
-use Rattle.bpf_decode.specs.declared.rule_set.RuleSet.{RuleSet}
-use Rattle.bpf_decode.specs.declared.rule_set.RuleSet.TheVariants.{One, Two}
 use Rattle.verifier.specs.Frame.{known_slots, entry, Holds}
 use Rattle.verifier.specs.Pass.{Sound, IsSound, AllSound}
 use Rattle.verifier.specs.Rules.{rule_at}
@@ -77,7 +77,18 @@ pub inner : {A : Type 0} (o : Option (Option A)) (x : A) → (o >>= λ c. c) ≡
 inner None x h = absurd (none-some x h)
 inner (Some o) x h = ap Some h
 
-module _ (laws : Laws) (rules : RuleSet) (caps : Caps) (sizes : AreCapacities caps) (known : ℕ) (few : known ≤ 64) (first : length (entry rules caps).slots ≡ known) (is : List Insn) (sound : AllSound rules caps (slots is)) (fit : AllFit is) (small : length (slots is) < 2 ^ 62) (clear : code_verdict rules caps (slots is) ≡ None) (before : PlainObject) where
+few_known : (rules : RuleSet) → known_slots rules ≤ 64
+few_known One = omega arith
+few_known Two = omega arith
+
+first_long : (rules : RuleSet) (caps : Caps) → length (entry rules caps).slots ≡ known_slots rules
+first_long rules caps = length-replicate (known_slots rules) (Num (constant 0))
+
+module _ (laws : Laws) (caps : Caps) (sizes : AreCapacities caps) (rules : RuleSet) (is : List Insn) (sound : AllSound rules caps (slots is)) (fit : AllFit is) (small : length (slots is) < 2 ^ 62) (clear : code_verdict rules caps (slots is) ≡ None) (before : PlainObject) where
+  -- of how many slots frames speak
+  abbrev known : ℕ
+  known = known_slots rules
+
   abbrev Ends : ℕ → Typed → Type 0
   Ends n s = (o : Outcome) × (k : ℕ) × (typed_run caps (slots is) before n s ≡ Ended o k)
 
@@ -105,7 +116,7 @@ module _ (laws : Laws) (rules : RuleSet) (caps : Caps) (sizes : AreCapacities ca
       let fits = fit_at is s.slot a.insn fit a.there in
       let kept = sound_at s a in
       let h = a.holds in
-      let t = steps laws caps sizes (slots is) s.slot known few a.frame s h kept.fits a.insn fits ok not_exit in
+      let t = steps laws caps sizes (slots is) s.slot known (few_known rules) a.frame s h kept.fits a.insn fits ok not_exit in
       let vs = slot_values known s.memory.stack in
       let ws = slot_values known (t.to).memory.stack in
       let reached = kept.keeps fits (allowed caps (slots is) s.slot a.frame a.insn ok) s.regs t.to.regs vs ws t.to.slot (h.long ∙ sym (length-values known s.memory.stack)) h.regs h.slots t.moves in
@@ -115,7 +126,7 @@ module _ (laws : Laws) (rules : RuleSet) (caps : Caps) (sizes : AreCapacities ca
       let meets = arrives laws.joins rules caps (slots is) s.slot t.to.slot a.insn a.frame reached.frame t.to.regs ws a.there a.is_frame rule (record { holds = reached.holds; slots = reached.slots }) reached.there e.forward inside' in
       let fewer = left_further (slots is) s.slot t.to.slot a.insn a.there e.forward in
       let le' : left (drop t.to.slot (slots is)) ≤ n = omega arith in
-      let rest = later t.to le' (record { insn = e.to; there = e.begins; frame = meets.frame; is_frame = meets.is; holds = record { regs = meets.holds; long = long_at laws.along laws.joined known rules caps (slots is) first t.to.slot inside' meets.frame meets.is; slots = meets.slots; within = t.within } }) in (
+      let rest = later t.to le' (record { insn = e.to; there = e.begins; frame = meets.frame; is_frame = meets.is; holds = record { regs = meets.holds; long = long_at laws.along laws.joined known rules caps (slots is) (first_long rules caps) t.to.slot inside' meets.frame meets.is; slots = meets.slots; within = t.within } }) in (
         rest.0,
         suc rest.1,
         ap (λ o. typed_ends before s (o >>= λ i. typed_exit_of i s) (goes_on (o >>= λ i. typed_act caps i s) (typed_run caps (slots is) before n))) a.there
@@ -164,15 +175,6 @@ module _ (laws : Laws) (rules : RuleSet) (caps : Caps) (sizes : AreCapacities ca
       let le : left (drop s.slot (slots is)) ≤ length is = omega (arith, ap left whole) in
       ends_from (length is) s le (record { insn = i; there = ap (fetch (slots is)) zero_slot ∙ at; frame = entry rules caps; is_frame = ap (frame_at (whole_table rules caps (slots is))) zero_slot ∙ whole_at rules caps (slots is) 0 some; holds = h })
 
--- frames speak of no more slots than there are
-pub known_few : (rules : RuleSet) → known_slots rules ≤ 64
-known_few One = omega arith
-known_few Two = omega arith
-
--- and the entry frame of so many
-pub entry_long : (rules : RuleSet) (caps : Caps) → length (entry rules caps).slots ≡ known_slots rules
-entry_long rules caps = length-replicate (known_slots rules) (kinds.Num (constant 0))
-
 -- what a method begins with, the entry frame is true of
 pub entry_is_held : Laws → (rules : RuleSet) (caps : Caps) → AreCapacities caps → (object : PlainObject) (caller : ℕ) (input : List ℕ) → IsObject object → caller < 2 ^ 32 → length input ≤ caps.in_cap → AreBytes input → Holds (known_slots rules) (entry rules caps) (typed_entry caps object caller input)
 entry_is_held laws rules caps sizes object caller input ob client le bytes =
@@ -180,8 +182,8 @@ entry_is_held laws rules caps sizes object caller input ob client le bytes =
     let first = laws.entry caps.in_cap STACK_SIZE (known_slots rules) (length input) (omega (arith, most)) (omega arith) le in
     record {
       regs = first.registers;
-      long = entry_long rules caps;
-      slots = subst (HoldsEach (entry rules caps).slots) (sym (zeros_known laws.slots (known_slots rules) (known_few rules))) first.slots;
+      long = first_long rules caps;
+      slots = subst (HoldsEach (entry rules caps).slots) (sym (zeros_known laws.slots (known_slots rules) (few_known rules))) first.slots;
       within = record { memory = begins_within laws.slots (known_slots rules) (typed_entry caps object caller input).memory input_is output_is refl; object = ob; client = client };
     }
   where

@@ -12,7 +12,7 @@ use Rattle.bpf_machine.specs.Safe.{caps_of}
 use Rattle.verifier.specs.declared.rule.Rule.{Rule}
 use Rattle.verifier.specs.declared.refusal.Refusal.{Refusal}
 use Rattle.verifier.specs.Rules.{rule_at}
-use Rattle.verifier.specs.Verdict.{Table, frame_at, whole_table, or_else, first_refused, code_verdict, method_verdict, or_later, verdict_from, Refuses, IsDeserved}
+use Rattle.verifier.specs.Verdict.{Table, frame_at, whole_table, or_else, first_refused, code_verdict, method_verdict, or_later, verdict_from, class_verdict, Refuses, IsDeserved}
 use Rattle.verifier.proofs.Passed.{rule_is_broken}
 
 none_left : (p : ℕ) (r : Option Rule) (later : Option (ℕ × Rule)) → or_else p r later ≡ None → (r ≡ None) × (later ≡ None)
@@ -99,9 +99,8 @@ found_from rules [] k r h = absurd (none-some r h)
 found_from rules (m ∷ ms) k r h = in_method rules m ms k r (method_verdict rules m) refl (found_from rules ms (k + 1) r) h
 
 -- the rule of a refusal refuses the instruction at its slot of its method
-pub deserved : (c : Class) (r : Refusal) → verdict_from c.rules 0 c.methods ≡ Some r → IsDeserved c r
+pub deserved : (c : Class) (r : Refusal) → class_verdict c ≡ Some r → IsDeserved c r
 deserved c r h =
     let f = found_from c.rules c.methods 0 r h in
     let same : f.past ≡ r.method = omega (arith, f.is) in
     record { method = f.method; there = ap (slice_get c.methods) (sym same) ∙ f.there; refuses = f.refuses }
-

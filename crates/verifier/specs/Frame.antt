@@ -11,10 +11,10 @@ use Rattle.bpf_machine.specs.Typed.{Typed, TypedMemory}
 use Rattle.bpf_machine.specs.Slots.{slot_value, slot_values, IsStack, IsNumber}
 use Rattle.abstract_regs.specs.Frame.{PlainFrame, HoldsEach, entry_frame}
 
--- how many of the stack's slots of eight bytes frames speak of: of none, or of each
+-- of how many slots of the stack frames speak: in rule set 2 of all
 abbrev pub known_slots : RuleSet → ℕ
 known_slots One = 0
-known_slots Two = STACK_SIZE / 8
+known_slots Two = 64
 
 -- what is known as a method begins
 abbrev pub entry : RuleSet → Caps → PlainFrame

@@ -24,7 +24,7 @@ pub fn verify(alloc: Global, image: &ClassImage) -> Result<VerifiedClass, Refusa
 {
     let mut methods = Vec::new(alloc);
     for (number, method) in image.methods().iter().enumerate() {
-        push_verified(alloc, &mut methods, image.rules(), number, method)?;
+        push_verified(alloc, image.rules(), &mut methods, number, method)?;
     }
     Ok(VerifiedClass::new(methods))
 }
@@ -32,6 +32,7 @@ pub fn verify(alloc: Global, image: &ClassImage) -> Result<VerifiedClass, Refusa
 /// Verifies the method of a number, and puts it behind those before it.
 fn push_verified(
     alloc: Global,
+    rules: RuleSet,
     methods: &mut Vec<VerifiedMethod>,
     rules: RuleSet,
     number: usize,

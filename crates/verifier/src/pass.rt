@@ -1,7 +1,7 @@
 ghost use Rattle.std.specs.Prelude.{◌≡◌, ◌+◌, ◌<◌, ◌^◌, length, IfOk, Some, None, replicate, slice_set};
 ghost use Rattle.verifier.specs.Rules.{rule_at};
 ghost use Rattle.verifier.specs.Verdict.{code_verdict};
-ghost use Rattle.verifier.specs.Frame.{entry};
+ghost use Rattle.verifier.specs.Frame.{known_slots, entry};
 ghost use Rattle.verifier.specs.Kept.{unbox};
 ghost use Rattle.verifier.specs.Pass.{IsSpaced, awaited, HasLeft, IsSound, AllSound};
 
@@ -41,19 +41,30 @@ pub fn first_refusal(
     pass.run(alloc, rules, caps, code)
 }
 
+/// Of how many slots of the stack frames speak.
+fn frame_slots(rules: RuleSet) -> usize
+    ensures { result ≡ known_slots rules }
+{
+    match rules {
+        RuleSet::One => 0,
+        RuleSet::Two => 64,
+    }
+}
+
 impl Pass {
     /// Before slot 0, with the frame that a method begins with.
-    fn new(alloc: Global, rules: RuleSet, caps: &Caps, slots: usize) -> Result<Pass, AllocError>
+    fn new(
+        alloc: Global,
+        rules: RuleSet,
+        caps: &Caps,
+        slots: usize,
+    ) -> Result<Pass, AllocError>
         ensures kept { IfOk result (λ p. p.kept ≡ replicate slots None) }
         ensures current { IfOk result (λ p. unbox p.current ≡ Some (entry rules caps.now)) }
         ensures landing { IfOk result (λ p. p.landing ≡ 0) }
     {
-        let stack = caps.size(Region::Stack);
-        let count = match rules {
-            RuleSet::One => 0,
-            RuleSet::Two => stack / 8,
-        };
-        let entry = Frame::entry(alloc, u64::from(caps.in_cap), stack as u64, count)?;
+        let stack = caps.size(Region::Stack) as u64;
+        let entry = Frame::entry(alloc, u64::from(caps.in_cap), stack, frame_slots(rules))?;
         Ok(Pass {
             current: Some(Box::new(alloc, entry)?),
             landing: 0,

@@ -1,6 +1,6 @@
 use Rattle.std.proofs.Common.{◌≡◌, ℕ, ◌+◌, ◌<◌, ◌≤◌, List, ◌∷◌, ◌++◌, length, get_or, drop, sym, ap, ◌∙◌, arith, codes}
 use Rattle.std.proofs.lemmas.Grind.{common_steps}
-use Rattle.std.proofs.lemmas.List.{at_drop_more, at_drop_all}
+use Rattle.std.proofs.lemmas.List.{at_drop_more}
 use Rattle.bpf_decode.specs.declared.insn.Insn.{Insn}
 use Rattle.bpf_decode.specs.declared.insn.Insn.TheVariants.{Alu, Neg, Mov, MovSigned, End, LoadWide, Load, LoadSigned, Store, Jump, JumpLong, Branch, Call, CallLocal, Exit}
 use Rattle.bpf_decode.specs.Instruction.{slot_count}
@@ -34,5 +34,5 @@ loop-insn-preserved c =
     let here = code_at c.args.insns.now c.loop-insn.insn-index c.loop-insn.slot i c.loop-insn-test.true c.insn-item.is in
     record {
       text = grind (arith, common_steps, here, c.loop-insn.invariant.text);
-      few = omega (arith, c.loop-insn.invariant.few, c.width.ensures, few_slots i);
+      few = omega (arith, c.loop-insn.invariant.few, c.width-slot.ensures, few_slots i);
     }

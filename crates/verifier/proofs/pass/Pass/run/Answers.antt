@@ -26,7 +26,7 @@ returns-in-Some-2 c =
     let at : slice_get code slot ≡ Some (Some c.in-Some.insn) = slice_get_read code (length code) slot _ refl lt c.index-code-slot.is ∙ ap Some c.in-Some.is in
     let rule = sym c.in_ok-rule.ensures.rule ∙ c.in-Some-2.is in
     record {
-      verdict = sym (refused_at rules caps code slot c.in-Some.insn pass (Some c.in-Some-2.rule) lt at c.loop-slot.invariant.brought rule) ∙ c.loop-slot.invariant.rest;
+      verdict = sym (refused_at c.args.rules caps code slot c.in-Some.insn pass (Some c.in-Some-2.rule) lt at c.loop-slot.invariant.brought rule) ∙ c.loop-slot.invariant.rest;
       sound = λ none. absurd (none-some _ (sym none));
     }
 
@@ -43,12 +43,12 @@ loop-slot-preserved c = elim c.match-begun.branch [
       let rule = sym w.in_ok-rule.ensures.rule ∙ w.in_default-2.is in
       let fetched = ap (λ o. o >>= λ i. i) at in
       let left = w.in_ok-rule.ensures.left w.in_default-2.is in
-      let its = its_frame rules caps code slot pass lt c.loop-slot.invariant.brought in
+      let its = its_frame c.args.rules caps code slot pass lt c.loop-slot.invariant.brought in
       let sound = subst (IsSound w.in-Some.insn slot) its (w.in_ok-rule.ensures.sound w.in_default-2.is) in
       record {
-        sound = sound_more rules caps code slot w.in-Some.insn c.loop-slot.invariant.sound fetched sound;
-        rest = sym (refused_at rules caps code slot w.in-Some.insn pass None lt at c.loop-slot.invariant.brought rule) ∙ c.loop-slot.invariant.rest;
-        brought = subst (Brought rules caps code (slot + 1)) (sym w.self-is) (brought_more rules caps code slot w.in-Some.insn pass _ c.requires.spaced lt fetched rule left c.loop-slot.invariant.brought);
+        sound = sound_more c.args.rules caps code slot w.in-Some.insn c.loop-slot.invariant.sound fetched sound;
+        rest = sym (refused_at c.args.rules caps code slot w.in-Some.insn pass None lt at c.loop-slot.invariant.brought rule) ∙ c.loop-slot.invariant.rest;
+        brought = subst (Brought c.args.rules caps code (slot + 1)) (sym w.self-is) (brought_more c.args.rules caps code slot w.in-Some.insn pass _ c.requires.spaced lt fetched rule left c.loop-slot.invariant.brought);
       }
   | in_default w ↦
       let rules = c.args.rules in
@@ -59,9 +59,9 @@ loop-slot-preserved c = elim c.match-begun.branch [
       let lt : slot < length code = omega arith in
       let at : slice_get code slot ≡ Some None = slice_get_read code (length code) slot _ refl lt c.index-code-slot.is ∙ ap Some w.in_default.is in
       record {
-        sound = sound_over rules caps code slot c.loop-slot.invariant.sound (ap (λ o. o >>= λ i. i) at);
-        rest = sym (refused_over rules caps code slot at) ∙ c.loop-slot.invariant.rest;
-        brought = subst (Brought rules caps code (slot + 1)) (sym w.self-is) (brought_over rules caps code slot pass (ap (λ o. o >>= λ i. i) at) c.loop-slot.invariant.brought);
+        sound = sound_over c.args.rules caps code slot c.loop-slot.invariant.sound (ap (λ o. o >>= λ i. i) at);
+        rest = sym (refused_over c.args.rules caps code slot at) ∙ c.loop-slot.invariant.rest;
+        brought = subst (Brought c.args.rules caps code (slot + 1)) (sym w.self-is) (brought_over c.args.rules caps code slot pass (ap (λ o. o >>= λ i. i) at) c.loop-slot.invariant.brought);
       }
 ]
 
