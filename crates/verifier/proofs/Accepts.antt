@@ -15,9 +15,7 @@ use Rattle.bpf_machine.specs.Safe.{caps_of, EndsAlways, EndsAlwaysIsSafe}
 use Rattle.verifier.specs.Pass.{IsSpaced, AllSound}
 use Rattle.verifier.specs.Verified.{IsVerified}
 use Rattle.verifier.specs.Verdict.{method_verdict}
-use Rattle.bpf_decode.specs.declared.rule_set.RuleSet.{RuleSet}
-use Rattle.verifier.specs.Frame.{known_slots}
-use Rattle.verifier.proofs.Runs.{ends_at_exit, entry_is_held, entry_long, known_few}
+use Rattle.verifier.proofs.Runs.{ends_at_exit, entry_is_held}
 use Rattle.verifier.proofs.Memory.{Laws}
 
 length-slots : (is : List Insn) → length (slots is) ≡ slot_total is

@@ -49,7 +49,7 @@ stored_if_kept b (Some x) e f = absurd cc
 module _ (caps : Caps) (code : List (Option Insn)) (p : ℕ) (f : PlainFrame) where
   -- a load's bytes meet nothing that isn't to be read
   unmet : (content : Content) (x : PlainKind) (distance w : ℕ) → stays caps x distance w ≡ true → load_meets content caps f x distance w ≡ false → meets content (access_span (stack_place x distance) w) 0 f.slots ≡ false
-  unmet content x distance w inside e = when_right (meets content (access_span (stack_place x distance) w) 0 f.slots) (stays caps x distance w) e inside
+  unmet content x distance w inside e = when_right _ _ e inside
 
   room_kinds : (arguments : List Argument) (k : ℕ) → some_fault caps f WrongKind arguments k ≡ false → AllowsRoom (room_in arguments k) f
   room_kinds [] k e = tt
@@ -78,7 +78,7 @@ module _ (caps : Caps) (code : List (Option Insn)) (p : ℕ) (f : PlainFrame) wh
       let unset = neither (is_unset x) (load_meets Nothing caps f x (extended offset) (byte_count width)) ok.unset in (
         stays_by_pointer caps x (extended offset) (byte_count width) inside,
         unmet Nothing x (extended offset) (byte_count width) inside unset.1,
-        (λ none. unmet Pointer x (extended offset) (byte_count width) inside (none_kept (kept_kind f x (extended offset) (byte_count width)) (load_meets Pointer caps f x (extended offset) (byte_count width)) ok.parts none)),
+        (λ none. unmet Pointer x (extended offset) (byte_count width) inside (none_kept (kept_kind f x (extended offset) (byte_count width)) _ ok.parts none)),
       )
   allowed (LoadSigned width d base offset) ok =
       let x = kind_at f base in

@@ -10,7 +10,6 @@ use Rattle.bpf_decode.specs.Instruction.{Fits, byte_count}
 use Rattle.bpf_decode.specs.Values.{extended}
 use Rattle.bpf_decode.specs.declared.rule_set.RuleSet.{RuleSet}
 use Rattle.bpf_decode.specs.declared.value.Value.{Value}
-use Rattle.bpf_decode.specs.declared.rule_set.RuleSet.{RuleSet}
 use Rattle.bpf_machine.specs.declared.caps.Caps.{Caps}
 use Rattle.bpf_machine.specs.Typed.{fetch}
 use Rattle.verifier.specs.declared.rule.Rule.{Rule}

@@ -1,10 +1,9 @@
 -- The frame of a method's entry, and what a frame is true of.
-use Rattle.std.specs.Prelude.{◌≡◌, ℕ, ◌/◌, ◌^◌, ◌<◌, ◌≤◌, length}
+use Rattle.std.specs.Prelude.{◌≡◌, ℕ, ◌^◌, ◌<◌, ◌≤◌, length}
 use Rattle.bpf_decode.specs.declared.region.Region.TheVariants.{Stack}
 use Rattle.bpf_decode.specs.declared.rule_set.RuleSet.{RuleSet}
 use Rattle.bpf_decode.specs.declared.rule_set.RuleSet.TheVariants.{One, Two}
 use Rattle.bpf_machine.specs.declared.caps.Caps.{Caps}
-use Rattle.bpf_machine.specs.declared.limits.TheConstants.{STACK_SIZE}
 use Rattle.object_store.specs.Object.{IsValue, IsObject}
 use Rattle.bpf_machine.specs.State.{size}
 use Rattle.bpf_machine.specs.Typed.{Typed, TypedMemory}

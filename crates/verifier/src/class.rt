@@ -34,7 +34,6 @@ fn push_verified(
     alloc: Global,
     rules: RuleSet,
     methods: &mut Vec<VerifiedMethod>,
-    rules: RuleSet,
     number: usize,
     method: &Method,
 ) -> Result<(), Refusal>

@@ -87,9 +87,8 @@ loop-number-preserved c =
     let at : slice_get image number ≡ Some m =
     slice_get_read image (length image) number m refl few (c.method-item.is ∙ ap (λ ms. get_or ms number m) c.methods-method-items.ensures.methods) in
     let more = drop_head image number m at in
-    let rules = c.args.image.now.rules in
-    let clear = sym (ap (λ (s : RuleSet). method_verdict s m) c.rules.ensures) ∙ c.in_ok-push_verified.ensures.accepted in
-    let rest = verdict_from rules (number + 1) (drop (number + 1) image) in
+    let clear = c.in_ok-push_verified.ensures.accepted in
+    let rest = verdict_from (number + 1) (drop (number + 1) image) in
     record {
       safe = all_more IsSafe image number m at c.loop-number.invariant.safe c.in_ok-push_verified.ensures.safe;
       sofar =

@@ -17,7 +17,6 @@ loop-slot-init c = record {
 
 pub returns-in-Some-2 : goal.returns-in-Some-2
 returns-in-Some-2 c =
-    let rules = c.args.rules in
     let caps = c.args.caps.now in
     let code = c.args.code.now in
     let slot = c.loop-slot.slot in
@@ -33,8 +32,7 @@ returns-in-Some-2 c =
 pub loop-slot-preserved : goal.loop-slot-preserved
 loop-slot-preserved c = elim c.match-begun.branch [
   | in-Some+in_ok-rule+in_default-2 w ↦
-      let rules = c.args.rules in
-    let caps = c.args.caps.now in
+      let caps = c.args.caps.now in
       let code = c.args.code.now in
       let slot = c.loop-slot.slot in
       let pass = c.loop-slot.self in
@@ -51,8 +49,7 @@ loop-slot-preserved c = elim c.match-begun.branch [
         brought = subst (Brought c.args.rules caps code (slot + 1)) (sym w.self-is) (brought_more c.args.rules caps code slot w.in-Some.insn pass _ c.requires.spaced lt fetched rule left c.loop-slot.invariant.brought);
       }
   | in_default w ↦
-      let rules = c.args.rules in
-    let caps = c.args.caps.now in
+      let caps = c.args.caps.now in
       let code = c.args.code.now in
       let slot = c.loop-slot.slot in
       let pass = c.loop-slot.self in
