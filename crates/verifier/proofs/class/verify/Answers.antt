@@ -88,12 +88,12 @@ loop-number-preserved c =
     slice_get_read image (length image) number m refl few (c.method-item.is ∙ ap (λ ms. get_or ms number m) c.methods-method-items.ensures.methods) in
     let more = drop_head image number m at in
     let clear = c.in_ok-push_verified.ensures.accepted in
-    let rest = verdict_from (number + 1) (drop (number + 1) image) in
+    let rest = verdict_from c.args.image.now.rules (number + 1) (drop (number + 1) image) in
     record {
       safe = all_more IsSafe image number m at c.loop-number.invariant.safe c.in_ok-push_verified.ensures.safe;
       sofar =
           c.in_ok-push_verified.ensures.pushed
           ∙ ap (λ ms. ms ++ m ∷ []) c.loop-number.invariant.sofar
           ∙ sym (take_next image number m at);
-      rest = sym (ap (verdict_from rules number) more ∙ ap (λ o. or_later number o rest) clear) ∙ c.loop-number.invariant.rest;
+      rest = sym (ap (verdict_from c.args.image.now.rules number) more ∙ ap (λ o. or_later number o rest) clear) ∙ c.loop-number.invariant.rest;
     }
