@@ -1,12 +1,11 @@
 -- What a frame holds of values, it holds of their numbers.
-use Rattle.std.proofs.Common.{◌+◌, ◌%◌, ◌^◌, List, [], ◌∷◌, Option, Some, None, ap, sym}
+use Rattle.std.proofs.Common.{◌+◌, ◌%◌, ◌^◌, [], ◌∷◌, Option, Some, None, ap, sym}
 use Rattle.std.specs.Option.{option_map}
 use Rattle.bpf_decode.specs.declared.region.Region.{Region}
 use Rattle.bpf_decode.specs.declared.value.Value.{Value}
 use Rattle.bpf_decode.specs.declared.value.Value.TheVariants as values
 use Rattle.abstract_regs.specs.Kind.{PlainKind, Unset, Num, Ptr, HoldsKind}
-use Rattle.abstract_regs.specs.Frame.{HoldsEach}
-use Rattle.abstract_regs.specs.Flat.{Bases, number_of, flat_registers, HoldsFlat, HoldsFlatEach, FlatRegistersHold}
+use Rattle.abstract_regs.specs.Flat.{Bases, number_of, HoldsFlat, FlatRegistersHold}
 
 flat_holds : (base : Bases) (x : PlainKind) (c : Option Value) → HoldsKind x c → HoldsFlat base x (option_map (number_of base) c)
 flat_holds base Unset c h = tt

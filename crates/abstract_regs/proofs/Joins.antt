@@ -211,4 +211,4 @@ module _ (law : JoinKeeps) where
   each_right (x ∷ f) (y ∷ g) (c ∷ cs) h = (kind_right x y c h.0, each_right f g cs h.1)
 
   pub joins_hold : JoinsHold
-  joins_hold f g = record { left = each_left f.registers g.registers; right = each_right f.registers g.registers }
+  joins_hold f g = record { left = each_left f.registers g.registers; right = each_right f.registers g.registers; slots_left = each_left f.slots g.slots; slots_right = each_right f.slots g.slots }

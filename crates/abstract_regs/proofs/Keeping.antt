@@ -1,7 +1,7 @@
 -- What a frame holds before an instruction, a frame along an edge holds after it.
-use Rattle.std.proofs.Common.{◌≡◌, ℕ, ℤ, pos, negsuc, zero, suc, ◌+◌, ◌%◌, ◌^◌, ◌<◌, List, [], ◌∷◌, ◌++◌, Option, Some, None, Bool, true, false, refl, inl, inr, ap, ◌∙◌, sym, subst, arith, drop, IsSomeAnd}
+use Rattle.std.proofs.Common.{◌≡◌, ℕ, ℤ, pos, negsuc, zero, suc, ◌+◌, ◌*◌, ◌%◌, ◌^◌, ◌<◌, List, [], ◌∷◌, ◌++◌, length, Option, Some, None, Bool, true, false, refl, inl, inr, ap, ◌∙◌, sym, subst, arith, drop, IsSomeAnd}
 use Rattle.std.specs.Prelude.{slice_get, slice_set, ◌==◌, FitsSigned, if◌then◌else◌}
-use Rattle.std.specs.Int.{w32}
+use Rattle.std.specs.Int.{w16, w32}
 use Rattle.std.specs.Option.{option_map}
 use Rattle.std.proofs.lemmas.Bool.{false≢true, eqb-true}
 use Rattle.std.proofs.lemmas.Option.{none-some, same_Some}
@@ -9,7 +9,9 @@ use Rattle.bpf_decode.specs.declared.insn.Operand.{Operand}
 use Rattle.bpf_decode.specs.declared.insn.Operand.TheVariants.{Immediate, Register}
 use Rattle.bpf_decode.specs.declared.insn.Insn.{Insn}
 use Rattle.bpf_decode.specs.declared.insn.Insn.TheVariants.{Alu, Neg, Mov, MovSigned, End, LoadWide, Load, LoadSigned, Store, Jump, JumpLong, Branch, Call, CallLocal, Exit}
+use Rattle.bpf_decode.specs.declared.access.Width.{Width}
 use Rattle.bpf_decode.specs.declared.region.Region.{Region}
+use Rattle.bpf_decode.specs.declared.region.Region.TheVariants.{Input, Output, Stack}
 use Rattle.bpf_decode.specs.declared.value.Value.{Value}
 use Rattle.bpf_decode.specs.declared.value.Value.TheVariants as values
 use Rattle.bpf_decode.specs.declared.operation.Bits.{Bits}
@@ -20,20 +22,25 @@ use Rattle.bpf_decode.specs.declared.operation.ByteOrder.{ByteOrder}
 use Rattle.bpf_decode.specs.declared.operation.EndWidth.{EndWidth}
 use Rattle.bpf_decode.specs.declared.operation.Comparison.{Comparison}
 use Rattle.bpf_decode.specs.Arithmetic.{alu_value, neg_value, mov_value, signed_move_value, end_value, is_taken, compared}
-use Rattle.bpf_decode.specs.Instruction.{OperandFits}
+use Rattle.bpf_decode.specs.declared.operation.Bits.TheVariants.{Bits64}
+use Rattle.bpf_decode.specs.declared.operation.Arithmetic.TheVariants.{Add}
+use Rattle.bpf_decode.specs.Instruction.{byte_count, signed_byte_count, OperandFits}
 use Rattle.bpf_decode.specs.Jump.{branch_to}
 use Rattle.bpf_decode.specs.Values.{extended, moves_pointer, is_addition, alu_values, mov_values}
 use Rattle.abstract_num.specs.Plain.{Plain, Holds, constant}
 use Rattle.abstract_num.specs.Tighten.{tighten}
-use Rattle.abstract_num.specs.Transfer.{transferred}
+use Rattle.abstract_num.specs.Transfer.{transferred, ranged, load_high}
 use Rattle.abstract_num.specs.Edges.{along}
 use Rattle.abstract_num.specs.Keeping.{HeldIn, HeldInBoth, NumbersFit, ConstantsFit, AnyHolds, ConstantHolds, ArithmeticKeeps, NegativeKeeps, CopyKeeps, ExtensionKeeps, OrderKeeps, LoadKeeps, SignedLoadKeeps, TightenKeeps, EdgeKeeps}
 use Rattle.abstract_regs.specs.declared.kind.Kind.{Kind}
 use Rattle.abstract_regs.specs.declared.kind.Kind.TheVariants as code
-use Rattle.abstract_regs.specs.Kind.{PlainKind, Unset, Num, Ptr, HoldsKind, alu_kind, neg_kind, mov_kind, signed_move_kind, end_kind, both_nums, same_num, along_kinds}
-use Rattle.abstract_regs.specs.Frame.{PlainFrame, or_unset, kind_at, with_kind, after_call, operand_kind, HoldsEach}
-use Rattle.abstract_regs.specs.Flow.{target, edge_to, computed, with_both, along_edge, flow}
-use Rattle.abstract_regs.specs.Moves.{value_at, operand_in, with_value, Reaches, KindFits, EachFits, Keeps}
+use Rattle.abstract_regs.specs.Kind.{PlainKind, Unset, Num, Ptr, HoldsKind, alu_kind, neg_kind, mov_kind, signed_move_kind, end_kind, both_nums, same_num, along_kinds, last_place, is_unset, is_num, is_ptr}
+use Rattle.abstract_regs.specs.declared.content.Content.TheVariants.{Nothing, Pointer}
+use Rattle.abstract_regs.specs.Slots.{stack_place, stack_range, touches, access_span, range_span, whole_slot, slot_kind, spoiled, stored, meets}
+use Rattle.abstract_regs.specs.Frame.{PlainFrame, or_unset, kind_at, with_kind, room_span, after_store, after_call, operand_kind, HoldsEach}
+use Rattle.abstract_regs.specs.Flow.{target, edge_to, computed, with_both, along_edge, loaded_kind, flow}
+use Rattle.abstract_regs.specs.Moves.{value_at, operand_in, with_value, Touched, Reached, IsNumber, Loads, Stores, Overwrites, Overwritten, Reaches, KindFits, EachFits, AllowsRoom, Keeps}
+use Rattle.abstract_regs.proofs.SlotLemmas.{at_start, spoiled_holds, set_holds, inside_of, held_slot, all_numbers, access_touches, range_touches, whole_is, one_place}
 use Rattle.abstract_regs.specs.Seen.{seen, seen_each}
 
 -- the laws of numbers
@@ -193,18 +200,18 @@ module _ (law : Laws) where
   along_left bits comparison taken true (Ptr r k) y m n s h i e = absurd h
   along_left bits comparison taken false (Ptr r k) y m n s h i e = absurd h
 
-  -- a frame along the edge is true of the registers
-  abbrev LeftFrame : Option PlainFrame → List (Option Value) → Type 0
-  LeftFrame o cs = IsSomeAnd o (λ g. HoldsEach g.registers cs)
+  -- a frame along the edge is true of the registers and the slots
+  abbrev LeftFrame : Option PlainFrame → List (Option Value) → List (Option Value) → Type 0
+  LeftFrame o cs vs = IsSomeAnd o (λ g. HoldsEach g.registers cs × HoldsEach g.slots vs)
 
-  with_immediate : (f : PlainFrame) (dst : ℕ) (imm : ℤ) (o : Option (PlainKind × PlainKind)) (cs : List (Option Value)) (m n : ℕ) → HoldsEach f.registers cs → value_at cs dst ≡ Some (values.Num m) → LeftBoth o m n → LeftFrame (option_map (with_both f dst (Immediate imm)) o) cs
-  with_immediate f dst imm None cs m n h e l = absurd l
-  with_immediate f dst imm (Some s) cs m n h e l = keep_each f.registers cs dst s.0 (values.Num m) h e l.0
+  with_immediate : (f : PlainFrame) (dst : ℕ) (imm : ℤ) (o : Option (PlainKind × PlainKind)) (cs vs : List (Option Value)) (m n : ℕ) → HoldsEach f.registers cs → HoldsEach f.slots vs → value_at cs dst ≡ Some (values.Num m) → LeftBoth o m n → LeftFrame (option_map (with_both f dst (Immediate imm)) o) cs vs
+  with_immediate f dst imm None cs vs m n h k e l = absurd l
+  with_immediate f dst imm (Some s) cs vs m n h k e l = (keep_each f.registers cs dst s.0 (values.Num m) h e l.0, k)
 
-  with_register : (f : PlainFrame) (dst r : ℕ) (o : Option (PlainKind × PlainKind)) (cs : List (Option Value)) (m n : ℕ) → HoldsEach f.registers cs → value_at cs dst ≡ Some (values.Num m) → value_at cs r ≡ Some (values.Num n) → LeftBoth o m n → LeftFrame (option_map (with_both f dst (Register r)) o) cs
-  with_register f dst r None cs m n h e g l = absurd l
-  with_register f dst r (Some s) cs m n h e g l =
-      keep_each (slice_set f.registers dst s.0) cs r s.1 (values.Num n) (keep_each f.registers cs dst s.0 (values.Num m) h e l.0) g l.1
+  with_register : (f : PlainFrame) (dst r : ℕ) (o : Option (PlainKind × PlainKind)) (cs vs : List (Option Value)) (m n : ℕ) → HoldsEach f.registers cs → HoldsEach f.slots vs → value_at cs dst ≡ Some (values.Num m) → value_at cs r ≡ Some (values.Num n) → LeftBoth o m n → LeftFrame (option_map (with_both f dst (Register r)) o) cs vs
+  with_register f dst r None cs vs m n h k e g l = absurd l
+  with_register f dst r (Some s) cs vs m n h k e g l =
+      (keep_each (slice_set f.registers dst s.0) cs r s.1 (values.Num n) (keep_each f.registers cs dst s.0 (values.Num m) h e l.0) g l.1, k)
 
   low_same : (n : ℕ) → n % 2 ^ 32 % 2 ^ 32 ≡ n % 2 ^ 32
   low_same n = omega arith
@@ -217,70 +224,223 @@ module _ (law : Laws) where
   num_same : (m n : ℕ) → values.Num m ≡ values.Num n → m ≡ n
   num_same m n e = cc
 
-  edge_left : (bits : Bits) (comparison : Comparison) (taken : Bool) (dst : ℕ) (source : Operand) (f : PlainFrame) (cs : List (Option Value)) (m n : ℕ) → OperandFits source → HoldsEach f.registers cs → value_at cs dst ≡ Some (values.Num m) → operand_in cs source ≡ Some (values.Num n) → is_taken bits comparison m n ≡ taken → LeftFrame (along_edge bits comparison taken dst source f) cs
-  edge_left bits comparison taken dst (Immediate imm) f cs m n fit h e g t =
+  edge_left : (bits : Bits) (comparison : Comparison) (taken : Bool) (dst : ℕ) (source : Operand) (f : PlainFrame) (cs vs : List (Option Value)) (m n : ℕ) → OperandFits source → HoldsEach f.registers cs → HoldsEach f.slots vs → value_at cs dst ≡ Some (values.Num m) → operand_in cs source ≡ Some (values.Num n) → is_taken bits comparison m n ≡ taken → LeftFrame (along_edge bits comparison taken dst source f) cs vs
+  edge_left bits comparison taken dst (Immediate imm) f cs vs m n fit h sl e g t =
       let same : extended imm ≡ n = num_same (extended imm) n (same_Some _ _ g) in
       let k = mov_value bits (extended imm) in
       let small = mov_small bits (extended imm) (extended_small imm fit) in
       let t' : is_taken bits comparison m k ≡ taken = low_taken bits comparison m (extended imm) ∙ ap (is_taken bits comparison m) same ∙ t in
-      with_immediate f dst imm _ cs m k h e
+      with_immediate f dst imm _ cs vs m k h sl e
       (along_left bits comparison taken false (kind_at f dst) (Num (constant k)) m k (λ s. absurd (false≢true s)) (held_at f.registers cs dst _ h e) (law.constant k small) t')
-  edge_left bits comparison taken dst (Register r) f cs m n fit h e g t =
-      with_register f dst r _ cs m n h e g
+  edge_left bits comparison taken dst (Register r) f cs vs m n fit h sl e g t =
+      with_register f dst r _ cs vs m n h sl e g
       (along_left bits comparison taken (dst == r) (kind_at f dst) (kind_at f r) m n
       (λ s. num_same m n (same_Some _ _ (sym e ∙ ap (value_at cs) (eqb-true dst r s) ∙ g))) (held_at f.registers cs dst _ h e) (held_at f.registers cs r _ h g) t)
 
-  reach_first : (a b : Option PlainFrame) (t s q : ℕ) (cs : List (Option Value)) → q ≡ t → LeftFrame a cs → Reaches (edge_to t a ++ edge_to s b) q cs
-  reach_first None b t s q cs e l = absurd l
-  reach_first (Some g) b t s q cs e l = record { frame = g; there = inl (e, refl); holds = l }
+  reach_first : (a b : Option PlainFrame) (t s q : ℕ) (cs vs : List (Option Value)) → q ≡ t → LeftFrame a cs vs → Reaches (edge_to t a ++ edge_to s b) q cs vs
+  reach_first None b t s q cs vs e l = absurd l
+  reach_first (Some g) b t s q cs vs e l = record { frame = g; there = inl (e, refl); holds = l.0; slots = l.1 }
 
-  reach_second : (a b : Option PlainFrame) (t s q : ℕ) (cs : List (Option Value)) → q ≡ s → LeftFrame b cs → Reaches (edge_to t a ++ edge_to s b) q cs
-  reach_second a None t s q cs e l = absurd l
-  reach_second None (Some g) t s q cs e l = record { frame = g; there = inl (e, refl); holds = l }
-  reach_second (Some f) (Some g) t s q cs e l = record { frame = g; there = inr (inl (e, refl)); holds = l }
+  reach_second : (a b : Option PlainFrame) (t s q : ℕ) (cs vs : List (Option Value)) → q ≡ s → LeftFrame b cs vs → Reaches (edge_to t a ++ edge_to s b) q cs vs
+  reach_second a None t s q cs vs e l = absurd l
+  reach_second None (Some g) t s q cs vs e l = record { frame = g; there = inl (e, refl); holds = l.0; slots = l.1 }
+  reach_second (Some f) (Some g) t s q cs vs e l = record { frame = g; there = inr (inl (e, refl)); holds = l.0; slots = l.1 }
 
-  reach_edge : (taken : Bool) (a b : Option PlainFrame) (p q distance : ℕ) (t : ℕ) (cs : List (Option Value)) → branch_to true p distance ≡ t → q ≡ branch_to taken p distance → (taken ≡ true → LeftFrame a cs) → (taken ≡ false → LeftFrame b cs) → Reaches (edge_to t a ++ edge_to (p + 1) b) q cs
-  reach_edge true a b p q distance t cs s e f g = reach_first a b t (p + 1) q cs (e ∙ s) (f refl)
-  reach_edge false a b p q distance t cs s e f g = reach_second a b t (p + 1) q cs e (g refl)
+  reach_edge : (taken : Bool) (a b : Option PlainFrame) (p q distance : ℕ) (t : ℕ) (cs vs : List (Option Value)) → branch_to true p distance ≡ t → q ≡ branch_to taken p distance → (taken ≡ true → LeftFrame a cs vs) → (taken ≡ false → LeftFrame b cs vs) → Reaches (edge_to t a ++ edge_to (p + 1) b) q cs vs
+  reach_edge true a b p q distance t cs vs s e f g = reach_first a b t (p + 1) q cs vs (e ∙ s) (f refl)
+  reach_edge false a b p q distance t cs vs s e f g = reach_second a b t (p + 1) q cs vs e (g refl)
 
-  arrives : (o : Option PlainKind) (next q : ℕ) (f : PlainFrame) (dst : ℕ) (cs ds : List (Option Value)) (v : Value) → HoldsEach f.registers cs → Left o v → q ≡ next → ds ≡ with_value cs dst v → Reaches (computed next f dst o) q ds
-  arrives None next q f dst cs ds v h l e d = absurd l
-  arrives (Some x) next q f dst cs ds v h l e d =
-      record { frame = with_kind f dst x; there = inl (e, refl); holds = subst (HoldsEach (slice_set f.registers dst x)) (sym d) (set_each f.registers cs dst x v h l) }
+  arrives : (o : Option PlainKind) (next q : ℕ) (f : PlainFrame) (dst : ℕ) (cs ds vs ws : List (Option Value)) (v : Value) → HoldsEach f.registers cs → HoldsEach f.slots vs → Left o v → q ≡ next → ds ≡ with_value cs dst v → ws ≡ vs → Reaches (computed next f dst o) q ds ws
+  arrives None next q f dst cs ds vs ws v h k l e d u = absurd l
+  arrives (Some x) next q f dst cs ds vs ws v h k l e d u =
+      record { frame = with_kind f dst x; there = inl (e, refl); holds = subst (HoldsEach (slice_set f.registers dst x)) (sym d) (set_each f.registers cs dst x v h l); slots = subst (HoldsEach f.slots) (sym u) k }
 
-  stays : (f : PlainFrame) (a q : ℕ) (cs ds : List (Option Value)) → HoldsEach f.registers cs → q ≡ a → ds ≡ cs → Reaches ((a, f) ∷ []) q ds
-  stays f a q cs ds h e d = record { frame = f; there = inl (e, refl); holds = subst (HoldsEach f.registers) (sym d) h }
+  stays : (f : PlainFrame) (a q : ℕ) (cs ds vs ws : List (Option Value)) → HoldsEach f.registers cs → HoldsEach f.slots ws → q ≡ a → ds ≡ cs → Reaches ((a, f) ∷ []) q ds ws
+  stays f a q cs ds vs ws h k e d = record { frame = f; there = inl (e, refl); holds = subst (HoldsEach f.registers) (sym d) h; slots = k }
 
-  pub keeps : (f : PlainFrame) → EachFits f.registers → (i : Insn) (p : ℕ) → Keeps i p f
-  keeps f fits (Alu bits operation dst source) p fit cs ds q h m =
-      arrives _ (p + 1) q f dst cs ds m.2 h
-      (alu_left bits operation (kind_at f dst) (operand_kind f source) m.0 m.1 m.2 (fits_at f.registers dst fits) (operand_fits f source fit.1 fits) (held_at f.registers cs dst m.0 h m.3) (operand_held f cs source m.1 fit.1 h m.4) m.5) m.6 m.7
-  keeps f fits (Neg bits dst) p fit cs ds q h m =
-      arrives _ (p + 1) q f dst cs ds _ h (neg_left bits (kind_at f dst) m.0 (fits_at f.registers dst fits) (held_at f.registers cs dst _ h m.1)) m.2 m.3
-  keeps f fits (Mov bits dst source) p fit cs ds q h m =
-      arrives _ (p + 1) q f dst cs ds m.1 h (mov_left bits (operand_kind f source) m.0 m.1 (operand_held f cs source m.0 fit.1 h m.2) m.3) m.4 m.5
-  keeps f fits (MovSigned extension dst src) p fit cs ds q h m =
-      arrives _ (p + 1) q f dst cs ds _ h (signed_move_left extension (kind_at f src) m.0 (held_at f.registers cs src _ h m.1)) m.2 m.3
-  keeps f fits (End order width dst) p fit cs ds q h m =
-      arrives _ (p + 1) q f dst cs ds _ h (end_left order width (kind_at f dst) m.0 (held_at f.registers cs dst _ h m.1)) m.2 m.3
-  keeps f fits (LoadWide dst value) p fit cs ds q h m =
-      arrives (Some (Num (constant value))) (p + 2) q f dst cs ds (values.Num value) h (law.constant value fit.1) m.0 m.1
-  keeps f fits (Load width dst base offset) p fit cs ds q h m =
-      arrives _ (p + 1) q f dst cs ds _ h (left_num _ m.0 (law.loads width m.0 m.1)) m.2 m.3
-  keeps f fits (LoadSigned width dst base offset) p fit cs ds q h m =
-      arrives _ (p + 1) q f dst cs ds _ h (left_num _ _ (law.signed_loads width m.0 m.1)) m.2 m.3
-  keeps f fits (Store width base offset source) p fit cs ds q h m = stays f (p + 1) q cs ds h m.0 m.1
-  keeps f fits (Jump offset) p fit cs ds q h m = stays f (target p offset) q cs ds h m.0 m.1
-  keeps f fits (JumpLong distance) p fit cs ds q h m = stays f (target p distance) q cs ds h m.0 m.1
-  keeps f fits (Branch bits comparison dst source offset) p fit cs ds q h m =
-      subst (Reaches (flow (Branch bits comparison dst source offset) p f) q) (sym m.5)
-      (reach_edge (is_taken bits comparison m.0 m.1) (along_edge bits comparison true dst source f) (along_edge bits comparison false dst source f) p q (extended offset) (target p offset) cs refl m.4
-      (edge_left bits comparison true dst source f cs m.0 m.1 fit.2 h m.2 m.3) (edge_left bits comparison false dst source f cs m.0 m.1 fit.2 h m.2 m.3))
-  keeps f fits (Call helper) p fit cs ds q h m =
+  -- ---- the stack
+
+  extended_small16 : (z : ℤ) → FitsSigned w16 z → extended z < 2 ^ 64
+  extended_small16 (pos n) h = let b = h.sfits in omega arith
+  extended_small16 (negsuc n) h = omega arith
+
+  -- what a load gives: the kind of a slot is true of its value, a number of so many bytes of a number
+  slot_or_number : (o number : Option PlainKind) (v : Value) → ((x : PlainKind) → o ≡ Some x → HoldsKind x (Some v)) → (o ≡ None → Left number v) → Left (loaded_kind o number) v
+  slot_or_number None number v whole other = other refl
+  slot_or_number (Some x) number v whole other = whole x refl
+
+  -- where an access through a pointer is
+  pub place_held : (k : Plain) (o distance : ℕ) → KindFits (Ptr Stack k) → distance < 2 ^ 64 → Holds k o → HeldIn (last_place k distance) ((o + distance) % 2 ^ 64)
+  place_held k o distance fit small h =
+      law.arithmetic Bits64 Add k (constant distance) fit (law.constants_fit distance small) o distance h (law.constant distance small)
+
+  -- the slots that an access reaches, where it is in the stack
+  pub reaches_some : (P : Option Plain) (at w : ℕ) → HeldIn P at → (j : ℕ) → Touched at w j → touches (access_span P w) j ≡ true
+  reaches_some None at w h j t = absurd h
+  reaches_some (Some place) at w h j t = access_touches place at w j h t
+
+  pub whole_place : (P : Option Plain) (at w j : ℕ) → HeldIn P at → whole_slot P w ≡ Some j → (w ≡ 8) × (at ≡ 8 * j)
+  whole_place None at w j h e = absurd h
+  whole_place (Some place) at w j h e = let whole = whole_is place w j e in (whole.width, one_place place at w j h whole)
+
+  pub not_stack : (r q : Region) (at w j : ℕ) → r ≡ q → (q ≡ Stack → ⊥) → Reached r at w j → ⊥
+  not_stack r q at w j same other reached = let region = reached.region in other (sym same ∙ region)
+
+  module _ (slots : List PlainKind) (vs : List (Option Value)) (long : length slots ≡ length vs) (held : HoldsEach slots vs) where
+    -- of a load in the stack
+    slot_value : (P : Option Plain) (at w : ℕ) (r : Region) (v : Value) → r ≡ Stack → HeldIn P at → Loads vs r at w v → (o : Option ℕ) → o ≡ whole_slot P w → (x : PlainKind) → slot_kind slots o ≡ Some x → HoldsKind x (Some v)
+    slot_value P at w r v region h loads None e x there = absurd (none-some x there)
+    slot_value P at w r v region h loads (Some j) e x there =
+        let place = whole_place P at w j h (sym e) in
+        let inside = inside_of slots j x there in
+        let is = loads.whole j (record { region = region; width = place.0; place = place.1; inside = omega (arith, long, inside) }) in
+        subst (HoldsKind x) is (held_slot slots vs j x held there)
+
+    a_number : (P : Option Plain) (at w : ℕ) (r : Region) (v : Value) → HeldIn P at → Loads vs r at w v → meets Nothing (access_span P w) 0 slots ≡ false → meets Pointer (access_span P w) 0 slots ≡ false → (n : ℕ) × (v ≡ values.Num n) × (n < 256 ^ w)
+    a_number P at w r v h loads unset ptr =
+        loads.number (λ j lt reached. all_numbers (access_span P w) slots vs long held unset ptr j lt (reaches_some P at w h j reached.touched))
+
+    elsewhere : (at w : ℕ) (r q : Region) (v : Value) → r ≡ q → (q ≡ Stack → ⊥) → Loads vs r at w v → (n : ℕ) × (v ≡ values.Num n) × (n < 256 ^ w)
+    elsewhere at w r q v same other loads = loads.number (λ j lt reached. absurd (not_stack r q at w j same other reached))
+
+    -- of a store in the stack
+    store_slot : (P : Option Plain) (at w : ℕ) (r : Region) (x : Value) (y : PlainKind) (ws : List (Option Value)) → r ≡ Stack → HeldIn P at → HoldsKind y (Some x) → Stores vs r at w x ws → (slot_kind slots (whole_slot P w) ≡ None → IsNumber (Some x)) → (o : Option ℕ) → o ≡ whole_slot P w → HoldsEach (stored slots o (access_span P w) y) ws
+    store_slot P at w r x y ws region h k stores number None e =
+        spoiled_holds law.any (access_span P w) 0 slots vs ws held stores.long
+        (λ i out. stores.others i (λ reached. false≢true (sym out ∙ at_start (access_span P w) i ∙ reaches_some P at w h i reached.touched)))
+        (stores.numbers (number (ap (slot_kind slots) (sym e))))
+    store_slot P at w r x y ws region h k stores number (Some j) e =
+        let place = whole_place P at w j h (sym e) in
+        set_holds slots vs ws j y x held k stores.long
+        (λ lt. stores.whole j (record { region = region; width = place.0; place = place.1; inside = lt }))
+        (λ i ne. stores.others i (λ reached. let t = reached.touched in let a = t.below in let b = t.above in ne (omega (arith, place.0, place.1))))
+
+    -- and of one elsewhere, or of a range elsewhere
+    untouched : (ws : List (Option Value)) → length ws ≡ length vs → ((i : ℕ) → value_at ws i ≡ value_at vs i) → ((i : ℕ) → IsNumber (value_at vs i) → IsNumber (value_at ws i)) → HoldsEach (spoiled None 0 slots) ws
+    untouched ws e same n = spoiled_holds law.any None 0 slots vs ws held e (λ i out. same i) n
+
+  pub is_input : Input ≡ Stack → ⊥
+  is_input e = absurd cc
+
+  pub is_output : Output ≡ Stack → ⊥
+  is_output e = absurd cc
+
+  load_left : (slots : List PlainKind) (vs : List (Option Value)) → length slots ≡ length vs → HoldsEach slots vs → (width : Width) (x : PlainKind) (distance : ℕ) (r : Region) (o : ℕ) (v : Value) → distance < 2 ^ 64 → KindFits x → HoldsKind x (Some (values.Ptr r o)) → Loads vs r ((o + distance) % 2 ^ 64) (byte_count width) v
+      → (is_ptr x ≡ true) × (meets Nothing (access_span (stack_place x distance) (byte_count width)) 0 slots ≡ false) × (slot_kind slots (whole_slot (stack_place x distance) (byte_count width)) ≡ None → meets Pointer (access_span (stack_place x distance) (byte_count width)) 0 slots ≡ false)
+      → Left (loaded_kind (slot_kind slots (whole_slot (stack_place x distance) (byte_count width))) (option_map Num (tighten (ranged 0 (load_high width))))) v
+  load_left slots vs long sl width Unset distance r o v small fit h loads ok = absurd cc
+  load_left slots vs long sl width (Num k) distance r o v small fit h loads ok = absurd h
+  load_left slots vs long sl width (Ptr Input k) distance r o v small fit h loads ok =
+      let n = elsewhere slots vs long sl ((o + distance) % 2 ^ 64) (byte_count width) r Input v (sym h.0) is_input loads in
+      subst (Left (option_map Num (tighten (ranged 0 (load_high width))))) (sym n.1) (left_num _ n.0 (law.loads width n.0 n.2))
+  load_left slots vs long sl width (Ptr Output k) distance r o v small fit h loads ok =
+      let n = elsewhere slots vs long sl ((o + distance) % 2 ^ 64) (byte_count width) r Output v (sym h.0) is_output loads in
+      subst (Left (option_map Num (tighten (ranged 0 (load_high width))))) (sym n.1) (left_num _ n.0 (law.loads width n.0 n.2))
+  load_left slots vs long sl width (Ptr Stack k) distance r o v small fit h loads ok =
+      let at = (o + distance) % 2 ^ 64 in
+      let P = last_place k distance in
+      let held = place_held k o distance fit small h.1 in
+      slot_or_number (slot_kind slots (whole_slot P (byte_count width))) _ v
+      (slot_value slots vs long sl P at (byte_count width) r v (sym h.0) held loads (whole_slot P (byte_count width)) refl)
+      (λ none.
+      let n = a_number slots vs long sl P at (byte_count width) r v held loads ok.1 (ok.2 none) in
+      subst (Left (option_map Num (tighten (ranged 0 (load_high width))))) (sym n.1) (left_num _ n.0 (law.loads width n.0 n.2)))
+
+  num_is : (m n : ℕ) → values.Num m ≡ values.Num n → m ≡ n
+  num_is m n e = cc
+
+  signed_small : (slots : List PlainKind) (vs : List (Option Value)) → length slots ≡ length vs → HoldsEach slots vs → (w : ℕ) (x : PlainKind) (distance : ℕ) (r : Region) (o n : ℕ) → distance < 2 ^ 64 → KindFits x → HoldsKind x (Some (values.Ptr r o)) → Loads vs r ((o + distance) % 2 ^ 64) w (values.Num n)
+      → is_ptr x ≡ true → meets Nothing (access_span (stack_place x distance) w) 0 slots ≡ false → meets Pointer (access_span (stack_place x distance) w) 0 slots ≡ false → n < 256 ^ w
+  signed_small slots vs long sl w Unset distance r o n small fit h loads a b c = absurd cc
+  signed_small slots vs long sl w (Num k) distance r o n small fit h loads a b c = absurd h
+  signed_small slots vs long sl w (Ptr Input k) distance r o n small fit h loads a b c =
+      let m = elsewhere slots vs long sl ((o + distance) % 2 ^ 64) w r Input (values.Num n) (sym h.0) is_input loads in omega (arith, m.2, num_is n m.0 m.1)
+  signed_small slots vs long sl w (Ptr Output k) distance r o n small fit h loads a b c =
+      let m = elsewhere slots vs long sl ((o + distance) % 2 ^ 64) w r Output (values.Num n) (sym h.0) is_output loads in omega (arith, m.2, num_is n m.0 m.1)
+  signed_small slots vs long sl w (Ptr Stack k) distance r o n small fit h loads a b c =
+      let m = a_number slots vs long sl (last_place k distance) ((o + distance) % 2 ^ 64) w r (values.Num n) (place_held k o distance fit small h.1) loads b c in
+      omega (arith, m.2, num_is n m.0 m.1)
+
+  number_value : (y : PlainKind) (x : Value) → HoldsKind y (Some x) → is_unset y ≡ false → is_ptr y ≡ false → IsNumber (Some x)
+  number_value Unset x h a b = absurd cc
+  number_value (Ptr r k) x h a b = absurd cc
+  number_value (Num k) (values.Num n) h a b = h.fits
+  number_value (Num k) (values.Ptr r o) h a b = h
+
+  -- what a store elsewhere leaves
+  store_elsewhere : (slots : List PlainKind) (vs ws : List (Option Value)) → length slots ≡ length vs → HoldsEach slots vs → (at w : ℕ) (r q : Region) (x : Value) → r ≡ q → (q ≡ Stack → ⊥) → Stores vs r at w x ws → HoldsEach (spoiled None 0 slots) ws
+  store_elsewhere slots vs ws long sl at w r q x same other stores =
+      let all : (i : ℕ) → value_at ws i ≡ value_at vs i = λ i. stores.others i (λ reached. not_stack r q at w i same other reached) in
+      untouched slots vs long sl ws stores.long all (λ i n. subst IsNumber (sym (all i)) n)
+
+  store_left : (slots : List PlainKind) (vs ws : List (Option Value)) → length slots ≡ length vs → HoldsEach slots vs → (w : ℕ) (b y : PlainKind) (distance : ℕ) (r : Region) (o : ℕ) (x : Value) → distance < 2 ^ 64 → KindFits b → HoldsKind b (Some (values.Ptr r o)) → HoldsKind y (Some x) → Stores vs r ((o + distance) % 2 ^ 64) w x ws
+      → (is_ptr b ≡ true) × (is_unset y ≡ false) × (slot_kind slots (whole_slot (stack_place b distance) w) ≡ None → is_ptr y ≡ false)
+      → HoldsEach (stored slots (whole_slot (stack_place b distance) w) (access_span (stack_place b distance) w) y) ws
+  store_left slots vs ws long sl w Unset y distance r o x small fit h k stores ok = absurd cc
+  store_left slots vs ws long sl w (Num l) y distance r o x small fit h k stores ok = absurd h
+  store_left slots vs ws long sl w (Ptr Input l) y distance r o x small fit h k stores ok = store_elsewhere slots vs ws long sl ((o + distance) % 2 ^ 64) w r Input x (sym h.0) is_input stores
+  store_left slots vs ws long sl w (Ptr Output l) y distance r o x small fit h k stores ok = store_elsewhere slots vs ws long sl ((o + distance) % 2 ^ 64) w r Output x (sym h.0) is_output stores
+  store_left slots vs ws long sl w (Ptr Stack l) y distance r o x small fit h k stores ok =
+      let P = last_place l distance in
+      store_slot slots vs long sl P ((o + distance) % 2 ^ 64) w r x y ws (sym h.0) (place_held l o distance fit small h.1) k stores (λ none. number_value y x k ok.1 (ok.2 none)) (whole_slot P w) refl
+
+  -- what a helper's range leaves
+  range_left : (slots : List PlainKind) (vs ws : List (Option Value)) → length slots ≡ length vs → HoldsEach slots vs → (a b : PlainKind) (r : Region) (at n : ℕ) → HoldsKind a (Some (values.Ptr r at)) → HoldsKind b (Some (values.Num n)) → is_ptr a ≡ true → is_num b ≡ true → Overwrites vs r at n ws → HoldsEach (spoiled (stack_range a b) 0 slots) ws
+  range_left slots vs ws long sl Unset b r at n h k p q over = absurd cc
+  range_left slots vs ws long sl (Num l) b r at n h k p q over = absurd h
+  range_left slots vs ws long sl (Ptr Input l) b r at n h k p q over =
+      let all : (i : ℕ) → value_at ws i ≡ value_at vs i = λ i. over.others i (λ reached. not_stack r Input at n i (sym h.0) is_input reached.1) in
+      untouched slots vs long sl ws over.long all over.numbers
+  range_left slots vs ws long sl (Ptr Output l) b r at n h k p q over =
+      let all : (i : ℕ) → value_at ws i ≡ value_at vs i = λ i. over.others i (λ reached. not_stack r Output at n i (sym h.0) is_output reached.1) in
+      untouched slots vs long sl ws over.long all over.numbers
+  range_left slots vs ws long sl (Ptr Stack l) Unset r at n h k p q over = absurd cc
+  range_left slots vs ws long sl (Ptr Stack l) (Ptr s m) r at n h k p q over = absurd k
+  range_left slots vs ws long sl (Ptr Stack l) (Num m) r at n h k p q over =
+      spoiled_holds law.any (range_span l m) 0 slots vs ws sl over.long
+      (λ i out. over.others i (λ reached. let t = reached.1 in false≢true (sym out ∙ at_start (range_span l m) i ∙ range_touches l m at n i h.1 k reached.0 t.touched))) over.numbers
+
+  room_left : (f : PlainFrame) (cs vs ws : List (Option Value)) → length f.slots ≡ length vs → HoldsEach f.registers cs → HoldsEach f.slots vs → (room : Option ℕ) → AllowsRoom room f → Overwritten room cs vs ws → HoldsEach (spoiled (room_span f room) 0 f.slots) ws
+  room_left f cs vs ws long h sl None ok over =
+      untouched f.slots vs long sl ws (ap length over) (λ i. ap (λ (xs : List (Option Value)). value_at xs i) over) (λ i n. subst (λ (xs : List (Option Value)). IsNumber (value_at xs i)) (sym over) n)
+  room_left f cs vs ws long h sl (Some k) ok over =
+      range_left f.slots vs ws long sl (kind_at f k) (kind_at f (k + 1)) over.0 over.1 over.2 (held_at f.registers cs k _ h over.3) (held_at f.registers cs (k + 1) _ h over.4) ok.0 ok.1 over.5
+
+  pub keeps : (f : PlainFrame) → EachFits f.registers → (room : Option ℕ) (i : Insn) (p : ℕ) → Keeps room i p f
+  keeps f fits room (Alu bits operation dst source) p fit allows cs ds vs ws q long h sl m =
+      arrives _ (p + 1) q f dst cs ds vs ws m.2 h sl
+      (alu_left bits operation (kind_at f dst) (operand_kind f source) m.0 m.1 m.2 (fits_at f.registers dst fits) (operand_fits f source fit.1 fits) (held_at f.registers cs dst m.0 h m.3) (operand_held f cs source m.1 fit.1 h m.4) m.5) m.6 m.7 m.8
+  keeps f fits room (Neg bits dst) p fit allows cs ds vs ws q long h sl m =
+      arrives _ (p + 1) q f dst cs ds vs ws _ h sl (neg_left bits (kind_at f dst) m.0 (fits_at f.registers dst fits) (held_at f.registers cs dst _ h m.1)) m.2 m.3 m.4
+  keeps f fits room (Mov bits dst source) p fit allows cs ds vs ws q long h sl m =
+      arrives _ (p + 1) q f dst cs ds vs ws m.1 h sl (mov_left bits (operand_kind f source) m.0 m.1 (operand_held f cs source m.0 fit.1 h m.2) m.3) m.4 m.5 m.6
+  keeps f fits room (MovSigned extension dst src) p fit allows cs ds vs ws q long h sl m =
+      arrives _ (p + 1) q f dst cs ds vs ws _ h sl (signed_move_left extension (kind_at f src) m.0 (held_at f.registers cs src _ h m.1)) m.2 m.3 m.4
+  keeps f fits room (End order width dst) p fit allows cs ds vs ws q long h sl m =
+      arrives _ (p + 1) q f dst cs ds vs ws _ h sl (end_left order width (kind_at f dst) m.0 (held_at f.registers cs dst _ h m.1)) m.2 m.3 m.4
+  keeps f fits room (LoadWide dst value) p fit allows cs ds vs ws q long h sl m =
+      arrives (Some (Num (constant value))) (p + 2) q f dst cs ds vs ws (values.Num value) h sl (law.constant value fit.1) m.0 m.1 m.2
+  keeps f fits room (Load width dst base offset) p fit allows cs ds vs ws q long h sl m =
+      arrives _ (p + 1) q f dst cs ds vs ws m.2 h sl
+      (load_left f.slots vs long sl width (kind_at f base) (extended offset) m.0 m.1 m.2 (extended_small16 offset fit.2) (fits_at f.registers base fits) (held_at f.registers cs base _ h m.3) m.4 allows) m.5 m.6 m.7
+  keeps f fits room (LoadSigned width dst base offset) p fit allows cs ds vs ws q long h sl m =
+      arrives _ (p + 1) q f dst cs ds vs ws _ h sl
+      (left_num _ _ (law.signed_loads width m.2 (signed_small f.slots vs long sl (signed_byte_count width) (kind_at f base) (extended offset) m.0 m.1 m.2 (extended_small16 offset fit.2) (fits_at f.registers base fits) (held_at f.registers cs base _ h m.3) m.4 allows.0.0 allows.0.1 allows.1))) m.5 m.6 m.7
+  keeps f fits room (Store width base offset source) p fit allows cs ds vs ws q long h sl m =
+      stays (after_store f (kind_at f base) (extended offset) (byte_count width) (operand_kind f source)) (p + 1) q cs ds vs ws h
+      (store_left f.slots vs ws long sl (byte_count width) (kind_at f base) (operand_kind f source) (extended offset) m.0 m.1 m.2 (extended_small16 offset fit.1) (fits_at f.registers base fits) (held_at f.registers cs base _ h m.3) (operand_held f cs source m.2 fit.2 h m.4) m.5 allows) m.6 m.7
+  keeps f fits room (Jump offset) p fit allows cs ds vs ws q long h sl m = stays f (target p offset) q cs ds vs ws h (subst (HoldsEach f.slots) (sym m.2) sl) m.0 m.1
+  keeps f fits room (JumpLong distance) p fit allows cs ds vs ws q long h sl m = stays f (target p distance) q cs ds vs ws h (subst (HoldsEach f.slots) (sym m.2) sl) m.0 m.1
+  keeps f fits room (Branch bits comparison dst source offset) p fit allows cs ds vs ws q long h sl m =
+      subst (λ (xs : List (Option Value)). Reaches (flow room (Branch bits comparison dst source offset) p f) q xs ws) (sym m.5)
+      (reach_edge (is_taken bits comparison m.0 m.1) (along_edge bits comparison true dst source f) (along_edge bits comparison false dst source f) p q (extended offset) (target p offset) cs ws refl m.4
+      (edge_left bits comparison true dst source f cs ws m.0 m.1 fit.2 h (subst (HoldsEach f.slots) (sym m.6) sl) m.2 m.3) (edge_left bits comparison false dst source f cs ws m.0 m.1 fit.2 h (subst (HoldsEach f.slots) (sym m.6) sl) m.2 m.3))
+  keeps f fits room (Call helper) p fit allows cs ds vs ws q long h sl m =
       record {
-        frame = after_call f;
+        frame = after_call room f;
         there = inl (m.2, refl);
-        holds = subst (HoldsEach (after_call f).registers) (sym m.3) (law.any m.0 m.1, (tt, (tt, (tt, (tt, (tt, drop_each 6 f.registers cs h))))));
+        holds = subst (HoldsEach (after_call room f).registers) (sym m.3) (law.any m.0 m.1, (tt, (tt, (tt, (tt, (tt, drop_each 6 f.registers cs h))))));
+        slots = room_left f cs vs ws long h sl room allows m.4;
       }
-  keeps f fits (CallLocal distance) p fit cs ds q h m = absurd m
-  keeps f fits Exit p fit cs ds q h m = absurd m
+  keeps f fits room (CallLocal distance) p fit allows cs ds vs ws q long h sl m = absurd m
+  keeps f fits room Exit p fit allows cs ds vs ws q long h sl m = absurd m

@@ -1,5 +1,6 @@
 -- The entry frame, and accesses and ranges that fit.
-use Rattle.std.proofs.Common.{◌≡◌, ℕ, ◌+◌, ◌%◌, ◌^◌, ◌≤◌, Option, Some, None, true, refl, arith}
+use Rattle.std.proofs.Common.{◌≡◌, ℕ, zero, suc, ◌+◌, ◌%◌, ◌^◌, ◌≤◌, Option, Some, None, true, refl, arith}
+use Rattle.std.specs.Prelude.{replicate}
 use Rattle.std.proofs.lemmas.Bool.{leb-true}
 use Rattle.bpf_decode.specs.declared.operation.Bits.TheVariants.{Bits64}
 use Rattle.bpf_decode.specs.declared.operation.Arithmetic.TheVariants.{Add}
@@ -8,19 +9,26 @@ use Rattle.abstract_num.specs.Plain.{Plain, constant}
 use Rattle.abstract_num.specs.Tighten.{tighten}
 use Rattle.abstract_num.specs.Transfer.{ranged}
 use Rattle.abstract_num.specs.Keeping.{HeldIn, ConstantsFit, ConstantHolds, ArithmeticKeeps, RangeKeeps}
-use Rattle.abstract_regs.specs.Kind.{HoldsKind, places_fit, last_place}
-use Rattle.abstract_regs.specs.Frame.{number_kind}
+use Rattle.abstract_regs.specs.Kind.{HoldsKind, Num, places_fit, last_place}
+use Rattle.abstract_regs.specs.Frame.{number_kind, HoldsEach}
 use Rattle.abstract_regs.specs.Laws.{EntryHolds, AccessesFit, RangesFit}
 
 number_held : (o : Option Plain) (n : ℕ) → HeldIn o n → HoldsKind (number_kind o) (Some (values.Num n))
 number_held None n h = tt
 number_held (Some k) n h = h
 
+zeros_hold : ConstantHolds → (k : ℕ) → HoldsEach (replicate k (Num (constant 0))) (replicate k (Some (values.Num 0)))
+zeros_hold constants zero = tt
+zeros_hold constants (suc k) = (constants 0 (omega arith), zeros_hold constants k)
+
 pub entry_holds : ConstantHolds → RangeKeeps → EntryHolds
-entry_holds constants ranges in_cap stack n p q le =
+entry_holds constants ranges in_cap stack count n p q le =
     let zero_held = constants 0 (omega arith) in
     let few = number_held (tighten (ranged 0 in_cap)) n (ranges 0 in_cap n (omega arith) (omega arith) le) in
-    (tt, ((refl, zero_held), (few, ((refl, zero_held), (tt, (tt, (tt, (tt, (tt, (tt, ((refl, constants stack q), tt)))))))))))
+    record {
+      registers = (tt, ((refl, zero_held), (few, ((refl, zero_held), (tt, (tt, (tt, (tt, (tt, (tt, ((refl, constants stack q), tt)))))))))));
+      slots = zeros_hold constants count;
+    }
 
 fits_at : (o : Option Plain) (at w size : ℕ) → HeldIn o at → places_fit o w size ≡ true → at + w ≤ size
 fits_at None at w size h e = absurd h

@@ -9,11 +9,12 @@ use Rattle.bpf_decode.specs.declared.operation.Bits.{Bits}
 use Rattle.bpf_decode.specs.declared.operation.Comparison.{Comparison}
 use Rattle.bpf_decode.specs.Jump.{jump_target}
 use Rattle.bpf_decode.specs.Values.{extended}
+use Rattle.bpf_decode.specs.Instruction.{byte_count}
 use Rattle.abstract_num.specs.Plain.{constant}
 use Rattle.abstract_num.specs.Tighten.{tighten}
 use Rattle.abstract_num.specs.Transfer.{ranged, signed_ranged, load_high, signed_low, signed_high}
 use Rattle.abstract_regs.specs.Kind.{PlainKind, Num, alu_kind, neg_kind, mov_kind, signed_move_kind, end_kind, along_kinds}
-use Rattle.abstract_regs.specs.Frame.{PlainFrame, kind_at, with_kind, after_call, operand_kind, compared_kind}
+use Rattle.abstract_regs.specs.Frame.{PlainFrame, kind_at, with_kind, after_call, kept_kind, after_store, operand_kind, compared_kind}
 
 -- where a jump at slot p goes: its distance counts from the slot after it (RFC 9669 section 4.3)
 abbrev pub target : ℕ → ℤ → ℕ
@@ -44,20 +45,26 @@ abbrev pub along_edge : Bits → Comparison → Bool → ℕ → Operand → Pla
 along_edge bits comparison taken dst source f =
     option_map (with_both f dst source) (along_kinds bits comparison taken (same_register dst source) (kind_at f dst) (compared_kind bits f source))
 
-abbrev pub flow : Insn → ℕ → PlainFrame → List (ℕ × PlainFrame)
-flow (Alu bits operation dst source) p f = computed (p + 1) f dst (alu_kind bits operation (kind_at f dst) (operand_kind f source))
-flow (Neg bits dst) p f = computed (p + 1) f dst (neg_kind bits (kind_at f dst))
-flow (Mov bits dst source) p f = computed (p + 1) f dst (mov_kind bits (operand_kind f source))
-flow (MovSigned extension dst src) p f = computed (p + 1) f dst (signed_move_kind extension (kind_at f src))
-flow (End order width dst) p f = computed (p + 1) f dst (end_kind order width (kind_at f dst))
-flow (LoadWide dst value) p f = computed (p + 2) f dst (Some (Num (constant value)))
-flow (Load width dst base offset) p f = computed (p + 1) f dst (option_map Num (tighten (ranged 0 (load_high width))))
-flow (LoadSigned width dst base offset) p f = computed (p + 1) f dst (option_map Num (tighten (signed_ranged (signed_low width) (signed_high width))))
-flow (Store width base offset source) p f = (p + 1, f) ∷ []
-flow (Jump offset) p f = (target p offset, f) ∷ []
-flow (JumpLong distance) p f = (target p distance, f) ∷ []
-flow (Branch bits comparison dst source offset) p f =
+-- what a load gives: what is known of the slot that it is, as it stands, or else a number of so many bytes
+abbrev pub loaded_kind : Option PlainKind → Option PlainKind → Option PlainKind
+loaded_kind (Some x) number = Some x
+loaded_kind None number = number
+
+-- `room` is the first register of the range that a helper writes
+abbrev pub flow : Option ℕ → Insn → ℕ → PlainFrame → List (ℕ × PlainFrame)
+flow room (Alu bits operation dst source) p f = computed (p + 1) f dst (alu_kind bits operation (kind_at f dst) (operand_kind f source))
+flow room (Neg bits dst) p f = computed (p + 1) f dst (neg_kind bits (kind_at f dst))
+flow room (Mov bits dst source) p f = computed (p + 1) f dst (mov_kind bits (operand_kind f source))
+flow room (MovSigned extension dst src) p f = computed (p + 1) f dst (signed_move_kind extension (kind_at f src))
+flow room (End order width dst) p f = computed (p + 1) f dst (end_kind order width (kind_at f dst))
+flow room (LoadWide dst value) p f = computed (p + 2) f dst (Some (Num (constant value)))
+flow room (Load width dst base offset) p f = computed (p + 1) f dst (loaded_kind (kept_kind f (kind_at f base) (extended offset) (byte_count width)) (option_map Num (tighten (ranged 0 (load_high width)))))
+flow room (LoadSigned width dst base offset) p f = computed (p + 1) f dst (option_map Num (tighten (signed_ranged (signed_low width) (signed_high width))))
+flow room (Store width base offset source) p f = (p + 1, after_store f (kind_at f base) (extended offset) (byte_count width) (operand_kind f source)) ∷ []
+flow room (Jump offset) p f = (target p offset, f) ∷ []
+flow room (JumpLong distance) p f = (target p distance, f) ∷ []
+flow room (Branch bits comparison dst source offset) p f =
     edge_to (target p offset) (along_edge bits comparison true dst source f) ++ edge_to (p + 1) (along_edge bits comparison false dst source f)
-flow (Call helper) p f = (p + 1, after_call f) ∷ []
-flow (CallLocal distance) p f = []
-flow Exit p f = []
+flow room (Call helper) p f = (p + 1, after_call room f) ∷ []
+flow room (CallLocal distance) p f = []
+flow room Exit p f = []

@@ -1,5 +1,5 @@
--- Frames: what is known of the eleven registers before an instruction.
-use Rattle.std.specs.Prelude.{ℕ, List, [], ◌∷◌, Option, Some, None, slice_get, slice_set, drop}
+-- Frames: what is known of the eleven registers, and of the stack's slots, before an instruction.
+use Rattle.std.specs.Prelude.{ℕ, ◌+◌, List, [], ◌∷◌, Option, Some, None, slice_get, slice_set, drop, replicate}
 use Rattle.bpf_decode.specs.declared.insn.Operand.{Operand}
 use Rattle.bpf_decode.specs.declared.insn.Operand.TheVariants.{Immediate, Register}
 use Rattle.bpf_decode.specs.declared.operation.Bits.{Bits}
@@ -11,10 +11,12 @@ use Rattle.abstract_num.specs.Plain.{Plain, any, constant}
 use Rattle.abstract_num.specs.Tighten.{tighten}
 use Rattle.abstract_num.specs.Transfer.{ranged}
 use Rattle.abstract_regs.specs.Kind.{PlainKind, Unset, Num, Ptr, HoldsKind, join_kind}
+use Rattle.abstract_regs.specs.Slots.{Span, stack_place, stack_range, access_span, whole_slot, slot_kind, spoiled, stored}
 
--- by register
+-- by register, and by slot of the stack: in rule set 1 there are none
 pub record PlainFrame : Type 0 where
   pub registers : List PlainKind
+  pub slots : List PlainKind
 
 abbrev pub or_unset : Option PlainKind → PlainKind
 or_unset None = Unset
@@ -24,7 +26,7 @@ abbrev pub kind_at : PlainFrame → ℕ → PlainKind
 kind_at f r = or_unset (slice_get f.registers r)
 
 abbrev pub with_kind : PlainFrame → ℕ → PlainKind → PlainFrame
-with_kind f r x = record { registers = slice_set f.registers r x }
+with_kind f r x = record { registers = slice_set f.registers r x; slots = f.slots }
 
 abbrev pub join_each : List PlainKind → List PlainKind → List PlainKind
 join_each [] ys = []
@@ -33,23 +35,37 @@ join_each (x ∷ xs) (y ∷ ys) = join_kind x y ∷ join_each xs ys
 
 -- what two flows that meet leave
 abbrev pub join : PlainFrame → PlainFrame → PlainFrame
-join f g = record { registers = join_each f.registers g.registers }
+join f g = record { registers = join_each f.registers g.registers; slots = join_each f.slots g.slots }
 
 abbrev pub number_kind : Option Plain → PlainKind
 number_kind None = Unset
 number_kind (Some n) = Num n
 
 -- As a method begins: 1 points to the input, 2 is its length, at most in_cap, 3 points to the output, 10 to the end of
--- the stack.
-abbrev pub entry_frame : ℕ → ℕ → PlainFrame
-entry_frame in_cap stack = record {
+-- the stack. So many slots are known: each is the number 0.
+abbrev pub entry_frame : ℕ → ℕ → ℕ → PlainFrame
+entry_frame in_cap stack count = record {
   registers =
       Unset ∷ Ptr Input (constant 0) ∷ number_kind (tighten (ranged 0 in_cap)) ∷ Ptr Output (constant 0) ∷ Unset ∷ Unset ∷ Unset ∷ Unset ∷ Unset ∷ Unset ∷ Ptr Stack (constant stack) ∷ [];
+  slots = replicate count (Num (constant 0));
 }
 
+-- the bytes of the stack that a helper may write, where the first register of its writable range is given
+abbrev pub room_span : PlainFrame → Option ℕ → Option Span
+room_span f None = None
+room_span f (Some r) = stack_range (kind_at f r) (kind_at f (r + 1))
+
+-- with other slots
+abbrev pub with_slots : PlainFrame → List PlainKind → PlainFrame
+with_slots f xs = record { registers = f.registers; slots = xs }
+
 -- a helper answers any number in register 0 and leaves registers 1 to 5 unset
-abbrev pub after_call : PlainFrame → PlainFrame
-after_call f = record { registers = Num any ∷ Unset ∷ Unset ∷ Unset ∷ Unset ∷ Unset ∷ drop 6 f.registers }
+abbrev pub after_answer : PlainFrame → PlainFrame
+after_answer f = record { registers = Num any ∷ Unset ∷ Unset ∷ Unset ∷ Unset ∷ Unset ∷ drop 6 f.registers; slots = f.slots }
+
+-- and it overwrites what its writable range may be
+abbrev pub after_call : Option ℕ → PlainFrame → PlainFrame
+after_call room f = after_answer (with_slots f (spoiled (room_span f room) 0 f.slots))
 
 -- the kind of what an instruction reads beside its destination
 abbrev pub operand_kind : PlainFrame → Operand → PlainKind
@@ -60,6 +76,14 @@ operand_kind f (Register r) = kind_at f r
 abbrev pub compared_kind : Bits → PlainFrame → Operand → PlainKind
 compared_kind bits f (Immediate imm) = Num (constant (mov_value bits (extended imm)))
 compared_kind bits f (Register r) = kind_at f r
+
+-- what a load of w bytes gives where it is a slot
+abbrev pub kept_kind : PlainFrame → PlainKind → ℕ → ℕ → Option PlainKind
+kept_kind f x distance w = slot_kind f.slots (whole_slot (stack_place x distance) w)
+
+-- after a store of w bytes
+abbrev pub after_store : PlainFrame → PlainKind → ℕ → ℕ → PlainKind → PlainFrame
+after_store f x distance w y = with_slots f (stored f.slots (whole_slot (stack_place x distance) w) (access_span (stack_place x distance) w) y)
 
 -- registers of which kinds are true
 abbrev pub HoldsEach : List PlainKind → List (Option Value) → Type 0

@@ -1,14 +1,20 @@
 -- The laws of the join of frames, and that a join holds what either part holds.
-use Rattle.std.specs.Prelude.{◌≡◌, ℕ, ◌+◌, ◌%◌, ◌^◌, ◌<◌, ◌≤◌, List, [], ◌∷◌, Option, Some, None, true, length}
+use Rattle.std.specs.Prelude.{◌≡◌, ℕ, ◌+◌, ◌%◌, ◌^◌, ◌<◌, ◌≤◌, List, [], ◌∷◌, Option, Some, None, true, false, length, replicate, is_some}
 use Rattle.abstract_num.specs.Plain.{Plain, Holds, Below}
 use Rattle.abstract_num.specs.Keeping.{Fits}
 use Rattle.bpf_decode.specs.declared.region.Region.TheVariants.{Input, Output, Stack}
 use Rattle.bpf_decode.specs.declared.value.Value.TheVariants as values
 use Rattle.bpf_decode.specs.declared.value.Value.{Value}
 use Rattle.abstract_regs.specs.declared.kind.Kind.{Kind}
-use Rattle.abstract_regs.specs.Kind.{PlainKind, Unset, Num, Ptr, access_fits, range_fits}
-use Rattle.abstract_regs.specs.Frame.{PlainFrame, join_each, join, entry_frame, HoldsEach}
+use Rattle.abstract_regs.specs.declared.content.Content.TheVariants.{Nothing, Pointer}
+use Rattle.abstract_regs.specs.Kind.{PlainKind, Unset, Num, Ptr, HoldsKind, is_ptr, is_num, access_fits, range_fits}
+use Rattle.abstract_regs.specs.Slots.{stack_range, meets}
+use Rattle.bpf_decode.specs.declared.region.Region.{Region}
+use Rattle.abstract_regs.specs.Frame.{PlainFrame, kept_kind, join_each, join, entry_frame, HoldsEach}
+use Rattle.abstract_regs.specs.Flow.{flow}
+use Rattle.abstract_regs.specs.Moves.{Among, KindFits, AllowsLoad, LoadIsKnown, Reached, IsSlot, IsNumber, value_at}
 use Rattle.abstract_regs.specs.Seen.{seen_each}
+use Rattle.bpf_decode.specs.declared.insn.Insn.{Insn}
 
 -- the order: what a kind holds, each greater one holds
 abbrev pub BelowKind : PlainKind → PlainKind → Type 0
@@ -45,16 +51,20 @@ JoinIsAbove = (xs ys : List Kind) → length xs ≡ length ys → BelowEach (see
 pub record JoinHolds (f g : PlainFrame) : Type 0 where
   pub left : (cs : List (Option Value)) → HoldsEach f.registers cs → HoldsEach (join f g).registers cs
   pub right : (cs : List (Option Value)) → HoldsEach g.registers cs → HoldsEach (join f g).registers cs
+  pub slots_left : (vs : List (Option Value)) → HoldsEach f.slots vs → HoldsEach (join f g).slots vs
+  pub slots_right : (vs : List (Option Value)) → HoldsEach g.slots vs → HoldsEach (join f g).slots vs
 
 abbrev pub JoinsHold : Type 0
 JoinsHold = (f g : PlainFrame) → JoinHolds f g
 
--- What a method begins with, an input of n bytes: the entry frame holds it.
+-- What a method begins with, an input of n bytes and a stack of zeros: the entry frame holds it.
+pub record EntryIsHeld (in_cap stack count n : ℕ) : Type 0 where
+  pub registers : HoldsEach (entry_frame in_cap stack count).registers
+      (None ∷ Some (values.Ptr Input 0) ∷ Some (values.Num n) ∷ Some (values.Ptr Output 0) ∷ None ∷ None ∷ None ∷ None ∷ None ∷ None ∷ Some (values.Ptr Stack stack) ∷ [])
+  pub slots : HoldsEach (entry_frame in_cap stack count).slots (replicate count (Some (values.Num 0)))
+
 abbrev pub EntryHolds : Type 0
-EntryHolds =
-    (in_cap stack n : ℕ) → in_cap < 2 ^ 64 → stack < 2 ^ 64 → n ≤ in_cap →
-    HoldsEach (entry_frame in_cap stack).registers
-    (None ∷ Some (values.Ptr Input 0) ∷ Some (values.Num n) ∷ Some (values.Ptr Output 0) ∷ None ∷ None ∷ None ∷ None ∷ None ∷ None ∷ Some (values.Ptr Stack stack) ∷ [])
+EntryHolds = (in_cap stack count n : ℕ) → in_cap < 2 ^ 64 → stack < 2 ^ 64 → n ≤ in_cap → EntryIsHeld in_cap stack count n
 
 -- An access that fits by an offset stays within the first so many bytes, at every place that the offset holds.
 abbrev pub AccessesFit : Type 0
@@ -68,3 +78,32 @@ abbrev pub RangesFit : Type 0
 RangesFit =
     (k l : Plain) → (size : ℕ) → range_fits k l size ≡ true →
     (at n : ℕ) → Holds k at → Holds l n → at + n ≤ size
+
+-- An instruction keeps the number of slots, along each of its edges; so does a join.
+abbrev pub FlowsKeepSlots : Type 0
+FlowsKeepSlots =
+    (room : Option ℕ) (i : Insn) (p q : ℕ) (f g : PlainFrame) → Among q g (flow room i p f) → length g.slots ≡ length f.slots
+
+abbrev pub JoinsKeepSlots : Type 0
+JoinsKeepSlots = (f g : PlainFrame) → length g.slots ≡ length f.slots → length (join f g).slots ≡ length f.slots
+
+-- Of a load that the rules leave, what it reads is known, wherever it is.
+abbrev pub LoadsAreKnown : Type 0
+LoadsAreKnown =
+    (f : PlainFrame) (x : PlainKind) (distance w : ℕ) → KindFits x → distance < 2 ^ 64 → AllowsLoad f x distance w →
+    (vs : List (Option Value)) → length f.slots ≡ length vs → HoldsEach f.slots vs →
+    (r : Region) (at : ℕ) → HoldsKind x (Some (values.Ptr r at)) → LoadIsKnown vs r ((at + distance) % 2 ^ 64) w
+
+-- Where a helper's range meets nothing that isn't to be read, each slot that it reaches is a number.
+abbrev pub RangesAreKnown : Type 0
+RangesAreKnown =
+    (f : PlainFrame) (x y : PlainKind) → meets Nothing (stack_range x y) 0 f.slots ≡ false → meets Pointer (stack_range x y) 0 f.slots ≡ false →
+    (vs : List (Option Value)) → length f.slots ≡ length vs → HoldsEach f.slots vs → is_ptr x ≡ true → is_num y ≡ true →
+    (r : Region) (at n j : ℕ) → HoldsKind x (Some (values.Ptr r at)) → HoldsKind y (Some (values.Num n)) → j < length vs → 1 ≤ n → Reached r at n j → IsNumber (value_at vs j)
+
+-- Where the kind of an access's slot is known, the access is that slot.
+abbrev pub SlotsAreKnown : Type 0
+SlotsAreKnown =
+    (f : PlainFrame) (x : PlainKind) (distance w : ℕ) → KindFits x → distance < 2 ^ 64 → is_some (kept_kind f x distance w) ≡ true →
+    (vs : List (Option Value)) → length f.slots ≡ length vs →
+    (r : Region) (at : ℕ) → HoldsKind x (Some (values.Ptr r at)) → (j : ℕ) × IsSlot vs r ((at + distance) % 2 ^ 64) w j

@@ -1,16 +1,21 @@
-ghost use Rattle.std.specs.Prelude.{◌≡◌, ℕ, ◌<◌, ◌+◌, ◌++◌, ◌^◌, true, false};
+ghost use Rattle.std.specs.Prelude.{◌≡◌, ℕ, ◌<◌, ◌+◌, ◌++◌, ◌^◌, Some, true, false};
 ghost use Rattle.std.specs.Option.{option_map};
-ghost use Rattle.bpf_decode.specs.Instruction.{slot_count};
+ghost use Rattle.bpf_decode.specs.Instruction.{slot_count, byte_count};
+ghost use Rattle.bpf_decode.specs.Values.{extended};
+ghost use Rattle.abstract_num.specs.Tighten.{tighten};
+ghost use Rattle.abstract_num.specs.Transfer.{ranged, load_high};
+ghost use Rattle.abstract_regs.specs.Kind as plain;
 ghost use Rattle.abstract_regs.specs.Seen.{seen, seen_both};
-ghost use Rattle.abstract_regs.specs.Flow.{edge_to, computed, same_register, with_operand, with_both, along_edge, flow};
+ghost use Rattle.abstract_regs.specs.Frame.{kind_at, kept_kind};
+ghost use Rattle.abstract_regs.specs.Flow.{edge_to, computed, same_register, with_operand, with_both, along_edge, loaded_kind, flow};
 ghost use Rattle.abstract_regs.specs.Moves.{EachFits, Keeps};
-ghost use Rattle.abstract_regs.specs.Edged.{with_edges};
+ghost use Rattle.abstract_regs.specs.Edged.{with_edges, refined};
 
-use crate::edges::Edges;
+use crate::edges::{Edges, Refined};
 use crate::frame::Frame;
 use crate::kind::{Kind, Kinds};
 use abstract_num::{constant, keeping_laws, loaded, loaded_signed};
-use bpf_decode::{Bits, Comparison, Insn, Operand, Register, jump_target};
+use bpf_decode::{Bits, Comparison, Insn, Operand, Register, Width, jump_target};
 
 /// Whether a comparison is of a register with itself.
 fn is_same_register(dst: Register, source: &Operand) -> bool
@@ -24,22 +29,23 @@ fn is_same_register(dst: Register, source: &Operand) -> bool
 
 impl Frame {
     /// Goes on from the instruction at a slot, which no rule refuses, to the frame after it, and gives its edges.
-    pub fn flow(&mut self, insn: &Insn, slot: usize) -> Edges
+    /// Of a call the first register of the range that its helper writes is given.
+    pub fn flow(&mut self, room: Option<u8>, insn: &Insn, slot: usize) -> Edges
         requires { slot < 2 ^ 62 }
-        ensures table { flow insn.now slot self.old ≡ with_edges result (slot + slot_count insn.now) self.new }
+        ensures table { flow room insn.now slot self.old ≡ with_edges result (slot + slot_count insn.now) self.new }
         // What was held before it, a frame along an edge holds after it.
-        ensures keeps { Keeps insn.now slot self.old }
+        ensures keeps { Keeps room insn.now slot self.old }
         ensures fits { EachFits self.old.registers }
     {
         keeping_laws();
         self.fits();
-        self.flow_on(insn, slot)
+        self.flow_on(room, insn, slot)
     }
 
     /// The same, by the table alone.
-    fn flow_on(&mut self, insn: &Insn, slot: usize) -> Edges
+    fn flow_on(&mut self, room: Option<u8>, insn: &Insn, slot: usize) -> Edges
         requires { slot < 2 ^ 62 }
-        ensures { flow insn.now slot self.old ≡ with_edges result (slot + slot_count insn.now) self.new }
+        ensures { flow room insn.now slot self.old ≡ with_edges result (slot + slot_count insn.now) self.new }
     {
         match *insn {
             Insn::Alu {
@@ -73,15 +79,33 @@ impl Frame {
                 self.compute(dst, x.end(order, width))
             }
             Insn::LoadWide { dst, value } => self.compute(dst, Some(Kind::Num(constant(value)))),
-            Insn::Load { width, dst, .. } => self.compute(dst, Some(Kind::Num(loaded(width)))),
+            Insn::Load {
+                width,
+                dst,
+                base,
+                offset,
+            } => {
+                let kind = self.loaded(width, base, offset);
+                self.compute(dst, Some(kind))
+            }
             Insn::LoadSigned { width, dst, .. } => {
                 self.compute(dst, Some(Kind::Num(loaded_signed(width))))
             }
             Insn::Call { .. } => {
-                self.end_call();
+                self.end_call(room);
                 Edges::Falls
             }
-            Insn::Store { .. } => Edges::Falls,
+            Insn::Store {
+                width,
+                base,
+                offset,
+                source,
+            } => {
+                let kind = self.operand(source);
+                let to = self.kind(usize::from(base.number()));
+                self.store(to, i64::from(offset).cast_unsigned(), width.bytes(), kind);
+                Edges::Falls
+            }
             Insn::Jump { offset } => Edges::Jumps(jump_target(slot, i64::from(offset))),
             Insn::JumpLong { distance } => Edges::Jumps(jump_target(slot, i64::from(distance))),
             Insn::Branch {
@@ -95,6 +119,17 @@ impl Frame {
                 self.branch(bits, comparison, dst, &source, target)
             }
             Insn::CallLocal { .. } | Insn::Exit => Edges::Leaves,
+        }
+    }
+
+    /// What a load gives: what is known of the slot that it is, or else a number of so many bytes.
+    fn loaded(&self, width: Width, base: Register, offset: i16) -> Kind
+        ensures { Some (seen result) ≡ loaded_kind (kept_kind self.now (kind_at self.now base) (extended offset) (byte_count width)) (option_map plain.Num (tighten (ranged 0 (load_high width)))) }
+    {
+        let from = self.kind(usize::from(base.number()));
+        match self.slot(from, i64::from(offset).cast_unsigned(), width.bytes()) {
+            Some(kind) => kind,
+            None => Kind::Num(loaded(width)),
         }
     }
 
@@ -155,13 +190,25 @@ impl Frame {
                     Edges::Jumps(target)
                 }
                 Some(others) => {
-                    let mut frame = self.copy();
-                    frame.put_both(dst, source, kinds);
-                    self.put_both(dst, source, others);
-                    Edges::Branches(target, frame)
+                    self.put_both(dst, source, kinds);
+                    Edges::Branches(
+                        target,
+                        Refined {
+                            dst,
+                            source: *source,
+                            kinds: others,
+                        },
+                    )
                 }
             },
         }
+    }
+
+    /// Gives what a comparison compared the kinds that it has along another edge.
+    pub fn refine(&mut self, edge: &Refined)
+        ensures { self.new ≡ refined self.old edge.now }
+    {
+        self.put_both(edge.dst, &edge.source, edge.kinds);
     }
 
     /// Gives the registers of a comparison other kinds.

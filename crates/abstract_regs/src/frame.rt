@@ -1,18 +1,26 @@
-ghost use Rattle.std.specs.Prelude.{◌≡◌, slice_get};
-ghost use Rattle.abstract_regs.specs.Frame.{kind_at, or_unset, with_kind, join, join_each, entry_frame, after_call, operand_kind, compared_kind};
+ghost use Rattle.std.specs.Prelude.{◌≡◌, IfOk, slice_get, slice_set};
+ghost use Rattle.std.specs.Option.{option_map};
+ghost use Rattle.abstract_regs.specs.Frame.{kind_at, or_unset, with_kind, join, entry_frame, after_call, after_answer, after_store, kept_kind, room_span, operand_kind, compared_kind, with_slots};
+ghost use Rattle.abstract_regs.specs.Slots.{stack_place, stack_range, access_span, spoiled, meets};
 ghost use Rattle.abstract_regs.specs.Moves.{EachFits};
 ghost use Rattle.abstract_regs.specs.Seen.{seen, seen_each};
 
+use crate::content::Content;
 use crate::kind::Kind;
-use abstract_num::{any, between, constant, keeping_laws};
+use crate::slots::{fit_all, join_all, join_slots, meets, spoil, zeros};
+use crate::stack_span::{StackSpan, access_span, stack_place, stack_range, whole_slot};
+use abstract_num::{any, between, constant};
 use bpf_decode::arithmetic::copied;
 use bpf_decode::{Bits, Operand, Region, Register};
+use std::alloc::{AllocError, Global};
 use std::marker::Model;
 
-/// What is known before an instruction: the kinds of the eleven registers. Contracts see them in plain numbers.
+/// What is known before an instruction: the kinds of the eleven registers, and those of the stack's slots of eight bytes,
+/// where such are known. Contracts see them in plain numbers.
 #[derive(Drop)]
 pub struct Frame {
     registers: [Kind; 11],
+    slots: Vec<Kind>,
 }
 
 impl Model for Frame {
@@ -21,30 +29,33 @@ impl Model for Frame {
 
     ghost Value = { PlainFrame };
 
-    ghost view = { λ f. record { registers = seen_each f.registers } };
+    ghost view = { λ f. record { registers = seen_each f.registers; slots = seen_each f.slots.items } };
 }
 
 impl Frame {
     /// As a method begins: 1 points to the input, 2 is its length, at most `in_cap`, 3 points to the output, 10 to the
-    /// end of a stack of `stack` bytes.
-    pub fn entry(in_cap: u64, stack: u64) -> Frame
-        ensures { result ≡ entry_frame in_cap stack }
+    /// end of a stack of `stack` bytes. So many slots are known: each is the number 0.
+    pub fn entry(alloc: Global, in_cap: u64, stack: u64, count: usize) -> Result<Frame, AllocError>
+        ensures { IfOk result (λ f. f ≡ entry_frame in_cap stack count) }
     {
+        let slots = zeros(alloc, count)?;
         let mut registers = [Kind::Unset; 11];
         registers[1] = Kind::Ptr(Region::Input, constant(0));
         registers[2] = Kind::Num(between(0, in_cap));
         registers[3] = Kind::Ptr(Region::Output, constant(0));
         registers[10] = Kind::Ptr(Region::Stack, constant(stack));
-        Frame { registers }
+        Ok(Frame { registers, slots })
     }
 
-    /// An equal frame.
-    pub fn copy(&self) -> Frame
-        ensures { result ≡ self.now }
+    /// An equal frame. It takes no memory where no slots are known.
+    pub fn copy(&self, alloc: Global) -> Result<Frame, AllocError>
+        ensures { IfOk result (λ f. f ≡ self.now) }
     {
-        Frame {
+        let slots = Vec::from_slice(alloc, &self.slots)?;
+        Ok(Frame {
             registers: self.registers,
-        }
+            slots,
+        })
     }
 
     /// Its numbers are below `2^64`. It does nothing.
@@ -73,11 +84,20 @@ impl Frame {
         ensures { self.new ≡ join self.old other.now }
     {
         join_all(&mut self.registers, &other.registers);
+        join_slots(&mut self.slots, &other.slots);
     }
 
-    /// A helper answers any number in register 0 and leaves registers 1 to 5 unset.
-    pub(crate) fn end_call(&mut self)
-        ensures { self.new ≡ after_call self.old }
+    /// A helper answers any number in register 0, leaves registers 1 to 5 unset, and overwrites what may be its writable
+    /// range, of which the first register is given.
+    pub(crate) fn end_call(&mut self, room: Option<u8>)
+        ensures { self.new ≡ after_call room self.old }
+    {
+        self.spoil_room(room);
+        self.forget_arguments();
+    }
+
+    fn forget_arguments(&mut self)
+        ensures { self.new ≡ after_answer self.old }
     {
         self.registers[0] = Kind::Num(any());
         self.registers[1] = Kind::Unset;
@@ -85,6 +105,82 @@ impl Frame {
         self.registers[3] = Kind::Unset;
         self.registers[4] = Kind::Unset;
         self.registers[5] = Kind::Unset;
+    }
+
+    fn spoil_room(&mut self, room: Option<u8>)
+        ensures { self.new ≡ with_slots self.old (spoiled (room_span self.old room) 0 self.old.slots) }
+    {
+        if !self.slots.is_empty() {
+            let span = self.room_span(room);
+            spoil(&mut self.slots, span);
+        }
+    }
+
+    /// The bytes of the stack that a helper may write.
+    fn room_span(&self, room: Option<u8>) -> Option<StackSpan>
+        ensures { result ≡ room_span self.now room }
+    {
+        match room {
+            None => None,
+            Some(register) => {
+                let first = usize::from(register);
+                stack_range(self.kind(first), self.kind(first + 1))
+            }
+        }
+    }
+
+    /// The kind of the slot that an access is, at a distance from what a kind points to, where it is one that is known.
+    pub fn slot(&self, base: Kind, distance: u64, bytes: usize) -> Option<Kind>
+        ensures { option_map seen result ≡ kept_kind self.now (seen base) distance bytes }
+    {
+        if self.slots.is_empty() {
+            None
+        } else {
+            match whole_slot(stack_place(base, distance), bytes) {
+                None => None,
+                Some(slot) => self.slots.get(slot).copied(),
+            }
+        }
+    }
+
+    /// Whether a slot that the bytes of an access may touch has it.
+    pub fn access_meets(&self, content: Content, base: Kind, distance: u64, bytes: usize) -> bool
+        ensures { result ≡ meets content (access_span (stack_place (seen base) distance) bytes) 0 self.now.slots }
+    {
+        !self.slots.is_empty()
+            && meets(
+                content,
+                &self.slots,
+                access_span(stack_place(base, distance), bytes),
+            )
+    }
+
+    /// Whether a slot that a helper's range may touch has it.
+    pub fn range_meets(&self, content: Content, pointer: Kind, length: Kind) -> bool
+        ensures { result ≡ meets content (stack_range (seen pointer) (seen length)) 0 self.now.slots }
+    {
+        !self.slots.is_empty() && meets(content, &self.slots, stack_range(pointer, length))
+    }
+
+    /// After a store of a kind through another.
+    pub(crate) fn store(&mut self, base: Kind, distance: u64, bytes: usize, kind: Kind)
+        ensures { self.new ≡ after_store self.old (seen base) distance bytes (seen kind) }
+    {
+        if !self.slots.is_empty() {
+            let place = stack_place(base, distance);
+            match whole_slot(place, bytes) {
+                None => spoil(&mut self.slots, access_span(place, bytes)),
+                Some(slot) => self.set_slot(slot, kind),
+            }
+        }
+    }
+
+    fn set_slot(&mut self, slot: usize, kind: Kind)
+        ensures { self.new ≡ with_slots self.old (slice_set self.old.slots slot (seen kind)) }
+    {
+        if slot < self.slots.len() {
+            self.slots[slot] = kind;
+        }
     }
 
     /// The kind of what an instruction reads beside its destination.
@@ -110,27 +206,11 @@ impl Frame {
     }
 }
 
-/// The numbers of kinds are below `2^64`.
-fn fit_all(registers: &[Kind; 11])
-    ensures { EachFits (seen_each registers.now) }
-{
-    keeping_laws();
-}
-
 fn kind_in(registers: &[Kind; 11], register: usize) -> Kind
     ensures { seen result ≡ or_unset (slice_get (seen_each registers.now) register) }
 {
     match registers.get(register) {
         None => Kind::Unset,
         Some(kind) => *kind,
-    }
-}
-
-/// Joins kinds in place.
-fn join_all(registers: &mut [Kind; 11], others: &[Kind; 11])
-    ensures { seen_each registers.new ≡ join_each (seen_each registers.old) (seen_each others.now) }
-{
-    for i in 0..11 {
-        registers[i] = registers[i].join(others[i]);
     }
 }

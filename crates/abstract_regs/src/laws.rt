@@ -1,4 +1,4 @@
-ghost use Rattle.abstract_regs.specs.Laws.{JoinCommutes, JoinAssociates, JoinOfSame, JoinIsAbove, JoinsHold, EntryHolds, AccessesFit, RangesFit};
+ghost use Rattle.abstract_regs.specs.Laws.{JoinCommutes, JoinAssociates, JoinOfSame, JoinIsAbove, JoinsHold, EntryHolds, AccessesFit, RangesFit, FlowsKeepSlots, JoinsKeepSlots, SlotsAreKnown, LoadsAreKnown, RangesAreKnown};
 
 use abstract_num::keeping_laws;
 
@@ -21,6 +21,22 @@ pub fn holding_laws()
     ensures entry { EntryHolds }
     ensures accesses { AccessesFit }
     ensures ranges { RangesFit }
+{
+    keeping_laws();
+}
+
+/// A law. An instruction, along each of its edges, and a join keep the number of slots.
+pub fn slots_stay()
+    ensures flows { FlowsKeepSlots }
+    ensures joins { JoinsKeepSlots }
+{}
+
+/// A law. An access whose slot's kind is known is that slot; what a load that no rule refuses reads of the stack's slots
+/// is known, and so is what a helper's range does.
+pub fn slots_known()
+    ensures slots { SlotsAreKnown }
+    ensures loads { LoadsAreKnown }
+    ensures ranges { RangesAreKnown }
 {
     keeping_laws();
 }

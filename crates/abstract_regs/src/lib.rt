@@ -1,22 +1,26 @@
-//! What is known of the eleven registers before an instruction of a method, and after it.
+//! What is known of the eleven registers, and of the stack's slots, before an instruction of a method, and after it.
 //!
-//! A `Kind` says that a register is a number, points into a region, or nothing; a `Frame` has eleven. `Frame::flow`
-//! takes a frame over an instruction, by the table of specs/Flow, and gives the frame along each of its edges: none along
-//! a dead one. What a frame holds before the instruction, a frame along an edge holds after it. `Frame::join` is an upper
-//! bound of two frames. Nothing here takes memory or fails.
+//! A `Kind` says that a register or a slot is a number, points into a region, or nothing; a `Frame` has those of the
+//! registers and, in rule set 2, of the slots. `Frame::flow` takes a frame over an instruction, by the table of specs/Flow,
+//! and gives the frame along each of its edges: none along a dead one. What a frame holds before the instruction, a frame
+//! along an edge holds after it. `Frame::join` is an upper bound of two frames. Both take no memory and can't fail.
 #![tactic(auto)]
 
 mod bounds;
+mod content;
 mod edges;
 mod flat_laws;
 mod flow;
 mod frame;
 mod kind;
 mod laws;
+mod slots;
+mod stack_span;
 
 pub use bounds::{access_fits, range_fits};
-pub use edges::Edges;
+pub use content::Content;
+pub use edges::{Edges, Refined};
 pub use flat_laws::registers_as_numbers;
 pub use frame::Frame;
 pub use kind::Kind;
-pub use laws::{holding_laws, join_laws};
+pub use laws::{holding_laws, join_laws, slots_known, slots_stay};

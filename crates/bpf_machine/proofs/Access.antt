@@ -14,14 +14,15 @@ use Rattle.bpf_decode.specs.declared.value.Value.{Value}
 use Rattle.bpf_decode.specs.declared.value.Value.TheVariants.{Num}
 use Rattle.bpf_machine.specs.declared.caps.Caps.{Caps}
 use Rattle.object_store.specs.Object.{part}
-use Rattle.bpf_machine.specs.State.{◌>>=◌, le_value, le_bytes, cells, put, may_store, State, reg}
+use Rattle.bpf_machine.specs.State.{◌>>=◌, le_value, le_bytes, Memory, cells, put, may_store, State, reg, set_reg}
 use Rattle.bpf_machine.specs.Flat.{Layout, IsLayout, load, load_signed, store, signed16, signed32, act_on, flat_after}
-use Rattle.bpf_machine.specs.Typed.{Typed, extended, number, typed_load, typed_load_signed, typed_store, typed_act, address, image}
+use Rattle.bpf_machine.specs.Typed.{Typed, extended, plain_bytes, value_of, cells_at, stored, typed_load, typed_load_signed, typed_store, typed_act, address, image_memory, image}
 use Rattle.bpf_machine.specs.Decoded.{insn_act}
 use Rattle.bpf_machine.proofs.Sim.{Sim, Any, same, sim_some, sim_if, sim_bind}
 use Rattle.bpf_machine.proofs.Place.{find_sim}
 use Rattle.bpf_machine.proofs.Slot.{by_row, offset_extended, imm_extended}
-use Rattle.bpf_machine.proofs.Registers.{register, operand, sets, numbers, after_sim}
+use Rattle.bpf_machine.proofs.Parts.{value_sim, bytes_sim, stored_sim}
+use Rattle.bpf_machine.proofs.Registers.{register, operand, sets, after_sim}
 use Rattle.bpf_decode.specs.Arithmetic.{signed_load_value}
 
 module _ (caps : Caps) (lay : Layout) where
@@ -86,18 +87,22 @@ module _ (caps : Caps) (lay : Layout) (ok : IsLayout caps lay) where
   loads : (w d : ℕ) (v : Value) (o : ℕ) (s : Typed) → 0 < w → Sim Any (image lay) (typed_load caps w d v o s) (load caps lay w d ((address lay v + o) % 2 ^ 64) (image lay s))
   loads w d v o s pos =
       sim_bind _ _ Any (image lay) _ _ _ _ (find_sim caps lay ok v o w pos) (λ p _ _.
-      sets caps lay s d (Num (le_value (part (cells s.memory p.0) p.1 w))))
+      sim_bind Any (address lay) Any (image lay) (value_of p w (cells_at s.memory p.0 p.1 w)) (Some (le_value (part (cells (image_memory lay s.memory) p.0) p.1 w))) (λ x. set_reg s d x) (λ n. set_reg (image lay s) d n) (value_sim lay s.memory p w) (λ x _ _. sets caps lay s d x))
 
   signed_loads : (width : SignedWidth) (d : ℕ) (v : Value) (o : ℕ) (s : Typed) → Sim Any (image lay) (typed_load_signed caps width d v o s) (load_signed caps lay width d ((address lay v + o) % 2 ^ 64) (image lay s))
   signed_loads width d v o s =
       sim_bind _ _ Any (image lay) _ _ _ _ (find_sim caps lay ok v o (signed_byte_count width) (positive_signed width)) (λ p _ _.
-      sets caps lay s d (Num (signed_load_value width (le_value (part (cells s.memory p.0) p.1 (signed_byte_count width))))))
+      sim_bind Any same Any (image lay) (plain_bytes (cells_at s.memory p.0 p.1 (signed_byte_count width))) (Some (part (cells (image_memory lay s.memory) p.0) p.1 (signed_byte_count width))) (λ bytes. set_reg s d (Num (signed_load_value width (le_value bytes)))) (λ bytes. set_reg (image lay s) d (signed_load_value width (le_value bytes))) (bytes_sim lay s.memory p (signed_byte_count width)) (λ bytes _ _.
+      sets caps lay s d (Num (signed_load_value width (le_value bytes)))))
 
-  stores : (w : ℕ) (v : Value) (o n : ℕ) (s : Typed) → 0 < w → Sim Any (image lay) (typed_store caps w v o n s) (store caps lay w ((address lay v + o) % 2 ^ 64) n (image lay s))
-  stores w v o n s pos =
+  abbrev with_memory : State ℕ → Memory → State ℕ
+  with_memory s m = record s { memory = m }
+
+  stores : (w : ℕ) (v : Value) (o : ℕ) (x : Value) (s : Typed) → 0 < w → Sim Any (image lay) (typed_store caps w v o x s) (store caps lay w ((address lay v + o) % 2 ^ 64) (address lay x) (image lay s))
+  stores w v o x s pos =
       sim_bind _ _ Any (image lay) _ _ _ _ (find_sim caps lay ok v o w pos) (λ p _ h.
-      let t = record s { memory = put s.memory p.0 p.1 (le_bytes w n) } in
-      sim_if Any (image lay) (may_store p.0) (Some t) (Some (image lay t)) (λ _. sim_some Any (image lay) t (image lay t) tt refl))
+      sim_if Any (image lay) (may_store p.0) _ _ (λ _.
+      sim_bind Any (image_memory lay) Any (image lay) (stored s.memory p w x) (Some (put (image_memory lay s.memory) p.0 p.1 (le_bytes w (address lay x)))) (λ m. Some (record s { memory = m })) (λ m. Some (with_memory (image lay s) m)) (stored_sim lay s.memory p w x) (λ m _ _. sim_some _ _ _ _ tt refl)))
 
   pub load_sim : (width : Width) (dst base : ℕ) (offset : ℤ) (s : Typed) → Sim Any (image lay) (typed_act caps (Load width dst base offset) s) (insn_act caps lay (Load width dst base offset) (image lay s))
   load_sim width dst base offset s =
@@ -113,5 +118,4 @@ module _ (caps : Caps) (lay : Layout) (ok : IsLayout caps lay) where
   store_sim width base offset source s =
       sim_bind Any (address lay) Any (image lay) _ _ _ _ (register caps lay s base) (λ v _ _.
       sim_bind Any (address lay) Any (image lay) _ _ _ _ (operand caps lay s source) (λ y _ _.
-      sim_bind Any same Any (image lay) (number y) (Some (address lay y)) _ (λ n. flat_after caps lay (image lay s) (store caps lay (byte_count width) ((address lay v + extended offset) % 2 ^ 64) n (image lay s))) (numbers caps lay y) (λ n _ _.
-      after_sim caps lay s _ _ (stores (byte_count width) v (extended offset) n s (positive width)))))
+      after_sim caps lay s _ _ (stores (byte_count width) v (extended offset) y s (positive width))))

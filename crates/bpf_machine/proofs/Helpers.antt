@@ -1,6 +1,6 @@
 -- Helpers: what the typed machine takes and does, the flat machine takes and does.
-use Rattle.std.proofs.Common.{◌≡◌, ℕ, ◌+◌, ◌%◌, ◌^◌, ◌<◌, ◌≤◌, List, [], ◌∷◌, Some, None, Bool, true, false, cond, refl, ap, arith}
-use Rattle.std.specs.Prelude.{◌==◌, ◌||◌, not, unwrap_or}
+use Rattle.std.proofs.Common.{◌≡◌, ℕ, ◌+◌, ◌%◌, ◌^◌, ◌<◌, ◌≤◌, List, [], ◌∷◌, Some, None, Bool, true, false, cond, refl, ap, ◌∙◌, arith}
+use Rattle.std.specs.Prelude.{◌==◌, ◌||◌, not, unwrap_or, map, drop}
 use Rattle.std.specs.Option.{option_map}
 use Rattle.std.proofs.lemmas.List.{drop-map}
 use Rattle.std.proofs.lemmas.Bool.{eqb-false}
@@ -14,9 +14,10 @@ use Rattle.helpers.specs.Table.{signature_of, effect}
 use Rattle.bpf_machine.specs.State.{◌>>=◌, only, may_store, size}
 use Rattle.bpf_machine.specs.Helper.{nothing_given, with_number, with_text, with_room, asked, bytes_in, write_room}
 use Rattle.bpf_machine.specs.Flat.{Layout, IsLayout, base, find, range, arguments, help}
-use Rattle.bpf_machine.specs.Typed.{Typed, locate, typed_range, typed_arguments, typed_help, address, image}
+use Rattle.bpf_machine.specs.Typed.{Typed, locate, typed_range, typed_text, typed_arguments, typed_help, address, image_memory, image}
 use Rattle.bpf_machine.proofs.Sim.{Sim, Any, same, sim_none, sim_some, sim_if, sim_eq, sim_bind, sim_drop, sim_same}
 use Rattle.bpf_machine.proofs.Place.{find_sim}
+use Rattle.bpf_machine.proofs.Parts.{text_sim, room_image}
 use Rattle.bpf_machine.proofs.Registers.{register, number_in}
 
 module _ (caps : Caps) (lay : Layout) (ok : IsLayout caps lay) where
@@ -50,7 +51,8 @@ module _ (caps : Caps) (lay : Layout) (ok : IsLayout caps lay) where
       sim_bind Any (address lay) _ _ _ _ _ _ (register caps lay s k) (λ at _ _.
       number_in caps lay same s (k + 1) _ _ (λ n.
       sim_bind _ _ _ _ _ _ _ _ (range_sim false at n) (λ p _ _.
-      sim_bind _ _ _ _ _ _ _ _ (arguments_sim s more (k + 2)) (λ g _ _. sim_same (Some (with_text (bytes_in s.memory p n) g))))))
+      sim_bind Any same Any same (typed_text s.memory p n) (Some (bytes_in (image_memory lay s.memory) p n)) _ (λ text. arguments caps lay (image lay s) more (k + 2) >>= λ g. Some (with_text text g)) (text_sim lay s.memory p n) (λ text _ _.
+      sim_bind _ _ _ _ _ _ _ _ (arguments_sim s more (k + 2)) (λ g _ _. sim_same (Some (with_text text g)))))))
   arguments_sim s (Writable ∷ more) k =
       sim_bind Any (address lay) _ _ _ _ _ _ (register caps lay s k) (λ at _ _.
       number_in caps lay same s (k + 1) _ _ (λ n.
@@ -64,4 +66,5 @@ module _ (caps : Caps) (lay : Layout) (ok : IsLayout caps lay) where
       sim_bind Any same Any (image lay) _ _ _ _ (arguments_sim s takes.arguments 1) (λ given _ _.
       let e = effect id s.object (asked given) in
       sim_some Any (image lay) _ _ tt
-      (ap (λ regs. record { slot = s.slot; regs = Some e.answer ∷ None ∷ None ∷ None ∷ None ∷ None ∷ regs; memory = write_room s.memory given.target e.bytes; object = e.object; out_len = unwrap_or e.out_len s.out_len; caller = s.caller }) (drop-map (option_map (address lay)) 6 s.regs)))))
+      (ap (λ regs. record { slot = s.slot; regs = Some e.answer ∷ None ∷ None ∷ None ∷ None ∷ None ∷ regs; memory = write_room (image_memory lay s.memory) given.target e.bytes; object = e.object; out_len = unwrap_or e.out_len s.out_len; caller = s.caller }) (drop-map (option_map (address lay)) 6 s.regs)
+      ∙ ap (λ memory. record { slot = s.slot; regs = Some e.answer ∷ None ∷ None ∷ None ∷ None ∷ None ∷ map (option_map (address lay)) (drop 6 s.regs); memory = memory; object = e.object; out_len = unwrap_or e.out_len s.out_len; caller = s.caller }) (room_image lay s.memory given.target e.bytes)))))

@@ -2,6 +2,7 @@ pub mod Sim
 pub mod Place
 pub mod Cells
 pub mod OneMemory
+pub mod Parts
 pub mod Slot
 pub mod Registers
 pub mod Alu
@@ -15,3 +16,4 @@ pub mod Runs
 pub mod Bytes
 pub mod Kept
 pub mod Ranges
+pub mod StackSlots

@@ -14,7 +14,7 @@ use Rattle.bpf_decode.specs.declared.value.Value.TheVariants.{Num, Ptr}
 use Rattle.bpf_machine.specs.declared.caps.Caps.{Caps}
 use Rattle.bpf_machine.specs.State.{◌>>=◌, State, reg, set_reg}
 use Rattle.bpf_machine.specs.Flat.{Layout, base, flat_after}
-use Rattle.bpf_machine.specs.Typed.{Typed, number, moves_pointer, is_addition, alu_values, mov_values, operand_value, typed_after, address, image}
+use Rattle.bpf_machine.specs.Typed.{Typed, number, moves_pointer, is_addition, alu_values, mov_values, operand_value, typed_after, address, image_memory, image}
 use Rattle.bpf_decode.specs.Arithmetic.{alu_value, mov_value}
 use Rattle.bpf_machine.specs.Decoded.{operand_in}
 use Rattle.bpf_machine.proofs.Sim.{Sim, Any, same, sim_none, sim_some, sim_if, sim_guard, sim_bind, reg_sim}
@@ -26,7 +26,7 @@ module _ (caps : Caps) (lay : Layout) where
 
   pub sets : (s : Typed) (d : ℕ) (v : Value) → Sim Any (image lay) (set_reg s d v) (set_reg (image lay s) d (address lay v))
   sets s d v =
-      sim_if _ _ _ _ _ (λ _. sim_some _ _ _ _ tt (ap (λ regs. record { slot = s.slot; regs = regs; memory = s.memory; object = s.object; out_len = s.out_len; caller = s.caller }) (sym (map-set (option_map (address lay)) s.regs d (Some v)))))
+      sim_if _ _ _ _ _ (λ _. sim_some _ _ _ _ tt (ap (λ regs. record { slot = s.slot; regs = regs; memory = image_memory lay s.memory; object = s.object; out_len = s.out_len; caller = s.caller }) (sym (map-set (option_map (address lay)) s.regs d (Some v)))))
 
   -- a pointer that moves is moved in every layout
   moved : (bits : Bits) (operation : Arithmetic) (r : Region) (at b : ℕ) → moves_pointer bits operation ≡ true → alu_value bits operation ((base lay r + at) % 2 ^ 64) b ≡ (base lay r + alu_value bits operation at b) % 2 ^ 64

@@ -8,18 +8,19 @@ use Rattle.bpf_decode.specs.declared.region.Region.TheVariants.{Input, Output, S
 use Rattle.bpf_decode.specs.declared.region.Region.{Region}
 use Rattle.bpf_machine.specs.declared.caps.Caps.{Caps}
 use Rattle.object_store.specs.Object.{PlainObject}
-use Rattle.bpf_machine.specs.State.{◌>>=◌, size, State, entry_regs, opening, Outcome, Ending, Ended, one_more, goes_on, ends}
+use Rattle.bpf_machine.specs.State.{◌>>=◌, size, Memory, State, entry_regs, opening, Outcome, Ending, Ended, one_more, goes_on, ends}
 use Rattle.bpf_machine.specs.Flat.{Layout, IsLayout, base, step, exit_code, run, entry}
-use Rattle.bpf_machine.specs.Typed.{Typed, fetch, typed_act, typed_step, typed_exit_of, typed_exit, typed_run, typed_entry, image}
+use Rattle.bpf_machine.specs.Typed.{Typed, fetch, typed_act, typed_step, typed_exit_of, typed_exit, typed_ends, typed_run, typed_entry, image}
 use Rattle.bpf_machine.specs.Safe.{Simulates, EndsAlwaysIsSafe, caps_of, first_layout, outcome_or_none, HasLayout, OutcomesAreOne}
 use Rattle.bpf_machine.proofs.Sim.{Sim, Any, same, sim_eq}
+use Rattle.bpf_machine.proofs.Parts.{plain_memory_image}
 use Rattle.bpf_machine.proofs.Rows.{act_sim, exit_sim}
 use Rattle.bpf_machine.proofs.Fetch.{bytes_are_instructions}
 use Rattle.bpf_machine.proofs.Counting.{one_less, exit_stops, runs_are_chains}
 
 -- a run takes no more steps than are counted
 module _ (caps : Caps) (code : List (Option Insn)) (before : PlainObject) where
-  steps_at : (n : ℕ) (s : Typed) (o : Outcome) (k : ℕ) → ((t : Typed) (j : ℕ) → typed_run caps code before n t ≡ Ended o j → j ≤ n) → (x : Option ℕ) (y : Option Typed) → ends before s x (goes_on y (typed_run caps code before n)) ≡ Ended o k → k ≤ suc n
+  steps_at : (n : ℕ) (s : Typed) (o : Outcome) (k : ℕ) → ((t : Typed) (j : ℕ) → typed_run caps code before n t ≡ Ended o j → j ≤ n) → (x : Option ℕ) (y : Option Typed) → typed_ends before s x (goes_on y (typed_run caps code before n)) ≡ Ended o k → k ≤ suc n
   steps_at n s o k more (Some c) y h = let one : 1 ≡ k = cc in omega arith
   steps_at n s o k more None None h = cc
   steps_at n s o k more None (Some t) h =
@@ -43,14 +44,14 @@ module _ (caps : Caps) (lay : Layout) (ok : IsLayout caps lay) (before : PlainOb
 
   module _ (is : List Insn) (fit : AllFit is) where
     -- an exit of the typed machine is one of the flat machine; elsewhere the typed one makes a step, so the flat one does, and is at no exit
-    here : (s : Typed) (more : Typed → Ending) (more' : State ℕ → Ending) (o : Outcome) (k : ℕ) (a : Option ℕ) (b : Option ℕ) (c : Option Typed) (d : Option (State ℕ)) → exit_code (spelling is) (image lay s) ≡ b → step caps lay (spelling is) (image lay s) ≡ d → Sim Any same a b → Sim Any (image lay) c d → Rest more more' → ends before s a (goes_on c more) ≡ Ended o k → ends before (image lay s) b (goes_on d more') ≡ Ended o k
+    here : (s : Typed) (more : Typed → Ending) (more' : State ℕ → Ending) (o : Outcome) (k : ℕ) (a : Option ℕ) (b : Option ℕ) (c : Option Typed) (d : Option (State ℕ)) → exit_code (spelling is) (image lay s) ≡ b → step caps lay (spelling is) (image lay s) ≡ d → Sim Any same a b → Sim Any (image lay) c d → Rest more more' → typed_ends before s a (goes_on c more) ≡ Ended o k → ends before (image lay s) b (goes_on d more') ≡ Ended o k
     here s more more' o k (Some v) b c d x y p q r h = ap (λ v. ends before (image lay s) v (goes_on d more')) (p.by v refl).1 ∙ h
     here s more more' o k None None c d x y p q r h = goes c d more more' o k q r h
     here s more more' o k None (Some v) None d x y p q r h = cc
     here s more more' o k None (Some v) (Some t) d x y p q r h =
         absurd (none-some (image lay t) (sym (exit_stops caps lay (spelling is) (image lay s) v x) ∙ y ∙ (q.by t refl).1))
 
-    at : (s : Typed) (i : Option Insn) → fetch (slots is) s.slot ≡ i → (more : Typed → Ending) (more' : State ℕ → Ending) (o : Outcome) (k : ℕ) → Rest more more' → ends before s (i >>= λ i. typed_exit_of i s) (goes_on (i >>= λ i. typed_act caps i s) more) ≡ Ended o k → ends before (image lay s) (exit_code (spelling is) (image lay s)) (goes_on (step caps lay (spelling is) (image lay s)) more') ≡ Ended o k
+    at : (s : Typed) (i : Option Insn) → fetch (slots is) s.slot ≡ i → (more : Typed → Ending) (more' : State ℕ → Ending) (o : Outcome) (k : ℕ) → Rest more more' → typed_ends before s (i >>= λ i. typed_exit_of i s) (goes_on (i >>= λ i. typed_act caps i s) more) ≡ Ended o k → ends before (image lay s) (exit_code (spelling is) (image lay s)) (goes_on (step caps lay (spelling is) (image lay s)) more') ≡ Ended o k
     at s None e more more' o k r h = cc
     at s (Some i) e more more' o k r h =
         let b = bytes_are_instructions caps lay is fit (image lay s) i e in
@@ -66,17 +67,19 @@ module _ (caps : Caps) (lay : Layout) (ok : IsLayout caps lay) (before : PlainOb
 whole_plus : (b o : ℕ) → b + o < 2 ^ 64 → (b + o) % 2 ^ 64 ≡ b + o
 whole_plus b o h = mod-eq_of_lt h
 
-abbrev entry_at : Caps → PlainObject → ℕ → List ℕ → ℕ → ℕ → ℕ → State ℕ
-entry_at caps object caller input x y z = record { slot = 0; regs = entry_regs x (length input) y z; memory = opening caps input; object = object; out_len = 0; caller = caller }
+abbrev entry_at : Memory → PlainObject → ℕ → List ℕ → ℕ → ℕ → ℕ → State ℕ
+entry_at m object caller input x y z = record { slot = 0; regs = entry_regs x (length input) y z; memory = m; object = object; out_len = 0; caller = caller }
 
 entry_image : (caps : Caps) (lay : Layout) → IsLayout caps lay → (object : PlainObject) (caller : ℕ) (input : List ℕ) → image lay (typed_entry caps object caller input) ≡ entry caps lay object caller input
 entry_image caps lay ok object caller input =
     let a : (lay.input + 0) % 2 ^ 64 ≡ lay.input = whole_plus lay.input 0 (omega (arith, ok.fits Input)) ∙ omega arith in
     let b : (lay.output + 0) % 2 ^ 64 ≡ lay.output = whole_plus lay.output 0 (omega (arith, ok.fits Output)) ∙ omega arith in
     let c : (lay.stack + 512) % 2 ^ 64 ≡ lay.stack + 512 = whole_plus lay.stack 512 (omega (arith, ok.fits Stack)) in
-    ap (λ x. entry_at caps object caller input x ((lay.output + 0) % 2 ^ 64) ((lay.stack + 512) % 2 ^ 64)) a
-    ∙ ap (λ x. entry_at caps object caller input lay.input x ((lay.stack + 512) % 2 ^ 64)) b
-    ∙ ap (λ x. entry_at caps object caller input lay.input lay.output x) c
+    let m = opening caps input in
+    ap (λ n. entry_at n object caller input ((lay.input + 0) % 2 ^ 64) ((lay.output + 0) % 2 ^ 64) ((lay.stack + 512) % 2 ^ 64)) (plain_memory_image lay m)
+    ∙ ap (λ x. entry_at m object caller input x ((lay.output + 0) % 2 ^ 64) ((lay.stack + 512) % 2 ^ 64)) a
+    ∙ ap (λ x. entry_at m object caller input lay.input x ((lay.stack + 512) % 2 ^ 64)) b
+    ∙ ap (λ x. entry_at m object caller input lay.input lay.output x) c
 
 pub simulates : Simulates
 simulates m fit object caller input short outcome steps h =

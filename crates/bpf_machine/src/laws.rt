@@ -1,5 +1,6 @@
 ghost use Rattle.bpf_machine.specs.Safe.{Simulates, EndsAlwaysIsSafe, RunsAreChains, StuckRunsAreChains, UnfinishedRunsAreChains, BytesAreInstructions, ElsewhereIsStuck, HasLayout, OutcomesAreOne};
 ghost use Rattle.bpf_machine.specs.Address.{PlacesAreAddresses, NoByteElsewhere, LoadsAreOfAddresses, SignedLoadsAreOfAddresses, StoresAreAtAddresses, RangesAreOfAddresses, RoomsAreAtAddresses, OpeningIsAtAddresses};
+ghost use Rattle.bpf_machine.specs.Slots.{SlotsHaveValues, SlotsBeginAtZero, NumbersAreRead, BytesAreWritten, PlacesAreWritten, NumbersAreTheirBytes};
 ghost use Rattle.bpf_machine.specs.Within.{OutcomesAreWithinLimits, CallsAreWithinLimits};
 
 use helpers::effects_are_within_limits;
@@ -54,6 +55,18 @@ pub fn addresses()
     ensures ranges { RangesAreOfAddresses }
     ensures rooms { RoomsAreAtAddresses }
     ensures opening { OpeningIsAtAddresses }
+{}
+
+/// A law. The typed machine's stack in slots of eight bytes: as a method begins, each is the number 0; bytes alone are read
+/// of slots that are numbers; a write changes the slots that it touches, leaves numbers if it writes bytes, and over a
+/// whole slot leaves the number, or the place, that it writes.
+pub fn slots()
+    ensures values { SlotsHaveValues }
+    ensures begin { SlotsBeginAtZero }
+    ensures read { NumbersAreRead }
+    ensures bytes { BytesAreWritten }
+    ensures places { PlacesAreWritten }
+    ensures numbers { NumbersAreTheirBytes }
 {}
 
 /// A law. Beside an object within all limits, on an input of bytes, a run that ends leaves an object within all limits,

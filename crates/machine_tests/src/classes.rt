@@ -19,11 +19,11 @@ fn method_of(
     Method::new(name, flags, in_cap, out_cap, code)
 }
 
-/// The image of a class with that method.
-fn image_with(rt: &impl Abort, alloc: Global, method: Method) -> ClassImage {
+/// The image of a class of that rule set with that method.
+fn image_with(rt: &impl Abort, alloc: Global, rules: RuleSet, method: Method) -> ClassImage {
     let mut methods = Vec::with_capacity(alloc, 1).expect(rt, "memory");
     methods.push_reserved(method);
-    ClassImage::new(methods, RuleSet::One).expect(rt, "a class")
+    ClassImage::new(methods, rules).expect(rt, "a class")
 }
 
 /// The image of a class with one method `f` of that code.
@@ -35,8 +35,21 @@ pub fn image_of(
     in_cap: u16,
     out_cap: u16,
 ) -> ClassImage {
+    image_by(rt, alloc, RuleSet::One, code, flags, in_cap, out_cap)
+}
+
+/// The same of a class of that rule set.
+pub fn image_by(
+    rt: &impl Abort,
+    alloc: Global,
+    rules: RuleSet,
+    code: &[u8],
+    flags: u8,
+    in_cap: u16,
+    out_cap: u16,
+) -> ClassImage {
     let method = method_of(rt, alloc, code, flags, in_cap, out_cap);
-    image_with(rt, alloc, method)
+    image_with(rt, alloc, rules, method)
 }
 
 /// That class, which is safe.

@@ -4,6 +4,7 @@ mod helper_calls;
 mod operands;
 mod random;
 mod rows;
+mod spills;
 
 use crate::answers::Expected;
 use crate::classes::image_of;

@@ -111,8 +111,19 @@ pub const COUNT: &str =
     mov r2, 1\nmov r3, r6          ; its value, from the output\nmov r4, 8\ncall 10             ; map_set\njne r0, 0, done     ; not set\n\
     mov r1, 8\ncall 13             ; out_len\nmov r0, r7\ndone:\nexit\n";
 
+/// examples/c/counter_o0.txt: counter.c as clang 14 writes it without optimization. Each variable is in the stack, pointers too.
+const UNOPTIMIZED: &str =
+    ".rules 2\n.method inc rw 0 8\nstxdw [r10-16], r1\nstxdw [r10-24], r2\nstxdw [r10-32], r3\nmov32 r1, 116\n\
+    stxb [r10-36], r1\nmov32 r1, 1853189987\nstxw [r10-40], r1\nmov r1, 0\nstxdw [r10-48], r1\nmov r1, r10\n\
+    add r1, -40\nmov r2, 5\nmov r3, r10\nadd r3, -48\nmov r4, 8\ncall 6\nstxdw [r10-56], r0\nldxdw r1, [r10-56]\n\
+    jsgt r1, -1, +10\nja +0\nldxdw r1, [r10-56]\njeq r1, -2, +7\nja +0\nldxdw r1, [r10-56]\njeq r1, -61, +4\n\
+    ja +0\nldxdw r1, [r10-56]\nstxdw [r10-8], r1\nja +24\nldxdw r1, [r10-48]\nadd r1, 1\nstxdw [r10-48], r1\n\
+    mov r1, r10\nadd r1, -40\nmov r2, 5\nmov r3, r10\nadd r3, -48\nmov r4, 8\ncall 7\nstxdw [r10-64], r0\n\
+    ldxdw r1, [r10-64]\njsgt r1, -1, +4\nja +0\nldxdw r1, [r10-64]\nstxdw [r10-8], r1\nja +7\nldxdw r1, [r10-48]\n\
+    ldxdw r2, [r10-32]\nstxdw [r2+0], r1\nmov r1, 8\ncall 13\nstxdw [r10-8], r0\nja +0\nldxdw r0, [r10-8]\nexit\n";
+
 /// Classes, words on their images, and what they print.
-static SHOWN: [(&str, &[&str], &str); 6] = [
+static SHOWN: [(&str, &[&str], &str); 7] = [
     (GREET, &["verify", "image"], "greet ok 6\n"),
     (
         GREET,
@@ -124,6 +135,12 @@ static SHOWN: [(&str, &[&str], &str); 6] = [
         COUNT,
         &["run", "image", "count"],
         "code 1\noutput 0100000000000000\nsteps 21\nobject 0 0 1\n",
+    ),
+    (UNOPTIMIZED, &["verify", "image"], "inc ok 55\n"),
+    (
+        UNOPTIMIZED,
+        &["run", "image", "inc"],
+        "code 0\noutput 0100000000000000\nsteps 44\nobject 0 1 0\n",
     ),
     (
         HELLO,

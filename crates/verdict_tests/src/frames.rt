@@ -5,6 +5,7 @@ mod parts;
 use abstract_num::{Number, holds, loaded};
 use abstract_regs::{Frame, Kind};
 use bpf_decode::{Insn, Register, Width};
+use std::alloc::Global;
 use std::process::Abort;
 
 /// The register of that number.
@@ -13,8 +14,8 @@ fn register(rt: &impl Abort, number: u8) -> Register {
 }
 
 /// A method's entry with an input of at most 16 bytes.
-fn entry() -> Frame {
-    Frame::entry(16, 512)
+fn entry(rt: &impl Abort, alloc: Global) -> Frame {
+    Frame::entry(alloc, 16, 512, 0).expect(rt, "memory")
 }
 
 /// A load of that width into a register.

@@ -7,6 +7,7 @@ mod classes;
 mod longest;
 mod methods;
 mod ranges;
+mod spills;
 
 use bpf_decode::{ClassImage, Method, RuleSet, decode};
 use std::alloc::Global;
@@ -96,13 +97,13 @@ fn put(methods: &mut Vec<Method>, method: Option<Method>) -> bool {
     }
 }
 
-/// A class of one method `f`, which a row tells.
-fn class(alloc: Global, row: &str) -> Option<ClassImage> {
+/// A class of that rule set and one method `f`, which a row tells.
+fn class(alloc: Global, rules: RuleSet, row: &str) -> Option<ClassImage> {
     let mut methods = Vec::new(alloc);
     if !put(&mut methods, method_of(alloc, "f", row)) {
         return None;
     }
-    ClassImage::new(methods, RuleSet::One).ok()
+    ClassImage::new(methods, rules).ok()
 }
 
 /// Whether a refusal is of that method and of the slot and the rule that a word tells.
@@ -125,9 +126,9 @@ fn is_judged(alloc: Global, class: &ClassImage, method: usize, told: &str) -> bo
     }
 }
 
-/// Whether `verify` says so of a class of one method, which a row tells.
-fn is_row_judged(alloc: Global, row: &str, told: &str) -> bool {
-    match class(alloc, row) {
+/// Whether `verify` says so of a class of that rule set and one method, which a row tells.
+fn is_row_judged(alloc: Global, rules: RuleSet, row: &str, told: &str) -> bool {
+    match class(alloc, rules, row) {
         None => false,
         Some(class) => is_judged(alloc, &class, 0, told),
     }
@@ -140,11 +141,31 @@ fn check<R: Abort>(rt: &R, alloc: Global, rows: &str, wanted: usize) {
     for row in rows.lines() {
         if !row.starts_with('#') {
             let (told, method) = row.split_once(' ').unwrap_or((row, ""));
-            assert!(rt; is_row_judged(alloc, method, told), "{row}");
+            assert!(rt; is_row_judged(alloc, RuleSet::One, method, told), "{row}");
             count = count.wrapping_add(1);
         }
     }
     assert!(rt; count == wanted);
+}
+
+/// Checks rows of both rule sets: of each line the first word is the verdict in set 2, the second that in set 1.
+fn check_both<R: Abort>(rt: &R, alloc: Global, rows: &str, wanted: usize) {
+    let mut count = 0usize;
+    for row in rows.lines() {
+        if !row.starts_with('#') {
+            let (second, rest) = row.split_once(' ').unwrap_or((row, ""));
+            let (first, method) = rest.split_once(' ').unwrap_or((rest, ""));
+            assert!(rt; is_row_judged(alloc, RuleSet::Two, method, second), "{row}");
+            assert!(rt; is_row_judged(alloc, RuleSet::One, method, first), "{row}");
+            count = count.wrapping_add(1);
+        }
+    }
+    assert!(rt; count == wanted);
+}
+
+#[test]
+fn judges_spills(rt: HostRuntime) {
+    check_both(&rt, rt.alloc(), spills::SPILLS, 55);
 }
 
 #[test]

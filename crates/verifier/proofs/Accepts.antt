@@ -8,15 +8,15 @@ use Rattle.bpf_decode.specs.declared.insn.Insn.{Insn}
 use Rattle.bpf_decode.specs.declared.insn.Insn.TheVariants.{Alu, Neg, Mov, MovSigned, End, LoadWide, Load, LoadSigned, Store, Jump, JumpLong, Branch, Call, CallLocal, Exit}
 use Rattle.bpf_decode.specs.Instruction.{slots, slot_count, slot_total}
 use Rattle.bpf_decode.specs.Class.{ClassMethod, IsMethod}
+use Rattle.bpf_decode.specs.declared.rule_set.RuleSet.{RuleSet}
 use Rattle.bpf_machine.specs.Typed.{fetch, typed_entry}
-use Rattle.helpers.specs.Laws.{EffectsAreWithinLimits}
 use Rattle.bpf_machine.specs.State.{AreCapacities}
 use Rattle.bpf_machine.specs.Safe.{caps_of, EndsAlways, EndsAlwaysIsSafe}
 use Rattle.verifier.specs.Pass.{IsSpaced, AllSound}
 use Rattle.verifier.specs.Verified.{IsVerified}
 use Rattle.verifier.specs.Verdict.{method_verdict}
 use Rattle.verifier.proofs.Runs.{ends_at_exit, entry_is_held}
-use Rattle.abstract_regs.specs.Laws.{JoinsHold, EntryHolds, AccessesFit}
+use Rattle.verifier.proofs.Memory.{Laws}
 
 length-slots : (is : List Insn) → length (slots is) ≡ slot_total is
 length-slots [] = refl
@@ -73,24 +73,17 @@ slots_spaced (j ∷ is) zero (suc q) i at lt le =
 slots_spaced (j ∷ is) (suc p) zero i at lt le = absurd (omega arith)
 slots_spaced (j ∷ is) (suc p) (suc q) i at lt le = spaced_past (slot_count j - 1) (slots is) p q i (slots_spaced is) at (omega arith) (omega arith)
 
--- the laws of frames and of helpers
-pub record Laws : Type 0 where
-  pub joins : JoinsHold
-  pub entry : EntryHolds
-  pub accesses : AccessesFit
-  pub effects : EffectsAreWithinLimits
-
-ends_always : Laws → (m : ClassMethod) → IsMethod m → AllSound (caps_of m) (slots m.instructions) → method_verdict m ≡ None → EndsAlways m
-ends_always laws m ok sound clear object caller input call =
+ends_always : Laws → (rules : RuleSet) (m : ClassMethod) → IsMethod m → AllSound rules (caps_of m) (slots m.instructions) → method_verdict rules m ≡ None → EndsAlways m
+ends_always laws rules m ok sound clear object caller input call =
     let sizes : AreCapacities (caps_of m) = record { input = ok.in_cap; output = ok.out_cap } in
     let first = first_begins m.instructions ok.some_slot in
     let s = typed_entry (caps_of m) object caller input in
-    ends_at_exit laws.joins laws.accesses laws.effects (caps_of m) sizes m.instructions sound ok.fit (slots_small m ok) clear object s first.0 refl first.1
-    (entry_is_held laws.entry (caps_of m) sizes object caller input call.within_limits call.client call.short call.bytes)
+    ends_at_exit laws (caps_of m) sizes rules m.instructions sound ok.fit (slots_small m ok) clear object s first.0 refl first.1
+    (entry_is_held laws rules (caps_of m) sizes object caller input call.within_limits call.client call.short call.bytes)
 
-pub accept : EndsAlwaysIsSafe → Laws → (m : ClassMethod) → IsMethod m → AllSound (caps_of m) (slots m.instructions) → method_verdict m ≡ None → IsVerified m
-accept law laws m ok sound clear =
-    record { method = ok; safe = law m ok.fit (ends_always laws m ok sound clear) }
+pub accept : EndsAlwaysIsSafe → Laws → (rules : RuleSet) (m : ClassMethod) → IsMethod m → AllSound rules (caps_of m) (slots m.instructions) → method_verdict rules m ≡ None → IsVerified m
+accept law laws rules m ok sound clear =
+    record { method = ok; safe = law m ok.fit (ends_always laws rules m ok sound clear) }
 
 -- a fact of all elements, of one
 pub all_at : {A : Type 0} (P : A → Type 0) (xs : List A) (n : ℕ) (x : A) → slice_get xs n ≡ Some x → AllByRecursion P xs → P x

@@ -1,13 +1,12 @@
 -- Lists of bytes stay lists of bytes.
-use Rattle.std.proofs.Common.{ℕ, zero, suc, ◌+◌, ◌/◌, ◌^◌, ◌<◌, ◌≤◌, List, [], ◌∷◌, ◌++◌, arith, length, take, drop, length-append, length-take}
+use Rattle.std.proofs.Common.{◌≡◌, ℕ, zero, suc, ◌+◌, ◌/◌, ◌^◌, ◌<◌, ◌≤◌, List, [], ◌∷◌, ◌++◌, Option, Some, refl, ap, arith, length, take, drop, length-append, length-take}
 use Rattle.std.specs.Prelude.{replicate}
 use Rattle.std.proofs.Math.Nat.{pow-succ', pow-le-pow_right}
 use Rattle.std.proofs.lemmas.List.{length-drop}
-use Rattle.bpf_decode.specs.declared.region.Region.{Region}
-use Rattle.bpf_decode.specs.declared.region.Region.TheVariants.{Input, Output, Stack}
 use Rattle.object_store.specs.declared.limits.TheConstants.{VALUE_LIMIT}
 use Rattle.object_store.specs.Object.{AreBytes, IsValue}
-use Rattle.bpf_machine.specs.State.{le_value, le_bytes, Memory, cells, put, written}
+use Rattle.bpf_machine.specs.State.{◌>>=◌, le_value, le_bytes, written}
+use Rattle.bpf_machine.specs.Typed.{as_cells, plain_bytes}
 
 pub bytes_append : (xs ys : List ℕ) → AreBytes xs → AreBytes ys → AreBytes (xs ++ ys)
 bytes_append [] ys a b = b
@@ -58,26 +57,12 @@ written_short : (xs : List ℕ) (at : ℕ) (bytes : List ℕ) (most : ℕ) → l
 written_short xs at bytes most h i =
     omega (arith, h, i, length-append (take at xs) (bytes ++ drop (at + length bytes) xs), length-append bytes (drop (at + length bytes) xs), length-take at xs, length-drop (at + length bytes) xs)
 
-written_is : (xs : List ℕ) (at : ℕ) (bytes : List ℕ) → IsValue xs → AreBytes bytes → at + length bytes ≤ VALUE_LIMIT → IsValue (written xs at bytes)
+pub written_is : (xs : List ℕ) (at : ℕ) (bytes : List ℕ) → IsValue xs → AreBytes bytes → at + length bytes ≤ VALUE_LIMIT → IsValue (written xs at bytes)
 written_is xs at bytes h b le =
     (written_short xs at bytes VALUE_LIMIT h.0 le, bytes_append (take at xs) _ (bytes_take at xs h.1) (bytes_append bytes _ b (bytes_drop (at + length bytes) xs h.1)))
 
--- a write into a region leaves each as it has to be
-pub put_is : (m : Memory) (r : Region) (at : ℕ) (bytes : List ℕ) → ((q : Region) → IsValue (cells m q)) → AreBytes bytes → at + length bytes ≤ VALUE_LIMIT → (q : Region) → IsValue (cells (put m r at bytes) q)
-put_is m r at bytes a b le q = each m r q at bytes a (written_is (cells m r) at bytes (a r) b le)
-  where
-    each : (m : Memory) (r q : Region) (at : ℕ) (bytes : List ℕ) → ((q : Region) → IsValue (cells m q)) → IsValue (written (cells m r) at bytes) → IsValue (cells (put m r at bytes) q)
-    each m Input Input at bytes a w = w
-    each m Input Output at bytes a w = a Output
-    each m Input Stack at bytes a w = a Stack
-    each m Output Input at bytes a w = a Input
-    each m Output Output at bytes a w = w
-    each m Output Stack at bytes a w = a Stack
-    each m Stack Input at bytes a w = a Input
-    each m Stack Output at bytes a w = a Output
-    each m Stack Stack at bytes a w = w
+-- bytes alone, as cells
+pub as_plain : (bytes : List ℕ) → plain_bytes (as_cells bytes) ≡ Some bytes
+as_plain [] = refl
+as_plain (b ∷ bytes) = ap (λ (o : Option (List ℕ)). o >>= λ bs. Some (b ∷ bs)) (as_plain bytes)
 
--- a number's bytes are so many
-pub number_bytes : (w n : ℕ) → length (le_bytes w n) ≤ w
-number_bytes zero n = omega arith
-number_bytes (suc w) n = let h = number_bytes w (n / 256) in omega (arith, h)

@@ -1,35 +1,39 @@
 -- A helper's call that no rule refuses has its arguments, and what it leaves is what its frame says.
-use Rattle.std.proofs.Common.{◌≡◌, ℕ, zero, suc, ◌+◌, ◌%◌, ◌^◌, ◌<◌, ◌≤◌, List, [], ◌∷◌, Option, Some, None, Bool, true, false, refl, ap, ◌∙◌, sym, subst, arith, length, drop, length-take, length-drop}
+use Rattle.std.proofs.Common.{◌≡◌, ℕ, zero, suc, ◌+◌, ◌%◌, ◌^◌, ◌<◌, ◌≤◌, List, [], ◌∷◌, Option, Some, None, Bool, true, false, refl, ap, ◌∙◌, sym, subst, arith, length}
 use Rattle.std.specs.Prelude.{◌==◌, ◌&&◌, ◌||◌, not, nat_le, if◌then◌else◌, is_some, slice_get, unwrap_or}
 use Rattle.std.specs.List.{AllByRecursion}
-use Rattle.std.proofs.lemmas.Bool.{leb-true, le-leb, false≢true, cond-true}
+use Rattle.std.proofs.lemmas.Bool.{eqb-false, leb-true, le-leb, false≢true, cond-true}
 use Rattle.std.proofs.lemmas.Option.{same_Some}
 use Rattle.bpf_decode.specs.declared.region.Region.{Region}
-use Rattle.bpf_decode.specs.declared.region.Region.TheVariants.{Input, Output, Stack}
+use Rattle.bpf_decode.specs.declared.insn.Insn.TheVariants.{Call}
 use Rattle.bpf_decode.specs.declared.value.Value.{Value}
 use Rattle.bpf_decode.specs.declared.value.Value.TheVariants as values
 use Rattle.bpf_machine.specs.declared.caps.Caps.{Caps}
-use Rattle.object_store.specs.declared.limits.TheConstants.{VALUE_LIMIT}
 use Rattle.object_store.specs.Object.{AreBytes, IsValue}
 use Rattle.helpers.specs.declared.argument.Argument.{Argument}
 use Rattle.helpers.specs.declared.argument.Argument.TheVariants.{Number, OutputLength, Readable, Writable}
 use Rattle.helpers.specs.Effect.{Takes}
 use Rattle.helpers.specs.Laws.{EffectsAreWithinLimits}
 use Rattle.helpers.specs.Table.{signature_of, effect}
-use Rattle.bpf_machine.specs.State.{◌>>=◌, only, Memory, cells, may_store, size, AreCapacities, reg}
-use Rattle.bpf_machine.specs.Helper.{Given, nothing_given, with_number, with_text, with_room, asked, answered, bytes_in, write_room}
-use Rattle.bpf_machine.specs.Typed.{Typed, number, locate, typed_range, typed_arguments, typed_help}
+use Rattle.bpf_machine.specs.State.{◌>>=◌, only, may_store, size, AreCapacities, reg}
+use Rattle.bpf_machine.specs.Helper.{Given, nothing_given, with_number, with_text, with_room, asked, answered}
+use Rattle.bpf_machine.specs.Typed.{Typed, TypedMemory, number, plain_bytes, cells_at, typed_range, typed_text, typed_room, typed_arguments, typed_help}
+use Rattle.bpf_machine.specs.Slots.{slot_values}
 use Rattle.abstract_regs.specs.Kind.{PlainKind, Unset, Num, Ptr}
-use Rattle.verifier.specs.declared.fault.Fault.TheVariants.{OutOfRegion, ReadOnly, WrongKind}
-use Rattle.abstract_regs.specs.Kind.{is_num, is_ptr}
+use Rattle.verifier.specs.declared.fault.Fault.TheVariants.{NotSet, OutOfRegion, ReadOnly, WrongKind, HasPointer}
+use Rattle.abstract_regs.specs.declared.content.Content.TheVariants.{Nothing, Pointer}
+use Rattle.abstract_regs.specs.Kind.{is_unset, is_num, is_ptr}
+use Rattle.abstract_regs.specs.Slots.{stack_range, meets}
 use Rattle.verifier.specs.Kind.{is_at_most, range_leaves, range_is_read_only}
 use Rattle.abstract_regs.specs.Frame.{PlainFrame, or_unset, kind_at}
-use Rattle.abstract_regs.specs.Moves.{KindFits, EachFits}
-use Rattle.verifier.specs.Frame.{IsWithin, Holds}
-use Rattle.verifier.specs.Rules.{has_fault, some_fault, taken_fault, call_fault, writes_object}
-use Rattle.verifier.proofs.Holding.{not_false, HoldsValue, Read, read, num_is_set, ptr_is_set, numbered}
-use Rattle.verifier.proofs.Bytes.{bytes_take, bytes_drop, put_is}
+use Rattle.abstract_regs.specs.Moves.{value_at, Reached, IsNumber, Overwritten, KindFits, EachFits}
+use Rattle.abstract_regs.specs.Laws.{RangesAreKnown}
+use Rattle.verifier.specs.Frame.{IsMemory, IsWithin, Holds}
+use Rattle.verifier.specs.Rules.{range_meets, has_fault, some_fault, taken_fault, call_fault, room_in, room_of_takes, room_of, writes_object}
+use Rattle.verifier.proofs.Holding.{not_false, HoldsValue, Read, read, value_is, num_is_set, ptr_is_set, numbered}
 use Rattle.verifier.proofs.Numbers.{answer_small}
+use Rattle.verifier.proofs.Memory.{SlotLaws, Wrote, length-values, placed, reads_bytes, room_written, no_room_written}
+use Rattle.verifier.proofs.Allowed.{when_right}
 use Rattle.verifier.proofs.Passed.{neither}
 
 pub one_more : {A B : Type 0} (o : Option A) (x : A) (g : A → Option B) (y : B) → o ≡ Some x → g x ≡ Some y → (o >>= g) ≡ Some y
@@ -41,14 +45,15 @@ record Counted (f : PlainFrame) (s : Typed) (k : ℕ) : Type 0 where
   value : Value
   there : reg s k ≡ Some value
   is : number value ≡ Some n
+  same : value ≡ values.Num n
   holds : HoldsValue (kind_at f k) value
   small : n < 2 ^ 64
 
-counted : (f : PlainFrame) (s : Typed) (k : ℕ) → Holds f s → is_num (kind_at f k) ≡ true → Counted f s k
+counted : {known : ℕ} (f : PlainFrame) (s : Typed) (k : ℕ) → Holds known f s → is_num (kind_at f k) ≡ true → Counted f s k
 counted f s k h b =
     let v = read f s k h (num_is_set _ b) in
     let n = numbered (kind_at f k) v.value v.holds b in
-    record { n = n.0; value = v.value; there = v.there; is = n.1; holds = v.holds; small = n.2 }
+    record { n = n.0; value = v.value; there = v.there; is = n.1; same = n.3; holds = v.holds; small = n.2 }
 
 at_most_is_num : (n : ℕ) (x : PlainKind) → is_at_most n x ≡ true → is_num x ≡ true
 at_most_is_num n Unset h = h
@@ -64,23 +69,34 @@ below_cap (Num k) (values.Num m) n cap h e b =
     le-leb n cap (omega (arith, le, h.below, same))
 below_cap (Num k) (values.Ptr r at) n cap h e b = absurd h
 
--- the place of a range, where it has one, leaves room for so many bytes
-abbrev HasRoom : Caps → ℕ → Option (Region × ℕ) → Type 0
-HasRoom caps n None = Unit {0}
-HasRoom caps n (Some p) = p.1 + n ≤ size caps p.0
+some_bytes : (n : ℕ) → (n == 0) ≡ false → 1 ≤ n
+some_bytes n e = let no = eqb-false n 0 e in omega (arith, no)
 
-target_of : (caps : Caps) (n : ℕ) (none writes : Bool) (p : Region × ℕ) → HasRoom caps n (Some p) → (writes ≡ true → may_store p.0 ≡ true) → (t : Option (Region × ℕ)) × ((if none then Some None else if writes then only (may_store p.0) (Some (Some p)) else Some (Some p)) ≡ Some t) × HasRoom caps n t
-target_of caps n true writes p r h = (None, refl, tt)
-target_of caps n false true p r h = (Some p, cond-true (may_store p.0) (Some (Some p)) None (h refl), r)
-target_of caps n false false p r h = (Some p, refl, r)
+there_is : (p : Region × ℕ) (r : Region) (at : ℕ) → p.0 ≡ r → p.1 ≡ at → p ≡ placed r at
+there_is p r at e f = ap (λ (q : Region). placed q p.1) e ∙ ap (λ (k : ℕ). placed r k) f
 
-range_made : (caps : Caps) (writes : Bool) (v : Value) (n : ℕ) (p : Region × ℕ) → HasRoom caps n (Some p) → locate caps v 0 n ≡ Some p → (writes ≡ true → may_store p.0 ≡ true) → (t : Option (Region × ℕ)) × (typed_range caps writes v n ≡ Some t) × HasRoom caps n t
-range_made caps writes v n p r found h =
-    let t = target_of caps n (n == 0) writes p r h in
-    (t.0, ap (λ p. p >>= λ p. if n == 0 then Some None else if writes then only (may_store p.0) (Some (Some p)) else Some (Some p)) found ∙ t.1, t.2)
+-- the place of a range of n bytes from a place on: none, where there are none
+abbrev HasRoom : Caps → Region → ℕ → ℕ → Option (Region × ℕ) → Type 0
+HasRoom caps r at n None = Unit {0}
+HasRoom caps r at n (Some p) = (p.0 ≡ r) × (p.1 ≡ at) × (1 ≤ n) × (at + n ≤ size caps r)
+
+-- a range that was not refused
+record Ranged (caps : Caps) (writes : Bool) (v : Value) (n : ℕ) : Type 0 where
+  region : Region
+  at : ℕ
+  points : v ≡ values.Ptr region at
+  place : Option (Region × ℕ)
+  is : typed_range caps writes v n ≡ Some place
+  room : HasRoom caps region at n place
+
+target_of : (caps : Caps) (n : ℕ) (none writes : Bool) (r : Region) (at : ℕ) (p : Region × ℕ) → (n == 0) ≡ none → p.0 ≡ r → p.1 ≡ at → at + n ≤ size caps r → (writes ≡ true → may_store p.0 ≡ true) → (t : Option (Region × ℕ)) × ((if none then Some None else if writes then only (may_store p.0) (Some (Some p)) else Some (Some p)) ≡ Some t) × HasRoom caps r at n t
+target_of caps n true writes r at p e same place fits h = (None, refl, tt)
+target_of caps n false true r at p e same place fits h =
+    (Some p, cond-true (may_store p.0) (Some (Some p)) None (h refl), (same, place, some_bytes n e, fits))
+target_of caps n false false r at p e same place fits h = (Some p, refl, (same, place, some_bytes n e, fits))
 
 -- a range that was not refused is one
-ranged : (caps : Caps) (writes : Bool) (x y : PlainKind) (v w : Value) (n : ℕ) → HoldsValue x v → HoldsValue y w → number w ≡ Some n → is_ptr x ≡ true → is_num y ≡ true → range_leaves caps x y ≡ false → (writes ≡ true → range_is_read_only x y ≡ false) → (p : Option (Region × ℕ)) × (typed_range caps writes v n ≡ Some p) × HasRoom caps n p
+ranged : (caps : Caps) (writes : Bool) (x y : PlainKind) (v w : Value) (n : ℕ) → HoldsValue x v → HoldsValue y w → number w ≡ Some n → is_ptr x ≡ true → is_num y ≡ true → range_leaves caps x y ≡ false → (writes ≡ true → range_is_read_only x y ≡ false) → Ranged caps writes v n
 ranged caps writes Unset y v w n h i e a b c d = absurd (false≢true a)
 ranged caps writes (Num k) y v w n h i e a b c d = absurd (false≢true a)
 ranged caps writes (Ptr r k) Unset v w n h i e a b c d = absurd (false≢true b)
@@ -96,32 +112,53 @@ ranged caps writes (Ptr r k) (Num l) (values.Ptr q at) (values.Num m) n h i e a 
     let same_size : size caps r ≡ size caps q = ap (size caps) h.0 in
     let at_small = place.fits in
     let whole : (at + 0) % 2 ^ 64 ≡ at = omega arith in
-    let fits : (at + 0) % 2 ^ 64 + n ≤ size caps q = omega arith in
-    let found = cond-true (nat_le ((at + 0) % 2 ^ 64 + n) (size caps q)) (Some (q, (at + 0) % 2 ^ 64)) None (le-leb _ _ fits) in
-    range_made caps writes (values.Ptr q at) n (q, (at + 0) % 2 ^ 64) fits found (λ t. ap may_store (sym h.0) ∙ not_false _ (d t))
+    let fits : at + n ≤ size caps q = omega arith in
+    let fits' : (at + 0) % 2 ^ 64 + n ≤ size caps q = omega arith in
+    let found = cond-true (nat_le ((at + 0) % 2 ^ 64 + n) (size caps q)) (Some (q, (at + 0) % 2 ^ 64)) None (le-leb _ _ fits') in
+    let t = target_of caps n (n == 0) writes q at (q, (at + 0) % 2 ^ 64) refl refl whole fits (λ t. ap may_store (sym h.0) ∙ not_false _ (d t)) in
+    record {
+      region = q;
+      at = at;
+      points = refl;
+      place = t.0;
+      is = ap (λ p. p >>= λ p. if n == 0 then Some None else if writes then only (may_store p.0) (Some (Some p)) else Some (Some p)) found ∙ t.1;
+      room = t.2;
+    }
+
+-- where a helper writes: in the range that begins at a register, if there is one
+pub record RoomAt (caps : Caps) (s : Typed) (k room : ℕ) (target : Option (Region × ℕ)) : Type 0 where
+  region : Region
+  at : ℕ
+  pointer : value_at s.regs k ≡ Some (values.Ptr region at)
+  count : value_at s.regs (k + 1) ≡ Some (values.Num room)
+  place : HasRoom caps region at room target
+
+abbrev Targets : Caps → Typed → Option ℕ → ℕ → Option (Region × ℕ) → Type 0
+Targets caps s None room target = target ≡ None
+Targets caps s (Some k) room target = RoomAt caps s k room target
 
 -- the arguments of a helper that was not refused
 record Gets (caps : Caps) (s : Typed) (arguments : List Argument) (k : ℕ) : Type 0 where
   given : Given
   is : typed_arguments caps s arguments k ≡ Some given
   small : given.room < 2 ^ 64
-  room : HasRoom caps given.room given.target
+  targets : Targets caps s (room_in arguments k) given.room given.target
   texts : AllByRecursion IsValue given.texts
   caller : given.caller ≡ s.caller
 
--- the bytes of a range are such as a value may have
-text_is : (m : Memory) (p : Option (Region × ℕ)) (n : ℕ) → ((r : Region) → IsValue (cells m r)) → IsValue (bytes_in m p n)
-text_is m None n h = (omega arith, tt)
-text_is m (Some p) n h =
-    (omega (arith, h p.0, length-take n (drop p.1 (cells m p.0)), length-drop p.1 (cells m p.0)), bytes_take n _ (bytes_drop p.1 (cells m p.0) (h p.0).1))
+-- a text that a helper reads
+record Texted (m : TypedMemory) (place : Option (Region × ℕ)) (n : ℕ) : Type 0 where
+  text : List ℕ
+  is : typed_text m place n ≡ Some text
+  value : IsValue text
 
-module _ (caps : Caps) (f : PlainFrame) (s : Typed) (h : Holds f s) where
+module _ (laws : SlotLaws) (ranges : RangesAreKnown) (caps : Caps) (sizes : AreCapacities caps) (known : ℕ) (few : known ≤ 64) (f : PlainFrame) (s : Typed) (h : Holds known f s) where
   number_gets : (more : List Argument) (k : ℕ) → Counted f s k → Gets caps s more (k + 1) → Gets caps s (Number ∷ more) k
   number_gets more k n g = record {
     given = with_number n.n g.given;
     is = one_more _ _ _ _ n.there (one_more _ _ _ _ n.is (one_more _ _ _ _ g.is refl));
     small = g.small;
-    room = g.room;
+    targets = g.targets;
     texts = g.texts;
     caller = g.caller;
   }
@@ -131,56 +168,90 @@ module _ (caps : Caps) (f : PlainFrame) (s : Typed) (h : Holds f s) where
     given = with_number n.n g.given;
     is = one_more _ _ _ _ n.there (one_more _ _ _ _ n.is (cond-true _ _ _ le ∙ one_more _ _ _ _ g.is refl));
     small = g.small;
-    room = g.room;
+    targets = g.targets;
     texts = g.texts;
     caller = g.caller;
   }
 
-  readable_gets : (more : List Argument) (k : ℕ) (v : Read f s k) (n : Counted f s (k + 1)) (p : Option (Region × ℕ)) → typed_range caps false v.value n.n ≡ Some p → Gets caps s more (k + 2) → Gets caps s (Readable ∷ more) k
-  readable_gets more k v n p e g = record {
-    given = with_text (bytes_in s.memory p n.n) g.given;
-    is = one_more _ _ _ _ v.there (one_more _ _ _ _ n.there (one_more _ _ _ _ n.is (one_more _ _ _ _ e (one_more _ _ _ _ g.is refl))));
+  long_values : length f.slots ≡ length (slot_values known s.memory.stack)
+  long_values = h.long ∙ sym (length-values known s.memory.stack)
+
+  -- bytes that the rules leave to be read
+  texted : (r : Region) (at n : ℕ) (place : Option (Region × ℕ)) → HasRoom caps r at n place → (1 ≤ n → (j : ℕ) → j < length (slot_values known s.memory.stack) → Reached r at n j → IsNumber (value_at (slot_values known s.memory.stack) j)) → Texted s.memory place n
+  texted r at n None room numbers = record { text = []; is = refl; value = (omega arith, tt) }
+  texted r at n (Some p) room numbers =
+      let b = reads_bytes laws caps sizes known few s.memory (h.within).memory r at n room.3 (numbers room.2) in
+      record {
+        text = b.bytes;
+        is = ap (λ (q : Region). plain_bytes (cells_at s.memory q p.1 n)) room.0 ∙ ap (λ (k : ℕ). plain_bytes (cells_at s.memory r k n)) room.1 ∙ b.are;
+        value = b.value;
+      }
+
+  readable_gets : (more : List Argument) (k : ℕ) (v : Read f s k) (n : Counted f s (k + 1)) (p : Option (Region × ℕ)) → typed_range caps false v.value n.n ≡ Some p → Texted s.memory p n.n → Gets caps s more (k + 2) → Gets caps s (Readable ∷ more) k
+  readable_gets more k v n p e t g = record {
+    given = with_text t.text g.given;
+    is = one_more _ _ _ _ v.there (one_more _ _ _ _ n.there (one_more _ _ _ _ n.is (one_more _ _ _ _ e (one_more _ _ _ _ t.is (one_more _ _ _ _ g.is refl)))));
     small = g.small;
-    room = g.room;
-    texts = (text_is s.memory p n.n (h.within).memory, g.texts);
+    targets = g.targets;
+    texts = (t.value, g.texts);
     caller = g.caller;
   }
 
-  writable_gets : (more : List Argument) (k : ℕ) (v : Read f s k) (n : Counted f s (k + 1)) (p : Option (Region × ℕ)) → typed_range caps true v.value n.n ≡ Some p → HasRoom caps n.n p → Gets caps s more (k + 2) → Gets caps s (Writable ∷ more) k
-  writable_gets more k v n p e r g = record {
-    given = with_room n.n p g.given;
-    is = one_more _ _ _ _ v.there (one_more _ _ _ _ n.there (one_more _ _ _ _ n.is (one_more _ _ _ _ e (one_more _ _ _ _ g.is refl))));
+  writable_gets : (more : List Argument) (k : ℕ) (v : Read f s k) (n : Counted f s (k + 1)) (p : Ranged caps true v.value n.n) → Gets caps s more (k + 2) → Gets caps s (Writable ∷ more) k
+  writable_gets more k v n p g = record {
+    given = with_room n.n p.place g.given;
+    is = one_more _ _ _ _ v.there (one_more _ _ _ _ n.there (one_more _ _ _ _ n.is (one_more _ _ _ _ p.is (one_more _ _ _ _ g.is refl))));
     small = n.small;
-    room = r;
+    targets = record {
+      region = p.region;
+      at = p.at;
+      pointer = value_is s k v.value v.there ∙ ap Some p.points;
+      count = value_is s (k + 1) n.value n.there ∙ ap Some n.same;
+      place = p.room;
+    };
     texts = g.texts;
     caller = g.caller;
   }
 
   -- a pointer and a length whose range may be read, or written
-  range_of : (writes : Bool) (k : ℕ) (v : Read f s k) (n : Counted f s (k + 1)) → is_ptr (kind_at f k) ≡ true → is_num (kind_at f (k + 1)) ≡ true → range_leaves caps (kind_at f k) (kind_at f (k + 1)) ≡ false → (writes ≡ true → range_is_read_only (kind_at f k) (kind_at f (k + 1)) ≡ false) → (p : Option (Region × ℕ)) × (typed_range caps writes v.value n.n ≡ Some p) × HasRoom caps n.n p
+  range_of : (writes : Bool) (k : ℕ) (v : Read f s k) (n : Counted f s (k + 1)) → is_ptr (kind_at f k) ≡ true → is_num (kind_at f (k + 1)) ≡ true → range_leaves caps (kind_at f k) (kind_at f (k + 1)) ≡ false → (writes ≡ true → range_is_read_only (kind_at f k) (kind_at f (k + 1)) ≡ false) → Ranged caps writes v.value n.n
   range_of writes k v n pointer count stays writable = ranged caps writes (kind_at f k) (kind_at f (k + 1)) v.value n.value n.n v.holds n.holds n.is pointer count stays writable
 
-  gets : (arguments : List Argument) (k : ℕ) → some_fault caps f OutOfRegion arguments k ≡ false → some_fault caps f ReadOnly arguments k ≡ false → some_fault caps f WrongKind arguments k ≡ false → Gets caps s arguments k
-  gets [] k a b c = record { given = nothing_given s.caller; is = refl; small = omega arith; room = tt; texts = tt; caller = refl }
-  gets (Number ∷ more) k a b c =
+  gets : (arguments : List Argument) (k : ℕ) → some_fault caps f NotSet arguments k ≡ false → some_fault caps f OutOfRegion arguments k ≡ false → some_fault caps f ReadOnly arguments k ≡ false → some_fault caps f WrongKind arguments k ≡ false → some_fault caps f HasPointer arguments k ≡ false → Gets caps s arguments k
+  gets [] k u a b c d = record { given = nothing_given s.caller; is = refl; small = omega arith; targets = refl; texts = tt; caller = refl }
+  gets (Number ∷ more) k u a b c d =
+      let u1 = neither (has_fault caps f NotSet Number k) (some_fault caps f NotSet more (k + 1)) u in
       let two = neither (has_fault caps f WrongKind Number k) (some_fault caps f WrongKind more (k + 1)) c in
-      number_gets more k (counted f s k h (not_false _ two.0)) (gets more (k + 1) a b two.1)
-  gets (OutputLength ∷ more) k a b c =
+      number_gets more k (counted f s k h (not_false _ two.0)) (gets more (k + 1) u1.1 a b two.1 d)
+  gets (OutputLength ∷ more) k u a b c d =
+      let u1 = neither (has_fault caps f NotSet OutputLength k) (some_fault caps f NotSet more (k + 1)) u in
       let two = neither (has_fault caps f WrongKind OutputLength k) (some_fault caps f WrongKind more (k + 1)) c in
       let most = not_false _ two.0 in
       let n = counted f s k h (at_most_is_num caps.out_cap (kind_at f k) most) in
-      length_gets more k n (below_cap (kind_at f k) n.value n.n caps.out_cap n.holds n.is most) (gets more (k + 1) a b two.1)
-  gets (Readable ∷ more) k a b c =
+      length_gets more k n (below_cap (kind_at f k) n.value n.n caps.out_cap n.holds n.is most) (gets more (k + 1) u1.1 a b two.1 d)
+  gets (Readable ∷ more) k u a b c d =
+      let x = kind_at f k in
+      let y = kind_at f (k + 1) in
+      let u1 = neither (has_fault caps f NotSet Readable k) (some_fault caps f NotSet more (k + 2)) u in
+      let u2 = neither (is_unset x || is_unset y) (range_meets Nothing caps f x y) u1.0 in
       let a1 = neither (has_fault caps f OutOfRegion Readable k) (some_fault caps f OutOfRegion more (k + 2)) a in
       let c1 = neither (has_fault caps f WrongKind Readable k) (some_fault caps f WrongKind more (k + 2)) c in
-      let c2 = neither (not (is_ptr (kind_at f k))) (not (is_num (kind_at f (k + 1)))) c1.0 in
+      let c2 = neither (not (is_ptr x)) (not (is_num y)) c1.0 in
+      let d1 = neither (has_fault caps f HasPointer Readable k) (some_fault caps f HasPointer more (k + 2)) d in
       let pointer = not_false _ c2.0 in
       let count = not_false _ c2.1 in
-      let v = read f s k h (ptr_is_set (kind_at f k) pointer) in
+      let v = read f s k h (ptr_is_set x pointer) in
       let n = counted f s (k + 1) h count in
       let p = range_of false k v n pointer count a1.0 (λ e. absurd (false≢true e)) in
-      readable_gets more k v n p.0 p.1 (gets more (k + 2) a1.1 b c1.1)
-  gets (Writable ∷ more) k a b c =
+      let inside : not (range_leaves caps x y) ≡ true = ap not a1.0 in
+      let unset = when_right (meets Nothing (stack_range x y) 0 f.slots) (not (range_leaves caps x y)) u2.1 inside in
+      let parts = when_right (meets Pointer (stack_range x y) 0 f.slots) (not (range_leaves caps x y)) d1.0 inside in
+      let holds : HoldsValue x (values.Ptr p.region p.at) = subst (HoldsValue x) p.points v.holds in
+      let long : HoldsValue y (values.Num n.n) = subst (HoldsValue y) n.same n.holds in
+      let t = texted p.region p.at n.n p.place p.room (λ one j lt reached. ranges f x y unset parts (slot_values known s.memory.stack) long_values h.slots pointer count p.region p.at n.n j holds long lt one reached) in
+      readable_gets more k v n p.place p.is t (gets more (k + 2) u1.1 a1.1 b c1.1 d1.1)
+  gets (Writable ∷ more) k u a b c d =
+      let u1 = neither (has_fault caps f NotSet Writable k) (some_fault caps f NotSet more (k + 2)) u in
       let a1 = neither (has_fault caps f OutOfRegion Writable k) (some_fault caps f OutOfRegion more (k + 2)) a in
       let b1 = neither (has_fault caps f ReadOnly Writable k) (some_fault caps f ReadOnly more (k + 2)) b in
       let c1 = neither (has_fault caps f WrongKind Writable k) (some_fault caps f WrongKind more (k + 2)) c in
@@ -190,18 +261,22 @@ module _ (caps : Caps) (f : PlainFrame) (s : Typed) (h : Holds f s) where
       let v = read f s k h (ptr_is_set (kind_at f k) pointer) in
       let n = counted f s (k + 1) h count in
       let p = range_of true k v n pointer count a1.0 (λ e. b1.0) in
-      writable_gets more k v n p.0 p.1 p.2 (gets more (k + 2) a1.1 b1.1 c1.1)
+      writable_gets more k v n p (gets more (k + 2) u1.1 a1.1 b1.1 c1.1 d)
 
-pub size_short : (caps : Caps) → AreCapacities caps → (r : Region) → size caps r ≤ VALUE_LIMIT
-size_short caps a Input = let h = a.input in omega (arith, h)
-size_short caps a Output = let h = a.output in omega (arith, h)
-size_short caps a Stack = omega arith
+  -- what a helper writes into its range
+  room_at : (r : Region) (at room : ℕ) (target : Option (Region × ℕ)) (bytes : List ℕ) → HasRoom caps r at room target → length bytes ≤ room → AreBytes bytes → Wrote known s.memory r at room (typed_room s.memory target bytes)
+  room_at r at room None bytes place short b = no_room_written laws caps sizes known few s.memory (h.within).memory r at room bytes
+  room_at r at room (Some p) bytes place short b =
+      subst (λ (q : Region × ℕ). Wrote known s.memory r at room (typed_room s.memory (Some q) bytes)) (sym (there_is p r at place.0 place.1))
+      (room_written laws caps sizes known few s.memory (h.within).memory (r, at) room bytes place.2 place.3 short b)
 
--- what a helper writes into its range
-room_is : (caps : Caps) → AreCapacities caps → (m : Memory) (p : Option (Region × ℕ)) (room : ℕ) (bytes : List ℕ) → ((r : Region) → IsValue (cells m r)) → HasRoom caps room p → length bytes ≤ room → AreBytes bytes → (r : Region) → IsValue (cells (write_room m p bytes) r)
-room_is caps w m None room bytes h le short b r = h r
-room_is caps w m (Some p) room bytes h le short b r =
-    put_is m p.0 p.1 bytes h b (omega (arith, le, short, size_short caps w p.0)) r
+  overwritten : (o : Option ℕ) (room : ℕ) (target : Option (Region × ℕ)) (bytes : List ℕ) → Targets caps s o room target → length bytes ≤ room → AreBytes bytes → IsMemory known (typed_room s.memory target bytes) × Overwritten o s.regs (slot_values known s.memory.stack) (slot_values known (typed_room s.memory target bytes).stack)
+  overwritten None room target bytes none short b =
+      subst (λ (t : Option (Region × ℕ)). IsMemory known (typed_room s.memory t bytes) × Overwritten None s.regs (slot_values known s.memory.stack) (slot_values known (typed_room s.memory t bytes).stack)) (sym none)
+      ((h.within).memory, refl)
+  overwritten (Some k) room target bytes t short b =
+      let w = room_at t.region t.at room target bytes t.place short b in
+      (w.memory, (t.region, t.at, room, t.pointer, t.count, w.overwrites))
 
 there : (o : Option Takes) → not (is_some o) ≡ false → (takes : Takes) × (o ≡ Some takes)
 there None h = absurd (false≢true (sym h))
@@ -213,39 +288,40 @@ may_write true false h = absurd (false≢true (sym h))
 may_write false c h = refl
 
 -- a call that was made
-pub record Made (caps : Caps) (helper : ℕ) (s : Typed) : Type 0 where
+pub record Made (known : ℕ) (caps : Caps) (helper : ℕ) (s : Typed) : Type 0 where
   pub to : Typed
   pub made : typed_help caps helper s ≡ Some to
   pub answer : ℕ
   pub small : answer < 2 ^ 64
   pub regs : to.regs ≡ answered s.regs (values.Num answer)
-  pub within : IsWithin to
+  pub slots : Overwritten (room_of (Call helper)) s.regs (slot_values known s.memory.stack) (slot_values known to.memory.stack)
+  pub within : IsWithin known to
 
 -- a call that no rule refuses is made
-pub call_made : EffectsAreWithinLimits → (caps : Caps) → AreCapacities caps → (helper : ℕ) (f : PlainFrame) (s : Typed) → Holds f s → not (is_some (signature_of helper)) ≡ false → call_fault caps f OutOfRegion helper ≡ false → call_fault caps f ReadOnly helper ≡ false → call_fault caps f WrongKind helper ≡ false → (writes_object (signature_of helper) && not caps.writes) ≡ false → Made caps helper s
-call_made law caps sizes helper f s h known a b c w =
-    let sig = there (signature_of helper) known in
+pub call_made : SlotLaws → RangesAreKnown → EffectsAreWithinLimits → (caps : Caps) → AreCapacities caps → (known : ℕ) → known ≤ 64 → (helper : ℕ) (f : PlainFrame) (s : Typed) → Holds known f s → not (is_some (signature_of helper)) ≡ false → call_fault caps f NotSet helper ≡ false → call_fault caps f OutOfRegion helper ≡ false → call_fault caps f ReadOnly helper ≡ false → call_fault caps f WrongKind helper ≡ false → call_fault caps f HasPointer helper ≡ false → (writes_object (signature_of helper) && not caps.writes) ≡ false → Made known caps helper s
+call_made slots ranges law caps sizes known few helper f s h is_known u a b c d w =
+    let sig = there (signature_of helper) is_known in
     let takes = sig.0 in
+    let u' = sym (ap (taken_fault caps f NotSet) sig.1) ∙ u in
     let a' = sym (ap (taken_fault caps f OutOfRegion) sig.1) ∙ a in
     let b' = sym (ap (taken_fault caps f ReadOnly) sig.1) ∙ b in
     let c' = sym (ap (taken_fault caps f WrongKind) sig.1) ∙ c in
+    let d' = sym (ap (taken_fault caps f HasPointer) sig.1) ∙ d in
     let w' = sym (ap (λ o. writes_object o && not caps.writes) sig.1) ∙ w in
-    let g = gets caps f s h takes.arguments 1 a' b' c' in
+    let g = gets slots ranges caps sizes known few f s h takes.arguments 1 u' a' b' c' d' in
     let e = effect helper s.object (asked g.given) in
     let l = law helper s.object (asked g.given) (h.within).object g.texts in
     let client : g.given.caller < 2 ^ 32 = subst (λ n. n < 2 ^ 32) (sym g.caller) (h.within).client in
-    let t : Typed = record { slot = s.slot; regs = answered s.regs (values.Num e.answer); memory = write_room s.memory g.given.target e.bytes; object = e.object; out_len = unwrap_or e.out_len s.out_len; caller = s.caller } in
+    let t : Typed = record { slot = s.slot; regs = answered s.regs (values.Num e.answer); memory = typed_room s.memory g.given.target e.bytes; object = e.object; out_len = unwrap_or e.out_len s.out_len; caller = s.caller } in
+    let left = overwritten slots ranges caps sizes known few f s h (room_in takes.arguments 1) g.given.room g.given.target e.bytes g.targets l.short l.bytes in
     record {
       to = t;
       made = one_more (signature_of helper) takes _ t sig.1 (cond-true _ _ _ (may_write takes.writes caps.writes w') ∙ one_more _ _ _ _ g.is refl);
       answer = e.answer;
       small = answer_small helper s.object (asked g.given) (h.within).object g.small client;
       regs = refl;
-      within = record {
-        memory = room_is caps sizes s.memory g.given.target g.given.room e.bytes (h.within).memory g.room l.short l.bytes;
-        object = l.object;
-        client = (h.within).client;
-      };
+      slots = subst (λ (o : Option Takes). Overwritten (room_of_takes o) s.regs (slot_values known s.memory.stack) (slot_values known t.memory.stack)) (sym sig.1) left.1;
+      within = record { memory = left.0; object = l.object; client = (h.within).client };
     }
 
 -- the numbers of a register's kind fit

@@ -6,18 +6,20 @@ use Rattle.std.proofs.Math.Nat.{mod-eq_of_lt}
 use Rattle.std.proofs.lemmas.Bool.{cases_lt, eq-eqb, cond-true, cond_both, false≢true}
 use Rattle.bpf_decode.specs.declared.insn.Insn.{Insn}
 use Rattle.bpf_decode.specs.declared.insn.Insn.TheVariants.{Alu, Neg, Mov, MovSigned, End, LoadWide, Load, LoadSigned, Store, Jump, JumpLong, Branch, Call, CallLocal, Exit}
-use Rattle.bpf_decode.specs.Instruction.{Fits}
+use Rattle.bpf_decode.specs.Instruction.{Fits, byte_count}
+use Rattle.bpf_decode.specs.Values.{extended}
+use Rattle.bpf_decode.specs.declared.rule_set.RuleSet.{RuleSet}
 use Rattle.bpf_decode.specs.declared.value.Value.{Value}
 use Rattle.bpf_machine.specs.declared.caps.Caps.{Caps}
 use Rattle.bpf_machine.specs.Typed.{fetch}
 use Rattle.verifier.specs.declared.rule.Rule.{Rule}
-use Rattle.abstract_regs.specs.Frame.{PlainFrame, with_kind, join, after_call, HoldsEach}
+use Rattle.abstract_regs.specs.Frame.{PlainFrame, kind_at, with_kind, join, after_call, after_store, operand_kind, HoldsEach}
 use Rattle.abstract_regs.specs.Flow.{target, edge_to, computed, along_edge, flow}
 use Rattle.abstract_num.specs.Plain.{constant}
 use Rattle.abstract_regs.specs.Kind.{PlainKind, Num}
 use Rattle.abstract_regs.specs.Moves.{Among}
 use Rattle.abstract_regs.specs.Laws.{JoinsHold}
-use Rattle.verifier.specs.Rules.{begins_at, rule_at}
+use Rattle.verifier.specs.Rules.{begins_at, rule_at, room_of}
 use Rattle.verifier.specs.Verdict.{Table, frame_at, joined, met, along, unless_refused, flow_from, incoming, whole_table}
 use Rattle.verifier.proofs.Passed.{Passed}
 use Rattle.verifier.proofs.Holding.{not_false}
@@ -26,72 +28,81 @@ use Rattle.std.specs.Int.{w16, is_negative}
 use Rattle.std.specs.Int.Signed.{mag}
 use Rattle.verifier.proofs.Tables.{whole_at}
 
--- a frame that is there and is true of the registers
-pub record Meets (inflow : Option PlainFrame) (cs : List (Option Value)) : Type 0 where
+-- a frame that is there and is true of the registers and of the slots
+pub record Meets (inflow : Option PlainFrame) (cs vs : List (Option Value)) : Type 0 where
   pub frame : PlainFrame
   pub is : inflow ≡ Some frame
   pub holds : HoldsEach frame.registers cs
+  pub slots : HoldsEach frame.slots vs
+
+-- a frame is true of both
+pub record Both (f : PlainFrame) (cs vs : List (Option Value)) : Type 0 where
+  pub holds : HoldsEach f.registers cs
+  pub slots : HoldsEach f.slots vs
 
 module _ (law : JoinsHold) where
-  meets_joined : (inflow : Option PlainFrame) (g : PlainFrame) (cs : List (Option Value)) → HoldsEach g.registers cs → HoldsEach (joined inflow g).registers cs
-  meets_joined None g cs h = h
-  meets_joined (Some f) g cs h = let both = law f g in both.right cs h
+  meets_joined : (inflow : Option PlainFrame) (g : PlainFrame) (cs vs : List (Option Value)) → Both g cs vs → Both (joined inflow g) cs vs
+  meets_joined None g cs vs h = h
+  meets_joined (Some f) g cs vs h = let both = law f g in record { holds = both.right cs h.holds; slots = both.slots_right vs h.slots }
 
-  meets_kept : (inflow : Option PlainFrame) (g : PlainFrame) (cs : List (Option Value)) → Meets inflow cs → Meets (Some (joined inflow g)) cs
-  meets_kept inflow g cs h =
+  meets_kept : (inflow : Option PlainFrame) (g : PlainFrame) (cs vs : List (Option Value)) → Meets inflow cs vs → Meets (Some (joined inflow g)) cs vs
+  meets_kept inflow g cs vs h =
       let both = law h.frame g in
-      record { frame = join h.frame g; is = ap (λ o. Some (joined o g)) h.is; holds = both.left cs h.holds }
+      record { frame = join h.frame g; is = ap (λ o. Some (joined o g)) h.is; holds = both.left cs h.holds; slots = both.slots_left vs h.slots }
 
   -- a flow along an edge is joined in
-  one_meets : (a q : ℕ) (g : PlainFrame) (inflow : Option PlainFrame) (cs : List (Option Value)) → HoldsEach g.registers cs → q ≡ a → Meets (met a g q inflow) cs
-  one_meets a q g inflow cs h e = record {
-    frame = joined inflow g;
-    is = cond-true (a == q) (Some (joined inflow g)) inflow (eq-eqb a q (sym e));
-    holds = meets_joined inflow g cs h;
-  }
+  one_meets : (a q : ℕ) (g : PlainFrame) (inflow : Option PlainFrame) (cs vs : List (Option Value)) → Both g cs vs → q ≡ a → Meets (met a g q inflow) cs vs
+  one_meets a q g inflow cs vs h e =
+      let all = meets_joined inflow g cs vs h in
+      record {
+        frame = joined inflow g;
+        is = cond-true (a == q) (Some (joined inflow g)) inflow (eq-eqb a q (sym e));
+        holds = all.holds;
+        slots = all.slots;
+      }
 
   -- and one along another edge leaves what is there
-  one_keeps : (a q : ℕ) (g : PlainFrame) (inflow : Option PlainFrame) (cs : List (Option Value)) → Meets inflow cs → Meets (met a g q inflow) cs
-  one_keeps a q g inflow cs h = cond_both (a == q) (Some (joined inflow g)) inflow (λ o. Meets o cs) (λ _. meets_kept inflow g cs h) (λ _. h)
+  one_keeps : (a q : ℕ) (g : PlainFrame) (inflow : Option PlainFrame) (cs vs : List (Option Value)) → Meets inflow cs vs → Meets (met a g q inflow) cs vs
+  one_keeps a q g inflow cs vs h = cond_both (a == q) (Some (joined inflow g)) inflow (λ o. Meets o cs vs) (λ _. meets_kept inflow g cs vs h) (λ _. h)
 
-  along_keeps : (edges : List (ℕ × PlainFrame)) (q : ℕ) (inflow : Option PlainFrame) (cs : List (Option Value)) → Meets inflow cs → Meets (along edges q inflow) cs
-  along_keeps [] q inflow cs h = h
-  along_keeps (edge ∷ edges) q inflow cs h = along_keeps edges q (met edge.0 edge.1 q inflow) cs (one_keeps edge.0 q edge.1 inflow cs h)
+  along_keeps : (edges : List (ℕ × PlainFrame)) (q : ℕ) (inflow : Option PlainFrame) (cs vs : List (Option Value)) → Meets inflow cs vs → Meets (along edges q inflow) cs vs
+  along_keeps [] q inflow cs vs h = h
+  along_keeps (edge ∷ edges) q inflow cs vs h = along_keeps edges q (met edge.0 edge.1 q inflow) cs vs (one_keeps edge.0 q edge.1 inflow cs vs h)
 
-  along_meets : (edges : List (ℕ × PlainFrame)) (q : ℕ) (g : PlainFrame) (inflow : Option PlainFrame) (cs : List (Option Value)) → HoldsEach g.registers cs → Among q g edges → Meets (along edges q inflow) cs
-  along_meets [] q g inflow cs h e = absurd e
-  along_meets (edge ∷ edges) q g inflow cs h e = ⊎_elim
-      (λ (here : (q ≡ edge.0) × (g ≡ edge.1)). along_keeps edges q (met edge.0 edge.1 q inflow) cs (one_meets edge.0 q edge.1 inflow cs (subst (λ (k : PlainFrame). HoldsEach k.registers cs) here.1 h) here.0))
-      (λ (later : Among q g edges). along_meets edges q g (met edge.0 edge.1 q inflow) cs h later) e
+  along_meets : (edges : List (ℕ × PlainFrame)) (q : ℕ) (g : PlainFrame) (inflow : Option PlainFrame) (cs vs : List (Option Value)) → Both g cs vs → Among q g edges → Meets (along edges q inflow) cs vs
+  along_meets [] q g inflow cs vs h e = absurd e
+  along_meets (edge ∷ edges) q g inflow cs vs h e = ⊎_elim
+      (λ (here : (q ≡ edge.0) × (g ≡ edge.1)). along_keeps edges q (met edge.0 edge.1 q inflow) cs vs (one_meets edge.0 q edge.1 inflow cs vs (subst (λ (k : PlainFrame). Both k cs vs) here.1 h) here.0))
+      (λ (later : Among q g edges). along_meets edges q g (met edge.0 edge.1 q inflow) cs vs h later) e
 
-module _ (law : JoinsHold) (caps : Caps) (code : List (Option Insn)) where
-  unless_keeps : (r : Option Rule) (flown inflow : Option PlainFrame) (cs : List (Option Value)) → Meets flown cs → Meets inflow cs → Meets (unless_refused r flown inflow) cs
-  unless_keeps None flown inflow cs a b = a
-  unless_keeps (Some rule) flown inflow cs a b = b
+module _ (law : JoinsHold) (rules : RuleSet) (caps : Caps) (code : List (Option Insn)) where
+  unless_keeps : (r : Option Rule) (flown inflow : Option PlainFrame) (cs vs : List (Option Value)) → Meets flown cs vs → Meets inflow cs vs → Meets (unless_refused r flown inflow) cs vs
+  unless_keeps None flown inflow cs vs a b = a
+  unless_keeps (Some rule) flown inflow cs vs a b = b
 
-  flow_keeps : (p q : ℕ) (o : Option Insn) (frame inflow : Option PlainFrame) (cs : List (Option Value)) → Meets inflow cs → Meets (flow_from caps code p q o frame inflow) cs
-  flow_keeps p q None frame inflow cs h = h
-  flow_keeps p q (Some i) None inflow cs h = h
-  flow_keeps p q (Some i) (Some f) inflow cs h = unless_keeps (rule_at caps code p i (Some f)) (along (flow i p f) q inflow) inflow cs (along_keeps law (flow i p f) q inflow cs h) h
+  flow_keeps : (p q : ℕ) (o : Option Insn) (frame inflow : Option PlainFrame) (cs vs : List (Option Value)) → Meets inflow cs vs → Meets (flow_from caps code p q o frame inflow) cs vs
+  flow_keeps p q None frame inflow cs vs h = h
+  flow_keeps p q (Some i) None inflow cs vs h = h
+  flow_keeps p q (Some i) (Some f) inflow cs vs h = unless_keeps (rule_at caps code p i (Some f)) (along (flow (room_of i) i p f) q inflow) inflow cs vs (along_keeps law (flow (room_of i) i p f) q inflow cs vs h) h
 
   -- the flow from slot p is in what the slots below n bring to q, where p is below n
-  flowed : (table : Table) (p q : ℕ) (i : Insn) (f g : PlainFrame) (cs : List (Option Value)) → fetch code p ≡ Some i → frame_at table p ≡ Some f → rule_at caps code p i (Some f) ≡ None → HoldsEach g.registers cs → Among q g (flow i p f) → (n : ℕ) → p < n → Meets (incoming caps code table q n) cs
-  flowed table p q i f g cs at is none h to zero lt = absurd (omega arith)
-  flowed table p q i f g cs at is none h to (suc n) lt =
-      ⊎_elim (λ less. flow_keeps n q (fetch code n) (frame_at table n) (incoming caps code table q n) cs (flowed table p q i f g cs at is none h to n less))
-      (λ le. let same : p ≡ n = omega arith in subst (λ n. Meets (incoming caps code table q (suc n)) cs) same here) (cases_lt p n)
+  flowed : (table : Table) (p q : ℕ) (i : Insn) (f g : PlainFrame) (cs vs : List (Option Value)) → fetch code p ≡ Some i → frame_at table p ≡ Some f → rule_at caps code p i (Some f) ≡ None → Both g cs vs → Among q g (flow (room_of i) i p f) → (n : ℕ) → p < n → Meets (incoming rules caps code table q n) cs vs
+  flowed table p q i f g cs vs at is none h to zero lt = absurd (omega arith)
+  flowed table p q i f g cs vs at is none h to (suc n) lt =
+      ⊎_elim (λ less. flow_keeps n q (fetch code n) (frame_at table n) (incoming rules caps code table q n) cs vs (flowed table p q i f g cs vs at is none h to n less))
+      (λ le. let same : p ≡ n = omega arith in subst (λ n. Meets (incoming rules caps code table q (suc n)) cs vs) same here) (cases_lt p n)
     where
-      here : Meets (incoming caps code table q (suc p)) cs
+      here : Meets (incoming rules caps code table q (suc p)) cs vs
       here =
-          let inflow = incoming caps code table q p in
-          subst (λ o. Meets o cs) (sym (ap (λ o. flow_from caps code p q o (frame_at table p) inflow) at
+          let inflow = incoming rules caps code table q p in
+          subst (λ o. Meets o cs vs) (sym (ap (λ o. flow_from caps code p q o (frame_at table p) inflow) at
           ∙ ap (λ f. flow_from caps code p q (Some i) f inflow) is
-          ∙ ap (λ r. unless_refused r (along (flow i p f) q inflow) inflow) none)) (along_meets law (flow i p f) q g inflow cs h to)
+          ∙ ap (λ r. unless_refused r (along (flow (room_of i) i p f) q inflow) inflow) none)) (along_meets law (flow (room_of i) i p f) q g inflow cs vs h to)
 
   -- so the frame at the slot is true of what the flow is true of
-  pub arrives : (p q : ℕ) (i : Insn) (f g : PlainFrame) (cs : List (Option Value)) → fetch code p ≡ Some i → frame_at (whole_table caps code) p ≡ Some f → rule_at caps code p i (Some f) ≡ None → HoldsEach g.registers cs → Among q g (flow i p f) → p < q → q < length code → Meets (frame_at (whole_table caps code) q) cs
-  arrives p q i f g cs at is none h to lt inside =
-      subst (λ o. Meets o cs) (sym (whole_at caps code q inside)) (flowed (whole_table caps code) p q i f g cs at is none h to q lt)
+  pub arrives : (p q : ℕ) (i : Insn) (f g : PlainFrame) (cs vs : List (Option Value)) → fetch code p ≡ Some i → frame_at (whole_table rules caps code) p ≡ Some f → rule_at caps code p i (Some f) ≡ None → Both g cs vs → Among q g (flow (room_of i) i p f) → p < q → q < length code → Meets (frame_at (whole_table rules caps code) q) cs vs
+  arrives p q i f g cs vs at is none h to lt inside =
+      subst (λ o. Meets o cs vs) (sym (whole_at rules caps code q inside)) (flowed (whole_table rules caps code) p q i f g cs vs at is none h to q lt)
 
 module _ (caps : Caps) (code : List (Option Insn)) where
   -- an edge goes forward, to an instruction
@@ -135,7 +146,7 @@ module _ (caps : Caps) (code : List (Option Insn)) where
   either q a b g None y e = inr (only q b g y e)
   either q a b g (Some h) y e = ⊎_elim (λ (here : (q ≡ a) × (g ≡ h)). inl here.0) (λ (later : Among q g (edge_to b y)). inr (only q b g y later)) e
 
-  pub edge : (p q : ℕ) (i : Insn) (f g : PlainFrame) → p < 2 ^ 62 → Fits i → Passed caps code p i f → Among q g (flow i p f) → Edge p q
+  pub edge : (p q : ℕ) (i : Insn) (f g : PlainFrame) → p < 2 ^ 62 → Fits i → Passed caps code p i f → Among q g (flow (room_of i) i p f) → Edge p q
   edge p q (Alu bits operation d x) f g small fit ok e = next_computed p q (p + 1) g f d _ (omega arith) (not_false _ ok.falls) e
   edge p q (Neg bits d) f g small fit ok e = next_computed p q (p + 1) g f d _ (omega arith) (not_false _ ok.falls) e
   edge p q (Mov bits d x) f g small fit ok e = next_computed p q (p + 1) g f d _ (omega arith) (not_false _ ok.falls) e
@@ -144,8 +155,8 @@ module _ (caps : Caps) (code : List (Option Insn)) where
   edge p q (LoadWide d value) f g small fit ok e = next_computed p q (p + 2) g f d (Some (Num (constant value))) (omega arith) (not_false _ ok.falls) e
   edge p q (Load width d from offset) f g small fit ok e = next_computed p q (p + 1) g f d _ (omega arith) (not_false _ ok.falls) e
   edge p q (LoadSigned width d from offset) f g small fit ok e = next_computed p q (p + 1) g f d _ (omega arith) (not_false _ ok.falls) e
-  edge p q (Store width to offset x) f g small fit ok e = next p q (p + 1) g (Some f) (omega arith) (not_false _ ok.falls) e
-  edge p q (Call helper) f g small fit ok e = next p q (p + 1) g (Some (after_call f)) (omega arith) (not_false _ ok.falls) e
+  edge p q (Store width to offset x) f g small fit ok e = next p q (p + 1) g (Some (after_store f (kind_at f to) (extended offset) (byte_count width) (operand_kind f x))) (omega arith) (not_false _ ok.falls) e
+  edge p q (Call helper) f g small fit ok e = next p q (p + 1) g (Some (after_call (room_of (Call helper)) f)) (omega arith) (not_false _ ok.falls) e
   edge p q (Jump offset) f g small fit ok e = jump p q offset g _ small (near16 offset fit) ok.backward (not_false _ ok.target) e
   edge p q (JumpLong distance) f g small fit ok e = jump p q distance g _ small fit.sfits ok.backward (not_false _ ok.target) e
   edge p q (Branch bits comparison d x offset) f g small fit ok e = ⊎_elim

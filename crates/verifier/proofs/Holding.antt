@@ -64,7 +64,7 @@ pub record Read (f : PlainFrame) (s : Typed) (r : ℕ) : Type 0 where
   pub there : reg s r ≡ Some value
   pub holds : HoldsValue (kind_at f r) value
 
-pub read : (f : PlainFrame) (s : Typed) (r : ℕ) → Holds f s → is_unset (kind_at f r) ≡ false → Read f s r
+pub read : {known : ℕ} (f : PlainFrame) (s : Typed) (r : ℕ) → Holds known f s → is_unset (kind_at f r) ≡ false → Read f s r
 read f s r h e = let v = set_in f.registers s.regs r h.regs e in record { value = v.0; there = v.1; holds = v.2 }
 
 pub num_is_set : (x : PlainKind) → is_num x ≡ true → is_unset x ≡ false
@@ -105,7 +105,7 @@ form_of (Ptr r k) (values.Num n) h = h
 form_of (Ptr r k) (values.Ptr q at) h = tt
 
 -- what an instruction reads beside its destination
-pub operand_read : (f : PlainFrame) (s : Typed) (source : Operand) → Holds f s → operand_is_unset f source ≡ false → (v : Value) × (operand_value s source ≡ Some v) × HasForm (operand_kind f source) v
+pub operand_read : {known : ℕ} (f : PlainFrame) (s : Typed) (source : Operand) → Holds known f s → operand_is_unset f source ≡ false → (v : Value) × (operand_value s source ≡ Some v) × HasForm (operand_kind f source) v
 operand_read f s (Immediate imm) h e = (values.Num (extended imm), refl, tt)
 operand_read f s (Register r) h e = let v = read f s r h e in (v.value, v.there, form_of (kind_at f r) v.value v.holds)
 

@@ -4,8 +4,11 @@ pub mod Passed
 pub mod Boxes
 pub mod Tables
 pub mod Numbers
+pub mod Memory
 pub mod Calls
 pub mod Flows
+pub mod Lengths
+pub mod Allowed
 pub mod Acts
 pub mod Verdicts
 pub mod Runs

@@ -7,7 +7,7 @@ use Rattle.bpf_decode.specs.declared.insn.Insn.{Insn}
 use Rattle.bpf_machine.specs.declared.caps.Caps.{Caps}
 use Rattle.verifier.specs.declared.rule.Rule.{Rule}
 use Rattle.abstract_regs.specs.Frame.{PlainFrame}
-use Rattle.verifier.specs.Rules.{is_backward, misses, falls_off, is_local_call, reads_unset, writes_r10, computes_with_pointer, compares_pointer, stores_pointer, leaves_region, writes_read_only, calls_unknown, passes_wrong_kind, writes_in_reader, returns_pointer, breaks_shape, breaks_frame, breaks, shape_rules, frame_rules, first_broken, shape_rule, frame_rule, else_under, rule_at}
+use Rattle.verifier.specs.Rules.{is_backward, misses, falls_off, is_local_call, reads_unset, writes_r10, computes_with_pointer, compares_pointer, stores_pointer, leaves_region, writes_read_only, calls_unknown, passes_wrong_kind, writes_in_reader, returns_pointer, reads_pointer, breaks_shape, breaks_frame, breaks, shape_rules, frame_rules, first_broken, shape_rule, frame_rule, else_under, rule_at}
 
 pub neither : (a b : Bool) → (a || b) ≡ false → (a ≡ false) × (b ≡ false)
 neither true b h = absurd (false≢true (sym h))
@@ -78,6 +78,7 @@ pub record Passed (caps : Caps) (code : List (Option Insn)) (p : ℕ) (i : Insn)
   pub kinds : passes_wrong_kind caps f i ≡ false
   pub writes : writes_in_reader caps i ≡ false
   pub returns : returns_pointer f i ≡ false
+  pub parts : reads_pointer caps f i ≡ false
 
 neither_rule : (o : Option Rule) (f : PlainFrame) (rule_of : PlainFrame → Option Rule) → else_under o (Some f) rule_of ≡ None → (o ≡ None) × (rule_of f ≡ None)
 neither_rule None f rule_of h = (refl, h)
@@ -105,4 +106,5 @@ passed caps code p i f h =
       kinds = c.1.1.1.1.0;
       writes = c.1.1.1.1.1.0;
       returns = c.1.1.1.1.1.1.0;
+      parts = c.1.1.1.1.1.1.1.0;
     }

@@ -6,23 +6,27 @@ use Rattle.std.proofs.lemmas.Option.{none-some, same_Some, slice_get_within}
 use Rattle.bpf_decode.specs.declared.insn.Insn.{Insn}
 use Rattle.bpf_decode.specs.declared.insn.Insn.TheVariants.{Alu, Neg, Mov, MovSigned, End, LoadWide, Load, LoadSigned, Store, Jump, JumpLong, Branch, Call, CallLocal, Exit}
 use Rattle.bpf_decode.specs.Instruction.{Fits, AllFit, slots, slot_count}
-use Rattle.bpf_decode.specs.declared.region.Region.{Region}
-use Rattle.bpf_decode.specs.declared.region.Region.TheVariants.{Input, Output, Stack}
+use Rattle.bpf_decode.specs.declared.rule_set.RuleSet.{RuleSet}
+use Rattle.bpf_decode.specs.declared.rule_set.RuleSet.TheVariants.{One, Two}
 use Rattle.bpf_machine.specs.declared.caps.Caps.{Caps}
 use Rattle.object_store.specs.Object.{PlainObject, IsObject, AreBytes, IsValue}
-use Rattle.helpers.specs.Laws.{EffectsAreWithinLimits}
 use Rattle.bpf_machine.specs.declared.limits.TheConstants.{STACK_SIZE}
-use Rattle.bpf_machine.specs.State.{◌>>=◌, cells, AreCapacities, opening, Outcome, Ended, Stuck, outcome_of, one_more, goes_on, ends}
-use Rattle.bpf_machine.specs.Typed.{Typed, fetch, typed_act, typed_exit_of, typed_run, typed_entry}
+use Rattle.bpf_machine.specs.State.{◌>>=◌, AreCapacities, opening, Outcome, Ended, Stuck, one_more, goes_on}
+use Rattle.bpf_machine.specs.Slots.{slot_values}
+use Rattle.bpf_machine.specs.Typed.{Typed, fetch, typed_act, typed_exit_of, typed_outcome, typed_ends, typed_run, typed_entry}
 use Rattle.abstract_regs.specs.Frame.{PlainFrame, HoldsEach}
-use Rattle.verifier.specs.Frame.{entry, Holds}
-use Rattle.abstract_regs.specs.Laws.{JoinsHold, EntryHolds, AccessesFit}
+use Rattle.abstract_regs.specs.Kind.{Num}
+use Rattle.abstract_num.specs.Plain.{constant}
+use Rattle.verifier.specs.Frame.{known_slots, entry, Holds}
 use Rattle.verifier.specs.Pass.{Sound, IsSound, AllSound}
 use Rattle.verifier.specs.Rules.{rule_at}
 use Rattle.verifier.specs.Verdict.{frame_at, whole_table, code_verdict}
 use Rattle.verifier.proofs.Bytes.{bytes_append, bytes_zeros}
 use Rattle.verifier.proofs.Passed.{Passed, passed}
+use Rattle.verifier.proofs.Allowed.{allowed}
 use Rattle.verifier.proofs.Acts.{steps, exits}
+use Rattle.verifier.proofs.Memory.{Laws, length-values, zeros_known, begins_within}
+use Rattle.verifier.proofs.Lengths.{long_at}
 use Rattle.verifier.proofs.Tables.{whole_at}
 use Rattle.verifier.proofs.Flows.{arrives, edge}
 use Rattle.verifier.proofs.Verdicts.{passes}
@@ -73,7 +77,18 @@ pub inner : {A : Type 0} (o : Option (Option A)) (x : A) → (o >>= λ c. c) ≡
 inner None x h = absurd (none-some x h)
 inner (Some o) x h = ap Some h
 
-module _ (joins : JoinsHold) (accesses : AccessesFit) (effects : EffectsAreWithinLimits) (caps : Caps) (sizes : AreCapacities caps) (is : List Insn) (sound : AllSound caps (slots is)) (fit : AllFit is) (small : length (slots is) < 2 ^ 62) (clear : code_verdict caps (slots is) ≡ None) (before : PlainObject) where
+few_known : (rules : RuleSet) → known_slots rules ≤ 64
+few_known One = omega arith
+few_known Two = omega arith
+
+first_long : (rules : RuleSet) (caps : Caps) → length (entry rules caps).slots ≡ known_slots rules
+first_long rules caps = length-replicate (known_slots rules) (Num (constant 0))
+
+module _ (laws : Laws) (caps : Caps) (sizes : AreCapacities caps) (rules : RuleSet) (is : List Insn) (sound : AllSound rules caps (slots is)) (fit : AllFit is) (small : length (slots is) < 2 ^ 62) (clear : code_verdict rules caps (slots is) ≡ None) (before : PlainObject) where
+  -- of how many slots frames speak
+  abbrev known : ℕ
+  known = known_slots rules
+
   abbrev Ends : ℕ → Typed → Type 0
   Ends n s = (o : Outcome) × (k : ℕ) × (typed_run caps (slots is) before n s ≡ Ended o k)
 
@@ -82,17 +97,14 @@ module _ (joins : JoinsHold) (accesses : AccessesFit) (effects : EffectsAreWithi
     insn : Insn
     there : fetch (slots is) s.slot ≡ Some insn
     frame : PlainFrame
-    is_frame : frame_at (whole_table caps (slots is)) s.slot ≡ Some frame
-    holds : Holds frame s
+    is_frame : frame_at (whole_table rules caps (slots is)) s.slot ≡ Some frame
+    holds : Holds known frame s
 
   clear_at : (s : Typed) (a : At s) → rule_at caps (slots is) s.slot a.insn (Some a.frame) ≡ None
-  clear_at s a = sym (ap (rule_at caps (slots is) s.slot a.insn) a.is_frame) ∙ passes caps (slots is) s.slot a.insn clear a.there
+  clear_at s a = sym (ap (rule_at caps (slots is) s.slot a.insn) a.is_frame) ∙ passes rules caps (slots is) s.slot a.insn clear a.there
 
   sound_at : (s : Typed) (a : At s) → Sound a.insn s.slot a.frame
   sound_at s a = subst (IsSound a.insn s.slot) a.is_frame (sound s.slot a.insn a.there)
-
-  regs_of : (s : Typed) (a : At s) → HoldsEach (a.frame).registers s.regs
-  regs_of s a = let h = a.holds in h.regs
 
   abbrev Later : ℕ → Type 0
   Later n = (t : Typed) → left (drop t.slot (slots is)) ≤ n → At t → Ends n t
@@ -103,19 +115,22 @@ module _ (joins : JoinsHold) (accesses : AccessesFit) (effects : EffectsAreWithi
       let ok = passed caps (slots is) s.slot a.insn a.frame rule in
       let fits = fit_at is s.slot a.insn fit a.there in
       let kept = sound_at s a in
-      let t = steps accesses effects caps sizes (slots is) s.slot a.frame s a.holds kept.fits a.insn fits ok not_exit in
-      let reached = kept.keeps fits s.regs t.to.regs t.to.slot (regs_of s a) t.moves in
+      let h = a.holds in
+      let t = steps laws caps sizes (slots is) s.slot known (few_known rules) a.frame s h kept.fits a.insn fits ok not_exit in
+      let vs = slot_values known s.memory.stack in
+      let ws = slot_values known (t.to).memory.stack in
+      let reached = kept.keeps fits (allowed caps (slots is) s.slot a.frame a.insn ok) s.regs t.to.regs vs ws t.to.slot (h.long ∙ sym (length-values known s.memory.stack)) h.regs h.slots t.moves in
       let inside = slice_get_within (slots is) s.slot (Some a.insn) (inner _ _ a.there) in
       let e = edge caps (slots is) s.slot t.to.slot a.insn a.frame reached.frame (omega arith) fits ok reached.there in
       let inside' = slice_get_within (slots is) t.to.slot (Some e.to) (inner _ _ e.begins) in
-      let meets = arrives joins caps (slots is) s.slot t.to.slot a.insn a.frame reached.frame t.to.regs a.there a.is_frame rule reached.holds reached.there e.forward inside' in
+      let meets = arrives laws.joins rules caps (slots is) s.slot t.to.slot a.insn a.frame reached.frame t.to.regs ws a.there a.is_frame rule (record { holds = reached.holds; slots = reached.slots }) reached.there e.forward inside' in
       let fewer = left_further (slots is) s.slot t.to.slot a.insn a.there e.forward in
       let le' : left (drop t.to.slot (slots is)) ≤ n = omega arith in
-      let rest = later t.to le' (record { insn = e.to; there = e.begins; frame = meets.frame; is_frame = meets.is; holds = record { regs = meets.holds; within = t.within } }) in (
+      let rest = later t.to le' (record { insn = e.to; there = e.begins; frame = meets.frame; is_frame = meets.is; holds = record { regs = meets.holds; long = long_at laws.along laws.joined known rules caps (slots is) (first_long rules caps) t.to.slot inside' meets.frame meets.is; slots = meets.slots; within = t.within } }) in (
         rest.0,
         suc rest.1,
-        ap (λ o. ends before s (o >>= λ i. typed_exit_of i s) (goes_on (o >>= λ i. typed_act caps i s) (typed_run caps (slots is) before n))) a.there
-            ∙ ap (λ c. ends before s c (goes_on (typed_act caps a.insn s) (typed_run caps (slots is) before n))) no_code
+        ap (λ o. typed_ends before s (o >>= λ i. typed_exit_of i s) (goes_on (o >>= λ i. typed_act caps i s) (typed_run caps (slots is) before n))) a.there
+            ∙ ap (λ c. typed_ends before s c (goes_on (typed_act caps a.insn s) (typed_run caps (slots is) before n))) no_code
             ∙ ap (λ o. goes_on o (typed_run caps (slots is) before n)) t.act
             ∙ ap one_more rest.2,
       )
@@ -124,10 +139,10 @@ module _ (joins : JoinsHold) (accesses : AccessesFit) (effects : EffectsAreWithi
   out n s a exit =
       let ok = subst (λ i. Passed caps (slots is) s.slot i a.frame) exit (passed caps (slots is) s.slot a.insn a.frame (clear_at s a)) in
       let c = exits caps (slots is) s.slot a.frame s a.holds ok in (
-        outcome_of before c.0 s,
+        typed_outcome before c.0 s,
         1,
-        ap (λ o. ends before s (o >>= λ i. typed_exit_of i s) (goes_on (o >>= λ i. typed_act caps i s) (typed_run caps (slots is) before n))) (a.there ∙ ap Some exit)
-            ∙ ap (λ c. ends before s c Stuck) c.1,
+        ap (λ o. typed_ends before s (o >>= λ i. typed_exit_of i s) (goes_on (o >>= λ i. typed_act caps i s) (typed_run caps (slots is) before n))) (a.there ∙ ap Some exit)
+            ∙ ap (λ c. typed_ends before s c Stuck) c.1,
       )
 
   here : (n : ℕ) (s : Typed) (a : At s) (i : Insn) → a.insn ≡ i → left (drop s.slot (slots is)) ≤ suc n → Later n → Ends (suc n) s
@@ -152,21 +167,29 @@ module _ (joins : JoinsHold) (accesses : AccessesFit) (effects : EffectsAreWithi
       let none = left_further (slots is) s.slot (s.slot + 1) a.insn a.there (omega arith) in absurd (omega arith)
   ends_from (suc n) s le a = here n s a a.insn refl le (ends_from n)
 
-  pub ends_at_exit : (s : Typed) (i : Insn) → s.slot ≡ 0 → fetch (slots is) 0 ≡ Some i → Holds (entry caps) s → Ends (length is) s
-  ends_at_exit s i first at h =
+  pub ends_at_exit : (s : Typed) (i : Insn) → s.slot ≡ 0 → fetch (slots is) 0 ≡ Some i → Holds known (entry rules caps) s → Ends (length is) s
+  ends_at_exit s i zero_slot at h =
       let all = left_slots is in
       let some = slice_get_within (slots is) 0 (Some i) (inner _ _ at) in
-      let whole : drop s.slot (slots is) ≡ slots is = ap (λ n. drop n (slots is)) first in
+      let whole : drop s.slot (slots is) ≡ slots is = ap (λ n. drop n (slots is)) zero_slot in
       let le : left (drop s.slot (slots is)) ≤ length is = omega (arith, ap left whole) in
-      ends_from (length is) s le (record { insn = i; there = ap (fetch (slots is)) first ∙ at; frame = entry caps; is_frame = ap (frame_at (whole_table caps (slots is))) first ∙ whole_at caps (slots is) 0 some; holds = h })
+      ends_from (length is) s le (record { insn = i; there = ap (fetch (slots is)) zero_slot ∙ at; frame = entry rules caps; is_frame = ap (frame_at (whole_table rules caps (slots is))) zero_slot ∙ whole_at rules caps (slots is) 0 some; holds = h })
 
-pub entry_is_held : EntryHolds → (caps : Caps) → AreCapacities caps → (object : PlainObject) (caller : ℕ) (input : List ℕ) → IsObject object → caller < 2 ^ 32 → length input ≤ caps.in_cap → AreBytes input → Holds (entry caps) (typed_entry caps object caller input)
-entry_is_held law caps sizes object caller input ob client le bytes =
+-- what a method begins with, the entry frame is true of
+pub entry_is_held : Laws → (rules : RuleSet) (caps : Caps) → AreCapacities caps → (object : PlainObject) (caller : ℕ) (input : List ℕ) → IsObject object → caller < 2 ^ 32 → length input ≤ caps.in_cap → AreBytes input → Holds (known_slots rules) (entry rules caps) (typed_entry caps object caller input)
+entry_is_held laws rules caps sizes object caller input ob client le bytes =
     let most = sizes.input in
-    record { regs = law caps.in_cap STACK_SIZE (length input) (omega (arith, most)) (omega arith) le; within = record { memory = cells_are; object = ob; client = client } }
+    let first = laws.entry caps.in_cap STACK_SIZE (known_slots rules) (length input) (omega (arith, most)) (omega arith) le in
+    record {
+      regs = first.registers;
+      long = first_long rules caps;
+      slots = subst (HoldsEach (entry rules caps).slots) (sym (zeros_known laws.slots (known_slots rules) (few_known rules))) first.slots;
+      within = record { memory = begins_within laws.slots (known_slots rules) (typed_entry caps object caller input).memory input_is output_is refl; object = ob; client = client };
+    }
   where
-    cells_are : (r : Region) → IsValue (cells (opening caps input) r)
-    cells_are Input =
+    input_is : IsValue (opening caps input).input
+    input_is =
         (omega (arith, le, sizes.input, length-append input (replicate (caps.in_cap - length input) 0), length-replicate {A = ℕ} (caps.in_cap - length input) 0), bytes_append input _ bytes (bytes_zeros _))
-    cells_are Output = (omega (arith, sizes.output, length-replicate {A = ℕ} caps.out_cap 0), bytes_zeros caps.out_cap)
-    cells_are Stack = (omega (arith, length-replicate {A = ℕ} STACK_SIZE 0), bytes_zeros STACK_SIZE)
+
+    output_is : IsValue (opening caps input).output
+    output_is = (omega (arith, sizes.output, length-replicate {A = ℕ} caps.out_cap 0), bytes_zeros caps.out_cap)

@@ -6,6 +6,7 @@ use Rattle.std.proofs.lemmas.List.{length-set, length-replicate}
 use Rattle.std.proofs.lemmas.Option.{none-some, same_Some}
 use Rattle.bpf_decode.specs.declared.insn.Insn.{Insn}
 use Rattle.bpf_decode.specs.Instruction.{slot_count}
+use Rattle.bpf_decode.specs.declared.rule_set.RuleSet.{RuleSet}
 use Rattle.bpf_machine.specs.declared.caps.Caps.{Caps}
 use Rattle.bpf_machine.specs.State.{◌>>=◌}
 use Rattle.bpf_machine.specs.Typed.{fetch}
@@ -14,7 +15,8 @@ use Rattle.abstract_regs.specs.Frame.{PlainFrame}
 use Rattle.abstract_regs.specs.Flow.{flow}
 use Rattle.verifier.specs.declared.pass.Pass.{Pass}
 use Rattle.verifier.specs.Frame.{entry}
-use Rattle.verifier.specs.Rules.{rule_at}
+use Rattle.verifier.specs.Rules.{rule_at, room_of}
+use Rattle.verifier.specs.Kept.{unbox}
 use Rattle.verifier.specs.Verdict.{Table, frame_at, joined, met, along, unless_refused, flow_from, start, incoming, frames, whole_table, IsTable, or_else, first_refused}
 use Rattle.verifier.specs.Pass.{merged, fallen, awaited, flown, HasLeft, IsSpaced, IsSound}
 
@@ -56,69 +58,70 @@ merged_is table a q g lt = ⊎_elim
     (λ n. ap (λ o. o >>= λ f. f) (get_other table a q _ n) ∙ sym (cond-false _ _ _ (ne_eqb a q n))) (cases_eq a q)
 
 -- both edges of a jump: one is kept, the other falls through
-pub leaves_both : (frame : Option PlainFrame) (f g h : PlainFrame) (kept kept' : Table) (i : Insn) (p a w : ℕ) → frame ≡ Some f → flow i p f ≡ (a, h) ∷ (p + slot_count i, g) ∷ [] → w ≡ slot_count i → kept' ≡ merged kept a h → HasLeft frame kept i p (record { current = Some g; landing = p + w; kept = kept' })
-leaves_both frame f g h kept kept' i p a w is flows width merges = record {
-  landing = ap (λ n. p + n) width;
+pub leaves_both : (frame : Option PlainFrame) (f g h : PlainFrame) (kept : Table) (pass : Pass) (i : Insn) (p a w : ℕ) → frame ≡ Some f → flow (room_of i) i p f ≡ (a, h) ∷ (p + slot_count i, g) ∷ [] → w ≡ slot_count i → pass.kept ≡ merged kept a h → unbox pass.current ≡ Some g → pass.landing ≡ p + w → HasLeft frame kept i p pass
+leaves_both frame f g h kept pass i p a w is flows width merges current landing = record {
+  landing = landing ∙ ap (λ n. p + n) width;
   size = ap length merges ∙ length-set kept a _;
   flows = λ q lt.
-      ap (λ n. met (p + n) g q (frame_at kept' q)) width
+      ap (λ o. fallen o pass.landing q (frame_at pass.kept q)) current
+      ∙ ap (λ n. met n g q (frame_at pass.kept q)) (landing ∙ ap (λ n. p + n) width)
       ∙ ap (met (p + slot_count i) g q) (ap (λ t. frame_at t q) merges ∙ merged_is kept a q h lt)
       ∙ sym (ap (λ o. flown o i p q (frame_at kept q)) is ∙ ap (λ edges. along edges q (frame_at kept q)) flows);
 }
 
-module _ (caps : Caps) (code : List (Option Insn)) where
+module _ (rules : RuleSet) (caps : Caps) (code : List (Option Insn)) where
   -- frames below n alone count
-  agree : (t t' : Table) (q n : ℕ) → ((p : ℕ) → p < n → frame_at t p ≡ frame_at t' p) → incoming caps code t q n ≡ incoming caps code t' q n
+  agree : (t t' : Table) (q n : ℕ) → ((p : ℕ) → p < n → frame_at t p ≡ frame_at t' p) → incoming rules caps code t q n ≡ incoming rules caps code t' q n
   agree t t' q zero h = refl
   agree t t' q (suc p) h =
-      ap (λ f. flow_from caps code p q (fetch code p) f (incoming caps code t q p)) (h p (omega arith))
+      ap (λ f. flow_from caps code p q (fetch code p) f (incoming rules caps code t q p)) (h p (omega arith))
       ∙ ap (λ inflow. flow_from caps code p q (fetch code p) (frame_at t' p) inflow) (agree t t' q p (λ k lt. h k (omega arith)))
 
-  length-frames : (n : ℕ) → length (frames caps code n) ≡ n
+  length-frames : (n : ℕ) → length (frames rules caps code n) ≡ n
   length-frames zero = refl
   length-frames (suc n) =
       let h = length-frames n in
-      let a = length-append (frames caps code n) (incoming caps code (frames caps code n) n n ∷ []) in
+      let a = length-append (frames rules caps code n) (incoming rules caps code (frames rules caps code n) n n ∷ []) in
       omega (arith, a, h)
 
-  frames_at : (n p : ℕ) → p < n → frame_at (frames caps code n) p ≡ incoming caps code (frames caps code p) p p
+  frames_at : (n p : ℕ) → p < n → frame_at (frames rules caps code n) p ≡ incoming rules caps code (frames rules caps code p) p p
   frames_at zero p lt = absurd (omega arith)
   frames_at (suc n) p lt =
       let long = length-frames n in
       ⊎_elim
-      (λ less. ap (λ o. o >>= λ f. f) (get_left (frames caps code n) _ p (omega arith)) ∙ frames_at n p less)
+      (λ less. ap (λ o. o >>= λ f. f) (get_left (frames rules caps code n) _ p (omega arith)) ∙ frames_at n p less)
       (λ same. let same' : p ≡ n = omega arith in
-      ap (λ o. o >>= λ f. f) (get_last (frames caps code n) (incoming caps code (frames caps code n) n n) p (omega arith))
-      ∙ ap (λ m. incoming caps code (frames caps code m) m m) (sym same')) (cases_lt p n)
+      ap (λ o. o >>= λ f. f) (get_last (frames rules caps code n) (incoming rules caps code (frames rules caps code n) n n) p (omega arith))
+      ∙ ap (λ m. incoming rules caps code (frames rules caps code m) m m) (sym same')) (cases_lt p n)
 
   -- each slot's frame is the join of all that flows into it from lower slots
-  pub whole_at : (q : ℕ) → q < length code → frame_at (whole_table caps code) q ≡ incoming caps code (whole_table caps code) q q
+  pub whole_at : (q : ℕ) → q < length code → frame_at (whole_table rules caps code) q ≡ incoming rules caps code (whole_table rules caps code) q q
   whole_at q lt =
       frames_at (length code) q lt
-      ∙ agree (frames caps code q) (whole_table caps code) q q (λ p less. frames_at q p less ∙ sym (frames_at (length code) p (omega arith)))
+      ∙ agree (frames rules caps code q) (whole_table rules caps code) q q (λ p less. frames_at q p less ∙ sym (frames_at (length code) p (omega arith)))
 
-  pub whole_is_table : IsTable caps code (whole_table caps code)
+  pub whole_is_table : IsTable rules caps code (whole_table rules caps code)
   whole_is_table = record { long = length-frames (length code); each = whole_at }
 
-  only_below : (table : Table) → IsTable caps code table → (n q : ℕ) → q < n → q < length code → frame_at table q ≡ frame_at (whole_table caps code) q
+  only_below : (table : Table) → IsTable rules caps code table → (n q : ℕ) → q < n → q < length code → frame_at table q ≡ frame_at (whole_table rules caps code) q
   only_below table t zero q below lt = absurd (omega arith)
   only_below table t (suc n) q below lt =
       t.each q lt
-      ∙ agree table (whole_table caps code) q q (λ p less. only_below table t n p (omega arith) (omega arith))
+      ∙ agree table (whole_table rules caps code) q q (λ p less. only_below table t n p (omega arith) (omega arith))
       ∙ sym (whole_at q lt)
 
   -- every table is the whole table
-  pub only_table : (table : Table) → IsTable caps code table → (q : ℕ) → q < length code → frame_at table q ≡ frame_at (whole_table caps code) q
+  pub only_table : (table : Table) → IsTable rules caps code table → (q : ℕ) → q < length code → frame_at table q ≡ frame_at (whole_table rules caps code) q
   only_table table t q lt = only_below table t (q + 1) q (omega arith) lt
 
   -- before slot p the pass has, of each slot to come, what the slots below p bring
   pub record Brought (p : ℕ) (pass : Pass) : Type 0 where
     pub size : length pass.kept ≡ length code
-    pub at : (q : ℕ) → p ≤ q → q < length code → awaited pass q ≡ incoming caps code (whole_table caps code) q p
+    pub at : (q : ℕ) → p ≤ q → q < length code → awaited pass q ≡ incoming rules caps code (whole_table rules caps code) q p
     pub gap : (q : ℕ) → p ≤ q → q < pass.landing → fetch code q ≡ None
 
   -- so at slot p it has the slot's frame
-  pub its_frame : (p : ℕ) (pass : Pass) → p < length code → Brought p pass → awaited pass p ≡ frame_at (whole_table caps code) p
+  pub its_frame : (p : ℕ) (pass : Pass) → p < length code → Brought p pass → awaited pass p ≡ frame_at (whole_table rules caps code) p
   its_frame p pass lt b = b.at p (omega arith) lt ∙ sym (whole_at p lt)
 
   blank : (n q : ℕ) → frame_at (replicate n None) q ≡ None
@@ -126,19 +129,19 @@ module _ (caps : Caps) (code : List (Option Insn)) where
   blank (suc n) zero = refl
   blank (suc n) (suc q) = blank n q
 
-  begins : (q : ℕ) → met 0 (entry caps) q None ≡ start caps q
+  begins : (q : ℕ) → met 0 (entry rules caps) q None ≡ start rules caps q
   begins zero = refl
-  begins (suc q) = cond-false (0 == suc q) (Some (entry caps)) None (ne_eqb 0 (suc q) (λ e. absurd (omega (arith, e))))
+  begins (suc q) = cond-false (0 == suc q) (Some (entry rules caps)) None (ne_eqb 0 (suc q) (λ e. absurd (omega (arith, e))))
 
-  pub brought_first : (pass : Pass) → pass.kept ≡ replicate (length code) None → pass.current ≡ Some (entry caps) → pass.landing ≡ 0 → Brought 0 pass
+  pub brought_first : (pass : Pass) → pass.kept ≡ replicate (length code) None → unbox pass.current ≡ Some (entry rules caps) → pass.landing ≡ 0 → Brought 0 pass
   brought_first pass kept current landing =
       let none : Table = replicate (length code) None in
       record {
         size = ap length kept ∙ length-replicate (length code) None;
         at = λ q le lt.
             ap (λ o. fallen o pass.landing q (frame_at pass.kept q)) current
-            ∙ ap (λ n. met n (entry caps) q (frame_at pass.kept q)) landing
-            ∙ ap (met 0 (entry caps) q) (ap (λ t. frame_at t q) kept ∙ blank (length code) q)
+            ∙ ap (λ n. met n (entry rules caps) q (frame_at pass.kept q)) landing
+            ∙ ap (met 0 (entry rules caps) q) (ap (λ t. frame_at t q) kept ∙ blank (length code) q)
             ∙ begins q;
         gap = λ q le lt. absurd (omega (arith, landing));
       }
@@ -151,7 +154,7 @@ module _ (caps : Caps) (code : List (Option Insn)) where
       subst (λ n. Brought n pass) (one_more p) (record {
         size = b.size;
         at = λ q le lt.
-            b.at q (omega arith) lt ∙ sym (ap (λ i. flow_from caps code p q i (frame_at (whole_table caps code) p) (incoming caps code (whole_table caps code) q p)) none);
+            b.at q (omega arith) lt ∙ sym (ap (λ i. flow_from caps code p q i (frame_at (whole_table rules caps code) p) (incoming rules caps code (whole_table rules caps code) q p)) none);
         gap = λ q le lt. b.gap q (omega arith) lt;
       })
 
@@ -161,12 +164,12 @@ module _ (caps : Caps) (code : List (Option Insn)) where
 
   flows_on : (p q : ℕ) (i : Insn) (frame inflow : Option PlainFrame) → rule_at caps code p i frame ≡ None → flow_from caps code p q (Some i) frame inflow ≡ flown frame i p q inflow
   flows_on p q i None inflow none = refl
-  flows_on p q i (Some f) inflow none = ap (λ r. unless_refused r (along (flow i p f) q inflow) inflow) none
+  flows_on p q i (Some f) inflow none = ap (λ r. unless_refused r (along (flow (room_of i) i p f) q inflow) inflow) none
 
   -- a slot that no rule refuses brings its flow
   pub brought_more : (p : ℕ) (i : Insn) (pass pass' : Pass) → IsSpaced code → p < length code → fetch code p ≡ Some i → rule_at caps code p i (awaited pass p) ≡ None → HasLeft (awaited pass p) (slice_set pass.kept p None) i p pass' → Brought p pass → Brought (p + 1) pass'
   brought_more p i pass pass' spaced lt at none left b =
-      let table = whole_table caps code in
+      let table = whole_table rules caps code in
       let frame = its_frame p pass lt b in
       let clear : rule_at caps code p i (frame_at table p) ≡ None = ap (rule_at caps code p i) (sym frame) ∙ none in
       let landed : pass.landing ≤ p = ⊎_elim (λ (less : p < pass.landing). absurd (none-some i (sym (b.gap p (omega arith) less) ∙ at))) (λ (le : pass.landing ≤ p). le) (cases_lt p pass.landing) in
@@ -177,10 +180,10 @@ module _ (caps : Caps) (code : List (Option Insn)) where
             left.flows q (omega (arith, long, b.size))
             ∙ ap (λ o. flown o i p q (frame_at (slice_set pass.kept p None) q)) frame
             ∙ ap (flown (frame_at table p) i p q) (ap (λ o. o >>= λ f. f) (get_other pass.kept p q None (λ e. absurd (omega (arith, e))))
-            ∙ sym (elsewhere pass.current pass.landing q (frame_at pass.kept q) (λ e. absurd (omega (arith, e, landed))))
+            ∙ sym (elsewhere (unbox pass.current) pass.landing q (frame_at pass.kept q) (λ e. absurd (omega (arith, e, landed))))
             ∙ b.at q (omega arith) lt)
-            ∙ sym (ap (λ j. flow_from caps code p q j (frame_at table p) (incoming caps code table q p)) at
-            ∙ flows_on p q i (frame_at table p) (incoming caps code table q p) clear);
+            ∙ sym (ap (λ j. flow_from caps code p q j (frame_at table p) (incoming rules caps code table q p)) at
+            ∙ flows_on p q i (frame_at table p) (incoming rules caps code table q p) clear);
         gap = λ q le lt. spaced p q i at (omega arith) (omega (arith, left.landing));
       })
 
@@ -191,25 +194,25 @@ module _ (caps : Caps) (code : List (Option Insn)) where
       (λ n. ap (λ o. o >>= λ f. f) (get_other table a q _ n) ∙ sym (cond-false _ _ _ (ne_eqb a q n))) (cases_eq a q)
 
   -- the slots from p on, where nothing begins at p
-  pub refused_over : (p : ℕ) → slice_get code p ≡ Some None → first_refused caps code (whole_table caps code) p (drop p code) ≡ first_refused caps code (whole_table caps code) (p + 1) (drop (p + 1) code)
-  refused_over p at = ap (first_refused caps code (whole_table caps code) p) (drop_head code p None at)
+  pub refused_over : (p : ℕ) → slice_get code p ≡ Some None → first_refused caps code (whole_table rules caps code) p (drop p code) ≡ first_refused caps code (whole_table rules caps code) (p + 1) (drop (p + 1) code)
+  refused_over p at = ap (first_refused caps code (whole_table rules caps code) p) (drop_head code p None at)
 
   -- the slots from p on, where an instruction begins at p
   pub refused_at : (p : ℕ) (i : Insn) (pass : Pass) (r : Option Rule) → p < length code → slice_get code p ≡ Some (Some i) → Brought p pass → rule_at caps code p i (awaited pass p) ≡ r →
-      first_refused caps code (whole_table caps code) p (drop p code) ≡ or_else p r (first_refused caps code (whole_table caps code) (p + 1) (drop (p + 1) code))
+      first_refused caps code (whole_table rules caps code) p (drop p code) ≡ or_else p r (first_refused caps code (whole_table rules caps code) (p + 1) (drop (p + 1) code))
   refused_at p i pass r lt at b is =
-      ap (first_refused caps code (whole_table caps code) p) (drop_head code p (Some i) at)
-      ∙ ap (λ r. or_else p r (first_refused caps code (whole_table caps code) (p + 1) (drop (p + 1) code))) (ap (rule_at caps code p i) (sym (its_frame p pass lt b)) ∙ is)
+      ap (first_refused caps code (whole_table rules caps code) p) (drop_head code p (Some i) at)
+      ∙ ap (λ r. or_else p r (first_refused caps code (whole_table rules caps code) (p + 1) (drop (p + 1) code))) (ap (rule_at caps code p i) (sym (its_frame p pass lt b)) ∙ is)
 
   -- the flows of the slots below p keep what is held
   abbrev pub SoundBelow : ℕ → Type 0
-  SoundBelow p = (k : ℕ) (i : Insn) → k < p → fetch code k ≡ Some i → IsSound i k (frame_at (whole_table caps code) k)
+  SoundBelow p = (k : ℕ) (i : Insn) → k < p → fetch code k ≡ Some i → IsSound i k (frame_at (whole_table rules caps code) k)
 
-  pub sound_more : (p : ℕ) (i : Insn) → SoundBelow p → fetch code p ≡ Some i → IsSound i p (frame_at (whole_table caps code) p) → SoundBelow (p + 1)
+  pub sound_more : (p : ℕ) (i : Insn) → SoundBelow p → fetch code p ≡ Some i → IsSound i p (frame_at (whole_table rules caps code) p) → SoundBelow (p + 1)
   sound_more p i below at here k j lt is = ⊎_elim (λ less. below k j less is)
       (λ le. let same : p ≡ k = omega arith in
       let same' : i ≡ j = same_Some i j (sym at ∙ ap (fetch code) same ∙ is) in
-      subst (λ n. IsSound j n (frame_at (whole_table caps code) n)) same (subst (λ j. IsSound j p (frame_at (whole_table caps code) p)) same' here)) (cases_lt k p)
+      subst (λ n. IsSound j n (frame_at (whole_table rules caps code) n)) same (subst (λ j. IsSound j p (frame_at (whole_table rules caps code) p)) same' here)) (cases_lt k p)
 
   pub sound_over : (p : ℕ) → SoundBelow p → fetch code p ≡ None → SoundBelow (p + 1)
   sound_over p below none k j lt is = ⊎_elim (λ less. below k j less is)

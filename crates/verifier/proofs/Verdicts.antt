@@ -4,14 +4,15 @@ use Rattle.std.specs.Prelude.{slice_get}
 use Rattle.std.proofs.lemmas.Option.{none-some, same_Some}
 use Rattle.bpf_decode.specs.declared.insn.Insn.{Insn}
 use Rattle.bpf_decode.specs.Instruction.{slots}
-use Rattle.bpf_decode.specs.Class.{ClassMethod}
+use Rattle.bpf_decode.specs.Class.{ClassMethod, Class}
+use Rattle.bpf_decode.specs.declared.rule_set.RuleSet.{RuleSet}
 use Rattle.bpf_machine.specs.declared.caps.Caps.{Caps}
 use Rattle.bpf_machine.specs.Typed.{fetch}
 use Rattle.bpf_machine.specs.Safe.{caps_of}
 use Rattle.verifier.specs.declared.rule.Rule.{Rule}
 use Rattle.verifier.specs.declared.refusal.Refusal.{Refusal}
 use Rattle.verifier.specs.Rules.{rule_at}
-use Rattle.verifier.specs.Verdict.{Table, frame_at, whole_table, or_else, first_refused, code_verdict, method_verdict, or_later, verdict_from, Refuses, IsDeserved}
+use Rattle.verifier.specs.Verdict.{Table, frame_at, whole_table, or_else, first_refused, code_verdict, method_verdict, or_later, verdict_from, class_verdict, Refuses, IsDeserved}
 use Rattle.verifier.proofs.Passed.{rule_is_broken}
 
 none_left : (p : ℕ) (r : Option Rule) (later : Option (ℕ × Rule)) → or_else p r later ≡ None → (r ≡ None) × (later ≡ None)
@@ -64,49 +65,49 @@ module _ (caps : Caps) (code : List (Option Insn)) (table : Table) where
       record { past = suc r.past; is = omega (arith, r.is); insn = r.insn; there = r.there; rule = r.rule }) c
 
 -- no rule refuses what begins at a slot
-pub passes : (caps : Caps) (code : List (Option Insn)) (p : ℕ) (i : Insn) → code_verdict caps code ≡ None → fetch code p ≡ Some i → rule_at caps code p i (frame_at (whole_table caps code) p) ≡ None
-passes caps code p i h at =
+pub passes : (rules : RuleSet) (caps : Caps) (code : List (Option Insn)) (p : ℕ) (i : Insn) → code_verdict rules caps code ≡ None → fetch code p ≡ Some i → rule_at caps code p i (frame_at (whole_table rules caps code) p) ≡ None
+passes rules caps code p i h at =
     let same : 0 + p ≡ p = omega arith in
-    subst (λ n. rule_at caps code n i (frame_at (whole_table caps code) n) ≡ None) same (passes_from caps code (whole_table caps code) code 0 p i h at)
+    subst (λ n. rule_at caps code n i (frame_at (whole_table rules caps code) n) ≡ None) same (passes_from caps code (whole_table rules caps code) code 0 p i h at)
 
 -- an instruction begins at the slot that is refused
-pub begins_there : (caps : Caps) (code : List (Option Insn)) (at : ℕ × Rule) → code_verdict caps code ≡ Some at → (i : Insn) × (fetch code at.0 ≡ Some i)
-begins_there caps code at h =
-    let r = refused_from caps code (whole_table caps code) code 0 at h in
+pub begins_there : (rules : RuleSet) (caps : Caps) (code : List (Option Insn)) (at : ℕ × Rule) → code_verdict rules caps code ≡ Some at → (i : Insn) × (fetch code at.0 ≡ Some i)
+begins_there rules caps code at h =
+    let r = refused_from caps code (whole_table rules caps code) code 0 at h in
     let same : r.past ≡ at.0 = omega (arith, r.is) in
     (r.insn, ap (fetch code) (sym same) ∙ r.there)
 
 -- a rule refuses the slot that is refused
-method_refuses : (m : ClassMethod) (at : ℕ × Rule) → method_verdict m ≡ Some at → Refuses m at.0 at.1
-method_refuses m at h =
+method_refuses : (rules : RuleSet) (m : ClassMethod) (at : ℕ × Rule) → method_verdict rules m ≡ Some at → Refuses rules m at.0 at.1
+method_refuses rules m at h =
     let caps = caps_of m in
     let code = slots m.instructions in
-    let r = refused_from caps code (whole_table caps code) code 0 at h in
+    let r = refused_from caps code (whole_table rules caps code) code 0 at h in
     let same : r.past ≡ at.0 = omega (arith, r.is) in
-    record { insn = r.insn; there = ap (fetch code) (sym same) ∙ r.there; refused = rule_is_broken caps code at.0 r.insn at.1 (frame_at (whole_table caps code) at.0) r.rule }
+    record { insn = r.insn; there = ap (fetch code) (sym same) ∙ r.there; refused = rule_is_broken caps code at.0 r.insn at.1 (frame_at (whole_table rules caps code) at.0) r.rule }
 
 -- the method that is refused
-record Found (ms : List ClassMethod) (k : ℕ) (r : Refusal) : Type 0 where
+record Found (rules : RuleSet) (ms : List ClassMethod) (k : ℕ) (r : Refusal) : Type 0 where
   past : ℕ
   is : r.method ≡ k + past
   method : ClassMethod
   there : slice_get ms past ≡ Some method
-  refuses : Refuses method r.slot r.rule
+  refuses : Refuses rules method r.slot r.rule
 
-in_method : (m : ClassMethod) (ms : List ClassMethod) (k : ℕ) (r : Refusal) (o : Option (ℕ × Rule)) → method_verdict m ≡ o → (verdict_from (k + 1) ms ≡ Some r → Found ms (k + 1) r) → or_later k o (verdict_from (k + 1) ms) ≡ Some r → Found (m ∷ ms) k r
-in_method m ms k r None e later h =
+in_method : (rules : RuleSet) (m : ClassMethod) (ms : List ClassMethod) (k : ℕ) (r : Refusal) (o : Option (ℕ × Rule)) → method_verdict rules m ≡ o → (verdict_from rules (k + 1) ms ≡ Some r → Found rules ms (k + 1) r) → or_later k o (verdict_from rules (k + 1) ms) ≡ Some r → Found rules (m ∷ ms) k r
+in_method rules m ms k r None e later h =
     let f = later h in record { past = suc f.past; is = omega (arith, f.is); method = f.method; there = f.there; refuses = f.refuses }
-in_method m ms k r (Some at) e later h =
+in_method rules m ms k r (Some at) e later h =
     let same = same_Some (record { method = k; slot = at.0; rule = at.1 }) r h in
-    record { past = 0; is = omega (arith, ap (λ (r : Refusal). r.method) same); method = m; there = refl; refuses = subst (λ (r : Refusal). Refuses m r.slot r.rule) same (method_refuses m at e) }
+    record { past = 0; is = omega (arith, ap (λ (r : Refusal). r.method) same); method = m; there = refl; refuses = subst (λ (r : Refusal). Refuses rules m r.slot r.rule) same (method_refuses rules m at e) }
 
-found_from : (ms : List ClassMethod) (k : ℕ) (r : Refusal) → verdict_from k ms ≡ Some r → Found ms k r
-found_from [] k r h = absurd (none-some r h)
-found_from (m ∷ ms) k r h = in_method m ms k r (method_verdict m) refl (found_from ms (k + 1) r) h
+found_from : (rules : RuleSet) (ms : List ClassMethod) (k : ℕ) (r : Refusal) → verdict_from rules k ms ≡ Some r → Found rules ms k r
+found_from rules [] k r h = absurd (none-some r h)
+found_from rules (m ∷ ms) k r h = in_method rules m ms k r (method_verdict rules m) refl (found_from rules ms (k + 1) r) h
 
 -- the rule of a refusal refuses the instruction at its slot of its method
-pub deserved : (ms : List ClassMethod) (r : Refusal) → verdict_from 0 ms ≡ Some r → IsDeserved ms r
-deserved ms r h =
-    let f = found_from ms 0 r h in
+pub deserved : (c : Class) (r : Refusal) → class_verdict c ≡ Some r → IsDeserved c r
+deserved c r h =
+    let f = found_from c.rules c.methods 0 r h in
     let same : f.past ≡ r.method = omega (arith, f.is) in
-    record { method = f.method; there = ap (slice_get ms) (sym same) ∙ f.there; refuses = f.refuses }
+    record { method = f.method; there = ap (slice_get c.methods) (sym same) ∙ f.there; refuses = f.refuses }

@@ -1,25 +1,40 @@
 -- The frame of a method's entry, and what a frame is true of.
-use Rattle.std.specs.Prelude.{◌^◌, ◌<◌}
-use Rattle.bpf_decode.specs.declared.region.Region.{Region}
+use Rattle.std.specs.Prelude.{◌≡◌, ℕ, ◌^◌, ◌<◌, ◌≤◌, length}
 use Rattle.bpf_decode.specs.declared.region.Region.TheVariants.{Stack}
+use Rattle.bpf_decode.specs.declared.rule_set.RuleSet.{RuleSet}
+use Rattle.bpf_decode.specs.declared.rule_set.RuleSet.TheVariants.{One, Two}
 use Rattle.bpf_machine.specs.declared.caps.Caps.{Caps}
 use Rattle.object_store.specs.Object.{IsValue, IsObject}
-use Rattle.bpf_machine.specs.State.{cells, size}
-use Rattle.bpf_machine.specs.Typed.{Typed}
+use Rattle.bpf_machine.specs.State.{size}
+use Rattle.bpf_machine.specs.Typed.{Typed, TypedMemory}
+use Rattle.bpf_machine.specs.Slots.{slot_value, slot_values, IsStack, IsNumber}
 use Rattle.abstract_regs.specs.Frame.{PlainFrame, HoldsEach, entry_frame}
 
--- what is known as a method begins
-abbrev pub entry : Caps → PlainFrame
-entry caps = entry_frame caps.in_cap (size caps Stack)
+-- of how many slots of the stack frames speak: in rule set 2 of all
+abbrev pub known_slots : RuleSet → ℕ
+known_slots One = 0
+known_slots Two = 64
 
--- what holds of every state within the limits: regions no longer than a value may be, an object within its limits, a
--- client's number
-pub record IsWithin (s : Typed) : Type 0 where
-  pub memory : (r : Region) → IsValue (cells s.memory r)
+-- what is known as a method begins
+abbrev pub entry : RuleSet → Caps → PlainFrame
+entry rules caps = entry_frame caps.in_cap (size caps Stack) (known_slots rules)
+
+-- regions no longer than a value may be, a stack of 64 slots, of which all but the first ones, so many, are numbers
+pub record IsMemory (known : ℕ) (m : TypedMemory) : Type 0 where
+  pub input : IsValue m.input
+  pub output : IsValue m.output
+  pub stack : IsStack 64 m.stack
+  pub rest : (j : ℕ) → known ≤ j → j < 64 → IsNumber (slot_value m.stack j)
+
+-- what holds of every state within the limits: its memory, an object within its limits, a client's number
+pub record IsWithin (known : ℕ) (s : Typed) : Type 0 where
+  pub memory : IsMemory known s.memory
   pub object : IsObject s.object
   pub client : s.caller < 2 ^ 32
 
--- a state that a frame is true of
-pub record Holds (f : PlainFrame) (s : Typed) : Type 0 where
+-- A state that a frame is true of. The frame speaks of the first slots, so many: of all of them, or of none.
+pub record Holds (known : ℕ) (f : PlainFrame) (s : Typed) : Type 0 where
   pub regs : HoldsEach f.registers s.regs
-  pub within : IsWithin s
+  pub long : length f.slots ≡ known
+  pub slots : HoldsEach f.slots (slot_values known s.memory.stack)
+  pub within : IsWithin known s

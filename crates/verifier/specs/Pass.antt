@@ -2,12 +2,15 @@
 use Rattle.std.specs.Prelude.{◌≡◌, ℕ, ◌+◌, ◌<◌, List, Option, Some, None, slice_set, length}
 use Rattle.bpf_decode.specs.declared.insn.Insn.{Insn}
 use Rattle.bpf_decode.specs.Instruction.{slot_count}
+use Rattle.bpf_decode.specs.declared.rule_set.RuleSet.{RuleSet}
 use Rattle.bpf_machine.specs.Typed.{fetch}
 use Rattle.abstract_regs.specs.Frame.{PlainFrame}
 use Rattle.abstract_regs.specs.Flow.{flow}
 use Rattle.abstract_regs.specs.Moves.{EachFits, Keeps}
 use Rattle.verifier.specs.declared.pass.Pass.{Pass}
 use Rattle.bpf_machine.specs.declared.caps.Caps.{Caps}
+use Rattle.verifier.specs.Rules.{room_of}
+use Rattle.verifier.specs.Kept.{unbox}
 use Rattle.verifier.specs.Verdict.{Table, frame_at, joined, met, along, whole_table}
 
 abbrev pub merged : Table → ℕ → PlainFrame → Table
@@ -20,12 +23,12 @@ fallen (Some g) landing q inflow = met landing g q inflow
 
 -- what the pass has of the flows into slot q
 abbrev pub awaited : Pass → ℕ → Option PlainFrame
-awaited pass q = fallen pass.current pass.landing q (frame_at pass.kept q)
+awaited pass q = fallen (unbox pass.current) pass.landing q (frame_at pass.kept q)
 
 -- the flows of an instruction whose frame is given, if there is one
 abbrev pub flown : Option PlainFrame → Insn → ℕ → ℕ → Option PlainFrame → Option PlainFrame
 flown None i p q inflow = inflow
-flown (Some f) i p q inflow = along (flow i p f) q inflow
+flown (Some f) i p q inflow = along (flow (room_of i) i p f) q inflow
 
 -- what the pass has once instruction i at slot p, whose frame is given, has flowed on
 pub record HasLeft (frame : Option PlainFrame) (kept : Table) (i : Insn) (p : ℕ) (pass : Pass) : Type 0 where
@@ -35,7 +38,7 @@ pub record HasLeft (frame : Option PlainFrame) (kept : Table) (i : Insn) (p : �
 
 -- what the flow of instruction i at slot p keeps, of a frame that is given, if there is one
 pub record Sound (i : Insn) (p : ℕ) (f : PlainFrame) : Type 0 where
-  pub keeps : Keeps i p f
+  pub keeps : Keeps (room_of i) i p f
   pub fits : EachFits f.registers
 
 abbrev pub IsSound : Insn → ℕ → Option PlainFrame → Type 0
@@ -43,8 +46,8 @@ IsSound i p None = Unit {0}
 IsSound i p (Some f) = Sound i p f
 
 -- every flow of a method keeps what its frame holds
-abbrev pub AllSound : Caps → List (Option Insn) → Type 0
-AllSound caps code = (p : ℕ) (i : Insn) → fetch code p ≡ Some i → IsSound i p (frame_at (whole_table caps code) p)
+abbrev pub AllSound : RuleSet → Caps → List (Option Insn) → Type 0
+AllSound rules caps code = (p : ℕ) (i : Insn) → fetch code p ≡ Some i → IsSound i p (frame_at (whole_table rules caps code) p)
 
 -- no instruction begins within another
 abbrev pub IsSpaced : List (Option Insn) → Type 0

@@ -3,7 +3,7 @@ use Rattle.std.specs.Prelude.{ℕ, List, ◌++◌, codes}
 use Rattle.std.specs.Fmt.{decimal}
 use Rattle.verifier.specs.declared.refusal.Refusal.{Refusal}
 use Rattle.verifier.specs.declared.rule.Rule.{Rule}
-use Rattle.verifier.specs.declared.rule.Rule.TheVariants.{Backward, Target, FallsOff, LocalCall, UnsetRead, WritesR10, PointerArithmetic, PointerCompare, PointerStored, Bounds, ReadOnlyRegion, UnknownHelper, HelperArgument, WriteHelperInReader, ReturnsPointer, NoMemory}
+use Rattle.verifier.specs.declared.rule.Rule.TheVariants.{Backward, Target, FallsOff, LocalCall, UnsetRead, WritesR10, PointerArithmetic, PointerCompare, PointerStored, Bounds, ReadOnlyRegion, UnknownHelper, HelperArgument, WriteHelperInReader, ReturnsPointer, NoMemory, PointerBytes}
 
 abbrev pub rule_number : Rule → ℕ
 rule_number Backward = 1
@@ -22,6 +22,7 @@ rule_number HelperArgument = 13
 rule_number WriteHelperInReader = 14
 rule_number ReturnsPointer = 15
 rule_number NoMemory = 16
+rule_number PointerBytes = 17
 
 abbrev pub rule_name : Rule → List ℕ
 rule_name Backward = codes "Backward"
@@ -40,6 +41,7 @@ rule_name HelperArgument = codes "HelperArgument"
 rule_name WriteHelperInReader = codes "WriteHelperInReader"
 rule_name ReturnsPointer = codes "ReturnsPointer"
 rule_name NoMemory = codes "NoMemory"
+rule_name PointerBytes = codes "PointerBytes"
 
 -- a rule's text: number and name
 abbrev pub rule_text : Rule → List ℕ

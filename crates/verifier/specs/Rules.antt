@@ -13,13 +13,24 @@ use Rattle.helpers.specs.Effect.{Takes}
 use Rattle.helpers.specs.Table.{signature_of}
 use Rattle.bpf_machine.specs.Typed.{extended, fetch}
 use Rattle.verifier.specs.declared.rule.Rule.{Rule}
-use Rattle.verifier.specs.declared.rule.Rule.TheVariants.{Backward, Target, FallsOff, LocalCall, UnsetRead, WritesR10, PointerArithmetic, PointerCompare, PointerStored, Bounds, ReadOnlyRegion, UnknownHelper, HelperArgument, WriteHelperInReader, ReturnsPointer}
+use Rattle.verifier.specs.declared.rule.Rule.TheVariants.{Backward, Target, FallsOff, LocalCall, UnsetRead, WritesR10, PointerArithmetic, PointerCompare, PointerStored, Bounds, ReadOnlyRegion, UnknownHelper, HelperArgument, WriteHelperInReader, ReturnsPointer, PointerBytes}
 use Rattle.verifier.specs.declared.fault.Fault.{Fault}
-use Rattle.verifier.specs.declared.fault.Fault.TheVariants.{NotSet, OutOfRegion, ReadOnly, WrongKind}
-use Rattle.abstract_regs.specs.Kind.{is_unset, is_num, is_ptr}
+use Rattle.verifier.specs.declared.fault.Fault.TheVariants.{NotSet, OutOfRegion, ReadOnly, WrongKind, HasPointer}
+use Rattle.abstract_regs.specs.Kind.{PlainKind, is_unset, is_num, is_ptr}
+use Rattle.abstract_regs.specs.declared.content.Content.{Content}
+use Rattle.abstract_regs.specs.declared.content.Content.TheVariants.{Nothing, Pointer}
+use Rattle.abstract_regs.specs.Slots.{stack_place, stack_range, access_span, meets}
 use Rattle.verifier.specs.Kind.{alu_refused, mov_refused, stays, is_read_only, is_at_most, range_leaves, range_is_read_only}
-use Rattle.abstract_regs.specs.Frame.{PlainFrame, kind_at, operand_kind}
+use Rattle.abstract_regs.specs.Frame.{PlainFrame, kind_at, operand_kind, kept_kind}
 use Rattle.abstract_regs.specs.Flow.{target}
+
+-- What is read of the stack: a load of w bytes that stays in its region, or a helper's range that does, may touch a slot
+-- of which nothing is known, or one with a pointer.
+abbrev pub load_meets : Content → Caps → PlainFrame → PlainKind → ℕ → ℕ → Bool
+load_meets content caps f x distance w = meets content (access_span (stack_place x distance) w) 0 f.slots && stays caps x distance w
+
+abbrev pub range_meets : Content → Caps → PlainFrame → PlainKind → PlainKind → Bool
+range_meets content caps f x y = meets content (stack_range x y) 0 f.slots && not (range_leaves caps x y)
 
 -- an instruction begins at the slot
 abbrev pub begins_at : List (Option Insn) → ℕ → Bool
@@ -53,7 +64,7 @@ is_local_call i = false
 abbrev pub has_fault : Caps → PlainFrame → Fault → Argument → ℕ → Bool
 has_fault caps f NotSet Number k = is_unset (kind_at f k)
 has_fault caps f NotSet OutputLength k = is_unset (kind_at f k)
-has_fault caps f NotSet Readable k = is_unset (kind_at f k) || is_unset (kind_at f (k + 1))
+has_fault caps f NotSet Readable k = (is_unset (kind_at f k) || is_unset (kind_at f (k + 1))) || range_meets Nothing caps f (kind_at f k) (kind_at f (k + 1))
 has_fault caps f NotSet Writable k = is_unset (kind_at f k) || is_unset (kind_at f (k + 1))
 has_fault caps f OutOfRegion Number k = false
 has_fault caps f OutOfRegion OutputLength k = false
@@ -63,6 +74,10 @@ has_fault caps f ReadOnly Number k = false
 has_fault caps f ReadOnly OutputLength k = false
 has_fault caps f ReadOnly Readable k = false
 has_fault caps f ReadOnly Writable k = range_is_read_only (kind_at f k) (kind_at f (k + 1))
+has_fault caps f HasPointer Number k = false
+has_fault caps f HasPointer OutputLength k = false
+has_fault caps f HasPointer Readable k = range_meets Pointer caps f (kind_at f k) (kind_at f (k + 1))
+has_fault caps f HasPointer Writable k = false
 has_fault caps f WrongKind Number k = not (is_num (kind_at f k))
 has_fault caps f WrongKind OutputLength k = not (is_at_most caps.out_cap (kind_at f k))
 has_fault caps f WrongKind Readable k = not (is_ptr (kind_at f k)) || not (is_num (kind_at f (k + 1)))
@@ -87,6 +102,22 @@ taken_fault caps f fault (Some takes) = some_fault caps f fault takes.arguments 
 abbrev pub call_fault : Caps → PlainFrame → Fault → ℕ → Bool
 call_fault caps f fault helper = taken_fault caps f fault (signature_of helper)
 
+-- the first register of the range that a helper writes: no helper has two
+abbrev pub room_in : List Argument → ℕ → Option ℕ
+room_in [] k = None
+room_in (Number ∷ more) k = room_in more (k + 1)
+room_in (OutputLength ∷ more) k = room_in more (k + 1)
+room_in (Readable ∷ more) k = room_in more (k + 2)
+room_in (Writable ∷ more) k = Some k
+
+abbrev pub room_of_takes : Option Takes → Option ℕ
+room_of_takes None = None
+room_of_takes (Some takes) = room_in takes.arguments 1
+
+abbrev pub room_of : Insn → Option ℕ
+room_of (Call helper) = room_of_takes (signature_of helper)
+room_of i = None
+
 abbrev pub operand_is_unset : PlainFrame → Operand → Bool
 operand_is_unset f (Immediate imm) = false
 operand_is_unset f (Register r) = is_unset (kind_at f r)
@@ -98,8 +129,8 @@ reads_unset caps f (Mov bits dst source) = operand_is_unset f source
 reads_unset caps f (MovSigned extension dst src) = is_unset (kind_at f src)
 reads_unset caps f (End order width dst) = is_unset (kind_at f dst)
 reads_unset caps f (LoadWide dst value) = false
-reads_unset caps f (Load width dst from offset) = is_unset (kind_at f from)
-reads_unset caps f (LoadSigned width dst from offset) = is_unset (kind_at f from)
+reads_unset caps f (Load width dst from offset) = is_unset (kind_at f from) || load_meets Nothing caps f (kind_at f from) (extended offset) (byte_count width)
+reads_unset caps f (LoadSigned width dst from offset) = is_unset (kind_at f from) || load_meets Nothing caps f (kind_at f from) (extended offset) (signed_byte_count width)
 reads_unset caps f (Store width to offset source) = is_unset (kind_at f to) || operand_is_unset f source
 reads_unset caps f (Jump offset) = false
 reads_unset caps f (JumpLong distance) = false
@@ -133,7 +164,7 @@ compares_pointer f (Branch bits comparison dst source offset) = is_ptr (kind_at 
 compares_pointer f i = false
 
 abbrev pub stores_pointer : PlainFrame → Insn → Bool
-stores_pointer f (Store width to offset (Register src)) = is_ptr (kind_at f src)
+stores_pointer f (Store width to offset (Register src)) = is_ptr (kind_at f src) && not (is_some (kept_kind f (kind_at f to) (extended offset) (byte_count width)))
 stores_pointer f i = false
 
 -- a load, a store or a helper's range that may leave its region; a load or store through a number
@@ -170,6 +201,14 @@ abbrev pub returns_pointer : PlainFrame → Insn → Bool
 returns_pointer f Exit = is_ptr (kind_at f 0)
 returns_pointer f i = false
 
+-- a load of a part of a pointer, or a helper's range with one
+abbrev pub reads_pointer : Caps → PlainFrame → Insn → Bool
+reads_pointer caps f (Load width dst from offset) =
+    not (is_some (kept_kind f (kind_at f from) (extended offset) (byte_count width))) && load_meets Pointer caps f (kind_at f from) (extended offset) (byte_count width)
+reads_pointer caps f (LoadSigned width dst from offset) = load_meets Pointer caps f (kind_at f from) (extended offset) (signed_byte_count width)
+reads_pointer caps f (Call helper) = call_fault caps f HasPointer helper
+reads_pointer caps f i = false
+
 -- a test of the frame, where there is one
 abbrev pub under : Option PlainFrame → (PlainFrame → Bool) → Bool
 under None test = false
@@ -183,7 +222,7 @@ breaks_shape code p i FallsOff = falls_off code p i
 breaks_shape code p i LocalCall = is_local_call i
 breaks_shape code p i rule = false
 
--- and 5 to 15, of what is known before it
+-- and 5 to 15 and 17, of what is known before it
 abbrev pub breaks_frame : Caps → PlainFrame → Insn → Rule → Bool
 breaks_frame caps f i UnsetRead = reads_unset caps f i
 breaks_frame caps f i WritesR10 = writes_r10 i
@@ -196,6 +235,7 @@ breaks_frame caps f i UnknownHelper = calls_unknown i
 breaks_frame caps f i HelperArgument = passes_wrong_kind caps f i
 breaks_frame caps f i WriteHelperInReader = writes_in_reader caps i
 breaks_frame caps f i ReturnsPointer = returns_pointer f i
+breaks_frame caps f i PointerBytes = reads_pointer caps f i
 breaks_frame caps f i rule = false
 
 -- whether a rule refuses instruction i at slot p, where there is such a frame
@@ -208,7 +248,7 @@ shape_rules = Backward ∷ Target ∷ FallsOff ∷ LocalCall ∷ []
 
 abbrev pub frame_rules : List Rule
 frame_rules =
-    UnsetRead ∷ WritesR10 ∷ PointerArithmetic ∷ PointerCompare ∷ PointerStored ∷ Bounds ∷ ReadOnlyRegion ∷ UnknownHelper ∷ HelperArgument ∷ WriteHelperInReader ∷ ReturnsPointer ∷ []
+    UnsetRead ∷ WritesR10 ∷ PointerArithmetic ∷ PointerCompare ∷ PointerStored ∷ Bounds ∷ ReadOnlyRegion ∷ UnknownHelper ∷ HelperArgument ∷ WriteHelperInReader ∷ ReturnsPointer ∷ PointerBytes ∷ []
 
 abbrev pub first_broken : (Rule → Bool) → List Rule → Option Rule
 first_broken test [] = None

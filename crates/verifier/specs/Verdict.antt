@@ -3,6 +3,7 @@ use Rattle.std.specs.Prelude.{◌≡◌, ℕ, zero, suc, ◌+◌, ◌<◌, List,
 use Rattle.bpf_decode.specs.declared.insn.Insn.{Insn}
 use Rattle.bpf_decode.specs.Instruction.{slots}
 use Rattle.bpf_decode.specs.Class.{ClassMethod, Class}
+use Rattle.bpf_decode.specs.declared.rule_set.RuleSet.{RuleSet}
 use Rattle.bpf_machine.specs.declared.caps.Caps.{Caps}
 use Rattle.bpf_machine.specs.State.{◌>>=◌}
 use Rattle.bpf_machine.specs.Typed.{fetch}
@@ -14,7 +15,7 @@ use Rattle.verifier.specs.declared.refused.RefusedSlot.{RefusedSlot}
 use Rattle.abstract_regs.specs.Frame.{PlainFrame, join}
 use Rattle.abstract_regs.specs.Flow.{flow}
 use Rattle.verifier.specs.Frame.{entry}
-use Rattle.verifier.specs.Rules.{breaks, rule_at}
+use Rattle.verifier.specs.Rules.{breaks, rule_at, room_of}
 
 -- the frames of a method by slot, none where no flow comes
 abbrev pub Table : Type 0
@@ -47,37 +48,37 @@ abbrev pub flow_from : Caps → List (Option Insn) → ℕ → ℕ → Option In
 flow_from caps code p q None frame inflow = inflow
 flow_from caps code p q (Some i) None inflow = inflow
 flow_from caps code p q (Some i) (Some f) inflow =
-    unless_refused (rule_at caps code p i (Some f)) (along (flow i p f) q inflow) inflow
+    unless_refused (rule_at caps code p i (Some f)) (along (flow (room_of i) i p f) q inflow) inflow
 
 -- what a method begins with, at slot 0
-abbrev pub start : Caps → ℕ → Option PlainFrame
-start caps zero = Some (entry caps)
-start caps (suc q) = None
+abbrev pub start : RuleSet → Caps → ℕ → Option PlainFrame
+start rules caps zero = Some (entry rules caps)
+start rules caps (suc q) = None
 
 -- the join of all that flows into slot q from the slots below n
-abbrev pub incoming : Caps → List (Option Insn) → Table → ℕ → ℕ → Option PlainFrame
-incoming caps code table q zero = start caps q
-incoming caps code table q (suc p) = flow_from caps code p q (fetch code p) (frame_at table p) (incoming caps code table q p)
+abbrev pub incoming : RuleSet → Caps → List (Option Insn) → Table → ℕ → ℕ → Option PlainFrame
+incoming rules caps code table q zero = start rules caps q
+incoming rules caps code table q (suc p) = flow_from caps code p q (fetch code p) (frame_at table p) (incoming rules caps code table q p)
 
 -- The frames of the first n slots: each is the join of all that flows into its slot from lower slots.
-abbrev pub frames : Caps → List (Option Insn) → ℕ → Table
-frames caps code zero = []
-frames caps code (suc q) = frames caps code q ++ (incoming caps code (frames caps code q) q q ∷ [])
+abbrev pub frames : RuleSet → Caps → List (Option Insn) → ℕ → Table
+frames rules caps code zero = []
+frames rules caps code (suc q) = frames rules caps code q ++ (incoming rules caps code (frames rules caps code q) q q ∷ [])
 
-abbrev pub whole_table : Caps → List (Option Insn) → Table
-whole_table caps code = frames caps code (length code)
+abbrev pub whole_table : RuleSet → Caps → List (Option Insn) → Table
+whole_table rules caps code = frames rules caps code (length code)
 
 -- A table of a method's frames: at each slot the join of all that flows into it from lower slots, and of what the
 -- method begins with at slot 0.
-pub record IsTable (caps : Caps) (code : List (Option Insn)) (table : Table) : Type 0 where
+pub record IsTable (rules : RuleSet) (caps : Caps) (code : List (Option Insn)) (table : Table) : Type 0 where
   pub long : length table ≡ length code
-  pub each : (q : ℕ) → q < length code → frame_at table q ≡ incoming caps code table q q
+  pub each : (q : ℕ) → q < length code → frame_at table q ≡ incoming rules caps code table q q
 
 -- The whole table is one, and the only one.
 abbrev pub TableIsOne : Type 0
 TableIsOne =
-    (caps : Caps) (code : List (Option Insn)) →
-    IsTable caps code (whole_table caps code) × ((table : Table) → IsTable caps code table → (q : ℕ) → q < length code → frame_at table q ≡ frame_at (whole_table caps code) q)
+    (rules : RuleSet) (caps : Caps) (code : List (Option Insn)) →
+    IsTable rules caps code (whole_table rules caps code) × ((table : Table) → IsTable rules caps code table → (q : ℕ) → q < length code → frame_at table q ≡ frame_at (whole_table rules caps code) q)
 
 abbrev pub or_else : ℕ → Option Rule → Option (ℕ × Rule) → Option (ℕ × Rule)
 or_else p None later = later
@@ -90,46 +91,45 @@ first_refused caps code table p (None ∷ rest) = first_refused caps code table 
 first_refused caps code table p (Some i ∷ rest) =
     or_else p (rule_at caps code p i (frame_at table p)) (first_refused caps code table (p + 1) rest)
 
-abbrev pub code_verdict : Caps → List (Option Insn) → Option (ℕ × Rule)
-code_verdict caps code = first_refused caps code (whole_table caps code) 0 code
+abbrev pub code_verdict : RuleSet → Caps → List (Option Insn) → Option (ℕ × Rule)
+code_verdict rules caps code = first_refused caps code (whole_table rules caps code) 0 code
 
 -- Where the code is first refused: the slot and the lowest rule, the slot's instruction, and the frame before it.
-pub record IsFirstRefused (caps : Caps) (code : List (Option Insn)) (r : RefusedSlot) : Type 0 where
-  pub verdict : code_verdict caps code ≡ Some (r.slot, r.rule)
+pub record IsFirstRefused (rules : RuleSet) (caps : Caps) (code : List (Option Insn)) (r : RefusedSlot) : Type 0 where
+  pub verdict : code_verdict rules caps code ≡ Some (r.slot, r.rule)
   pub insn : fetch code r.slot ≡ Some r.insn
-  pub known : r.known ≡ frame_at (whole_table caps code) r.slot
+  pub known : r.known ≡ frame_at (whole_table rules caps code) r.slot
 
-abbrev pub method_verdict : ClassMethod → Option (ℕ × Rule)
-method_verdict m = code_verdict (caps_of m) (slots m.instructions)
+abbrev pub method_verdict : RuleSet → ClassMethod → Option (ℕ × Rule)
+method_verdict rules m = code_verdict rules (caps_of m) (slots m.instructions)
 
 abbrev pub or_later : ℕ → Option (ℕ × Rule) → Option Refusal → Option Refusal
 or_later k None later = later
 or_later k (Some at) later = Some (record { method = k; slot = at.0; rule = at.1 })
 
-abbrev pub verdict_from : ℕ → List ClassMethod → Option Refusal
-verdict_from k [] = None
-verdict_from k (m ∷ ms) = or_later k (method_verdict m) (verdict_from (k + 1) ms)
+abbrev pub verdict_from : RuleSet → ℕ → List ClassMethod → Option Refusal
+verdict_from rules k [] = None
+verdict_from rules k (m ∷ ms) = or_later k (method_verdict rules m) (verdict_from rules (k + 1) ms)
 
 -- the refusal of a method by its number in the class
-abbrev pub IsFirst : ℕ → ClassMethod → Refusal → Type 0
-IsFirst number m r = (r.method ≡ number) × (method_verdict m ≡ Some (r.slot, r.rule))
+abbrev pub IsFirst : RuleSet → ℕ → ClassMethod → Refusal → Type 0
+IsFirst rules number m r = (r.method ≡ number) × (method_verdict rules m ≡ Some (r.slot, r.rule))
 
--- The verdict: the first method with a refusal, its lowest refused slot, and at it the lowest rule. A class of rule set 2
--- is judged by the rules of set 1 too.
+-- The verdict: the first method with a refusal, its lowest refused slot, and at it the lowest rule.
 abbrev pub class_verdict : Class → Option Refusal
-class_verdict c = verdict_from 0 c.methods
+class_verdict c = verdict_from c.rules 0 c.methods
 
 abbrev pub out_of_memory : Refusal
 out_of_memory = record { method = 0; slot = 0; rule = NoMemory }
 
 -- A rule refuses the instruction at a slot of a method, by the table of rules and the frame there.
-pub record Refuses (m : ClassMethod) (slot : ℕ) (rule : Rule) : Type 0 where
+pub record Refuses (rules : RuleSet) (m : ClassMethod) (slot : ℕ) (rule : Rule) : Type 0 where
   pub insn : Insn
   pub there : fetch (slots m.instructions) slot ≡ Some insn
-  pub refused : breaks (caps_of m) (slots m.instructions) slot insn (frame_at (whole_table (caps_of m) (slots m.instructions)) slot) rule ≡ true
+  pub refused : breaks (caps_of m) (slots m.instructions) slot insn (frame_at (whole_table rules (caps_of m) (slots m.instructions)) slot) rule ≡ true
 
 -- A refusal's rule refuses the instruction at its slot of its method.
-pub record IsDeserved (ms : List ClassMethod) (r : Refusal) : Type 0 where
+pub record IsDeserved (c : Class) (r : Refusal) : Type 0 where
   pub method : ClassMethod
-  pub there : slice_get ms r.method ≡ Some method
-  pub refuses : Refuses method r.slot r.rule
+  pub there : slice_get c.methods r.method ≡ Some method
+  pub refuses : Refuses c.rules method r.slot r.rule

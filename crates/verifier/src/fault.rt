@@ -1,8 +1,10 @@
 ghost use Rattle.std.specs.Prelude.{◌≡◌, ◌<◌, ◌+◌, length};
-ghost use Rattle.verifier.specs.Rules.{has_fault, register_count, some_fault, call_fault};
+ghost use Rattle.abstract_regs.specs.Seen.{seen};
+ghost use Rattle.verifier.specs.Rules.{has_fault, register_count, some_fault, call_fault, range_meets, room_in, room_of};
 
 use crate::kind_rules::{is_at_most, range_is_read_only, range_leaves};
-use abstract_regs::Frame;
+use abstract_regs::{Content, Frame, Kind};
+use bpf_decode::Insn;
 use bpf_machine::Caps;
 use helpers::{Argument, signature};
 
@@ -13,6 +15,7 @@ pub enum Fault {
     OutOfRegion,
     ReadOnly,
     WrongKind,
+    HasPointer,
 }
 
 impl Fault {
@@ -55,16 +58,21 @@ impl Fault {
         match argument {
             Argument::Number => match self {
                 Fault::NotSet => first.is_unset(),
-                Fault::OutOfRegion | Fault::ReadOnly => false,
+                Fault::OutOfRegion | Fault::ReadOnly | Fault::HasPointer => false,
                 Fault::WrongKind => !first.is_num(),
             },
             Argument::OutputLength => match self {
                 Fault::NotSet => first.is_unset(),
-                Fault::OutOfRegion | Fault::ReadOnly => false,
+                Fault::OutOfRegion | Fault::ReadOnly | Fault::HasPointer => false,
                 Fault::WrongKind => !is_at_most(caps.out_cap, first),
             },
             Argument::Readable => match self {
-                Fault::NotSet => first.is_unset() || second.is_unset(),
+                Fault::NotSet => {
+                    first.is_unset()
+                        || second.is_unset()
+                        || range_meets(Content::Nothing, caps, frame, first, second)
+                }
+                Fault::HasPointer => range_meets(Content::Pointer, caps, frame, first, second),
                 Fault::OutOfRegion => range_leaves(caps, first, second),
                 Fault::ReadOnly => false,
                 Fault::WrongKind => !first.is_ptr() || !second.is_num(),
@@ -73,9 +81,42 @@ impl Fault {
                 Fault::NotSet => first.is_unset() || second.is_unset(),
                 Fault::OutOfRegion => range_leaves(caps, first, second),
                 Fault::ReadOnly => range_is_read_only(first, second),
+                Fault::HasPointer => false,
                 Fault::WrongKind => !first.is_ptr() || !second.is_num(),
             },
         }
+    }
+}
+
+/// Whether a helper's range that stays in its region may touch a slot of the stack that has it.
+fn range_meets(content: Content, caps: &Caps, frame: &Frame, pointer: Kind, length: Kind) -> bool
+    ensures { result ≡ range_meets content caps.now frame.now (seen pointer) (seen length) }
+{
+    frame.range_meets(content, pointer, length) && !range_leaves(caps, pointer, length)
+}
+
+/// The first register of the range that a helper writes.
+pub fn room(insn: &Insn) -> Option<u8>
+    ensures { result ≡ room_of insn.now }
+{
+    match *insn {
+        Insn::Call { helper } => match signature(helper) {
+            None => None,
+            Some(takes) => room_in(takes.arguments, 1),
+        },
+        _ => None,
+    }
+}
+
+fn room_in(arguments: &[Argument], register: u8) -> Option<u8>
+    requires { register + length arguments.now + length arguments.now < 100 }
+    ensures { result ≡ room_in arguments.now register }
+{
+    match arguments {
+        [] => None,
+        [Argument::Writable, ..] => Some(register),
+        [Argument::Readable, ..] => room_in(&arguments[1..], register + 2),
+        [Argument::Number | Argument::OutputLength, ..] => room_in(&arguments[1..], register + 1),
     }
 }
 

@@ -35,16 +35,12 @@ impl Kept {
     }
 
     /// Takes the frame that is kept for a slot, if there is one.
-    pub fn take(&mut self, slot: usize) -> Option<Frame>
-        ensures taken { result ≡ frame_at self.old slot }
+    pub fn take(&mut self, slot: usize) -> Option<Box<Frame>>
+        ensures taken { unbox result ≡ frame_at self.old slot }
         ensures left { self.new ≡ slice_set self.old slot None }
     {
         if slot < self.frames.len() {
-            let frame = self.frames[slot].take();
-            match frame {
-                None => None,
-                Some(frame) => Some(Box::into_inner(frame)),
-            }
+            self.frames[slot].take()
         } else {
             None
         }
@@ -67,7 +63,7 @@ fn met(alloc: Global, kept: Option<Box<Frame>>, flow: &Frame) -> Result<Box<Fram
     ensures { IfOk result (λ b. b.value ≡ joined (unbox kept) flow.now) }
 {
     match kept {
-        None => Ok(Box::new(alloc, flow.copy())?),
+        None => Ok(Box::new(alloc, flow.copy(alloc)?)?),
         Some(mut frame) => {
             frame.join(flow);
             Ok(frame)

@@ -2,15 +2,17 @@ ghost use Rattle.std.specs.Prelude.{◌≡◌, ◌+◌, ◌<◌, ◌^◌, length
 ghost use Rattle.bpf_machine.specs.Typed.{fetch};
 ghost use Rattle.verifier.specs.Rules.{rule_at};
 ghost use Rattle.verifier.specs.Verdict.{IsFirstRefused, code_verdict, frame_at, whole_table};
-ghost use Rattle.verifier.specs.Frame.{entry};
+ghost use Rattle.verifier.specs.Frame.{known_slots, entry};
+ghost use Rattle.verifier.specs.Kept.{unbox};
 ghost use Rattle.verifier.specs.Pass.{IsSpaced, awaited, HasLeft, IsSound, AllSound};
 
+use crate::fault::room;
 use crate::kept::Kept;
 use crate::refused::RefusedSlot;
 use crate::rule::Rule;
 use crate::rules::refusing_rule;
 use abstract_regs::{Edges, Frame};
-use bpf_decode::{Insn, Region, width};
+use bpf_decode::{Insn, Region, RuleSet, width};
 use bpf_machine::Caps;
 use std::alloc::{AllocError, Global};
 
@@ -19,7 +21,7 @@ use std::alloc::{AllocError, Global};
 #[derive(Drop)]
 pub struct Pass {
     /// The frame that falls through to the slot `landing`; at a slot, its frame.
-    current: Option<Frame>,
+    current: Option<Box<Frame>>,
     landing: usize,
     kept: Kept,
 }
@@ -28,30 +30,42 @@ pub struct Pass {
 /// One pass over the slots in order, since no flow that is not refused goes back: its cost is linear in their number.
 pub fn first_refusal(
     alloc: Global,
+    rules: RuleSet,
     caps: &Caps,
     code: &[Option<Insn>],
 ) -> Result<Option<(usize, Rule)>, AllocError>
     requires small { length code.now < 2 ^ 62 }
     requires spaced { IsSpaced code.now }
-    ensures verdict { IfOk result (λ r. r ≡ code_verdict caps.now code.now) }
-    ensures sound { IfOk result (λ r. r ≡ None → AllSound caps.now code.now) }
+    ensures verdict { IfOk result (λ r. r ≡ code_verdict rules caps.now code.now) }
+    ensures sound { IfOk result (λ r. r ≡ None → AllSound rules caps.now code.now) }
 {
-    let mut pass = Pass::new(alloc, caps, code.len())?;
-    pass.run(alloc, caps, code)
+    let mut pass = Pass::new(alloc, rules, caps, code.len())?;
+    pass.run(alloc, rules, caps, code)
+}
+
+/// Of how many slots of the stack frames speak.
+fn frame_slots(rules: RuleSet) -> usize
+    ensures { result ≡ known_slots rules }
+{
+    match rules {
+        RuleSet::One => 0,
+        RuleSet::Two => 64,
+    }
 }
 
 /// The same slot and rule, with the slot's instruction and what is known before it. It costs the same pass.
 pub fn first_refused(
     alloc: Global,
+    rules: RuleSet,
     caps: &Caps,
     code: &[Option<Insn>],
 ) -> Result<Option<RefusedSlot>, AllocError>
     requires small { length code.now < 2 ^ 62 }
     requires spaced { IsSpaced code.now }
-    ensures { IfOk result (λ r. MatchOption r (code_verdict caps.now code.now ≡ None) (IsFirstRefused caps.now code.now)) }
+    ensures { IfOk result (λ r. MatchOption r (code_verdict rules caps.now code.now ≡ None) (IsFirstRefused rules caps.now code.now)) }
 {
-    let mut pass = Pass::new(alloc, caps, code.len())?;
-    let Some((slot, rule)) = pass.run(alloc, caps, code)? else {
+    let mut pass = Pass::new(alloc, rules, caps, code.len())?;
+    let Some((slot, rule)) = pass.run(alloc, rules, caps, code)? else {
         return Ok(None);
     };
     match insn_at(code, slot) {
@@ -59,10 +73,20 @@ pub fn first_refused(
             slot,
             rule,
             insn,
-            known: pass.current,
+            known: unboxed(pass.current),
         })),
         // Never: an instruction begins at a refused slot.
         None => Ok(None),
+    }
+}
+
+/// A frame out of its box.
+fn unboxed(frame: Option<Box<Frame>>) -> Option<Frame>
+    ensures { result ≡ unbox frame }
+{
+    match frame {
+        Some(frame) => Some(Box::into_inner(frame)),
+        None => None,
     }
 }
 
@@ -78,13 +102,20 @@ fn insn_at(code: &[Option<Insn>], slot: usize) -> Option<Insn>
 
 impl Pass {
     /// Before slot 0, with the frame that a method begins with.
-    fn new(alloc: Global, caps: &Caps, slots: usize) -> Result<Pass, AllocError>
+    fn new(
+        alloc: Global,
+        rules: RuleSet,
+        caps: &Caps,
+        slots: usize,
+    ) -> Result<Pass, AllocError>
         ensures kept { IfOk result (λ p. p.kept ≡ replicate slots None) }
-        ensures current { IfOk result (λ p. p.current ≡ Some (entry caps.now)) }
+        ensures current { IfOk result (λ p. unbox p.current ≡ Some (entry rules caps.now)) }
         ensures landing { IfOk result (λ p. p.landing ≡ 0) }
     {
+        let stack = caps.size(Region::Stack) as u64;
+        let entry = Frame::entry(alloc, u64::from(caps.in_cap), stack, frame_slots(rules))?;
         Ok(Pass {
-            current: Some(Frame::entry(u64::from(caps.in_cap), caps.size(Region::Stack) as u64)),
+            current: Some(Box::new(alloc, entry)?),
             landing: 0,
             kept: Kept::new(alloc, slots)?,
         })
@@ -94,18 +125,19 @@ impl Pass {
     fn run(
         &mut self,
         alloc: Global,
+        rules: RuleSet,
         caps: &Caps,
         code: &[Option<Insn>],
     ) -> Result<Option<(usize, Rule)>, AllocError>
         requires small { length code.now < 2 ^ 62 }
         requires spaced { IsSpaced code.now }
         requires kept { self.old.kept ≡ replicate (length code.now) None }
-        requires current { self.old.current ≡ Some (entry caps.now) }
+        requires current { unbox self.old.current ≡ Some (entry rules caps.now) }
         requires landing { self.old.landing ≡ 0 }
-        ensures verdict { IfOk result (λ r. r ≡ code_verdict caps.now code.now) }
-        ensures sound { IfOk result (λ r. r ≡ None → AllSound caps.now code.now) }
+        ensures verdict { IfOk result (λ r. r ≡ code_verdict rules caps.now code.now) }
+        ensures sound { IfOk result (λ r. r ≡ None → AllSound rules caps.now code.now) }
         // The pass stops at the refused slot, with what is known before it.
-        ensures stopped { IfOk result (λ r. IfSome r (λ at. self.new.current ≡ frame_at (whole_table caps.now code.now) at.0)) }
+        ensures stopped { IfOk result (λ r. IfSome r (λ at. unbox self.new.current ≡ frame_at (whole_table rules caps.now code.now) at.0)) }
     {
         for (slot, begun) in code.iter().enumerate() {
             if let Some(insn) = begun {
@@ -130,7 +162,7 @@ impl Pass {
         ensures rule { IfOk result (λ r. r ≡ rule_at caps.now code.now slot insn.now (awaited self.old slot)) }
         ensures left { IfOk result (λ r. (r ≡ None) → HasLeft (awaited self.old slot) (slice_set self.old.kept slot None) insn.now slot self.new) }
         ensures sound { IfOk result (λ r. (r ≡ None) → IsSound insn.now slot (awaited self.old slot)) }
-        ensures stopped { IfOk result (λ r. IfSome r (λ _. self.new.current ≡ awaited self.old slot)) }
+        ensures stopped { IfOk result (λ r. IfSome r (λ _. unbox self.new.current ≡ awaited self.old slot)) }
     {
         self.arrive(slot);
         let refused = refusing_rule(caps, code, slot, insn, &self.current);
@@ -142,7 +174,7 @@ impl Pass {
 
     /// Comes to a slot: what falls through to it joins what is kept for it.
     fn arrive(&mut self, slot: usize)
-        ensures current { self.new.current ≡ awaited self.old slot }
+        ensures current { unbox self.new.current ≡ awaited self.old slot }
         ensures kept { self.new.kept ≡ slice_set self.old.kept slot None }
     {
         if self.landing != slot {
@@ -159,19 +191,22 @@ impl Pass {
     /// Goes on from a slot, whose instruction no rule refuses.
     fn leave(&mut self, alloc: Global, slot: usize, insn: &Insn) -> Result<(), AllocError>
         requires { slot < 2 ^ 62 }
-        ensures left { IfOk result (λ _. HasLeft self.old.current self.old.kept insn.now slot self.new) }
-        ensures sound { IfOk result (λ _. IsSound insn.now slot self.old.current) }
+        ensures left { IfOk result (λ _. HasLeft (unbox self.old.current) self.old.kept insn.now slot self.new) }
+        ensures sound { IfOk result (λ _. IsSound insn.now slot (unbox self.old.current)) }
     {
         self.landing = slot + width(insn);
         if let Some(frame) = &mut self.current {
-            match frame.flow(insn, slot) {
+            match frame.flow(room(insn), insn, slot) {
                 Edges::Leaves => self.current = None,
                 Edges::Falls => {}
                 Edges::Jumps(target) => {
                     self.kept.keep(alloc, target, frame)?;
                     self.current = None;
                 }
-                Edges::Branches(target, taken) => self.kept.keep(alloc, target, &taken)?,
+                Edges::Branches(target, fallen) => {
+                    self.kept.keep(alloc, target, frame)?;
+                    frame.refine(&fallen);
+                }
             }
         }
         Ok(())

@@ -8,7 +8,7 @@ use crate::method::slots_of;
 use crate::pass::first_refused;
 use crate::rule::Rule;
 use abstract_regs::Frame;
-use bpf_decode::{Insn, Method};
+use bpf_decode::{Insn, Method, RuleSet};
 use bpf_machine::Caps;
 use std::alloc::{AllocError, Global};
 
@@ -24,12 +24,12 @@ pub struct RefusedSlot {
     pub known: Option<Frame>,
 }
 
-/// The first refused slot of a method, with what the rule saw there; none where no rule refuses the method. It costs
+/// The first refused slot of a method under a rule set, with what the rule saw there; none where no rule refuses the method. It costs
 /// what `verify` does.
-pub fn refused_slot(alloc: Global, method: &Method) -> Result<Option<RefusedSlot>, AllocError>
+pub fn refused_slot(alloc: Global, rules: RuleSet, method: &Method) -> Result<Option<RefusedSlot>, AllocError>
     requires { IsMethod method.now }
-    ensures { IfOk result (λ r. MatchOption r (method_verdict method.now ≡ None) (IsFirstRefused (caps_of method.now) (slots method.now.instructions))) }
+    ensures { IfOk result (λ r. MatchOption r (method_verdict rules method.now ≡ None) (IsFirstRefused rules (caps_of method.now) (slots method.now.instructions))) }
 {
     let code = slots_of(alloc, method.instructions())?;
-    first_refused(alloc, &Caps::of(method), &code)
+    first_refused(alloc, rules, &Caps::of(method), &code)
 }

@@ -14,7 +14,8 @@ pub enum Rule {
     FallsOff,
     /// A call within the program.
     LocalCall,
-    /// An operand that is read is unset: at `exit` register 0, at a call the registers of the helper's arguments.
+    /// An operand that is read is unset: at `exit` register 0, at a call the registers of the helper's arguments; or a slot
+    /// of the stack, of which nothing is known, is read.
     UnsetRead,
     /// Register 10 is the destination of arithmetic, a load or a wide load.
     WritesR10,
@@ -22,7 +23,7 @@ pub enum Rule {
     PointerArithmetic,
     /// A comparison with a pointer.
     PointerCompare,
-    /// A pointer is stored.
+    /// A pointer is stored, other than whole in a slot of the stack that is known.
     PointerStored,
     /// A load or store through a number; or one through a pointer, or a helper's range, that may leave its region.
     Bounds,
@@ -38,10 +39,12 @@ pub enum Rule {
     ReturnsPointer,
     /// Memory was refused: it says nothing of the class.
     NoMemory,
+    /// A load of a part of a pointer in the stack, or a helper's readable range over one.
+    PointerBytes,
 }
 
 impl Rule {
-    /// Its number, 1 to 16.
+    /// Its number, 1 to 17.
     pub fn number(self) -> u8
         ensures { result ≡ rule_number self }
     {
@@ -70,6 +73,7 @@ impl Rule {
             Rule::WriteHelperInReader => (14, "WriteHelperInReader"),
             Rule::ReturnsPointer => (15, "ReturnsPointer"),
             Rule::NoMemory => (16, "NoMemory"),
+            Rule::PointerBytes => (17, "PointerBytes"),
         }
     }
 }

@@ -1,28 +1,29 @@
-ghost use Rattle.std.specs.Prelude.{◌≡◌, ◌<◌, ◌^◌};
-ghost use Rattle.verifier.specs.Rules.{begins_at, is_backward, misses, falls_off, is_local_call, reads_unset, writes_r10, computes_with_pointer, compares_pointer, stores_pointer, leaves_region, writes_read_only, calls_unknown, passes_wrong_kind, writes_in_reader, returns_pointer, operand_is_unset, rule_at, shape_rule, frame_rule};
+ghost use Rattle.std.specs.Prelude.{◌≡◌, ◌<◌, ◌^◌, is_some};
+ghost use Rattle.verifier.specs.Rules.{begins_at, is_backward, misses, falls_off, is_local_call, reads_unset, writes_r10, computes_with_pointer, compares_pointer, stores_pointer, leaves_region, writes_read_only, calls_unknown, passes_wrong_kind, writes_in_reader, returns_pointer, reads_pointer, load_meets, operand_is_unset, rule_at, shape_rule, frame_rule};
 ghost use Rattle.abstract_regs.specs.Kind.{is_unset, is_ptr};
-ghost use Rattle.abstract_regs.specs.Frame.{kind_at};
+ghost use Rattle.abstract_regs.specs.Frame.{kind_at, kept_kind};
 ghost use Rattle.verifier.specs.Kind.{stays};
+ghost use Rattle.verifier.specs.Kept.{unbox};
 ghost use Rattle.bpf_machine.specs.Typed.{extended};
 
 use crate::fault::Fault;
 use crate::kind_rules;
 use crate::rule::Rule;
-use abstract_regs::Frame;
+use abstract_regs::{Content, Frame};
 use bpf_decode::{Insn, Operand, Register, jump_target, width};
 use bpf_machine::Caps;
 use helpers::signature;
 
-/// The lowest rule that refuses the instruction at a slot; rules 5 to 15 under a frame alone.
+/// The lowest rule that refuses the instruction at a slot; rules 5 to 15 and 17 under a frame alone.
 pub fn refusing_rule(
     caps: &Caps,
     code: &[Option<Insn>],
     slot: usize,
     insn: &Insn,
-    frame: &Option<Frame>,
+    frame: &Option<Box<Frame>>,
 ) -> Option<Rule>
     requires { slot < 2 ^ 62 }
-    ensures { result ≡ rule_at caps.now code.now slot insn.now frame.now }
+    ensures { result ≡ rule_at caps.now code.now slot insn.now (unbox frame.now) }
 {
     match shape_rule(code, slot, insn) {
         Some(rule) => Some(rule),
@@ -51,7 +52,7 @@ fn shape_rule(code: &[Option<Insn>], slot: usize, insn: &Insn) -> Option<Rule>
     }
 }
 
-/// The lowest of rules 5 to 15 that refuses the instruction under a frame.
+/// The lowest of rules 5 to 15 and 17 that refuses the instruction under a frame.
 fn frame_rule(caps: &Caps, frame: &Frame, insn: &Insn) -> Option<Rule>
     ensures { result ≡ frame_rule caps.now frame.now insn.now }
 {
@@ -77,6 +78,8 @@ fn frame_rule(caps: &Caps, frame: &Frame, insn: &Insn) -> Option<Rule>
         Some(Rule::WriteHelperInReader)
     } else if returns_pointer(frame, insn) {
         Some(Rule::ReturnsPointer)
+    } else if reads_pointer(caps, frame, insn) {
+        Some(Rule::PointerBytes)
     } else {
         None
     }
@@ -145,7 +148,24 @@ fn reads_unset(caps: &Caps, frame: &Frame, insn: &Insn) -> bool
         Insn::Neg { dst, .. } | Insn::End { dst, .. } => is_unset(frame, dst),
         Insn::Mov { source, .. } => is_operand_unset(frame, source),
         Insn::MovSigned { src, .. } => is_unset(frame, src),
-        Insn::Load { base, .. } | Insn::LoadSigned { base, .. } => is_unset(frame, base),
+        Insn::Load {
+            width,
+            base,
+            offset,
+            ..
+        } => {
+            is_unset(frame, base)
+                || load_meets(Content::Nothing, caps, frame, base, offset, width.bytes())
+        }
+        Insn::LoadSigned {
+            width,
+            base,
+            offset,
+            ..
+        } => {
+            is_unset(frame, base)
+                || load_meets(Content::Nothing, caps, frame, base, offset, width.bytes())
+        }
         Insn::Store { base, source, .. } => {
             is_unset(frame, base) || is_operand_unset(frame, source)
         }
@@ -227,14 +247,21 @@ fn is_ptr(frame: &Frame, register: Register) -> bool
     frame.kind(usize::from(register.number())).is_ptr()
 }
 
-/// It stores a pointer.
+/// It stores a pointer, other than whole in a slot of the stack that is known.
 fn stores_pointer(frame: &Frame, insn: &Insn) -> bool
     ensures { result ≡ stores_pointer frame.now insn.now }
 {
     match *insn {
-        Insn::Store { source, .. } => match source {
+        Insn::Store {
+            width,
+            base,
+            offset,
+            source,
+        } => match source {
             Operand::Immediate(_) => false,
-            Operand::Register(src) => frame.kind(usize::from(src.number())).is_ptr(),
+            Operand::Register(src) => {
+                is_ptr(frame, src) && !is_slot(frame, base, offset, width.bytes())
+            }
         },
         _ => false,
     }
@@ -278,6 +305,57 @@ fn stays(caps: &Caps, frame: &Frame, base: Register, offset: i16, bytes: usize) 
         distance,
         bytes,
     )
+}
+
+/// It reads a part of a pointer in the stack.
+fn reads_pointer(caps: &Caps, frame: &Frame, insn: &Insn) -> bool
+    ensures { result ≡ reads_pointer caps.now frame.now insn.now }
+{
+    match *insn {
+        Insn::Load {
+            width,
+            base,
+            offset,
+            ..
+        } => {
+            !is_slot(frame, base, offset, width.bytes())
+                && load_meets(Content::Pointer, caps, frame, base, offset, width.bytes())
+        }
+        Insn::LoadSigned {
+            width,
+            base,
+            offset,
+            ..
+        } => load_meets(Content::Pointer, caps, frame, base, offset, width.bytes()),
+        Insn::Call { helper } => Fault::HasPointer.is_in_call(caps, frame, helper),
+        _ => false,
+    }
+}
+
+/// Whether the bytes at a distance from what a register points to are a slot of the stack that is known.
+fn is_slot(frame: &Frame, base: Register, offset: i16, bytes: usize) -> bool
+    ensures { result ≡ is_some (kept_kind frame.now (kind_at frame.now base) (extended offset) bytes) }
+{
+    let from = frame.kind(usize::from(base.number()));
+    frame
+        .slot(from, i64::from(offset).cast_unsigned(), bytes)
+        .is_some()
+}
+
+/// Whether a load that stays in its region may touch a slot of the stack that has it.
+fn load_meets(
+    content: Content,
+    caps: &Caps,
+    frame: &Frame,
+    base: Register,
+    offset: i16,
+    bytes: usize,
+) -> bool
+    ensures { result ≡ load_meets content caps.now frame.now (kind_at frame.now base) (extended offset) bytes }
+{
+    let from = frame.kind(usize::from(base.number()));
+    frame.access_meets(content, from, i64::from(offset).cast_unsigned(), bytes)
+        && stays(caps, frame, base, offset, bytes)
 }
 
 /// It writes into the region that is read only.

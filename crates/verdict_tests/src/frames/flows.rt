@@ -4,6 +4,7 @@ use super::{entry, has, load, register, tells};
 use abstract_num::{any, constant};
 use abstract_regs::{Edges, Frame, Kind};
 use bpf_decode::{Arithmetic, Bits, Comparison, Insn, Operand, Region, Register, Width};
+use std::alloc::Global;
 use std::process::Abort;
 
 /// A 64-bit jump of five slots by register 2 and a source.
@@ -52,9 +53,9 @@ fn jumps_to(edges: Edges, slot: usize) -> bool {
 fn loads_bytes(rt: HostRuntime) {
     let insn = load(&rt, Width::Byte, 4);
     let loaded = register(&rt, 4);
-    let mut frame = entry();
+    let mut frame = entry(&rt, rt.alloc());
     assert!(rt;
-        falls(frame.flow(&insn, 0)) && tells(frame.operand(Operand::Register(loaded)), 255, 256)
+        falls(frame.flow(None, &insn, 0)) && tells(frame.operand(Operand::Register(loaded)), 255, 256)
     );
 }
 
@@ -62,11 +63,11 @@ fn loads_bytes(rt: HostRuntime) {
 fn moves_pointers(rt: HostRuntime) {
     let first = add(register(&rt, 3), Operand::Immediate(7));
     let second = add(register(&rt, 2), Operand::Register(register(&rt, 3)));
-    let mut frame = entry();
+    let mut frame = entry(&rt, rt.alloc());
     assert!(rt;
-        falls(frame.flow(&first, 0))
+        falls(frame.flow(None, &first, 0))
             && has(&frame, 3, Kind::Ptr(Region::Output, constant(7)))
-            && falls(frame.flow(&second, 1))
+            && falls(frame.flow(None, &second, 1))
             && frame.kind(2).is_ptr()
     );
 }
@@ -82,20 +83,24 @@ fn is_forgotten(frame: &Frame) -> bool {
 
 #[test]
 fn forgets_at_a_call(rt: HostRuntime) {
-    let mut frame = entry();
-    assert!(rt; falls(frame.flow(&Insn::Call { helper: 1 }, 0)) && is_forgotten(&frame));
+    let mut frame = entry(&rt, rt.alloc());
+    assert!(rt; falls(frame.flow(None, &Insn::Call { helper: 1 }, 0)) && is_forgotten(&frame));
 }
 
 #[test]
 fn jumps(rt: HostRuntime) {
-    let mut frame = entry();
-    assert!(rt; jumps_to(frame.flow(&Insn::Jump { offset: 5 }, 2), 8));
+    let mut frame = entry(&rt, rt.alloc());
+    assert!(rt; jumps_to(frame.flow(None, &Insn::Jump { offset: 5 }, 2), 8));
 }
 
-/// Whether the jump at slot 2 goes to slot 8, where register 2 holds 4 and not 3.
-fn is_above_3(edges: Edges) -> bool {
+/// Whether the jump at slot 2 goes to slot 8, where register 2 holds 4 and not 3; behind the jump it holds 3 and not 4.
+fn parts_at_3(edges: Edges, frame: &mut Frame) -> bool {
     match edges {
-        Edges::Branches(target, taken) => target == 8 && tells(taken.kind(2), 4, 3),
+        Edges::Branches(target, fallen) => {
+            let above = target == 8 && tells(frame.kind(2), 4, 3);
+            frame.refine(&fallen);
+            above && tells(frame.kind(2), 3, 4)
+        }
         Edges::Leaves | Edges::Falls | Edges::Jumps(_) => false,
     }
 }
@@ -104,49 +109,56 @@ fn is_above_3(edges: Edges) -> bool {
 #[test]
 fn refines_both_edges(rt: HostRuntime) {
     let insn = jump(&rt, Comparison::Greater, Operand::Immediate(3));
-    let mut frame = entry();
-    assert!(rt; is_above_3(frame.flow(&insn, 2)) && tells(frame.kind(2), 3, 4));
+    let mut frame = entry(&rt, rt.alloc());
+    let edges = frame.flow(None, &insn, 2);
+    assert!(rt; parts_at_3(edges, &mut frame));
 }
 
 /// Where a jump by the length, of at most 16, and that number goes.
-fn edges(rt: &impl Abort, comparison: Comparison, number: i32) -> Edges {
+fn edges(rt: &impl Abort, alloc: Global, comparison: Comparison, number: i32) -> Edges {
     let insn = jump(rt, comparison, Operand::Immediate(number));
-    entry().flow(&insn, 0)
+    entry(rt, alloc).flow(None, &insn, 0)
 }
 
 #[test]
 fn goes_past_a_dead_edge(rt: HostRuntime) {
-    assert!(rt; falls(edges(&rt, Comparison::Greater, 16)));
-    assert!(rt; jumps_to(edges(&rt, Comparison::LessEqual, 16), 6));
+    assert!(rt; falls(edges(&rt, rt.alloc(), Comparison::Greater, 16)));
+    assert!(rt; jumps_to(edges(&rt, rt.alloc(), Comparison::LessEqual, 16), 6));
 }
 
-/// Whether the frame along the taken edge knows the length as the entry does.
-fn keeps_the_length(edges: Edges) -> bool {
+/// Whether both frames know of register 2 what a kind says.
+fn keep_kind(edges: Edges, frame: &mut Frame, kind: Kind) -> bool {
     match edges {
-        Edges::Branches(_, taken) => has(&taken, 2, entry().kind(2)),
+        Edges::Branches(_, fallen) => {
+            let taken = has(frame, 2, kind);
+            frame.refine(&fallen);
+            taken && has(frame, 2, kind)
+        }
         Edges::Leaves | Edges::Falls | Edges::Jumps(_) => false,
     }
 }
 
 /// A jump by register 2 and itself leaves both edges.
-fn tells_nothing(rt: &impl Abort, comparison: Comparison) {
+fn tells_nothing(rt: &impl Abort, alloc: Global, comparison: Comparison) {
     let insn = jump(rt, comparison, Operand::Register(register(rt, 2)));
-    let mut frame = entry();
-    assert!(rt; keeps_the_length(frame.flow(&insn, 0)) && has(&frame, 2, entry().kind(2)));
+    let mut frame = entry(rt, alloc);
+    let kind = frame.kind(2);
+    let edges = frame.flow(None, &insn, 0);
+    assert!(rt; keep_kind(edges, &mut frame, kind));
 }
 
 #[test]
 fn tells_nothing_of_itself(rt: HostRuntime) {
-    tells_nothing(&rt, Comparison::Greater);
-    tells_nothing(&rt, Comparison::NotEqual);
-    tells_nothing(&rt, Comparison::Less);
+    tells_nothing(&rt, rt.alloc(), Comparison::Greater);
+    tells_nothing(&rt, rt.alloc(), Comparison::NotEqual);
+    tells_nothing(&rt, rt.alloc(), Comparison::Less);
 }
 
 #[test]
 fn leaves_at_exit(rt: HostRuntime) {
-    let mut frame = entry().copy();
+    let mut frame = entry(&rt, rt.alloc()).copy(rt.alloc()).expect(&rt, "memory");
     assert!(rt;
-        leaves(frame.flow(&Insn::Exit, 0))
+        leaves(frame.flow(None, &Insn::Exit, 0))
             && frame.operand(Operand::Immediate(-1)) == Kind::Num(constant(u64::MAX))
     );
 }

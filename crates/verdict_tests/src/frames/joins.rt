@@ -39,7 +39,8 @@ fn forgets_what_differs(rt: HostRuntime) {
 /// Of two entries the length is the greater one.
 #[test]
 fn joins_frames(rt: HostRuntime) {
-    let mut frame = Frame::entry(4, 512);
-    frame.join(&entry());
-    assert!(rt; has(&frame, 2, entry().kind(2)) && has(&frame, 10, entry().kind(10)));
+    let other = entry(&rt, rt.alloc());
+    let mut frame = Frame::entry(rt.alloc(), 4, 512, 0).expect(&rt, "memory");
+    frame.join(&other);
+    assert!(rt; has(&frame, 2, other.kind(2)) && has(&frame, 10, other.kind(10)));
 }

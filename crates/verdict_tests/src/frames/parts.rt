@@ -7,7 +7,7 @@ use bpf_decode::Region;
 
 #[test]
 fn begins_with_the_entry(rt: HostRuntime) {
-    let frame = entry();
+    let frame = entry(&rt, rt.alloc());
     assert!(rt;
         has(&frame, 1, Kind::Ptr(Region::Input, constant(0)))
             && has(&frame, 3, Kind::Ptr(Region::Output, constant(0)))
@@ -17,12 +17,12 @@ fn begins_with_the_entry(rt: HostRuntime) {
 
 #[test]
 fn knows_the_length(rt: HostRuntime) {
-    assert!(rt; tells(entry().kind(2), 16, 17));
+    assert!(rt; tells(entry(&rt, rt.alloc()).kind(2), 16, 17));
 }
 
 #[test]
 fn knows_nothing_of_the_others(rt: HostRuntime) {
-    let frame = entry();
+    let frame = entry(&rt, rt.alloc());
     for number in [0usize, 4, 5, 6, 7, 8, 9, 11] {
         assert!(rt; frame.kind(number).is_unset());
     }

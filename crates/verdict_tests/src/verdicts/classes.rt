@@ -24,7 +24,7 @@ const IMAGE: [u8; 33] = [
     0x95, 0, 0, 0, 0, 0, 0, 0,
 ];
 
-static RULES: [(Rule, &str); 16] = [
+static RULES: [(Rule, &str); 17] = [
     (Rule::Backward, "1 Backward"),
     (Rule::Target, "2 Target"),
     (Rule::FallsOff, "3 FallsOff"),
@@ -41,6 +41,7 @@ static RULES: [(Rule, &str); 16] = [
     (Rule::WriteHelperInReader, "14 WriteHelperInReader"),
     (Rule::ReturnsPointer, "15 ReturnsPointer"),
     (Rule::NoMemory, "16 NoMemory"),
+    (Rule::PointerBytes, "17 PointerBytes"),
 ];
 
 /// Whether a rule prints so.
@@ -160,7 +161,7 @@ fn keeps_writer(alloc: Global, class: &ClassImage) -> bool {
 #[test]
 fn keeps_what_is_declared(rt: HostRuntime) {
     one_table();
-    let kept = match class(rt.alloc(), WRITER) {
+    let kept = match class(rt.alloc(), RuleSet::One, WRITER) {
         Some(class) => keeps_writer(rt.alloc(), &class),
         None => false,
     };

@@ -3,10 +3,11 @@ use Rattle.std.proofs.lemmas.Option.{slice_get_read}
 use Rattle.std.proofs.lemmas.Result.{err_from_is_err_and}
 use Rattle.std.proofs.lemmas.List.{drop_all, take_all}
 use Rattle.std.specs.List.{AllByRecursion}
-use Rattle.bpf_decode.specs.Class.{ClassMethod, IsClass, IsMethod}
+use Rattle.bpf_decode.specs.Class.{ClassMethod, Class, IsClass, IsMethod}
+use Rattle.bpf_decode.specs.declared.rule_set.RuleSet.{RuleSet}
 use Rattle.bpf_machine.specs.Safe.{IsSafe}
 use Rattle.verifier.specs.declared.refusal.Refusal.{Refusal}
-use Rattle.verifier.specs.Verdict.{verdict_from, or_later, out_of_memory, IsFirst, IsDeserved}
+use Rattle.verifier.specs.Verdict.{verdict_from, class_verdict, or_later, out_of_memory, IsFirst, IsDeserved}
 use Rattle.verifier.proofs.Verdicts.{deserved}
 use Rattle.std.specs.Prelude.{slice_get}
 use Rattle.verifier.proofs.Tables.{drop_head}
@@ -14,15 +15,15 @@ use Rattle.verifier.proofs.Accepts.{all_at, all_more, take_next}
 use Rattle.verifier.proofs.class.verify.Goals as goal
 
 -- the refusal of a method is the verdict, where the methods below it have none
-refusal_is : (ms : List ClassMethod) (number : ℕ) (m : ClassMethod) (r : Refusal) → slice_get ms number ≡ Some m → verdict_from number (drop number ms) ≡ verdict_from 0 ms → (r ≡ out_of_memory) ⊎ IsFirst number m r → (r ≡ out_of_memory) ⊎ (verdict_from 0 ms ≡ Some r)
-refusal_is ms number m r at rest (inl e) = inl e
-refusal_is ms number m r at rest (inr first) =
-    let later = verdict_from (number + 1) (drop (number + 1) ms) in
-    inr (sym rest ∙ ap (verdict_from number) (drop_head ms number m at) ∙ ap (λ o. or_later number o later) first.1 ∙ ap (λ k. Some (record { method = k; slot = r.slot; rule = r.rule })) (sym first.0))
+refusal_is : (rules : RuleSet) (ms : List ClassMethod) (number : ℕ) (m : ClassMethod) (r : Refusal) → slice_get ms number ≡ Some m → verdict_from rules number (drop number ms) ≡ verdict_from rules 0 ms → (r ≡ out_of_memory) ⊎ IsFirst rules number m r → (r ≡ out_of_memory) ⊎ (verdict_from rules 0 ms ≡ Some r)
+refusal_is rules ms number m r at rest (inl e) = inl e
+refusal_is rules ms number m r at rest (inr first) =
+    let later = verdict_from rules (number + 1) (drop (number + 1) ms) in
+    inr (sym rest ∙ ap (verdict_from rules number) (drop_head ms number m at) ∙ ap (λ o. or_later number o later) first.1 ∙ ap (λ k. Some (record { method = k; slot = r.slot; rule = r.rule })) (sym first.0))
 
-deserved_if : (ms : List ClassMethod) (r : Refusal) → (r ≡ out_of_memory) ⊎ (verdict_from 0 ms ≡ Some r) → (r ≡ out_of_memory) ⊎ IsDeserved ms r
-deserved_if ms r (inl e) = inl e
-deserved_if ms r (inr e) = inr (deserved ms r e)
+deserved_if : (c : Class) (r : Refusal) → (r ≡ out_of_memory) ⊎ (class_verdict c ≡ Some r) → (r ≡ out_of_memory) ⊎ IsDeserved c r
+deserved_if c r (inl e) = inl e
+deserved_if c r (inr e) = inr (deserved c r e)
 
 pub returns-in_err-push_verified-clause-refused : goal.returns-in_err-push_verified-clause-refused
 returns-in_err-push_verified-clause-refused c =
@@ -32,7 +33,7 @@ returns-in_err-push_verified-clause-refused c =
     let at : slice_get image number ≡ Some c.method-item.result =
     slice_get_read image (length image) number c.method-item.result refl few (c.method-item.is ∙ ap (λ ms. get_or ms number c.method-item.result) c.methods-method-items.ensures.methods) in
     let p = err_from_is_err_and c.from_residual.result c.from_residual.ensures.1 in
-    rw (p.1, p.2) (refusal_is image number c.method-item.result c.in_err-push_verified.field-0.0 at c.loop-number.invariant.rest c.in_err-push_verified.ensures.refused)
+    rw (p.1, p.2) (refusal_is c.args.image.now.rules image number c.method-item.result c.in_err-push_verified.field-0.0 at c.loop-number.invariant.rest c.in_err-push_verified.ensures.refused)
 
 pub returns-in_err-push_verified-clause-deserved : goal.returns-in_err-push_verified-clause-deserved
 returns-in_err-push_verified-clause-deserved c =
@@ -42,7 +43,7 @@ returns-in_err-push_verified-clause-deserved c =
     let at : slice_get image number ≡ Some c.method-item.result =
     slice_get_read image (length image) number c.method-item.result refl few (c.method-item.is ∙ ap (λ ms. get_or ms number c.method-item.result) c.methods-method-items.ensures.methods) in
     let p = err_from_is_err_and c.from_residual.result c.from_residual.ensures.1 in
-    rw (p.1, p.2) (deserved_if image c.in_err-push_verified.field-0.0 (refusal_is image number c.method-item.result c.in_err-push_verified.field-0.0 at c.loop-number.invariant.rest c.in_err-push_verified.ensures.refused))
+    rw (p.1, p.2) (deserved_if c.args.image.now c.in_err-push_verified.field-0.0 (refusal_is c.args.image.now.rules image number c.method-item.result c.in_err-push_verified.field-0.0 at c.loop-number.invariant.rest c.in_err-push_verified.ensures.refused))
 
 pub returns-clause-safe : goal.returns-clause-safe
 returns-clause-safe c =
@@ -57,7 +58,7 @@ returns-clause-value c =
 pub returns-clause-accepted : goal.returns-clause-accepted
 returns-clause-accepted c =
     let past : length c.args.image.now.methods ≤ c.loop-number.number = omega (arith, ap length c.methods-method-items.ensures.methods) in
-    sym c.loop-number.invariant.rest ∙ ap (verdict_from c.loop-number.number) (drop_all c.loop-number.number c.args.image.now.methods past)
+    sym c.loop-number.invariant.rest ∙ ap (verdict_from c.args.image.now.rules c.loop-number.number) (drop_all c.loop-number.number c.args.image.now.methods past)
 
 pub new-requires-clause-class : goal.new-requires-clause-class
 new-requires-clause-class c =
@@ -87,12 +88,12 @@ loop-number-preserved c =
     slice_get_read image (length image) number m refl few (c.method-item.is ∙ ap (λ ms. get_or ms number m) c.methods-method-items.ensures.methods) in
     let more = drop_head image number m at in
     let clear = c.in_ok-push_verified.ensures.accepted in
-    let rest = verdict_from (number + 1) (drop (number + 1) image) in
+    let rest = verdict_from c.args.image.now.rules (number + 1) (drop (number + 1) image) in
     record {
       safe = all_more IsSafe image number m at c.loop-number.invariant.safe c.in_ok-push_verified.ensures.safe;
       sofar =
           c.in_ok-push_verified.ensures.pushed
           ∙ ap (λ ms. ms ++ m ∷ []) c.loop-number.invariant.sofar
           ∙ sym (take_next image number m at);
-      rest = sym (ap (verdict_from number) more ∙ ap (λ o. or_later number o rest) clear) ∙ c.loop-number.invariant.rest;
+      rest = sym (ap (verdict_from c.args.image.now.rules number) more ∙ ap (λ o. or_later number o rest) clear) ∙ c.loop-number.invariant.rest;
     }

@@ -8,5 +8,5 @@ abbrev pub invariant-loop-number : goal.invariant-loop-number
 invariant-loop-number l = record {
   safe : AllByRecursion IsSafe (take l.number l.fn.image.methods);
   sofar : l.methods.items ≡ take l.number l.fn.image.methods;
-  rest : verdict_from l.number (drop l.number l.fn.image.methods) ≡ class_verdict l.fn.image;
+  rest : verdict_from l.fn.image.rules l.number (drop l.number l.fn.image.methods) ≡ class_verdict l.fn.image;
 }

@@ -17,4 +17,4 @@ returns-clause-keeps c =
       signed_loads = law.signed_loads;
       tighten = law.tighten;
       edges = law.edges;
-    }) c.args.self.now c.fits.ensures c.args.insn.now c.args.slot
+    }) c.args.self.now c.fits.ensures c.args.room c.args.insn.now c.args.slot

@@ -1,28 +1,22 @@
-use Rattle.std.proofs.Common.{◌≡◌, None, Some, slice_set, ◌<◌, ◌≤◌, length, ap, ◌∙◌, sym, arith}
+use Rattle.std.proofs.Common.{◌≡◌, None, slice_set, ◌<◌, ◌≤◌, length, ap, ◌∙◌, sym, arith}
 use Rattle.verifier.specs.Verdict.{frame_at}
 use Rattle.verifier.specs.Kept.{unbox, unboxed}
 use Rattle.verifier.proofs.Boxes.{unboxed_at, unboxed_past, unboxed_set, unboxed_set_past}
-use Rattle.verifier.proofs.kept.Kept.take.Goals.{in-None, in-Some}
 use Rattle.verifier.proofs.kept.Kept.take.Goals as goal
 
-pub returns-after-frame-clause-taken : goal.returns-after-frame-clause-taken
-returns-after-frame-clause-taken c =
+pub returns-then-slot-len-clause-taken : goal.returns-then-slot-len-clause-taken
+returns-then-slot-len-clause-taken c =
     let items = c.self.inside.frames.items in
     let inside : c.args.slot < length items = omega (arith, c.len.ensures) in
-    let is : frame_at c.args.self.now c.args.slot ≡ unbox c.take-frame.result =
-    ap (λ t. frame_at t c.args.slot) (sym c.self.view_is)
+    sym (ap (λ t. frame_at t c.args.slot) (sym c.self.view_is)
     ∙ unboxed_at items c.args.slot c.index_mut.result.now inside
-    ∙ ap unbox (sym (c.take-frame.ensures.value ∙ c.index_mut.ensures.value)) in
-    elim c.match-frame.branch [
-      | in-None w ↦ w.result-is ∙ sym (is ∙ ap unbox w.in-None.is)
-      | in-Some w ↦ w.result-is ∙ ap Some w.into_inner.ensures ∙ sym (is ∙ ap unbox w.in-Some.is)
-    ]
+    ∙ ap unbox (sym (c.take.ensures.value ∙ c.index_mut.ensures.value)))
 
-pub returns-after-frame-clause-left : goal.returns-after-frame-clause-left
-returns-after-frame-clause-left c =
+pub returns-then-slot-len-clause-left : goal.returns-then-slot-len-clause-left
+returns-then-slot-len-clause-left c =
     let items = c.self.inside.frames.items in
-    unboxed_set items c.args.slot c.take-frame.new.self
-    ∙ ap (λ o. slice_set (unboxed items) c.args.slot (unbox o)) c.take-frame.ensures.after
+    unboxed_set items c.args.slot c.take.new.self
+    ∙ ap (λ o. slice_set (unboxed items) c.args.slot (unbox o)) c.take.ensures.after
     ∙ ap (λ t. slice_set t c.args.slot None) c.self.view_is
 
 pub returns-else-slot-len-clause-taken : goal.returns-else-slot-len-clause-taken

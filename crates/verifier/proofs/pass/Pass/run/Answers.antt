@@ -12,7 +12,7 @@ pub loop-slot-init : goal.loop-slot-init
 loop-slot-init c = record {
   rest = refl;
   sound = λ p i lt. absurd (omega arith);
-  brought = brought_first c.args.caps.now c.args.code.now c.args.self.now c.requires.kept c.requires.current c.requires.landing;
+  brought = brought_first c.args.rules c.args.caps.now c.args.code.now c.args.self.now c.requires.kept c.requires.current c.requires.landing;
 }
 
 pub returns-in-Some-2 : goal.returns-in-Some-2
@@ -24,11 +24,11 @@ returns-in-Some-2 c =
     let lt : slot < length code = omega arith in
     let at : slice_get code slot ≡ Some (Some c.in-Some.insn) = slice_get_read code (length code) slot _ refl lt c.index-code-slot.is ∙ ap Some c.in-Some.is in
     let rule = sym c.in_ok-rule.ensures.rule ∙ c.in-Some-2.is in
-    let its = its_frame caps code slot pass lt c.loop-slot.invariant.brought in
+    let its = its_frame c.args.rules caps code slot pass lt c.loop-slot.invariant.brought in
     let stopped = c.in_ok-rule.ensures.stopped in
     record {
       stopped = (rw c.in-Some-2.is at stopped) ∙ its;
-      verdict = sym (refused_at caps code slot c.in-Some.insn pass (Some c.in-Some-2.rule) lt at c.loop-slot.invariant.brought rule) ∙ c.loop-slot.invariant.rest;
+      verdict = sym (refused_at c.args.rules caps code slot c.in-Some.insn pass (Some c.in-Some-2.rule) lt at c.loop-slot.invariant.brought rule) ∙ c.loop-slot.invariant.rest;
       sound = λ none. absurd (none-some _ (sym none));
     }
 
@@ -44,12 +44,12 @@ loop-slot-preserved c = elim c.match-begun.branch [
       let rule = sym w.in_ok-rule.ensures.rule ∙ w.in_default-2.is in
       let fetched = ap (λ o. o >>= λ i. i) at in
       let left = w.in_ok-rule.ensures.left w.in_default-2.is in
-      let its = its_frame caps code slot pass lt c.loop-slot.invariant.brought in
+      let its = its_frame c.args.rules caps code slot pass lt c.loop-slot.invariant.brought in
       let sound = subst (IsSound w.in-Some.insn slot) its (w.in_ok-rule.ensures.sound w.in_default-2.is) in
       record {
-        sound = sound_more caps code slot w.in-Some.insn c.loop-slot.invariant.sound fetched sound;
-        rest = sym (refused_at caps code slot w.in-Some.insn pass None lt at c.loop-slot.invariant.brought rule) ∙ c.loop-slot.invariant.rest;
-        brought = subst (Brought caps code (slot + 1)) (sym w.self-is) (brought_more caps code slot w.in-Some.insn pass _ c.requires.spaced lt fetched rule left c.loop-slot.invariant.brought);
+        sound = sound_more c.args.rules caps code slot w.in-Some.insn c.loop-slot.invariant.sound fetched sound;
+        rest = sym (refused_at c.args.rules caps code slot w.in-Some.insn pass None lt at c.loop-slot.invariant.brought rule) ∙ c.loop-slot.invariant.rest;
+        brought = subst (Brought c.args.rules caps code (slot + 1)) (sym w.self-is) (brought_more c.args.rules caps code slot w.in-Some.insn pass _ c.requires.spaced lt fetched rule left c.loop-slot.invariant.brought);
       }
   | in_default w ↦
       let caps = c.args.caps.now in
@@ -59,9 +59,9 @@ loop-slot-preserved c = elim c.match-begun.branch [
       let lt : slot < length code = omega arith in
       let at : slice_get code slot ≡ Some None = slice_get_read code (length code) slot _ refl lt c.index-code-slot.is ∙ ap Some w.in_default.is in
       record {
-        sound = sound_over caps code slot c.loop-slot.invariant.sound (ap (λ o. o >>= λ i. i) at);
-        rest = sym (refused_over caps code slot at) ∙ c.loop-slot.invariant.rest;
-        brought = subst (Brought caps code (slot + 1)) (sym w.self-is) (brought_over caps code slot pass (ap (λ o. o >>= λ i. i) at) c.loop-slot.invariant.brought);
+        sound = sound_over c.args.rules caps code slot c.loop-slot.invariant.sound (ap (λ o. o >>= λ i. i) at);
+        rest = sym (refused_over c.args.rules caps code slot at) ∙ c.loop-slot.invariant.rest;
+        brought = subst (Brought c.args.rules caps code (slot + 1)) (sym w.self-is) (brought_over c.args.rules caps code slot pass (ap (λ o. o >>= λ i. i) at) c.loop-slot.invariant.brought);
       }
 ]
 

@@ -1,5 +1,0 @@
-use Rattle.abstract_regs.proofs.Keeping.{each_fits}
-use Rattle.abstract_regs.proofs.frame.fit_all.Goals as goal
-
-pub returns : goal.returns
-returns c = each_fits c.keeping_laws.ensures.fits c.args.registers.now

@@ -1,0 +1,117 @@
+ghost use Rattle.std.specs.Prelude.{◌≡◌, ◌+◌, ◌/◌, ◌<◌, ◌^◌, min};
+ghost use Rattle.std.specs.Option.{option_map};
+ghost use Rattle.abstract_num.specs.Plain.{view};
+ghost use Rattle.abstract_regs.specs.Seen.{seen};
+ghost use Rattle.abstract_regs.specs.Kind.{last_place};
+ghost use Rattle.abstract_regs.specs.Slots.{stack_place, stack_range, access_span, range_span, whole_slot};
+
+use crate::kind::Kind;
+use abstract_num::{Number, arithmetic, constant};
+use bpf_decode::{Arithmetic, Bits, Region};
+use std::marker::Model;
+
+/// Bytes of the stack: as many as `bytes`, from a place between `low` and `high` on.
+#[derive(Drop)]
+pub(crate) struct StackSpan {
+    low: u64,
+    high: u64,
+    bytes: u64,
+}
+
+impl Model for StackSpan {
+    ghost use Rattle.std.specs.Prelude.{◌+◌};
+    ghost use Rattle.abstract_regs.specs.Slots.{Span};
+
+    ghost Value = { Span };
+
+    ghost view = { λ s. record { low = s.low; high = s.high + s.bytes } };
+}
+
+impl StackSpan {
+    /// The first slot that may have one of them.
+    pub fn first(&self) -> usize
+        ensures { result ≡ self.now.low / 8 }
+    {
+        (self.low / 8) as usize
+    }
+
+    /// The slot behind the last that may have one of them, of so many slots.
+    pub fn end(&self, count: usize) -> usize
+        ensures { result ≡ min count ((self.now.high + 7) / 8) }
+    {
+        let whole = self.high / 8 + self.bytes / 8;
+        let end = whole + (self.high % 8 + self.bytes % 8 + 7) / 8;
+        count.min(end as usize)
+    }
+}
+
+/// Where an access at a distance from what a kind points to may be in the stack.
+pub(crate) fn stack_place(kind: Kind, distance: u64) -> Option<Number>
+    ensures { option_map view result ≡ stack_place (seen kind) distance }
+{
+    match kind {
+        Kind::Ptr(Region::Stack, at) => {
+            arithmetic(Bits::Bits64, Arithmetic::Add, at, constant(distance))
+        }
+        Kind::Ptr(Region::Input | Region::Output, _) => None,
+        Kind::Unset | Kind::Num(_) => None,
+    }
+}
+
+/// The bytes of an access at a place.
+pub(crate) fn access_span(place: Option<Number>, bytes: usize) -> Option<StackSpan>
+    ensures { result ≡ access_span (option_map view place) bytes }
+{
+    match place {
+        None => None,
+        Some(place) => Some(StackSpan {
+            low: place.first.low,
+            high: place.first.high,
+            bytes: bytes as u64,
+        }),
+    }
+}
+
+/// The slot that an access is: eight bytes at one place, which is a multiple of 8.
+pub(crate) fn whole_slot(place: Option<Number>, bytes: usize) -> Option<usize>
+    ensures { result ≡ whole_slot (option_map view place) bytes }
+{
+    match place {
+        None => None,
+        Some(place) => {
+            let low = place.first.low;
+            if bytes == 8 && low == place.first.high && low % 8 == 0 {
+                Some((low / 8) as usize)
+            } else {
+                None
+            }
+        }
+    }
+}
+
+/// The bytes of a helper's range that is in the stack.
+pub(crate) fn stack_range(pointer: Kind, length: Kind) -> Option<StackSpan>
+    ensures { result ≡ stack_range (seen pointer) (seen length) }
+{
+    match (pointer, length) {
+        (Kind::Ptr(Region::Stack, at), Kind::Num(bytes)) => range_span(at, bytes),
+        (Kind::Ptr(Region::Stack, _), Kind::Unset | Kind::Ptr(_, _)) => None,
+        (Kind::Ptr(Region::Input | Region::Output, _), _) => None,
+        (Kind::Unset | Kind::Num(_), _) => None,
+    }
+}
+
+/// The bytes from an offset on, as many as a length may be; none, where it can only be 0.
+fn range_span(at: Number, length: Number) -> Option<StackSpan>
+    ensures { result ≡ range_span (view at) (view length) }
+{
+    if length.first.high == 0 {
+        None
+    } else {
+        Some(StackSpan {
+            low: at.first.low,
+            high: at.first.high,
+            bytes: length.first.high,
+        })
+    }
+}
