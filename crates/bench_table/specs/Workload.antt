@@ -1,7 +1,8 @@
 -- The methods that are measured, and what a run of one is.
 use Rattle.std.specs.Prelude.{◌≡◌, ℕ, List, [], ◌∷◌, ◌++◌, None, Some, codes, length}
 use Rattle.std.specs.List.{flat_map, repeat}
-use Rattle.bpf_decode.specs.Class.{ClassMethod}
+use Rattle.bpf_decode.specs.Class.{Class, ClassMethod}
+use Rattle.bpf_decode.specs.declared.rule_set.RuleSet.{RuleSet}
 use Rattle.bpf_decode.specs.Instruction.{IsCode}
 use Rattle.bpf_machine.specs.State.{Outcome}
 use Rattle.bpf_machine.specs.Safe.{RunsTo}
@@ -16,10 +17,11 @@ exit = 0x95 ∷ 0 ∷ 0 ∷ 0 ∷ 0 ∷ 0 ∷ 0 ∷ 0 ∷ []
 abbrev pub code_bytes : Workload → List ℕ
 code_bytes w = flat_map (λ x. x) w.head ++ repeat w.rounds (flat_map (λ x. x) w.cycle) ++ exit
 
--- a class of one method `f`, that gives no output, with that code, flags and in_cap
-pub record IsClassOf (code : List ℕ) (flags in_cap : ℕ) (class : List ClassMethod) : Type 0 where
+-- a class of one method `f`, that gives no output, with that rule set, code, flags and in_cap
+pub record IsClassOf (rules : RuleSet) (code : List ℕ) (flags in_cap : ℕ) (class : Class) : Type 0 where
+  pub set : class.rules ≡ rules
   pub method : ClassMethod
-  pub only : class ≡ method ∷ []
+  pub only : class.methods ≡ method ∷ []
   pub name : method.name ≡ codes "f"
   pub declared : method.flags ≡ flags
   pub takes : method.in_cap ≡ in_cap
@@ -40,7 +42,7 @@ pub record RunsIn (class : List ClassMethod) (steps : ℕ) : Type 0 where
 
 -- the method in a class of its own, with its instructions and steps
 pub record IsReady (w : Workload) (r : Ready) : Type 0 where
-  pub written : IsClassOf (code_bytes w) 1 0 r.image
-  pub verified : r.class ≡ r.image
-  pub counted : r.instructions ≡ first_length r.image
-  pub ran : RunsIn r.image r.steps
+  pub written : IsClassOf w.rules (code_bytes w) 1 0 r.image
+  pub verified : r.class ≡ r.image.methods
+  pub counted : r.instructions ≡ first_length r.image.methods
+  pub ran : RunsIn r.image.methods r.steps

@@ -3,6 +3,7 @@ ghost use Rattle.bench_table.specs.Subject.{subject_text};
 
 use crate::workload::class_of;
 use anyhow::Result;
+use bpf_decode::RuleSet;
 use interp::call;
 use object_store::{DATA_LIMIT, KEY_LIMIT, Object, StoreError, XATTR_LIMIT, calls};
 use std::alloc::Global;
@@ -95,7 +96,7 @@ impl Subject {
 
     /// Its class, and its object.
     pub fn ready(self, alloc: Global) -> Result<Beside> {
-        let image = class_of(alloc, self.code(), 3, INPUT.len() as u16)?;
+        let image = class_of(alloc, RuleSet::One, self.code(), 3, INPUT.len() as u16)?;
         Ok(Beside {
             class: verify(alloc, &image)?,
             object: self.object(alloc)?,

@@ -15,6 +15,7 @@ type Slot = [u8; 8];
 pub struct Workload {
     /// What the table calls it.
     pub name: &'static str,
+    pub rules: RuleSet,
     pub head: [Slot; 3],
     pub cycle: [Slot; 4],
     pub rounds: usize,
@@ -114,67 +115,92 @@ const CHECKED: [Slot; 4] = [
     [0x71, 0x40, 0, 0, 0, 0, 0, 0],
 ];
 
+/// `stxdw [r10-8], r6`, `stxdw [r10-16], r3`, `ldxdw r4, [r10-8]`, `ldxdw r5, [r10-16]`: a number and a pointer, spilled.
+const SPILLS: [Slot; 4] = [
+    [0x7b, 0x6a, 0xf8, 0xff, 0, 0, 0, 0],
+    [0x7b, 0x3a, 0xf0, 0xff, 0, 0, 0, 0],
+    [0x79, 0xa4, 0xf8, 0xff, 0, 0, 0, 0],
+    [0x79, 0xa5, 0xf0, 0xff, 0, 0, 0, 0],
+];
+
 /// The methods that are measured, in the table's order. What the first takes is what a call costs beside its steps.
-pub const WORKLOADS: [Workload; 10] = [
+pub const WORKLOADS: [Workload; 11] = [
     Workload {
         name: "call",
+        rules: RuleSet::One,
         head: NUMBERS,
         cycle: ALU,
         rounds: 0,
     },
     Workload {
         name: "alu_100",
+        rules: RuleSet::One,
         head: NUMBERS,
         cycle: ALU,
         rounds: 24,
     },
     Workload {
         name: "alu_4000",
+        rules: RuleSet::One,
         head: NUMBERS,
         cycle: ALU,
         rounds: 999,
     },
     Workload {
         name: "mul_div",
+        rules: RuleSet::One,
         head: NUMBERS,
         cycle: MUL_DIV,
         rounds: 249,
     },
     Workload {
         name: "loads",
+        rules: RuleSet::One,
         head: NUMBERS,
         cycle: LOADS,
         rounds: 249,
     },
     Workload {
         name: "checksum",
+        rules: RuleSet::One,
         head: STACK,
         cycle: CHECKSUM,
         rounds: 512,
     },
     Workload {
         name: "branches",
+        rules: RuleSet::One,
         head: NUMBERS,
         cycle: BRANCHES,
         rounds: 249,
     },
     Workload {
         name: "diamonds",
+        rules: RuleSet::One,
         head: NUMBERS,
         cycle: DIAMOND,
         rounds: 1000,
     },
     Workload {
         name: "ranges",
+        rules: RuleSet::One,
         head: STACK,
         cycle: RANGES,
         rounds: 249,
     },
     Workload {
         name: "checked",
+        rules: RuleSet::One,
         head: STACK,
         cycle: CHECKED,
         rounds: 249,
+    },
+    Workload {
+        name: "spills",
+        rules: RuleSet::Two,
+        head: NUMBERS,
+        cycle: SPILLS,
+        rounds: 999,
     },
 ];
 
@@ -192,9 +218,9 @@ impl Workload {
 
     /// A class of one method, `f`, which has that code.
     fn image(&self, alloc: Global) -> Result<ClassImage>
-        ensures { IfOk result (λ c. IsClassOf (code_bytes self.now) 1 0 c) }
+        ensures { IfOk result (IsClassOf self.now.rules (code_bytes self.now) 1 0) }
     {
-        class_of(alloc, &self.code(alloc)?, 1, 0)
+        class_of(alloc, self.rules, &self.code(alloc)?, 1, 0)
     }
 
     /// The method in a class of its own, verified and run once.
@@ -214,14 +240,20 @@ impl Workload {
     }
 }
 
-/// A class of one method, `f`, which has that code, flags and in_cap, and no output.
-pub fn class_of(alloc: Global, code: &[u8], flags: u8, in_cap: u16) -> Result<ClassImage>
-    ensures { IfOk result (λ c. IsClassOf code.now flags in_cap c) }
+/// A class of one method, `f`, which has that code, flags and in_cap, and no output, with that rule set.
+pub fn class_of(
+    alloc: Global,
+    rules: RuleSet,
+    code: &[u8],
+    flags: u8,
+    in_cap: u16,
+) -> Result<ClassImage>
+    ensures { IfOk result (IsClassOf rules code.now flags in_cap) }
 {
     let code = decode(alloc, code)?;
     let mut methods = Vec::new(alloc);
     methods.push(Method::new(String::from_str(alloc, "f")?, flags, in_cap, 0, code))?;
-    Ok(ClassImage::new(methods, RuleSet::One)?)
+    Ok(ClassImage::new(methods, rules)?)
 }
 
 /// How many instructions the class's first method has.

@@ -14,7 +14,7 @@ use Rattle.class_tool.specs.declared.failure.Failure.TheVariants as failure
 pub record IsRefusalNote (disk : Option Disk) (name : List ℕ) (refusal : Refusal) (note : List ℕ) : Type 0 where
   pub class : Class
   pub image : IsImageIn disk name class
-  pub told : note ≡ refusal_note class.methods refusal
+  pub told : note ≡ refusal_note class refusal
 
 -- of a failed load the note of the refusal, and else nothing
 abbrev pub IsLoadNote : Option Disk → List ℕ → Failure → List ℕ → Type 0

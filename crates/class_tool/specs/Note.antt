@@ -5,7 +5,8 @@ use Rattle.abstract_num.specs.Plain.{Plain}
 use Rattle.abstract_regs.specs.Frame.{PlainFrame, kind_at}
 use Rattle.abstract_regs.specs.Kind.{PlainKind, Unset, Num, Ptr}
 use Rattle.bpf_asm.specs.Canonical.{canonical_text}
-use Rattle.bpf_decode.specs.Class.{ClassMethod}
+use Rattle.bpf_decode.specs.Class.{Class, ClassMethod}
+use Rattle.bpf_decode.specs.declared.rule_set.RuleSet.{RuleSet}
 use Rattle.bpf_decode.specs.Instruction.{slots}
 use Rattle.bpf_decode.specs.declared.insn.Insn.{Insn}
 use Rattle.bpf_decode.specs.declared.insn.Insn.TheVariants.{Alu, Neg, Mov, MovSigned, End, LoadWide, Load, LoadSigned, Store, Jump, JumpLong, Branch, Call, CallLocal, Exit}
@@ -23,7 +24,7 @@ use Rattle.verifier.specs.Rules.{register_count}
 use Rattle.verifier.specs.Verdict.{frame_at, method_verdict, whole_table}
 use Rattle.verifier.specs.declared.refusal.Refusal.{Refusal}
 use Rattle.verifier.specs.declared.rule.Rule.{Rule}
-use Rattle.verifier.specs.declared.rule.Rule.TheVariants.{Backward, Target, FallsOff, LocalCall, UnsetRead, WritesR10, PointerArithmetic, PointerCompare, PointerStored, Bounds, ReadOnlyRegion, UnknownHelper, HelperArgument, WriteHelperInReader, ReturnsPointer, NoMemory}
+use Rattle.verifier.specs.declared.rule.Rule.TheVariants.{Backward, Target, FallsOff, LocalCall, UnsetRead, WritesR10, PointerArithmetic, PointerCompare, PointerStored, Bounds, ReadOnlyRegion, UnknownHelper, HelperArgument, WriteHelperInReader, ReturnsPointer, NoMemory, PointerBytes}
 
 -- ---- the registers that an instruction reads
 abbrev pub is_source : Operand → ℕ → Bool
@@ -104,6 +105,7 @@ wanted HelperArgument = codes "the arguments in the order of the helper, and an 
 wanted WriteHelperInReader = codes "flags w or rw"
 wanted ReturnsPointer = codes "a number in register 0"
 wanted NoMemory = codes "more memory"
+wanted PointerBytes = codes "a stored pointer loaded whole, 8 bytes from its place, and given to no helper"
 
 -- the method and its capacities
 abbrev pub head_text : ClassMethod → List ℕ
@@ -121,18 +123,18 @@ abbrev pub at_slot : ClassMethod → Rule → Option Insn → Option PlainFrame 
 at_slot m rule None known = []
 at_slot m rule (Some i) known = slot_text m rule i known
 
-abbrev pub of_verdict : ClassMethod → Option (ℕ × Rule) → List ℕ
-of_verdict m None = []
-of_verdict m (Some at) = at_slot m at.1 (fetch (slots m.instructions) at.0) (frame_at (whole_table (caps_of m) (slots m.instructions)) at.0)
+abbrev pub of_verdict : RuleSet → ClassMethod → Option (ℕ × Rule) → List ℕ
+of_verdict rules m None = []
+of_verdict rules m (Some at) = at_slot m at.1 (fetch (slots m.instructions) at.0) (frame_at (whole_table rules (caps_of m) (slots m.instructions)) at.0)
 
-abbrev pub of_method : Option ClassMethod → List ℕ
-of_method None = []
-of_method (Some m) = of_verdict m (method_verdict m)
+abbrev pub of_method : RuleSet → Option ClassMethod → List ℕ
+of_method rules None = []
+of_method rules (Some m) = of_verdict rules m (method_verdict rules m)
 
 abbrev pub unless_memory : Rule → List ℕ → List ℕ
 unless_memory NoMemory text = []
 unless_memory rule text = text
 
 -- What is told of a class that is refused so; nothing where memory was refused.
-abbrev pub refusal_note : List ClassMethod → Refusal → List ℕ
-refusal_note ms refusal = unless_memory refusal.rule (of_method (slice_get ms refusal.method))
+abbrev pub refusal_note : Class → Refusal → List ℕ
+refusal_note c refusal = unless_memory refusal.rule (of_method c.rules (slice_get c.methods refusal.method))

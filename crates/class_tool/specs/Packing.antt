@@ -1,6 +1,6 @@
 -- What `pack` writes, and why it does not.
 use Rattle.std.specs.Prelude.{◌≡◌, ◌⊎◌, ⊤, ℕ, List, [], ◌∷◌, ◌++◌, Option, Err, length}
-use Rattle.bpf_decode.specs.declared.rule_set.RuleSet.TheVariants.{One}
+use Rattle.bpf_decode.specs.declared.rule_set.RuleSet.{RuleSet}
 use Rattle.bpf_decode.specs.Class.{ClassMethod, IsImage}
 use Rattle.bpf_decode.specs.ImageReading.{class_of}
 use Rattle.bpf_decode.specs.Instruction.{IsCode}
@@ -35,16 +35,16 @@ AreMethodsIn disk [] (method ∷ methods) = ⊥
 AreMethodsIn disk (raw ∷ raws) [] = ⊥
 AreMethodsIn disk (raw ∷ raws) (method ∷ methods) = IsMethodIn disk raw method × AreMethodsIn disk raws methods
 
--- the bytes are the image of the class of those methods, in rule set 1
-pub record IsPackedOf (disk : Option Disk) (raws : List RawMethod) (bytes : List ℕ) : Type 0 where
+-- the bytes are the image of the class of those methods, which is verified by those rules
+pub record IsPackedOf (disk : Option Disk) (rules : RuleSet) (raws : List RawMethod) (bytes : List ℕ) : Type 0 where
   pub class : List ClassMethod
   pub methods : AreMethodsIn disk raws class
-  pub image : IsImage bytes (record { rules = One; methods = class })
+  pub image : IsImage bytes (record { rules = rules; methods = class })
 
 -- The image is written, and every other file is as it was.
 pub record Packs (before after : Storage) (asked : Packing) : Type 0 where
   pub bytes : List ℕ
-  pub packed : IsPackedOf before.disk asked.methods.items bytes
+  pub packed : IsPackedOf before.disk asked.rules asked.methods.items bytes
   pub writes : Writes before after asked.image.now bytes
 
 -- the file's bytes are refused as code, by the first refusal in reading order
@@ -77,32 +77,32 @@ pub record MethodsFail (disk : Option Disk) (raws : List RawMethod) (failure : F
   pub why : CodeFails disk next.code.now (length first) failure
 
 -- Why methods have no image: memory was refused, or they are no class, by the first refusal in the order of its fields.
-abbrev pub ClassFails : List ClassMethod → Failure → Type 0
-ClassFails methods CannotRead = ⊥
-ClassFails methods CannotWrite = ⊥
-ClassFails methods NoMemory = ⊤
-ClassFails methods (Text error) = ⊥
-ClassFails methods (Image error) = class_of One methods ≡ Err error
-ClassFails methods (Verdict refusal) = ⊥
-ClassFails methods InputNotHex = ⊥
-ClassFails methods ObjectNotHex = ⊥
-ClassFails methods (Object error) = ⊥
-ClassFails methods (Call error) = ⊥
+abbrev pub ClassFails : RuleSet → List ClassMethod → Failure → Type 0
+ClassFails rules methods CannotRead = ⊥
+ClassFails rules methods CannotWrite = ⊥
+ClassFails rules methods NoMemory = ⊤
+ClassFails rules methods (Text error) = ⊥
+ClassFails rules methods (Image error) = class_of rules methods ≡ Err error
+ClassFails rules methods (Verdict refusal) = ⊥
+ClassFails rules methods InputNotHex = ⊥
+ClassFails rules methods ObjectNotHex = ⊥
+ClassFails rules methods (Object error) = ⊥
+ClassFails rules methods (Call error) = ⊥
 
 -- all methods were read, and have no image
-pub record PackedFails (disk : Option Disk) (raws : List RawMethod) (failure : Failure) : Type 0 where
+pub record PackedFails (disk : Option Disk) (rules : RuleSet) (raws : List RawMethod) (failure : Failure) : Type 0 where
   pub methods : List ClassMethod
   pub read : AreMethodsIn disk raws methods
-  pub why : ClassFails methods failure
+  pub why : ClassFails rules methods failure
 
 -- the class was right, and a write of the image failed
 pub record PackWriteFails (before after : Storage) (asked : Packing) (failure : Failure) : Type 0 where
   pub said : failure ≡ CannotWrite
   pub bytes : List ℕ
-  pub packed : IsPackedOf before.disk asked.methods.items bytes
+  pub packed : IsPackedOf before.disk asked.rules asked.methods.items bytes
   pub fails : FailsToWrite before after asked.image.now
 
 -- Why no image was written, in the order in which it is tried. Before the write every file is as it was.
 abbrev pub PackFails : Storage → Storage → Packing → Failure → Type 0
 PackFails before after asked failure =
-    ((after ≡ before) × (MethodsFail before.disk asked.methods.items failure ⊎ PackedFails before.disk asked.methods.items failure)) ⊎ PackWriteFails before after asked failure
+    ((after ≡ before) × (MethodsFail before.disk asked.methods.items failure ⊎ PackedFails before.disk asked.rules asked.methods.items failure)) ⊎ PackWriteFails before after asked failure

@@ -1,3 +1,4 @@
+use bpf_decode::RuleSet;
 use pg_log::ClientId;
 
 /// A name and a value that an object has, as words spell them.
@@ -50,6 +51,8 @@ pub struct RawMethod<'a> {
 pub struct Packing<'a> {
     /// The file that becomes the image.
     pub image: &'a str,
+    /// The rules by which the class is verified.
+    pub rules: RuleSet,
     /// The methods, in their order.
     pub methods: Vec<RawMethod<'a>>,
 }

@@ -12,7 +12,7 @@ ghost use Rattle.verifier.specs.Verdict.{method_verdict};
 
 use abstract_num::Number;
 use abstract_regs::{Frame, Kind};
-use bpf_decode::{ClassImage, Insn, Method, Operand, Region};
+use bpf_decode::{ClassImage, Insn, Method, Operand, Region, RuleSet};
 use helpers::{Argument, signature};
 use std::alloc::{AllocError, Global};
 use verifier::{Refusal, RefusedSlot, Rule, refused_slot};
@@ -180,6 +180,9 @@ fn wanted(rule: Rule) -> &'static str
         Rule::WriteHelperInReader => "flags w or rw",
         Rule::ReturnsPointer => "a number in register 0",
         Rule::NoMemory => "more memory",
+        Rule::PointerBytes => {
+            "a stored pointer loaded whole, 8 bytes from its place, and given to no helper"
+        }
     }
 }
 
@@ -224,12 +227,12 @@ fn slot_text(alloc: Global, method: &Method, refused: &RefusedSlot) -> Result<St
     Ok(text)
 }
 
-/// What is told of a method: nothing where no rule refuses it.
-fn of_verdict(alloc: Global, method: &Method) -> Result<String, AllocError>
+/// What is told of a method under a rule set: nothing where no rule refuses it.
+fn of_verdict(alloc: Global, rules: RuleSet, method: &Method) -> Result<String, AllocError>
     requires { IsMethod method.now }
-    ensures { IfOk result (λ text. string_bytes text ≡ of_verdict method.now (method_verdict method.now)) }
+    ensures { IfOk result (λ text. string_bytes text ≡ of_verdict rules method.now (method_verdict rules method.now)) }
 {
-    match refused_slot(alloc, method)? {
+    match refused_slot(alloc, rules, method)? {
         Some(refused) => slot_text(alloc, method, &refused),
         None => Ok(String::new(alloc)),
     }
@@ -241,13 +244,13 @@ pub(crate) fn refusal_note(
     class: &ClassImage,
     refusal: &Refusal,
 ) -> Result<String, AllocError>
-    ensures { IfOk result (λ text. string_bytes text ≡ refusal_note class.now.methods refusal.now) }
+    ensures { IfOk result (λ text. string_bytes text ≡ refusal_note class.now refusal.now) }
 {
     if let Rule::NoMemory = refusal.rule {
         return Ok(String::new(alloc));
     }
     match class.methods().get(refusal.method) {
-        Some(method) => of_verdict(alloc, method),
+        Some(method) => of_verdict(alloc, class.rules(), method),
         None => Ok(String::new(alloc)),
     }
 }

@@ -1,5 +1,4 @@
 ghost use Rattle.std.specs.Prelude.{◌⊎◌, IfOk, IfErr};
-ghost use Rattle.bpf_decode.specs.declared.rule_set.RuleSet.TheVariants.{One};
 ghost use Rattle.bpf_decode.specs.Class.{IsImage};
 ghost use Rattle.class_tool.specs.Files.{storage};
 ghost use Rattle.class_tool.specs.Packing.{AreMethodsIn, ClassFails, CodeFails, IsCodeIn, IsMethodIn, IsPackedOf, MethodsFail, PackFails, PackedFails, Packs};
@@ -65,12 +64,12 @@ fn methods_in<F: Reads>(
     Ok(methods)
 }
 
-/// The image of the class of those methods, in rule set 1.
-fn image_of(alloc: Global, methods: Vec<Method>) -> Result<Vec<u8>, Failure>
-    ensures image { IfOk result (λ bytes. IsImage bytes.items (record { rules = One; methods = methods.items })) }
-    ensures fails { IfErr result (ClassFails methods.items) }
+/// The image of the class of those methods, verified by those rules.
+fn image_of(alloc: Global, rules: RuleSet, methods: Vec<Method>) -> Result<Vec<u8>, Failure>
+    ensures image { IfOk result (λ bytes. IsImage bytes.items (record { rules = rules; methods = methods.items })) }
+    ensures fails { IfErr result (ClassFails rules methods.items) }
 {
-    let class = match ClassImage::new(methods, RuleSet::One) {
+    let class = match ClassImage::new(methods, rules) {
         Ok(class) => class,
         Err(error) => return Err(Failure::Image(error)),
     };
@@ -81,12 +80,17 @@ fn image_of(alloc: Global, methods: Vec<Method>) -> Result<Vec<u8>, Failure>
 }
 
 /// The image of the class of the methods whose raw code files hold.
-fn packed<F: Reads>(alloc: Global, files: &F, raws: &[RawMethod<'_>]) -> Result<Vec<u8>, Failure>
-    ensures packed { IfOk result (λ bytes. IsPackedOf (F.disk files.now) raws.now bytes.items) }
-    ensures fails { IfErr result (λ e. MethodsFail (F.disk files.now) raws.now e ⊎ PackedFails (F.disk files.now) raws.now e) }
+fn packed<F: Reads>(
+    alloc: Global,
+    files: &F,
+    rules: RuleSet,
+    raws: &[RawMethod<'_>],
+) -> Result<Vec<u8>, Failure>
+    ensures packed { IfOk result (λ bytes. IsPackedOf (F.disk files.now) rules raws.now bytes.items) }
+    ensures fails { IfErr result (λ e. MethodsFail (F.disk files.now) raws.now e ⊎ PackedFails (F.disk files.now) rules raws.now e) }
 {
     let methods = methods_in(alloc, files, raws)?;
-    image_of(alloc, methods)
+    image_of(alloc, rules, methods)
 }
 
 /// Writes the image of the class of those methods, whose raw code files hold. Nothing is written before all files are
@@ -95,7 +99,7 @@ pub fn pack<F: Files>(alloc: Global, files: &mut F, asked: &Packing<'_>) -> Resu
     ensures ok { IfOk result (λ _. Packs (storage F.disk F.failed files.old) (storage F.disk F.failed files.new) asked.now) }
     ensures err { IfErr result (PackFails (storage F.disk F.failed files.old) (storage F.disk F.failed files.new) asked.now) }
 {
-    let bytes = packed(alloc, files, &asked.methods)?;
+    let bytes = packed(alloc, files, asked.rules, &asked.methods)?;
     match files.write(asked.image, &bytes) {
         Ok(()) => Ok(()),
         Err(_) => Err(Failure::CannotWrite),

@@ -46,6 +46,7 @@ same_values u v us vs same also (Run call) takes = record {
 same_values u v us vs same also (Assemble text image) takes = (sym (same (codes "IN")) ∙ takes.0, sym (same (codes "OUT")) ∙ takes.1)
 same_values u v us vs same also (Pack asked) takes = record {
   image = sym (same (codes "OUT")) ∙ takes.image;
+  rules = record { text = takes.rules.text; there = sym (same (codes "rules")) ∙ takes.rules.there; named = takes.rules.named };
   methods = subst (λ (texts : Option (List Text)). AreRaw (texts_of texts) asked.methods.items) (also (codes "METHOD")) takes.methods;
 }
 same_values u v us vs same also (Disassemble image has_slots) takes = (sym (same (codes "IN")) ∙ takes.0, takes.1 ∙ ap is_set (same (codes "slots")))

@@ -3,6 +3,8 @@ use Rattle.std.specs.Prelude.{◌≡◌, ℕ, ◌<◌, ◌≤◌, ◌^◌, Bool,
 use Rattle.std.specs.Option.{unwrap_or}
 use Rattle.std.specs.Str.{bytes_eq}
 use Rattle.std.specs.Str.Parse.{IsNumeral, digits_value, without_leading_plus}
+use Rattle.bpf_decode.specs.declared.rule_set.RuleSet.{RuleSet}
+use Rattle.bpf_decode.specs.declared.rule_set.RuleSet.TheVariants.{One, Two}
 use Rattle.class_tool.specs.declared.action.Action.{Action}
 use Rattle.class_tool.specs.declared.action.Action.TheVariants.{Verify, Run, Assemble, Pack, Disassemble}
 use Rattle.class_tool.specs.declared.action.Call.{Call}
@@ -39,9 +41,20 @@ abbrev pub is_set : Option (List ℕ) → Bool
 is_set None = false
 is_set (Some text) = bytes_eq text (codes "true")
 
--- what `pack` takes from the values: the file OUT of the image, and a method of each METHOD
+-- the rule set that a text names
+abbrev pub rules_named : List ℕ → Option RuleSet
+rules_named text = if bytes_eq text (codes "1") then Some One else if bytes_eq text (codes "2") then Some Two else None
+
+-- --rules names the rule set
+pub record TakesRules (value : List ℕ → Option (List ℕ)) (rules : RuleSet) : Type 0 where
+  pub text : List ℕ
+  pub there : value (codes "rules") ≡ Some text
+  pub named : rules_named text ≡ Some rules
+
+-- what `pack` takes from the values: the file OUT of the image, the rule set --rules, and a method of each METHOD
 pub record TakesPacking (value : List ℕ → Option (List ℕ)) (values : List ℕ → Option (List (List ℕ))) (asked : Packing) : Type 0 where
   pub image : value (codes "OUT") ≡ Some asked.image.now
+  pub rules : TakesRules value asked.rules
   pub methods : AreRaw (texts_of (values (codes "METHOD"))) asked.methods.items
 
 -- what `run` takes from the values without the object

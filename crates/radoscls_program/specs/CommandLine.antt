@@ -1,6 +1,6 @@
 -- The command line: `verify IN [--explain]`, `run IN METHOD [--input HEX] [--caller N]
 -- [--object HEX] [--xattr NAME=HEX ..] [--key KEY=HEX ..] [--show] [--explain]`, `asm IN OUT [--explain]`,
--- `pack OUT METHOD .. [--explain]`, `dis IN [--slots] [--explain]`,
+-- `pack OUT METHOD .. [--rules N] [--explain]`, `dis IN [--slots] [--explain]`,
 -- `sim FILE [--class NAME=IMAGE ..] [--trace]`, and `cluster FILE [--class NAME=IMAGE ..] [--stats]`.
 use Rattle.std.specs.Prelude.{◌≡◌, Bool, List, [], ◌∷◌, Option, Some, None, true, false, pos, codes}
 use Rattle.clap.specs.Lexer.{usize_max}
@@ -64,8 +64,13 @@ asm_line = with_rule (with_rule (with_rule (new_app (codes "asm")) (required_rul
 abbrev pub methods_rule : Rule
 methods_rule = record (required_rule (codes "METHOD")) { range = Some (record { start_inclusive = 1; end_inclusive = usize_max }) }
 
+-- the rule set of a packed class
+abbrev pub rules_rule : Rule
+rules_rule = option_rule (codes "rules") (codes "1")
+
 abbrev pub pack_line : App
-pack_line = with_rule (with_rule (with_rule (new_app (codes "pack")) (required_rule (codes "OUT"))) methods_rule) explain_rule
+pack_line =
+    with_rule (with_rule (with_rule (with_rule (new_app (codes "pack")) (required_rule (codes "OUT"))) methods_rule) rules_rule) explain_rule
 
 abbrev pub dis_line : App
 dis_line = with_rule (with_rule (with_rule (new_app (codes "dis")) (required_rule (codes "IN"))) (flag_rule (codes "slots"))) explain_rule

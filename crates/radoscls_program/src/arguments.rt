@@ -3,11 +3,12 @@ ghost use Rattle.clap.specs.declared.builder.command.Command.{Command as AComman
 ghost use Rattle.clap.specs.declared.builder.command.Command.TheViews.{out-Command};
 ghost use Rattle.clap.specs.Words.{AddsArg, AddsSubcommand, all_of, app_of, fault_of, first_value, found_of, kind_of, new_app, rows_of, rule_of, subcommand_name_of, subcommand_of, subcommand_rows_of, with_rule};
 ghost use Rattle.tenant_classes.specs.declared.own_class.TheConstants.{OWN_LIMIT};
-ghost use Rattle.radoscls_program.specs.CommandLine.{Asks, AsksNoTask, AsksNothing, AsksTask, asm_line, call_line, caller_rule, class_rule, cluster_line, command_line, dis_line, each_rule, explain_rule, flag_rule, image_line, is_explained_in, methods_rule, option_rule, pack_line, plain_line, required_rule, run_line, sim_line, stats_rule, trace_rule, value_rule, verify_line};
-ghost use Rattle.radoscls_program.specs.Arguments.{AsksBy, IsClientNumber, NamesCluster, NamesFiles, NamesSim, TakesCall, TakesCluster, TakesPacking, TakesPlain, TakesSim, is_set, number_in, texts_of};
+ghost use Rattle.radoscls_program.specs.CommandLine.{Asks, AsksNoTask, AsksNothing, AsksTask, asm_line, call_line, caller_rule, class_rule, cluster_line, command_line, dis_line, each_rule, explain_rule, flag_rule, image_line, is_explained_in, methods_rule, option_rule, pack_line, plain_line, required_rule, rules_rule, run_line, sim_line, stats_rule, trace_rule, value_rule, verify_line};
+ghost use Rattle.radoscls_program.specs.Arguments.{AsksBy, IsClientNumber, NamesCluster, NamesFiles, NamesSim, TakesCall, TakesCluster, TakesPacking, TakesPlain, TakesRules, TakesSim, is_set, number_in, rules_named, texts_of};
 ghost use Rattle.radoscls_program.specs.Entries.{AreEntries};
 ghost use Rattle.radoscls_program.specs.Own.{Owns, are_own};
 ghost use Rattle.radoscls_program.specs.Raw.{AreRaw};
+ghost use Rattle.bpf_decode.specs.declared.rule_set.RuleSet.{RuleSet as ARuleSet};
 ghost use Rattle.class_tool.specs.declared.action.Call.{Call as ACall};
 ghost use Rattle.class_tool.specs.declared.action.Entry.{Entry as AnEntry};
 ghost use Rattle.class_tool.specs.declared.action.Packing.{Packing as APacking};
@@ -20,6 +21,7 @@ use crate::raw_method::raw_methods;
 use crate::task::Task;
 use clap::error::{Error, ErrorKind};
 use clap::{Arg, ArgAction, ArgMatches, Command, value_parser};
+use bpf_decode::RuleSet;
 use class_tool::{Action, Call, Entry, Packing, RawMethod};
 use cluster_tool::Clustering;
 use pg_log::ClientId;
@@ -234,16 +236,23 @@ fn methods_argument<'a>(alloc: Global) -> Arg<'a>
     required(alloc, "METHOD", help).num_args(1..)
 }
 
+/// The option of the rule set of a packed class.
+fn rules_option<'a>(alloc: Global) -> Arg<'a>
+    ensures rule { rule_of result ≡ rules_rule }
+    ensures local { result.global ≡ false }
+{
+    let help = "The rules by which the class is verified, 1 or 2";
+    option(alloc, "rules", "N", "1", help)
+}
+
 fn pack_command<'a>(alloc: Global) -> Result<Command<'a>, AllocError>
     ensures line { IfOk result (λ c. app_of c ≡ pack_line) }
     ensures local { IfOk result (λ c. (out-Command c).has_globals ≡ false) }
 {
     let about = "Writes the image of a class from raw code";
     let of_image = file_command(alloc, "pack", about, "OUT", "The file of the image");
-    with_arg(
-        with_arg(of_image, methods_argument(alloc)),
-        explain_flag(alloc),
-    )
+    let of_code = with_arg(of_image, methods_argument(alloc));
+    with_arg(with_arg(of_code, rules_option(alloc)), explain_flag(alloc))
 }
 
 fn dis_command<'a>(alloc: Global) -> Result<Command<'a>, AllocError>
@@ -456,6 +465,30 @@ fn methods_of<'a>(
     }
 }
 
+/// The rule set that a text names.
+fn rules_named(text: &str) -> Option<RuleSet>
+    ensures { result ≡ rules_named text.now }
+{
+    if text == "1" {
+        return Some(RuleSet::One);
+    }
+    if text == "2" {
+        return Some(RuleSet::Two);
+    }
+    None
+}
+
+/// The rule set that --rules names.
+fn rules_of(matches: &ArgMatches<'_>) -> Option<RuleSet>
+    ensures some { IfSome result (TakesRules (first_value (found_of matches.now))) }
+    ensures none { IfNone result ((rules : ARuleSet) → TakesRules (first_value (found_of matches.now)) rules → ⊥) }
+{
+    match matches.get_str("rules") {
+        Some(text) => rules_named(text),
+        None => None,
+    }
+}
+
 /// What `pack` asks for.
 fn packing_of<'a>(
     alloc: Global,
@@ -467,8 +500,15 @@ fn packing_of<'a>(
     let Some(image) = matches.get_str("OUT") else {
         return Ok(None);
     };
+    let Some(rules) = rules_of(matches) else {
+        return Ok(None);
+    };
     match methods_of(alloc, matches)? {
-        Some(methods) => Ok(Some(Packing { image, methods })),
+        Some(methods) => Ok(Some(Packing {
+            image,
+            rules,
+            methods,
+        })),
         None => Ok(None),
     }
 }

@@ -6,7 +6,7 @@ use std::alloc::Global;
 use std::process::Abort;
 
 /// Instructions and steps of each method, counted by hand.
-const COUNTS: [(&str, usize, usize); 10] = [
+const COUNTS: [(&str, usize, usize); 11] = [
     ("call", 4, 4),
     ("alu_100", 100, 100),
     ("alu_4000", 4000, 4000),
@@ -17,6 +17,7 @@ const COUNTS: [(&str, usize, usize); 10] = [
     ("diamonds", 4004, 2504),
     ("ranges", 1000, 1000),
     ("checked", 1000, 1000),
+    ("spills", 4000, 4000),
 ];
 
 /// The instructions and the steps of the method with that name, by hand.
@@ -110,6 +111,7 @@ branches    1000   1000    9900.99       9.90      90.90
 diamonds    4004   2504   25000.00       9.98      83.25
 ranges      1000   1000    9900.99       9.90      90.90
 checked     1000   1000    9900.99       9.90      90.90
+spills      4000   4000   38461.53       9.61      83.33
 ns/call write a byte to 1 KiB       1000.00
 ns/call write a byte to 64 KiB      1000.00
 ns/call map_set beside 1 key        1000.00
