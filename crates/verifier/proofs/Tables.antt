@@ -13,12 +13,13 @@ use Rattle.bpf_machine.specs.Typed.{fetch}
 use Rattle.verifier.specs.declared.rule.Rule.{Rule}
 use Rattle.abstract_regs.specs.Frame.{PlainFrame}
 use Rattle.abstract_regs.specs.Flow.{flow}
+use Rattle.abstract_regs.specs.Moves.{EachFits, Keeps}
 use Rattle.verifier.specs.declared.pass.Pass.{Pass}
 use Rattle.verifier.specs.Frame.{entry}
 use Rattle.verifier.specs.Rules.{rule_at, room_of}
 use Rattle.verifier.specs.Kept.{unbox}
 use Rattle.verifier.specs.Verdict.{Table, frame_at, joined, met, along, unless_refused, flow_from, start, incoming, frames, whole_table, IsTable, or_else, first_refused}
-use Rattle.verifier.specs.Pass.{merged, fallen, awaited, flown, HasLeft, IsSpaced, IsSound}
+use Rattle.verifier.specs.Pass.{merged, fallen, awaited, flown, HasLeft, IsSpaced, IsSound, Sound}
 
 get_left : {A : Type 0} (xs ys : List A) (p : ℕ) → p < length xs → slice_get (xs ++ ys) p ≡ slice_get xs p
 get_left [] ys p h = absurd (omega arith)
@@ -56,6 +57,23 @@ merged_is table a q g lt = ⊎_elim
     (λ e. subst (λ n. frame_at (merged table n g) q ≡ met n g q (frame_at table q)) (sym e)
     (ap (λ o. o >>= λ f. f) (get_same table q (Some (joined (frame_at table q) g)) lt) ∙ sym (cond-true _ _ _ (eq-eqb q q refl))))
     (λ n. ap (λ o. o >>= λ f. f) (get_other table a q _ n) ∙ sym (cond-false _ _ _ (ne_eqb a q n))) (cases_eq a q)
+
+-- the one edge of a jump, which is kept
+pub leaves_one : (frame : Option PlainFrame) (f h : PlainFrame) (kept : Table) (pass : Pass) (i : Insn) (p a w : ℕ) → frame ≡ Some f → flow (room_of i) i p f ≡ (a, h) ∷ [] → w ≡ slot_count i → pass.kept ≡ merged kept a h → unbox pass.current ≡ None → pass.landing ≡ p + w → HasLeft frame kept i p pass
+leaves_one frame f h kept pass i p a w is flows width merges current landing = record {
+  landing = landing ∙ ap (λ n. p + n) width;
+  size = ap length merges ∙ length-set kept a _;
+  flows = λ q lt.
+      ap (λ o. fallen o pass.landing q (frame_at pass.kept q)) current
+      ∙ ap (λ t. frame_at t q) merges ∙ merged_is kept a q h lt
+      ∙ sym (ap (λ o. flown o i p q (frame_at kept q)) is ∙ ap (λ edges. along edges q (frame_at kept q)) flows);
+}
+
+-- what a flow keeps, of the frame at hand
+pub is_sound : (frame : Option PlainFrame) (f g : PlainFrame) (room : Option ℕ) (i : Insn) (p : ℕ) → frame ≡ Some f → g ≡ f → room ≡ room_of i → Keeps room i p g → EachFits g.registers → IsSound i p frame
+is_sound frame f g room i p is same rooms keeps fits =
+    let sound : Sound i p g = record { keeps = subst (λ r. Keeps r i p g) rooms keeps; fits = fits } in
+    subst (IsSound i p) (sym (is ∙ ap Some (sym same))) sound
 
 -- both edges of a jump: one is kept, the other falls through
 pub leaves_both : (frame : Option PlainFrame) (f g h : PlainFrame) (kept : Table) (pass : Pass) (i : Insn) (p a w : ℕ) → frame ≡ Some f → flow (room_of i) i p f ≡ (a, h) ∷ (p + slot_count i, g) ∷ [] → w ≡ slot_count i → pass.kept ≡ merged kept a h → unbox pass.current ≡ Some g → pass.landing ≡ p + w → HasLeft frame kept i p pass

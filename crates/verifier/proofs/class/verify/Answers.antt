@@ -1,4 +1,4 @@
-use Rattle.std.proofs.Common.{◌+◌, ◌<◌, ◌++◌, [], ◌∷◌, refl, drop, get_or, ◌≡◌, ◌≤◌, ℕ, ap, ◌∙◌, sym, subst, arith, length, ◌⊎◌, Some, List, inl, inr}
+use Rattle.std.proofs.Common.{◌+◌, ◌<◌, ◌++◌, [], ◌∷◌, refl, drop, get_or, ◌≡◌, ◌≤◌, ℕ, ap, ◌∙◌, sym, subst, arith, length, ◌⊎◌, None, Some, List, inl, inr}
 use Rattle.std.proofs.lemmas.Option.{slice_get_read}
 use Rattle.std.proofs.lemmas.Result.{err_from_is_err_and}
 use Rattle.std.proofs.lemmas.List.{drop_all, take_all}
@@ -7,7 +7,7 @@ use Rattle.bpf_decode.specs.Class.{ClassMethod, Class, IsClass, IsMethod}
 use Rattle.bpf_decode.specs.declared.rule_set.RuleSet.{RuleSet}
 use Rattle.bpf_machine.specs.Safe.{IsSafe}
 use Rattle.verifier.specs.declared.refusal.Refusal.{Refusal}
-use Rattle.verifier.specs.Verdict.{verdict_from, class_verdict, or_later, out_of_memory, IsFirst, IsDeserved}
+use Rattle.verifier.specs.Verdict.{verdict_from, class_verdict, method_verdict, or_later, out_of_memory, IsFirst, IsDeserved}
 use Rattle.verifier.proofs.Verdicts.{deserved}
 use Rattle.std.specs.Prelude.{slice_get}
 use Rattle.verifier.proofs.Tables.{drop_head}
@@ -21,6 +21,10 @@ refusal_is rules ms number m r at rest (inr first) =
     let later = verdict_from rules (number + 1) (drop (number + 1) ms) in
     inr (sym rest ∙ ap (verdict_from rules number) (drop_head ms number m at) ∙ ap (λ o. or_later number o later) first.1 ∙ ap (λ k. Some (record { method = k; slot = r.slot; rule = r.rule })) (sym first.0))
 
+-- by the same rule set
+first_by : (rules rules' : RuleSet) (number : ℕ) (m : ClassMethod) (r : Refusal) → rules' ≡ rules → (r ≡ out_of_memory) ⊎ IsFirst rules' number m r → (r ≡ out_of_memory) ⊎ IsFirst rules number m r
+first_by rules rules' number m r same first = subst (λ s. (r ≡ out_of_memory) ⊎ IsFirst s number m r) same first
+
 deserved_if : (c : Class) (r : Refusal) → (r ≡ out_of_memory) ⊎ (class_verdict c ≡ Some r) → (r ≡ out_of_memory) ⊎ IsDeserved c r
 deserved_if c r (inl e) = inl e
 deserved_if c r (inr e) = inr (deserved c r e)
@@ -33,7 +37,7 @@ returns-in_err-push_verified-clause-refused c =
     let at : slice_get image number ≡ Some c.method-item.result =
     slice_get_read image (length image) number c.method-item.result refl few (c.method-item.is ∙ ap (λ ms. get_or ms number c.method-item.result) c.methods-method-items.ensures.methods) in
     let p = err_from_is_err_and c.from_residual.result c.from_residual.ensures.1 in
-    rw (p.1, p.2) (refusal_is c.args.image.now.rules image number c.method-item.result c.in_err-push_verified.field-0.0 at c.loop-number.invariant.rest c.in_err-push_verified.ensures.refused)
+    rw (p.1, p.2) (refusal_is c.args.image.now.rules image number c.method-item.result c.in_err-push_verified.field-0.0 at c.loop-number.invariant.rest (first_by c.args.image.now.rules c.rules.result number c.method-item.result c.in_err-push_verified.field-0.0 c.rules.ensures c.in_err-push_verified.ensures.refused))
 
 pub returns-in_err-push_verified-clause-deserved : goal.returns-in_err-push_verified-clause-deserved
 returns-in_err-push_verified-clause-deserved c =
@@ -43,7 +47,7 @@ returns-in_err-push_verified-clause-deserved c =
     let at : slice_get image number ≡ Some c.method-item.result =
     slice_get_read image (length image) number c.method-item.result refl few (c.method-item.is ∙ ap (λ ms. get_or ms number c.method-item.result) c.methods-method-items.ensures.methods) in
     let p = err_from_is_err_and c.from_residual.result c.from_residual.ensures.1 in
-    rw (p.1, p.2) (deserved_if c.args.image.now c.in_err-push_verified.field-0.0 (refusal_is c.args.image.now.rules image number c.method-item.result c.in_err-push_verified.field-0.0 at c.loop-number.invariant.rest c.in_err-push_verified.ensures.refused))
+    rw (p.1, p.2) (deserved_if c.args.image.now c.in_err-push_verified.field-0.0 (refusal_is c.args.image.now.rules image number c.method-item.result c.in_err-push_verified.field-0.0 at c.loop-number.invariant.rest (first_by c.args.image.now.rules c.rules.result number c.method-item.result c.in_err-push_verified.field-0.0 c.rules.ensures c.in_err-push_verified.ensures.refused)))
 
 pub returns-clause-safe : goal.returns-clause-safe
 returns-clause-safe c =
@@ -87,7 +91,7 @@ loop-number-preserved c =
     let at : slice_get image number ≡ Some m =
     slice_get_read image (length image) number m refl few (c.method-item.is ∙ ap (λ ms. get_or ms number m) c.methods-method-items.ensures.methods) in
     let more = drop_head image number m at in
-    let clear = c.in_ok-push_verified.ensures.accepted in
+    let clear = subst (λ s. method_verdict s m ≡ None) c.rules.ensures c.in_ok-push_verified.ensures.accepted in
     let rest = verdict_from c.args.image.now.rules (number + 1) (drop (number + 1) image) in
     record {
       safe = all_more IsSafe image number m at c.loop-number.invariant.safe c.in_ok-push_verified.ensures.safe;
