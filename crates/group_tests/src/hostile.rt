@@ -108,11 +108,11 @@ fn accepted(alloc: Global, bytes: &mut [u8], first: usize, step: usize) -> Optio
 }
 
 /// Accepted are 37 names, 3 flags, 273 capacities of the input and 273 of the output, `mov` and `mov32`, 1,024 immediates,
-/// and the image as it stands at each of the other 22 places.
+/// the other rule set, and the image as it stands at each of the other 22 places.
 #[test]
 fn two_instructions(rt: HostRuntime) {
     let mut bytes = TWO;
-    assert!(rt; accepted(rt.alloc(), &mut bytes, 0, 1) == Some(1634));
+    assert!(rt; accepted(rt.alloc(), &mut bytes, 0, 1) == Some(1635));
 }
 
 /// The image of the class `lock`.

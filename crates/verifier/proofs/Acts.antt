@@ -214,7 +214,7 @@ module _ (laws : Laws) (caps : Caps) (sizes : AreCapacities caps) (code : List (
         value = v.value;
         read = v.there;
         stored = stored_value (kind_at f o) v.value (placed r ((at + extended offset) % 2 ^ 64)) (byte_count width) v.holds set inside (λ pointer.
-        laws.places f (kind_at f base) (extended offset) (byte_count width) (fits_in f.registers base fits) (extended_small16 offset fit.1) (kept_if (is_ptr (kind_at f o)) (kept_kind f (kind_at f base) (extended offset) (byte_count width)) ok.stored pointer) vs long_vs r at holds);
+            laws.places f (kind_at f base) (extended offset) (byte_count width) (fits_in f.registers base fits) (extended_small16 offset fit.1) (kept_if (is_ptr (kind_at f o)) (kept_kind f (kind_at f base) (extended offset) (byte_count width)) ok.stored pointer) vs long_vs r at holds);
       }
 
   store_steps : (width : Width) (base : ℕ) (offset : ℤ) (x : Operand) → Fits (Store width base offset x) → Passed caps code p (Store width base offset x) f → Steps known caps (Store width base offset x) s

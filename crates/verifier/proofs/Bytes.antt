@@ -65,4 +65,3 @@ written_is xs at bytes h b le =
 pub as_plain : (bytes : List ℕ) → plain_bytes (as_cells bytes) ≡ Some bytes
 as_plain [] = refl
 as_plain (b ∷ bytes) = ap (λ (o : Option (List ℕ)). o >>= λ bs. Some (b ∷ bs)) (as_plain bytes)
-

@@ -102,12 +102,7 @@ fn insn_at(code: &[Option<Insn>], slot: usize) -> Option<Insn>
 
 impl Pass {
     /// Before slot 0, with the frame that a method begins with.
-    fn new(
-        alloc: Global,
-        rules: RuleSet,
-        caps: &Caps,
-        slots: usize,
-    ) -> Result<Pass, AllocError>
+    fn new(alloc: Global, rules: RuleSet, caps: &Caps, slots: usize) -> Result<Pass, AllocError>
         ensures kept { IfOk result (λ p. p.kept ≡ replicate slots None) }
         ensures current { IfOk result (λ p. unbox p.current ≡ Some (entry rules caps.now)) }
         ensures landing { IfOk result (λ p. p.landing ≡ 0) }

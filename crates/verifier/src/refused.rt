@@ -26,7 +26,11 @@ pub struct RefusedSlot {
 
 /// The first refused slot of a method under a rule set, with what the rule saw there; none where no rule refuses the method. It costs
 /// what `verify` does.
-pub fn refused_slot(alloc: Global, rules: RuleSet, method: &Method) -> Result<Option<RefusedSlot>, AllocError>
+pub fn refused_slot(
+    alloc: Global,
+    rules: RuleSet,
+    method: &Method,
+) -> Result<Option<RefusedSlot>, AllocError>
     requires { IsMethod method.now }
     ensures { IfOk result (λ r. MatchOption r (method_verdict rules method.now ≡ None) (IsFirstRefused rules (caps_of method.now) (slots method.now.instructions))) }
 {

@@ -56,7 +56,7 @@ impl Program {
     fn store(&mut self, rt: &impl Abort, k: usize, kept: Kept, number: i32) {
         if let Some(at) = SLOTS.get(k) {
             let stored = match kept {
-                Kept::Input => slot(0x7b, 0x6a, *at, 0),  // stxdw [r10+at], r6
+                Kept::Input => slot(0x7b, 0x6a, *at, 0), // stxdw [r10+at], r6
                 Kept::Output => slot(0x7b, 0x7a, *at, 0), // stxdw [r10+at], r7
                 Kept::Number | Kept::Torn => slot(0x7a, 0x0a, *at, number), // stdw [r10+at], number
             };
@@ -103,7 +103,7 @@ impl Program {
             let whole = slot(0x79, 0xa4, *at, 0); // ldxdw r4, [r10+at]
             let used = match self.kept(k) {
                 Kept::Number => slot(0x0f, 0x48, 0, 0), // add r8, r4
-                Kept::Input => slot(0x71, 0x49, 5, 0),  // ldxb r9, [r4+5]
+                Kept::Input => slot(0x71, 0x49, 5, 0), // ldxb r9, [r4+5]
                 Kept::Output => slot(0x73, 0x84, 2, 0), // stxb [r4+2], r8
                 Kept::Torn => return,
             };
@@ -165,9 +165,9 @@ fn code_of(rt: &impl Abort, alloc: Global, seed: u64) -> Vec<u8> {
         &[
             slot(0xb7, 0x01, 0, 40), // mov r1, 40
             slot(0x85, 0x00, 0, 13), // call 13
-            slot(0xbf, 0x80, 0, 0),  // mov r0, r8
-            slot(0x77, 0x00, 0, 1),  // rsh r0, 1
-            slot(0x95, 0x00, 0, 0),  // exit
+            slot(0xbf, 0x80, 0, 0), // mov r0, r8
+            slot(0x77, 0x00, 0, 1), // rsh r0, 1
+            slot(0x95, 0x00, 0, 0), // exit
         ],
     );
     code
@@ -190,15 +190,7 @@ const INPUT: [u8; 9] = [1, 0x80, 3, 0xff, 5, 0x96, 7, 8, 9];
 
 /// The class of rule set 2 of a code, where it is safe.
 fn verified(rt: &impl Abort, alloc: Global, code: &[u8]) -> Option<VerifiedClass> {
-    let image = image_by(
-        rt,
-        alloc,
-        RuleSet::Two,
-        code,
-        3,
-        CAPS.in_cap,
-        CAPS.out_cap,
-    );
+    let image = image_by(rt, alloc, RuleSet::Two, code, 3, CAPS.in_cap, CAPS.out_cap);
     verify(alloc, &image).ok()
 }
 

@@ -55,7 +55,8 @@ fn loads_bytes(rt: HostRuntime) {
     let loaded = register(&rt, 4);
     let mut frame = entry(&rt, rt.alloc());
     assert!(rt;
-        falls(frame.flow(None, &insn, 0)) && tells(frame.operand(Operand::Register(loaded)), 255, 256)
+        falls(frame.flow(None, &insn, 0))
+            && tells(frame.operand(Operand::Register(loaded)), 255, 256)
     );
 }
 
@@ -156,7 +157,9 @@ fn tells_nothing_of_itself(rt: HostRuntime) {
 
 #[test]
 fn leaves_at_exit(rt: HostRuntime) {
-    let mut frame = entry(&rt, rt.alloc()).copy(rt.alloc()).expect(&rt, "memory");
+    let mut frame = entry(&rt, rt.alloc())
+        .copy(rt.alloc())
+        .expect(&rt, "memory");
     assert!(rt;
         leaves(frame.flow(None, &Insn::Exit, 0))
             && frame.operand(Operand::Immediate(-1)) == Kind::Num(constant(u64::MAX))
