@@ -13,3 +13,4 @@ pub mod Acts
 pub mod Verdicts
 pub mod Runs
 pub mod Accepts
+pub mod FirstSet

@@ -1,15 +1,16 @@
 -- The table of frames of a method, and the verdict on a class.
-use Rattle.std.specs.Prelude.{◌≡◌, ℕ, zero, suc, ◌+◌, ◌<◌, List, [], ◌∷◌, ◌++◌, Option, Some, None, true, if◌then◌else◌, ◌==◌, slice_get, length}
+use Rattle.std.specs.Prelude.{◌≡◌, ◌≢◌, ℕ, zero, suc, ◌+◌, ◌<◌, List, [], ◌∷◌, ◌++◌, Option, Some, None, true, if◌then◌else◌, ◌==◌, slice_get, length}
 use Rattle.bpf_decode.specs.declared.insn.Insn.{Insn}
 use Rattle.bpf_decode.specs.Instruction.{slots}
 use Rattle.bpf_decode.specs.Class.{ClassMethod, Class}
 use Rattle.bpf_decode.specs.declared.rule_set.RuleSet.{RuleSet}
+use Rattle.bpf_decode.specs.declared.rule_set.RuleSet.TheVariants.{One}
 use Rattle.bpf_machine.specs.declared.caps.Caps.{Caps}
 use Rattle.bpf_machine.specs.State.{◌>>=◌}
 use Rattle.bpf_machine.specs.Typed.{fetch}
 use Rattle.bpf_machine.specs.Safe.{caps_of}
 use Rattle.verifier.specs.declared.rule.Rule.{Rule}
-use Rattle.verifier.specs.declared.rule.Rule.TheVariants.{NoMemory}
+use Rattle.verifier.specs.declared.rule.Rule.TheVariants.{NoMemory, PointerBytes}
 use Rattle.verifier.specs.declared.refusal.Refusal.{Refusal}
 use Rattle.verifier.specs.declared.refused.RefusedSlot.{RefusedSlot}
 use Rattle.abstract_regs.specs.Frame.{PlainFrame, join}
@@ -121,6 +122,10 @@ class_verdict c = verdict_from c.rules 0 c.methods
 
 abbrev pub out_of_memory : Refusal
 out_of_memory = record { method = 0; slot = 0; rule = NoMemory }
+
+-- Of a class of rule set 1 the verdict is never the rule about pointers' bytes.
+abbrev pub FirstSetHasFewerRules : Type 0
+FirstSetHasFewerRules = (c : Class) (r : Refusal) → c.rules ≡ One → class_verdict c ≡ Some r → r.rule ≢ PointerBytes
 
 -- A rule refuses the instruction at a slot of a method, by the table of rules and the frame there.
 pub record Refuses (rules : RuleSet) (m : ClassMethod) (slot : ℕ) (rule : Rule) : Type 0 where

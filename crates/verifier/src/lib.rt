@@ -22,7 +22,7 @@ mod source;
 mod verified;
 
 pub use class::verify;
-pub use laws::one_table;
+pub use laws::{first_rule_set, one_table};
 pub use op::{Distance, Fork, Op, Place};
 pub use refusal::Refusal;
 pub use refused::{RefusedSlot, refused_slot};

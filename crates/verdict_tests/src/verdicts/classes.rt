@@ -5,7 +5,9 @@ use bpf_decode::{ClassImage, Method, RuleSet, encode, read_image};
 use bpf_machine::Caps;
 use flat_machine::{Ending, Layout, flat_run, is_layout};
 use std::alloc::Global;
-use verifier::{Op, Refusal, Rule, SlotOp, VerifiedClass, VerifiedMethod, one_table, verify};
+use verifier::{
+    Op, Refusal, Rule, SlotOp, VerifiedClass, VerifiedMethod, first_rule_set, one_table, verify,
+};
 
 /// A safe method, and two that aren't.
 const SAFE: &str = "1 0 0: b700000000000000 9500000000000000 | mov r0, 0; exit";
@@ -161,6 +163,7 @@ fn keeps_writer(alloc: Global, class: &ClassImage) -> bool {
 #[test]
 fn keeps_what_is_declared(rt: HostRuntime) {
     one_table();
+    first_rule_set();
     let kept = match class(rt.alloc(), RuleSet::One, WRITER) {
         Some(class) => keeps_writer(rt.alloc(), &class),
         None => false,
