@@ -1,6 +1,7 @@
 //! Files of calls and maps, by the program's command `cluster`: worked files, each kind of malformed line, and each refusal.
 
 use crate::folder::{Row, all_print, only_prints, with_repeated};
+use crate::tenants::SPILLS;
 use std::fmt::Write;
 use std::process::Abort;
 use std::sync::Wait;
@@ -232,7 +233,7 @@ fn clusters_are_refused(rt: HostRuntime) {
 }
 
 /// Words, an image, a file, what is printed, and the status.
-static OTHERS: [Row; 7] = [
+static OTHERS: [Row; 8] = [
     // a call that has but one try has no answer
     Row {
         words: &CLUSTER,
@@ -272,6 +273,14 @@ static OTHERS: [Row; 7] = [
         client 1 a hi hello -\nclient 1 a obj2 hello -\nclient 1 a lo hello -\nclient 1 a lock lock -\n",
         printed: "client 1 call 0 place 0 code 0 output 68656c6c6f\nclient 1 call 1 place 1 code 0 output 68656c6c6f\n\
         client 1 call 2 refused 5 NoClass\nclient 1 call 3 place 2 code 0 output -\n",
+        status: 0,
+    },
+    // one of rule set 2
+    Row {
+        words: &["cluster", "--class", "hi=image", "text"],
+        image: SPILLS,
+        text: "cluster nodes 1 replicas 1 groups 1 shards 1 workers 1 tries 100000000\nclient 1 a hi f -\n",
+        printed: "client 1 call 0 place 0 code 0 output -\n",
         status: 0,
     },
     // the images before the file, the file before its lines

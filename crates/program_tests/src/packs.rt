@@ -15,6 +15,19 @@ const INC: &str =
     b702000005000000 b704000008000000 8500000007000000 c500040000000000 79a1f0ff00000000 7b16000000000000 \
     b701000008000000 850000000d000000 9500000000000000";
 
+/// counter.c without optimization: every variable is on the stack, pointers too.
+const INC_SPILLED: &str =
+    "7b1af0ff00000000 7b2ae8ff00000000 7b3ae0ff00000000 b401000074000000 731adcff00000000 b4010000636f756e \
+    631ad8ff00000000 b701000000000000 7b1ad0ff00000000 bfa1000000000000 07010000d8ffffff b702000005000000 \
+    bfa3000000000000 07030000d0ffffff b704000008000000 8500000006000000 7b0ac8ff00000000 79a1c8ff00000000 \
+    65010a00ffffffff 0500000000000000 79a1c8ff00000000 15010700feffffff 0500000000000000 79a1c8ff00000000 \
+    15010400c3ffffff 0500000000000000 79a1c8ff00000000 7b1af8ff00000000 0500180000000000 79a1d0ff00000000 \
+    0701000001000000 7b1ad0ff00000000 bfa1000000000000 07010000d8ffffff b702000005000000 bfa3000000000000 \
+    07030000d0ffffff b704000008000000 8500000007000000 7b0ac0ff00000000 79a1c0ff00000000 65010400ffffffff \
+    0500000000000000 79a1c0ff00000000 7b1af8ff00000000 0500070000000000 79a1d0ff00000000 79a2e0ff00000000 \
+    7b12000000000000 b701000008000000 850000000d000000 7b0af8ff00000000 0500000000000000 79a0f8ff00000000 \
+    9500000000000000";
+
 /// swap.c: a compare and swap of the data's first 8 bytes.
 const SWAP: &str =
     "bf16000000000000 b701000000000000 7b1af8ff00000000 b7000000eaffffff 5502130010000000 bfa2000000000000 \
@@ -32,29 +45,33 @@ const SUM: &str =
     0f42000000000000 71140d0000000000 0f42000000000000 71140e0000000000 0f42000000000000 71110f0000000000 \
     0f12000000000000 7b23000000000000 b701000008000000 850000000d000000 9500000000000000";
 
-/// Raw code, the method that it is packed as, words on the image, and what they print.
+/// Raw code, the rule set and the method that it is packed as, words on the image, and what they print.
 struct Packed {
     raw: &'static str,
+    rules: &'static str,
     method: &'static str,
     words: &'static [&'static str],
     printed: &'static str,
 }
 
-static PACKED: [Packed; 8] = [
+static PACKED: [Packed; 11] = [
     Packed {
         raw: INC,
+        rules: "1",
         method: "inc:rw:0:8:image",
         words: &["verify", "image"],
         printed: "inc ok 33\n",
     },
     Packed {
         raw: INC,
+        rules: "1",
         method: "inc:rw:0:8:image",
         words: &["run", "image", "inc"],
         printed: "code 0\noutput 0100000000000000\nsteps 32\nobject 0 1 0\n",
     },
     Packed {
         raw: SWAP,
+        rules: "1",
         method: "swap:rw:16:0:image",
         words: &["verify", "image"],
         printed: "swap ok 25\n",
@@ -62,6 +79,7 @@ static PACKED: [Packed; 8] = [
     // 0, as of an absent object, becomes 7
     Packed {
         raw: SWAP,
+        rules: "1",
         method: "swap:rw:16:0:image",
         words: &[
             "run",
@@ -75,6 +93,7 @@ static PACKED: [Packed; 8] = [
     // it isn't 1
     Packed {
         raw: SWAP,
+        rules: "1",
         method: "swap:rw:16:0:image",
         words: &[
             "run",
@@ -88,21 +107,45 @@ static PACKED: [Packed; 8] = [
     // an input that is too short
     Packed {
         raw: SWAP,
+        rules: "1",
         method: "swap:rw:16:0:image",
         words: &["run", "image", "swap", "--input", "00"],
         printed: "code -22\noutput -\nsteps 6\nobject absent\n",
     },
     Packed {
         raw: SUM,
+        rules: "1",
         method: "sum:r:16:8:image",
         words: &["verify", "image"],
         printed: "sum ok 35\n",
     },
     Packed {
         raw: SUM,
+        rules: "1",
         method: "sum:r:16:8:image",
         words: &["run", "image", "sum", "--input", "010203"],
         printed: "code 0\noutput 0600000000000000\nsteps 35\nobject absent\n",
+    },
+    Packed {
+        raw: INC_SPILLED,
+        rules: "2",
+        method: "inc:rw:0:8:image",
+        words: &["verify", "image"],
+        printed: "inc ok 55\n",
+    },
+    Packed {
+        raw: INC_SPILLED,
+        rules: "2",
+        method: "inc:rw:0:8:image",
+        words: &["run", "image", "inc"],
+        printed: "code 0\noutput 0100000000000000\nsteps 44\nobject 0 1 0\n",
+    },
+    Packed {
+        raw: "b700000000000000 9500000000000000",
+        rules: "2",
+        method: "f:r:0:0:image",
+        words: &["dis", "image"],
+        printed: ".rules 2\n.method f r 0 0\nmov r0, 0\nexit\n",
     },
 ];
 
@@ -187,17 +230,17 @@ static REFUSED: [Row; 10] = [
 /// A folder in which raw code was packed, over its own file.
 fn folder_with<R: Abort + AllocGlobal + Threads + Wait + Clock + Sync>(
     rt: &R,
-    raw: &str,
-    method: &str,
+    row: &Packed,
 ) -> Folder {
-    let mut folder = Folder::of(rt, raw, b"");
-    prints_on(rt, &["pack", "image", method], &mut folder, "", 0);
+    let mut folder = Folder::of(rt, row.raw, b"");
+    let words = ["pack", "image", "--rules", row.rules, row.method];
+    prints_on(rt, &words, &mut folder, "", 0);
     folder
 }
 
 /// What a row prints of the image.
 fn prints_packed<R: Abort + AllocGlobal + Threads + Wait + Clock + Sync>(rt: &R, row: &Packed) {
-    let mut folder = folder_with(rt, row.raw, row.method);
+    let mut folder = folder_with(rt, row);
     prints_on(rt, row.words, &mut folder, row.printed, 0);
     holds(rt, folder.writes == 1, row.printed);
 }

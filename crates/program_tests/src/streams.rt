@@ -8,7 +8,7 @@ use std::thread::Threads;
 use std::time::Clock;
 
 /// Words that ask for nothing that the program does, or for help.
-static USAGES: [&[&str]; 41] = [
+static USAGES: [&[&str]; 43] = [
     &[],
     &["--help"],
     &["help"],
@@ -29,6 +29,8 @@ static USAGES: [&[&str]; 41] = [
     &["pack", "out", "f:r:65536:0:image"],
     &["pack", "out", "f:r:0:-1:image"],
     &["pack", "out", "f:r:0:0", "g:r:0:0:image"],
+    &["pack", "out", "--rules", "3", "f:r:0:0:image"],
+    &["pack", "out", "--rules=02", "f:r:0:0:image"],
     &["run", "image", "f", "--caller", "0"],
     &["run", "image", "f", "--caller", "4294967296"],
     &["run", "image", "f", "--caller", "one"],

@@ -10,8 +10,14 @@ const HELLO: &str =
     "52434c31 0100 0000 05 68656c6c6f 01 0000 0500 0500 6203000068656c6c 720304006f000000 \
     b701000005000000 850000000d000000 9500000000000000";
 
+/// Rule set 2: a pointer stored, loaded and written through. `stxdw [r10-8], r3`, `mov r0, 0`, `ldxdw r4, [r10-8]`,
+/// `stb [r4+0], 1`, `exit`.
+pub const SPILLS: &str =
+    "52434c32 0100 0000 01 66 01 0000 0100 0500 7b3af8ff00000000 b700000000000000 79a4f8ff00000000 \
+    7204000001000000 9500000000000000";
+
 /// Words of `sim`, an image, the events, what is printed, and the status.
-static ROWS: [Row; 12] = [
+static ROWS: [Row; 14] = [
     // two classes are asked by their words, and the built-in ones as without them
     Row {
         words: &[
@@ -112,6 +118,22 @@ static ROWS: [Row; 12] = [
         image: HELLO,
         text: "",
         printed: "cannot read\n",
+        status: 1,
+    },
+    // a class of rule set 2; the same in set 1
+    Row {
+        words: &["sim", "--class", "hi=image", "text"],
+        image: SPILLS,
+        text: "map 1\nsee 1 1\ndeliver 1\ndeliver 2\nreq 1 1 1 a hi f -\n",
+        printed: "map 1 prev 0\nm1 1->mon AskActivate 1\nm2 mon->1 Activated 1\nnothing\nm3 1->c1 Reply 1 0 0 -\n",
+        status: 0,
+    },
+    Row {
+        words: &["sim", "--class", "hi=image", "text"],
+        image: "52434c31 0100 0000 01 66 01 0000 0100 0500 7b3af8ff00000000 b700000000000000 79a4f8ff00000000 \
+        7204000001000000 9500000000000000",
+        text: "map 1\n",
+        printed: "refused method 0 slot 0: 9 PointerStored\n",
         status: 1,
     },
     // a drawing of a tenant's class
