@@ -123,7 +123,7 @@ const UNOPTIMIZED: &str =
     ldxdw r2, [r10-32]\nstxdw [r2+0], r1\nmov r1, 8\ncall 13\nstxdw [r10-8], r0\nja +0\nldxdw r0, [r10-8]\nexit\n";
 
 /// Classes, words on their images, and what they print.
-static SHOWN: [(&str, &[&str], &str); 7] = [
+static SHOWN: [(&str, &[&str], &str); 8] = [
     (GREET, &["verify", "image"], "greet ok 6\n"),
     (
         GREET,
