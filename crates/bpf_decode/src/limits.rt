@@ -16,8 +16,8 @@ pub const CAPACITY_LIMIT: u16 = 4096;
 /// A method has 1 to 4,096 slots.
 pub const SLOT_LIMIT: usize = 4096;
 
-/// The bytes of the longest image: 8, and for each of 32 methods 72 and 4,096 slots.
-pub const IMAGE_LIMIT: usize = 1_050_888;
+/// The bytes of the longest image: the header's 8, and for each method 8, its name and its slots.
+pub const IMAGE_LIMIT: usize = 8 + METHOD_LIMIT * (8 + NAME_LIMIT + 8 * SLOT_LIMIT);
 
 /// Whether a class may have so many methods.
 pub(crate) fn is_method_count(count: usize) -> bool
