@@ -11,7 +11,7 @@ ghost use Rattle.bpf_asm.specs.Classes.{is_directive, last_name, opening_fault, 
 
 use crate::body::{has_instruction, read_body};
 use asm_lines::{AsmError, AsmFault, Header, Statement, statements};
-use bpf_decode::{ClassImage, METHOD_LIMIT, Method, RuleSet};
+use bpf_decode::{ClassImage, METHOD_LIMIT, Method, RuleSet, name_text};
 use std::alloc::{AllocError, Global};
 
 /// Whether a line begins a method.
@@ -57,14 +57,6 @@ fn opening_fault(done: &[Method], bare: bool, header: &Header) -> Option<AsmFaul
     }
 }
 
-/// The bytes of a name as text.
-fn text_of(alloc: Global, name: &[u8]) -> Result<String, AllocError>
-    requires { IsTrue (are_name_bytes name.now) }
-    ensures { IfOk result (λ t. string_bytes t ≡ name.now) }
-{
-    String::from_utf8_lossy(alloc, name)
-}
-
 /// A method of that header, from its lines, of which one at least is an instruction's and whose first has that number.
 #[tactic(auto, using(crate::proofs::ClassLemmas::header_passes))]
 fn with_body(
@@ -82,7 +74,7 @@ fn with_body(
         Ok(insns) => insns,
         Err(error) => return Err(error),
     };
-    let name = text_of(alloc, header.name())?;
+    let name = name_text(alloc, header.name())?;
     Ok(Method::new(
         name,
         header.flags(),

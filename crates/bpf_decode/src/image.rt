@@ -117,7 +117,7 @@ fn method_at<'a>(
     let (in_cap, rest) = capacity_at(rest)?;
     let (out_cap, rest) = capacity_at(rest)?;
     let (instructions, rest) = code_at(alloc, rest)?;
-    let text = text_of(alloc, name)?;
+    let text = name_text(alloc, name)?;
     Ok((
         Method::new(text, flags, in_cap, out_cap, instructions),
         name,
@@ -125,8 +125,8 @@ fn method_at<'a>(
     ))
 }
 
-/// The bytes of a name as text.
-fn text_of(alloc: Global, name: &[u8]) -> Result<String, AllocError>
+/// The bytes of a name as text. It fails for want of memory alone.
+pub fn name_text(alloc: Global, name: &[u8]) -> Result<String, AllocError>
     requires { IsTrue (are_name_bytes name.now) }
     ensures { IfOk result (λ t. string_bytes t ≡ name.now) }
 {

@@ -30,7 +30,7 @@ pub use access::{SignedWidth, Width};
 pub use class_image::ClassImage;
 pub use code::{check, decode, encode};
 pub use decode_error::DecodeError;
-pub use image::{read_image, write_image};
+pub use image::{name_text, read_image, write_image};
 pub use image_error::ImageError;
 pub use insn::{Insn, Operand, width};
 pub use jump::jump_target;
