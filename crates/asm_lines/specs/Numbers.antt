@@ -1,19 +1,14 @@
 -- Numbers and registers as a text has them.
-use Rattle.std.specs.Prelude.{ℕ, ℤ, pos, neg_ℤ, ◌==◌, ◌&&◌, ◌||◌, not, nat_le, Bool, true, false, List, length, drop, slice_index, Option, Some, None, if◌then◌else◌, Result, Ok, Err}
-use Rattle.std.specs.List.{list_all}
-use Rattle.std.specs.Char.{is_digit}
+use Rattle.std.specs.Prelude.{ℕ, ℤ, pos, neg_ℤ, ◌==◌, ◌&&◌, nat_le, Bool, true, false, List, length, drop, slice_index, Option, Some, None, if◌then◌else◌, Result, Ok, Err}
 use Rattle.std.specs.Str.Parse.{digits_value}
+use Rattle.text_digits.specs.Digits.{all_digits, is_decimal}
 use Rattle.asm_lines.specs.declared.fault.AsmFault.{AsmFault}
 use Rattle.asm_lines.specs.declared.fault.AsmFault.TheVariants.{Operand, Range}
 use Rattle.asm_lines.specs.declared.number.Number.{Number}
 
--- one digit or more, and nothing else
-abbrev pub all_digits : ℕ → List ℕ → Bool
-all_digits radix ds = if length ds == 0 then false else list_all (λ c. is_digit c radix) ds
-
 -- decimal digits without a leading zero
 unfoldable pub decimal_number : List ℕ → Option ℕ
-decimal_number ds = if all_digits 10 ds && (length ds == 1 || not (slice_index ds 0 == 48)) then Some (digits_value 10 ds) else None
+decimal_number ds = if is_decimal ds then Some (digits_value 10 ds) else None
 
 -- 1 to 16 digits to base 16, of either case
 unfoldable pub hex_number : List ℕ → Option ℕ

@@ -1,10 +1,9 @@
 ghost use Rattle.std.specs.Prelude.{◌≡◌, ◌≤◌, ◌<◌, ◌^◌, Some};
-ghost use Rattle.std.specs.Char.{digit_value, is_digit};
-ghost use Rattle.std.specs.List.{list_all};
 ghost use Rattle.std.specs.Str.Parse.{digits_value};
-ghost use Rattle.asm_lines.specs.Numbers.{all_digits, decimal_number, hex_number, natural, natural_within, minus_within, plus_within, plain_within, signed_within, value_of, is_within};
+ghost use Rattle.asm_lines.specs.Numbers.{decimal_number, hex_number, natural, natural_within, minus_within, plus_within, plain_within, signed_within, value_of, is_within};
 
 use crate::fault::AsmFault;
+use text_digits::{are_digits, is_decimal, value_within};
 
 /// A number with its sign: -0 isn't one.
 #[derive(Clone, Copy)]
@@ -44,53 +43,13 @@ impl Number {
     }
 }
 
-/// The value of a digit or a letter: 0 to 35, and 36 for any other byte.
-fn digit_of(byte: u8) -> u8
-    ensures value { result ≡ digit_value byte }
-    ensures small { result ≤ 36 }
-{
-    match byte {
-        b'0'..=b'9' => byte - 48,
-        b'A'..=b'Z' => byte - 55,
-        b'a'..=b'z' => byte - 87,
-        _ => 36,
-    }
-}
-
-/// Whether each byte is a digit.
-fn all_pass(text: &[u8], radix: u8) -> bool
-    ensures { result ≡ list_all (λ c. is_digit c radix) text.now }
-{
-    text.iter().all(|byte| digit_of(*byte) < radix)
-}
-
-/// Whether it is one digit or more, and nothing else.
-fn are_digits(text: &[u8], radix: u8) -> bool
-    ensures { result ≡ all_digits radix text.now }
-{
-    if text.is_empty() {
-        false
-    } else {
-        all_pass(text, radix)
-    }
-}
-
 /// The number that digits write, if it is at most `most`.
-#[tactic(auto, using(crate::proofs::NumberLemmas::digits_value_after_ge))]
 fn digits_within(text: &[u8], radix: u8, most: u64) -> Result<u64, AsmFault>
     requires low { 1 ≤ radix }
     requires high { radix ≤ 16 }
     ensures { result ≡ natural_within most (Some (digits_value radix text.now)) }
 {
-    let mut value: u64 = 0;
-    for byte in text {
-        let next = u128::from(value) * u128::from(radix) + u128::from(digit_of(*byte));
-        if next > u128::from(most) {
-            return Err(AsmFault::Range);
-        }
-        value = next as u64;
-    }
-    Ok(value)
+    value_within(text, radix, most).ok_or(AsmFault::Range)
 }
 
 /// Decimal digits without a leading zero, up to `most`.
@@ -98,7 +57,7 @@ fn digits_within(text: &[u8], radix: u8, most: u64) -> Result<u64, AsmFault>
 pub(crate) fn decimal_within(text: &[u8], most: u64) -> Result<u64, AsmFault>
     ensures { result ≡ natural_within most (decimal_number text.now) }
 {
-    if !are_digits(text, 10) || (text.len() != 1 && text[0] == b'0') {
+    if !is_decimal(text) {
         return Err(AsmFault::Operand);
     }
     digits_within(text, 10, most)

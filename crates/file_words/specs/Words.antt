@@ -1,9 +1,9 @@
 -- The lines of a text, the words of a line, and what a word spells.
-use Rattle.std.specs.Prelude.{ℕ, suc, ◌-◌, ◌^◌, ◌==◌, ◌&&◌, ◌||◌, nat_le, nat_lt, not, min, Bool, List, [], ◌∷◌, ◌++◌, length, slice_index, slice_index_or, take, Option, Some, None, if◌then◌else◌, codes}
-use Rattle.std.specs.List.{list_all, slice_split, flat_map, filter}
+use Rattle.std.specs.Prelude.{ℕ, suc, ◌-◌, ◌^◌, ◌==◌, ◌&&◌, nat_le, nat_lt, not, min, Bool, List, [], ◌∷◌, length, slice_index_or, take, Option, Some, None, if◌then◌else◌, codes}
+use Rattle.std.specs.List.{slice_split, flat_map, filter}
 use Rattle.std.specs.Option.{option_and_then}
 use Rattle.std.specs.Result.{result_ok}
-use Rattle.std.specs.Char.{is_digit}
+use Rattle.text_digits.specs.Digits.{is_decimal}
 use Rattle.std.specs.Str.{bytes_eq}
 use Rattle.std.specs.Str.Parse.{digits_value}
 use Rattle.hex.specs.Hex.{decode_of}
@@ -29,13 +29,9 @@ words_in piece = filter (λ w. not (length w == 0)) (slice_split (λ b. b == 9) 
 abbrev pub words : List ℕ → List (List ℕ)
 words line = flat_map words_in (slice_split (λ b. b == 32) line)
 
--- NUMBERS: one decimal digit or more, without a leading zero, and nothing else.
-abbrev pub is_number : List ℕ → Bool
-is_number word = not (length word == 0) && (list_all (λ c. is_digit c 10) word && (length word == 1 || not (slice_index word 0 == 48)))
-
--- The number that a word spells. One above 2 ^ 64 - 1 counts as that: no node, map, message, client or request has it.
+-- NUMBERS: one decimal digit or more, without a leading zero, and nothing else. One above 2 ^ 64 - 1 counts as that: no node, map, message, client or request has it.
 abbrev pub number_in : List ℕ → Option ℕ
-number_in word = if is_number word then Some (min (digits_value 10 word) (2 ^ 64 - 1)) else None
+number_in word = if is_decimal word then Some (min (digits_value 10 word) (2 ^ 64 - 1)) else None
 
 -- each word's number, where each is one
 abbrev pub onto : ℕ → Option (List ℕ) → Option (List ℕ)

@@ -2,8 +2,8 @@ use Rattle.std.proofs.Common.{◌<◌, arith, rules}
 use Rattle.std.proofs.lemmas.Grind.{common_steps}
 use Rattle.std.specs.Str.Parse.{digits_value}
 use Rattle.std.proofs.lemmas.Bool.Decides.{nat_tests}
-use Rattle.asm_lines.proofs.NumberLemmas.{digits_over}
-use Rattle.asm_lines.proofs.number.digits_within.Goals as goal
+use Rattle.text_digits.proofs.Values.{digits_over}
+use Rattle.text_digits.proofs.number.value_within.Goals as goal
 
 pub returns-then-next-from : goal.returns-then-next-from
 returns-then-next-from c =

@@ -1,4 +1,4 @@
--- Lemmas on numbers in texts.
+-- Lemmas on the numbers that digits write.
 use Rattle.std.proofs.Common.{◌≡◌, ℕ, ◌+◌, ◌*◌, ◌≤◌, ◌<◌, List, [], ◌∷◌, arith, length, drop, get_or, suc, sym, ap, ◌∙◌, drop-cons}
 use Rattle.std.proofs.Math.Nat.{le-mul_of_pos_right}
 use Rattle.std.specs.Char.{digit_value}

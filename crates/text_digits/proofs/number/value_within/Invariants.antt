@@ -1,6 +1,6 @@
 use Rattle.std.proofs.Common.{◌≡◌, ◌≤◌, drop}
 use Rattle.std.specs.Str.Parse.{digits_value, digits_value_after}
-use Rattle.asm_lines.proofs.number.digits_within.Given as goal
+use Rattle.text_digits.proofs.number.value_within.Given as goal
 
 -- what is left continues the digits so far to the whole number
 abbrev pub invariant-loop-byte : goal.invariant-loop-byte

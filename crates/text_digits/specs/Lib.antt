@@ -1,0 +1,2 @@
+-- A reader must believe Digits.
+pub mod Digits
