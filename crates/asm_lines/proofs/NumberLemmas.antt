@@ -1,13 +1,10 @@
 -- Lemmas on numbers in texts.
-use Rattle.std.proofs.Common.{◌≡◌, ℕ, ◌+◌, ◌*◌, ◌≤◌, List, [], ◌∷◌, refl, arith, ◌<◌, length, drop, get_or, suc, sym, ap, ◌∙◌, drop-cons, Ok, Err, Result, IsTrue, slice_index, Bool, true, false, cond, nat_le, subst, ◌==◌, ◌&&◌, Option, Some, None}
+use Rattle.std.proofs.Common.{◌≡◌, ℕ, ◌≤◌, List, refl, arith, drop, sym, ◌∙◌, Ok, Err, Result, IsTrue, slice_index, Bool, true, false, cond, nat_le, subst, ◌==◌, ◌&&◌, Option, Some, None}
 use Rattle.asm_lines.specs.declared.number.Number.{Number}
 use Rattle.asm_lines.specs.Numbers.{natural, natural_within, as_negative, as_nonnegative, minus_within, plus_within, plain_within, signed_within, is_within}
 use Rattle.asm_lines.specs.declared.fault.AsmFault.{AsmFault}
 use Rattle.asm_lines.specs.declared.fault.AsmFault.TheVariants.{Operand, Range}
-use Rattle.std.proofs.Math.Nat.{le-mul_of_pos_right}
 use Rattle.std.proofs.lemmas.Bool.Decides.{nat_tests}
-use Rattle.std.specs.Char.{digit_value}
-use Rattle.std.specs.Str.Parse.{digits_value_after, digits_value}
 
 -- what is read is in its range
 negative_fits : (below above m : ℕ) (b z : Bool) (n : Number) → b ≡ nat_le m below → cond z (Err Operand) (cond b (Ok (record { negative = true; magnitude = m })) (Err Range)) ≡ Ok n → IsTrue (is_within below above n)

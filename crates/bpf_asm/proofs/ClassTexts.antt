@@ -10,7 +10,7 @@ use Rattle.bpf_decode.specs.declared.insn.Insn.{Insn}
 use Rattle.bpf_decode.specs.Instruction.{AllFit, slot_total, slot_count}
 use Rattle.bpf_decode.specs.declared.rule_set.RuleSet.{RuleSet}
 use Rattle.bpf_decode.specs.declared.rule_set.RuleSet.TheVariants.{One, Two}
-use Rattle.bpf_decode.specs.Class.{ClassMethod, Class, IsClass, IsNameByte, IsMethod, NamesRise}
+use Rattle.bpf_decode.specs.Class.{ClassMethod, IsClass, IsNameByte, IsMethod, NamesRise}
 use Rattle.bpf_decode.specs.Limits.{between, is_name_byte, are_name_bytes}
 use Rattle.bpf_decode.specs.ImageReading.{is_above}
 use Rattle.asm_lines.specs.declared.fault.AsmFault.{AsmFault}
@@ -21,7 +21,7 @@ use Rattle.asm_lines.specs.Headers.{MethodHeader}
 use Rattle.asm_lines.specs.Texts.{is_blank, trim_start, trim_end, content, first_word, after_word}
 use Rattle.asm_lines.specs.Operands.{unsigned_of}
 use Rattle.asm_lines.specs.Statements.{flags_of, header_of, statement_of, statements_of}
-use Rattle.asm_lines.specs.Canonical.{flags_text, directive_line, canonical_text, methods_text, rules_text, class_text, line_of}
+use Rattle.asm_lines.specs.Canonical.{flags_text, directive_line, canonical_text, methods_text, rules_text, line_of}
 use Rattle.bpf_asm.specs.Bodies.{body_from, body, has_instruction}
 use Rattle.bpf_asm.specs.Classes.{is_directive, last_name, method_at, class_from, with_rules, ruled_from, read_class_text}
 use Rattle.bpf_asm.specs.Laws.{ClassTextsGiveBack}

@@ -7,7 +7,8 @@ use Rattle.std.proofs.lemmas.Bool.Decides.{nat_tests}
 use Rattle.asm_lines.specs.declared.fault.AsmFault.{AsmFault}
 use Rattle.asm_lines.specs.declared.fault.AsmFault.TheVariants.{Operand, Range}
 use Rattle.asm_lines.specs.declared.number.Number.{Number}
-use Rattle.asm_lines.specs.Numbers.{all_digits, decimal_number, hex_number, natural, natural_within, as_negative, as_nonnegative, minus_within, plus_within, plain_within, signed_within, value_of}
+use Rattle.text_digits.specs.Digits.{all_digits}
+use Rattle.asm_lines.specs.Numbers.{decimal_number, hex_number, natural, natural_within, as_negative, as_nonnegative, minus_within, plus_within, plain_within, signed_within, value_of}
 use Rattle.asm_lines.specs.Operands.{filled, immediate_of, offset_of, distance_of, unsigned_of}
 use Rattle.bpf_asm.specs.Syntax.{IsDecimal, IsHexadecimal, IsNatural, IsBehind, IsImmediate, IsOffset, IsDistance, IsUnsigned}
 use Rattle.bpf_asm.proofs.PlainBytes.{and_left, and_right}

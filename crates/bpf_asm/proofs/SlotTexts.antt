@@ -9,7 +9,7 @@ use Rattle.bpf_decode.specs.Instruction.{Fits, AllFit, slot_total, slot_count}
 use Rattle.bpf_decode.specs.Class.{ClassMethod, IsMethod}
 use Rattle.asm_lines.specs.Texts.{is_blank, onto_trimmed, trim_start, trim_end, trim, content}
 use Rattle.asm_lines.specs.Statements.{statement_of, statements_of}
-use Rattle.asm_lines.specs.Canonical.{line_of, directive_line, canonical_text, methods_text, rules_text, class_text, slot_line, code_with_slots, methods_with_slots, class_with_slots}
+use Rattle.asm_lines.specs.Canonical.{line_of, directive_line, canonical_text, methods_text, rules_text, slot_line, code_with_slots, methods_with_slots, class_with_slots}
 use Rattle.bpf_asm.specs.Classes.{class_assembled, read_class_text}
 use Rattle.bpf_asm.specs.Laws.{SlotTextsGiveBack, SlotTextsAreInGrammar}
 use Rattle.bpf_asm.proofs.PlainBytes.{is_quiet, Free, free_where, quiet_where, quiet_comment, quiet_feed, before_at, before_none, all_append}

@@ -23,9 +23,9 @@ use Rattle.asm_lines.specs.Operands.{both, unsigned_of}
 use Rattle.asm_lines.specs.Drafts.{draft_of, instruction_of}
 use Rattle.bpf_decode.specs.declared.rule_set.RuleSet.TheVariants.{Two}
 use Rattle.asm_lines.specs.Statements.{flags_of, header_with, header_of, rules_of, is_label_line, statement_of, lines_of, statements_of}
-use Rattle.bpf_asm.specs.Syntax.{Without, HasWord, IsDraftText, IsPlainText, AreFlags, IsRulesText, IsDirectiveText}
+use Rattle.bpf_asm.specs.Syntax.{Without, HasWord, IsDraftText, IsPlainText, AreFlags, IsDirectiveText}
 use Rattle.bpf_asm.specs.Lines.{TextSays, IsStatementText, IsLine, AreLines}
-use Rattle.bpf_asm.specs.Shapes.{AnyNumber, IsLabelText, AnyDirective, DirectiveFault, IsFaultyRules, IsFaultyInstruction}
+use Rattle.bpf_asm.specs.Shapes.{AnyNumber, IsLabelText, AnyDirective, DirectiveFault, IsFaultyInstruction}
 use Rattle.asm_lines.specs.declared.fault.AsmFault.TheVariants as faults
 use Rattle.bpf_asm.proofs.ShapeLemmas.{Judged, judged_filled, judged_by, judged_both, judged_unsigned}
 use Rattle.bpf_asm.proofs.FaultyLines.{other_shape, no_such, fault_is, is_fault}

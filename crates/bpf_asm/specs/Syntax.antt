@@ -13,7 +13,7 @@ use Rattle.asm_lines.specs.declared.target.Target.TheVariants.{Slots, Label}
 use Rattle.asm_lines.specs.declared.draft.Draft.{Draft}
 use Rattle.asm_lines.specs.declared.draft.Draft.TheVariants as drafts
 use Rattle.asm_lines.specs.Texts.{is_blank, is_label_name}
-use Rattle.asm_lines.specs.Numbers.{all_digits}
+use Rattle.text_digits.specs.Digits.{all_digits}
 use Rattle.asm_lines.specs.Words.{word_of}
 use Rattle.bpf_decode.specs.declared.rule_set.RuleSet.{RuleSet}
 use Rattle.bpf_decode.specs.declared.rule_set.RuleSet.TheVariants as rule_sets
