@@ -1,6 +1,5 @@
-ghost use Rattle.std.specs.Prelude.{◌≡◌, ◌⊎◌, ◌+◌, ◌<◌, ◌≤◌, ◌^◌, ℕ, true, List, [], Ok, Err, IfOk, OnOk, IfErr, IsTrue, MatchResult, length, drop, string_bytes};
+ghost use Rattle.std.specs.Prelude.{◌≡◌, ◌⊎◌, ◌+◌, ◌<◌, ◌≤◌, ◌^◌, ℕ, true, List, [], Ok, Err, IfOk, OnOk, IfErr, MatchResult, length, drop};
 ghost use Rattle.std.specs.List.{position_or_len};
-ghost use Rattle.bpf_decode.specs.Limits.{are_name_bytes};
 ghost use Rattle.bpf_decode.specs.ImageReading.{is_above, method_after, methods_after};
 ghost use Rattle.bpf_decode.specs.Class.{Class};
 ghost use Rattle.bpf_asm.specs.Grammar.{IsClassText};
@@ -12,7 +11,7 @@ ghost use Rattle.bpf_asm.specs.Classes.{is_directive, last_name, opening_fault, 
 use crate::body::{has_instruction, read_body};
 use asm_lines::{AsmError, AsmFault, Header, Statement, statements};
 use bpf_decode::{ClassImage, METHOD_LIMIT, Method, RuleSet, name_text};
-use std::alloc::{AllocError, Global};
+use std::alloc::Global;
 
 /// Whether a line begins a method.
 fn is_directive(line: &Statement) -> bool
