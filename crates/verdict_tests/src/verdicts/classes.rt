@@ -3,11 +3,10 @@
 use super::{class, is_judged, method_of, put};
 use bpf_decode::{ClassImage, Method, RuleSet, encode, read_image};
 use bpf_machine::Caps;
+use bpf_ops::{Op, SlotOp};
 use flat_machine::{Ending, Layout, flat_run, is_layout};
 use std::alloc::Global;
-use verifier::{
-    Op, Refusal, Rule, SlotOp, VerifiedClass, VerifiedMethod, first_rule_set, one_table, verify,
-};
+use verifier::{Refusal, Rule, VerifiedClass, VerifiedMethod, first_rule_set, one_table, verify};
 
 /// A safe method, and two that aren't.
 const SAFE: &str = "1 0 0: b700000000000000 9500000000000000 | mov r0, 0; exit";
