@@ -28,7 +28,7 @@ fn write_of<R: Abort>(rt: &R, alloc: Global, words: &mut SplitWhitespace<'_>) ->
     Edit::Write { at, text }
 }
 
-/// Adds the edit that the next words name, where they name one.
+/// Adds the edit that the next words name, where there are any.
 fn add_edit<R: Abort>(
     rt: &R,
     alloc: Global,
@@ -38,7 +38,8 @@ fn add_edit<R: Abort>(
     let edit = match next(words) {
         "w" => write_of(rt, alloc, words),
         "t" => Edit::Truncate(number(next(words))),
-        _ => return,
+        "-" => return,
+        word => panic!(rt; "no edit: {word}"),
     };
     edits.push(edit).expect(rt, "memory");
 }

@@ -278,9 +278,7 @@ const KNOWN: [Whole; 7] = [
 fn known_parts(rt: HostRuntime) {
     for (i, row) in KNOWN.iter().enumerate() {
         let (bits, operation, six, by, want) = *row;
-        let Some(x) = number(six) else {
-            continue;
-        };
+        let x = number(six).expect(&rt, "a number");
         assert!(rt;
             gives(arithmetic(bits, operation, x, constant(by)), want),
             "row {i}"
