@@ -1,13 +1,20 @@
 #!/bin/sh
-# From C to images: build.sh RADOSCLS FOLDER compiles each class of this folder, takes the raw code of its method out of
-# the object file, and packs it as FOLDER/CLASS.img.
+# From C to images: build.sh RADOSCLS FOLDER [CLASS ..] compiles each class of this folder, or those that are named, takes
+# the raw code of its method out of the object file, and packs it as FOLDER/CLASS.img.
 set -eu
 radoscls=$1
 to=$2
+shift 2
+wanted=" $* "
 here=$(cd "$(dirname "$0")" && pwd)
+mkdir -p "$to"
 
 # class CLASS METHOD FLAGS IN OUT
 class() {
+    case "$wanted" in
+        "  " | *" $1 "*) ;;
+        *) return 0 ;;
+    esac
     clang -target bpf -O2 -mcpu=v3 -Wall -c "$here/$1.c" -o "$to/$1.o"
     if llvm-readelf -r "$to/$1.o" | grep -q relmethod; then
         echo "$1.c: relocations; keep data on the stack, and call only helpers" >&2
