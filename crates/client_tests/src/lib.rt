@@ -7,6 +7,8 @@ mod calls;
 #[cfg(test)]
 mod first_page;
 #[cfg(test)]
+mod full_log;
+#[cfg(test)]
 mod limits;
 #[cfg(test)]
 mod losses;
