@@ -233,7 +233,13 @@ try_examples() {
     runs 'radoscls sim --trace survive.sim'
     prints 1 2 'radoscls cluster lost_primary.cluster'
     runs 'radoscls sim --trace lost_ack.sim'
-    runs 'radoscls sim --class count=count.img FILE'
+    asks_count
+}
+
+# A tenant's class is asked, and counts.
+asks_count() {
+    instead="radoscls sim --class count=count.img FILE | grep 'Reply 1 0 1 0100000000000000'" \
+        runs 'radoscls sim --class count=count.img FILE'
 }
 
 # The other pages' commands of classes and groups.
@@ -243,25 +249,34 @@ try_docs() {
     silent 'radoscls asm hello.txt hello.img'
     prints 1 1 'radoscls verify hello.img'
     prints 2 5 'radoscls run hello.img hello'
-    ends 0 0 'radoscls sim --class hello=hello.img FILE'
+    instead="radoscls sim --class hello=hello.img FILE | grep 'Reply 1 0 0 68656c6c6f'" \
+        runs 'radoscls sim --class hello=hello.img FILE'
+    by "README.md's line, with other words" 'rt try --'
     on docs/SIM.md "$work/examples"
-    runs 'radoscls sim --class count=count.img FILE'
+    asks_count
     instead='radoscls sim --trace lost_ack.sim' prints 1 20 'has three nodes, a request'
     instead='radoscls sim --trace survive.sim' has 1 13 'The middle of its drawing'
 }
 
-# docs/FROM_C.md, by the tools of a folder.
-try_c() {
-    tools=$1
+# The script of docs/FROM_C.md, by `rt try` and by the program.
+try_script_unproved() {
+    on docs/FROM_C.md "$top/crates/radoscls"
+    instead="sh ../../examples/c/build.sh 'rt try --' '$work/c' sum | grep 'sum ok'" \
+        runs "sh ../../examples/c/build.sh 'rt try --' /tmp sum"
+}
+try_script() {
     on docs/FROM_C.md "$work"
-    needs clang llvm-objcopy llvm-readelf llvm-objdump
-    any_code=yes
-    case $(PATH="$tools:$PATH" clang --version 2> "$work/errors") in *'clang version 14.'*) any_code= ;; esac
     instead="sh examples/c/build.sh crates/radoscls/out/radoscls '$work/c'" \
         runs 'sh examples/c/build.sh crates/radoscls/out/radoscls /tmp'
     folder=$work/c
     if [ -z "$lacking" ]; then try_answers; fi
-    folder=$work/examples/c
+}
+
+# The other commands of docs/FROM_C.md. The numbers of instructions are those of clang 14.
+try_c() {
+    on docs/FROM_C.md "$work/examples/c"
+    any_code=yes
+    case $(PATH="$tools:$PATH" clang --version 2> "$work/errors") in *'clang version 14.'*) any_code= ;; esac
     silent 'clang -target bpf -O2 -mcpu=v3 -c sum.c -o sum.o'
     silent 'llvm-objcopy -O binary --only-section=method.sum sum.o sum.bin'
     silent 'radoscls pack sum.img sum:r:16:8:sum.bin'
@@ -280,6 +295,23 @@ try_c() {
         runs 'radoscls dis inc.img'
     fi
     any_code=
+}
+
+# All of docs/FROM_C.md: by the kit's tools, and, if the program is there, by the system's.
+try_all_c() {
+    local its='clang llvm-objcopy llvm-readelf llvm-objdump'
+    folder=$work
+    needs $its
+    try_script_unproved
+    try_c
+    needs $its "$program"
+    try_script
+    tools=$work/bin
+    needs $its "$program"
+    if [ -z "$lacking" ] && clang -print-targets | grep -q bpf; then
+        try_script
+        try_c
+    fi
 }
 
 # What the three classes in C answer, by hand: a first count; a swap that is made, one of another number, one of a short input.
@@ -380,8 +412,7 @@ make_program
 try_readme
 try_examples
 try_docs
-try_c "$work/kit"
-if clang -print-targets 2> "$work/errors" | grep -q bpf; then try_c "$work/bin"; fi
+try_all_c
 try_tools
 try_refusals
 know_forms
