@@ -158,7 +158,7 @@ make_copies() {
     mkdir -p "$work/bin" "$work/kit" "$work/c" "$work/one/crates" "$work/crates/radoscls/out" "$work/crates/bench/out"
     cp -r "$top/README.md" "$top/docs" "$top/examples" "$work"
     cp "$top/crates/bench/baseline.c" "$work/crates/bench"
-    if [ -x "$top/crates/bench/out/bench" ]; then cp "$top/crates/bench/out/bench" "$work/crates/bench/out"; fi
+    ln -s "$top/crates/bench/out/bench" "$work/crates/bench/out/bench"
     cp "$top/HANDLES" "$work/one"
     cp -r "$top/crates/placement" "$work/one/crates"
     printf 'placement:\n' > "$work/one/crates.txt"
@@ -174,7 +174,7 @@ make_copies() {
 # `radoscls` as it was built, else by `rt try` with whole paths.
 make_program() {
     if [ -x "$program" ]; then
-        cp "$program" "$work/crates/radoscls/out/radoscls"
+        ln -s "$program" "$work/crates/radoscls/out/radoscls"
     else
         cat > "$work/crates/radoscls/out/radoscls" << END
 #!/usr/bin/env bash
