@@ -194,6 +194,7 @@ try_readme() {
     on README.md "$top/crates/radoscls"
     by "the next line" 'cd crates/radoscls'
     prints 1 4 'rt try --data keep.img=../../examples/keep.img -- run keep.img keep --input 726f6f74'
+    by "the line above, with other words" 'rt try --'
     by "rt ci, with other words" 'rt run -- run ../../examples/keep.img keep --input 726f6f74'
     on README.md "$work/examples"
     needs "$program"
@@ -215,6 +216,7 @@ assembles() {
 # examples/README.md.
 try_examples() {
     on examples/README.md "$work/examples"
+    by "README.md's line, with other words" 'rt try --'
     assembles two
     prints 1 4 'radoscls run two.img f'
     assembles hello
@@ -352,6 +354,8 @@ try_tools() {
     instead='rt new crates/fresh start_lib' runs 'rt new crates/NAME start_lib'
     on docs/CONTRIBUTING.md "$work/one/crates/placement"
     instead='rt check --only score' runs 'rt check --only PATH'
+    by "rt ci, proved" 'rt try --test'
+    for page in docs/CONTRIBUTING.md docs/GATE.md; do by itself 'tools/pages.sh'; done
     on docs/PERFORMANCE.md "$work/crates/bench"
     by "rt ci, with --dry" 'rt run'
     by "rt ci" './out/bench --dry'
