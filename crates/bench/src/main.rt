@@ -1,10 +1,13 @@
 //! `bench` measures, a table each: an instruction of `call`, a call beside an object, a slot of `verify` and an `append` of a
 //! group, over methods of its own; what a text of many labels costs to assemble; what a change of a small object costs, beside
-//! the same change of a large one; calls that only read their object, beside none and beside one of full size; and a log that
-//! becomes another list, beside a replay of that list. With `--dry` it leaves the times out.
+//! the same change of a large one; calls that only read their object, beside none and beside one of full size; a log that
+//! becomes another list, beside a replay of that list; and a request at the nodes of a group of three. With `--dry` it leaves
+//! the times out. With `memory` it prints alone what the entries of a full log hold in memory.
 #![tactic(auto)]
 
+mod handling;
 mod log;
+mod memory;
 mod objects;
 mod reads;
 mod texts;
@@ -18,10 +21,21 @@ use std::{env, io};
 
 fn main(rt: HostRuntime) -> Result<()> {
     let words: Vec<String> = env::args(&rt)?.collect(rt.alloc())?;
-    let mode = Mode::of(&words).context("usage: bench [--dry]")?;
     let mut out = rt.stdout();
+    if asks_for_memory(&words) {
+        return memory::report(&rt, &mut out);
+    }
+    let mode = Mode::of(&words).context("usage: bench [--dry | memory]")?;
     report(rt.alloc(), &rt, mode, RUNS, &WORKLOADS, &mut out)?;
     parts(rt.alloc(), &rt, mode, &mut out)
+}
+
+/// Whether a command line asks for memory alone.
+fn asks_for_memory(words: &[String]) -> bool {
+    match words {
+        [_, word] => word.as_str() == "memory",
+        _ => false,
+    }
 }
 
 /// Prints the tables of parts, an empty line before each, with times where they are taken.
@@ -33,5 +47,6 @@ fn parts<C: Clock, O: io::Write>(alloc: Global, clock: &C, mode: Mode, out: &mut
     texts::report(alloc, clock, out)?;
     objects::report(alloc, clock, out)?;
     reads::report(alloc, clock, out)?;
-    log::report(alloc, clock, out)
+    log::report(alloc, clock, out)?;
+    handling::report(alloc, clock, out)
 }
