@@ -361,6 +361,8 @@ try_tools() {
     by "rt ci" './out/bench --dry'
     needs out/bench
     instead=./out/bench runs 'for i in 1 2 3 4 5 6 7 8; do ./out/bench; done'
+    needs out/bench
+    runs './out/bench memory'
     needs cc
     runs 'cc -O2 baseline.c -o baseline && ./baseline'
     needs python3
