@@ -15,7 +15,7 @@ kit=$(dirname "$(rt doc)")
 work=$(mktemp -d)
 trap 'rm -rf "$work"' EXIT
 program=$top/crates/radoscls/out/radoscls
-rows=$top/crates/memory_rows/out/memory_rows
+rows=$top/crates/tests_memory_rows/out/tests_memory_rows
 ok=0 differ=0 left=0 elsewhere=0
 tools=$work/kit page= folder= lacking=
 
@@ -372,7 +372,7 @@ try_tools() {
 # Want of memory: of one row, and of all but `cluster`, which tells other things on a busy machine.
 try_refusals() {
     local names page
-    names="$(cut -d ' ' -f 1 "$top/crates/memory_rows/stdout") verify run asm pack dis sim trace"
+    names="$(cut -d ' ' -f 1 "$top/crates/tests_memory_rows/stdout") verify run asm pack dis sim trace"
     on docs/CONTRIBUTING.md "$top"
     needs "$rows" "$program" cc
     instead="tools/refuse.sh '$rows' - decode" runs 'tools/refuse.sh ROWS - ROW'
@@ -394,12 +394,17 @@ commands() {
 # Forms, which have words in capitals: tests of the program have them all.
 know_forms() {
     on docs/PROGRAM.md "$work"
-    while IFS= read -r form; do by program_tests "$form"; done < <(sed -n '/^```/,/^```/p' "$work/$page" | grep '^radoscls')
+    while IFS= read -r form; do
+        case $form in
+            'radoscls sim '* | 'radoscls cluster '*) by tests_play "$form" ;;
+            *) by tests_program "$form" ;;
+        esac
+    done < <(sed -n '/^```/,/^```/p' "$work/$page" | grep '^radoscls')
     on docs/CLUSTER.md "$work"
-    by program_tests 'radoscls cluster FILE [--class NAME=IMAGE ..] [--stats]'
+    by tests_play 'radoscls cluster FILE [--class NAME=IMAGE ..] [--stats]'
     on docs/SIM.md "$work"
-    by program_tests 'radoscls sim FILE'
-    by program_tests 'radoscls sim --trace FILE'
+    by tests_play 'radoscls sim FILE'
+    by tests_play 'radoscls sim --trace FILE'
 }
 
 # Whether there is a command that nothing above names.

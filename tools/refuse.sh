@@ -1,5 +1,5 @@
 #!/usr/bin/env bash
-# Refuses each growth of memory in turn, one a run: of every row of `memory_rows`, and of the commands of `radoscls`.
+# Refuses each growth of memory in turn, one a run: of every row of `tests_memory_rows`, and of the commands of `radoscls`.
 #
 #     tools/refuse.sh [ROWS [RADOSCLS [NAME ..]]]
 #
@@ -15,7 +15,7 @@
 # else; on a busy one a client of `cluster` looks longer than that.
 set -u
 top=$(cd "$(dirname "$0")/.." && pwd)
-rows=${1:-$top/crates/memory_rows/out/memory_rows}
+rows=${1:-$top/crates/tests_memory_rows/out/tests_memory_rows}
 radoscls=${2:-$top/crates/radoscls/out/radoscls}
 shift $(($# < 2 ? $# : 2))
 wanted=" $* "
@@ -44,7 +44,7 @@ differs() {
 # How many growths there were, and how many were told of.
 tell() { printf '%-24s %6d growths %6d refused\n' "$1" "$2" "$3"; }
 
-# A row of `memory_rows`.
+# A row of `tests_memory_rows`.
 sweep_row() {
     local n=1 refused=0
     while run "$n" "$rows" "$1"; do
@@ -103,7 +103,7 @@ sweep_command() {
 }
 
 if [ "$rows" != - ]; then
-    for row in $(cut -d ' ' -f 1 "$top/crates/memory_rows/stdout"); do
+    for row in $(cut -d ' ' -f 1 "$top/crates/tests_memory_rows/stdout"); do
         if is_wanted "$row"; then sweep_row "$row"; fi
     done
 fi

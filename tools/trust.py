@@ -1,9 +1,12 @@
 #!/usr/bin/env python3
 """Prints which lines of crates/*/specs/ define the given names, with all that they cite of this repository, and the types
-of the code that they name. `--` begins a second table, of what the first lacks. docs/TRUST.md shows how it is called."""
+of the code that they name. `--` begins a second table, of what the first lacks. docs/TRUST.md shows how it is called; with
+`--page` alone it writes what that page's command prints into the page."""
 import os, re, sys
 
-CRATES = os.path.join(os.path.dirname(os.path.abspath(__file__)), "..", "crates")
+TOP = os.path.join(os.path.dirname(os.path.abspath(__file__)), "..")
+CRATES = os.path.join(TOP, "crates")
+PAGE = os.path.join(TOP, "docs", "TRUST.md")
 HEAD = re.compile(r"^(?:pub |unfoldable |abbrev |opaque )*(?:record |data |indexed )?([^\s:(]+)")
 
 
@@ -132,25 +135,55 @@ def ranges(lines):
     return ", ".join(f"{a} to {b}" for a, b in runs)
 
 
-def main():
+def found(words):
+    """Of each table the lines of files, how many there are, and the types: what the tables before it lack."""
     seen, named = {}, set()
-    for group in " ".join(sys.argv[1:]).split(" -- "):
+    for group in " ".join(words).split(" -- "):
         wanted, types = closure(group.split())
-        whole = 0
-        print("| file | lines | how many |\n|---|---|---|")
+        rows, whole, lacking = [], 0, {}
         for file, lines in wanted.items():
             new = [at for at in lines if at not in seen.setdefault(file, set())]
             seen[file].update(new)
             whole += len(new)
             if new:
-                print(f"| `{file}` | {ranges(new)} | {len(new)} |")
-        print(f"| | | {whole} |\n")
+                rows.append(f"| `{file}` | {ranges(new)} | {len(new)} |\n")
         for file, names in types.items():
             new = [it for it in names if (file, it) not in named]
             named.update((file, it) for it in new)
             if new:
-                print(f"`{file}`: {', '.join(new)}")
+                lacking[file] = new
+        yield "| file | lines | how many |\n|---|---|---|\n" + "".join(rows), whole, lacking
+
+
+def show(words):
+    for table, whole, types in found(words):
+        print(f"{table}| | | {whole} |\n")
+        for file, names in types.items():
+            print(f"`{file}`: {', '.join(names)}")
         print()
 
 
-main()
+def replaced(text, pattern, news):
+    """The text with the first group of each match replaced, in order."""
+    places = [it.span(1) for it in re.finditer(pattern, text)]
+    assert len(places) == len(news), pattern
+    for (start, end), new in reversed(list(zip(places, news))):
+        text = text[:start] + new + text[end:]
+    return text
+
+
+def write_page():
+    with open(PAGE, encoding="utf-8") as it:
+        text = it.read()
+    tables, counts, types = zip(*found(re.search(r"python3 tools/trust.py (.*)", text).group(1).split()))
+    text = replaced(text, r"(\| file \| lines \| how many \|\n(?:\|.*\n)+)", tables)
+    text = replaced(text, r"(\d+) lines(?= more:|:)", [str(it) for it in counts])
+    text = replaced(text, r"of the code: (`.*`)", [", ".join(f"`{file}`" for file in it) for it in types])
+    with open(PAGE, "w", encoding="utf-8") as it:
+        it.write(text)
+
+
+if sys.argv[1:] == ["--page"]:
+    write_page()
+else:
+    show(sys.argv[1:])

@@ -6,8 +6,8 @@ use lib.Signed.{lt_z, le_z}
 use mathlib.Core.Path.{ap₂}
 use Rattle.std.proofs.lemmas.Int.{ints}
 use Rattle.bpf_decode.specs.Arithmetic.{compared, is_taken}
-use Rattle.bpf_decode.specs.declared.operation.Bits.{Bits}
-use Rattle.bpf_decode.specs.declared.operation.Bits.TheVariants.{Bits32, Bits64}
+use Rattle.bpf_decode.specs.declared.operation.OpWidth.{OpWidth}
+use Rattle.bpf_decode.specs.declared.operation.OpWidth.TheVariants.{Bits32, Bits64}
 use Rattle.bpf_decode.specs.declared.operation.Comparison.{Comparison}
 use Rattle.bpf_decode.specs.declared.operation.Comparison.TheVariants as is
 use Rattle.abstract_num.specs.Both.{BothRefine}
@@ -167,12 +167,12 @@ short_same is.SignedLessEqual m n p q = ap₂ (λ u v. le_z u v) (low_signed m p
 below_end : (b n e : ℕ) → n ≤ b → nat_lt b e ≡ true → n < e
 below_end b n e p t = grind arith
 
-told_along : (bits : Bits) (c : Comparison) (x y : Plain) (m n : ℕ) → Holds x m → Holds y n → tells bits c x y ≡ true → is_taken bits c m n ≡ compared c w64 m n
+told_along : (bits : OpWidth) (c : Comparison) (x y : Plain) (m n : ℕ) → Holds x m → Holds y n → tells bits c x y ≡ true → is_taken bits c m n ≡ compared c w64 m n
 told_along Bits64 c x y m n h k e = refl
 told_along Bits32 c x y m n h k e =
     short_same c m n (below_end x.high m (short_end c) h.below (and_first _ _ e)) (below_end y.high n (short_end c) k.below (and_second _ _ e))
 
-refined_keeps : (bits : Bits) (c : Comparison) (taken : Bool) (x y : Plain) (m n : ℕ) → Holds x m → Holds y n → is_taken bits c m n ≡ taken → KeptBoth (refined bits c taken x y) m n
+refined_keeps : (bits : OpWidth) (c : Comparison) (taken : Bool) (x y : Plain) (m n : ℕ) → Holds x m → Holds y n → is_taken bits c m n ≡ taken → KeptBoth (refined bits c taken x y) m n
 refined_keeps bits c taken x y m n h k t =
     cond_both (λ o. KeptBoth o m n) (tells bits c x y) (by_edge (told c taken) x y) (Some (x, y))
     (λ e. by_edge_keeps (told c taken) x y m n h k (told_holds c taken m n (sym (told_along bits c x y m n h k e) ∙ t)))
@@ -182,5 +182,5 @@ tightened_keeps : (o : Option Pair) (m n : ℕ) → KeptBoth o m n → KeptBoth 
 tightened_keeps None m n h = h
 tightened_keeps (Some s) m n h = both_keep (tighten s.0) (tighten s.1) m n (tighten_sound s.0 m h.0) (tighten_sound s.1 n h.1)
 
-pub along_keeps : (bits : Bits) (c : Comparison) (taken : Bool) (x y : Plain) (m n : ℕ) → Holds x m → Holds y n → is_taken bits c m n ≡ taken → KeptBoth (along bits c taken x y) m n
+pub along_keeps : (bits : OpWidth) (c : Comparison) (taken : Bool) (x y : Plain) (m n : ℕ) → Holds x m → Holds y n → is_taken bits c m n ≡ taken → KeptBoth (along bits c taken x y) m n
 along_keeps bits c taken x y m n h k t = tightened_keeps (refined bits c taken x y) m n (refined_keeps bits c taken x y m n h k t)

@@ -9,8 +9,8 @@ use Rattle.std.proofs.Math.Nat.{div-le_self, mod-le}
 use Rattle.std.proofs.lemmas.Nat.{or_lt, xor_lt, and_le_l}
 use Rattle.std.proofs.lemmas.Bool.{cond_both}
 use mir.Val.{bits, hbits}
-use Rattle.bpf_decode.specs.declared.operation.Bits.{Bits}
-use Rattle.bpf_decode.specs.declared.operation.Bits.TheVariants.{Bits32, Bits64}
+use Rattle.bpf_decode.specs.declared.operation.OpWidth.{OpWidth}
+use Rattle.bpf_decode.specs.declared.operation.OpWidth.TheVariants.{Bits32, Bits64}
 use Rattle.bpf_decode.specs.declared.operation.Arithmetic.{Arithmetic}
 use Rattle.bpf_decode.specs.declared.operation.Arithmetic.TheVariants.{Add, Sub, Mul, Div, SignedDiv, Or, And, Lsh, Rsh, Mod, SignedMod, Xor, Arsh}
 use Rattle.bpf_decode.specs.declared.operation.SignedMove.{SignedMove}
@@ -87,7 +87,7 @@ module _ (w : Width) (machine : Machine w) (m n : ℕ) (p : m < 2 ^ bits w) (q :
   computed_small Xor = xor_lt (bits w) m n p q
   computed_small Arsh = shifted_small
 
-pub alu_small : (bits : Bits) (operation : Arithmetic) (m n : ℕ) → m < 2 ^ 64 → n < 2 ^ 64 → alu_value bits operation m n < 2 ^ 64
+pub alu_small : (bits : OpWidth) (operation : Arithmetic) (m n : ℕ) → m < 2 ^ 64 → n < 2 ^ 64 → alu_value bits operation m n < 2 ^ 64
 alu_small Bits64 operation m n p q = computed_small w64 Is64 m n p q operation
 alu_small Bits32 operation m n p q =
     let h = computed_small w32 Is32 (m % 2 ^ 32) (n % 2 ^ 32) (omega arith) (omega arith) operation in omega arith

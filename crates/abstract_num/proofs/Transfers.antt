@@ -9,8 +9,8 @@ use Rattle.std.proofs.lemmas.Nat.{and_le_l, or_lt, xor_lt, shr_le}
 use Rattle.bpf_decode.specs.Arithmetic.{computed, alu_value, neg_value, mov_value, signed_move_value, end_value}
 use Rattle.bpf_decode.specs.declared.operation.Arithmetic.{Arithmetic}
 use Rattle.bpf_decode.specs.declared.operation.Arithmetic.TheVariants as op
-use Rattle.bpf_decode.specs.declared.operation.Bits.{Bits}
-use Rattle.bpf_decode.specs.declared.operation.Bits.TheVariants.{Bits32, Bits64}
+use Rattle.bpf_decode.specs.declared.operation.OpWidth.{OpWidth}
+use Rattle.bpf_decode.specs.declared.operation.OpWidth.TheVariants.{Bits32, Bits64}
 use Rattle.bpf_decode.specs.declared.operation.SignedMove.{SignedMove}
 use Rattle.bpf_decode.specs.declared.operation.SignedMove.TheVariants.{Byte64, Half64, Word64, Byte32, Half32}
 use Rattle.bpf_decode.specs.declared.operation.ByteOrder.{ByteOrder}
@@ -27,8 +27,8 @@ use Rattle.abstract_num.specs.Tighten.{tighten}
 use Rattle.abstract_num.specs.Transfer.{row_of, row_of_32, is_constant, count_of, answer32, answer64, moved, cut, finished32, finished64, transferred, copied, extended_of, sign_extended, ordered}
 use Rattle.abstract_num.specs.declared.row.Row.{Row}
 use Rattle.abstract_num.specs.declared.row.Row.TheVariants as row
-use Rattle.abstract_num.specs.declared.row.Answer.{Answer}
-use Rattle.abstract_num.specs.declared.row.Answer.TheVariants.{Exact, By, All}
+use Rattle.abstract_num.specs.declared.row.RowAnswer.{RowAnswer}
+use Rattle.abstract_num.specs.declared.row.RowAnswer.TheVariants.{Exact, By, All}
 use Rattle.abstract_num.proofs.Results.{computed_small, signed_move_small, signed_move_short8, signed_move_short16, end_value_small, Is32, Is64}
 use Rattle.abstract_num.proofs.Tight.{Fits, AllFit, tighten_sound, tighten_fits}
 
@@ -72,7 +72,7 @@ by_count : (P : Option ℕ → Type 0) (width : ℕ) (y : Plain) (n : ℕ) → H
 by_count P width y n h f g = cond_both P (is_constant y) (Some (y.low % width)) None (λ e. f (only y n e h)) (λ _. g)
 
 module _ (x y : Plain) (f : Fits x) (g : Fits y) (m n : ℕ) (h : Holds x m) (k : Holds y n) where
-  abbrev Kept64 : Arithmetic → Answer → Type 0
+  abbrev Kept64 : Arithmetic → RowAnswer → Type 0
   Kept64 operation answer = IsSomeAnd (finished64 answer x y) (λ z. Holds z (computed operation w64 m n))
 
   by_row : (r : Row) → IsSomeAnd (finished64 (By r) x y) (λ z. Holds z (row_value r m n))
@@ -153,7 +153,7 @@ arsh32 m s p =
     cond_both (λ z. cast_unsigned w32 (int_shr z s) ≡ m / 2 ^ s) (nat_lt m (2 ^ 31)) _ _ (λ e. refl) (λ e. absurd (grind arith))
 
 module _ (x y : Plain) (f : Fits x) (g : Fits y) (m n : ℕ) (h : Holds x m) (k : Holds y n) (p : m < 2 ^ 32) (q : n < 2 ^ 32) where
-  abbrev Kept32 : Arithmetic → Answer → Type 0
+  abbrev Kept32 : Arithmetic → RowAnswer → Type 0
   Kept32 operation answer = IsSomeAnd (finished32 answer x y) (λ z. Holds z (computed operation w32 m n))
 
   cut_row : (r : Row) (v w : ℕ) → Holds (moved r x y) v → v % 2 ^ 32 ≡ w → IsSomeAnd (finished32 (By r) x y) (λ z. Holds z w)
@@ -235,7 +235,7 @@ after : (o : Option Plain) (k : Plain → Option Plain) (v w : ℕ) → IsSomeAn
 after None k v w h f g = h
 after (Some a) k v w h f g = g a h f
 
-pub transferred_keeps : (bits : Bits) (operation : Arithmetic) (x y : Plain) → Fits x → Fits y → (m n : ℕ) → Holds x m → Holds y n
+pub transferred_keeps : (bits : OpWidth) (operation : Arithmetic) (x y : Plain) → Fits x → Fits y → (m n : ℕ) → Holds x m → Holds y n
     → IsSomeAnd (transferred bits operation x y) (λ z. Holds z (alu_value bits operation m n))
 transferred_keeps Bits64 operation x y f g m n h k = answer64_keeps x y f g m n h k operation
 transferred_keeps Bits32 operation x y f g m n h k =
@@ -292,10 +292,10 @@ ordered_keeps order width x n h =
     (λ e. constant_of_same _ v (ap (λ u. end_value order width u) (sym (only x n e h))) (end_value_small order width n))
     (λ _. tighten_sound any v (any_holds v (end_value_small order width n)))
 
-pub negative_is : (bits : Bits) (n : ℕ) → alu_value bits op.Sub 0 n ≡ neg_value bits n
+pub negative_is : (bits : OpWidth) (n : ℕ) → alu_value bits op.Sub 0 n ≡ neg_value bits n
 negative_is Bits64 n = omega arith
 negative_is Bits32 n = omega arith
 
-pub copied_keeps : (bits : Bits) (x : Plain) (n : ℕ) → Holds x n → IsSomeAnd (copied bits x) (λ z. Holds z (mov_value bits n))
+pub copied_keeps : (bits : OpWidth) (x : Plain) (n : ℕ) → Holds x n → IsSomeAnd (copied bits x) (λ z. Holds z (mov_value bits n))
 copied_keeps Bits64 x n h = h
 copied_keeps Bits32 x n h = cut_keeps x n h

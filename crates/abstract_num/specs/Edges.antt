@@ -1,7 +1,7 @@
 -- What the edges of a comparison leave of its two numbers.
 use Rattle.std.specs.Prelude.{ℕ, ◌^◌, nat_lt, ◌&&◌, ◌||◌, Bool, true, false, if◌then◌else◌, Option, Some, None, option_map, option_and_then}
-use Rattle.bpf_decode.specs.declared.operation.Bits.{Bits}
-use Rattle.bpf_decode.specs.declared.operation.Bits.TheVariants.{Bits32, Bits64}
+use Rattle.bpf_decode.specs.declared.operation.OpWidth.{OpWidth}
+use Rattle.bpf_decode.specs.declared.operation.OpWidth.TheVariants.{Bits32, Bits64}
 use Rattle.bpf_decode.specs.declared.operation.Comparison.{Comparison}
 use Rattle.bpf_decode.specs.declared.operation.Comparison.TheVariants as is
 use Rattle.abstract_num.specs.Plain.{Plain}
@@ -93,11 +93,11 @@ abbrev pub short_end : Comparison → ℕ
 short_end comparison = (if is_signed comparison then 2 ^ 31 else 2 ^ 32)
 
 -- a comparison of 32 bits tells nothing of a number that may be longer
-abbrev pub tells : Bits → Comparison → Plain → Plain → Bool
+abbrev pub tells : OpWidth → Comparison → Plain → Plain → Bool
 tells Bits64 comparison x y = true
 tells Bits32 comparison x y = nat_lt x.high (short_end comparison) && nat_lt y.high (short_end comparison)
 
-abbrev pub refined : Bits → Comparison → Bool → Plain → Plain → Option Pair
+abbrev pub refined : OpWidth → Comparison → Bool → Plain → Plain → Option Pair
 refined bits comparison taken x y =
     (if tells bits comparison x y then by_edge (told comparison taken) x y else Some (x, y))
 
@@ -106,5 +106,5 @@ abbrev pub tightened : Pair → Option Pair
 tightened s = both (tighten s.0) (tighten s.1)
 
 -- along an edge
-abbrev pub along : Bits → Comparison → Bool → Plain → Plain → Option Pair
+abbrev pub along : OpWidth → Comparison → Bool → Plain → Plain → Option Pair
 along bits comparison taken x y = option_and_then tightened (refined bits comparison taken x y)

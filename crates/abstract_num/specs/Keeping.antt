@@ -2,7 +2,7 @@
 use Rattle.std.specs.Prelude.{◌≡◌, ℕ, ◌^◌, ◌<◌, ◌≤◌, Bool, Option, IsSomeAnd}
 use Rattle.bpf_decode.specs.Arithmetic.{alu_value, neg_value, mov_value, signed_move_value, end_value, is_taken, signed_load_value}
 use Rattle.bpf_decode.specs.Instruction.{byte_count, signed_byte_count}
-use Rattle.bpf_decode.specs.declared.operation.Bits.{Bits}
+use Rattle.bpf_decode.specs.declared.operation.OpWidth.{OpWidth}
 use Rattle.bpf_decode.specs.declared.operation.Arithmetic.{Arithmetic}
 use Rattle.bpf_decode.specs.declared.operation.Arithmetic.TheVariants.{Sub}
 use Rattle.bpf_decode.specs.declared.operation.SignedMove.{SignedMove}
@@ -43,14 +43,14 @@ ConstantHolds = (n : ℕ) → n < 2 ^ 64 → Holds (constant n) n
 
 abbrev pub ArithmeticKeeps : Type 0
 ArithmeticKeeps =
-    (bits : Bits) (operation : Arithmetic) (x y : Plain) → Fits x → Fits y → (m n : ℕ) → Holds x m → Holds y n →
+    (bits : OpWidth) (operation : Arithmetic) (x y : Plain) → Fits x → Fits y → (m n : ℕ) → Holds x m → Holds y n →
     HeldIn (transferred bits operation x y) (alu_value bits operation m n)
 
 abbrev pub NegativeKeeps : Type 0
-NegativeKeeps = (bits : Bits) (x : Plain) → Fits x → (n : ℕ) → Holds x n → HeldIn (transferred bits Sub (constant 0) x) (neg_value bits n)
+NegativeKeeps = (bits : OpWidth) (x : Plain) → Fits x → (n : ℕ) → Holds x n → HeldIn (transferred bits Sub (constant 0) x) (neg_value bits n)
 
 abbrev pub CopyKeeps : Type 0
-CopyKeeps = (bits : Bits) (x : Plain) (n : ℕ) → Holds x n → HeldIn (copied bits x) (mov_value bits n)
+CopyKeeps = (bits : OpWidth) (x : Plain) (n : ℕ) → Holds x n → HeldIn (copied bits x) (mov_value bits n)
 
 abbrev pub ExtensionKeeps : Type 0
 ExtensionKeeps = (extension : SignedMove) (x : Plain) (n : ℕ) → Holds x n → HeldIn (sign_extended extension x) (signed_move_value extension n)
@@ -74,7 +74,7 @@ TightenKeeps = (x : Plain) (n : ℕ) → Holds x n → HeldIn (tighten x) n
 
 abbrev pub EdgeKeeps : Type 0
 EdgeKeeps =
-    (bits : Bits) (comparison : Comparison) (taken : Bool) (x y : Plain) (m n : ℕ) → Holds x m → Holds y n → is_taken bits comparison m n ≡ taken →
+    (bits : OpWidth) (comparison : Comparison) (taken : Bool) (x y : Plain) (m n : ℕ) → Holds x m → Holds y n → is_taken bits comparison m n ≡ taken →
     HeldInBoth (along bits comparison taken x y) m n
 
 -- what either of two numbers holds, their join holds

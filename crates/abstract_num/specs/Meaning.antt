@@ -3,7 +3,7 @@ use Rattle.std.specs.Prelude.{ℕ, ◌≡◌, ◌≢◌, ◌^◌, ◌<◌, ◌�
 use Rattle.std.specs.Int.{w64}
 use Rattle.bpf_decode.specs.Arithmetic.{computed, mov_value}
 use Rattle.bpf_decode.specs.declared.operation.Arithmetic.TheVariants as op
-use Rattle.bpf_decode.specs.declared.operation.Bits.TheVariants.{Bits32}
+use Rattle.bpf_decode.specs.declared.operation.OpWidth.TheVariants.{Bits32}
 use Rattle.abstract_num.specs.Signed.{signed}
 use Rattle.abstract_num.specs.declared.row.Row.{Row}
 use Rattle.abstract_num.specs.declared.row.Row.TheVariants.{Add, Sub, Mul, Div, Mod, And, Or, Xor, LshBy, RshBy, Rsh, ArshBy, Arsh, Cut}

@@ -3,8 +3,8 @@ use Rattle.std.specs.Prelude.{ℕ, ℤ, pos, negsuc, ◌-◌, ◌%◌, ◌^◌, 
 use Rattle.bpf_decode.specs.Arithmetic.{alu_value, signed_move_value, end_value}
 use Rattle.bpf_decode.specs.declared.operation.Arithmetic.{Arithmetic}
 use Rattle.bpf_decode.specs.declared.operation.Arithmetic.TheVariants as op
-use Rattle.bpf_decode.specs.declared.operation.Bits.{Bits}
-use Rattle.bpf_decode.specs.declared.operation.Bits.TheVariants.{Bits32, Bits64}
+use Rattle.bpf_decode.specs.declared.operation.OpWidth.{OpWidth}
+use Rattle.bpf_decode.specs.declared.operation.OpWidth.TheVariants.{Bits32, Bits64}
 use Rattle.bpf_decode.specs.declared.operation.SignedMove.{SignedMove}
 use Rattle.bpf_decode.specs.declared.operation.ByteOrder.{ByteOrder}
 use Rattle.bpf_decode.specs.declared.operation.EndWidth.{EndWidth}
@@ -20,11 +20,11 @@ use Rattle.abstract_num.specs.SignedRows.{signed_row}
 use Rattle.abstract_num.specs.BitsRows.{bits_row}
 use Rattle.abstract_num.specs.declared.row.Row.{Row}
 use Rattle.abstract_num.specs.declared.row.Row.TheVariants as row
-use Rattle.abstract_num.specs.declared.row.Answer.{Answer}
-use Rattle.abstract_num.specs.declared.row.Answer.TheVariants.{Exact, By, All}
+use Rattle.abstract_num.specs.declared.row.RowAnswer.{RowAnswer}
+use Rattle.abstract_num.specs.declared.row.RowAnswer.TheVariants.{Exact, By, All}
 
 -- The row that answers an operation by rows, with the source's masked number where that is constant.
-abbrev pub row_of : Arithmetic → Option ℕ → Answer
+abbrev pub row_of : Arithmetic → Option ℕ → RowAnswer
 row_of op.Add s = By row.Add
 row_of op.Sub s = By row.Sub
 row_of op.Mul s = By row.Mul
@@ -49,18 +49,18 @@ is_constant x = x.low == x.high
 abbrev pub count_of : ℕ → Plain → Option ℕ
 count_of width y = (if is_constant y then Some (y.low % width) else None)
 
-abbrev pub answer64 : Arithmetic → Plain → Plain → Answer
+abbrev pub answer64 : Arithmetic → Plain → Plain → RowAnswer
 answer64 operation x y =
     (if is_constant x && is_constant y then Exact (alu_value Bits64 operation x.low y.low)
     else row_of operation (count_of 64 y))
 
 -- of 32 bits an arithmetic shift is a logical one where the sign is 0, and else any number
-abbrev pub row_of_32 : Arithmetic → Plain → Plain → Answer
+abbrev pub row_of_32 : Arithmetic → Plain → Plain → RowAnswer
 row_of_32 op.Arsh x y = (if nat_lt x.high (2 ^ 31) then row_of op.Rsh (count_of 32 y) else All)
 row_of_32 operation x y = row_of operation (count_of 32 y)
 
 -- of two cut numbers
-abbrev pub answer32 : Arithmetic → Plain → Plain → Answer
+abbrev pub answer32 : Arithmetic → Plain → Plain → RowAnswer
 answer32 operation x y =
     (if is_constant x && is_constant y then Exact (alu_value Bits32 operation x.low y.low)
     else row_of_32 operation x y)
@@ -73,7 +73,7 @@ moved r x y =
     let b = bits_row r x.value x.unknown y.value y.unknown in
     record { low = u.0; high = u.1; least = s.0; greatest = s.1; value = b.0; unknown = b.1 }
 
-abbrev pub answered : Answer → Plain → Plain → Plain
+abbrev pub answered : RowAnswer → Plain → Plain → Plain
 answered (Exact v) x y = constant v
 answered (By r) x y = moved r x y
 answered All x y = any
@@ -82,27 +82,27 @@ answered All x y = any
 abbrev pub cut : Plain → Option Plain
 cut x = tighten (moved row.Cut x x)
 
-abbrev pub finished64 : Answer → Plain → Plain → Option Plain
+abbrev pub finished64 : RowAnswer → Plain → Plain → Option Plain
 finished64 answer x y = tighten (answered answer x y)
 
 -- an exact number as it is, and else the cut of the row
-abbrev pub finished32 : Answer → Plain → Plain → Option Plain
+abbrev pub finished32 : RowAnswer → Plain → Plain → Option Plain
 finished32 (Exact v) x y = Some (constant v)
 finished32 (By r) x y = cut (moved r x y)
 finished32 All x y = cut any
 
 -- both operands are cut first
-abbrev pub transferred : Bits → Arithmetic → Plain → Plain → Option Plain
+abbrev pub transferred : OpWidth → Arithmetic → Plain → Plain → Option Plain
 transferred Bits64 operation x y = finished64 (answer64 operation x y) x y
 transferred Bits32 operation x y =
     option_and_then (λ a. option_and_then (λ b. finished32 (answer32 operation a b) a b) (cut y)) (cut x)
 
 -- a copy of 64 bits is the number as it is
-abbrev pub copied : Bits → Plain → Option Plain
+abbrev pub copied : OpWidth → Plain → Option Plain
 copied Bits64 x = Some x
 copied Bits32 x = cut x
 
-abbrev pub extended_of : SignedMove → Bits → Plain → Option Plain
+abbrev pub extended_of : SignedMove → OpWidth → Plain → Option Plain
 extended_of extension Bits64 x = (if is_constant x then Some (constant (signed_move_value extension x.low)) else tighten any)
 extended_of extension Bits32 x =
     option_and_then (λ a. (if is_constant a then Some (constant (signed_move_value extension a.low)) else cut any)) (cut x)

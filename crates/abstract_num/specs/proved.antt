@@ -11,3 +11,4 @@ pub mod BitsRows
 pub mod UnsignedFacts
 pub mod SignedFacts
 pub mod BitsFacts
+pub mod BothKept

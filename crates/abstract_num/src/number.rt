@@ -23,27 +23,60 @@ pub type Number = Product<URange, Product<SRange, Bits>>;
 /// A value takes six words.
 const _: () = prove!(size_of::<Number>() <= 48);
 
+impl Product<URange, Product<SRange, Bits>> {
+    /// The number of these parts.
+    pub(crate) fn of(unsigned: URange, signed: SRange, bits: Bits) -> Number
+        ensures { result ≡ record { first = unsigned; second = record { first = signed; second = bits } } }
+    {
+        Product {
+            first: unsigned,
+            second: Product {
+                first: signed,
+                second: bits,
+            },
+        }
+    }
+
+    /// Its unsigned range.
+    pub fn unsigned(self) -> URange
+        ensures { result ≡ self.first }
+    {
+        self.first
+    }
+
+    /// Its signed range.
+    pub fn signed(self) -> SRange
+        ensures { result ≡ self.second.first }
+    {
+        self.second.first
+    }
+
+    /// Its known bits.
+    pub fn bits(self) -> Bits
+        ensures { result ≡ self.second.second }
+    {
+        self.second.second
+    }
+}
+
 /// Every number.
 pub fn any() -> Number
     ensures table { view result ≡ any }
     ensures holds { (n : ℕ) → n < 2 ^ 64 → Holds (view result) n }
 {
-    Product {
-        first: URange {
-            low: 0,
-            high: u64::MAX,
-        },
-        second: Product {
-            first: SRange {
-                low: i64::MIN,
-                high: i64::MAX,
-            },
-            second: Bits {
-                value: 0,
-                unknown: u64::MAX,
-            },
-        },
-    }
+    let unsigned = URange {
+        low: 0,
+        high: u64::MAX,
+    };
+    let signed = SRange {
+        low: i64::MIN,
+        high: i64::MAX,
+    };
+    let bits = Bits {
+        value: 0,
+        unknown: u64::MAX,
+    };
+    Number::of(unsigned, signed, bits)
 }
 
 /// The number `n` alone.
@@ -51,19 +84,19 @@ pub fn constant(n: u64) -> Number
     ensures table { view result ≡ constant n }
     ensures holds { (k : ℕ) → Holds (view result) k ↔ (k ≡ n) }
 {
-    Product {
-        first: URange { low: n, high: n },
-        second: Product {
-            first: SRange {
-                low: n.cast_signed(),
-                high: n.cast_signed(),
-            },
-            second: Bits {
-                value: n,
-                unknown: 0,
-            },
+    let signed = n.cast_signed();
+    let bits = Bits {
+        value: n,
+        unknown: 0,
+    };
+    Number::of(
+        URange { low: n, high: n },
+        SRange {
+            low: signed,
+            high: signed,
         },
-    }
+        bits,
+    )
 }
 
 /// The range from `low` to `high`, tightened once.
@@ -71,10 +104,8 @@ fn tightened(low: u64, high: u64) -> Number
     requires { low ≤ high }
     ensures { tighten (ranged low high) ≡ Some (view result) }
 {
-    let wide = Product {
-        first: URange { low, high },
-        second: any().second,
-    };
+    // A named range says nothing of the other parts: what they know of it comes from the one tightening.
+    let wide = Number::of(URange { low, high }, any().signed(), any().bits());
     match tighten(wide) {
         Some(x) => x,
         None => unreachable!(),
@@ -95,14 +126,7 @@ fn signed_tightened(low: i64, high: i64) -> Number
     requires { low ≤ℤ high }
     ensures { tighten (signed_ranged low high) ≡ Some (view result) }
 {
-    let wide = any();
-    let wide = Product {
-        first: wide.first,
-        second: Product {
-            first: SRange { low, high },
-            second: wide.second.second,
-        },
-    };
+    let wide = Number::of(any().unsigned(), SRange { low, high }, any().bits());
     match tighten(wide) {
         Some(x) => x,
         None => unreachable!(),
@@ -197,7 +221,7 @@ fn lies_in_signed(range: SRange, n: u64) -> bool
 pub fn holds(x: &Number, n: u64) -> bool
     ensures { IsTrue result ↔ Holds (view x.now) n }
 {
-    lies_in(x.first, n) && lies_in_signed(x.second.first, n) && agrees(x.second.second, n)
+    lies_in(x.unsigned(), n) && lies_in_signed(x.signed(), n) && agrees(x.bits(), n)
 }
 
 /// The unsigned upper bound.
@@ -205,5 +229,5 @@ pub fn highest(x: &Number) -> u64
     ensures table { result ≡ (view x.now).high }
     ensures bound { (n : ℕ) → Holds (view x.now) n → n ≤ result }
 {
-    x.first.high
+    x.unsigned().high
 }

@@ -13,7 +13,8 @@ pub struct Product<A, B> {
 }
 
 impl<A: Domain, B: Domain> Domain for Product<A, B> {
-    ghost use Rattle.abstract_num.specs.Both.{BothRefine, both_kept};
+    ghost use Rattle.abstract_num.specs.Both.{BothRefine};
+    ghost use Rattle.abstract_num.specs.proved.BothKept.{both_kept};
 
     ghost holds = { λ p n. A.holds p.first n × B.holds p.second n };
 

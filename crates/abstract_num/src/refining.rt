@@ -8,7 +8,7 @@ use crate::fact::{Edge, Fact};
 use crate::number::Number;
 use crate::tightening::tighten;
 use crate::transfer::is_constant;
-use bpf_decode::{Bits, Comparison};
+use bpf_decode::{Comparison, OpWidth};
 
 /// How the two numbers stand to one another where a comparison holds, and where it doesn't.
 fn told(comparison: Comparison, taken: bool) -> Edge
@@ -62,7 +62,7 @@ fn other_than(x: Number, y: Number) -> Option<Number>
     ensures { Gives (other_than (view x) (view y)) result }
 {
     if is_constant(y) {
-        match by_fact(Fact::Not(y.first.low), x, y) {
+        match by_fact(Fact::Not(y.unsigned().low), x, y) {
             Some(both) => Some(both.0),
             None => None,
         }
@@ -89,7 +89,7 @@ fn disjoint(x: Number, y: Number) -> Option<(Number, Number)>
     ensures { GivesBoth (by_edge Edge.Disjoint (view x) (view y)) result }
 {
     if is_constant(y) {
-        by_fact(Fact::NoneOf(y.first.low), x, y)
+        by_fact(Fact::NoneOf(y.unsigned().low), x, y)
     } else {
         Some((x, y))
     }
@@ -121,21 +121,21 @@ fn short_end(comparison: Comparison) -> u64
 }
 
 /// Whether a comparison tells something: one of 32 bits tells nothing of a number that may be longer.
-fn tells(bits: Bits, comparison: Comparison, x: Number, y: Number) -> bool
+fn tells(bits: OpWidth, comparison: Comparison, x: Number, y: Number) -> bool
     ensures { result ≡ tells bits comparison (view x) (view y) }
 {
     match bits {
-        Bits::Bits64 => true,
-        Bits::Bits32 => {
+        OpWidth::Bits64 => true,
+        OpWidth::Bits32 => {
             let end = short_end(comparison);
-            x.first.high < end && y.first.high < end
+            x.unsigned().high < end && y.unsigned().high < end
         }
     }
 }
 
 /// What the comparison's edge leaves of both numbers, not tightened.
 fn refined(
-    bits: Bits,
+    bits: OpWidth,
     comparison: Comparison,
     taken: bool,
     x: Number,
@@ -152,7 +152,7 @@ fn refined(
 
 /// What the comparison's edge leaves of both numbers, each tightened once.
 fn along(
-    bits: Bits,
+    bits: OpWidth,
     comparison: Comparison,
     taken: bool,
     x: Number,
@@ -176,7 +176,7 @@ fn along(
 /// tightened once, and so that every pair of numbers held before for which the comparison goes this way is held after.
 /// None where there is no such pair. The number of a register that is compared with itself isn't refined but tightened.
 pub fn refine(
-    bits: Bits,
+    bits: OpWidth,
     comparison: Comparison,
     taken: bool,
     x: Number,

@@ -26,7 +26,7 @@ pub enum Row {
 
 /// How an operation on two numbers is answered.
 #[derive(Clone, Copy)]
-pub enum Answer {
+pub enum RowAnswer {
     /// Its operands are constants, and it gives this number.
     Exact(u64),
     /// Each part is answered by this row.

@@ -12,31 +12,31 @@ use crate::urange::URange;
 fn meet_unsigned(x: Number, low: u64, high: u64) -> Option<Number>
     ensures { let y = meet_unsigned (view x) low high in MatchOption result (y.high < y.low) (λ z. view z ≡ y) }
 {
-    let low = x.first.low.max(low);
-    let high = x.first.high.min(high);
+    let low = x.unsigned().low.max(low);
+    let high = x.unsigned().high.min(high);
     if high < low {
         return None;
     }
-    Some(Product {
-        first: URange { low, high },
-        second: x.second,
-    })
+    Some(Number::of(URange { low, high }, x.signed(), x.bits()))
 }
 
 /// The signed range from `low` to `high`, met with x's; none where the ends cross.
 fn meet_signed(x: Number, low: i64, high: i64) -> Option<Number>
     ensures { let y = meet_signed (view x) low high in MatchOption result (y.greatest <ℤ y.least) (λ z. view z ≡ y) }
 {
-    let low = x.second.first.low.max(low);
-    let high = x.second.first.high.min(high);
+    let range = x.first;
+    let sign = x.second.first;
+    let bits = x.second.second;
+    let low = sign.low.max(low);
+    let high = sign.high.min(high);
     if high < low {
         return None;
     }
     Some(Product {
-        first: x.first,
+        first: range,
         second: Product {
             first: SRange { low, high },
-            second: x.second.second,
+            second: bits,
         },
     })
 }
@@ -45,7 +45,7 @@ fn meet_signed(x: Number, low: i64, high: i64) -> Option<Number>
 fn by_bits(x: Number) -> Option<Number>
     ensures { let y = by_bits (view x) in MatchOption result (y.high < y.low) (λ z. view z ≡ y) }
 {
-    let bits = x.second.second;
+    let bits = x.bits();
     meet_unsigned(x, bits.value, bits.value + bits.unknown)
 }
 
@@ -53,8 +53,9 @@ fn by_bits(x: Number) -> Option<Number>
 fn by_unsigned(x: Number) -> Option<Number>
     ensures { let y = by_unsigned (view x) in MatchOption result (y.greatest <ℤ y.least) (λ z. view z ≡ y) }
 {
-    if x.first.high < 1 << 63 || x.first.low >= 1 << 63 {
-        meet_signed(x, x.first.low.cast_signed(), x.first.high.cast_signed())
+    let range = x.first;
+    if range.high < 1 << 63 || range.low >= 1 << 63 {
+        meet_signed(x, range.low.cast_signed(), range.high.cast_signed())
     } else {
         Some(x)
     }
@@ -64,7 +65,7 @@ fn by_unsigned(x: Number) -> Option<Number>
 fn by_signed(x: Number) -> Option<Number>
     ensures { let y = by_signed (view x) in MatchOption result (y.high < y.low) (λ z. view z ≡ y) }
 {
-    let sign = x.second.first;
+    let sign = x.signed();
     if sign.low >= 0 || sign.high < 0 {
         meet_unsigned(x, sign.low.cast_unsigned(), sign.high.cast_unsigned())
     } else {
@@ -76,16 +77,17 @@ fn by_signed(x: Number) -> Option<Number>
 fn by_constant(x: Number) -> Option<Number>
     ensures { Gives (by_constant (view x)) result }
 {
-    let n = x.first.low;
-    if n != x.first.high {
+    let range = x.first;
+    let sign = x.second.first;
+    let bits = x.second.second;
+    let n = range.low;
+    if n != range.high {
         return Some(x);
     }
     let s = n.cast_signed();
-    let sign = x.second.first;
-    let bits = x.second.second;
     if (n ^ (n & bits.unknown)) == bits.value && sign.low <= s && s <= sign.high {
         Some(Product {
-            first: x.first,
+            first: range,
             second: Product {
                 first: SRange { low: s, high: s },
                 second: Bits {

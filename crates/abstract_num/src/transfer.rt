@@ -1,21 +1,21 @@
 ghost use Rattle.std.specs.Prelude.{◌≡◌, ℕ, ◌%◌, ◌^◌, ◌<◌, ◌≤◌, IsTrue};
 ghost use Rattle.bpf_decode.specs.Arithmetic.{alu_value, neg_value, mov_value, signed_move_value, end_value};
 ghost use Rattle.bpf_decode.specs.Instruction.{signed_move_bits};
-ghost use Rattle.bpf_decode.specs.declared.operation.Bits.TheVariants.{Bits32, Bits64};
+ghost use Rattle.bpf_decode.specs.declared.operation.OpWidth.TheVariants.{Bits32, Bits64};
 ghost use Rattle.abstract_num.specs.Plain.{Gives, Holds, Kept, constant, view};
 ghost use Rattle.abstract_num.specs.Transfer.{answer32, answer64, answered, copied, count_of, cut, extended_of, finished32, is_constant, moved, ordered, row_of, row_of_32, sign_extended, transferred};
 
 use crate::domain::Domain;
 use crate::number::{Number, any, constant};
-use crate::row::{Answer, Row};
+use crate::row::{Row, RowAnswer};
 use crate::tightening::tighten;
-use bpf_decode::{Arithmetic, Bits, ByteOrder, EndWidth, SignedMove, arithmetic as exact};
+use bpf_decode::{Arithmetic, ByteOrder, EndWidth, OpWidth, SignedMove, arithmetic as exact};
 
 /// Whether the unsigned range is one number.
 pub(crate) fn is_constant(x: Number) -> bool
     ensures { result ≡ is_constant (view x) }
 {
-    x.first.low == x.first.high
+    x.unsigned().low == x.unsigned().high
 }
 
 /// The shift count modulo `width`, where it is constant.
@@ -25,52 +25,44 @@ fn count_of(width: u64, y: Number) -> Option<u32>
     ensures { result ≡ count_of width (view y) }
 {
     if is_constant(y) {
-        Some((y.first.low % width) as u32)
+        Some((y.unsigned().low % width) as u32)
     } else {
         None
     }
 }
 
 /// The row that answers an operation, with the source's masked number where that is constant.
-fn row_of(operation: Arithmetic, count: Option<u32>) -> Answer
+#[rattlefmt::skip]
+fn row_of(operation: Arithmetic, count: Option<u32>) -> RowAnswer
     ensures { result ≡ row_of operation count }
 {
     match operation {
-        Arithmetic::Add => Answer::By(Row::Add),
-        Arithmetic::Sub => Answer::By(Row::Sub),
-        Arithmetic::Mul => Answer::By(Row::Mul),
-        Arithmetic::Div => Answer::By(Row::Div),
-        Arithmetic::SignedDiv => Answer::All,
-        Arithmetic::Or => Answer::By(Row::Or),
-        Arithmetic::And => Answer::By(Row::And),
-        Arithmetic::Lsh => match count {
-            Some(by) => Answer::By(Row::LshBy(by)),
-            None => Answer::All,
-        },
-        Arithmetic::Rsh => match count {
-            Some(by) => Answer::By(Row::RshBy(by)),
-            None => Answer::By(Row::Rsh),
-        },
-        Arithmetic::Mod => Answer::By(Row::Mod),
-        Arithmetic::SignedMod => Answer::All,
-        Arithmetic::Xor => Answer::By(Row::Xor),
-        Arithmetic::Arsh => match count {
-            Some(by) => Answer::By(Row::ArshBy(by)),
-            None => Answer::By(Row::Arsh),
-        },
+        Arithmetic::Add => RowAnswer::By(Row::Add),
+        Arithmetic::Sub => RowAnswer::By(Row::Sub),
+        Arithmetic::Mul => RowAnswer::By(Row::Mul),
+        Arithmetic::Div => RowAnswer::By(Row::Div),
+        Arithmetic::SignedDiv => RowAnswer::All,
+        Arithmetic::Or => RowAnswer::By(Row::Or),
+        Arithmetic::And => RowAnswer::By(Row::And),
+        Arithmetic::Lsh => match count { Some(by) => RowAnswer::By(Row::LshBy(by)), None => RowAnswer::All },
+        Arithmetic::Rsh => match count { Some(by) => RowAnswer::By(Row::RshBy(by)), None => RowAnswer::By(Row::Rsh) },
+        Arithmetic::Mod => RowAnswer::By(Row::Mod),
+        Arithmetic::SignedMod => RowAnswer::All,
+        Arithmetic::Xor => RowAnswer::By(Row::Xor),
+        Arithmetic::Arsh => match count { Some(by) => RowAnswer::By(Row::ArshBy(by)), None => RowAnswer::By(Row::Arsh) },
     }
 }
 
 /// The row of 32 bits: an arithmetic shift is a logical one where the sign is 0, and else any number.
-fn row_of_32(operation: Arithmetic, x: Number, y: Number) -> Answer
+fn row_of_32(operation: Arithmetic, x: Number, y: Number) -> RowAnswer
     ensures { result ≡ row_of_32 operation (view x) (view y) }
 {
     match operation {
         Arithmetic::Arsh => {
-            if x.first.high < 1 << 31 {
+            if x.unsigned().high < 1 << 31 {
                 row_of(Arithmetic::Rsh, count_of(32, y))
             } else {
-                Answer::All
+                RowAnswer::All
             }
         }
         _ => row_of(operation, count_of(32, y)),
@@ -78,22 +70,32 @@ fn row_of_32(operation: Arithmetic, x: Number, y: Number) -> Answer
 }
 
 /// How an operation of 64 bits is answered.
-fn answer64(operation: Arithmetic, x: Number, y: Number) -> Answer
+fn answer64(operation: Arithmetic, x: Number, y: Number) -> RowAnswer
     ensures { result ≡ answer64 operation (view x) (view y) }
 {
     if is_constant(x) && is_constant(y) {
-        Answer::Exact(exact::alu(Bits::Bits64, operation, x.first.low, y.first.low))
+        RowAnswer::Exact(exact::alu(
+            OpWidth::Bits64,
+            operation,
+            x.unsigned().low,
+            y.unsigned().low,
+        ))
     } else {
         row_of(operation, count_of(64, y))
     }
 }
 
 /// How an operation of 32 bits on cut numbers is answered.
-fn answer32(operation: Arithmetic, x: Number, y: Number) -> Answer
+fn answer32(operation: Arithmetic, x: Number, y: Number) -> RowAnswer
     ensures { result ≡ answer32 operation (view x) (view y) }
 {
     if is_constant(x) && is_constant(y) {
-        Answer::Exact(exact::alu(Bits::Bits32, operation, x.first.low, y.first.low))
+        RowAnswer::Exact(exact::alu(
+            OpWidth::Bits32,
+            operation,
+            x.unsigned().low,
+            y.unsigned().low,
+        ))
     } else {
         row_of_32(operation, x, y)
     }
@@ -107,13 +109,13 @@ fn moved(row: Row, x: Number, y: Number) -> Number
 }
 
 /// The number that answers, not tightened.
-fn answered(answer: Answer, x: Number, y: Number) -> Number
+fn answered(answer: RowAnswer, x: Number, y: Number) -> Number
     ensures { view result ≡ answered answer (view x) (view y) }
 {
     match answer {
-        Answer::Exact(n) => constant(n),
-        Answer::By(row) => moved(row, x, y),
-        Answer::All => any(),
+        RowAnswer::Exact(n) => constant(n),
+        RowAnswer::By(row) => moved(row, x, y),
+        RowAnswer::All => any(),
     }
 }
 
@@ -125,13 +127,13 @@ fn cut(x: Number) -> Option<Number>
 }
 
 /// The number that answers an operation of 32 bits: an exact one as it is, and else cut.
-fn finished32(answer: Answer, x: Number, y: Number) -> Option<Number>
+fn finished32(answer: RowAnswer, x: Number, y: Number) -> Option<Number>
     ensures { Gives (finished32 answer (view x) (view y)) result }
 {
     match answer {
-        Answer::Exact(n) => Some(constant(n)),
-        Answer::By(row) => cut(moved(row, x, y)),
-        Answer::All => cut(any()),
+        RowAnswer::Exact(n) => Some(constant(n)),
+        RowAnswer::By(row) => cut(moved(row, x, y)),
+        RowAnswer::All => cut(any()),
     }
 }
 
@@ -149,18 +151,18 @@ fn arithmetic32(operation: Arithmetic, x: Number, y: Number) -> Option<Number>
 }
 
 /// What arithmetic makes of two numbers.
-fn transferred(bits: Bits, operation: Arithmetic, x: Number, y: Number) -> Option<Number>
+fn transferred(bits: OpWidth, operation: Arithmetic, x: Number, y: Number) -> Option<Number>
     ensures { Gives (transferred bits operation (view x) (view y)) result }
 {
     match bits {
-        Bits::Bits64 => tighten(answered(answer64(operation, x, y), x, y)),
-        Bits::Bits32 => arithmetic32(operation, x, y),
+        OpWidth::Bits64 => tighten(answered(answer64(operation, x, y), x, y)),
+        OpWidth::Bits32 => arithmetic32(operation, x, y),
     }
 }
 
 /// What arithmetic makes of two numbers: by the table, and so that every number held before is held after by what the
 /// machine computes. None where no number is left.
-pub fn arithmetic(bits: Bits, operation: Arithmetic, x: Number, y: Number) -> Option<Number>
+pub fn arithmetic(bits: OpWidth, operation: Arithmetic, x: Number, y: Number) -> Option<Number>
     ensures table { Gives (transferred bits operation (view x) (view y)) result }
     ensures keeps { (m n : ℕ) → Holds (view x) m → Holds (view y) n → Kept result (alu_value bits operation m n) }
 {
@@ -168,7 +170,7 @@ pub fn arithmetic(bits: Bits, operation: Arithmetic, x: Number, y: Number) -> Op
 }
 
 /// The negative: 0 less the number.
-pub fn negative(bits: Bits, x: Number) -> Option<Number>
+pub fn negative(bits: OpWidth, x: Number) -> Option<Number>
     ensures table { Gives (transferred bits Arithmetic.Sub (constant 0) (view x)) result }
     ensures keeps { (n : ℕ) → Holds (view x) n → Kept result (neg_value bits n) }
 {
@@ -176,17 +178,17 @@ pub fn negative(bits: Bits, x: Number) -> Option<Number>
 }
 
 /// What a copy makes of a number.
-fn copy(bits: Bits, x: Number) -> Option<Number>
+fn copy(bits: OpWidth, x: Number) -> Option<Number>
     ensures { Gives (copied bits (view x)) result }
 {
     match bits {
-        Bits::Bits64 => Some(x),
-        Bits::Bits32 => cut(x),
+        OpWidth::Bits64 => Some(x),
+        OpWidth::Bits32 => cut(x),
     }
 }
 
 /// A copy: of 64 bits the number as it is, not tightened; of 32 bits its low half. None where no number is left.
-pub fn copied(bits: Bits, x: Number) -> Option<Number>
+pub fn copied(bits: OpWidth, x: Number) -> Option<Number>
     ensures table { Gives (copied bits (view x)) result }
     ensures keeps { (n : ℕ) → Holds (view x) n → Kept result (mov_value bits n) }
 {
@@ -198,7 +200,7 @@ fn sign_extended64(extension: SignedMove, x: Number) -> Option<Number>
     ensures { Gives (extended_of extension Bits64 (view x)) result }
 {
     if is_constant(x) {
-        Some(constant(exact::sign_extended(extension, x.first.low)))
+        Some(constant(exact::sign_extended(extension, x.unsigned().low)))
     } else {
         tighten(any())
     }
@@ -212,19 +214,19 @@ fn sign_extended32(extension: SignedMove, x: Number) -> Option<Number>
         return None;
     };
     if is_constant(a) {
-        Some(constant(exact::sign_extended(extension, a.first.low)))
+        Some(constant(exact::sign_extended(extension, a.unsigned().low)))
     } else {
         cut(any())
     }
 }
 
 /// The width of a copy with sign extension.
-fn class_of(extension: SignedMove) -> Bits
+fn class_of(extension: SignedMove) -> OpWidth
     ensures { result ≡ signed_move_bits extension }
 {
     match extension {
-        SignedMove::Byte64 | SignedMove::Half64 | SignedMove::Word64 => Bits::Bits64,
-        SignedMove::Byte32 | SignedMove::Half32 => Bits::Bits32,
+        SignedMove::Byte64 | SignedMove::Half64 | SignedMove::Word64 => OpWidth::Bits64,
+        SignedMove::Byte32 | SignedMove::Half32 => OpWidth::Bits32,
     }
 }
 
@@ -233,8 +235,8 @@ fn extended(extension: SignedMove, x: Number) -> Option<Number>
     ensures { Gives (sign_extended extension (view x)) result }
 {
     match class_of(extension) {
-        Bits::Bits64 => sign_extended64(extension, x),
-        Bits::Bits32 => sign_extended32(extension, x),
+        OpWidth::Bits64 => sign_extended64(extension, x),
+        OpWidth::Bits32 => sign_extended32(extension, x),
     }
 }
 
@@ -251,7 +253,7 @@ fn reordered(order: ByteOrder, width: EndWidth, x: Number) -> Option<Number>
     ensures { Gives (ordered order width (view x)) result }
 {
     if is_constant(x) {
-        Some(constant(exact::ordered(order, width, x.first.low)))
+        Some(constant(exact::ordered(order, width, x.unsigned().low)))
     } else {
         tighten(any())
     }

@@ -14,15 +14,15 @@ use Rattle.bpf_decode.specs.declared.region.Region.{Region}
 use Rattle.bpf_decode.specs.declared.region.Region.TheVariants.{Input, Output, Stack}
 use Rattle.bpf_decode.specs.declared.value.Value.{Value}
 use Rattle.bpf_decode.specs.declared.value.Value.TheVariants as values
-use Rattle.bpf_decode.specs.declared.operation.Bits.{Bits}
-use Rattle.bpf_decode.specs.declared.operation.Bits.TheVariants.{Bits32, Bits64}
+use Rattle.bpf_decode.specs.declared.operation.OpWidth.{OpWidth}
+use Rattle.bpf_decode.specs.declared.operation.OpWidth.TheVariants.{Bits32, Bits64}
 use Rattle.bpf_decode.specs.declared.operation.Arithmetic.{Arithmetic}
 use Rattle.bpf_decode.specs.declared.operation.SignedMove.{SignedMove}
 use Rattle.bpf_decode.specs.declared.operation.ByteOrder.{ByteOrder}
 use Rattle.bpf_decode.specs.declared.operation.EndWidth.{EndWidth}
 use Rattle.bpf_decode.specs.declared.operation.Comparison.{Comparison}
 use Rattle.bpf_decode.specs.Arithmetic.{alu_value, neg_value, mov_value, signed_move_value, end_value, is_taken, compared}
-use Rattle.bpf_decode.specs.declared.operation.Bits.TheVariants.{Bits64}
+use Rattle.bpf_decode.specs.declared.operation.OpWidth.TheVariants.{Bits64}
 use Rattle.bpf_decode.specs.declared.operation.Arithmetic.TheVariants.{Add}
 use Rattle.bpf_decode.specs.Instruction.{byte_count, signed_byte_count, OperandFits}
 use Rattle.bpf_decode.specs.Jump.{branch_to}
@@ -102,7 +102,7 @@ extended_small : (z : ℤ) → FitsSigned w32 z → extended z < 2 ^ 64
 extended_small (pos n) h = let s = h.sfits in omega arith
 extended_small (negsuc n) h = omega arith
 
-mov_small : (bits : Bits) (n : ℕ) → n < 2 ^ 64 → mov_value bits n < 2 ^ 64
+mov_small : (bits : OpWidth) (n : ℕ) → n < 2 ^ 64 → mov_value bits n < 2 ^ 64
 mov_small Bits64 n h = h
 mov_small Bits32 n h = omega arith
 
@@ -132,7 +132,7 @@ module _ (law : Laws) where
       subst (λ (u : Value). HoldsKind (Num (constant (extended imm))) (Some u)) (same_Some _ v e) (law.constant (extended imm) (extended_small imm fit))
   operand_held f cs (Register r) v fit h e = held_at f.registers cs r v h e
 
-  alu_left : (bits : Bits) (operation : Arithmetic) (x y : PlainKind) (u v w : Value) → KindFits x → KindFits y → HoldsKind x (Some u) → HoldsKind y (Some v) → alu_values bits operation u v ≡ Some w → Left (alu_kind bits operation x y) w
+  alu_left : (bits : OpWidth) (operation : Arithmetic) (x y : PlainKind) (u v w : Value) → KindFits x → KindFits y → HoldsKind x (Some u) → HoldsKind y (Some v) → alu_values bits operation u v ≡ Some w → Left (alu_kind bits operation x y) w
   alu_left bits operation Unset y u v w f g h i e = tt
   alu_left bits operation (Num k) Unset u v w f g h i e = tt
   alu_left bits operation (Ptr r k) Unset u v w f g h i e = tt
@@ -153,12 +153,12 @@ module _ (law : Laws) where
       subst (Left (option_map (Ptr r) (transferred bits operation k l))) (chosen (is_addition bits operation) _ w e)
       (left_ptr (transferred bits operation k l) r p (alu_value bits operation m n) i.0 (law.arithmetic bits operation k l f g m n h i.1))
 
-  neg_left : (bits : Bits) (x : PlainKind) (n : ℕ) → KindFits x → HoldsKind x (Some (values.Num n)) → Left (neg_kind bits x) (values.Num (neg_value bits n))
+  neg_left : (bits : OpWidth) (x : PlainKind) (n : ℕ) → KindFits x → HoldsKind x (Some (values.Num n)) → Left (neg_kind bits x) (values.Num (neg_value bits n))
   neg_left bits Unset n f h = tt
   neg_left bits (Num k) n f h = left_num _ (neg_value bits n) (law.negative bits k f n h)
   neg_left bits (Ptr r k) n f h = tt
 
-  mov_left : (bits : Bits) (x : PlainKind) (v w : Value) → HoldsKind x (Some v) → mov_values bits v ≡ Some w → Left (mov_kind bits x) w
+  mov_left : (bits : OpWidth) (x : PlainKind) (v w : Value) → HoldsKind x (Some v) → mov_values bits v ≡ Some w → Left (mov_kind bits x) w
   mov_left bits Unset v w h e = tt
   mov_left bits (Num k) (values.Ptr q n) w h e = absurd h
   mov_left bits (Num k) (values.Num n) w h e = subst (Left (mov_kind bits (Num k))) (same_Some _ w e) (left_num _ (mov_value bits n) (law.copies bits k n h))
@@ -188,7 +188,7 @@ module _ (law : Laws) where
   left_both None m n h = h
   left_both (Some s) m n h = h
 
-  along_left : (bits : Bits) (comparison : Comparison) (taken same : Bool) (x y : PlainKind) (m n : ℕ) → (same ≡ true → m ≡ n) → HoldsKind x (Some (values.Num m)) → HoldsKind y (Some (values.Num n)) → is_taken bits comparison m n ≡ taken → LeftBoth (along_kinds bits comparison taken same x y) m n
+  along_left : (bits : OpWidth) (comparison : Comparison) (taken same : Bool) (x y : PlainKind) (m n : ℕ) → (same ≡ true → m ≡ n) → HoldsKind x (Some (values.Num m)) → HoldsKind y (Some (values.Num n)) → is_taken bits comparison m n ≡ taken → LeftBoth (along_kinds bits comparison taken same x y) m n
   along_left bits comparison taken true (Num k) (Num l) m n s h i e = left_twice (tighten k) m n (s refl) (law.tighten k m h)
   along_left bits comparison taken false (Num k) (Num l) m n s h i e = left_both (along bits comparison taken k l) m n (law.edges bits comparison taken k l m n h i e)
   along_left bits comparison taken true Unset y m n s h i e = (h, i)
@@ -217,14 +217,14 @@ module _ (law : Laws) where
   low_same n = omega arith
 
   -- a comparison of 32 bits takes the immediate modulo 2 ^ 32
-  low_taken : (bits : Bits) (comparison : Comparison) (m n : ℕ) → is_taken bits comparison m (mov_value bits n) ≡ is_taken bits comparison m n
+  low_taken : (bits : OpWidth) (comparison : Comparison) (m n : ℕ) → is_taken bits comparison m (mov_value bits n) ≡ is_taken bits comparison m n
   low_taken Bits64 comparison m n = refl
   low_taken Bits32 comparison m n = ap (compared comparison w32 (m % 2 ^ 32)) (low_same n)
 
   num_same : (m n : ℕ) → values.Num m ≡ values.Num n → m ≡ n
   num_same m n e = cc
 
-  edge_left : (bits : Bits) (comparison : Comparison) (taken : Bool) (dst : ℕ) (source : Operand) (f : PlainFrame) (cs vs : List (Option Value)) (m n : ℕ) → OperandFits source → HoldsEach f.registers cs → HoldsEach f.slots vs → value_at cs dst ≡ Some (values.Num m) → operand_in cs source ≡ Some (values.Num n) → is_taken bits comparison m n ≡ taken → LeftFrame (along_edge bits comparison taken dst source f) cs vs
+  edge_left : (bits : OpWidth) (comparison : Comparison) (taken : Bool) (dst : ℕ) (source : Operand) (f : PlainFrame) (cs vs : List (Option Value)) (m n : ℕ) → OperandFits source → HoldsEach f.registers cs → HoldsEach f.slots vs → value_at cs dst ≡ Some (values.Num m) → operand_in cs source ≡ Some (values.Num n) → is_taken bits comparison m n ≡ taken → LeftFrame (along_edge bits comparison taken dst source f) cs vs
   edge_left bits comparison taken dst (Immediate imm) f cs vs m n fit h sl e g t =
       let same : extended imm ≡ n = num_same (extended imm) n (same_Some _ _ g) in
       let k = mov_value bits (extended imm) in

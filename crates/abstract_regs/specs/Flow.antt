@@ -5,7 +5,7 @@ use Rattle.bpf_decode.specs.declared.insn.Operand.{Operand}
 use Rattle.bpf_decode.specs.declared.insn.Operand.TheVariants.{Immediate, Register}
 use Rattle.bpf_decode.specs.declared.insn.Insn.{Insn}
 use Rattle.bpf_decode.specs.declared.insn.Insn.TheVariants.{Alu, Neg, Mov, MovSigned, End, LoadWide, Load, LoadSigned, Store, Jump, JumpLong, Branch, Call, CallLocal, Exit}
-use Rattle.bpf_decode.specs.declared.operation.Bits.{Bits}
+use Rattle.bpf_decode.specs.declared.operation.OpWidth.{OpWidth}
 use Rattle.bpf_decode.specs.declared.operation.Comparison.{Comparison}
 use Rattle.bpf_decode.specs.Jump.{jump_target}
 use Rattle.bpf_decode.specs.Values.{extended}
@@ -41,7 +41,7 @@ abbrev pub with_both : PlainFrame → ℕ → Operand → PlainKind × PlainKind
 with_both f dst source s = with_operand (with_kind f dst s.0) source s.1
 
 -- the frame along the edge of a comparison where it holds, or where it doesn't
-abbrev pub along_edge : Bits → Comparison → Bool → ℕ → Operand → PlainFrame → Option PlainFrame
+abbrev pub along_edge : OpWidth → Comparison → Bool → ℕ → Operand → PlainFrame → Option PlainFrame
 along_edge bits comparison taken dst source f =
     option_map (with_both f dst source) (along_kinds bits comparison taken (same_register dst source) (kind_at f dst) (compared_kind bits f source))
 

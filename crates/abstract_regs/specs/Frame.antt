@@ -2,7 +2,7 @@
 use Rattle.std.specs.Prelude.{ℕ, ◌+◌, List, [], ◌∷◌, Option, Some, None, slice_get, slice_set, drop, replicate}
 use Rattle.bpf_decode.specs.declared.insn.Operand.{Operand}
 use Rattle.bpf_decode.specs.declared.insn.Operand.TheVariants.{Immediate, Register}
-use Rattle.bpf_decode.specs.declared.operation.Bits.{Bits}
+use Rattle.bpf_decode.specs.declared.operation.OpWidth.{OpWidth}
 use Rattle.bpf_decode.specs.declared.region.Region.TheVariants.{Input, Output, Stack}
 use Rattle.bpf_decode.specs.declared.value.Value.{Value}
 use Rattle.bpf_decode.specs.Values.{extended}
@@ -73,7 +73,7 @@ operand_kind f (Immediate imm) = Num (constant (extended imm))
 operand_kind f (Register r) = kind_at f r
 
 -- of a comparison: one of 32 bits takes the immediate modulo 2 ^ 32
-abbrev pub compared_kind : Bits → PlainFrame → Operand → PlainKind
+abbrev pub compared_kind : OpWidth → PlainFrame → Operand → PlainKind
 compared_kind bits f (Immediate imm) = Num (constant (mov_value bits (extended imm)))
 compared_kind bits f (Register r) = kind_at f r
 

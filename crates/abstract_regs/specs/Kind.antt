@@ -5,8 +5,8 @@ use Rattle.bpf_decode.specs.declared.region.Region.{Region}
 use Rattle.bpf_decode.specs.declared.region.Region.TheVariants.{Input, Output, Stack}
 use Rattle.bpf_decode.specs.declared.value.Value.{Value}
 use Rattle.bpf_decode.specs.declared.value.Value.TheVariants as values
-use Rattle.bpf_decode.specs.declared.operation.Bits.{Bits}
-use Rattle.bpf_decode.specs.declared.operation.Bits.TheVariants.{Bits32, Bits64}
+use Rattle.bpf_decode.specs.declared.operation.OpWidth.{OpWidth}
+use Rattle.bpf_decode.specs.declared.operation.OpWidth.TheVariants.{Bits32, Bits64}
 use Rattle.bpf_decode.specs.declared.operation.Arithmetic.{Arithmetic}
 use Rattle.bpf_decode.specs.declared.operation.Arithmetic.TheVariants.{Add, Sub}
 use Rattle.bpf_decode.specs.declared.operation.SignedMove.{SignedMove}
@@ -72,7 +72,7 @@ join_kind (Ptr r k) (Ptr q l) = if same_region r q then Ptr r (join k l) else Un
 
 -- What an instruction that no rule refuses computes; none where no number is left. Arithmetic of numbers, or a pointer
 -- whose offset moves:
-abbrev pub alu_kind : Bits → Arithmetic → PlainKind → PlainKind → Option PlainKind
+abbrev pub alu_kind : OpWidth → Arithmetic → PlainKind → PlainKind → Option PlainKind
 alu_kind bits operation (Num k) (Num l) = option_map Num (transferred bits operation k l)
 alu_kind bits operation (Ptr r k) (Num l) = option_map (Ptr r) (transferred bits operation k l)
 alu_kind bits operation (Num k) (Ptr r l) = option_map (Ptr r) (transferred bits operation k l)
@@ -82,12 +82,12 @@ alu_kind bits operation (Num k) Unset = Some Unset
 alu_kind bits operation (Ptr r k) Unset = Some Unset
 
 -- 0 less the number
-abbrev pub neg_kind : Bits → PlainKind → Option PlainKind
+abbrev pub neg_kind : OpWidth → PlainKind → Option PlainKind
 neg_kind bits Unset = Some Unset
 neg_kind bits (Num k) = option_map Num (transferred bits Sub (constant 0) k)
 neg_kind bits (Ptr r k) = Some Unset
 
-abbrev pub mov_kind : Bits → PlainKind → Option PlainKind
+abbrev pub mov_kind : OpWidth → PlainKind → Option PlainKind
 mov_kind bits Unset = Some Unset
 mov_kind bits (Num k) = option_map Num (copied bits k)
 mov_kind Bits64 (Ptr r k) = Some (Ptr r k)
@@ -110,7 +110,7 @@ both_nums s = (Num s.0, Num s.1)
 abbrev pub same_num : Plain → PlainKind × PlainKind
 same_num n = (Num n, Num n)
 
-abbrev pub along_kinds : Bits → Comparison → Bool → Bool → PlainKind → PlainKind → Option (PlainKind × PlainKind)
+abbrev pub along_kinds : OpWidth → Comparison → Bool → Bool → PlainKind → PlainKind → Option (PlainKind × PlainKind)
 along_kinds bits comparison taken true (Num k) (Num l) = option_map same_num (tighten k)
 along_kinds bits comparison taken false (Num k) (Num l) = option_map both_nums (along bits comparison taken k l)
 along_kinds bits comparison taken same Unset y = Some (Unset, y)

@@ -15,7 +15,7 @@ use crate::edges::{Edges, Refined};
 use crate::frame::Frame;
 use crate::kind::{Kind, Kinds};
 use abstract_num::{constant, keeping_laws, loaded, loaded_signed};
-use bpf_decode::{Bits, Comparison, Insn, Operand, Register, Width, jump_target};
+use bpf_decode::{Comparison, Insn, OpWidth, Operand, Register, Width, jump_target};
 
 /// Whether a comparison is of a register with itself.
 fn is_same_register(dst: Register, source: &Operand) -> bool
@@ -43,80 +43,35 @@ impl Frame {
     }
 
     /// The same, by the table alone.
+    #[rattlefmt::skip]
     fn flow_on(&mut self, room: Option<u8>, insn: &Insn, slot: usize) -> Edges
         requires { slot < 2 ^ 62 }
         ensures { flow room insn.now slot self.old ≡ with_edges result (slot + slot_count insn.now) self.new }
     {
         match *insn {
-            Insn::Alu {
-                bits,
-                operation,
-                dst,
-                source,
-            } => {
-                let x = self.kind(usize::from(dst.number()));
-                let y = self.operand(source);
-                self.compute(dst, Kind::alu(bits, operation, x, y))
+            Insn::Alu { bits, operation, dst, source } => {
+                self.compute(dst, Kind::alu(bits, operation, self.at(dst), self.operand(source)))
             }
-            Insn::Neg { bits, dst } => {
-                let x = self.kind(usize::from(dst.number()));
-                self.compute(dst, x.neg(bits))
-            }
-            Insn::Mov { bits, dst, source } => {
-                let y = self.operand(source);
-                self.compute(dst, y.mov(bits))
-            }
-            Insn::MovSigned {
-                extension,
-                dst,
-                src,
-            } => {
-                let y = self.kind(usize::from(src.number()));
-                self.compute(dst, y.mov_signed(extension))
-            }
-            Insn::End { order, width, dst } => {
-                let x = self.kind(usize::from(dst.number()));
-                self.compute(dst, x.end(order, width))
-            }
+            Insn::Neg { bits, dst } => self.compute(dst, self.at(dst).neg(bits)),
+            Insn::Mov { bits, dst, source } => self.compute(dst, self.operand(source).mov(bits)),
+            Insn::MovSigned { extension, dst, src } => self.compute(dst, self.at(src).mov_signed(extension)),
+            Insn::End { order, width, dst } => self.compute(dst, self.at(dst).end(order, width)),
             Insn::LoadWide { dst, value } => self.compute(dst, Some(Kind::Num(constant(value)))),
-            Insn::Load {
-                width,
-                dst,
-                base,
-                offset,
-            } => {
-                let kind = self.loaded(width, base, offset);
-                self.compute(dst, Some(kind))
-            }
-            Insn::LoadSigned { width, dst, .. } => {
-                self.compute(dst, Some(Kind::Num(loaded_signed(width))))
-            }
-            Insn::Call { .. } => {
-                self.end_call(room);
-                Edges::Falls
-            }
-            Insn::Store {
-                width,
-                base,
-                offset,
-                source,
-            } => {
-                let kind = self.operand(source);
-                let to = self.kind(usize::from(base.number()));
+            Insn::Load { width, dst, base, offset } => self.compute(dst, Some(self.loaded(width, base, offset))),
+            Insn::LoadSigned { width, dst, .. } => self.compute(dst, Some(Kind::Num(loaded_signed(width)))),
+            Insn::Store { width, base, offset, source } => {
+                let (to, kind) = (self.at(base), self.operand(source));
                 self.store(to, i64::from(offset).cast_unsigned(), width.bytes(), kind);
                 Edges::Falls
             }
             Insn::Jump { offset } => Edges::Jumps(jump_target(slot, i64::from(offset))),
             Insn::JumpLong { distance } => Edges::Jumps(jump_target(slot, i64::from(distance))),
-            Insn::Branch {
-                bits,
-                comparison,
-                dst,
-                source,
-                offset,
-            } => {
-                let target = jump_target(slot, i64::from(offset));
-                self.branch(bits, comparison, dst, &source, target)
+            Insn::Branch { bits, comparison, dst, source, offset } => {
+                self.branch(bits, comparison, dst, &source, jump_target(slot, i64::from(offset)))
+            }
+            Insn::Call { .. } => {
+                self.end_call(room);
+                Edges::Falls
             }
             Insn::CallLocal { .. } | Insn::Exit => Edges::Leaves,
         }
@@ -126,7 +81,7 @@ impl Frame {
     fn loaded(&self, width: Width, base: Register, offset: i16) -> Kind
         ensures { Some (seen result) ≡ loaded_kind (kept_kind self.now (kind_at self.now base) (extended offset) (byte_count width)) (option_map plain.Num (tighten (ranged 0 (load_high width)))) }
     {
-        let from = self.kind(usize::from(base.number()));
+        let from = self.at(base);
         match self.slot(from, i64::from(offset).cast_unsigned(), width.bytes()) {
             Some(kind) => kind,
             None => Kind::Num(loaded(width)),
@@ -149,7 +104,7 @@ impl Frame {
     /// Both edges of a comparison.
     fn branch(
         &mut self,
-        bits: Bits,
+        bits: OpWidth,
         comparison: Comparison,
         dst: Register,
         source: &Operand,
@@ -158,7 +113,7 @@ impl Frame {
         ensures { (next : ℕ) → edge_to target (along_edge bits comparison true dst source.now self.old) ++ edge_to next (along_edge bits comparison false dst source.now self.old) ≡ with_edges result next self.new }
     {
         let same = is_same_register(dst, source);
-        let x = self.kind(usize::from(dst.number()));
+        let x = self.at(dst);
         let y = self.compared(bits, source);
         let taken = Kind::along(bits, comparison, true, same, x, y);
         let fallen = Kind::along(bits, comparison, false, same, x, y);

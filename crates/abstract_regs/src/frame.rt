@@ -11,7 +11,7 @@ use crate::slots::{fit_all, join_all, join_slots, meets, spoil, zeros};
 use crate::stack_span::{StackSpan, access_span, stack_place, stack_range, whole_slot};
 use abstract_num::{any, between, constant};
 use bpf_decode::arithmetic::copied;
-use bpf_decode::{Bits, Operand, Region, Register};
+use bpf_decode::{OpWidth, Operand, Region, Register};
 use std::alloc::{AllocError, Global};
 use std::marker::Model;
 
@@ -70,6 +70,13 @@ impl Frame {
         ensures { seen result ≡ kind_at self.now register }
     {
         kind_in(&self.registers, register)
+    }
+
+    /// The kind of a register.
+    pub fn at(&self, register: Register) -> Kind
+        ensures { seen result ≡ kind_at self.now register }
+    {
+        self.kind(usize::from(register.number()))
     }
 
     /// Gives a register another kind.
@@ -189,19 +196,19 @@ impl Frame {
     {
         match source {
             Operand::Immediate(imm) => Kind::Num(constant(i64::from(imm).cast_unsigned())),
-            Operand::Register(src) => self.kind(usize::from(src.number())),
+            Operand::Register(src) => self.at(src),
         }
     }
 
     /// The kind of what a comparison compares with its destination.
-    pub(crate) fn compared(&self, bits: Bits, source: &Operand) -> Kind
+    pub(crate) fn compared(&self, bits: OpWidth, source: &Operand) -> Kind
         ensures { seen result ≡ compared_kind bits self.now source.now }
     {
         match *source {
             Operand::Immediate(imm) => {
                 Kind::Num(constant(copied(bits, i64::from(imm).cast_unsigned())))
             }
-            Operand::Register(src) => self.kind(usize::from(src.number())),
+            Operand::Register(src) => self.at(src),
         }
     }
 }

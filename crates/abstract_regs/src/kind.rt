@@ -8,7 +8,7 @@ ghost use Rattle.abstract_regs.specs.Kind.{same_num, both_nums, is_unset, is_num
 use abstract_num::{
     Number, arithmetic, copied, join, negative, ordered, refine, sign_extended, tighten,
 };
-use bpf_decode::{Arithmetic, Bits, ByteOrder, Comparison, EndWidth, Region, SignedMove};
+use bpf_decode::{Arithmetic, ByteOrder, Comparison, EndWidth, OpWidth, Region, SignedMove};
 
 /// What is known of a register: nothing, not even that it is set; that it is a number; or that it points into a region,
 /// so far from its first byte.
@@ -77,7 +77,7 @@ impl Kind {
     }
 
     /// What arithmetic that no rule refuses computes. None where no number is left.
-    pub(crate) fn alu(bits: Bits, operation: Arithmetic, x: Kind, y: Kind) -> Option<Kind>
+    pub(crate) fn alu(bits: OpWidth, operation: Arithmetic, x: Kind, y: Kind) -> Option<Kind>
         ensures { option_map seen result ≡ alu_kind bits operation (seen x) (seen y) }
     {
         match (x, y) {
@@ -91,7 +91,7 @@ impl Kind {
     }
 
     /// The negative of a number.
-    pub(crate) fn neg(self, bits: Bits) -> Option<Kind>
+    pub(crate) fn neg(self, bits: OpWidth) -> Option<Kind>
         ensures { option_map seen result ≡ neg_kind bits (seen self) }
     {
         match self {
@@ -101,15 +101,15 @@ impl Kind {
     }
 
     /// A copy: of a pointer in 64 bits alone.
-    pub(crate) fn mov(self, bits: Bits) -> Option<Kind>
+    pub(crate) fn mov(self, bits: OpWidth) -> Option<Kind>
         ensures { option_map seen result ≡ mov_kind bits (seen self) }
     {
         match self {
             Kind::Unset => Some(Kind::Unset),
             Kind::Num(a) => Kind::number(copied(bits, a)),
             Kind::Ptr(r, a) => match bits {
-                Bits::Bits64 => Some(Kind::Ptr(r, a)),
-                Bits::Bits32 => Some(Kind::Unset),
+                OpWidth::Bits64 => Some(Kind::Ptr(r, a)),
+                OpWidth::Bits32 => Some(Kind::Unset),
             },
         }
     }
@@ -136,7 +136,7 @@ impl Kind {
 
     /// What an edge of a comparison leaves of both its kinds; `same` says that they are of one register.
     pub(crate) fn along(
-        bits: Bits,
+        bits: OpWidth,
         comparison: Comparison,
         taken: bool,
         same: bool,

@@ -7,7 +7,7 @@ ghost use Rattle.abstract_regs.specs.Slots.{stack_place, stack_range, access_spa
 
 use crate::kind::Kind;
 use abstract_num::{Number, arithmetic, constant};
-use bpf_decode::{Arithmetic, Bits, Region};
+use bpf_decode::{Arithmetic, OpWidth, Region};
 use std::marker::Model;
 
 /// Bytes of the stack: as many as `bytes`, from a place between `low` and `high` on.
@@ -51,7 +51,7 @@ pub(crate) fn stack_place(kind: Kind, distance: u64) -> Option<Number>
 {
     match kind {
         Kind::Ptr(Region::Stack, at) => {
-            arithmetic(Bits::Bits64, Arithmetic::Add, at, constant(distance))
+            arithmetic(OpWidth::Bits64, Arithmetic::Add, at, constant(distance))
         }
         Kind::Ptr(Region::Input | Region::Output, _) => None,
         Kind::Unset | Kind::Num(_) => None,
@@ -65,8 +65,8 @@ pub(crate) fn access_span(place: Option<Number>, bytes: usize) -> Option<StackSp
     match place {
         None => None,
         Some(place) => Some(StackSpan {
-            low: place.first.low,
-            high: place.first.high,
+            low: place.unsigned().low,
+            high: place.unsigned().high,
             bytes: bytes as u64,
         }),
     }
@@ -79,8 +79,8 @@ pub(crate) fn whole_slot(place: Option<Number>, bytes: usize) -> Option<usize>
     match place {
         None => None,
         Some(place) => {
-            let low = place.first.low;
-            if bytes == 8 && low == place.first.high && low % 8 == 0 {
+            let low = place.unsigned().low;
+            if bytes == 8 && low == place.unsigned().high && low % 8 == 0 {
                 Some((low / 8) as usize)
             } else {
                 None
@@ -105,13 +105,14 @@ pub(crate) fn stack_range(pointer: Kind, length: Kind) -> Option<StackSpan>
 fn range_span(at: Number, length: Number) -> Option<StackSpan>
     ensures { result ≡ range_span (view at) (view length) }
 {
-    if length.first.high == 0 {
+    // A helper's range begins where its pointer points: there is no distance to add, and so no sum.
+    if length.unsigned().high == 0 {
         None
     } else {
         Some(StackSpan {
-            low: at.first.low,
-            high: at.first.high,
-            bytes: length.first.high,
+            low: at.unsigned().low,
+            high: at.unsigned().high,
+            bytes: length.unsigned().high,
         })
     }
 }

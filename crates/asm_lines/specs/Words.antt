@@ -4,8 +4,8 @@ use Rattle.std.specs.List.{find}
 use Rattle.std.specs.Str.{bytes_eq}
 use Rattle.bpf_decode.specs.declared.access.Width.TheVariants.{Byte, Half, Word, Double}
 use Rattle.bpf_decode.specs.declared.access.SignedWidth.TheVariants as signed
-use Rattle.bpf_decode.specs.declared.operation.Bits.{Bits}
-use Rattle.bpf_decode.specs.declared.operation.Bits.TheVariants.{Bits32, Bits64}
+use Rattle.bpf_decode.specs.declared.operation.OpWidth.{OpWidth}
+use Rattle.bpf_decode.specs.declared.operation.OpWidth.TheVariants.{Bits32, Bits64}
 use Rattle.bpf_decode.specs.declared.operation.Arithmetic.{Arithmetic}
 use Rattle.bpf_decode.specs.declared.operation.Arithmetic.TheVariants.{Add, Sub, Mul, Div, SignedDiv, Or, And, Lsh, Rsh, Mod, SignedMod, Xor, Arsh}
 use Rattle.bpf_decode.specs.declared.operation.SignedMove.{SignedMove}
@@ -20,7 +20,7 @@ use Rattle.asm_lines.specs.declared.form.Form.{Form}
 use Rattle.asm_lines.specs.declared.form.Form.TheVariants.{Alu, Neg, Mov, MovSigned, End, LoadWide, Load, LoadSigned, StoreNumber, StoreRegister, Jump, JumpLong, Branch, Call, Exit}
 
 -- arithmetic (RFC 9669 section 4.1)
-unfoldable pub arithmetic_word : Bits → Arithmetic → List ℕ
+unfoldable pub arithmetic_word : OpWidth → Arithmetic → List ℕ
 arithmetic_word Bits64 Add = codes "add"
 arithmetic_word Bits64 Sub = codes "sub"
 arithmetic_word Bits64 Mul = codes "mul"
@@ -49,7 +49,7 @@ arithmetic_word Bits32 Xor = codes "xor32"
 arithmetic_word Bits32 Arsh = codes "arsh32"
 
 -- conditional jumps (section 4.3)
-unfoldable pub comparison_word : Bits → Comparison → List ℕ
+unfoldable pub comparison_word : OpWidth → Comparison → List ℕ
 comparison_word Bits64 Equal = codes "jeq"
 comparison_word Bits64 Greater = codes "jgt"
 comparison_word Bits64 GreaterEqual = codes "jge"

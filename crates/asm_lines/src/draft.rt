@@ -10,7 +10,7 @@ use crate::operand::{
 };
 use crate::target::Target;
 use crate::text::{after_word, first_word, lone, pair, triple};
-use bpf_decode::{Bits, Comparison, Insn, Operand, Register, SignedWidth, Width};
+use bpf_decode::{Comparison, Insn, OpWidth, Operand, Register, SignedWidth, Width};
 
 /// An instruction as its line has it: where a jump goes may be a label.
 #[derive(Drop)]
@@ -18,7 +18,7 @@ pub enum Draft<'a> {
     Plain(Insn),
     Jump(Target<'a>),
     JumpLong(Target<'a>),
-    Branch(Bits, Comparison, Register, Operand, Target<'a>),
+    Branch(OpWidth, Comparison, Register, Operand, Target<'a>),
     CallLocal(Target<'a>),
 }
 
@@ -142,144 +142,82 @@ fn call(text: &[u8]) -> Result<Draft, AsmFault>
 }
 
 /// A load.
+#[rattlefmt::skip]
 fn load(width: Width, rest: &[u8]) -> Result<Insn, AsmFault>
     ensures { filled Draft.Plain result ≡ draft (Form.Load width) rest.now }
 {
     match register_and_memory(rest) {
-        Ok((dst, (base, offset))) => Ok(Insn::Load {
-            width,
-            dst,
-            base,
-            offset,
-        }),
+        Ok((dst, (base, offset))) => Ok(Insn::Load { width, dst, base, offset }),
         Err(fault) => Err(fault),
     }
 }
 
 /// A load with sign extension.
+#[rattlefmt::skip]
 fn load_signed(width: SignedWidth, rest: &[u8]) -> Result<Insn, AsmFault>
     ensures { filled Draft.Plain result ≡ draft (Form.LoadSigned width) rest.now }
 {
     match register_and_memory(rest) {
-        Ok((dst, (base, offset))) => Ok(Insn::LoadSigned {
-            width,
-            dst,
-            base,
-            offset,
-        }),
+        Ok((dst, (base, offset))) => Ok(Insn::LoadSigned { width, dst, base, offset }),
         Err(fault) => Err(fault),
     }
 }
 
 /// A store of a number.
+#[rattlefmt::skip]
 fn store_number(width: Width, rest: &[u8]) -> Result<Insn, AsmFault>
     ensures { filled Draft.Plain result ≡ draft (Form.StoreNumber width) rest.now }
 {
     match memory_and_number(rest) {
-        Ok(((base, offset), imm)) => Ok(Insn::Store {
-            width,
-            base,
-            offset,
-            source: Operand::Immediate(imm),
-        }),
+        Ok(((base, offset), imm)) => Ok(Insn::Store { width, base, offset, source: Operand::Immediate(imm) }),
         Err(fault) => Err(fault),
     }
 }
 
 /// A store of a register.
+#[rattlefmt::skip]
 fn store_register(width: Width, rest: &[u8]) -> Result<Insn, AsmFault>
     ensures { filled Draft.Plain result ≡ draft (Form.StoreRegister width) rest.now }
 {
     match memory_and_register(rest) {
-        Ok(((base, offset), src)) => Ok(Insn::Store {
-            width,
-            base,
-            offset,
-            source: Operand::Register(src),
-        }),
+        Ok(((base, offset), src)) => Ok(Insn::Store { width, base, offset, source: Operand::Register(src) }),
         Err(fault) => Err(fault),
     }
 }
 
 /// A form without a target, with its operands.
+#[rattlefmt::skip]
 fn plain(form: Form, rest: &[u8]) -> Result<Insn, AsmFault>
     requires { IsFalse (has_target form) }
     ensures { filled Draft.Plain result ≡ draft form rest.now }
 {
     match form {
-        Form::Alu(bits, operation) => match register_and_source(rest) {
-            Ok((dst, source)) => Ok(Insn::Alu {
-                bits,
-                operation,
-                dst,
-                source,
-            }),
-            Err(fault) => Err(fault),
-        },
-        Form::Neg(bits) => match one_register(rest) {
-            Ok(dst) => Ok(Insn::Neg { bits, dst }),
-            Err(fault) => Err(fault),
-        },
-        Form::Mov(bits) => match register_and_source(rest) {
-            Ok((dst, source)) => Ok(Insn::Mov { bits, dst, source }),
-            Err(fault) => Err(fault),
-        },
-        Form::MovSigned(extension) => match two_registers(rest) {
-            Ok((dst, src)) => Ok(Insn::MovSigned {
-                extension,
-                dst,
-                src,
-            }),
-            Err(fault) => Err(fault),
-        },
-        Form::End(order, width) => match one_register(rest) {
-            Ok(dst) => Ok(Insn::End { order, width, dst }),
-            Err(fault) => Err(fault),
-        },
-        Form::LoadWide => match register_and_wide(rest) {
-            Ok((dst, value)) => Ok(Insn::LoadWide { dst, value }),
-            Err(fault) => Err(fault),
-        },
+        Form::Alu(bits, operation) => match register_and_source(rest) { Ok((dst, source)) => Ok(Insn::Alu { bits, operation, dst, source }), Err(fault) => Err(fault) },
+        Form::Neg(bits) => match one_register(rest) { Ok(dst) => Ok(Insn::Neg { bits, dst }), Err(fault) => Err(fault) },
+        Form::Mov(bits) => match register_and_source(rest) { Ok((dst, source)) => Ok(Insn::Mov { bits, dst, source }), Err(fault) => Err(fault) },
+        Form::MovSigned(extension) => match two_registers(rest) { Ok((dst, src)) => Ok(Insn::MovSigned { extension, dst, src }), Err(fault) => Err(fault) },
+        Form::End(order, width) => match one_register(rest) { Ok(dst) => Ok(Insn::End { order, width, dst }), Err(fault) => Err(fault) },
+        Form::LoadWide => match register_and_wide(rest) { Ok((dst, value)) => Ok(Insn::LoadWide { dst, value }), Err(fault) => Err(fault) },
         Form::Load(width) => load(width, rest),
         Form::LoadSigned(width) => load_signed(width, rest),
         Form::StoreNumber(width) => store_number(width, rest),
         Form::StoreRegister(width) => store_register(width, rest),
-        Form::Exit => {
-            if rest.is_empty() {
-                Ok(Insn::Exit)
-            } else {
-                Err(AsmFault::Operand)
-            }
-        }
+        Form::Exit => if rest.is_empty() { Ok(Insn::Exit) } else { Err(AsmFault::Operand) },
         Form::Jump | Form::JumpLong | Form::Branch(_, _) | Form::Call => unreachable!(),
     }
 }
 
 /// A form with its operands.
+#[rattlefmt::skip]
 fn with_operands(form: Form, rest: &[u8]) -> Result<Draft, AsmFault>
     ensures { result ≡ draft form rest.now }
 {
     match form {
-        Form::Jump => match one_near(rest) {
-            Ok(target) => Ok(Draft::Jump(target)),
-            Err(fault) => Err(fault),
-        },
-        Form::JumpLong => match one_far(rest) {
-            Ok(target) => Ok(Draft::JumpLong(target)),
-            Err(fault) => Err(fault),
-        },
-        Form::Branch(bits, comparison) => match branch_operands(rest) {
-            Ok((dst, (source, target))) => Ok(Draft::Branch(bits, comparison, dst, source, target)),
-            Err(fault) => Err(fault),
-        },
-        Form::Call => match lone(rest) {
-            Some(a) => call(a),
-            None => Err(AsmFault::Operand),
-        },
-        _ => match plain(form, rest) {
-            Ok(insn) => Ok(Draft::Plain(insn)),
-            Err(fault) => Err(fault),
-        },
+        Form::Jump => match one_near(rest) { Ok(target) => Ok(Draft::Jump(target)), Err(fault) => Err(fault) },
+        Form::JumpLong => match one_far(rest) { Ok(target) => Ok(Draft::JumpLong(target)), Err(fault) => Err(fault) },
+        Form::Branch(bits, comparison) => match branch_operands(rest) { Ok((dst, (source, target))) => Ok(Draft::Branch(bits, comparison, dst, source, target)), Err(fault) => Err(fault) },
+        Form::Call => match lone(rest) { Some(a) => call(a), None => Err(AsmFault::Operand) },
+        _ => match plain(form, rest) { Ok(insn) => Ok(Draft::Plain(insn)), Err(fault) => Err(fault) },
     }
 }
 

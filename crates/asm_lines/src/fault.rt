@@ -14,8 +14,8 @@ pub enum AsmFault {
     Word,
     /// The operands aren't of the form, or a method's name isn't one.
     Operand,
-    /// A number is out of its range, an instruction passes 4,096 slots, a 33rd method begins, or the text or the method
-    /// that begins here has no instruction.
+    /// A number is out of its range, an instruction passes `SLOT_LIMIT` slots, a method follows `METHOD_LIMIT` others, or
+    /// the text or the method that begins here has no instruction.
     Range,
     /// A label isn't known or stands a second time in its method, or a method's name isn't above the one before.
     Label,

@@ -4,6 +4,7 @@
 
 mod draft;
 mod fault;
+mod flag_words;
 mod form;
 mod header;
 mod number;
@@ -15,6 +16,7 @@ mod text;
 
 pub use draft::Draft;
 pub use fault::{AsmError, AsmFault};
+pub use flag_words::flags;
 pub use form::Form;
 pub use header::Header;
 pub use number::Number;

@@ -53,6 +53,7 @@ fn digits_within(text: &[u8], radix: u8, most: u64) -> Result<u64, AsmFault>
 }
 
 /// Decimal digits without a leading zero, up to `most`.
+// A number has one spelling: another is `Operand`, and `Range` is a right spelling of a number that doesn't fit.
 #[tactic(auto, unfolding(crate::specs::Numbers::decimal_number))]
 pub(crate) fn decimal_within(text: &[u8], most: u64) -> Result<u64, AsmFault>
     ensures { result ≡ natural_within most (decimal_number text.now) }
@@ -85,7 +86,7 @@ fn within(text: &[u8], most: u64) -> Result<u64, AsmFault>
     }
 }
 
-/// The number behind a `-`, down to minus `below`.
+/// The number after a `-`, down to minus `below`.
 #[tactic(auto, unfolding(crate::specs::Numbers::minus_within))]
 fn minus(text: &[u8], below: u64) -> Result<Number, AsmFault>
     ensures { result ≡ minus_within below text.now }
@@ -100,7 +101,7 @@ fn minus(text: &[u8], below: u64) -> Result<Number, AsmFault>
     }
 }
 
-/// The number behind a `+` or no sign, up to `above`.
+/// The number after a `+` or no sign, up to `above`.
 #[tactic(auto, unfolding(crate::specs::Numbers::plus_within))]
 fn plus(text: &[u8], above: u64) -> Result<Number, AsmFault>
     ensures { result ≡ plus_within above text.now }

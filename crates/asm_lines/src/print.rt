@@ -1,8 +1,9 @@
 ghost use Rattle.std.specs.Prelude.{◌≡◌, ◌++◌, ◌<◌, IfOk, OnOk, string_bytes, codes};
-ghost use Rattle.asm_lines.specs.Canonical.{register_text, source_text, offset_text, memory_text, hex_digits, wide_text, line_of, canonical_text, with_one, with_two, with_three, flags_text, directive_line, methods_text, rules_text, class_text, slot_line, code_with_slots, methods_with_slots, class_with_slots};
+ghost use Rattle.asm_lines.specs.Canonical.{register_text, source_text, offset_text, memory_text, hex_digits, wide_text, line_of, canonical_text, with_one, with_two, with_three, directive_line, methods_text, rules_text, class_text, slot_line, code_with_slots, methods_with_slots, class_with_slots};
 ghost use Rattle.asm_lines.specs.Printing.{item_text};
 ghost use Rattle.asm_lines.specs.Words.{word_of};
 
+use crate::flag_words::flags_word;
 use crate::form::Form;
 use bpf_decode::{ClassImage, Insn, Method, Operand, Register, RuleSet, width};
 use std::alloc::{AllocError, Global};
@@ -179,65 +180,26 @@ fn push_store(
 }
 
 /// An instruction's line, without its end.
+#[rattlefmt::skip]
 fn push_insn(out: &mut String, insn: Insn) -> Result<(), AllocError>
     ensures { OnOk result (string_bytes out.new ≡ string_bytes out.old ++ line_of insn) }
 {
     match insn {
-        Insn::Alu {
-            bits,
-            operation,
-            dst,
-            source,
-        } => push_two(out, Form::Alu(bits, operation), dst, Item::Source(source)),
+        Insn::Alu { bits, operation, dst, source } => push_two(out, Form::Alu(bits, operation), dst, Item::Source(source)),
         Insn::Neg { bits, dst } => push_one(out, Form::Neg(bits), dst),
-        Insn::Mov { bits, dst, source } => {
-            push_two(out, Form::Mov(bits), dst, Item::Source(source))
-        }
-        Insn::MovSigned {
-            extension,
-            dst,
-            src,
-        } => push_registers(out, Form::MovSigned(extension), dst, src),
+        Insn::Mov { bits, dst, source } => push_two(out, Form::Mov(bits), dst, Item::Source(source)),
+        Insn::MovSigned { extension, dst, src } => push_registers(out, Form::MovSigned(extension), dst, src),
         Insn::End { order, width, dst } => push_one(out, Form::End(order, width), dst),
         Insn::LoadWide { dst, value } => push_two(out, Form::LoadWide, dst, Item::Wide(value)),
-        Insn::Load {
-            width,
-            dst,
-            base,
-            offset,
-        } => push_two(out, Form::Load(width), dst, Item::Memory(base, offset)),
-        Insn::LoadSigned {
-            width,
-            dst,
-            base,
-            offset,
-        } => push_two(
-            out,
-            Form::LoadSigned(width),
-            dst,
-            Item::Memory(base, offset),
-        ),
-        Insn::Store {
-            width,
-            base,
-            offset,
-            source,
-        } => {
-            let form = match source {
-                Operand::Immediate(_) => Form::StoreNumber(width),
-                Operand::Register(_) => Form::StoreRegister(width),
-            };
+        Insn::Load { width, dst, base, offset } => push_two(out, Form::Load(width), dst, Item::Memory(base, offset)),
+        Insn::LoadSigned { width, dst, base, offset } => push_two(out, Form::LoadSigned(width), dst, Item::Memory(base, offset)),
+        Insn::Store { width, base, offset, source } => {
+            let form = match source { Operand::Immediate(_) => Form::StoreNumber(width), Operand::Register(_) => Form::StoreRegister(width) };
             push_store(out, form, base, offset, source)
         }
         Insn::Jump { offset } => push_lone(out, Form::Jump, Item::Offset(i32::from(offset))),
         Insn::JumpLong { distance } => push_lone(out, Form::JumpLong, Item::Offset(distance)),
-        Insn::Branch {
-            bits,
-            comparison,
-            dst,
-            source,
-            offset,
-        } => push_branch(out, Form::Branch(bits, comparison), dst, source, offset),
+        Insn::Branch { bits, comparison, dst, source, offset } => push_branch(out, Form::Branch(bits, comparison), dst, source, offset),
         Insn::Call { helper } => push_lone(out, Form::Call, Item::Helper(helper)),
         Insn::CallLocal { distance } => push_lone(out, Form::Call, Item::Local(distance)),
         Insn::Exit => out.push_str(Form::Exit.word()),
@@ -252,17 +214,6 @@ fn push_insns(out: &mut String, insns: &[Insn]) -> Result<(), AllocError>
         out.push_str("\n")?;
     }
     Ok(())
-}
-
-/// A method's flags.
-fn flags_word(flags: u8) -> &'static str
-    ensures { result.now ≡ flags_text flags }
-{
-    match flags {
-        1 => "r",
-        2 => "w",
-        _ => "rw",
-    }
 }
 
 /// The line that begins a method, without its end.

@@ -1,12 +1,12 @@
-ghost use Rattle.std.specs.Prelude.{◌≡◌, ◌==◌, ◌≤◌, ◌-◌, IfOk, if◌then◌else◌, length, map, take, IfSome, IsTrue};
-ghost use Rattle.bpf_decode.specs.Limits.{between};
+ghost use Rattle.std.specs.Prelude.{◌≡◌, ◌==◌, ◌≤◌, ◌-◌, IfOk, if◌then◌else◌, length, map, take};
 ghost use Rattle.std.specs.Option.{option_map};
 ghost use Rattle.asm_lines.specs.Operands.{unsigned_of};
 ghost use Rattle.asm_lines.specs.Texts.{content};
-ghost use Rattle.asm_lines.specs.Statements.{flags_of, header_of, rules_of, is_label_line, statement_of, lines_of, statements_of};
+ghost use Rattle.asm_lines.specs.Statements.{header_of, rules_of, is_label_line, statement_of, lines_of, statements_of};
 
 use crate::draft::{Draft, instruction};
 use crate::fault::AsmFault;
+use crate::flag_words::flags;
 use crate::header::Header;
 use crate::operand::{both, unsigned};
 use crate::target::Name;
@@ -24,24 +24,7 @@ pub enum Statement<'a> {
     Instruction(Result<Draft<'a>, AsmFault>),
 }
 
-/// Flags: 1 reads, 2 writes, 3 both.
-#[tactic(auto, unfolding(crate::specs::Statements::flags_of))]
-fn flags(text: &[u8]) -> Option<u8>
-    ensures read { result ≡ flags_of text.now }
-    ensures known { IfSome result (λ n. IsTrue (between 1 3 n)) }
-{
-    if text == b"r".as_slice() {
-        Some(1)
-    } else if text == b"w".as_slice() {
-        Some(2)
-    } else if text == b"rw".as_slice() {
-        Some(3)
-    } else {
-        None
-    }
-}
-
-/// A capacity: 0 to 4,096.
+/// A capacity: 0 to `CAPACITY_LIMIT`.
 fn capacity(text: &[u8]) -> Result<u16, AsmFault>
     ensures read { result ≡ unsigned_of CAPACITY_LIMIT text.now }
     ensures within { IfOk result (λ n. n ≤ CAPACITY_LIMIT) }
@@ -52,7 +35,7 @@ fn capacity(text: &[u8]) -> Result<u16, AsmFault>
     }
 }
 
-/// What stands behind `.method`.
+/// What stands after `.method`.
 #[tactic(auto, unfolding(crate::specs::Statements::header_of))]
 fn read_header(text: &[u8]) -> Result<Header, AsmFault>
     ensures { result ≡ header_of text.now }
@@ -73,6 +56,7 @@ fn read_header(text: &[u8]) -> Result<Header, AsmFault>
 }
 
 /// What stands after `.rules`: 2. A class of rule set 1 has no such line.
+// So each class has one text, and `.rules 1` is refused.
 fn read_rules(text: &[u8]) -> Result<RuleSet, AsmFault>
     ensures { result ≡ rules_of text.now }
 {

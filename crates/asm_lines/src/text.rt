@@ -90,7 +90,7 @@ pub(crate) fn first_word(text: &[u8]) -> &[u8]
     &text[..place_of_blank(text)]
 }
 
-/// What stands behind the first word and its blanks.
+/// What stands after the first word and its blanks.
 #[tactic(auto, unfolding(crate::specs::Texts::after_word))]
 pub(crate) fn after_word(text: &[u8]) -> &[u8]
     ensures { result.now ≡ after_word text.now }
@@ -98,7 +98,7 @@ pub(crate) fn after_word(text: &[u8]) -> &[u8]
     trim_start(&text[place_of_blank(text)..])
 }
 
-/// The text before and behind the first comma.
+/// The text before and after the first comma.
 #[tactic(auto, unfolding(crate::specs::Texts::cut))]
 fn cut(text: &[u8]) -> Option<(&[u8], &[u8])>
     ensures { option_map (λ p. (p.0.now, p.1.now)) result ≡ cut text.now }

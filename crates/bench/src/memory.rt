@@ -1,9 +1,9 @@
-//! What a log's entries hold in memory, with the objects that they make: what is resident at most, less what an empty program
-//! is, by what the system says of this process.
+//! What a log's entries hold in memory, with the objects that they make: what is resident at most, less what an empty
+//! program is, by what the system says of this process.
 use anyhow::{Context, Error, Result};
+use bench_table::lock_request;
 use builtin_classes::load_lock;
-use object_store::ObjectName;
-use pg_log::{ClassTable, Classes, ClientId, Group, GroupWork, Request, RequestNumber, with_group};
+use pg_log::{ClassTable, Classes, Group, GroupWork, Request, with_group};
 use std::alloc::Global;
 use std::{fs, io};
 
@@ -68,12 +68,7 @@ impl GroupWork for Filling<'_> {
 
 /// The request after so many: every object is locked and unlocked by client 1, and then the next one.
 fn request(alloc: Global, before: u32) -> Result<Request> {
-    let client = ClientId::new(1).context("a client")?;
-    let number = RequestNumber::new(before.saturating_add(1)).context("a number")?;
-    let method = if before % 2 == 0 { "lock" } else { "unlock" };
     let place = before / 2 % OBJECTS;
-    let name = format!(in alloc; "object {place}")?;
-    let object = ObjectName::new(alloc, &name)?;
-    let method = String::from_str(alloc, method)?;
-    Ok(Request::new(client, number, object, 0, method, Vec::new(alloc)))
+    let object = format!(in alloc; "object {place}")?;
+    lock_request(alloc, 1, before.saturating_add(1), &object)
 }

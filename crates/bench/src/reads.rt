@@ -3,9 +3,9 @@
 mod measure;
 mod subject;
 
-use crate::timing::time_of;
+use crate::timing::{Time, least_of};
 use anyhow::{Error, Result};
-use measure::{RUNS, Reads};
+use measure::{CALLS, RUNS, Reads};
 use object_store::Object;
 use std::alloc::Global;
 use std::io;
@@ -23,22 +23,28 @@ const LINES: [(Reading, bool); 4] = [
 /// Prints an empty line, and a line for each call beside each object, with its time where there is a clock.
 pub fn report<C: Clock, O: io::Write>(alloc: Global, clock: Option<&C>, out: &mut O) -> Result<()> {
     let full = full_object(alloc)?;
-    lines(clock, &full, out)
+    lines(alloc, clock, &full, out)
 }
 
 /// Prints the heading, and the lines.
-fn lines<C: Clock, O: io::Write>(clock: Option<&C>, full: &Object, out: &mut O) -> Result<()> {
+fn lines<C: Clock, O: io::Write>(
+    alloc: Global,
+    clock: Option<&C>,
+    full: &Object,
+    out: &mut O,
+) -> Result<()> {
     let heading = if clock.is_some() { "  ns" } else { "" };
     writeln!(out, "\ncall      object  answer{heading}")?;
     for (reading, beside) in &LINES {
         let object = if *beside { Some(full) } else { None };
-        line(clock, *reading, object, out)?;
+        line(alloc, clock, *reading, object, out)?;
     }
     Ok(())
 }
 
 /// Prints a line.
 fn line<C: Clock, O: io::Write>(
+    alloc: Global,
     clock: Option<&C>,
     reading: Reading,
     object: Option<&Object>,
@@ -47,6 +53,7 @@ fn line<C: Clock, O: io::Write>(
     let name = reading.name();
     let beside = if object.is_some() { "full" } else { "none" };
     let answer = reading.call(object)?.cast_signed();
-    let time = time_of(clock, &Reads { reading, object }, RUNS)?;
+    let reads = Reads { reading, object };
+    let time = Time::Nanos(least_of(alloc, clock, &reads, CALLS, RUNS)?);
     writeln!(out, "{name:<9} {beside:<6} {answer:>7}{time}").map_err(Error::from)
 }

@@ -1,13 +1,14 @@
 //! What a text of many labels costs to assemble.
 
-use crate::timing::{Time, Work, time_of};
+use crate::timing::{Time, least_of};
 use anyhow::{Error, Result};
+use bench_table::Work;
 use bpf_asm::assemble;
 use std::alloc::{AllocError, Global};
 use std::io;
 use std::time::Clock;
 
-/// How many labels stand behind the jumps.
+/// How many labels stand after the jumps.
 const LABELS: [u32; 3] = [4095, 20_000, 80_000];
 
 /// How many jumps each text has, each to a label of its own.
@@ -33,43 +34,34 @@ fn line<C: Clock, O: io::Write>(
     out: &mut O,
 ) -> Result<()> {
     let text = text_of(alloc, labels)?;
-    print(clock, &Assembly { alloc, text: &text }, labels, out)
+    print(alloc, clock, &Assembly { text: &text }, labels, out)
 }
 
 /// Prints the line of a text with so many labels.
 fn print<C: Clock, O: io::Write>(
+    alloc: Global,
     clock: Option<&C>,
     assembly: &Assembly<'_>,
     labels: u32,
     out: &mut O,
 ) -> Result<()> {
-    let slots = assembly.slots()?;
-    let time = time_of(clock, assembly, RUNS)?;
+    let slots = assemble(alloc, assembly.text)?.len();
+    let time = Time::Micros(least_of(alloc, clock, assembly, 1, RUNS)?);
     writeln!(out, "{labels:>6} labels, {slots} slots{time}").map_err(Error::from)
 }
 
 /// A text that is assembled.
 #[derive(Clone, Copy)]
 struct Assembly<'a> {
-    alloc: Global,
     text: &'a str,
 }
 
-impl Assembly<'_> {
-    /// The slots of its code.
-    fn slots(&self) -> Result<usize> {
-        Ok(assemble(self.alloc, self.text)?.len())
-    }
-}
-
 impl Work for Assembly<'_> {
-    fn work(&self) -> Result<()> {
-        let _ = assemble(self.alloc, self.text)?;
+    fn run(&self, alloc: Global, count: usize) -> Result<()> {
+        for _ in 0..count {
+            let _ = assemble(alloc, self.text)?;
+        }
         Ok(())
-    }
-
-    fn time(nanos: u128) -> Time {
-        Time::Micros(nanos / 1000)
     }
 }
 

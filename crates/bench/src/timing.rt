@@ -1,59 +1,70 @@
-//! How a time is taken, and how it is printed.
+ghost use Rattle.std.specs.Prelude.{◌≤◌};
 
 use anyhow::Result;
+use bench_table::{Nanos, Work, least_picos};
+use std::alloc::Global;
 use std::fmt;
 use std::time::{Clock, Instant};
 
-/// What is timed.
-pub trait Work {
-    /// Does it, as often as one time takes.
-    fn work(&self) -> Result<()>;
-
-    /// The time of so many nanoseconds.
-    fn time(nanos: u128) -> Time;
-}
-
-/// What stands behind a line: the time, where one was taken.
+/// What stands after a line: a time of so many picoseconds, where one was taken.
 #[derive(Clone, Copy)]
 pub enum Time {
-    None,
-    Micros(u128),
-    /// Of a column that has the unit in its heading.
-    Nanos(u128),
+    /// Prints as microseconds.
+    Micros(Option<u64>),
+    /// Prints as nanoseconds, of a column that has the unit in its heading.
+    Nanos(Option<u64>),
     /// Prints as nanoseconds with two digits.
-    Picos(u64),
+    Picos(Option<u64>),
 }
 
 impl fmt::Display for Time {
     fn fmt<W: fmt::Write>(&self, f: &mut fmt::Formatter<W>) -> fmt::Result {
         match *self {
-            Time::None => Ok(()),
-            Time::Micros(micros) => write!(f, "{micros:>9} us"),
-            Time::Nanos(nanos) => write!(f, "  {nanos}"),
-            Time::Picos(picos) => {
-                let whole = picos / 1000;
-                let rest = picos % 1000 / 10;
-                write!(f, "{whole:>8}.{rest:02} ns")
+            Time::Micros(None) | Time::Nanos(None) | Time::Picos(None) => Ok(()),
+            Time::Micros(Some(picos)) => {
+                let micros = picos / 1_000_000;
+                write!(f, "{micros:>9} us")
+            }
+            Time::Nanos(Some(picos)) => {
+                let nanos = picos / 1_000;
+                write!(f, "  {nanos}")
+            }
+            Time::Picos(Some(picos)) => {
+                let nanos = Nanos { picos };
+                write!(f, "{nanos} ns")
             }
         }
     }
 }
 
-/// The least time of so many runs, where there is a clock.
-pub fn time_of<C: Clock, W: Work>(clock: Option<&C>, work: &W, runs: usize) -> Result<Time> {
+/// The least picoseconds that each of so many took, of so many runs, where there is a clock.
+pub fn least_of<C: Clock, W: Work>(
+    alloc: Global,
+    clock: Option<&C>,
+    work: &W,
+    count: usize,
+    runs: usize,
+) -> Result<Option<u64>>
+    requires { 1 ≤ count }
+{
     match clock {
-        None => Ok(Time::None),
-        Some(clock) => Ok(W::time(least_nanos(clock, work, runs)?)),
+        None => Ok(None),
+        Some(clock) => Ok(Some(least_picos(alloc, clock, work, count, runs)?)),
     }
 }
 
-/// The least nanoseconds of so many runs.
-fn least_nanos<C: Clock, W: Work>(clock: &C, work: &W, runs: usize) -> Result<u128> {
-    let mut least = u128::MAX;
-    for _ in 0..runs {
-        let start = Instant::now(clock)?;
-        work.work()?;
-        least = least.min(start.elapsed(clock)?.as_nanos());
+/// What the clock reads, where there is one.
+pub fn now<C: Clock>(clock: Option<&C>) -> Result<Option<Instant>> {
+    match clock {
+        None => Ok(None),
+        Some(clock) => Ok(Some(Instant::now(clock)?)),
     }
-    Ok(least)
+}
+
+/// The nanoseconds since then; 0 where there is no clock.
+pub fn nanos_since<C: Clock>(clock: Option<&C>, start: Option<Instant>) -> Result<u128> {
+    match (clock, start) {
+        (Some(clock), Some(start)) => Ok(start.elapsed(clock)?.as_nanos()),
+        _ => Ok(0),
+    }
 }

@@ -58,7 +58,7 @@ impl Least {
 }
 
 /// What is timed.
-trait Work {
+pub trait Work {
     /// Does it so often.
     fn run(&self, alloc: Global, count: usize) -> Result<()>;
 }
@@ -94,7 +94,7 @@ impl Work for Beside {
 }
 
 /// The least picoseconds that each of so many took, of so many runs.
-fn least_picos<C: Clock, W: Work>(
+pub fn least_picos<C: Clock, W: Work>(
     alloc: Global,
     clock: &C,
     work: &W,

@@ -115,7 +115,8 @@ const CHECKED: [Slot; 4] = [
     [0x71, 0x40, 0, 0, 0, 0, 0, 0],
 ];
 
-/// `stxdw [r10-8], r6`, `stxdw [r10-16], r3`, `ldxdw r4, [r10-8]`, `ldxdw r5, [r10-16]`: a number and a pointer, spilled.
+/// `stxdw [r10-8], r6`, `stxdw [r10-16], r3`, `ldxdw r4, [r10-8]`, `ldxdw r5, [r10-16]`: a number and a pointer,
+/// spilled.
 const SPILLS: [Slot; 4] = [
     [0x7b, 0x6a, 0xf8, 0xff, 0, 0, 0, 0],
     [0x7b, 0x3a, 0xf0, 0xff, 0, 0, 0, 0],

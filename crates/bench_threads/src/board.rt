@@ -1,10 +1,9 @@
 ghost use Rattle.std.specs.Prelude.{◌≡◌, ◌<◌, ◌≤◌, [], length};
 
-use anyhow::{Context, Error, Result};
-use bench_table::{Figure, Mode};
+use anyhow::{Error, Result};
+use bench_table::{Figure, Mode, lock_request};
 use commit_board::{Board, Seen, Writer};
-use object_store::ObjectName;
-use pg_log::{ClientId, Request, RequestNumber};
+use pg_log::Request;
 use std::alloc::Global;
 use std::time::{Clock, Instant};
 
@@ -16,7 +15,7 @@ const LOOKS: usize = 100_000;
 
 /// One writer commits.
 pub fn commits<C: Clock>(clock: &C, alloc: Global, mode: Mode) -> Result<Figure> {
-    let request = request(alloc)?;
+    let request = lock_request(alloc, 1, 1, "object")?;
     commit_runs(clock, alloc, mode, &request)
 }
 
@@ -78,7 +77,7 @@ fn commit_all(board: &Board, writer: &mut Writer, request: &Request)
 
 /// One token looks at a row.
 pub fn looks<C: Clock>(clock: &C, alloc: Global, mode: Mode) -> Result<Figure> {
-    let request = request(alloc)?;
+    let request = lock_request(alloc, 1, 1, "object")?;
     look_after(clock, alloc, mode, &request)
 }
 
@@ -129,12 +128,4 @@ fn look_often(board: &Board, seen: &mut Seen) -> usize
         found = found.wrapping_add(board.look(seen, 0) as usize);
     }
     found
-}
-
-fn request(alloc: Global) -> Result<Request> {
-    let client = ClientId::new(1).context("a client")?;
-    let number = RequestNumber::new(1).context("a number")?;
-    let object = ObjectName::new(alloc, "object")?;
-    let method = String::from_str(alloc, "lock")?;
-    Ok(Request::new(client, number, object, 0, method, Vec::new(alloc)))
 }

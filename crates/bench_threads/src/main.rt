@@ -1,6 +1,6 @@
-//! `bench_threads` measures what a cluster in threads costs: calls on whole clusters, and the parts of a message: a pair of
-//! `submit` and `take` of the queues, with one thread and with four, a `commit` and a `look` of the board, a lock, a wake,
-//! what nodes do with a call's messages, and what a client does to ask and to look for the answer.
+//! `bench_threads` measures what a cluster in threads costs: calls on whole clusters, and the parts of a message: a
+//! pair of `submit` and `take` of the queues, with one thread and with four, a `commit` and a `look` of the board, a
+//! lock, a wake, what nodes do with a call's messages, and what a client does to ask and to look for the answer.
 #![tactic(auto)]
 
 mod asking;

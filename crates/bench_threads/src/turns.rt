@@ -1,15 +1,14 @@
 ghost use Rattle.std.specs.Prelude.{◌≡◌, []};
 
-use anyhow::{Context, Error, Result};
-use bench_table::{Figure, Mode};
+use anyhow::{Error, Result};
+use bench_table::{Figure, Mode, lock_request};
 use carried::Carried;
 use commit_board::{Board, Writer};
 use group_cell::{BoardName, GroupCell, Outgoing};
-use group_world::{Epoch, Event, GroupMap, Kind, Message, Party};
-use object_store::ObjectName;
+use group_world::{Epoch, Event, GroupMap, Message, MessageKind, Party};
 use osd::Config;
 use peering::GroupNode;
-use pg_log::{ClassTable, ClientId, Request, RequestNumber};
+use pg_log::{ClassTable, Request};
 use placement::NodeId;
 use rados_client::Cluster;
 use std::alloc::{AllocError, Global};
@@ -95,18 +94,9 @@ fn run<C: Clock>(
 
 /// Requests of one client, which locks an object and unlocks it, by turns.
 fn requests(alloc: Global) -> Result<Vec<Request>> {
-    let client = ClientId::new(1).context("a client")?;
     let mut requests = Vec::new(alloc);
     for number in 1..=CALLS {
-        let method = if number % 2 == 1 { "lock" } else { "unlock" };
-        requests.push(Request::new(
-            client,
-            RequestNumber::new(number).context("a number")?,
-            ObjectName::new(alloc, "object")?,
-            0,
-            String::from_str(alloc, method)?,
-            Vec::new(alloc),
-        ))?;
+        requests.push(lock_request(alloc, 1, number, "object")?)?;
     }
     Ok(requests)
 }
@@ -167,7 +157,8 @@ fn cell<N: BoardName>(alloc: Global, number: u64, writer: Writer) -> GroupCell<N
     GroupCell::new(GroupNode::<N>::new(alloc, NodeId::new(number)), writer)
 }
 
-/// Brings the requests to the first node, one after another, and all that comes of each. Answers how many were replied to.
+/// Brings the requests to the first node, one after another, and all that comes of each. Answers how many were replied
+/// to.
 fn settle_all<N: BoardName>(
     shared: Shared<'_>,
     cells: &mut Vec<GroupCell<N>>,
@@ -265,6 +256,6 @@ fn delivery_of<N: BoardName>(outgoing: Outgoing<N>) -> Option<Delivery> {
 fn activated(interval: Epoch) -> Event {
     Event::Message(Message {
         sender: Party::Monitor,
-        kind: Kind::Activated(interval),
+        kind: MessageKind::Activated(interval),
     })
 }

@@ -19,6 +19,7 @@ use Rattle.bpf_asm.specs.Bodies.{draft_slots, finished, line_at, body_from, is_i
 use Rattle.bpf_asm.specs.Laws.{TextsGiveBack}
 use Rattle.bpf_asm.proofs.PlainBytes.{is_quiet, Free, free_where, quiet_feed}
 use Rattle.bpf_asm.proofs.InsnTexts.{unresolved, line_says, line_quiet}
+use Rattle.bpf_decode.specs.declared.limits.TheConstants.{SLOT_LIMIT}
 
 -- a line feed ends a line that has none
 pub split_line : (xs ys : List ℕ) → Free (λ c. c == 10) xs → slice_split (λ c. c == 10) (xs ++ (10 ∷ ys)) ≡ xs ∷ slice_split (λ c. c == 10) ys
@@ -90,12 +91,12 @@ slots_same (Call helper) = refl
 slots_same (CallLocal distance) = refl
 slots_same Exit = refl
 
-pub stands : (all before : List Statement) (slot : ℕ) (i : Insn) → Fits i → slot + slot_count i ≤ 4096 → line_at all before slot (Instruction (Ok (unresolved i))) ≡ Ok (Some i)
+pub stands : (all before : List Statement) (slot : ℕ) (i : Insn) → Fits i → slot + slot_count i ≤ SLOT_LIMIT → line_at all before slot (Instruction (Ok (unresolved i))) ≡ Ok (Some i)
 stands all before slot i h room =
-    let test : nat_le (slot + slot_count i) 4096 ≡ true = grind (arith, nat_tests) in
+    let test : nat_le (slot + slot_count i) SLOT_LIMIT ≡ true = grind (arith, nat_tests) in
     rw (slots_same i, test, finishes all slot i h) refl
 
-pub body_stated : (all before : List Statement) (line slot : ℕ) (done is : List Insn) → AllFit is → slot + slot_total is ≤ 4096 → body_from all before line slot done (stated is) ≡ Ok (done ++ is)
+pub body_stated : (all before : List Statement) (line slot : ℕ) (done is : List Insn) → AllFit is → slot + slot_total is ≤ SLOT_LIMIT → body_from all before line slot done (stated is) ≡ Ok (done ++ is)
 unfolding body_from
 body_stated all before line slot done [] h room = ap (λ r. Ok r) (sym (append-nil done))
 body_stated all before line slot done (i ∷ is) h room =
@@ -108,7 +109,7 @@ some_instruction d rest =
     let many : 1 ≤ count_by is_instruction (Instruction d ∷ rest) = omega (arith, sum_by-append (λ y. cond (is_instruction y) 1 0) (Instruction d ∷ []) rest) in
     grind (arith, nat_tests)
 
-reads_back : (is : List Insn) → AllFit is → 1 ≤ slot_total is → slot_total is ≤ 4096 → assembled (stated is) ≡ Ok is
+reads_back : (is : List Insn) → AllFit is → 1 ≤ slot_total is → slot_total is ≤ SLOT_LIMIT → assembled (stated is) ≡ Ok is
 reads_back [] h some few = absurd (omega arith)
 reads_back (i ∷ is) h some few =
     let counted : nat_lt 0 (count_by is_instruction (stated (i ∷ is))) ≡ true = some_instruction (Ok (unresolved i)) (stated is) in

@@ -26,6 +26,7 @@ use Rattle.bpf_asm.specs.Grammar.{AreMethodLines, BeginsWithMethod, BeginsWith, 
 use Rattle.bpf_asm.proofs.StatementRelations.{text_says, says_text}
 use Rattle.bpf_asm.proofs.ClassTexts.{class_texts_give_back}
 use Rattle.bpf_asm.proofs.GrammarLemmas.{lines_read, read_lines, lines_have}
+use Rattle.bpf_decode.specs.declared.limits.TheConstants.{METHOD_LIMIT}
 
 -- behind a method anything may stand, before the first nothing
 abbrev Begun : List ClassMethod → List Statement → Type 0
@@ -53,14 +54,14 @@ some_methods d ds = grind (arith, nat_tests)
 
 -- ---- what is in the grammar is read
 
-opens : (done : List ClassMethod) (line : ℕ) (h : MethodHeader) (m : ClassMethod) (lines : List Statement) → length done < 32 → is_above (last_name [] done) m.name ≡ true → m ≡ method_with h m.instructions → AreMethodLines lines m.instructions → method_at done line (Ok h) lines ≡ Ok m
+opens : (done : List ClassMethod) (line : ℕ) (h : MethodHeader) (m : ClassMethod) (lines : List Statement) → length done < METHOD_LIMIT → is_above (last_name [] done) m.name ≡ true → m ≡ method_with h m.instructions → AreMethodLines lines m.instructions → method_at done line (Ok h) lines ≡ Ok m
 opens done line h m lines room above head r =
-    let test : nat_le 32 (length done) ≡ false = grind (arith, nat_tests) in
+    let test : nat_le METHOD_LIMIT (length done) ≡ false = grind (arith, nat_tests) in
     let name : m.name ≡ h.name = ap (λ (x : ClassMethod). x.name) head in
     let above_header : is_above (last_name [] done) h.name ≡ true = ap (is_above (last_name [] done)) (sym name) ∙ above in
     rw (test, lines_have lines m.instructions r, above_header, lines_read (line + 1) lines m.instructions r) (ap (λ x. Ok x) (sym head))
 
-class_reads : (done ms : List ClassMethod) (ss : List Statement) (line : ℕ) → SayMethods ss ms → Begun done ss → NamesAbove (last_name [] done) ms → length done + length ms ≤ 32 → 1 ≤ length done + length ms → class_from done line ss ≡ Ok (done ++ ms)
+class_reads : (done ms : List ClassMethod) (ss : List Statement) (line : ℕ) → SayMethods ss ms → Begun done ss → NamesAbove (last_name [] done) ms → length done + length ms ≤ METHOD_LIMIT → 1 ≤ length done + length ms → class_from done line ss ≡ Ok (done ++ ms)
 unfolding class_from
 class_reads done [] [] line s b n few some =
     let test : (length done == 0) ≡ false = grind (arith, nat_tests) in
@@ -85,7 +86,7 @@ class_reads done (m ∷ ms) (Directive (Ok h) ∷ ss) line s b n few some =
 abbrev class_with : RuleSet → List ClassMethod → Class
 class_with rules ms = record { rules = rules; methods = ms }
 
-ruled_reads : (rules : RuleSet) (ms : List ClassMethod) (ss : List Statement) (line : ℕ) → BeginsWith rules ss → SayMethods ss ms → NamesAbove [] ms → 1 ≤ length ms → length ms ≤ 32 → ruled_from line ss ≡ Ok (class_with rules ms)
+ruled_reads : (rules : RuleSet) (ms : List ClassMethod) (ss : List Statement) (line : ℕ) → BeginsWith rules ss → SayMethods ss ms → NamesAbove [] ms → 1 ≤ length ms → length ms ≤ METHOD_LIMIT → ruled_from line ss ≡ Ok (class_with rules ms)
 unfolding ruled_from
 ruled_reads rules ms [] line b s n some few = rw (b, class_reads [] ms [] line s tt n (omega arith) (omega arith)) refl
 ruled_reads rules ms (Empty ∷ ss) line b s n some few = ruled_reads rules ms ss (line + 1) b s n some few
@@ -103,14 +104,14 @@ record IsRead (done : List ClassMethod) (ss : List Statement) (r : List ClassMet
   says : SayMethods ss methods
   begins : Begun done ss
   names : NamesAbove (last_name [] done) methods
-  limit : length done + length methods ≤ 32
+  limit : length done + length methods ≤ METHOD_LIMIT
   some : 1 ≤ length done + length methods
 
 record IsOpened (done : List ClassMethod) (h : MethodHeader) (lines : List Statement) (m : ClassMethod) : Type 0 where
   head : m ≡ method_with h m.instructions
   lines_are : AreMethodLines lines m.instructions
   above : is_above (last_name [] done) m.name ≡ true
-  room : length done < 32
+  room : length done < METHOD_LIMIT
 
 fault_none : (full bare above : Bool) → cond (full || not bare) (Some faults.Range) (cond above None (Some faults.Label)) ≡ None → (full ≡ false) × (bare ≡ true) × (above ≡ true)
 fault_none true bare above h = absurd cc
@@ -132,7 +133,7 @@ bodied h (Ok is) m k =
 opened : (done : List ClassMethod) (line : ℕ) (h : MethodHeader) (lines : List Statement) (m : ClassMethod) → method_at done line (Ok h) lines ≡ Ok m → IsOpened done h lines m
 opened done line h lines m k =
     let a = unfaulted (opening_fault done (not (has_instruction lines)) h) line (with_body h (body (line + 1) lines)) m k in
-    let t = fault_none (nat_le 32 (length done)) (has_instruction lines) (is_above (last_name [] done) h.name) a.0 in
+    let t = fault_none (nat_le METHOD_LIMIT (length done)) (has_instruction lines) (is_above (last_name [] done) h.name) a.0 in
     let b = bodied h (body (line + 1) lines) m a.1 in
     let full = t.0 in
     let name : m.name ≡ h.name = ap (λ (x : ClassMethod). x.name) b.1 in
@@ -146,7 +147,7 @@ ended : (done r : List ClassMethod) (b : Bool) (e : AsmError) → b ≡ (length 
 ended done r true e t h = absurd cc
 ended done r false e t h = let same : done ≡ r = cc in (same, grind (arith, nat_tests))
 
-was_class : (done : List ClassMethod) (line : ℕ) (ss : List Statement) (r : List ClassMethod) → length done ≤ 32 → class_from done line ss ≡ Ok r → IsRead done ss r
+was_class : (done : List ClassMethod) (line : ℕ) (ss : List Statement) (r : List ClassMethod) → length done ≤ METHOD_LIMIT → class_from done line ss ≡ Ok r → IsRead done ss r
 unfolding class_from
 was_class done line [] r few h =
     let e = ended done r (length done == 0) (record { line = 1; fault = faults.Range }) refl h in
@@ -199,7 +200,7 @@ read_with rules (Ok ms) c h =
 behind : (c : Class) (line : ℕ) (ss all : List Statement) → class_from [] line ss ≡ Ok c.methods → (SayMethods ss c.methods → SayMethods all c.methods) → (BeginsWithMethod ss → BeginsWith c.rules all) → AreClassLines all c
 behind c line ss all h says begins =
     let w = was_class [] line ss c.methods (omega arith) h in
-    let P : List ClassMethod → Type 0 = λ v. SayMethods ss v × NamesAbove [] v × (1 ≤ length v) × (length v ≤ 32) in
+    let P : List ClassMethod → Type 0 = λ v. SayMethods ss v × NamesAbove [] v × (1 ≤ length v) × (length v ≤ METHOD_LIMIT) in
     let read = subst P (sym w.whole) (w.says, w.names, omega (arith, w.some), omega (arith, w.limit)) in
     record { begins = begins w.begins; methods = says read.0; names = read.1; some = read.2; limit = read.3 }
 

@@ -15,7 +15,7 @@ use Rattle.bpf_decode.specs.Class.{ClassMethod, Class}
 use Rattle.bpf_decode.specs.declared.image_error.ImageError.{ImageError}
 use Rattle.bpf_decode.specs.Reading.{◌>>=◌}
 use Rattle.bpf_decode.specs.Limits.{between, is_name_byte, are_name_bytes}
-use Rattle.bpf_decode.specs.ImageReading.{after, is_above, method_after, methods_after, methods_of, class_of}
+use Rattle.bpf_decode.specs.ImageReading.{after, is_above, method_after, methods_after, methods_of}
 use Rattle.asm_lines.specs.declared.fault.AsmFault.{AsmFault}
 use Rattle.asm_lines.specs.declared.fault.AsmError.{AsmError}
 use Rattle.asm_lines.specs.Fault.{no_memory}
@@ -23,6 +23,7 @@ use Rattle.asm_lines.specs.Headers.{MethodHeader, is_header}
 use Rattle.asm_lines.specs.declared.draft.Draft.{Draft}
 use Rattle.bpf_asm.specs.Classes.{last_name, is_directive, method_at, next_method, class_from, with_rules, ruled_from}
 use Rattle.bpf_decode.specs.Limits.{is_method_name}
+use Rattle.bpf_decode.specs.declared.limits.TheConstants.{METHOD_LIMIT, NAME_LIMIT, CAPACITY_LIMIT, SLOT_LIMIT}
 
 and_left : (a b : Bool) → IsTrue (a && b) → a ≡ true
 and_left true b h = refl
@@ -44,7 +45,7 @@ pub names_text : (name : List ℕ) → IsTrue (are_name_bytes name) → IsUtf8 n
 names_text name h = IsUtf8-from_ascii name (names_ascii name h)
 
 -- a method whose fields pass each test is right behind that name
-pub passes : (before : List ℕ) (m : ClassMethod) → between 1 64 (length m.name) ≡ true → are_name_bytes m.name ≡ true → is_above before m.name ≡ true → between 1 3 m.flags ≡ true → between 0 4096 m.in_cap ≡ true → between 0 4096 m.out_cap ≡ true → between 1 4096 (slot_total m.instructions) ≡ true → method_after before m ≡ Ok m
+pub passes : (before : List ℕ) (m : ClassMethod) → between 1 NAME_LIMIT (length m.name) ≡ true → are_name_bytes m.name ≡ true → is_above before m.name ≡ true → between 1 3 m.flags ≡ true → between 0 CAPACITY_LIMIT m.in_cap ≡ true → between 0 CAPACITY_LIMIT m.out_cap ≡ true → between 1 SLOT_LIMIT (slot_total m.instructions) ≡ true → method_after before m ≡ Ok m
 passes before m a b c d e f g = rw (a, b, c, d, e, f, g) refl
 
 onto : (r : Result ClassMethod ImageError) (s t : Result (List ClassMethod) ImageError) (x : ClassMethod) (xs ys : List ClassMethod) → (r >>= λ first. s >>= λ others. Ok (first ∷ others)) ≡ Ok (x ∷ xs) → (s ≡ Ok xs → t ≡ Ok ys) → (r >>= λ first. t >>= λ others. Ok (first ∷ others)) ≡ Ok (x ∷ ys)
@@ -63,25 +64,25 @@ one_more done before (x ∷ xs) m h k =
     onto (after done (method_after before x)) (methods_after (done + 1) x.name xs) (methods_after (done + 1) x.name (xs ++ (m ∷ []))) x xs (xs ++ (m ∷ [])) h (λ e. one_more (done + 1) x.name xs m e k)
 
 -- a method of a header within the limits, whose slots are within theirs, is right behind the name of the last one
-pub header_passes : (before : List ℕ) (h : MethodHeader) (m : ClassMethod) → IsTrue (is_header h) → is_above before h.name ≡ true → m.name ≡ h.name → m.flags ≡ h.flags → m.in_cap ≡ h.in_cap → m.out_cap ≡ h.out_cap → 1 ≤ slot_total m.instructions → slot_total m.instructions ≤ 4096 → method_after before m ≡ Ok m
+pub header_passes : (before : List ℕ) (h : MethodHeader) (m : ClassMethod) → IsTrue (is_header h) → is_above before h.name ≡ true → m.name ≡ h.name → m.flags ≡ h.flags → m.in_cap ≡ h.in_cap → m.out_cap ≡ h.out_cap → 1 ≤ slot_total m.instructions → slot_total m.instructions ≤ SLOT_LIMIT → method_after before m ≡ Ok m
 header_passes before h m valid above a b c d some few =
-    let in_all = and_left (is_method_name h.name && between 1 3 h.flags && between 0 4096 h.in_cap) (between 0 4096 h.out_cap) valid in
-    let in_three = and_left (is_method_name h.name && between 1 3 h.flags) (between 0 4096 h.in_cap) in_all in
+    let in_all = and_left (is_method_name h.name && between 1 3 h.flags && between 0 CAPACITY_LIMIT h.in_cap) (between 0 CAPACITY_LIMIT h.out_cap) valid in
+    let in_three = and_left (is_method_name h.name && between 1 3 h.flags) (between 0 CAPACITY_LIMIT h.in_cap) in_all in
     let in_two = and_left (is_method_name h.name) (between 1 3 h.flags) in_three in
     passes before m
-    (ap (λ n. between 1 64 (length n)) a ∙ and_left (between 1 64 (length h.name)) (are_name_bytes h.name) in_two)
-    (ap are_name_bytes a ∙ and_right (between 1 64 (length h.name)) (are_name_bytes h.name) in_two)
+    (ap (λ n. between 1 NAME_LIMIT (length n)) a ∙ and_left (between 1 NAME_LIMIT (length h.name)) (are_name_bytes h.name) in_two)
+    (ap are_name_bytes a ∙ and_right (between 1 NAME_LIMIT (length h.name)) (are_name_bytes h.name) in_two)
     (ap (is_above before) a ∙ above)
     (ap (between 1 3) b ∙ and_right (is_method_name h.name) (between 1 3 h.flags) in_three)
-    (ap (between 0 4096) c ∙ and_right (is_method_name h.name && between 1 3 h.flags) (between 0 4096 h.in_cap) in_all)
-    (ap (between 0 4096) d ∙ and_right (is_method_name h.name && between 1 3 h.flags && between 0 4096 h.in_cap) (between 0 4096 h.out_cap) valid)
+    (ap (between 0 CAPACITY_LIMIT) c ∙ and_right (is_method_name h.name && between 1 3 h.flags) (between 0 CAPACITY_LIMIT h.in_cap) in_all)
+    (ap (between 0 CAPACITY_LIMIT) d ∙ and_right (is_method_name h.name && between 1 3 h.flags && between 0 CAPACITY_LIMIT h.in_cap) (between 0 CAPACITY_LIMIT h.out_cap) valid)
     (grind (arith, nat_tests))
 
--- 1 to 32 right methods are a class
-pub is_class : (ms : List ClassMethod) → methods_after 0 [] ms ≡ Ok ms → 1 ≤ length ms → length ms ≤ 32 → (rules : RuleSet) → class_of rules ms ≡ Ok (record { rules = rules; methods = ms })
+-- 1 to `METHOD_LIMIT` right methods are a class's
+pub is_class : (ms : List ClassMethod) → methods_after 0 [] ms ≡ Ok ms → 1 ≤ length ms → length ms ≤ METHOD_LIMIT → methods_of ms ≡ Ok ms
 unfolding methods_of
-is_class ms h some few rules =
-    let counted : between 1 32 (length ms) ≡ true = grind (arith, nat_tests) in
+is_class ms h some few =
+    let counted : between 1 METHOD_LIMIT (length ms) ≡ true = grind (arith, nat_tests) in
     rw (counted, h) refl
 
 class_step : (ms : List ClassMethod) (m : ClassMethod) (line : ℕ) (header : Result MethodHeader AsmFault) (rest : List Statement) → method_at ms line header (before_first is_directive rest) ≡ Ok m → class_from ms line (Directive header ∷ rest) ≡ class_from (ms ++ (m ∷ [])) (line + 1) rest

@@ -32,6 +32,7 @@ use Rattle.bpf_asm.proofs.LineTexts.{no_label_line, content_same}
 use Rattle.bpf_asm.proofs.InsnTexts.{unresolved, line_says, line_quiet}
 use Rattle.bpf_asm.proofs.BodyTexts.{stated, one_line, no_line, body_stated, some_instruction, stands}
 use Rattle.bpf_decode.specs.Limits.{is_method_name}
+use Rattle.bpf_decode.specs.declared.limits.TheConstants.{METHOD_LIMIT, NAME_LIMIT, CAPACITY_LIMIT, SLOT_LIMIT}
 
 -- ---- what a name may be
 
@@ -53,7 +54,7 @@ method_name : (m : ClassMethod) → IsMethod m → is_method_name m.name ≡ tru
 method_name m h =
     let named = h.named in
     let short = h.short in
-    let sized : between 1 64 (length m.name) ≡ true = grind (arith, nat_tests) in
+    let sized : between 1 NAME_LIMIT (length m.name) ≡ true = grind (arith, nat_tests) in
     rw (sized, names_again m.name h.letters) refl
 
 -- ---- the line that begins a method
@@ -104,9 +105,9 @@ flags_some f = flags_some_at (f == 1) (f == 2)
 flags_plain : (f : ℕ) → list_all is_plain (flags_text f) ≡ true
 flags_plain f = flags_plain_at (f == 1) (f == 2)
 
-cap_reads : (n : ℕ) → n ≤ 4096 → unsigned_of 4096 (decimal n) ≡ Ok n
+cap_reads : (n : ℕ) → n ≤ CAPACITY_LIMIT → unsigned_of CAPACITY_LIMIT (decimal n) ≡ Ok n
 unfolding unsigned_of
-cap_reads n h = rw (plain_decimal 0 4096 n (omega arith) (omega arith)) refl
+cap_reads n h = rw (plain_decimal 0 CAPACITY_LIMIT n (omega arith) (omega arith)) refl
 
 abbrev header : ClassMethod → MethodHeader
 header m = record { name = m.name; flags = m.flags; in_cap = m.in_cap; out_cap = m.out_cap }
@@ -205,7 +206,7 @@ stated_free : (is : List Insn) → Free is_directive (stated is)
 stated_free [] = (refl, tt)
 stated_free (i ∷ is) = (refl, stated_free is)
 
-body_said : (all before : List Statement) (line slot : ℕ) (done is : List Insn) → AllFit is → slot + slot_total is ≤ 4096 → body_from all before line slot done (said is) ≡ Ok (done ++ is)
+body_said : (all before : List Statement) (line slot : ℕ) (done is : List Insn) → AllFit is → slot + slot_total is ≤ SLOT_LIMIT → body_from all before line slot done (said is) ≡ Ok (done ++ is)
 unfolding body_from
 body_said all before line slot done [] h room = ap (λ r. Ok r) (sym (append-nil done))
 body_said all before line slot done (i ∷ is) h room =
@@ -240,9 +241,9 @@ holds : (m : ClassMethod) (ms : List ClassMethod) → IsMethod m → Holds m (be
 holds m [] h = holds_end m h
 holds m (n ∷ ms) h = holds_before m (Ok (header n)) (said n.instructions ++ said_class ms) h
 
-method_reads : (done : List ClassMethod) (line : ℕ) (m : ClassMethod) (lines : List Statement) → length done < 32 → is_above (last_name [] done) m.name ≡ true → Holds m lines → method_at done line (Ok (header m)) lines ≡ Ok m
+method_reads : (done : List ClassMethod) (line : ℕ) (m : ClassMethod) (lines : List Statement) → length done < METHOD_LIMIT → is_above (last_name [] done) m.name ≡ true → Holds m lines → method_at done line (Ok (header m)) lines ≡ Ok m
 method_reads done line m lines room above h =
-    let test : nat_le 32 (length done) ≡ false = grind (arith, nat_tests) in
+    let test : nat_le METHOD_LIMIT (length done) ≡ false = grind (arith, nat_tests) in
     rw (test, h.some, above, h.reads (line + 1)) refl
 
 -- lines of a method that was read
@@ -274,7 +275,7 @@ push_some done m =
     let some : 1 ≤ length (done ++ (m ∷ [])) = omega arith in
     grind (arith, nat_tests)
 
-class_reads : (done ms : List ClassMethod) → AllByRecursion IsMethod ms → length done + length ms ≤ 32 → NamesAbove (last_name [] done) ms → 1 ≤ length done + length ms → (line : ℕ) → class_from done line (said_class ms) ≡ Ok (done ++ ms)
+class_reads : (done ms : List ClassMethod) → AllByRecursion IsMethod ms → length done + length ms ≤ METHOD_LIMIT → NamesAbove (last_name [] done) ms → 1 ≤ length done + length ms → (line : ℕ) → class_from done line (said_class ms) ≡ Ok (done ++ ms)
 unfolding class_from
 class_reads done [] h few above some line =
     let test : (length done == 0) ≡ false = grind (arith, nat_tests) in

@@ -25,6 +25,7 @@ use Rattle.bpf_asm.proofs.StatementRelations.{text_says}
 use Rattle.bpf_asm.proofs.BodyTexts.{some_instruction}
 use Rattle.bpf_asm.proofs.ClassGrammar.{last_push, before_other, some_methods}
 use Rattle.bpf_asm.proofs.FirstFaults.{Judged, judged}
+use Rattle.bpf_decode.specs.declared.limits.TheConstants.{METHOD_LIMIT}
 
 some_number : (g : AsmFault) → 1 ≤ fault_number g
 some_number faults.Word = omega arith
@@ -152,7 +153,7 @@ opens done p line h ss br k fine below jb = goes_on p line (Directive (Ok h)) ss
     by_body (Err e) j = below (done ++ (method_with h [] ∷ [])) (next_place p (Directive (Ok h)) ss) (Err e) (known (method_with h []) refl) (some (method_with h [])) j
 
 -- by the tests of a `.method` line: too many methods, an instruction among its lines, a name above the last
-by_tests : (done : List ClassMethod) (p : Place) (line : ℕ) (h : MethodHeader) (ss : List Statement) (full has above : Bool) → full ≡ nat_le 32 (length done) → has ≡ has_instruction (before_first is_directive ss) → above ≡ is_above (last_name [] done) h.name → Knows p done → Below (line + 1) ss → Judged (ClassLinesHaveFault p line (Directive (Ok h) ∷ ss)) (next_method (unless_fault (cond (full || not has) (Some faults.Range) (cond above None (Some faults.Label))) line (with_body h (body (line + 1) (before_first is_directive ss)))) (λ m. class_from (done ++ (m ∷ [])) (line + 1) ss))
+by_tests : (done : List ClassMethod) (p : Place) (line : ℕ) (h : MethodHeader) (ss : List Statement) (full has above : Bool) → full ≡ nat_le METHOD_LIMIT (length done) → has ≡ has_instruction (before_first is_directive ss) → above ≡ is_above (last_name [] done) h.name → Knows p done → Below (line + 1) ss → Judged (ClassLinesHaveFault p line (Directive (Ok h) ∷ ss)) (next_method (unless_fault (cond (full || not has) (Some faults.Range) (cond above None (Some faults.Label))) line (with_body h (body (line + 1) (before_first is_directive ss)))) (λ m. class_from (done ++ (m ∷ [])) (line + 1) ss))
 by_tests done p line h ss true has above a b c k below =
     let count = k.count in
     stops p line (Directive (Ok h)) ss faults.Range (inl (grind (arith, nat_tests), refl)) (late_opening p h ss)
@@ -160,20 +161,20 @@ by_tests done p line h ss false false above a b c k below = stops p line (Direct
 by_tests done p line h ss false true false a b c k below = stops p line (Directive (Ok h)) ss faults.Label (inr (inr (ap (λ v. is_above v h.name) k.named ∙ sym c, refl))) low
   where
     low : (g : AsmFault) → OpeningFault p (Ok h) ss g → fault_number faults.Label ≤ fault_number g
-    low g (inl x) = let many = x.0 in let count = k.count in let few : length done < 32 = grind (arith, nat_tests) in absurd (omega arith)
+    low g (inl x) = let many = x.0 in let count = k.count in let few : length done < METHOD_LIMIT = grind (arith, nat_tests) in absurd (omega arith)
     low g (inr (inl x)) = let none = x.0 in absurd cc
     low g (inr (inr x)) = rw x.1 (omega arith)
 by_tests done p line h ss false true true a b c k below = opens done p line h ss (body (line + 1) (before_first is_directive ss)) k fine below (judged (before_first is_directive ss) [] (line + 1) 0 [] (before_first is_directive ss))
   where
     fine : (g : AsmFault) → OpeningFault p (Ok h) ss g → ⊥
-    fine g (inl x) = let many = x.0 in let count = k.count in let few : length done < 32 = grind (arith, nat_tests) in omega arith
+    fine g (inl x) = let many = x.0 in let count = k.count in let few : length done < METHOD_LIMIT = grind (arith, nat_tests) in omega arith
     fine g (inr (inl x)) = let none = x.0 in absurd cc
     fine g (inr (inr x)) = let low = sym (ap (λ v. is_above v h.name) k.named) ∙ x.0 in absurd cc
 
 directive : (done : List ClassMethod) (p : Place) (line : ℕ) (h : Result MethodHeader AsmFault) (ss : List Statement) → Knows p done → Below (line + 1) ss → Judged (ClassLinesHaveFault p line (Directive h ∷ ss)) (class_from done line (Directive h ∷ ss))
 unfolding class_from
 directive done p line (Err f) ss k below = stops p line (Directive (Err f)) ss f refl (λ g x. rw x (omega arith))
-directive done p line (Ok h) ss k below = by_tests done p line h ss (nat_le 32 (length done)) (has_instruction (before_first is_directive ss)) (is_above (last_name [] done) h.name) refl refl refl k below
+directive done p line (Ok h) ss k below = by_tests done p line h ss (nat_le METHOD_LIMIT (length done)) (has_instruction (before_first is_directive ss)) (is_above (last_name [] done) h.name) refl refl refl k below
 
 -- ---- lines of a class
 

@@ -24,6 +24,7 @@ use Rattle.bpf_asm.proofs.StatementRelations.{text_says}
 use Rattle.bpf_asm.proofs.BodyTexts.{some_instruction}
 use Rattle.bpf_asm.proofs.GrammarLemmas.{slots_of}
 use Rattle.bpf_asm.proofs.JumpRelations.{near_fits, far_fits, within_near, within_far, within}
+use Rattle.bpf_decode.specs.declared.limits.TheConstants.{SLOT_LIMIT}
 
 -- ---- targets
 
@@ -154,7 +155,7 @@ at_label all above line slot name ss (Some at) e x y j =
     stops all above line slot (Label name) ss faults.Label (subst (λ (v : Option ℕ). IsSome v) e refl, refl) (λ g h. rw h.1 (omega arith))
 
 -- an instruction of the right form
-at_draft : (all above : List Statement) (line slot : ℕ) (d : Draft) (ss : List Statement) (b : Bool) → b ≡ nat_le (slot + draft_slots (Ok d)) 4096 → (r : Result Insn AsmFault) → r ≡ finished all slot d → (x : Result (List Insn) AsmError) (y : Insn → Result (List Insn) AsmError) → ((i : Insn) → r ≡ Ok i → Judged (LinesHaveFault all (above ++ (Instruction (Ok d) ∷ [])) (line + 1) (slot + draft_slots (Ok d)) ss) (y i)) → Judged (LinesHaveFault all above line slot (Instruction (Ok d) ∷ ss)) (proceed line (cond b (filled Some r) (Err faults.Range)) x y)
+at_draft : (all above : List Statement) (line slot : ℕ) (d : Draft) (ss : List Statement) (b : Bool) → b ≡ nat_le (slot + draft_slots (Ok d)) SLOT_LIMIT → (r : Result Insn AsmFault) → r ≡ finished all slot d → (x : Result (List Insn) AsmError) (y : Insn → Result (List Insn) AsmError) → ((i : Insn) → r ≡ Ok i → Judged (LinesHaveFault all (above ++ (Instruction (Ok d) ∷ [])) (line + 1) (slot + draft_slots (Ok d)) ss) (y i)) → Judged (LinesHaveFault all above line slot (Instruction (Ok d) ∷ ss)) (proceed line (cond b (filled Some r) (Err faults.Range)) x y)
 at_draft all above line slot d ss false e r q x y j = stops all above line slot (Instruction (Ok d)) ss faults.Range (inl (grind (arith, nat_tests), refl)) late
   where
     late : (g : AsmFault) → LineFault all above slot (Instruction (Ok d)) g → fault_number faults.Range ≤ fault_number g
@@ -166,12 +167,12 @@ at_draft all above line slot d ss true e (Err f) q x y j = stops all above line 
     the = draft_fault all slot d f (sym q)
 
     least : (g : AsmFault) → LineFault all above slot (Instruction (Ok d)) g → fault_number f ≤ fault_number g
-    least g (inl h) = let past = h.0 in let room : slot + draft_slots (Ok d) ≤ 4096 = grind (arith, nat_tests) in absurd (omega arith)
+    least g (inl h) = let past = h.0 in let room : slot + draft_slots (Ok d) ≤ SLOT_LIMIT = grind (arith, nat_tests) in absurd (omega arith)
     least g (inr h) = rw (the.only g h) (omega arith)
 at_draft all above line slot d ss true e (Ok i) q x y j = goes_on all above line slot (Instruction (Ok d)) ss (y i) none (j i refl)
   where
     none : (g : AsmFault) → LineFault all above slot (Instruction (Ok d)) g → ⊥
-    none g (inl h) = let past = h.0 in let room : slot + draft_slots (Ok d) ≤ 4096 = grind (arith, nat_tests) in absurd (omega arith)
+    none g (inl h) = let past = h.0 in let room : slot + draft_slots (Ok d) ≤ SLOT_LIMIT = grind (arith, nat_tests) in absurd (omega arith)
     none g (inr h) = draft_fine all slot d i (sym q) g h
 
 pub judged : (all above : List Statement) (line slot : ℕ) (done : List Insn) (ss : List Statement) → Judged (LinesHaveFault all above line slot ss) (body_from all above line slot done ss)
@@ -184,7 +185,7 @@ judged all above line slot done (Rules h ∷ ss) = stops all above line slot (Ru
 judged all above line slot done (Directive h ∷ ss) = stops all above line slot (Directive h) ss faults.Word refl (λ g k. rw k (omega arith))
 judged all above line slot done (Instruction (Err f) ∷ ss) = stops all above line slot (Instruction (Err f)) ss f refl (λ g k. rw k (omega arith))
 judged all above line slot done (Instruction (Ok d) ∷ ss) =
-    at_draft all above line slot d ss (nat_le (slot + draft_slots (Ok d)) 4096) refl (finished all slot d) refl _
+    at_draft all above line slot d ss (nat_le (slot + draft_slots (Ok d)) SLOT_LIMIT) refl (finished all slot d) refl _
     (λ i. body_from all (above ++ (Instruction (Ok d) ∷ [])) (line + 1) (slot + slot_count i) (done ++ (i ∷ [])) ss)
     (λ i e. subst (λ (v : ℕ). Judged (LinesHaveFault all (above ++ (Instruction (Ok d) ∷ [])) (line + 1) v ss) (body_from all (above ++ (Instruction (Ok d) ∷ [])) (line + 1) (slot + slot_count i) (done ++ (i ∷ [])) ss))
     (ap (λ k. slot + k) (sym (slots_of all slot d i e)))

@@ -24,6 +24,7 @@ use Rattle.bpf_asm.proofs.BodyLemmas.{one_slot}
 use Rattle.bpf_asm.proofs.BodyTexts.{texts_give_back}
 use Rattle.bpf_asm.proofs.StatementRelations.{text_says, says_text}
 use Rattle.bpf_asm.proofs.JumpRelations.{says_insn, insn_said}
+use Rattle.bpf_decode.specs.declared.limits.TheConstants.{SLOT_LIMIT}
 
 one_by : (f : ℤ → Insn) → ((z : ℤ) → slot_count (f z) ≡ 1) → (r : Result ℤ AsmFault) (i : Insn) → filled f r ≡ Ok i → 1 ≡ slot_count i
 one_by f g (Ok z) i h = let same : f z ≡ i = cc in sym (g z) ∙ ap slot_count same
@@ -37,14 +38,14 @@ slots_of all slot (drafts.JumpLong t) i h = one_by insns.JumpLong (λ z. refl) (
 slots_of all slot (drafts.Branch b c x s t) i h = one_by (insns.Branch b c x s) (λ z. refl) (near all slot t) i h
 slots_of all slot (drafts.CallLocal t) i h = one_by insns.CallLocal (λ z. refl) (far all slot t) i h
 
-stands_at : (all : List Statement) (slot : ℕ) (d : Draft) (i : Insn) → finished all slot d ≡ Ok i → slot + slot_count i ≤ 4096 → instruction_at all slot (Ok d) ≡ Ok (Some i)
+stands_at : (all : List Statement) (slot : ℕ) (d : Draft) (i : Insn) → finished all slot d ≡ Ok i → slot + slot_count i ≤ SLOT_LIMIT → instruction_at all slot (Ok d) ≡ Ok (Some i)
 stands_at all slot d i h room =
     let same = slots_of all slot d i h in
-    let test : nat_le (slot + slot_count i) 4096 ≡ true = grind (arith, nat_tests) in
+    let test : nat_le (slot + slot_count i) SLOT_LIMIT ≡ true = grind (arith, nat_tests) in
     rw (same, test, h) refl
 
 -- what is in the grammar is read
-reads : (all before : List Statement) (line slot : ℕ) (done is : List Insn) (ss : List Statement) → LabelsOnce before ss → Says all slot ss is → slot + slot_total is ≤ 4096 → body_from all before line slot done ss ≡ Ok (done ++ is)
+reads : (all before : List Statement) (line slot : ℕ) (done is : List Insn) (ss : List Statement) → LabelsOnce before ss → Says all slot ss is → slot + slot_total is ≤ SLOT_LIMIT → body_from all before line slot done ss ≡ Ok (done ++ is)
 unfolding body_from
 reads all before line slot done [] [] l s room = ap (λ r. Ok r) (sym (append-nil done))
 reads all before line slot done (i ∷ is) [] l s room = absurd s
@@ -65,7 +66,7 @@ record IsRead (all before : List Statement) (slot : ℕ) (done : List Insn) (ss 
   whole : r ≡ done ++ insns
   labels : LabelsOnce before ss
   says : Says all slot ss insns
-  limit : slot + slot_total insns ≤ 4096
+  limit : slot + slot_total insns ≤ SLOT_LIMIT
 
 first_label : (line : ℕ) (f : AsmFault) (o : Option ℕ) (x : Result (List Insn) AsmError) (y : Insn → Result (List Insn) AsmError) (r : List Insn) → proceed line (cond (is_some o) (Err f) (Ok None)) x y ≡ Ok r → (o ≡ None) × (x ≡ Ok r)
 first_label line f None x y r h = (refl, h)
@@ -74,7 +75,7 @@ first_label line f (Some n) x y r h = absurd cc
 record Stands (all : List Statement) (slot : ℕ) (d : Result Draft AsmFault) (y : Insn → Result (List Insn) AsmError) (r : List Insn) : Type 0 where
   insn : Insn
   says : SaysInsn all slot d insn
-  room : slot + slot_count insn ≤ 4096
+  room : slot + slot_count insn ≤ SLOT_LIMIT
   next : y insn ≡ Ok r
 
 record Passed (b : Bool) (f : Result Insn AsmFault) (y : Insn → Result (List Insn) AsmError) (r : List Insn) : Type 0 where
@@ -91,13 +92,13 @@ passed line g true (Ok i) x y r h = record { insn = i; room = refl; found = refl
 stood : (all : List Statement) (line slot : ℕ) (d : Result Draft AsmFault) (x : Result (List Insn) AsmError) (y : Insn → Result (List Insn) AsmError) (r : List Insn) → proceed line (instruction_at all slot d) x y ≡ Ok r → Stands all slot d y r
 stood all line slot (Err f) x y r h = absurd cc
 stood all line slot (Ok d) x y r h =
-    let p = passed line faults.Range (nat_le (slot + draft_slots (Ok d)) 4096) (finished all slot d) x y r h in
+    let p = passed line faults.Range (nat_le (slot + draft_slots (Ok d)) SLOT_LIMIT) (finished all slot d) x y r h in
     let same = slots_of all slot d p.insn p.found in
     let within = p.room in
-    let room : slot + draft_slots (Ok d) ≤ 4096 = grind (arith, nat_tests) in
+    let room : slot + draft_slots (Ok d) ≤ SLOT_LIMIT = grind (arith, nat_tests) in
     record { insn = p.insn; says = says_insn all slot d p.insn p.found; room = omega arith; next = p.next }
 
-was_read : (all before : List Statement) (line slot : ℕ) (done : List Insn) (ss : List Statement) (r : List Insn) → slot ≤ 4096 → body_from all before line slot done ss ≡ Ok r → IsRead all before slot done ss r
+was_read : (all before : List Statement) (line slot : ℕ) (done : List Insn) (ss : List Statement) (r : List Insn) → slot ≤ SLOT_LIMIT → body_from all before line slot done ss ≡ Ok r → IsRead all before slot done ss r
 unfolding body_from
 was_read all before line slot done [] r room h =
     let same : done ≡ r = cc in
@@ -155,7 +156,7 @@ read_lines line ss is has h =
     let w = was_read ss [] line 0 [] ss is (omega arith) h in
     let same = w.whole in
     let says : Says ss 0 ss is = subst (λ (v : List Insn). Says ss 0 ss v) (sym same) w.says in
-    let limit : slot_total is ≤ 4096 = omega (arith, w.limit, ap slot_total same) in
+    let limit : slot_total is ≤ SLOT_LIMIT = omega (arith, w.limit, ap slot_total same) in
     let counted = counts ss 0 ss is says in
     let many : 1 ≤ count_by is_instruction ss = grind (arith, nat_tests) in
     record { labels = w.labels; says = says; some = omega (arith, total_low is); limit = limit }

@@ -18,6 +18,7 @@ use Rattle.bpf_asm.proofs.InsnTexts.{line_quiet}
 use Rattle.bpf_asm.proofs.BodyTexts.{split_line, one_line}
 use Rattle.bpf_asm.proofs.ClassTexts.{directive_quiet, rules_quiet, class_texts_give_back}
 use Rattle.bpf_asm.proofs.ClassGrammar.{read_is_class_text}
+use Rattle.bpf_decode.specs.declared.limits.TheConstants.{SLOT_LIMIT}
 
 -- ---- a comment says nothing
 
@@ -59,20 +60,20 @@ comment slot = codes " ; slot " ++ decimal slot
 word_free : Free (λ c. c == 10) (codes " ; slot ")
 word_free = (refl, (refl, (refl, (refl, (refl, (refl, (refl, (refl, tt))))))))
 
-comment_free : (slot : ℕ) → slot ≤ 4096 → Free (λ c. c == 10) (comment slot)
+comment_free : (slot : ℕ) → slot ≤ SLOT_LIMIT → Free (λ c. c == 10) (comment slot)
 comment_free slot few =
     let digits = free_where (λ c. c == 10) is_quiet quiet_feed (decimal slot) (quiet_where (decimal slot) (decimal_plain slot (omega arith))) in
     free_append (λ c. c == 10) (codes " ; slot ") (decimal slot) word_free digits
 
 -- it says what the line says without the comment
-commented_line : (line : List ℕ) (slot : ℕ) (rest : List ℕ) → list_all is_quiet line ≡ true → slot ≤ 4096 → statements_of ((line ++ comment slot) ++ (10 ∷ rest)) ≡ statement_of (content line) ∷ statements_of rest
+commented_line : (line : List ℕ) (slot : ℕ) (rest : List ℕ) → list_all is_quiet line ≡ true → slot ≤ SLOT_LIMIT → statements_of ((line ++ comment slot) ++ (10 ∷ rest)) ≡ statement_of (content line) ∷ statements_of rest
 unfolding statements_of
 commented_line line slot rest q few =
     let free = free_append (λ c. c == 10) line (comment slot) (free_where (λ c. c == 10) is_quiet quiet_feed line q) (comment_free slot few) in
     rw (split_line (line ++ comment slot) rest free, content_commented line (codes " slot " ++ decimal slot) q) refl
 
 -- an instruction's line with its slot, above others
-slot_line_says : (slot : ℕ) (i : Insn) (rest : List ℕ) → Fits i → slot ≤ 4096 → statements_of ((slot_line slot i ++ codes "\n") ++ rest) ≡ statement_of (content (line_of i)) ∷ statements_of rest
+slot_line_says : (slot : ℕ) (i : Insn) (rest : List ℕ) → Fits i → slot ≤ SLOT_LIMIT → statements_of ((slot_line slot i ++ codes "\n") ++ rest) ≡ statement_of (content (line_of i)) ∷ statements_of rest
 slot_line_says slot i rest fits few =
     ap statements_of (append_assoc (slot_line slot i) (codes "\n") rest)
     ∙ ap (λ t. statements_of (t ++ (10 ∷ rest))) (append_assoc (line_of i) (codes " ; slot ") (decimal slot))
@@ -85,7 +86,7 @@ below_line line a b q same =
 
 -- ---- the text of a class
 
-code_same : (slot : ℕ) (is : List Insn) (a b : List ℕ) → AllFit is → slot + slot_total is ≤ 4096 → statements_of a ≡ statements_of b → statements_of (code_with_slots slot is ++ a) ≡ statements_of (canonical_text is ++ b)
+code_same : (slot : ℕ) (is : List Insn) (a b : List ℕ) → AllFit is → slot + slot_total is ≤ SLOT_LIMIT → statements_of a ≡ statements_of b → statements_of (code_with_slots slot is ++ a) ≡ statements_of (canonical_text is ++ b)
 code_same slot [] a b fit few same = same
 code_same slot (i ∷ is) a b fit few same =
     let this = statement_of (content (line_of i)) in

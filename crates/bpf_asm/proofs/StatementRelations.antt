@@ -41,6 +41,7 @@ use Rattle.bpf_asm.proofs.BodyTexts.{split_line}
 use Rattle.bpf_asm.proofs.CutRelations.{free_not, has_content, is_content, has_word, is_first, is_rest}
 use Rattle.bpf_asm.proofs.LineRelations.{true_false, known_word, instruction_is, is_instruction}
 use Rattle.bpf_decode.specs.Limits.{is_method_name}
+use Rattle.bpf_decode.specs.declared.limits.TheConstants.{CAPACITY_LIMIT}
 
 -- ---- labels
 
@@ -136,15 +137,15 @@ record IsHeaded (named : Bool) (name : List ℕ) (flags : Option ℕ) (caps : Li
   is_named : named ≡ true
   is_name : name ≡ h.name
   are_flags : flags ≡ Some h.flags
-  is_in_cap : unsigned_of 4096 (first_word caps) ≡ Ok h.in_cap
-  is_out_cap : unsigned_of 4096 (after_word caps) ≡ Ok h.out_cap
+  is_in_cap : unsigned_of CAPACITY_LIMIT (first_word caps) ≡ Ok h.in_cap
+  is_out_cap : unsigned_of CAPACITY_LIMIT (after_word caps) ≡ Ok h.out_cap
 
 headed : (named : Bool) (name : List ℕ) (flags : Option ℕ) (caps : List ℕ) (h : MethodHeader) → header_with named name flags caps ≡ Ok h → IsHeaded named name flags caps h
 headed named name None caps h e = absurd cc
 headed false name (Some f) caps h e = absurd cc
 headed true name (Some f) caps h e =
-    let p = filled_is (λ p. record { name = name; flags = f; in_cap = p.0; out_cap = p.1 }) (both (unsigned_of 4096 (first_word caps)) (unsigned_of 4096 (after_word caps))) h e in
-    let b = both_found (unsigned_of 4096 (first_word caps)) (unsigned_of 4096 (after_word caps)) p.from p.read in
+    let p = filled_is (λ p. record { name = name; flags = f; in_cap = p.0; out_cap = p.1 }) (both (unsigned_of CAPACITY_LIMIT (first_word caps)) (unsigned_of CAPACITY_LIMIT (after_word caps))) h e in
+    let b = both_found (unsigned_of CAPACITY_LIMIT (first_word caps)) (unsigned_of CAPACITY_LIMIT (after_word caps)) p.from p.read in
     subst (λ (v : MethodHeader). IsHeaded true name (Some f) caps v) p.is (record { is_named = refl; is_name = refl; are_flags = refl; is_in_cap = b.0; is_out_cap = b.1 })
 
 directive_is : (text : List ℕ) (h : MethodHeader) → first_word text ≡ codes ".method" → header_of (after_word text) ≡ Ok h → IsDirectiveText text h
@@ -167,15 +168,15 @@ directive_is text h w e =
       flags_word = has_word (after_word rest);
       are_flags = flags_are flags h.flags p.are_flags;
       in_cap_word = has_word caps;
-      is_in_cap = unsigned_is 4096 (first_word caps) h.in_cap p.is_in_cap;
-      is_out_cap = unsigned_is 4096 (after_word caps) h.out_cap p.is_out_cap;
+      is_in_cap = unsigned_is CAPACITY_LIMIT (first_word caps) h.in_cap p.is_in_cap;
+      is_out_cap = unsigned_is CAPACITY_LIMIT (after_word caps) h.out_cap p.is_out_cap;
     }
 
 is_directive : (text : List ℕ) (h : MethodHeader) → IsDirectiveText text h → header_of (after_word text) ≡ Ok h
 unfolding header_of
 is_directive text h d =
     let flags : flags_of d.flags ≡ Some h.flags = ap flags_of d.are_flags.2 ∙ flags_read h.flags d.are_flags.0 d.are_flags.1 in
-    rw (is_rest text (codes ".method") d.behind_word d.word, is_first d.behind_word h.name d.behind_name d.name, is_rest d.behind_word h.name d.behind_name d.name, d.is_name, is_first d.behind_name d.flags d.caps d.flags_word, is_rest d.behind_name d.flags d.caps d.flags_word, flags, is_first d.caps d.in_cap d.out_cap d.in_cap_word, is_rest d.caps d.in_cap d.out_cap d.in_cap_word, is_unsigned 4096 d.in_cap h.in_cap d.is_in_cap, is_unsigned 4096 d.out_cap h.out_cap d.is_out_cap) refl
+    rw (is_rest text (codes ".method") d.behind_word d.word, is_first d.behind_word h.name d.behind_name d.name, is_rest d.behind_word h.name d.behind_name d.name, d.is_name, is_first d.behind_name d.flags d.caps d.flags_word, is_rest d.behind_name d.flags d.caps d.flags_word, flags, is_first d.caps d.in_cap d.out_cap d.in_cap_word, is_rest d.caps d.in_cap d.out_cap d.in_cap_word, is_unsigned CAPACITY_LIMIT d.in_cap h.in_cap d.is_in_cap, is_unsigned CAPACITY_LIMIT d.out_cap h.out_cap d.is_out_cap) refl
 
 -- ---- directives that are none of their form
 
@@ -187,8 +188,8 @@ judged_header_at text named None e f = inl (refl, no_flags)
 judged_header_at text false (Some flags) e f = inl (refl, λ d. true_false (sym (e ∙ ap is_method_name (is_first text d.name d.behind_name d.name_word) ∙ d.is_name)))
 judged_header_at text true (Some flags) e f =
     let caps = after_word (after_word text) in
-    judged_filled _ _ (both (unsigned_of 4096 (first_word caps)) (unsigned_of 4096 (after_word caps)))
-    (judged_by (both (unsigned_of 4096 (first_word caps)) (unsigned_of 4096 (after_word caps))) to from (judged_both _ _ (unsigned_of 4096 (first_word caps)) (unsigned_of 4096 (after_word caps)) (judged_unsigned 4096 (first_word caps)) (judged_unsigned 4096 (after_word caps))))
+    judged_filled _ _ (both (unsigned_of CAPACITY_LIMIT (first_word caps)) (unsigned_of CAPACITY_LIMIT (after_word caps)))
+    (judged_by (both (unsigned_of CAPACITY_LIMIT (first_word caps)) (unsigned_of CAPACITY_LIMIT (after_word caps))) to from (judged_both _ _ (unsigned_of CAPACITY_LIMIT (first_word caps)) (unsigned_of CAPACITY_LIMIT (after_word caps)) (judged_unsigned CAPACITY_LIMIT (first_word caps)) (judged_unsigned CAPACITY_LIMIT (after_word caps))))
   where
     to : AnyNumber (first_word (after_word (after_word text))) × AnyNumber (after_word (after_word (after_word text))) → AnyDirective text
     to p =

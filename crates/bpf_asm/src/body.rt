@@ -97,34 +97,17 @@ fn far(labels: &Labels, slot: usize, target: &Target) -> Result<i32, AsmFault>
 }
 
 /// The instruction at a slot.
+#[rattlefmt::skip]
 fn finished(labels: &Labels, slot: usize, draft: &Draft) -> Result<Insn, AsmFault>
     requires { slot ≤ SLOT_LIMIT }
     ensures { result ≡ finished labels.now slot draft.now }
 {
     match draft {
         Draft::Plain(insn) => Ok(*insn),
-        Draft::Jump(target) => match near(labels, slot, target) {
-            Ok(offset) => Ok(Insn::Jump { offset }),
-            Err(fault) => Err(fault),
-        },
-        Draft::JumpLong(target) => match far(labels, slot, target) {
-            Ok(distance) => Ok(Insn::JumpLong { distance }),
-            Err(fault) => Err(fault),
-        },
-        Draft::Branch(bits, comparison, dst, source, target) => match near(labels, slot, target) {
-            Ok(offset) => Ok(Insn::Branch {
-                bits: *bits,
-                comparison: *comparison,
-                dst: *dst,
-                source: *source,
-                offset,
-            }),
-            Err(fault) => Err(fault),
-        },
-        Draft::CallLocal(target) => match far(labels, slot, target) {
-            Ok(distance) => Ok(Insn::CallLocal { distance }),
-            Err(fault) => Err(fault),
-        },
+        Draft::Jump(target) => match near(labels, slot, target) { Ok(offset) => Ok(Insn::Jump { offset }), Err(fault) => Err(fault) },
+        Draft::JumpLong(target) => match far(labels, slot, target) { Ok(distance) => Ok(Insn::JumpLong { distance }), Err(fault) => Err(fault) },
+        Draft::Branch(bits, comparison, dst, source, target) => match near(labels, slot, target) { Ok(offset) => Ok(Insn::Branch { bits: *bits, comparison: *comparison, dst: *dst, source: *source, offset }), Err(fault) => Err(fault) },
+        Draft::CallLocal(target) => match far(labels, slot, target) { Ok(distance) => Ok(Insn::CallLocal { distance }), Err(fault) => Err(fault) },
     }
 }
 
@@ -233,6 +216,7 @@ pub(crate) fn read_body(
 }
 
 /// Whether a line is an instruction's.
+// A malformed one is too: then its own fault is told, and not that the text has no instruction.
 fn is_instruction(line: &Statement) -> bool
     ensures { result ≡ is_instruction line.now }
 {

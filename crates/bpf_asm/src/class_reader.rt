@@ -42,7 +42,7 @@ fn last_name(methods: &[Method]) -> &[u8]
     name
 }
 
-/// The fault of a method's first line behind other methods.
+/// The fault of a method's first line after other methods.
 fn opening_fault(done: &[Method], bare: bool, header: &Header) -> Option<AsmFault>
     ensures { result ≡ opening_fault done.now bare header.now }
 {
@@ -83,7 +83,7 @@ fn with_body(
     ))
 }
 
-/// The method that begins at a line, with its lines below, behind other methods.
+/// The method that begins at a line, with its lines below, after other methods.
 fn method_at(
     alloc: Global,
     done: &[Method],
@@ -112,6 +112,8 @@ fn method_at(
 }
 
 /// The fault on the first line of a class's text without instructions.
+// Such a text is refused at its first line, which is line 1 also in an empty text.
+#[rattlefmt::skip]
 fn bare_class_fault(lines: &[Statement]) -> AsmFault
     ensures { result ≡ bare_class_fault lines.now }
 {
@@ -119,15 +121,13 @@ fn bare_class_fault(lines: &[Statement]) -> AsmFault
         [] => AsmFault::Range,
         [first, ..] => match first {
             Statement::Label(_) => AsmFault::Word,
-            Statement::Rules(Err(fault)) | Statement::Directive(Err(fault)) => {
-                fault.least(AsmFault::Range)
-            }
+            Statement::Rules(Err(fault)) | Statement::Directive(Err(fault)) => fault.least(AsmFault::Range),
             _ => AsmFault::Range,
         },
     }
 }
 
-/// Reads the line at a place behind right methods, and puts a method that begins there behind them.
+/// Reads the line at a place after right methods, and puts a method that begins there at their end.
 #[tactic(auto, unfolding(crate::specs::Classes::class_from))]
 fn push_line(
     alloc: Global,
@@ -240,10 +240,7 @@ fn class_assembled(alloc: Global, lines: &[Statement]) -> Result<ClassImage, Asm
         Err(error) => return Err(error),
     };
     match methods_of(alloc, lines, first) {
-        Ok(methods) => match ClassImage::new(methods, rules) {
-            Ok(class) => Ok(class),
-            Err(_) => unreachable!(),
-        },
+        Ok(methods) => Ok(ClassImage::tested(methods, rules)),
         Err(error) => Err(error),
     }
 }

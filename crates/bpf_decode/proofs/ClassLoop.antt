@@ -16,6 +16,7 @@ use Rattle.bpf_decode.proofs.Bytes.{bind_ok, checked_ok}
 use Rattle.bpf_decode.specs.Limits.{between, are_name_bytes}
 use Rattle.bpf_decode.proofs.ImageFields.{between-true, between-is, letters_are, letters_again, above_is, above_again}
 use Rattle.bpf_decode.proofs.ImageLaws.{RisesFrom, rises_on, rises_first, after_ok}
+use Rattle.bpf_decode.specs.declared.limits.TheConstants.{METHOD_LIMIT, NAME_LIMIT, CAPACITY_LIMIT, SLOT_LIMIT}
 
 abbrev pub Tested : Type 0
 Tested = Result (List ClassMethod) ImageError
@@ -71,22 +72,22 @@ goes_on ms done before m lt is h fit p =
 abbrev by_count : List ClassMethod → Bool → Tested
 by_count ms b = after 0 (checked b Limit ms) >>= λ some. methods_after 0 [] ms
 
-counted : (ms : List ClassMethod) → between 1 32 (length ms) ≡ true → methods_of ms ≡ methods_after 0 [] ms
+counted : (ms : List ClassMethod) → between 1 METHOD_LIMIT (length ms) ≡ true → methods_of ms ≡ methods_after 0 [] ms
 unfolding methods_of
 counted ms some = ap (by_count ms) some
 
-pub not_counted : (ms : List ClassMethod) → between 1 32 (length ms) ≡ false → methods_of ms ≡ Err (record { methods = 0; error = Limit })
+pub not_counted : (ms : List ClassMethod) → between 1 METHOD_LIMIT (length ms) ≡ false → methods_of ms ≡ Err (record { methods = 0; error = Limit })
 unfolding methods_of
 not_counted ms none = ap (by_count ms) none
 
-pub is_refused : (ms : List ClassMethod) (done : ℕ) (before : List ℕ) (m : ClassMethod) (e : DecodeError) → between 1 32 (length ms) ≡ true → done < length ms → m ≡ get_or ms done m → method_after before m ≡ Err e → Progress ms done before
+pub is_refused : (ms : List ClassMethod) (done : ℕ) (before : List ℕ) (m : ClassMethod) (e : DecodeError) → between 1 METHOD_LIMIT (length ms) ≡ true → done < length ms → m ≡ get_or ms done m → method_after before m ≡ Err e → Progress ms done before
     → methods_of ms ≡ Err (record { methods = done; error = e })
 is_refused ms done before m e some lt is h p =
     let front = take done ms in
     let behind = drop (done + 1) ms in
     counted ms some ∙ sym p.so_far ∙ ap (λ (xs : List ClassMethod). with_front front (methods_after done before xs)) (here ms done m lt is) ∙ ap (with_front front) (one_more done before m behind (Err e) h)
 
-pub all_pass : (ms : List ClassMethod) (done : ℕ) (before : List ℕ) → between 1 32 (length ms) ≡ true → length ms ≤ done → Progress ms done before → methods_of ms ≡ Ok ms
+pub all_pass : (ms : List ClassMethod) (done : ℕ) (before : List ℕ) → between 1 METHOD_LIMIT (length ms) ≡ true → length ms ≤ done → Progress ms done before → methods_of ms ≡ Ok ms
 unfolding methods_after
 all_pass ms done before some le p =
     counted ms some ∙ sym p.so_far ∙ ap (λ (xs : List ClassMethod). with_front (take done ms) (methods_after done before xs)) (drop_all done ms le) ∙ ap (λ (xs : List ClassMethod). Ok xs) (append-nil (take done ms) ∙ take_all done ms le)
@@ -101,31 +102,31 @@ above before name = slice_cmp nat_cmp before name ≡ Less
 
 method_passes : (before : List ℕ) (m x : ClassMethod) → AllFit m.instructions → method_after before m ≡ Ok x → IsMethod m × above before m.name
 method_passes before m x fit e =
-    let a = bind_ok (checked (between 1 64 (length m.name)) Name m) (λ y. checked (are_name_bytes m.name) Name m >>= λ y. checked (is_above before m.name) Order m >>= λ y. checked (between 1 3 m.flags) Flags m >>= λ y. checked (between 0 4096 m.in_cap) Limit m >>= λ y. checked (between 0 4096 m.out_cap) Limit m >>= λ y. checked (between 1 4096 (slot_total m.instructions)) Limit m) x e in
-    let b = bind_ok (checked (are_name_bytes m.name) Name m) (λ y. checked (is_above before m.name) Order m >>= λ y. checked (between 1 3 m.flags) Flags m >>= λ y. checked (between 0 4096 m.in_cap) Limit m >>= λ y. checked (between 0 4096 m.out_cap) Limit m >>= λ y. checked (between 1 4096 (slot_total m.instructions)) Limit m) x a.2 in
-    let c = bind_ok (checked (is_above before m.name) Order m) (λ y. checked (between 1 3 m.flags) Flags m >>= λ y. checked (between 0 4096 m.in_cap) Limit m >>= λ y. checked (between 0 4096 m.out_cap) Limit m >>= λ y. checked (between 1 4096 (slot_total m.instructions)) Limit m) x b.2 in
-    let d = bind_ok (checked (between 1 3 m.flags) Flags m) (λ y. checked (between 0 4096 m.in_cap) Limit m >>= λ y. checked (between 0 4096 m.out_cap) Limit m >>= λ y. checked (between 1 4096 (slot_total m.instructions)) Limit m) x c.2 in
-    let f = bind_ok (checked (between 0 4096 m.in_cap) Limit m) (λ y. checked (between 0 4096 m.out_cap) Limit m >>= λ y. checked (between 1 4096 (slot_total m.instructions)) Limit m) x d.2 in
-    let g = bind_ok (checked (between 0 4096 m.out_cap) Limit m) (λ y. checked (between 1 4096 (slot_total m.instructions)) Limit m) x f.2 in
-    let sized = between-true 1 64 (length m.name) (checked_ok (between 1 64 (length m.name)) Name m a.0 a.1).0 in
+    let a = bind_ok (checked (between 1 NAME_LIMIT (length m.name)) Name m) (λ y. checked (are_name_bytes m.name) Name m >>= λ y. checked (is_above before m.name) Order m >>= λ y. checked (between 1 3 m.flags) Flags m >>= λ y. checked (between 0 CAPACITY_LIMIT m.in_cap) Limit m >>= λ y. checked (between 0 CAPACITY_LIMIT m.out_cap) Limit m >>= λ y. checked (between 1 SLOT_LIMIT (slot_total m.instructions)) Limit m) x e in
+    let b = bind_ok (checked (are_name_bytes m.name) Name m) (λ y. checked (is_above before m.name) Order m >>= λ y. checked (between 1 3 m.flags) Flags m >>= λ y. checked (between 0 CAPACITY_LIMIT m.in_cap) Limit m >>= λ y. checked (between 0 CAPACITY_LIMIT m.out_cap) Limit m >>= λ y. checked (between 1 SLOT_LIMIT (slot_total m.instructions)) Limit m) x a.2 in
+    let c = bind_ok (checked (is_above before m.name) Order m) (λ y. checked (between 1 3 m.flags) Flags m >>= λ y. checked (between 0 CAPACITY_LIMIT m.in_cap) Limit m >>= λ y. checked (between 0 CAPACITY_LIMIT m.out_cap) Limit m >>= λ y. checked (between 1 SLOT_LIMIT (slot_total m.instructions)) Limit m) x b.2 in
+    let d = bind_ok (checked (between 1 3 m.flags) Flags m) (λ y. checked (between 0 CAPACITY_LIMIT m.in_cap) Limit m >>= λ y. checked (between 0 CAPACITY_LIMIT m.out_cap) Limit m >>= λ y. checked (between 1 SLOT_LIMIT (slot_total m.instructions)) Limit m) x c.2 in
+    let f = bind_ok (checked (between 0 CAPACITY_LIMIT m.in_cap) Limit m) (λ y. checked (between 0 CAPACITY_LIMIT m.out_cap) Limit m >>= λ y. checked (between 1 SLOT_LIMIT (slot_total m.instructions)) Limit m) x d.2 in
+    let g = bind_ok (checked (between 0 CAPACITY_LIMIT m.out_cap) Limit m) (λ y. checked (between 1 SLOT_LIMIT (slot_total m.instructions)) Limit m) x f.2 in
+    let sized = between-true 1 NAME_LIMIT (length m.name) (checked_ok (between 1 NAME_LIMIT (length m.name)) Name m a.0 a.1).0 in
     let letters = letters_are m.name (checked_ok (are_name_bytes m.name) Name m b.0 b.1).0 in
     let rises = above_is before m.name (checked_ok (is_above before m.name) Order m c.0 c.1).0 in
     let flags = between-true 1 3 m.flags (checked_ok (between 1 3 m.flags) Flags m d.0 d.1).0 in
-    let read = between-true 0 4096 m.in_cap (checked_ok (between 0 4096 m.in_cap) Limit m f.0 f.1).0 in
-    let written = between-true 0 4096 m.out_cap (checked_ok (between 0 4096 m.out_cap) Limit m g.0 g.1).0 in
-    let slots = between-true 1 4096 (slot_total m.instructions) (checked_ok (between 1 4096 (slot_total m.instructions)) Limit m x g.2).0 in
+    let read = between-true 0 CAPACITY_LIMIT m.in_cap (checked_ok (between 0 CAPACITY_LIMIT m.in_cap) Limit m f.0 f.1).0 in
+    let written = between-true 0 CAPACITY_LIMIT m.out_cap (checked_ok (between 0 CAPACITY_LIMIT m.out_cap) Limit m g.0 g.1).0 in
+    let slots = between-true 1 SLOT_LIMIT (slot_total m.instructions) (checked_ok (between 1 SLOT_LIMIT (slot_total m.instructions)) Limit m x g.2).0 in
     (record { named = sized.0; short = sized.1; letters = letters; some_flag = flags.0; known_flags = flags.1; in_cap = read.1; out_cap = written.1; some_slot = slots.0; slots = slots.1; fit = fit }, rises)
 
 method_again : (before : List ℕ) (m : ClassMethod) → IsMethod m → above before m.name → method_after before m ≡ Ok m
 method_again before m h rises =
     rw (
-      between-is 1 64 (length m.name) h.named h.short,
+      between-is 1 NAME_LIMIT (length m.name) h.named h.short,
       letters_again m.name h.letters,
       above_again before m.name rises,
       between-is 1 3 m.flags h.some_flag h.known_flags,
-      between-is 0 4096 m.in_cap (omega arith) h.in_cap,
-      between-is 0 4096 m.out_cap (omega arith) h.out_cap,
-      between-is 1 4096 (slot_total m.instructions) h.some_slot h.slots,
+      between-is 0 CAPACITY_LIMIT m.in_cap (omega arith) h.in_cap,
+      between-is 0 CAPACITY_LIMIT m.out_cap (omega arith) h.out_cap,
+      between-is 1 SLOT_LIMIT (slot_total m.instructions) h.some_slot h.slots,
     ) refl
 
 methods_pass : (done : ℕ) (before : List ℕ) (ms xs : List ClassMethod) → AllCodeFits ms → methods_after done before ms ≡ Ok xs → AllByRecursion IsMethod ms × RisesFrom before ms
@@ -145,7 +146,7 @@ methods_again done before (m ∷ ms) all rises =
     ap (first_tested done m.name ms) (method_again before m all.0 rises.0) ∙ ap (λ (r : Tested). r >>= λ others. Ok (m ∷ others)) (methods_again (done + 1) m.name ms all.1 rises.1)
 
 pub class_again : (ms : List ClassMethod) → IsClass ms → methods_of ms ≡ Ok ms
-class_again ms class = counted ms (between-is 1 32 (length ms) class.some class.limit) ∙ methods_again 0 [] ms class.methods (rises_first ms class.methods class.names)
+class_again ms class = counted ms (between-is 1 METHOD_LIMIT (length ms) class.some class.limit) ∙ methods_again 0 [] ms class.methods (rises_first ms class.methods class.names)
 
 abbrev passed : List ClassMethod → Tested
 passed ms = Ok ms
@@ -153,8 +154,8 @@ passed ms = Ok ms
 pub class_passes : (ms xs : List ClassMethod) → AllCodeFits ms → methods_of ms ≡ Ok xs → IsClass ms
 unfolding methods_of
 class_passes ms xs fit e =
-    let a = bind_ok (after 0 (checked (between 1 32 (length ms)) Limit ms)) (λ some. methods_after 0 [] ms) xs e in
-    let some = between-true 1 32 (length ms) (checked_ok (between 1 32 (length ms)) Limit ms a.0 (after_ok 0 (checked (between 1 32 (length ms)) Limit ms) a.0 a.1)).0 in
+    let a = bind_ok (after 0 (checked (between 1 METHOD_LIMIT (length ms)) Limit ms)) (λ some. methods_after 0 [] ms) xs e in
+    let some = between-true 1 METHOD_LIMIT (length ms) (checked_ok (between 1 METHOD_LIMIT (length ms)) Limit ms a.0 (after_ok 0 (checked (between 1 METHOD_LIMIT (length ms)) Limit ms) a.0 a.1)).0 in
     let all = methods_pass 0 [] ms xs fit a.2 in
     record { some = some.0; limit = some.1; methods = all.0; names = rises_on [] ms all.1 }
 

@@ -23,6 +23,7 @@ use Rattle.bpf_decode.specs.Limits.{between, is_name_byte, are_name_bytes}
 use Rattle.bpf_decode.specs.ImageReading.{is_above, byte_at, number_at, bytes_at, name_at, flags_at, capacity_at, code_at}
 use Rattle.bpf_decode.proofs.Bytes.{IsBytes, IsBytes-drop, IsBytes-take, IsBytes-rest, bind_ok, checked_ok, both_true}
 use Rattle.bpf_decode.proofs.CodeLaws.{length-spelling, code_takes, code_again}
+use Rattle.bpf_decode.specs.declared.limits.TheConstants.{NAME_LIMIT, CAPACITY_LIMIT, SLOT_LIMIT}
 
 -- what a reader took from the front
 pub record Takes (bytes text rest : List ℕ) : Type 0 where
@@ -150,18 +151,18 @@ above_again before name e = ap is_lt e
 -- a name within the limits, above the one before it
 pub record IsNameAfter (before name : List ℕ) : Type 0 where
   pub named : 1 ≤ length name
-  pub short : length name ≤ 64
+  pub short : length name ≤ NAME_LIMIT
   pub letters : AllByRecursion IsNameByte name
   pub above : slice_cmp nat_cmp before name ≡ Less
 
 pub name_takes : (before bytes name rest : List ℕ) → IsBytes bytes → name_at before bytes ≡ Ok (name, rest) → Takes bytes (length name ∷ name) rest × IsNameAfter before name
 unfolding name_at
 name_takes before bytes name rest fits e =
-    let a = bind_ok (byte_at bytes) (λ n. checked (between 1 64 n.0) Name n >>= λ sized. bytes_at n.0 n.1 >>= λ x. checked (are_name_bytes x.0) Name x >>= λ lettered. checked (is_above before x.0) Order x) (name, rest) e in
+    let a = bind_ok (byte_at bytes) (λ n. checked (between 1 NAME_LIMIT n.0) Name n >>= λ sized. bytes_at n.0 n.1 >>= λ x. checked (are_name_bytes x.0) Name x >>= λ lettered. checked (is_above before x.0) Order x) (name, rest) e in
     let n = a.0.0 in
     let t = byte_takes bytes n a.0.1 fits a.1 in
-    let b = bind_ok (checked (between 1 64 n) Name a.0) (λ sized. bytes_at n a.0.1 >>= λ x. checked (are_name_bytes x.0) Name x >>= λ lettered. checked (is_above before x.0) Order x) (name, rest) a.2 in
-    let sized = between-true 1 64 n (checked_ok (between 1 64 n) Name a.0 b.0 b.1).0 in
+    let b = bind_ok (checked (between 1 NAME_LIMIT n) Name a.0) (λ sized. bytes_at n a.0.1 >>= λ x. checked (are_name_bytes x.0) Name x >>= λ lettered. checked (is_above before x.0) Order x) (name, rest) a.2 in
+    let sized = between-true 1 NAME_LIMIT n (checked_ok (between 1 NAME_LIMIT n) Name a.0 b.0 b.1).0 in
     let c = bind_ok (bytes_at n a.0.1) (λ x. checked (are_name_bytes x.0) Name x >>= λ lettered. checked (is_above before x.0) Order x) (name, rest) b.2 in
     let x = c.0.0 in
     let u = bytes_take n a.0.1 x c.0.1 t.0.rest_fits c.1 in
@@ -178,7 +179,7 @@ unfolding name_at
 name_again before name rest h =
     let first : ℕ × List ℕ = (length name, name ++ rest) in
     let second : List ℕ × List ℕ = (name, rest) in
-    ap (λ (b : Bool). checked b Name first >>= λ sized. bytes_at (length name) (name ++ rest) >>= λ x. checked (are_name_bytes x.0) Name x >>= λ lettered. checked (is_above before x.0) Order x) (between-is 1 64 (length name) h.named h.short)
+    ap (λ (b : Bool). checked b Name first >>= λ sized. bytes_at (length name) (name ++ rest) >>= λ x. checked (are_name_bytes x.0) Name x >>= λ lettered. checked (is_above before x.0) Order x) (between-is 1 NAME_LIMIT (length name) h.named h.short)
     ∙ ap (λ (r : Result (List ℕ × List ℕ) DecodeError). r >>= λ x. checked (are_name_bytes x.0) Name x >>= λ lettered. checked (is_above before x.0) Order x) (bytes_again (length name) name rest refl)
     ∙ ap (λ (b : Bool). checked b Name second >>= λ lettered. checked (is_above before name) Order second) (letters_again name h.letters)
     ∙ ap (λ (b : Bool). checked b Order second) (above_again before name h.above)
@@ -199,26 +200,26 @@ pub flags_again : (flags : ℕ) (rest : List ℕ) → 1 ≤ flags → flags ≤ 
 unfolding flags_at
 flags_again flags rest h k = ap (λ (b : Bool). checked b Flags (flags, rest)) (between-is 1 3 flags h k)
 
-pub capacity_takes : (bytes : List ℕ) (n : ℕ) (rest : List ℕ) → IsBytes bytes → capacity_at bytes ≡ Ok (n, rest) → Takes bytes (little_bytes 2 n) rest × (n ≤ 4096)
+pub capacity_takes : (bytes : List ℕ) (n : ℕ) (rest : List ℕ) → IsBytes bytes → capacity_at bytes ≡ Ok (n, rest) → Takes bytes (little_bytes 2 n) rest × (n ≤ CAPACITY_LIMIT)
 unfolding capacity_at
 capacity_takes bytes n rest fits e =
-    let a = bind_ok (number_at bytes) (λ n. checked (between 0 4096 n.0) Limit n) (n, rest) e in
+    let a = bind_ok (number_at bytes) (λ n. checked (between 0 CAPACITY_LIMIT n.0) Limit n) (n, rest) e in
     let t = number_takes bytes a.0.0 a.0.1 fits a.1 in
-    let last = tested (between 0 4096 a.0.0) Limit a.0.0 n a.0.1 rest a.2 in
-    let known = between-true 0 4096 a.0.0 last.0 in
+    let last = tested (between 0 CAPACITY_LIMIT a.0.0) Limit a.0.0 n a.0.1 rest a.2 in
+    let known = between-true 0 CAPACITY_LIMIT a.0.0 last.0 in
     let here : Takes bytes (little_bytes 2 a.0.0) rest = subst (λ (r : List ℕ). Takes bytes (little_bytes 2 a.0.0) r) last.2 t.0 in
     (subst (λ (m : ℕ). Takes bytes (little_bytes 2 m) rest) last.1 here, omega (arith, known.1, last.1))
 
-pub capacity_again : (n : ℕ) (rest : List ℕ) → n ≤ 4096 → capacity_at (little_bytes 2 n ++ rest) ≡ Ok (n, rest)
+pub capacity_again : (n : ℕ) (rest : List ℕ) → n ≤ CAPACITY_LIMIT → capacity_at (little_bytes 2 n ++ rest) ≡ Ok (n, rest)
 unfolding capacity_at
 capacity_again n rest h =
-    ap (λ (r : Result (ℕ × List ℕ) DecodeError). r >>= λ n. checked (between 0 4096 n.0) Limit n) (number_again n rest (omega arith))
-    ∙ ap (λ (b : Bool). checked b Limit (n, rest)) (between-is 0 4096 n (omega arith) h)
+    ap (λ (r : Result (ℕ × List ℕ) DecodeError). r >>= λ n. checked (between 0 CAPACITY_LIMIT n.0) Limit n) (number_again n rest (omega arith))
+    ∙ ap (λ (b : Bool). checked b Limit (n, rest)) (between-is 0 CAPACITY_LIMIT n (omega arith) h)
 
 -- code behind its number of slots
 pub record IsCodeField (is : List Insn) : Type 0 where
   pub some : 1 ≤ slot_total is
-  pub few : slot_total is ≤ 4096
+  pub few : slot_total is ≤ SLOT_LIMIT
   pub fit : AllFit is
 
 abbrev pub code_field : List Insn → List ℕ
@@ -227,11 +228,11 @@ code_field is = little_bytes 2 (slot_total is) ++ spelling is
 pub code_field_takes : (bytes : List ℕ) (is : List Insn) (rest : List ℕ) → IsBytes bytes → code_at bytes ≡ Ok (is, rest) → Takes bytes (code_field is) rest × IsCodeField is
 unfolding code_at
 code_field_takes bytes is rest fits e =
-    let a = bind_ok (number_at bytes) (λ n. checked (between 1 4096 n.0) Limit n >>= λ some. bytes_at (8 * n.0) n.1 >>= λ code. code_of code.0 >>= λ js. Ok (js, code.1)) (is, rest) e in
+    let a = bind_ok (number_at bytes) (λ n. checked (between 1 SLOT_LIMIT n.0) Limit n >>= λ some. bytes_at (8 * n.0) n.1 >>= λ code. code_of code.0 >>= λ js. Ok (js, code.1)) (is, rest) e in
     let n = a.0.0 in
     let t = number_takes bytes n a.0.1 fits a.1 in
-    let b = bind_ok (checked (between 1 4096 n) Limit a.0) (λ some. bytes_at (8 * n) a.0.1 >>= λ code. code_of code.0 >>= λ js. Ok (js, code.1)) (is, rest) a.2 in
-    let known = between-true 1 4096 n (checked_ok (between 1 4096 n) Limit a.0 b.0 b.1).0 in
+    let b = bind_ok (checked (between 1 SLOT_LIMIT n) Limit a.0) (λ some. bytes_at (8 * n) a.0.1 >>= λ code. code_of code.0 >>= λ js. Ok (js, code.1)) (is, rest) a.2 in
+    let known = between-true 1 SLOT_LIMIT n (checked_ok (between 1 SLOT_LIMIT n) Limit a.0 b.0 b.1).0 in
     let c = bind_ok (bytes_at (8 * n) a.0.1) (λ code. code_of code.0 >>= λ js. Ok (js, code.1)) (is, rest) b.2 in
     let code = c.0.0 in
     let u = bytes_take (8 * n) a.0.1 code c.0.1 t.0.rest_fits c.1 in
@@ -251,8 +252,8 @@ unfolding code_at
 code_field_again is rest h =
     let n = slot_total is in
     let first : ℕ × List ℕ = (n, spelling is ++ rest) in
-    ap (λ (r : Result (ℕ × List ℕ) DecodeError). r >>= λ n. checked (between 1 4096 n.0) Limit n >>= λ some. bytes_at (8 * n.0) n.1 >>= λ code. code_of code.0 >>= λ js. Ok (js, code.1)) (number_again n (spelling is ++ rest) (omega (arith, h.few)))
-    ∙ ap (λ (b : Bool). checked b Limit first >>= λ some. bytes_at (8 * n) (spelling is ++ rest) >>= λ code. code_of code.0 >>= λ js. Ok (js, code.1)) (between-is 1 4096 n h.some h.few)
+    ap (λ (r : Result (ℕ × List ℕ) DecodeError). r >>= λ n. checked (between 1 SLOT_LIMIT n.0) Limit n >>= λ some. bytes_at (8 * n.0) n.1 >>= λ code. code_of code.0 >>= λ js. Ok (js, code.1)) (number_again n (spelling is ++ rest) (omega (arith, h.few)))
+    ∙ ap (λ (b : Bool). checked b Limit first >>= λ some. bytes_at (8 * n) (spelling is ++ rest) >>= λ code. code_of code.0 >>= λ js. Ok (js, code.1)) (between-is 1 SLOT_LIMIT n h.some h.few)
     ∙ ap (λ (r : Result (List ℕ × List ℕ) DecodeError). r >>= λ code. code_of code.0 >>= λ js. Ok (js, code.1)) (bytes_again (8 * n) (spelling is) rest (length-spelling is))
     ∙ ap (λ (r : Result (List Insn) DecodeError). r >>= λ js. Ok (js, rest)) (code_again is h.fit)
 

@@ -23,6 +23,7 @@ use Rattle.bpf_decode.specs.ImageReading.{GivesImage, after, name_at, flags_at, 
 use Rattle.bpf_decode.proofs.Bytes.{IsBytes, bind_ok, checked_ok}
 use Rattle.bpf_decode.specs.Limits.{between}
 use Rattle.bpf_decode.proofs.ImageFields.{Takes, Takes-then, ok_is, same_value, between-true, between-is, number_takes, number_again, bytes_take, bytes_again, name_takes, name_again, flags_take, flags_again, capacity_takes, capacity_again, IsCodeField, code_field, code_field_takes, code_field_again}
+use Rattle.bpf_decode.specs.declared.limits.TheConstants.{METHOD_LIMIT}
 
 -- ---- a method
 
@@ -188,12 +189,12 @@ same_header bytes k h behind rest same end taken = subst (λ (j : Header). Takes
 pub header_takes : (bytes : List ℕ) (h : Header) (rest : List ℕ) → IsBytes bytes → header_at bytes ≡ Ok (h, rest) → Takes bytes (header_bytes h) rest × (1 ≤ h.count) × (h.count ≤ 32)
 unfolding header_at
 header_takes bytes h rest fits e =
-    let a = bind_ok (rules_at bytes) (λ rules. number_at rules.1 >>= λ count. checked (between 1 32 count.0) Limit count >>= λ some. number_at count.1 >>= λ none. checked (none.0 == 0) Magic none >>= λ nothing. Ok (header rules.0 count.0, none.1)) (h, rest) e in
+    let a = bind_ok (rules_at bytes) (λ rules. number_at rules.1 >>= λ count. checked (between 1 METHOD_LIMIT count.0) Limit count >>= λ some. number_at count.1 >>= λ none. checked (none.0 == 0) Magic none >>= λ nothing. Ok (header rules.0 count.0, none.1)) (h, rest) e in
     let t0 = rules_take bytes a.0.0 a.0.1 fits a.1 in
-    let c = bind_ok (number_at a.0.1) (λ count. checked (between 1 32 count.0) Limit count >>= λ some. number_at count.1 >>= λ none. checked (none.0 == 0) Magic none >>= λ nothing. Ok (header a.0.0 count.0, none.1)) (h, rest) a.2 in
+    let c = bind_ok (number_at a.0.1) (λ count. checked (between 1 METHOD_LIMIT count.0) Limit count >>= λ some. number_at count.1 >>= λ none. checked (none.0 == 0) Magic none >>= λ nothing. Ok (header a.0.0 count.0, none.1)) (h, rest) a.2 in
     let t1 = number_takes a.0.1 c.0.0 c.0.1 t0.rest_fits c.1 in
-    let d = bind_ok (checked (between 1 32 c.0.0) Limit c.0) (λ some. number_at c.0.1 >>= λ none. checked (none.0 == 0) Magic none >>= λ nothing. Ok (header a.0.0 c.0.0, none.1)) (h, rest) c.2 in
-    let some = between-true 1 32 c.0.0 (checked_ok (between 1 32 c.0.0) Limit c.0 d.0 d.1).0 in
+    let d = bind_ok (checked (between 1 METHOD_LIMIT c.0.0) Limit c.0) (λ some. number_at c.0.1 >>= λ none. checked (none.0 == 0) Magic none >>= λ nothing. Ok (header a.0.0 c.0.0, none.1)) (h, rest) c.2 in
+    let some = between-true 1 METHOD_LIMIT c.0.0 (checked_ok (between 1 METHOD_LIMIT c.0.0) Limit c.0 d.0 d.1).0 in
     let f = bind_ok (number_at c.0.1) (λ none. checked (none.0 == 0) Magic none >>= λ nothing. Ok (header a.0.0 c.0.0, none.1)) (h, rest) d.2 in
     let t2 = number_takes c.0.1 f.0.0 f.0.1 t1.0.rest_fits f.1 in
     let g = bind_ok (checked (f.0.0 == 0) Magic f.0) (λ nothing. Ok (header a.0.0 c.0.0, f.0.1)) (h, rest) f.2 in
@@ -205,14 +206,14 @@ header_takes bytes h rest fits e =
     let counted : c.0.0 ≡ h.count = ap (λ (x : Header). x.count) last.0 in
     (same_header bytes (header a.0.0 c.0.0) h f.0.1 rest last.0 last.1 e02, omega (arith, some.0, counted), omega (arith, some.1, counted))
 
-pub header_again : (rules : RuleSet) (n : ℕ) (rest : List ℕ) → 1 ≤ n → n ≤ 32 → header_at (magic rules ++ (little_bytes 2 n ++ (0 ∷ 0 ∷ rest))) ≡ Ok (header rules n, rest)
+pub header_again : (rules : RuleSet) (n : ℕ) (rest : List ℕ) → 1 ≤ n → n ≤ METHOD_LIMIT → header_at (magic rules ++ (little_bytes 2 n ++ (0 ∷ 0 ∷ rest))) ≡ Ok (header rules n, rest)
 unfolding header_at
 header_again rules n rest h k =
     let behind : List ℕ = little_bytes 2 n ++ (0 ∷ 0 ∷ rest) in
     let counted : ℕ × List ℕ = (n, 0 ∷ 0 ∷ rest) in
-    ap (λ (r : Result (RuleSet × List ℕ) DecodeError). r >>= λ rules. number_at rules.1 >>= λ count. checked (between 1 32 count.0) Limit count >>= λ some. number_at count.1 >>= λ none. checked (none.0 == 0) Magic none >>= λ nothing. Ok (header rules.0 count.0, none.1)) (rules_again rules behind)
-    ∙ ap (λ (r : Result (ℕ × List ℕ) DecodeError). r >>= λ count. checked (between 1 32 count.0) Limit count >>= λ some. number_at count.1 >>= λ none. checked (none.0 == 0) Magic none >>= λ nothing. Ok (header rules count.0, none.1)) (number_again n (0 ∷ 0 ∷ rest) (omega arith))
-    ∙ ap (λ (b : Bool). checked b Limit counted >>= λ some. number_at (0 ∷ 0 ∷ rest) >>= λ none. checked (none.0 == 0) Magic none >>= λ nothing. Ok (header rules n, none.1)) (between-is 1 32 n h k)
+    ap (λ (r : Result (RuleSet × List ℕ) DecodeError). r >>= λ rules. number_at rules.1 >>= λ count. checked (between 1 METHOD_LIMIT count.0) Limit count >>= λ some. number_at count.1 >>= λ none. checked (none.0 == 0) Magic none >>= λ nothing. Ok (header rules.0 count.0, none.1)) (rules_again rules behind)
+    ∙ ap (λ (r : Result (ℕ × List ℕ) DecodeError). r >>= λ count. checked (between 1 METHOD_LIMIT count.0) Limit count >>= λ some. number_at count.1 >>= λ none. checked (none.0 == 0) Magic none >>= λ nothing. Ok (header rules count.0, none.1)) (number_again n (0 ∷ 0 ∷ rest) (omega arith))
+    ∙ ap (λ (b : Bool). checked b Limit counted >>= λ some. number_at (0 ∷ 0 ∷ rest) >>= λ none. checked (none.0 == 0) Magic none >>= λ nothing. Ok (header rules n, none.1)) (between-is 1 METHOD_LIMIT n h k)
     ∙ ap (λ (r : Result (ℕ × List ℕ) DecodeError). r >>= λ none. checked (none.0 == 0) Magic none >>= λ nothing. Ok (header rules n, none.1)) (number_again 0 rest (omega arith))
 
 abbrev class_with : RuleSet → List ClassMethod → Class

@@ -13,10 +13,10 @@ use Rattle.bpf_decode.specs.declared.decode_error.DecodeError.TheVariants as err
 use Rattle.bpf_decode.specs.declared.insn.Operand.TheVariants.{Immediate, Register}
 use Rattle.bpf_decode.specs.declared.insn.Insn.{Insn}
 use Rattle.bpf_decode.specs.declared.insn.Insn.TheVariants as insns
-use Rattle.bpf_decode.specs.declared.row.Row.{Row}
-use Rattle.bpf_decode.specs.declared.row.Row.TheVariants.{AluImmediate, AluRegister, Neg, MovImmediate, MovRegister, End, Wide, Load, LoadSigned, StoreImmediate, StoreRegister, Jump, JumpLong, BranchImmediate, BranchRegister, Call, Exit}
-use Rattle.bpf_decode.specs.declared.operation.Bits.{Bits}
-use Rattle.bpf_decode.specs.declared.operation.Bits.TheVariants.{Bits32, Bits64}
+use Rattle.bpf_decode.specs.declared.row.OpcodeRow.{OpcodeRow}
+use Rattle.bpf_decode.specs.declared.row.OpcodeRow.TheVariants.{AluImmediate, AluRegister, Neg, MovImmediate, MovRegister, End, Wide, Load, LoadSigned, StoreImmediate, StoreRegister, Jump, JumpLong, BranchImmediate, BranchRegister, Call, Exit}
+use Rattle.bpf_decode.specs.declared.operation.OpWidth.{OpWidth}
+use Rattle.bpf_decode.specs.declared.operation.OpWidth.TheVariants.{Bits32, Bits64}
 use Rattle.bpf_decode.specs.declared.operation.Arithmetic.{Arithmetic}
 use Rattle.bpf_decode.specs.declared.operation.Arithmetic.TheVariants.{Add, Sub, Mul, Div, SignedDiv, Or, And, Lsh, Rsh, Mod, SignedMod, Xor, Arsh}
 use Rattle.bpf_decode.specs.Opcodes.{offset_selects, selected, imm_selects, end_width_of, move_selects, signed_move_of}
@@ -175,7 +175,7 @@ imm_kept imm h =
       ]
     ]
 
-move_kept : (bits : Bits) (offset : ℕ) → move_selects bits offset ≡ true → (signed_move_bits (signed_move_of bits offset) ≡ bits) × (signed_move_offset (signed_move_of bits offset) ≡ offset)
+move_kept : (bits : OpWidth) (offset : ℕ) → move_selects bits offset ≡ true → (signed_move_bits (signed_move_of bits offset) ≡ bits) × (signed_move_offset (signed_move_of bits offset) ≡ offset)
 move_kept Bits64 offset h =
     elim (cases_Bool (offset == 8)) as (λ _. (signed_move_bits (signed_move_of Bits64 offset) ≡ Bits64) × (signed_move_offset (signed_move_of Bits64 offset) ≡ offset)) [
       | inl b ↦ subst (λ k. (signed_move_bits (signed_move_of Bits64 k) ≡ Bits64) × (signed_move_offset (signed_move_of Bits64 k) ≡ k)) (sym (eqb-true offset 8 b)) (refl, refl)
@@ -207,7 +207,7 @@ module _ (bytes : List ℕ) (f : Fields) (t : TakesSlot bytes f) (dst : f.dst �
         parts = t.parts ∙ ap (λ (x : List ℕ). x ++ drop 8 bytes) first ∙ ap (λ (x : List ℕ). first_slot ++ x) behind ∙ sym (append_assoc first_slot second_slot (drop 16 bytes));
       }
 
-  row_takes : (row : Row) (high : ℕ) → f.opcode ≡ opcode row → fields_allowed row f ≡ true → high_half row (drop 8 bytes) ≡ Some high → TakesInsn bytes (instruction row f high)
+  row_takes : (row : OpcodeRow) (high : ℕ) → f.opcode ≡ opcode row → fields_allowed row f ≡ true → high_half row (drop 8 bytes) ≡ Some high → TakesInsn bytes (instruction row f high)
   row_takes Jump high op allowed half =
       let a = both_true _ _ allowed in
       let b = both_true _ _ a.0 in

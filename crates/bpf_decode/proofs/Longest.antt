@@ -17,6 +17,7 @@ use Rattle.bpf_decode.specs.ImageReading.{is_above, after, byte_at, number_at, b
 use Rattle.bpf_decode.proofs.Bytes.{bind_ok, checked_ok}
 use Rattle.bpf_decode.proofs.ImageFields.{between-true, ok_is}
 use Rattle.bpf_decode.proofs.ImageLaws.{image_is}
+use Rattle.bpf_decode.specs.declared.limits.TheConstants.{METHOD_LIMIT, NAME_LIMIT, SLOT_LIMIT, IMAGE_LIMIT}
 
 -- what was read, with more bytes behind what is left
 abbrev longer : {A E : Type 0} → List ℕ → Result (A × List ℕ) E → Result (A × List ℕ) E
@@ -124,12 +125,22 @@ bytes_local n = record {
   few = λ front. cut_few n front (take n front) Truncated (nat_le n (length front)) (leb-true n (length front));
 }
 
-name_local : (before : List ℕ) → Local 65 (name_at before)
+-- the most bytes that a name, code and a method take, each with its length
+abbrev name_most : ℕ
+name_most = 1 + NAME_LIMIT
+
+abbrev code_most : ℕ
+code_most = 2 + 8 * SLOT_LIMIT
+
+abbrev method_most : ℕ
+method_most = name_most + (5 + code_most)
+
+name_local : (before : List ℕ) → Local name_most (name_at before)
 unfolding name_at
 name_local before =
-    Local-then 1 64 byte_at (λ n. checked (is_name_length n.0) Name n >>= λ sized. bytes_at n.0 n.1 >>= λ name. checked (are_name_bytes name.0) Name name >>= λ lettered. checked (is_above before name.0) Order name) byte_local (λ n.
-    Local-checked 64 (is_name_length n) Name n (λ rest. bytes_at n rest >>= λ name. checked (are_name_bytes name.0) Name name >>= λ lettered. checked (is_above before name.0) Order name) (λ few.
-    Local-more (n + 0) 64 (λ rest. bytes_at n rest >>= λ name. checked (are_name_bytes name.0) Name name >>= λ lettered. checked (is_above before name.0) Order name) (omega (arith, (between-true 1 64 n few).1))
+    Local-then 1 NAME_LIMIT byte_at (λ n. checked (is_name_length n.0) Name n >>= λ sized. bytes_at n.0 n.1 >>= λ name. checked (are_name_bytes name.0) Name name >>= λ lettered. checked (is_above before name.0) Order name) byte_local (λ n.
+    Local-checked NAME_LIMIT (is_name_length n) Name n (λ rest. bytes_at n rest >>= λ name. checked (are_name_bytes name.0) Name name >>= λ lettered. checked (is_above before name.0) Order name) (λ few.
+    Local-more (n + 0) NAME_LIMIT (λ rest. bytes_at n rest >>= λ name. checked (are_name_bytes name.0) Name name >>= λ lettered. checked (is_above before name.0) Order name) (omega (arith, (between-true 1 NAME_LIMIT n few).1))
     (Local-then n 0 (bytes_at n) (λ name. checked (are_name_bytes name.0) Name name >>= λ lettered. checked (is_above before name.0) Order name) (bytes_local n) (λ name.
     Local-checked 0 (are_name_bytes name) Name name (λ rest. checked (is_above before name) Order (name, rest)) (λ _. Local-tested (is_above before name) Order name)))))
 
@@ -141,12 +152,12 @@ capacity_local : Local 2 capacity_at
 unfolding capacity_at
 capacity_local = Local-then 2 0 number_at (λ n. checked (is_capacity n.0) Limit n) number_local (λ n. Local-tested (is_capacity n) Limit n)
 
-code_local : Local 32770 code_at
+code_local : Local code_most code_at
 unfolding code_at
 code_local =
-    Local-then 2 32768 number_at (λ n. checked (is_slot_count n.0) Limit n >>= λ some. bytes_at (8 * n.0) n.1 >>= λ code. code_of code.0 >>= λ is. Ok (is, code.1)) number_local (λ n.
-    Local-checked 32768 (is_slot_count n) Limit n (λ rest. bytes_at (8 * n) rest >>= λ code. code_of code.0 >>= λ is. Ok (is, code.1)) (λ few.
-    Local-more (8 * n + 0) 32768 (λ rest. bytes_at (8 * n) rest >>= λ code. code_of code.0 >>= λ is. Ok (is, code.1)) (omega (arith, (between-true 1 4096 n few).1))
+    Local-then 2 (8 * SLOT_LIMIT) number_at (λ n. checked (is_slot_count n.0) Limit n >>= λ some. bytes_at (8 * n.0) n.1 >>= λ code. code_of code.0 >>= λ is. Ok (is, code.1)) number_local (λ n.
+    Local-checked (8 * SLOT_LIMIT) (is_slot_count n) Limit n (λ rest. bytes_at (8 * n) rest >>= λ code. code_of code.0 >>= λ is. Ok (is, code.1)) (λ few.
+    Local-more (8 * n + 0) (8 * SLOT_LIMIT) (λ rest. bytes_at (8 * n) rest >>= λ code. code_of code.0 >>= λ is. Ok (is, code.1)) (omega (arith, (between-true 1 SLOT_LIMIT n few).1))
     (Local-then (8 * n) 0 (bytes_at (8 * n)) (λ code. code_of code.0 >>= λ is. Ok (is, code.1)) (bytes_local (8 * n)) (λ code. Local-made (code_of code) (λ is. is)))))
 
 -- ---- a method, and the methods
@@ -154,14 +165,14 @@ code_local =
 abbrev made : List ℕ → ℕ → ℕ → ℕ → List Insn → ClassMethod
 made name flags in_cap out_cap is = record { name = name; flags = flags; in_cap = in_cap; out_cap = out_cap; instructions = is }
 
-method_local : (before : List ℕ) → Local 32840 (method_at before)
+method_local : (before : List ℕ) → Local method_most (method_at before)
 unfolding method_at
 method_local before =
-    Local-then 65 32775 (name_at before) (λ name. flags_at name.1 >>= λ flags. capacity_at flags.1 >>= λ in_cap. capacity_at in_cap.1 >>= λ out_cap. code_at out_cap.1 >>= λ code. Ok (made name.0 flags.0 in_cap.0 out_cap.0 code.0, code.1)) (name_local before) (λ name.
-    Local-then 1 32774 flags_at (λ flags. capacity_at flags.1 >>= λ in_cap. capacity_at in_cap.1 >>= λ out_cap. code_at out_cap.1 >>= λ code. Ok (made name flags.0 in_cap.0 out_cap.0 code.0, code.1)) flags_local (λ flags.
-    Local-then 2 32772 capacity_at (λ in_cap. capacity_at in_cap.1 >>= λ out_cap. code_at out_cap.1 >>= λ code. Ok (made name flags in_cap.0 out_cap.0 code.0, code.1)) capacity_local (λ in_cap.
-    Local-then 2 32770 capacity_at (λ out_cap. code_at out_cap.1 >>= λ code. Ok (made name flags in_cap out_cap.0 code.0, code.1)) capacity_local (λ out_cap.
-    Local-then 32770 0 code_at (λ code. Ok (made name flags in_cap out_cap code.0, code.1)) code_local (λ code. Local-ok (made name flags in_cap out_cap code))))))
+    Local-then name_most (5 + code_most) (name_at before) (λ name. flags_at name.1 >>= λ flags. capacity_at flags.1 >>= λ in_cap. capacity_at in_cap.1 >>= λ out_cap. code_at out_cap.1 >>= λ code. Ok (made name.0 flags.0 in_cap.0 out_cap.0 code.0, code.1)) (name_local before) (λ name.
+    Local-then 1 (4 + code_most) flags_at (λ flags. capacity_at flags.1 >>= λ in_cap. capacity_at in_cap.1 >>= λ out_cap. code_at out_cap.1 >>= λ code. Ok (made name flags.0 in_cap.0 out_cap.0 code.0, code.1)) flags_local (λ flags.
+    Local-then 2 (2 + code_most) capacity_at (λ in_cap. capacity_at in_cap.1 >>= λ out_cap. code_at out_cap.1 >>= λ code. Ok (made name flags in_cap.0 out_cap.0 code.0, code.1)) capacity_local (λ in_cap.
+    Local-then 2 code_most capacity_at (λ out_cap. code_at out_cap.1 >>= λ code. Ok (made name flags in_cap out_cap.0 code.0, code.1)) capacity_local (λ out_cap.
+    Local-then code_most 0 code_at (λ code. Ok (made name flags in_cap out_cap code.0, code.1)) code_local (λ code. Local-ok (made name flags in_cap out_cap code))))))
 
 after_same : {A : Type 0} (done : ℕ) (more : List ℕ) (read whole : Result (A × List ℕ) DecodeError) → whole ≡ longer more read → after done whole ≡ longer more (after done read)
 after_same done more (Ok x) whole e = rw e refl
@@ -177,13 +188,13 @@ Local-after done k read l = record {
   few = λ front. after_leaves done k front (read front) (l.few front);
 }
 
-methods_local : (n done : ℕ) (before : List ℕ) → Local (n * 32840) (methods_at n done before)
+methods_local : (n done : ℕ) (before : List ℕ) → Local (n * method_most) (methods_at n done before)
 unfolding methods_at
 methods_local zero done before = Local-ok []
 methods_local (suc n) done before =
-    Local-more (32840 + (n * 32840 + 0)) (suc n * 32840) (methods_at (suc n) done before) (omega arith)
-    (Local-then 32840 (n * 32840 + 0) (λ bytes. after done (method_at before bytes)) (λ first. methods_at n (done + 1) first.0.name first.1 >>= λ others. Ok (first.0 ∷ others.0, others.1)) (Local-after done 32840 (method_at before) (method_local before)) (λ first.
-    Local-then (n * 32840) 0 (methods_at n (done + 1) first.name) (λ others. Ok (first ∷ others.0, others.1)) (methods_local n (done + 1) first.name) (λ others. Local-ok (first ∷ others))))
+    Local-more (method_most + (n * method_most + 0)) (suc n * method_most) (methods_at (suc n) done before) (omega arith)
+    (Local-then method_most (n * method_most + 0) (λ bytes. after done (method_at before bytes)) (λ first. methods_at n (done + 1) first.0.name first.1 >>= λ others. Ok (first.0 ∷ others.0, others.1)) (Local-after done method_most (method_at before) (method_local before)) (λ first.
+    Local-then (n * method_most) 0 (methods_at n (done + 1) first.name) (λ others. Ok (first ∷ others.0, others.1)) (methods_local n (done + 1) first.name) (λ others. Local-ok (first ∷ others))))
 
 -- ---- the image
 
@@ -208,8 +219,8 @@ header_local : Local 8 header_at
 unfolding header_at
 header_local = Local-then 4 4 rules_at (λ rules. header_rest rules.0 rules.1) rules_local (λ rules. header_rest_local rules)
 
--- a header that is read has at most 32 methods
-header_few : (bytes : List ℕ) (h : Header × List ℕ) → header_at bytes ≡ Ok h → h.0.count ≤ 32
+-- a header that is read has at most `METHOD_LIMIT` methods
+header_few : (bytes : List ℕ) (h : Header × List ℕ) → header_at bytes ≡ Ok h → h.0.count ≤ METHOD_LIMIT
 unfolding header_at
 header_few bytes h e =
     let b = bind_ok (rules_at bytes) (λ rules. header_rest rules.0 rules.1) h e in
@@ -218,11 +229,11 @@ header_few bytes h e =
     let d = bind_ok (checked (is_method_count c.0.0) Limit c.0) (λ some. number_at c.0.1 >>= λ none. checked (none.0 == 0) Magic none >>= λ nothing. Ok (header rules c.0.0, none.1)) h c.2 in
     let f = bind_ok (number_at c.0.1) (λ none. checked (none.0 == 0) Magic none >>= λ nothing. Ok (header rules c.0.0, none.1)) h d.2 in
     let g = bind_ok (checked (f.0.0 == 0) Magic f.0) (λ nothing. Ok (header rules c.0.0, f.0.1)) h f.2 in
-    let few = (between-true 1 32 c.0.0 (checked_ok (is_method_count c.0.0) Limit c.0 d.0 d.1).0).1 in
+    let few = (between-true 1 METHOD_LIMIT c.0.0 (checked_ok (is_method_count c.0.0) Limit c.0 d.0 d.1).0).1 in
     let same : (header rules c.0.0, f.0.1) ≡ h = ok_is (header rules c.0.0, f.0.1) h g.2 in
     omega (arith, few, ap (λ (p : Header × List ℕ). p.0.count) same)
 
--- the end of an image, behind its methods
+-- the end of an image, after its methods
 abbrev at_end : Header → List ClassMethod × List ℕ → Result Class ImageError
 at_end h ms = after h.count (checked (length ms.1 == 0) Trailing (record { rules = h.rules; methods = ms.0 }))
 
@@ -239,25 +250,25 @@ methods_end : (h : Header) (k : ℕ) (front more : List ℕ) → k + 1 ≤ lengt
 methods_end h k front more long (Ok x) whole e l = rw e (end_same h x.0 x.1 more (omega (arith, long, l)))
 methods_end h k front more long (Err d) whole e l = rw e refl
 
-behind_header : (front more : List ℕ) → 1050889 ≤ length front → (read whole : Result (Header × List ℕ) DecodeError) → ((h : Header × List ℕ) → read ≡ Ok h → h.0.count ≤ 32) → whole ≡ longer more read → Leaves 8 front read → (after 0 whole >>= λ h. methods_at h.0.count 0 [] h.1 >>= at_end h.0) ≡ (after 0 read >>= λ h. methods_at h.0.count 0 [] h.1 >>= at_end h.0)
+behind_header : (front more : List ℕ) → IMAGE_LIMIT + 1 ≤ length front → (read whole : Result (Header × List ℕ) DecodeError) → ((h : Header × List ℕ) → read ≡ Ok h → h.0.count ≤ METHOD_LIMIT) → whole ≡ longer more read → Leaves 8 front read → (after 0 whole >>= λ h. methods_at h.0.count 0 [] h.1 >>= at_end h.0) ≡ (after 0 read >>= λ h. methods_at h.0.count 0 [] h.1 >>= at_end h.0)
 behind_header front more long (Ok h) whole few e l =
     let n = few h refl in
     let m = methods_local h.0.count 0 [] in
-    let rest : h.0.count * 32840 + 1 ≤ length h.1 = omega (arith, long, l, n) in
-    rw e (methods_end h.0 (h.0.count * 32840) h.1 more rest (methods_at h.0.count 0 [] h.1) (methods_at h.0.count 0 [] (h.1 ++ more)) (m.same h.1 more (omega (arith, rest))) (m.few h.1))
+    let rest : h.0.count * method_most + 1 ≤ length h.1 = omega (arith, long, l, n) in
+    rw e (methods_end h.0 (h.0.count * method_most) h.1 more rest (methods_at h.0.count 0 [] h.1) (methods_at h.0.count 0 [] (h.1 ++ more)) (m.same h.1 more (omega (arith, rest))) (m.few h.1))
 behind_header front more long (Err d) whole few e l = rw e refl
 
--- bytes behind the first 1,050,889 change no answer
-same_image : (front more : List ℕ) → 1050889 ≤ length front → image_of (front ++ more) ≡ image_of front
+-- bytes after the first `IMAGE_LIMIT + 1` change no answer
+same_image : (front more : List ℕ) → IMAGE_LIMIT + 1 ≤ length front → image_of (front ++ more) ≡ image_of front
 unfolding image_of
 same_image front more long =
     behind_header front more long (header_at front) (header_at (front ++ more)) (header_few front) (header_local.same front more (omega (arith, long))) (header_local.few front)
 
-pub image_of-take : (bytes : List ℕ) → image_of (take 1050889 bytes) ≡ image_of bytes
+pub image_of-take : (bytes : List ℕ) → image_of (take (IMAGE_LIMIT + 1) bytes) ≡ image_of bytes
 image_of-take bytes =
-    elim (cases_lt (length bytes) 1050889) [
-      | inl short ↦ ap image_of (take_all 1050889 bytes (omega (arith, short)))
-      | inr long ↦ sym (same_image (take 1050889 bytes) (drop 1050889 bytes) (omega (arith, long, length-take-le 1050889 bytes long))) ∙ ap image_of (take-append-drop 1050889 bytes)
+    elim (cases_lt (length bytes) (IMAGE_LIMIT + 1)) [
+      | inl short ↦ ap image_of (take_all (IMAGE_LIMIT + 1) bytes (omega (arith, short)))
+      | inr long ↦ sym (same_image (take (IMAGE_LIMIT + 1) bytes) (drop (IMAGE_LIMIT + 1) bytes) (omega (arith, long, length-take-le (IMAGE_LIMIT + 1) bytes long))) ∙ ap image_of (take-append-drop (IMAGE_LIMIT + 1) bytes)
     ]
 
 -- ---- an image is no longer
@@ -273,29 +284,29 @@ methods_refused : (h : Header) (k : ℕ) (front : List ℕ) (out : Class) (read 
 methods_refused h k front out (Ok x) long l e = end_refused h x.0 x.1 out (omega (arith, long, l)) e
 methods_refused h k front out (Err d) long l e = absurd cc
 
-header_refused : (front : List ℕ) (out : Class) (read : Result (Header × List ℕ) DecodeError) → 1050889 ≤ length front → ((h : Header × List ℕ) → read ≡ Ok h → h.0.count ≤ 32) → Leaves 8 front read → (after 0 read >>= λ h. methods_at h.0.count 0 [] h.1 >>= at_end h.0) ≡ Ok out → ⊥
+header_refused : (front : List ℕ) (out : Class) (read : Result (Header × List ℕ) DecodeError) → IMAGE_LIMIT + 1 ≤ length front → ((h : Header × List ℕ) → read ≡ Ok h → h.0.count ≤ METHOD_LIMIT) → Leaves 8 front read → (after 0 read >>= λ h. methods_at h.0.count 0 [] h.1 >>= at_end h.0) ≡ Ok out → ⊥
 header_refused front out (Ok h) long few l e =
     let n = few h refl in
-    methods_refused h.0 (h.0.count * 32840) h.1 out (methods_at h.0.count 0 [] h.1) (omega (arith, long, l, n)) ((methods_local h.0.count 0 []).few h.1) e
+    methods_refused h.0 (h.0.count * method_most) h.1 out (methods_at h.0.count 0 [] h.1) (omega (arith, long, l, n)) ((methods_local h.0.count 0 []).few h.1) e
 header_refused front out (Err d) long few l e = absurd cc
 
-refused : (bytes : List ℕ) (c : Class) → 1050889 ≤ length bytes → image_of bytes ≡ Ok c → ⊥
+refused : (bytes : List ℕ) (c : Class) → IMAGE_LIMIT + 1 ≤ length bytes → image_of bytes ≡ Ok c → ⊥
 unfolding image_of
 refused bytes c long e = header_refused bytes c (header_at bytes) long (header_few bytes) (header_local.few bytes) e
 
-pub length-image : (bytes : List ℕ) (c : Class) → IsImage bytes c → length bytes ≤ 1050888
+pub length-image : (bytes : List ℕ) (c : Class) → IsImage bytes c → length bytes ≤ IMAGE_LIMIT
 length-image bytes c i =
-    elim (cases_lt (length bytes) 1050889) [
+    elim (cases_lt (length bytes) (IMAGE_LIMIT + 1)) [
       | inl short ↦ omega (arith, short)
       | inr long ↦ absurd (refused bytes c long (image_is bytes c i))
     ]
 
--- the bytes are an image where their first 1,050,889 are
-take_whole : (bytes : List ℕ) (c : Class) → IsImage (take 1050889 bytes) c → take 1050889 bytes ≡ bytes
-take_whole bytes c i = take_all 1050889 bytes (omega (arith, length-take 1050889 bytes, length-image (take 1050889 bytes) c i))
+-- the bytes are an image where their first `IMAGE_LIMIT + 1` are
+take_whole : (bytes : List ℕ) (c : Class) → IsImage (take (IMAGE_LIMIT + 1) bytes) c → take (IMAGE_LIMIT + 1) bytes ≡ bytes
+take_whole bytes c i = take_all (IMAGE_LIMIT + 1) bytes (omega (arith, length-take (IMAGE_LIMIT + 1) bytes, length-image (take (IMAGE_LIMIT + 1) bytes) c i))
 
-pub IsImage-from_take : (bytes : List ℕ) (c : Class) → IsImage (take 1050889 bytes) c → IsImage bytes c
+pub IsImage-from_take : (bytes : List ℕ) (c : Class) → IsImage (take (IMAGE_LIMIT + 1) bytes) c → IsImage bytes c
 IsImage-from_take bytes c i = subst (λ (b : List ℕ). IsImage b c) (take_whole bytes c i) i
 
-pub IsImage-take : (bytes : List ℕ) (c : Class) → IsImage bytes c → IsImage (take 1050889 bytes) c
-IsImage-take bytes c i = subst (λ (b : List ℕ). IsImage b c) (sym (take_all 1050889 bytes (omega (arith, length-image bytes c i)))) i
+pub IsImage-take : (bytes : List ℕ) (c : Class) → IsImage bytes c → IsImage (take (IMAGE_LIMIT + 1) bytes) c
+IsImage-take bytes c i = subst (λ (b : List ℕ). IsImage b c) (sym (take_all (IMAGE_LIMIT + 1) bytes (omega (arith, length-image bytes c i)))) i

@@ -3,10 +3,10 @@ use Rattle.std.proofs.Common.{◌≡◌, ℕ, ◌+◌, ◌*◌, ◌/◌, ◌%◌
 use Rattle.std.specs.Prelude.{◌&&◌, ◌||◌, ◌==◌, option_map}
 use Rattle.std.specs.List.{find}
 use Rattle.std.proofs.lemmas.Bool.{eqb-true}
-use Rattle.bpf_decode.specs.declared.row.Row.{Row}
-use Rattle.bpf_decode.specs.declared.row.Row.TheVariants.{AluImmediate, AluRegister, Neg, MovImmediate, MovRegister, End, BranchImmediate, BranchRegister}
-use Rattle.bpf_decode.specs.declared.operation.Bits.{Bits}
-use Rattle.bpf_decode.specs.declared.operation.Bits.TheVariants.{Bits32, Bits64}
+use Rattle.bpf_decode.specs.declared.row.OpcodeRow.{OpcodeRow}
+use Rattle.bpf_decode.specs.declared.row.OpcodeRow.TheVariants.{AluImmediate, AluRegister, Neg, MovImmediate, MovRegister, End, BranchImmediate, BranchRegister}
+use Rattle.bpf_decode.specs.declared.operation.OpWidth.{OpWidth}
+use Rattle.bpf_decode.specs.declared.operation.OpWidth.TheVariants.{Bits32, Bits64}
 use Rattle.bpf_decode.specs.declared.operation.Arithmetic.{Arithmetic}
 use Rattle.bpf_decode.specs.declared.operation.Arithmetic.TheVariants.{Add, Sub, Mul, Div, Or, And, Lsh, Rsh, Mod, Xor, Arsh}
 use Rattle.bpf_decode.specs.declared.operation.ByteOrder.{ByteOrder}
@@ -18,17 +18,17 @@ use Rattle.std.proofs.lemmas.Bool.{eqb-false}
 use Rattle.bpf_decode.specs.Instruction.{alu_class, jump_class, operation_code, order_opcode, comparison_code}
 use Rattle.bpf_decode.specs.Table.{opcode, rows, other_row, alu_row, branch_row, row_of}
 
-head_or_tail : (test : Row → Bool) (y : Row) (ys : List Row) (x : Row) (b : Bool) → test y ≡ b → (find test ys ≡ Some x → test x ≡ true) → cond b (Some y) (find test ys) ≡ Some x → test x ≡ true
+head_or_tail : (test : OpcodeRow → Bool) (y : OpcodeRow) (ys : List OpcodeRow) (x : OpcodeRow) (b : Bool) → test y ≡ b → (find test ys ≡ Some x → test x ≡ true) → cond b (Some y) (find test ys) ≡ Some x → test x ≡ true
 head_or_tail test y ys x true t later e =
     let same : y ≡ x = cc in
-    subst (λ (z : Row). test z ≡ true) same t
+    subst (λ (z : OpcodeRow). test z ≡ true) same t
 head_or_tail test y ys x false t later e = later e
 
-find_true : (test : Row → Bool) (xs : List Row) (x : Row) → find test xs ≡ Some x → test x ≡ true
+find_true : (test : OpcodeRow → Bool) (xs : List OpcodeRow) (x : OpcodeRow) → find test xs ≡ Some x → test x ≡ true
 find_true test [] x e = absurd cc
 find_true test (y ∷ ys) x e = head_or_tail test y ys x (test y) refl (find_true test ys x) e
 
-row_opcode : (n : ℕ) (row : Row) → other_row n ≡ Some row → n ≡ opcode row
+row_opcode : (n : ℕ) (row : OpcodeRow) → other_row n ≡ Some row → n ≡ opcode row
 unfolding other_row
 row_opcode n row e = sym (eqb-true (opcode row) n (find_true (λ r. opcode r == n) rows row e))
 
@@ -38,11 +38,11 @@ by_if true x y z e f g = f refl e
 by_if false x y z e f g = g refl e
 
 -- a row that is one of a table's, and what it is made of
-made_of : {A : Type 0} (make : A → Row) (o : Option A) (row : Row) → option_map make o ≡ Some row → (x : A) × (o ≡ Some x) × (make x ≡ row)
+made_of : {A : Type 0} (make : A → OpcodeRow) (o : Option A) (row : OpcodeRow) → option_map make o ≡ Some row → (x : A) × (o ≡ Some x) × (make x ≡ row)
 made_of make None row e = absurd cc
 made_of make (Some x) row e = (x, refl, cc)
 
-some_row : (x y : Row) → Some x ≡ Some y → x ≡ y
+some_row : (x y : OpcodeRow) → Some x ≡ Some y → x ≡ y
 some_row x y e = cc
 
 some_operation : (x y : Arithmetic) → Some x ≡ Some y → x ≡ y
@@ -91,7 +91,7 @@ comparison_code_of code x e =
 one_bit : (source : ℕ) → source < 2 → (source == 0) ≡ false → source ≡ 1
 one_bit source h e = let n = eqb-false source 0 e in omega arith
 
-order_is : (bits : Bits) (source : ℕ) (order : ByteOrder) → source < 2 → order_of bits source ≡ Some order → order_opcode order ≡ alu_class bits + 8 * source + 0xd0
+order_is : (bits : OpWidth) (source : ℕ) (order : ByteOrder) → source < 2 → order_of bits source ≡ Some order → order_opcode order ≡ alu_class bits + 8 * source + 0xd0
 order_is Bits32 source order h e =
     by_if (source == 0) _ _ _ e (λ b g. ap order_opcode (sym (some_order ToLittle order g)) ∙ ap (λ k. 4 + 8 * k + 0xd0) (sym (eqb-true source 0 b)))
     (λ b g. ap order_opcode (sym (some_order ToBig order g)) ∙ ap (λ k. 4 + 8 * k + 0xd0) (sym (one_bit source h b)))
@@ -109,7 +109,7 @@ order_is Bits64 source order h e =
     none_order y e = absurd cc
 
 -- the opcode of a row of arithmetic, from its class, source bit and code
-alu_opcode : (bits : Bits) (source code : ℕ) (row : Row) → source < 2 → alu_row bits source code ≡ Some row → opcode row ≡ alu_class bits + 8 * source + 16 * code
+alu_opcode : (bits : OpWidth) (source code : ℕ) (row : OpcodeRow) → source < 2 → alu_row bits source code ≡ Some row → opcode row ≡ alu_class bits + 8 * source + 16 * code
 alu_opcode bits source code row h e =
     by_if (code == 0x8) _ _ _ e
     (λ b g. let k = eqb-true code 0x8 b in
@@ -125,10 +125,10 @@ alu_opcode bits source code row h e =
     (λ t g. let m = made_of (AluImmediate bits) (operation_of code) row g in ap opcode (sym m.2) ∙ omega (arith, operation_code_of code m.0 m.1, eqb-true source 0 t))
     (λ t g. let m = made_of (AluRegister bits) (operation_of code) row g in ap opcode (sym m.2) ∙ omega (arith, operation_code_of code m.0 m.1, one_bit source h t)))))
   where
-    none_row : (y : Row) → None ≡ Some y → ⊥
+    none_row : (y : OpcodeRow) → None ≡ Some y → ⊥
     none_row y e = cc
 
-branch_opcode : (bits : Bits) (source code : ℕ) (row : Row) → source < 2 → branch_row bits source code ≡ Some row → opcode row ≡ jump_class bits + 8 * source + 16 * code
+branch_opcode : (bits : OpWidth) (source code : ℕ) (row : OpcodeRow) → source < 2 → branch_row bits source code ≡ Some row → opcode row ≡ jump_class bits + 8 * source + 16 * code
 branch_opcode bits source code row h e =
     by_if (source == 0) _ _ _ e
     (λ t g. let m = made_of (BranchImmediate bits) (comparison_of code) row g in ap opcode (sym m.2) ∙ omega (arith, comparison_code_of code m.0 m.1, eqb-true source 0 t))
@@ -140,7 +140,7 @@ parts_of n class h = omega arith
 bit_of : (n : ℕ) → n / 8 % 2 < 2
 bit_of n = omega arith
 
-pub opcode_of : (n : ℕ) (row : Row) → row_of n ≡ Some row → n ≡ opcode row
+pub opcode_of : (n : ℕ) (row : OpcodeRow) → row_of n ≡ Some row → n ≡ opcode row
 opcode_of n row e =
     by_if (n % 8 == 4) _ _ _ e (λ b h. parts_of n 4 (eqb-true (n % 8) 4 b) ∙ sym (alu_opcode Bits32 (n / 8 % 2) (n / 16) row (bit_of n) h))
     (λ b1 e1. by_if (n % 8 == 7) _ _ _ e1 (λ b h. parts_of n 7 (eqb-true (n % 8) 7 b) ∙ sym (alu_opcode Bits64 (n / 8 % 2) (n / 16) row (bit_of n) h))

@@ -13,12 +13,12 @@ use Rattle.bpf_decode.specs.declared.insn.Operand.{Operand}
 use Rattle.bpf_decode.specs.declared.insn.Operand.TheVariants.{Immediate, Register}
 use Rattle.bpf_decode.specs.declared.insn.Insn.{Insn}
 use Rattle.bpf_decode.specs.declared.insn.Insn.TheVariants as insns
-use Rattle.bpf_decode.specs.declared.row.Row.{Row}
-use Rattle.bpf_decode.specs.declared.row.Row.TheVariants.{AluImmediate, AluRegister, Neg, MovImmediate, MovRegister, End, Wide, Load, LoadSigned, StoreImmediate, StoreRegister, Jump, JumpLong, BranchImmediate, BranchRegister, Call, Exit}
+use Rattle.bpf_decode.specs.declared.row.OpcodeRow.{OpcodeRow}
+use Rattle.bpf_decode.specs.declared.row.OpcodeRow.TheVariants.{AluImmediate, AluRegister, Neg, MovImmediate, MovRegister, End, Wide, Load, LoadSigned, StoreImmediate, StoreRegister, Jump, JumpLong, BranchImmediate, BranchRegister, Call, Exit}
 use Rattle.bpf_decode.specs.declared.access.Width.{Width}
 use Rattle.bpf_decode.specs.declared.access.SignedWidth.TheVariants as signed
-use Rattle.bpf_decode.specs.declared.operation.Bits.{Bits}
-use Rattle.bpf_decode.specs.declared.operation.Bits.TheVariants.{Bits32, Bits64}
+use Rattle.bpf_decode.specs.declared.operation.OpWidth.{OpWidth}
+use Rattle.bpf_decode.specs.declared.operation.OpWidth.TheVariants.{Bits32, Bits64}
 use Rattle.bpf_decode.specs.declared.operation.Arithmetic.{Arithmetic}
 use Rattle.bpf_decode.specs.declared.operation.Arithmetic.TheVariants.{Add, Sub, Mul, Div, SignedDiv, Or, And, Lsh, Rsh, Mod, SignedMod, Xor, Arsh}
 use Rattle.bpf_decode.specs.declared.operation.SignedMove.{SignedMove}
@@ -37,22 +37,22 @@ use Rattle.bpf_decode.specs.Reading.{◌>>=◌, checked, are_registers, insn_at}
 use Rattle.bpf_decode.proofs.Bytes.{fields_are, fields_of-slot}
 
 -- the steps of reading an instruction, from what each step gives
-abbrev pub by_half : ℕ → Fields → Row → Option ℕ → Result Insn DecodeError
+abbrev pub by_half : ℕ → Fields → OpcodeRow → Option ℕ → Result Insn DecodeError
 by_half n f row o = ok_or o (errors.WideHalf n) >>= λ high. Ok (instruction row f high)
 
-abbrev pub by_allowed : ℕ → Fields → Row → List ℕ → Bool → Result Insn DecodeError
+abbrev pub by_allowed : ℕ → Fields → OpcodeRow → List ℕ → Bool → Result Insn DecodeError
 by_allowed n f row behind b = checked b (errors.NonzeroField n) f >>= λ h. by_half n f row (high_half row behind)
 
-abbrev pub by_registers : ℕ → Fields → Row → List ℕ → Bool → Result Insn DecodeError
+abbrev pub by_registers : ℕ → Fields → OpcodeRow → List ℕ → Bool → Result Insn DecodeError
 by_registers n f row behind b = checked b (errors.Register n) f >>= λ g. by_allowed n f row behind (fields_allowed row f)
 
-abbrev pub by_row : ℕ → Fields → List ℕ → Option Row → Result Insn DecodeError
+abbrev pub by_row : ℕ → Fields → List ℕ → Option OpcodeRow → Result Insn DecodeError
 by_row n f behind o = ok_or o (errors.Opcode n) >>= λ row. by_registers n f row behind (are_registers f)
 
 abbrev by_fields : ℕ → List ℕ → Option Fields → Result Insn DecodeError
 by_fields n behind o = ok_or o errors.Truncated >>= λ f. by_row n f behind (row_of f.opcode)
 
-pub insn_by : (n op d s o k : ℕ) (rest : List ℕ) (row : Row) (high : ℕ) → d ≤ 10 → s ≤ 10 → row_of op ≡ Some row → fields_allowed row (fields_are op d s o k) ≡ true → high_half row rest ≡ Some high
+pub insn_by : (n op d s o k : ℕ) (rest : List ℕ) (row : OpcodeRow) (high : ℕ) → d ≤ 10 → s ≤ 10 → row_of op ≡ Some row → fields_allowed row (fields_are op d s o k) ≡ true → high_half row rest ≡ Some high
     → insn_at n (slot op d s o k ++ rest) ≡ Ok (instruction row (fields_are op d s o k) high)
 unfolding insn_at
 insn_by n op d s o k rest row high hd hs found allowed half =
@@ -74,7 +74,7 @@ low_and_high : (v : ℕ) → v % 2 ^ 32 + v / 2 ^ 32 * 2 ^ 32 ≡ v
 low_and_high v = omega arith
 
 -- a row with an opcode of its own
-abbrev IsOther : Row → Type 0
+abbrev IsOther : OpcodeRow → Type 0
 IsOther (AluImmediate bits operation) = ⊥
 IsOther (AluRegister bits operation) = ⊥
 IsOther (BranchImmediate bits comparison) = ⊥
@@ -87,7 +87,7 @@ base SignedDiv = Div
 base SignedMod = Mod
 base operation = operation
 
-alu_imm_row : (bits : Bits) (operation : Arithmetic) → row_of (alu_class bits + 16 * operation_code operation) ≡ Some (AluImmediate bits (base operation))
+alu_imm_row : (bits : OpWidth) (operation : Arithmetic) → row_of (alu_class bits + 16 * operation_code operation) ≡ Some (AluImmediate bits (base operation))
 alu_imm_row Bits32 Add = refl
 alu_imm_row Bits32 Sub = refl
 alu_imm_row Bits32 Mul = refl
@@ -115,7 +115,7 @@ alu_imm_row Bits64 SignedMod = refl
 alu_imm_row Bits64 Xor = refl
 alu_imm_row Bits64 Arsh = refl
 
-alu_reg_row : (bits : Bits) (operation : Arithmetic) → row_of (alu_class bits + 8 + 16 * operation_code operation) ≡ Some (AluRegister bits (base operation))
+alu_reg_row : (bits : OpWidth) (operation : Arithmetic) → row_of (alu_class bits + 8 + 16 * operation_code operation) ≡ Some (AluRegister bits (base operation))
 alu_reg_row Bits32 Add = refl
 alu_reg_row Bits32 Sub = refl
 alu_reg_row Bits32 Mul = refl
@@ -143,7 +143,7 @@ alu_reg_row Bits64 SignedMod = refl
 alu_reg_row Bits64 Xor = refl
 alu_reg_row Bits64 Arsh = refl
 
-branch_imm_row : (bits : Bits) (comparison : Comparison) → row_of (jump_class bits + 16 * comparison_code comparison) ≡ Some (BranchImmediate bits comparison)
+branch_imm_row : (bits : OpWidth) (comparison : Comparison) → row_of (jump_class bits + 16 * comparison_code comparison) ≡ Some (BranchImmediate bits comparison)
 branch_imm_row Bits32 Equal = refl
 branch_imm_row Bits32 Greater = refl
 branch_imm_row Bits32 GreaterEqual = refl
@@ -167,7 +167,7 @@ branch_imm_row Bits64 LessEqual = refl
 branch_imm_row Bits64 SignedLess = refl
 branch_imm_row Bits64 SignedLessEqual = refl
 
-branch_reg_row : (bits : Bits) (comparison : Comparison) → row_of (jump_class bits + 8 + 16 * comparison_code comparison) ≡ Some (BranchRegister bits comparison)
+branch_reg_row : (bits : OpWidth) (comparison : Comparison) → row_of (jump_class bits + 8 + 16 * comparison_code comparison) ≡ Some (BranchRegister bits comparison)
 branch_reg_row Bits32 Equal = refl
 branch_reg_row Bits32 Greater = refl
 branch_reg_row Bits32 GreaterEqual = refl
@@ -192,7 +192,7 @@ branch_reg_row Bits64 SignedLess = refl
 branch_reg_row Bits64 SignedLessEqual = refl
 
 -- the other rows
-other_row_is : (row : Row) → IsOther row → row_of (opcode row) ≡ Some row
+other_row_is : (row : OpcodeRow) → IsOther row → row_of (opcode row) ≡ Some row
 unfolding other_row
 other_row_is (Neg Bits32) o = refl
 other_row_is (Neg Bits64) o = refl
@@ -229,7 +229,7 @@ other_row_is (BranchImmediate bits comparison) o = absurd o
 other_row_is (BranchRegister bits comparison) o = absurd o
 
 -- every row is found by its opcode
-pub row_found : (row : Row) → IsSome (row_of (opcode row))
+pub row_found : (row : OpcodeRow) → IsSome (row_of (opcode row))
 row_found (AluImmediate bits operation) = rw (alu_imm_row bits operation)
 row_found (AluRegister bits operation) = rw (alu_reg_row bits operation)
 row_found (BranchImmediate bits comparison) = rw (branch_imm_row bits comparison)
@@ -271,7 +271,7 @@ own_move Word64 = refl
 own_move Byte32 = refl
 own_move Half32 = refl
 
-alu_again : (n : ℕ) (bits : Bits) (operation : Arithmetic) (dst : ℕ) (source : Operand) (rest : List ℕ) → dst ≤ 10 → OperandFits source → insn_at n (bytes_of (insns.Alu bits operation dst source) ++ rest) ≡ Ok (insns.Alu bits operation dst source)
+alu_again : (n : ℕ) (bits : OpWidth) (operation : Arithmetic) (dst : ℕ) (source : Operand) (rest : List ℕ) → dst ≤ 10 → OperandFits source → insn_at n (bytes_of (insns.Alu bits operation dst source) ++ rest) ≡ Ok (insns.Alu bits operation dst source)
 alu_again n bits operation dst (Immediate imm) rest d h =
     insn_by n (alu_class bits + 16 * operation_code operation) dst 0 (operation_offset operation) (imm_field imm) rest (AluImmediate bits (base operation)) 0 d (omega arith) (alu_imm_row bits operation) (own_offset operation).0 refl
     ∙ ap (λ (o : Arithmetic). Ok (insns.Alu bits o dst (Immediate (cast_signed w32 (imm_field imm))))) (own_offset operation).1
@@ -280,7 +280,7 @@ alu_again n bits operation dst (Register src) rest d h =
     insn_by n (alu_class bits + 8 + 16 * operation_code operation) dst src (operation_offset operation) 0 rest (AluRegister bits (base operation)) 0 d h (alu_reg_row bits operation) (own_offset operation).0 refl
     ∙ ap (λ (o : Arithmetic). Ok (insns.Alu bits o dst (Register src))) (own_offset operation).1
 
-mov_again : (n : ℕ) (bits : Bits) (dst : ℕ) (source : Operand) (rest : List ℕ) → dst ≤ 10 → OperandFits source → insn_at n (bytes_of (insns.Mov bits dst source) ++ rest) ≡ Ok (insns.Mov bits dst source)
+mov_again : (n : ℕ) (bits : OpWidth) (dst : ℕ) (source : Operand) (rest : List ℕ) → dst ≤ 10 → OperandFits source → insn_at n (bytes_of (insns.Mov bits dst source) ++ rest) ≡ Ok (insns.Mov bits dst source)
 mov_again n bits dst (Immediate imm) rest d h =
     insn_by n (alu_class bits + 0xb0) dst 0 0 (imm_field imm) rest (MovImmediate bits) 0 d (omega arith) (other_row_is (MovImmediate bits) tt) refl refl
     ∙ ap (λ (z : ℤ). Ok (insns.Mov bits dst (Immediate z))) (signed32 imm h)
@@ -298,7 +298,7 @@ end_again n order End16 dst rest d = insn_by n (order_opcode order) dst 0 0 16 r
 end_again n order End32 dst rest d = insn_by n (order_opcode order) dst 0 0 32 rest (End order) 0 d (omega arith) (other_row_is (End order) tt) refl refl
 end_again n order End64 dst rest d = insn_by n (order_opcode order) dst 0 0 64 rest (End order) 0 d (omega arith) (other_row_is (End order) tt) refl refl
 
-branch_again : (n : ℕ) (bits : Bits) (comparison : Comparison) (dst : ℕ) (source : Operand) (offset : ℤ) (rest : List ℕ) → dst ≤ 10 → FitsSigned w16 offset → OperandFits source → insn_at n (bytes_of (insns.Branch bits comparison dst source offset) ++ rest) ≡ Ok (insns.Branch bits comparison dst source offset)
+branch_again : (n : ℕ) (bits : OpWidth) (comparison : Comparison) (dst : ℕ) (source : Operand) (offset : ℤ) (rest : List ℕ) → dst ≤ 10 → FitsSigned w16 offset → OperandFits source → insn_at n (bytes_of (insns.Branch bits comparison dst source offset) ++ rest) ≡ Ok (insns.Branch bits comparison dst source offset)
 branch_again n bits comparison dst (Immediate imm) offset rest d f h =
     insn_by n (jump_class bits + 16 * comparison_code comparison) dst 0 (offset_field offset) (imm_field imm) rest (BranchImmediate bits comparison) 0 d (omega arith) (branch_imm_row bits comparison) refl refl
     ∙ ap (λ (z : ℤ). Ok (insns.Branch bits comparison dst (Immediate (cast_signed w32 (imm_field imm))) z)) (signed16 offset f)

@@ -4,20 +4,20 @@ use Rattle.std.specs.List.{find}
 use Rattle.std.specs.Int.{w16, w32, cast_signed}
 use Rattle.bpf_decode.specs.declared.access.Width.TheVariants.{Byte, Half, Word, Double}
 use Rattle.bpf_decode.specs.declared.access.SignedWidth.TheVariants as signed
-use Rattle.bpf_decode.specs.declared.operation.Bits.{Bits}
-use Rattle.bpf_decode.specs.declared.operation.Bits.TheVariants.{Bits32, Bits64}
+use Rattle.bpf_decode.specs.declared.operation.OpWidth.{OpWidth}
+use Rattle.bpf_decode.specs.declared.operation.OpWidth.TheVariants.{Bits32, Bits64}
 use Rattle.bpf_decode.specs.declared.insn.Operand.{Operand}
 use Rattle.bpf_decode.specs.declared.insn.Operand.TheVariants.{Immediate, Register}
 use Rattle.bpf_decode.specs.declared.insn.Insn.{Insn}
 use Rattle.bpf_decode.specs.declared.insn.Insn.TheVariants as insns
-use Rattle.bpf_decode.specs.declared.row.Row.{Row}
-use Rattle.bpf_decode.specs.declared.row.Row.TheVariants.{AluImmediate, AluRegister, Neg, MovImmediate, MovRegister, End, Wide, Load, LoadSigned, StoreImmediate, StoreRegister, Jump, JumpLong, BranchImmediate, BranchRegister, Call, Exit}
+use Rattle.bpf_decode.specs.declared.row.OpcodeRow.{OpcodeRow}
+use Rattle.bpf_decode.specs.declared.row.OpcodeRow.TheVariants.{AluImmediate, AluRegister, Neg, MovImmediate, MovRegister, End, Wide, Load, LoadSigned, StoreImmediate, StoreRegister, Jump, JumpLong, BranchImmediate, BranchRegister, Call, Exit}
 use Rattle.bpf_decode.specs.Fields.{Fields, fields_of}
 use Rattle.bpf_decode.specs.Instruction.{slot, imm_field, alu_class, jump_class, operation_code, order_opcode, comparison_code, size_code, signed_size_code}
 use Rattle.bpf_decode.specs.Opcodes.{operation_of, offset_selects, selected, order_of, imm_selects, end_width_of, move_selects, signed_move_of, comparison_of}
 
 -- a row's opcode
-abbrev pub opcode : Row → ℕ
+abbrev pub opcode : OpcodeRow → ℕ
 opcode (AluImmediate bits operation) = alu_class bits + 16 * operation_code operation
 opcode (AluRegister bits operation) = alu_class bits + 8 + 16 * operation_code operation
 opcode (Neg bits) = alu_class bits + 0x80
@@ -37,7 +37,7 @@ opcode Call = 0x85
 opcode Exit = 0x95
 
 -- The rows of the classes ALU and ALU64, by source bit and code.
-abbrev pub alu_row : Bits → ℕ → ℕ → Option Row
+abbrev pub alu_row : OpWidth → ℕ → ℕ → Option OpcodeRow
 alu_row bits source code =
     if code == 0x8 then (if source == 0 then Some (Neg bits) else None) else
     if code == 0xb then (if source == 0 then Some (MovImmediate bits) else Some (MovRegister bits)) else
@@ -45,23 +45,23 @@ alu_row bits source code =
     if source == 0 then option_map (AluImmediate bits) (operation_of code) else option_map (AluRegister bits) (operation_of code)
 
 -- of JMP and JMP32 as comparisons
-abbrev pub branch_row : Bits → ℕ → ℕ → Option Row
+abbrev pub branch_row : OpWidth → ℕ → ℕ → Option OpcodeRow
 branch_row bits source code =
     if source == 0 then option_map (BranchImmediate bits) (comparison_of code) else option_map (BranchRegister bits) (comparison_of code)
 
 -- and every other row, by opcode
-abbrev pub rows : List Row
+abbrev pub rows : List OpcodeRow
 rows =
     Jump ∷ JumpLong ∷ Wide
     ∷ Load Word ∷ StoreImmediate Word ∷ StoreRegister Word ∷ Load Half ∷ StoreImmediate Half ∷ StoreRegister Half
     ∷ Load Byte ∷ StoreImmediate Byte ∷ StoreRegister Byte ∷ Load Double ∷ StoreImmediate Double ∷ StoreRegister Double
     ∷ LoadSigned signed.Word ∷ LoadSigned signed.Half ∷ LoadSigned signed.Byte ∷ Call ∷ Exit ∷ []
 
-unfoldable pub other_row : ℕ → Option Row
+unfoldable pub other_row : ℕ → Option OpcodeRow
 other_row n = find (λ row. opcode row == n) rows
 
 -- the row of an opcode
-abbrev pub row_of : ℕ → Option Row
+abbrev pub row_of : ℕ → Option OpcodeRow
 row_of n =
     if n % 8 == 4 then alu_row Bits32 (n / 8 % 2) (n / 16) else
     if n % 8 == 7 then alu_row Bits64 (n / 8 % 2) (n / 16) else
@@ -71,7 +71,7 @@ row_of n =
     if n % 8 == 6 then branch_row Bits32 (n / 8 % 2) (n / 16) else other_row n
 
 -- the fields that a row doesn't use are zero, and a selecting field has a value of an instruction
-abbrev pub fields_allowed : Row → Fields → Bool
+abbrev pub fields_allowed : OpcodeRow → Fields → Bool
 fields_allowed (AluImmediate bits operation) f = (f.src == 0) && offset_selects operation f.offset
 fields_allowed (AluRegister bits operation) f = (f.imm == 0) && offset_selects operation f.offset
 fields_allowed (Neg bits) f = (f.src == 0) && (f.offset == 0) && (f.imm == 0)
@@ -95,12 +95,12 @@ abbrev pub second_half : Fields → Option ℕ
 second_half f = if (f.opcode == 0) && (f.dst == 0) && (f.src == 0) && (f.offset == 0) then Some f.imm else None
 
 -- the high half of a row's number, from the bytes behind its first slot
-abbrev pub high_half : Row → List ℕ → Option ℕ
+abbrev pub high_half : OpcodeRow → List ℕ → Option ℕ
 high_half Wide bytes = option_and_then second_half (fields_of bytes)
 high_half row bytes = Some 0
 
 -- the instruction of a row
-abbrev pub instruction : Row → Fields → ℕ → Insn
+abbrev pub instruction : OpcodeRow → Fields → ℕ → Insn
 instruction (AluImmediate bits operation) f high = insns.Alu bits (selected operation f.offset) f.dst (Immediate (cast_signed w32 f.imm))
 instruction (AluRegister bits operation) f high = insns.Alu bits (selected operation f.offset) f.dst (Register f.src)
 instruction (Neg bits) f high = insns.Neg bits f.dst

@@ -4,10 +4,11 @@ ghost use Rattle.std.specs.Int.{w32, w64};
 ghost use Rattle.bpf_decode.specs.Arithmetic.{signed_load_value, computed, alu_value, neg_value, mov_value, signed_move_value, end_value, compared, is_taken};
 
 use crate::access::SignedWidth;
-use crate::operation::{Arithmetic, Bits, ByteOrder, Comparison, EndWidth, SignedMove};
+use crate::operation::{Arithmetic, ByteOrder, Comparison, EndWidth, OpWidth, SignedMove};
 
 /// The operation on 64 bits (RFC 9669 section 4.1).
 #[inline]
+#[rattlefmt::skip]
 pub fn compute64(operation: Arithmetic, m: u64, n: u64) -> u64
     ensures { result ≡ computed operation w64 m n }
 {
@@ -16,29 +17,13 @@ pub fn compute64(operation: Arithmetic, m: u64, n: u64) -> u64
         Arithmetic::Sub => m.wrapping_sub(n),
         Arithmetic::Mul => m.wrapping_mul(n),
         Arithmetic::Div => { if n == 0 { 0 } else { m / n } }
-        Arithmetic::SignedDiv => {
-            if n == 0 {
-                0
-            } else {
-                m.cast_signed()
-                    .wrapping_div(n.cast_signed())
-                    .cast_unsigned()
-            }
-        }
+        Arithmetic::SignedDiv => { if n == 0 { 0 } else { m.cast_signed().wrapping_div(n.cast_signed()).cast_unsigned() } }
         Arithmetic::Or => m | n,
         Arithmetic::And => m & n,
         Arithmetic::Lsh => m << (n % 64),
         Arithmetic::Rsh => m >> (n % 64),
         Arithmetic::Mod => { if n == 0 { m } else { m % n } }
-        Arithmetic::SignedMod => {
-            if n == 0 {
-                m
-            } else {
-                m.cast_signed()
-                    .wrapping_rem(n.cast_signed())
-                    .cast_unsigned()
-            }
-        }
+        Arithmetic::SignedMod => { if n == 0 { m } else { m.cast_signed().wrapping_rem(n.cast_signed()).cast_unsigned() } }
         Arithmetic::Xor => m ^ n,
         Arithmetic::Arsh => (m.cast_signed() >> (n % 64)).cast_unsigned(),
     }
@@ -46,6 +31,7 @@ pub fn compute64(operation: Arithmetic, m: u64, n: u64) -> u64
 
 /// The operation on 32 bits (RFC 9669 section 4.1).
 #[inline]
+#[rattlefmt::skip]
 pub fn compute32(operation: Arithmetic, m: u32, n: u32) -> u32
     ensures { result ≡ computed operation w32 m n }
 {
@@ -54,29 +40,13 @@ pub fn compute32(operation: Arithmetic, m: u32, n: u32) -> u32
         Arithmetic::Sub => m.wrapping_sub(n),
         Arithmetic::Mul => m.wrapping_mul(n),
         Arithmetic::Div => { if n == 0 { 0 } else { m / n } }
-        Arithmetic::SignedDiv => {
-            if n == 0 {
-                0
-            } else {
-                m.cast_signed()
-                    .wrapping_div(n.cast_signed())
-                    .cast_unsigned()
-            }
-        }
+        Arithmetic::SignedDiv => { if n == 0 { 0 } else { m.cast_signed().wrapping_div(n.cast_signed()).cast_unsigned() } }
         Arithmetic::Or => m | n,
         Arithmetic::And => m & n,
         Arithmetic::Lsh => m << (n % 32),
         Arithmetic::Rsh => m >> (n % 32),
         Arithmetic::Mod => { if n == 0 { m } else { m % n } }
-        Arithmetic::SignedMod => {
-            if n == 0 {
-                m
-            } else {
-                m.cast_signed()
-                    .wrapping_rem(n.cast_signed())
-                    .cast_unsigned()
-            }
-        }
+        Arithmetic::SignedMod => { if n == 0 { m } else { m.cast_signed().wrapping_rem(n.cast_signed()).cast_unsigned() } }
         Arithmetic::Xor => m ^ n,
         Arithmetic::Arsh => (m.cast_signed() >> (n % 32)).cast_unsigned(),
     }
@@ -92,39 +62,40 @@ pub fn low(m: u64) -> u32
 
 /// The operation on all 64 bits, or on the low 32 with the rest zero.
 #[inline]
-pub fn alu(bits: Bits, operation: Arithmetic, m: u64, n: u64) -> u64
+pub fn alu(bits: OpWidth, operation: Arithmetic, m: u64, n: u64) -> u64
     ensures { result ≡ alu_value bits operation m n }
 {
     match bits {
-        Bits::Bits64 => compute64(operation, m, n),
-        Bits::Bits32 => u64::from(compute32(operation, low(m), low(n))),
+        OpWidth::Bits64 => compute64(operation, m, n),
+        OpWidth::Bits32 => u64::from(compute32(operation, low(m), low(n))),
     }
 }
 
 /// The negative (RFC 9669 section 4.1).
 #[inline(always)]
-pub fn negative(bits: Bits, m: u64) -> u64
+pub fn negative(bits: OpWidth, m: u64) -> u64
     ensures { result ≡ neg_value bits m }
 {
     match bits {
-        Bits::Bits64 => m.wrapping_neg(),
-        Bits::Bits32 => u64::from(low(m).wrapping_neg()),
+        OpWidth::Bits64 => m.wrapping_neg(),
+        OpWidth::Bits32 => u64::from(low(m).wrapping_neg()),
     }
 }
 
 /// What a copy gives.
 #[inline(always)]
-pub fn copied(bits: Bits, m: u64) -> u64
+pub fn copied(bits: OpWidth, m: u64) -> u64
     ensures { result ≡ mov_value bits m }
 {
     match bits {
-        Bits::Bits64 => m,
-        Bits::Bits32 => u64::from(low(m)),
+        OpWidth::Bits64 => m,
+        OpWidth::Bits32 => u64::from(low(m)),
     }
 }
 
 /// What a copy with sign extension gives (RFC 9669 section 4.1, MOVSX).
 #[inline(always)]
+#[rattlefmt::skip]
 pub fn sign_extended(extension: SignedMove, m: u64) -> u64
     ensures { result ≡ signed_move_value extension m }
 {
@@ -132,12 +103,8 @@ pub fn sign_extended(extension: SignedMove, m: u64) -> u64
         SignedMove::Byte64 => i64::from(((m % 0x100) as u8).cast_signed()).cast_unsigned(),
         SignedMove::Half64 => i64::from(((m % 0x1_0000) as u16).cast_signed()).cast_unsigned(),
         SignedMove::Word64 => i64::from(low(m).cast_signed()).cast_unsigned(),
-        SignedMove::Byte32 => u64::from(i32::from(
-            ((m % 0x100) as u8).cast_signed(),
-        ).cast_unsigned()),
-        SignedMove::Half32 => {
-            u64::from(i32::from(((m % 0x1_0000) as u16).cast_signed()).cast_unsigned())
-        }
+        SignedMove::Byte32 => u64::from(i32::from(((m % 0x100) as u8).cast_signed()).cast_unsigned()),
+        SignedMove::Half32 => u64::from(i32::from(((m % 0x1_0000) as u16).cast_signed()).cast_unsigned()),
     }
 }
 
@@ -219,12 +186,12 @@ pub fn compare32(comparison: Comparison, m: u32, n: u32) -> bool
 
 /// Whether a conditional jump is taken.
 #[inline]
-pub fn taken(bits: Bits, comparison: Comparison, m: u64, n: u64) -> bool
+pub fn taken(bits: OpWidth, comparison: Comparison, m: u64, n: u64) -> bool
     ensures { result ≡ is_taken bits comparison m n }
 {
     match bits {
-        Bits::Bits64 => compare64(comparison, m, n),
-        Bits::Bits32 => compare32(comparison, low(m), low(n)),
+        OpWidth::Bits64 => compare64(comparison, m, n),
+        OpWidth::Bits32 => compare32(comparison, low(m), low(n)),
     }
 }
 

@@ -36,7 +36,7 @@ impl Model for ClassImage {
 }
 
 impl ClassImage {
-    ghost use Rattle.std.specs.Prelude.{◌↔◌, IsOk};
+    ghost use Rattle.std.specs.Prelude.{◌↔◌, IsOk, Ok};
 
     /// The class of those methods that is verified by that rule set. It takes no memory.
     ///
@@ -52,6 +52,15 @@ impl ClassImage {
             Ok(()) => Ok(ClassImage { rules, methods }),
             Err(error) => Err(error),
         }
+    }
+
+    /// The class of methods that were tested while they were read, as `new` tests them: nothing is tested again.
+    pub fn tested(methods: Vec<Method>, rules: RuleSet) -> ClassImage
+        requires { methods_of methods.items ≡ Ok methods.items }
+        ensures { result ≡ record { rules = rules; methods = methods.items } }
+    {
+        prove!(check_methods(&methods).is_ok());
+        ClassImage { rules, methods }
     }
 
     /// A class of methods that are a class's.
@@ -97,7 +106,7 @@ fn check_methods(methods: &[Method]) -> Result<(), ImageError>
     Ok(())
 }
 
-/// Whether a method is right behind the name of the one before it, or its first refusal.
+/// Whether a method is right after the name of the one before it, or its first refusal.
 fn check_method(before: &[u8], method: &Method) -> Result<(), DecodeError>
     ensures read { Reads (λ _. method.now) result (method_after before.now method.now) }
     ensures fit { AllFit method.now.instructions }

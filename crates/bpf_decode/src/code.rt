@@ -12,7 +12,7 @@ use crate::arithmetic::low;
 use crate::decode_error::DecodeError;
 use crate::insn::{Insn, Operand, width};
 use crate::register::Register;
-use crate::row::Row;
+use crate::row::OpcodeRow;
 use crate::slot::Slot;
 use std::alloc::{AllocError, Global};
 
@@ -24,7 +24,7 @@ fn insn_at(slot: usize, bytes: &[u8]) -> Result<Insn, DecodeError>
     let Some(fields) = Slot::of(bytes) else {
         return Err(DecodeError::Truncated);
     };
-    let Some(row) = Row::of(fields.opcode) else {
+    let Some(row) = OpcodeRow::of(fields.opcode) else {
         return Err(DecodeError::Opcode(slot));
     };
     let (Some(dst), Some(src)) = (Register::new(fields.dst), Register::new(fields.src)) else {
@@ -110,7 +110,7 @@ pub fn decode(alloc: Global, bytes: &[u8]) -> Result<Vec<Insn>, DecodeError>
 }
 
 /// The slot of a row with those fields.
-fn row_slot(row: Row, dst: u8, src: u8, offset: u16, imm: u32) -> Slot
+fn row_slot(row: OpcodeRow, dst: u8, src: u8, offset: u16, imm: u32) -> Slot
     ensures opcode { result.opcode ≡ opcode row }
     ensures dst { result.dst ≡ dst }
     ensures src { result.src ≡ src }
@@ -128,21 +128,21 @@ fn row_slot(row: Row, dst: u8, src: u8, offset: u16, imm: u32) -> Slot
 }
 
 /// The slot of an operation on a register and an operand: by one row for a number, by another for a register.
-fn operand_slot(immediate: Row, register: Row, dst: Register, source: Operand, offset: u16) -> Slot
+#[rattlefmt::skip]
+fn operand_slot(immediate: OpcodeRow, register: OpcodeRow, dst: Register, source: Operand, offset: u16) -> Slot
     ensures spelled { operand_slot (opcode immediate) (opcode register) dst source offset ≡ slot result.opcode result.dst result.src result.offset result.imm }
     ensures dst { result.dst < 16 }
     ensures src { result.src < 16 }
     ensures fit { (dst ≤ 10) × OperandFits source }
 {
     match source {
-        Operand::Immediate(imm) => {
-            row_slot(immediate, dst.number(), 0, offset, imm.cast_unsigned())
-        }
+        Operand::Immediate(imm) => row_slot(immediate, dst.number(), 0, offset, imm.cast_unsigned()),
         Operand::Register(src) => row_slot(register, dst.number(), src.number(), offset, 0),
     }
 }
 
 /// The first slot of an instruction.
+#[rattlefmt::skip]
 fn first_slot(insn: Insn) -> Slot
     ensures spelled { slot_count insn ≡ 1 → bytes_of insn ≡ slot result.opcode result.dst result.src result.offset result.imm }
     ensures dst { result.dst < 16 }
@@ -150,95 +150,21 @@ fn first_slot(insn: Insn) -> Slot
     ensures fit { Fits insn }
 {
     match insn {
-        Insn::Alu {
-            bits,
-            operation,
-            dst,
-            source,
-        } => operand_slot(
-            Row::AluImmediate(bits, operation),
-            Row::AluRegister(bits, operation),
-            dst,
-            source,
-            operation.offset(),
-        ),
-        Insn::Neg { bits, dst } => row_slot(Row::Neg(bits), dst.number(), 0, 0, 0),
-        Insn::Mov { bits, dst, source } => operand_slot(
-            Row::MovImmediate(bits),
-            Row::MovRegister(bits),
-            dst,
-            source,
-            0,
-        ),
-        Insn::MovSigned {
-            extension,
-            dst,
-            src,
-        } => row_slot(
-            Row::MovRegister(extension.bits()),
-            dst.number(),
-            src.number(),
-            extension.offset(),
-            0,
-        ),
-        Insn::End { order, width, dst } => {
-            row_slot(Row::End(order), dst.number(), 0, 0, width.bits())
-        }
-        Insn::LoadWide { dst, value } => row_slot(Row::Wide, dst.number(), 0, 0, low(value)),
-        Insn::Load {
-            width,
-            dst,
-            base,
-            offset,
-        } => row_slot(
-            Row::Load(width),
-            dst.number(),
-            base.number(),
-            offset.cast_unsigned(),
-            0,
-        ),
-        Insn::LoadSigned {
-            width,
-            dst,
-            base,
-            offset,
-        } => row_slot(
-            Row::LoadSigned(width),
-            dst.number(),
-            base.number(),
-            offset.cast_unsigned(),
-            0,
-        ),
-        Insn::Store {
-            width,
-            base,
-            offset,
-            source,
-        } => operand_slot(
-            Row::StoreImmediate(width),
-            Row::StoreRegister(width),
-            base,
-            source,
-            offset.cast_unsigned(),
-        ),
-        Insn::Jump { offset } => row_slot(Row::Jump, 0, 0, offset.cast_unsigned(), 0),
-        Insn::JumpLong { distance } => row_slot(Row::JumpLong, 0, 0, 0, distance.cast_unsigned()),
-        Insn::Branch {
-            bits,
-            comparison,
-            dst,
-            source,
-            offset,
-        } => operand_slot(
-            Row::BranchImmediate(bits, comparison),
-            Row::BranchRegister(bits, comparison),
-            dst,
-            source,
-            offset.cast_unsigned(),
-        ),
-        Insn::Call { helper } => row_slot(Row::Call, 0, 0, 0, helper),
-        Insn::CallLocal { distance } => row_slot(Row::Call, 0, 1, 0, distance.cast_unsigned()),
-        Insn::Exit => row_slot(Row::Exit, 0, 0, 0, 0),
+        Insn::Alu { bits, operation, dst, source } => operand_slot(OpcodeRow::AluImmediate(bits, operation), OpcodeRow::AluRegister(bits, operation), dst, source, operation.offset()),
+        Insn::Neg { bits, dst } => row_slot(OpcodeRow::Neg(bits), dst.number(), 0, 0, 0),
+        Insn::Mov { bits, dst, source } => operand_slot(OpcodeRow::MovImmediate(bits), OpcodeRow::MovRegister(bits), dst, source, 0),
+        Insn::MovSigned { extension, dst, src } => row_slot(OpcodeRow::MovRegister(extension.bits()), dst.number(), src.number(), extension.offset(), 0),
+        Insn::End { order, width, dst } => row_slot(OpcodeRow::End(order), dst.number(), 0, 0, width.bits()),
+        Insn::LoadWide { dst, value } => row_slot(OpcodeRow::Wide, dst.number(), 0, 0, low(value)),
+        Insn::Load { width, dst, base, offset } => row_slot(OpcodeRow::Load(width), dst.number(), base.number(), offset.cast_unsigned(), 0),
+        Insn::LoadSigned { width, dst, base, offset } => row_slot(OpcodeRow::LoadSigned(width), dst.number(), base.number(), offset.cast_unsigned(), 0),
+        Insn::Store { width, base, offset, source } => operand_slot(OpcodeRow::StoreImmediate(width), OpcodeRow::StoreRegister(width), base, source, offset.cast_unsigned()),
+        Insn::Jump { offset } => row_slot(OpcodeRow::Jump, 0, 0, offset.cast_unsigned(), 0),
+        Insn::JumpLong { distance } => row_slot(OpcodeRow::JumpLong, 0, 0, 0, distance.cast_unsigned()),
+        Insn::Branch { bits, comparison, dst, source, offset } => operand_slot(OpcodeRow::BranchImmediate(bits, comparison), OpcodeRow::BranchRegister(bits, comparison), dst, source, offset.cast_unsigned()),
+        Insn::Call { helper } => row_slot(OpcodeRow::Call, 0, 0, 0, helper),
+        Insn::CallLocal { distance } => row_slot(OpcodeRow::Call, 0, 1, 0, distance.cast_unsigned()),
+        Insn::Exit => row_slot(OpcodeRow::Exit, 0, 0, 0, 0),
     }
 }
 
@@ -257,7 +183,7 @@ fn put_wide(out: &mut Vec<u8>, dst: Register, value: u64) -> Result<(), AllocErr
     ensures fit { dst ≤ 10 }
 {
     let high = (value >> 32) as u32;
-    row_slot(Row::Wide, dst.number(), 0, 0, low(value)).put(out)?;
+    row_slot(OpcodeRow::Wide, dst.number(), 0, 0, low(value)).put(out)?;
     Slot {
         opcode: 0,
         dst: 0,

@@ -11,7 +11,7 @@ use thiserror::Error;
 pub enum DecodeError {
     /// A field passes the end; of code alone, the length is no multiple of 8.
     Truncated,
-    /// The first four bytes are neither `RCL1` nor `RCL2`, or the number behind the count of methods isn't 0.
+    /// The first four bytes are neither `RCL1` nor `RCL2`, or the number after the count of methods isn't 0.
     Magic,
     /// No instruction has the opcode of that slot.
     Opcode(usize),
@@ -21,7 +21,7 @@ pub enum DecodeError {
     NonzeroField(usize),
     /// The wide load at that slot has no second half, or one with an opcode, registers or an offset.
     WideHalf(usize),
-    /// A name's length isn't 1 to 64, or a byte of it is none of a-z, 0-9 and `_`.
+    /// A name's length isn't 1 to `NAME_LIMIT`, or a byte of it is none of a-z, 0-9 and `_`.
     Name,
     /// A name isn't above the one before it.
     Order,
@@ -77,15 +77,14 @@ impl DecodeError {
     }
 
     /// The slot that it names, counted within the code that was read; `None` for those that name none.
+    #[rattlefmt::skip]
     pub fn slot(self) -> Option<usize>
         ensures { result ≡ slot_of self }
     {
         match self {
-            DecodeError::Opcode(slot)
-            | DecodeError::Register(slot)
-            | DecodeError::NonzeroField(slot)
-            | DecodeError::WideHalf(slot) => Some(slot),
-            _ => None,
+            DecodeError::Opcode(slot) | DecodeError::Register(slot) | DecodeError::NonzeroField(slot) | DecodeError::WideHalf(slot) => Some(slot),
+            DecodeError::Truncated | DecodeError::Magic | DecodeError::Name | DecodeError::Order => None,
+            DecodeError::Flags | DecodeError::Limit | DecodeError::Trailing | DecodeError::NoMemory => None,
         }
     }
 }

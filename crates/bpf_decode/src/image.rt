@@ -125,7 +125,7 @@ fn method_at<'a>(
     ))
 }
 
-/// The bytes of a name as text. It fails for want of memory alone.
+/// The bytes of a legal name as text: each is one of a-z, 0-9 and `_`. It fails for want of memory alone.
 pub fn name_text(alloc: Global, name: &[u8]) -> Result<String, AllocError>
     requires { IsTrue (are_name_bytes name.now) }
     ensures { IfOk result (λ t. string_bytes t ≡ name.now) }

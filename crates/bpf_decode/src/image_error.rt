@@ -29,16 +29,16 @@ impl fmt::Display for ImageError {
 
     fn fmt<W: fmt::Write>(&self, f: &mut fmt::Formatter<W>) -> fmt::Result {
         let ImageError { methods, error } = *self;
-        let place = Place(error.slot());
+        let place = AtSlot(error.slot());
         write!(f, "image refused after {methods} methods{place}: {error}")
     }
 }
 
 /// Prints `, slot 3`, or nothing.
 #[derive(Clone, Copy)]
-struct Place(Option<usize>);
+struct AtSlot(Option<usize>);
 
-impl fmt::Display for Place {
+impl fmt::Display for AtSlot {
     ghost use Rattle.std.specs.Prelude.{Some};
     ghost use Rattle.bpf_decode.specs.Refusal.{slot_text};
 

@@ -2,10 +2,10 @@ ghost use Rattle.std.specs.Prelude.{◌≡◌};
 ghost use Rattle.bpf_decode.specs.Instruction.{slot_count};
 
 use crate::access::{SignedWidth, Width};
-use crate::operation::{Arithmetic, Bits, ByteOrder, Comparison, EndWidth, SignedMove};
+use crate::operation::{Arithmetic, ByteOrder, Comparison, EndWidth, OpWidth, SignedMove};
 use crate::register::Register;
 
-/// What an instruction reads beside its destination: a number in the instruction, or a register.
+/// What an instruction reads as well as its destination: a number in the instruction, or a register.
 #[derive(Clone, Copy, PartialEq, Eq)]
 pub enum Operand {
     Immediate(i32),
@@ -17,19 +17,19 @@ pub enum Operand {
 pub enum Insn {
     /// Arithmetic of a register and an operand: on all 64 bits, a number sign-extended to them, or on the low 32 of both.
     Alu {
-        bits: Bits,
+        bits: OpWidth,
         operation: Arithmetic,
         dst: Register,
         source: Operand,
     },
     /// The negative of a register.
     Neg {
-        bits: Bits,
+        bits: OpWidth,
         dst: Register,
     },
     /// A copy: to all 64 bits, a number sign-extended to them, or of the low 32.
     Mov {
-        bits: Bits,
+        bits: OpWidth,
         dst: Register,
         source: Operand,
     },
@@ -81,7 +81,7 @@ pub enum Insn {
     },
     /// A conditional jump: the register is compared with the operand.
     Branch {
-        bits: Bits,
+        bits: OpWidth,
         comparison: Comparison,
         dst: Register,
         source: Operand,
@@ -100,11 +100,14 @@ pub enum Insn {
 }
 
 /// How many slots of eight bytes an instruction takes: 2 for the wide load, else 1.
+#[rattlefmt::skip]
 pub fn width(insn: &Insn) -> usize
     ensures { result ≡ slot_count insn.now }
 {
     match insn {
-        Insn::LoadWide { dst: _, value: _ } => 2,
-        _ => 1,
+        Insn::LoadWide { .. } => 2,
+        Insn::Alu { .. } | Insn::Neg { .. } | Insn::Mov { .. } | Insn::MovSigned { .. } | Insn::End { .. } => 1,
+        Insn::Load { .. } | Insn::LoadSigned { .. } | Insn::Store { .. } => 1,
+        Insn::Jump { .. } | Insn::JumpLong { .. } | Insn::Branch { .. } | Insn::Call { .. } | Insn::CallLocal { .. } | Insn::Exit => 1,
     }
 }

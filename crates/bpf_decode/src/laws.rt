@@ -3,7 +3,7 @@
 ghost use Rattle.std.specs.Prelude.{◌≡◌, ◌+◌, ◌<◌, ◌≤◌, ◌↔◌, ℕ, List, get_or, length, take, Some, IsSome, Ok};
 ghost use Rattle.bpf_decode.specs.declared.insn.Insn.{Insn};
 ghost use Rattle.bpf_decode.specs.declared.limits.TheConstants.{IMAGE_LIMIT};
-ghost use Rattle.bpf_decode.specs.declared.row.Row.{Row};
+ghost use Rattle.bpf_decode.specs.declared.row.OpcodeRow.{OpcodeRow};
 ghost use Rattle.bpf_decode.specs.Instruction.{IsCode};
 ghost use Rattle.bpf_decode.specs.Class.{Class, IsImage};
 ghost use Rattle.bpf_decode.specs.Table.{opcode, row_of};
@@ -12,8 +12,8 @@ ghost use Rattle.bpf_decode.specs.ImageReading.{image_of};
 
 /// The table by opcode has exactly the opcodes of the rows: none is missed, and none is another's.
 pub fn every_row()
-    ensures found { (r : Row) → IsSome (row_of (opcode r)) }
-    ensures only { (n : ℕ) (r : Row) → row_of n ≡ Some r → n ≡ opcode r }
+    ensures found { (r : OpcodeRow) → IsSome (row_of (opcode r)) }
+    ensures only { (n : ℕ) (r : OpcodeRow) → row_of n ≡ Some r → n ≡ opcode r }
 {}
 
 /// Bytes are the code of one list of instructions, and the image of one class.

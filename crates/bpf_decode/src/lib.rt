@@ -40,7 +40,7 @@ pub use limits::{
     is_method_name,
 };
 pub use method::Method;
-pub use operation::{Arithmetic, Bits, ByteOrder, Comparison, EndWidth, SignedMove};
+pub use operation::{Arithmetic, ByteOrder, Comparison, EndWidth, OpWidth, SignedMove};
 pub use region::Region;
 pub use register::Register;
 pub use rule_set::RuleSet;

@@ -5,19 +5,19 @@ ghost use Rattle.bpf_decode.specs.Opcodes.{operation_of, offset_selects, selecte
 /// Whether an operation works on all 64 bits of a register, or on the low 32 and zeroes the rest
 /// (RFC 9669 section 3.3: ALU64 and JMP, or ALU and JMP32).
 #[derive(Clone, Copy, PartialEq, Eq)]
-pub enum Bits {
+pub enum OpWidth {
     Bits32,
     Bits64,
 }
 
-impl Bits {
+impl OpWidth {
     /// The class of arithmetic: ALU64 or ALU (RFC 9669 section 3.3).
     pub(crate) fn alu_class(self) -> u8
         ensures { result ≡ alu_class self }
     {
         match self {
-            Bits::Bits32 => 4,
-            Bits::Bits64 => 7,
+            OpWidth::Bits32 => 4,
+            OpWidth::Bits64 => 7,
         }
     }
 
@@ -26,8 +26,8 @@ impl Bits {
         ensures { result ≡ jump_class self }
     {
         match self {
-            Bits::Bits32 => 6,
-            Bits::Bits64 => 5,
+            OpWidth::Bits32 => 6,
+            OpWidth::Bits64 => 5,
         }
     }
 }
@@ -73,12 +73,14 @@ impl Arithmetic {
     }
 
     /// Its offset field: 1 for the signed ones.
+    #[rattlefmt::skip]
     pub(crate) fn offset(self) -> u16
         ensures { result ≡ operation_offset self }
     {
         match self {
             Arithmetic::SignedDiv | Arithmetic::SignedMod => 1,
-            _ => 0,
+            Arithmetic::Div | Arithmetic::Mod => 0,
+            Arithmetic::Add | Arithmetic::Sub | Arithmetic::Mul | Arithmetic::Or | Arithmetic::And | Arithmetic::Lsh | Arithmetic::Rsh | Arithmetic::Xor | Arithmetic::Arsh => 0,
         }
     }
 
@@ -103,13 +105,15 @@ impl Arithmetic {
     }
 
     /// Whether an instruction of its code has that offset field.
+    // An offset field that selects nothing is refused as one that should be zero and isn't.
+    #[rattlefmt::skip]
     pub fn allows(self, offset: u16) -> bool
         ensures { result ≡ offset_selects self offset }
     {
         match self {
             Arithmetic::Div | Arithmetic::Mod => offset <= 1,
             Arithmetic::SignedDiv | Arithmetic::SignedMod => offset == 1,
-            _ => offset == 0,
+            Arithmetic::Add | Arithmetic::Sub | Arithmetic::Mul | Arithmetic::Or | Arithmetic::And | Arithmetic::Lsh | Arithmetic::Rsh | Arithmetic::Xor | Arithmetic::Arsh => offset == 0,
         }
     }
 
@@ -137,12 +141,12 @@ pub enum SignedMove {
 
 impl SignedMove {
     /// The class that it belongs to.
-    pub(crate) fn bits(self) -> Bits
+    pub(crate) fn bits(self) -> OpWidth
         ensures { result ≡ signed_move_bits self }
     {
         match self {
-            SignedMove::Byte64 | SignedMove::Half64 | SignedMove::Word64 => Bits::Bits64,
-            SignedMove::Byte32 | SignedMove::Half32 => Bits::Bits32,
+            SignedMove::Byte64 | SignedMove::Half64 | SignedMove::Word64 => OpWidth::Bits64,
+            SignedMove::Byte32 | SignedMove::Half32 => OpWidth::Bits32,
         }
     }
 
@@ -158,36 +162,23 @@ impl SignedMove {
     }
 
     /// Whether a copy with sign extension of that class has that offset field.
-    pub fn exists(bits: Bits, offset: u16) -> bool
+    pub fn exists(bits: OpWidth, offset: u16) -> bool
         ensures { result ≡ move_selects bits offset }
     {
         match bits {
-            Bits::Bits64 => offset == 8 || offset == 16 || offset == 32,
-            Bits::Bits32 => offset == 8 || offset == 16,
+            OpWidth::Bits64 => offset == 8 || offset == 16 || offset == 32,
+            OpWidth::Bits32 => offset == 8 || offset == 16,
         }
     }
 
     /// The copy of that class that an offset field selects.
-    pub fn selected(bits: Bits, offset: u16) -> SignedMove
+    #[rattlefmt::skip]
+    pub fn selected(bits: OpWidth, offset: u16) -> SignedMove
         ensures { result ≡ signed_move_of bits offset }
     {
         match bits {
-            Bits::Bits64 => {
-                if offset == 8 {
-                    SignedMove::Byte64
-                } else if offset == 16 {
-                    SignedMove::Half64
-                } else {
-                    SignedMove::Word64
-                }
-            }
-            Bits::Bits32 => {
-                if offset == 8 {
-                    SignedMove::Byte32
-                } else {
-                    SignedMove::Half32
-                }
-            }
+            OpWidth::Bits64 => if offset == 8 { SignedMove::Byte64 } else if offset == 16 { SignedMove::Half64 } else { SignedMove::Word64 },
+            OpWidth::Bits32 => if offset == 8 { SignedMove::Byte32 } else { SignedMove::Half32 },
         }
     }
 }
@@ -213,14 +204,14 @@ impl ByteOrder {
     }
 
     /// The order of a class and a source bit.
-    pub fn of(bits: Bits, source: u8) -> Option<ByteOrder>
+    pub fn of(bits: OpWidth, source: u8) -> Option<ByteOrder>
         ensures { result ≡ order_of bits source }
     {
         match bits {
-            Bits::Bits32 if source == 0 => Some(ByteOrder::ToLittle),
-            Bits::Bits32 => Some(ByteOrder::ToBig),
-            Bits::Bits64 if source == 0 => Some(ByteOrder::Swap),
-            Bits::Bits64 => None,
+            OpWidth::Bits32 if source == 0 => Some(ByteOrder::ToLittle),
+            OpWidth::Bits32 => Some(ByteOrder::ToBig),
+            OpWidth::Bits64 if source == 0 => Some(ByteOrder::Swap),
+            OpWidth::Bits64 => None,
         }
     }
 }

@@ -1,7 +1,7 @@
 -- Arithmetic and the wide load: each instruction's bytes, and its image.
 use Rattle.std.proofs.Common.{◌≡◌, ℕ, ◌+◌, ◌*◌, ◌/◌, ◌%◌, ◌^◌, ◌≤◌, List, ◌++◌, Some, refl, ap, ◌∙◌, arith}
-use Rattle.bpf_decode.specs.declared.operation.Bits.{Bits}
-use Rattle.bpf_decode.specs.declared.operation.Bits.TheVariants.{Bits32, Bits64}
+use Rattle.bpf_decode.specs.declared.operation.OpWidth.{OpWidth}
+use Rattle.bpf_decode.specs.declared.operation.OpWidth.TheVariants.{Bits32, Bits64}
 use Rattle.bpf_decode.specs.declared.operation.Arithmetic.{Arithmetic}
 use Rattle.bpf_decode.specs.declared.operation.Arithmetic.TheVariants.{Add, Sub, Mul, Div, SignedDiv, Or, And, Lsh, Rsh, Mod, SignedMod, Xor, Arsh}
 use Rattle.bpf_decode.specs.declared.operation.SignedMove.{SignedMove}
@@ -27,7 +27,7 @@ use Rattle.bpf_machine.proofs.Registers.{register, sets, operand, alus, movs, nu
 
 module _ (caps : Caps) (lay : Layout) where
   -- the rows of an operation by an immediate
-  imm_row : (bits : Bits) (operation : Arithmetic) (dst imm : ℕ) (rest : List ℕ) (s : State ℕ) → dst ≤ 10 → act_on caps lay (slot (alu_class bits + 16 * operation_code operation) dst 0 (operation_offset operation) imm ++ rest) s ≡ (reg s dst >>= λ x. flat_after caps lay s (set_reg s dst (alu_value bits operation x (signed32 imm))))
+  imm_row : (bits : OpWidth) (operation : Arithmetic) (dst imm : ℕ) (rest : List ℕ) (s : State ℕ) → dst ≤ 10 → act_on caps lay (slot (alu_class bits + 16 * operation_code operation) dst 0 (operation_offset operation) imm ++ rest) s ≡ (reg s dst >>= λ x. flat_after caps lay s (set_reg s dst (alu_value bits operation x (signed32 imm))))
   imm_row Bits32 Add dst imm rest s h = by_row caps lay 0x04 dst 0 0 imm rest s h
   imm_row Bits32 Sub dst imm rest s h = by_row caps lay 0x14 dst 0 0 imm rest s h
   imm_row Bits32 Mul dst imm rest s h = by_row caps lay 0x24 dst 0 0 imm rest s h
@@ -56,7 +56,7 @@ module _ (caps : Caps) (lay : Layout) where
   imm_row Bits64 Arsh dst imm rest s h = by_row caps lay 0xc7 dst 0 0 imm rest s h
 
   -- and by a register
-  reg_row : (bits : Bits) (operation : Arithmetic) (dst src : ℕ) (rest : List ℕ) (s : State ℕ) → dst ≤ 10 → act_on caps lay (slot (alu_class bits + 8 + 16 * operation_code operation) dst src (operation_offset operation) 0 ++ rest) s ≡ (reg s src >>= λ y. reg s dst >>= λ x. flat_after caps lay s (set_reg s dst (alu_value bits operation x y)))
+  reg_row : (bits : OpWidth) (operation : Arithmetic) (dst src : ℕ) (rest : List ℕ) (s : State ℕ) → dst ≤ 10 → act_on caps lay (slot (alu_class bits + 8 + 16 * operation_code operation) dst src (operation_offset operation) 0 ++ rest) s ≡ (reg s src >>= λ y. reg s dst >>= λ x. flat_after caps lay s (set_reg s dst (alu_value bits operation x y)))
   reg_row Bits32 Add dst src rest s h = by_row caps lay 0x0c dst src 0 0 rest s h
   reg_row Bits32 Sub dst src rest s h = by_row caps lay 0x1c dst src 0 0 rest s h
   reg_row Bits32 Mul dst src rest s h = by_row caps lay 0x2c dst src 0 0 rest s h
@@ -84,17 +84,17 @@ module _ (caps : Caps) (lay : Layout) where
   reg_row Bits64 Xor dst src rest s h = by_row caps lay 0xaf dst src 0 0 rest s h
   reg_row Bits64 Arsh dst src rest s h = by_row caps lay 0xcf dst src 0 0 rest s h
 
-  pub alu_acts : (bits : Bits) (operation : Arithmetic) (dst : ℕ) (source : Operand) (rest : List ℕ) (s : State ℕ) → dst ≤ 10 → OperandFits source → act_on caps lay (bytes_of (Alu bits operation dst source) ++ rest) s ≡ insn_act caps lay (Alu bits operation dst source) s
+  pub alu_acts : (bits : OpWidth) (operation : Arithmetic) (dst : ℕ) (source : Operand) (rest : List ℕ) (s : State ℕ) → dst ≤ 10 → OperandFits source → act_on caps lay (bytes_of (Alu bits operation dst source) ++ rest) s ≡ insn_act caps lay (Alu bits operation dst source) s
   alu_acts bits operation dst (Immediate imm) rest s d f =
       imm_row bits operation dst (imm_field imm) rest s d
       ∙ ap (λ y. reg s dst >>= λ x. flat_after caps lay s (set_reg s dst (alu_value bits operation x y))) (imm_extended imm f)
   alu_acts bits operation dst (Register src) rest s d f = reg_row bits operation dst src rest s d
 
-  pub neg_acts : (bits : Bits) (dst : ℕ) (rest : List ℕ) (s : State ℕ) → dst ≤ 10 → act_on caps lay (bytes_of (Neg bits dst) ++ rest) s ≡ insn_act caps lay (Neg bits dst) s
+  pub neg_acts : (bits : OpWidth) (dst : ℕ) (rest : List ℕ) (s : State ℕ) → dst ≤ 10 → act_on caps lay (bytes_of (Neg bits dst) ++ rest) s ≡ insn_act caps lay (Neg bits dst) s
   neg_acts Bits32 dst rest s d = by_row caps lay 0x84 dst 0 0 0 rest s d
   neg_acts Bits64 dst rest s d = by_row caps lay 0x87 dst 0 0 0 rest s d
 
-  pub mov_acts : (bits : Bits) (dst : ℕ) (source : Operand) (rest : List ℕ) (s : State ℕ) → dst ≤ 10 → OperandFits source → act_on caps lay (bytes_of (Mov bits dst source) ++ rest) s ≡ insn_act caps lay (Mov bits dst source) s
+  pub mov_acts : (bits : OpWidth) (dst : ℕ) (source : Operand) (rest : List ℕ) (s : State ℕ) → dst ≤ 10 → OperandFits source → act_on caps lay (bytes_of (Mov bits dst source) ++ rest) s ≡ insn_act caps lay (Mov bits dst source) s
   mov_acts Bits32 dst (Immediate imm) rest s d f =
       by_row caps lay 0xb4 dst 0 0 (imm_field imm) rest s d ∙ ap (λ y. flat_after caps lay s (set_reg s dst (mov_value Bits32 y))) (imm_extended imm f)
   mov_acts Bits64 dst (Immediate imm) rest s d f =
@@ -126,18 +126,18 @@ module _ (caps : Caps) (lay : Layout) where
       ∙ ap (λ next. act caps lay (row 0x18 dst 0 0 (value % 2 ^ 32)) next s) (slot_fields 0 0 0 0 (value / 2 ^ 32) rest (omega arith))
       ∙ ap (λ v. set_reg s dst v >>= λ t. Some (go (s.slot + 2) t)) (wide_halves value)
 
-  pub alu_sim : (bits : Bits) (operation : Arithmetic) (dst : ℕ) (source : Operand) (s : Typed) → Sim Any (image lay) (typed_act caps (Alu bits operation dst source) s) (insn_act caps lay (Alu bits operation dst source) (image lay s))
+  pub alu_sim : (bits : OpWidth) (operation : Arithmetic) (dst : ℕ) (source : Operand) (s : Typed) → Sim Any (image lay) (typed_act caps (Alu bits operation dst source) s) (insn_act caps lay (Alu bits operation dst source) (image lay s))
   alu_sim bits operation dst source s =
       sim_bind Any (address lay) Any (image lay) _ _ _ _ (operand caps lay s source) (λ y _ _.
       sim_bind Any (address lay) Any (image lay) _ _ _ _ (register caps lay s dst) (λ x _ _.
       after_sim caps lay s _ _
       (sim_bind Any (address lay) Any (image lay) (alu_values bits operation x y) (Some (alu_value bits operation (address lay x) (address lay y))) _ (λ n. set_reg (image lay s) dst n) (alus caps lay bits operation x y) (λ v _ _. sets caps lay s dst v))))
 
-  pub neg_sim : (bits : Bits) (dst : ℕ) (s : Typed) → Sim Any (image lay) (typed_act caps (Neg bits dst) s) (insn_act caps lay (Neg bits dst) (image lay s))
+  pub neg_sim : (bits : OpWidth) (dst : ℕ) (s : Typed) → Sim Any (image lay) (typed_act caps (Neg bits dst) s) (insn_act caps lay (Neg bits dst) (image lay s))
   neg_sim bits dst s =
       number_in caps lay (image lay) s dst _ (λ n. flat_after caps lay (image lay s) (set_reg (image lay s) dst (neg_value bits n))) (λ n. after_sim caps lay s _ _ (sets caps lay s dst (Num (neg_value bits n))))
 
-  pub mov_sim : (bits : Bits) (dst : ℕ) (source : Operand) (s : Typed) → Sim Any (image lay) (typed_act caps (Mov bits dst source) s) (insn_act caps lay (Mov bits dst source) (image lay s))
+  pub mov_sim : (bits : OpWidth) (dst : ℕ) (source : Operand) (s : Typed) → Sim Any (image lay) (typed_act caps (Mov bits dst source) s) (insn_act caps lay (Mov bits dst source) (image lay s))
   mov_sim bits dst source s =
       sim_bind Any (address lay) Any (image lay) _ _ _ _ (operand caps lay s source) (λ y _ _.
       after_sim caps lay s _ _

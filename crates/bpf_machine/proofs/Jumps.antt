@@ -2,8 +2,8 @@
 use Rattle.std.proofs.Common.{◌≡◌, ℕ, ◌+◌, ◌*◌, ◌%◌, ◌^◌, ◌≤◌, List, ◌++◌, Some, refl, ap, ◌∙◌, arith}
 use Rattle.std.specs.Prelude.{ℤ, FitsSigned}
 use Rattle.std.specs.Int.{w16, w32}
-use Rattle.bpf_decode.specs.declared.operation.Bits.{Bits}
-use Rattle.bpf_decode.specs.declared.operation.Bits.TheVariants.{Bits32, Bits64}
+use Rattle.bpf_decode.specs.declared.operation.OpWidth.{OpWidth}
+use Rattle.bpf_decode.specs.declared.operation.OpWidth.TheVariants.{Bits32, Bits64}
 use Rattle.bpf_decode.specs.declared.operation.Comparison.{Comparison}
 use Rattle.bpf_decode.specs.declared.operation.Comparison.TheVariants.{Equal, Greater, GreaterEqual, SharesBits, NotEqual, SignedGreater, SignedGreaterEqual, Less, LessEqual, SignedLess, SignedLessEqual}
 use Rattle.bpf_decode.specs.declared.insn.Operand.{Operand}
@@ -31,7 +31,7 @@ module _ (caps : Caps) (lay : Layout) where
       by_row caps lay 0x06 0 0 0 (imm_field distance) rest s (omega arith) ∙ ap (λ z. Some (go ((s.slot + 1 + z) % 2 ^ 64) s)) (imm_extended distance f)
 
   -- the rows of a comparison with an immediate
-  imm_row : (bits : Bits) (comparison : Comparison) (dst offset imm : ℕ) (rest : List ℕ) (s : State ℕ) → dst ≤ 10 → act_on caps lay (slot (jump_class bits + 16 * comparison_code comparison) dst 0 offset imm ++ rest) s ≡ (reg s dst >>= λ x. Some (go (branch_to (is_taken bits comparison x (signed32 imm)) s.slot (signed16 offset)) s))
+  imm_row : (bits : OpWidth) (comparison : Comparison) (dst offset imm : ℕ) (rest : List ℕ) (s : State ℕ) → dst ≤ 10 → act_on caps lay (slot (jump_class bits + 16 * comparison_code comparison) dst 0 offset imm ++ rest) s ≡ (reg s dst >>= λ x. Some (go (branch_to (is_taken bits comparison x (signed32 imm)) s.slot (signed16 offset)) s))
   imm_row Bits32 Equal dst offset imm rest s h = by_row caps lay 0x16 dst 0 offset imm rest s h
   imm_row Bits32 Greater dst offset imm rest s h = by_row caps lay 0x26 dst 0 offset imm rest s h
   imm_row Bits32 GreaterEqual dst offset imm rest s h = by_row caps lay 0x36 dst 0 offset imm rest s h
@@ -56,7 +56,7 @@ module _ (caps : Caps) (lay : Layout) where
   imm_row Bits64 SignedLessEqual dst offset imm rest s h = by_row caps lay 0xd5 dst 0 offset imm rest s h
 
   -- and with a register
-  reg_row : (bits : Bits) (comparison : Comparison) (dst src offset : ℕ) (rest : List ℕ) (s : State ℕ) → dst ≤ 10 → act_on caps lay (slot (jump_class bits + 8 + 16 * comparison_code comparison) dst src offset 0 ++ rest) s ≡ (reg s dst >>= λ x. reg s src >>= λ y. Some (go (branch_to (is_taken bits comparison x y) s.slot (signed16 offset)) s))
+  reg_row : (bits : OpWidth) (comparison : Comparison) (dst src offset : ℕ) (rest : List ℕ) (s : State ℕ) → dst ≤ 10 → act_on caps lay (slot (jump_class bits + 8 + 16 * comparison_code comparison) dst src offset 0 ++ rest) s ≡ (reg s dst >>= λ x. reg s src >>= λ y. Some (go (branch_to (is_taken bits comparison x y) s.slot (signed16 offset)) s))
   reg_row Bits32 Equal dst src offset rest s h = by_row caps lay 0x1e dst src offset 0 rest s h
   reg_row Bits32 Greater dst src offset rest s h = by_row caps lay 0x2e dst src offset 0 rest s h
   reg_row Bits32 GreaterEqual dst src offset rest s h = by_row caps lay 0x3e dst src offset 0 rest s h
@@ -80,7 +80,7 @@ module _ (caps : Caps) (lay : Layout) where
   reg_row Bits64 SignedLess dst src offset rest s h = by_row caps lay 0xcd dst src offset 0 rest s h
   reg_row Bits64 SignedLessEqual dst src offset rest s h = by_row caps lay 0xdd dst src offset 0 rest s h
 
-  pub branch_acts : (bits : Bits) (comparison : Comparison) (dst : ℕ) (source : Operand) (offset : ℤ) (rest : List ℕ) (s : State ℕ) → dst ≤ 10 → FitsSigned w16 offset → OperandFits source → act_on caps lay (bytes_of (Branch bits comparison dst source offset) ++ rest) s ≡ insn_act caps lay (Branch bits comparison dst source offset) s
+  pub branch_acts : (bits : OpWidth) (comparison : Comparison) (dst : ℕ) (source : Operand) (offset : ℤ) (rest : List ℕ) (s : State ℕ) → dst ≤ 10 → FitsSigned w16 offset → OperandFits source → act_on caps lay (bytes_of (Branch bits comparison dst source offset) ++ rest) s ≡ insn_act caps lay (Branch bits comparison dst source offset) s
   branch_acts bits comparison dst (Immediate imm) offset rest s d f g =
       imm_row bits comparison dst (offset_field offset) (imm_field imm) rest s d
       ∙ ap (λ z. reg s dst >>= λ x. Some (go (branch_to (is_taken bits comparison x (signed32 (imm_field imm))) s.slot z) s)) (offset_extended offset f)
@@ -89,7 +89,7 @@ module _ (caps : Caps) (lay : Layout) where
       reg_row bits comparison dst src (offset_field offset) rest s d
       ∙ ap (λ z. reg s dst >>= λ x. reg s src >>= λ y. Some (go (branch_to (is_taken bits comparison x y) s.slot z) s)) (offset_extended offset f)
 
-  pub branch_sim : (bits : Bits) (comparison : Comparison) (dst : ℕ) (source : Operand) (offset : ℤ) (s : Typed) → Sim Any (image lay) (typed_act caps (Branch bits comparison dst source offset) s) (insn_act caps lay (Branch bits comparison dst source offset) (image lay s))
+  pub branch_sim : (bits : OpWidth) (comparison : Comparison) (dst : ℕ) (source : Operand) (offset : ℤ) (s : Typed) → Sim Any (image lay) (typed_act caps (Branch bits comparison dst source offset) s) (insn_act caps lay (Branch bits comparison dst source offset) (image lay s))
   branch_sim bits comparison dst source offset s =
       number_in caps lay (image lay) s dst _ (λ m. operand_in caps lay (image lay s) source >>= λ n. Some (go (branch_to (is_taken bits comparison m n) s.slot (extended offset)) (image lay s))) (λ m.
       sim_bind Any (address lay) Any (image lay) _ _ _ _ (operand caps lay s source) (λ y _ _.

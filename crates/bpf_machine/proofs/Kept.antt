@@ -9,8 +9,8 @@ use Rattle.bpf_decode.specs.declared.access.SignedWidth.{SignedWidth}
 use Rattle.bpf_decode.specs.Instruction.{spelling, signed_byte_count}
 use Rattle.bpf_decode.specs.Opcodes.{operation_of, selected, order_of, end_width_of, signed_move_of, comparison_of}
 use Rattle.bpf_decode.specs.Arithmetic.{alu_value, neg_value, mov_value, signed_move_value, end_value, is_taken, signed_load_value}
-use Rattle.bpf_decode.specs.declared.operation.Bits.{Bits}
-use Rattle.bpf_decode.specs.declared.operation.Bits.TheVariants.{Bits32, Bits64}
+use Rattle.bpf_decode.specs.declared.operation.OpWidth.{OpWidth}
+use Rattle.bpf_decode.specs.declared.operation.OpWidth.TheVariants.{Bits32, Bits64}
 use Rattle.bpf_machine.specs.declared.limits.TheConstants.{STACK_SIZE}
 use Rattle.bpf_decode.specs.declared.region.Region.{Region}
 use Rattle.bpf_decode.specs.declared.region.Region.TheVariants.{Input, Output, Stack}
@@ -166,22 +166,22 @@ module _ (caps : Caps) (law : EffectsAreWithinLimits) (within : AreCapacities ca
     stays : (slot : ℕ) → Where (IsGood caps) (Some (go slot s))
     stays slot = where_some (IsGood caps) (go slot s) (goes s slot g)
 
-    operations : (bits : Bits) (f : Fields) → Where (IsGood caps) (operation_row bits f s)
+    operations : (bits : OpWidth) (f : Fields) → Where (IsGood caps) (operation_row bits f s)
     operations bits f =
         where_bind (IsGood caps) (operation_of (f.opcode / 16)) _ (λ row _. only_good _ _ (where_bind (IsGood caps) (operand f s) _ (λ y _. where_bind (IsGood caps) (reg s f.dst) _ (λ x _. sets_next f.dst (alu_value bits (selected row f.offset) x y)))))
 
-    negs : (bits : Bits) (f : Fields) → Where (IsGood caps) (neg_row bits f s)
+    negs : (bits : OpWidth) (f : Fields) → Where (IsGood caps) (neg_row bits f s)
     negs bits f = only_good _ _ (where_bind (IsGood caps) (reg s f.dst) _ (λ x _. sets_next f.dst (neg_value bits x)))
 
-    movs : (bits : Bits) (f : Fields) → Where (IsGood caps) (mov_row bits f s)
+    movs : (bits : OpWidth) (f : Fields) → Where (IsGood caps) (mov_row bits f s)
     movs bits f =
         where_if (IsGood caps) (f.offset == 0) _ _ (where_bind (IsGood caps) (operand f s) _ (λ y _. sets_next f.dst (mov_value bits y)))
         (only_good _ _ (where_bind (IsGood caps) (reg s f.src) _ (λ y _. sets_next f.dst (signed_move_value (signed_move_of bits f.offset) y))))
 
-    ends_of : (bits : Bits) (f : Fields) → Where (IsGood caps) (end_row bits f s)
+    ends_of : (bits : OpWidth) (f : Fields) → Where (IsGood caps) (end_row bits f s)
     ends_of bits f = where_bind (IsGood caps) (order_of bits (f.opcode / 8 % 2)) _ (λ order _. only_good _ _ (where_bind (IsGood caps) (reg s f.dst) _ (λ x _. sets_next f.dst (end_value order (end_width_of f.imm) x))))
 
-    alus : (bits : Bits) (f : Fields) → Where (IsGood caps) (alu_row bits f s)
+    alus : (bits : OpWidth) (f : Fields) → Where (IsGood caps) (alu_row bits f s)
     alus bits f =
         where_if (IsGood caps) (f.opcode / 16 == 0x8) _ _ (negs bits f)
         (where_if (IsGood caps) (f.opcode / 16 == 0xb) _ _ (movs bits f)
@@ -214,7 +214,7 @@ module _ (caps : Caps) (law : EffectsAreWithinLimits) (within : AreCapacities ca
     calls : (f : Fields) → Where (IsGood caps) (call_row caps lay f s)
     calls f = only_good _ _ (after s (help caps lay f.imm s) (helps f.imm s g))
 
-    branches : (bits : Bits) (f : Fields) → Where (IsGood caps) (branch_row bits f s)
+    branches : (bits : OpWidth) (f : Fields) → Where (IsGood caps) (branch_row bits f s)
     branches bits f =
         where_bind (IsGood caps) (comparison_of (f.opcode / 16)) _ (λ comparison _. where_bind (IsGood caps) (reg s f.dst) _ (λ x _. where_bind (IsGood caps) (operand f s) _ (λ y _.
         stays (branch_to (is_taken bits comparison x y) s.slot (signed16 f.offset)))))

@@ -1,7 +1,7 @@
 -- Registers of the typed machine and of its image.
 use Rattle.std.proofs.Common.{◌≡◌, ℕ, ◌+◌, ◌-◌, ◌%◌, ◌^◌, Option, Some, true, refl, ap, ◌∙◌, sym, add_comm}
-use Rattle.bpf_decode.specs.declared.operation.Bits.{Bits}
-use Rattle.bpf_decode.specs.declared.operation.Bits.TheVariants.{Bits32, Bits64}
+use Rattle.bpf_decode.specs.declared.operation.OpWidth.{OpWidth}
+use Rattle.bpf_decode.specs.declared.operation.OpWidth.TheVariants.{Bits32, Bits64}
 use Rattle.bpf_decode.specs.declared.operation.Arithmetic.{Arithmetic}
 use Rattle.bpf_decode.specs.declared.operation.Arithmetic.TheVariants.{Add, Sub}
 use Rattle.bpf_decode.specs.declared.insn.Operand.{Operand}
@@ -29,17 +29,17 @@ module _ (caps : Caps) (lay : Layout) where
       sim_if _ _ _ _ _ (λ _. sim_some _ _ _ _ tt (ap (λ regs. record { slot = s.slot; regs = regs; memory = image_memory lay s.memory; object = s.object; out_len = s.out_len; caller = s.caller }) (sym (map-set (option_map (address lay)) s.regs d (Some v)))))
 
   -- a pointer that moves is moved in every layout
-  moved : (bits : Bits) (operation : Arithmetic) (r : Region) (at b : ℕ) → moves_pointer bits operation ≡ true → alu_value bits operation ((base lay r + at) % 2 ^ 64) b ≡ (base lay r + alu_value bits operation at b) % 2 ^ 64
+  moved : (bits : OpWidth) (operation : Arithmetic) (r : Region) (at b : ℕ) → moves_pointer bits operation ≡ true → alu_value bits operation ((base lay r + at) % 2 ^ 64) b ≡ (base lay r + alu_value bits operation at b) % 2 ^ 64
   moved Bits64 Add r at b h = shift (base lay r) at b (2 ^ 64)
   moved Bits64 Sub r at b h = shift (base lay r) at (2 ^ 64 - b) (2 ^ 64)
   moved bits operation r at b h = cc
 
-  moved_by : (bits : Bits) (operation : Arithmetic) (r : Region) (at a : ℕ) → is_addition bits operation ≡ true → alu_value bits operation a ((base lay r + at) % 2 ^ 64) ≡ (base lay r + alu_value bits operation a at) % 2 ^ 64
+  moved_by : (bits : OpWidth) (operation : Arithmetic) (r : Region) (at a : ℕ) → is_addition bits operation ≡ true → alu_value bits operation a ((base lay r + at) % 2 ^ 64) ≡ (base lay r + alu_value bits operation a at) % 2 ^ 64
   moved_by Bits64 Add r at a h =
       ap (λ n. n % 2 ^ 64) (add_comm a ((base lay r + at) % 2 ^ 64)) ∙ shift (base lay r) at a (2 ^ 64) ∙ ap (λ n. (base lay r + n % 2 ^ 64) % 2 ^ 64) (add_comm at a)
   moved_by bits operation r at a h = cc
 
-  pub alus : (bits : Bits) (operation : Arithmetic) (x y : Value) → Sim Any (address lay) (alu_values bits operation x y) (Some (alu_value bits operation (address lay x) (address lay y)))
+  pub alus : (bits : OpWidth) (operation : Arithmetic) (x y : Value) → Sim Any (address lay) (alu_values bits operation x y) (Some (alu_value bits operation (address lay x) (address lay y)))
   alus bits operation (Num a) (Num b) = sim_some _ _ _ _ tt refl
   alus bits operation (Ptr r at) (Num b) =
       sim_guard _ _ (moves_pointer bits operation) _ _ (λ yes. sim_some _ _ _ _ tt (moved bits operation r at b yes))
@@ -47,7 +47,7 @@ module _ (caps : Caps) (lay : Layout) where
       sim_guard _ _ (is_addition bits operation) _ _ (λ yes. sim_some _ _ _ _ tt (moved_by bits operation r at a yes))
   alus bits operation (Ptr r at) (Ptr q other) = sim_none _ _ _
 
-  pub movs : (bits : Bits) (x : Value) → Sim Any (address lay) (mov_values bits x) (Some (mov_value bits (address lay x)))
+  pub movs : (bits : OpWidth) (x : Value) → Sim Any (address lay) (mov_values bits x) (Some (mov_value bits (address lay x)))
   movs bits (Num n) = sim_some _ _ _ _ tt refl
   movs Bits64 (Ptr r at) = sim_some _ _ _ _ tt refl
   movs Bits32 (Ptr r at) = sim_none _ _ _

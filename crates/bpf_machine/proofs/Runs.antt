@@ -7,6 +7,7 @@ use Rattle.bpf_decode.specs.Instruction.{spelling, slots, AllFit}
 use Rattle.bpf_decode.specs.declared.region.Region.TheVariants.{Input, Output, Stack}
 use Rattle.bpf_decode.specs.declared.region.Region.{Region}
 use Rattle.bpf_machine.specs.declared.caps.Caps.{Caps}
+use Rattle.bpf_machine.specs.declared.limits.TheConstants.{STACK_SIZE}
 use Rattle.object_store.specs.Object.{PlainObject}
 use Rattle.bpf_machine.specs.State.{◌>>=◌, size, Memory, State, entry_regs, opening, Outcome, Ending, Ended, one_more, goes_on, ends}
 use Rattle.bpf_machine.specs.Flat.{Layout, IsLayout, base, step, exit_code, run, entry}
@@ -74,11 +75,11 @@ entry_image : (caps : Caps) (lay : Layout) → IsLayout caps lay → (object : P
 entry_image caps lay ok object caller input =
     let a : (lay.input + 0) % 2 ^ 64 ≡ lay.input = whole_plus lay.input 0 (omega (arith, ok.fits Input)) ∙ omega arith in
     let b : (lay.output + 0) % 2 ^ 64 ≡ lay.output = whole_plus lay.output 0 (omega (arith, ok.fits Output)) ∙ omega arith in
-    let c : (lay.stack + 512) % 2 ^ 64 ≡ lay.stack + 512 = whole_plus lay.stack 512 (omega (arith, ok.fits Stack)) in
+    let c : (lay.stack + STACK_SIZE) % 2 ^ 64 ≡ lay.stack + STACK_SIZE = whole_plus lay.stack STACK_SIZE (omega (arith, ok.fits Stack)) in
     let m = opening caps input in
-    ap (λ n. entry_at n object caller input ((lay.input + 0) % 2 ^ 64) ((lay.output + 0) % 2 ^ 64) ((lay.stack + 512) % 2 ^ 64)) (plain_memory_image lay m)
-    ∙ ap (λ x. entry_at m object caller input x ((lay.output + 0) % 2 ^ 64) ((lay.stack + 512) % 2 ^ 64)) a
-    ∙ ap (λ x. entry_at m object caller input lay.input x ((lay.stack + 512) % 2 ^ 64)) b
+    ap (λ n. entry_at n object caller input ((lay.input + 0) % 2 ^ 64) ((lay.output + 0) % 2 ^ 64) ((lay.stack + STACK_SIZE) % 2 ^ 64)) (plain_memory_image lay m)
+    ∙ ap (λ x. entry_at m object caller input x ((lay.output + 0) % 2 ^ 64) ((lay.stack + STACK_SIZE) % 2 ^ 64)) a
+    ∙ ap (λ x. entry_at m object caller input lay.input x ((lay.stack + STACK_SIZE) % 2 ^ 64)) b
     ∙ ap (λ x. entry_at m object caller input lay.input lay.output x) c
 
 pub simulates : Simulates

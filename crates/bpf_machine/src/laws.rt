@@ -5,9 +5,9 @@ ghost use Rattle.bpf_machine.specs.Within.{OutcomesAreWithinLimits, CallsAreWith
 
 use helpers::effects_are_within_limits;
 
-/// A law, proved when the crate is checked; a call does nothing. What the typed machine does with instructions,
-/// the flat machine does with their bytes, wherever the regions lie: the outcome, and the number of steps.
-/// So a method whose typed runs all end is safe.
+/// A law, proved when the crate is checked; a call does nothing. Where the typed machine's run of a method's instructions
+/// ends, the flat machine's run of their bytes ends with the same outcome, after as many steps, in every layout of the
+/// regions: so in the first layout too, in which the interpreter runs it. A method whose typed runs all end is safe.
 pub fn simulation()
     ensures simulates { Simulates }
     ensures safe { EndsAlwaysIsSafe }

@@ -3,8 +3,8 @@ use Rattle.std.specs.Prelude.{ℕ, List, length, nat_lt, Option, Some, None, if�
 use Rattle.pg_log.specs.Requests.{ClientRequest}
 use Rattle.replication.specs.Packed.{packed, spread}
 use Rattle.group_world.specs.declared.party.Party.{Party}
-use Rattle.group_world.specs.declared.message.Kind.{Kind}
-use Rattle.group_world.specs.declared.message.Kind.TheVariants.{Query as QueryOf, Log as LogOf}
+use Rattle.group_world.specs.declared.message.MessageKind.{MessageKind}
+use Rattle.group_world.specs.declared.message.MessageKind.TheVariants.{Query as QueryOf, Log as LogOf}
 use Rattle.group_world.specs.declared.message.Packet.{Packet}
 use Rattle.group_world.specs.declared.event.Event.{Event}
 use Rattle.group_world.specs.declared.event.Event.TheVariants.{Message as AMessage}
@@ -14,7 +14,7 @@ use Rattle.carried.specs.declared.operation.ShortLog.{ShortLog}
 
 -- PACKING. A sender that has committed so many entries says so in a question for a list. A list goes without its first
 -- requests, as many as its receiver told.
-abbrev pub carried_as : ℕ → ℕ → Party → Kind → Carried
+abbrev pub carried_as : ℕ → ℕ → Party → MessageKind → Carried
 carried_as committed told sender (QueryOf map) = Query sender map committed
 carried_as committed told sender (LogOf interval list) = Log (record { sender = sender; interval = interval; log = packed list told })
 carried_as committed told sender kind = Plain (AMessage (record { sender = sender; kind = kind }))
@@ -24,7 +24,7 @@ abbrev pub packed_as : ℕ → ℕ → Packet → Party × Carried
 packed_as committed told p = (p.receiver, carried_as committed told p.message.sender p.message.kind)
 
 -- only a list takes memory
-abbrev pub IsLog : Kind → Type 0
+abbrev pub IsLog : MessageKind → Type 0
 IsLog (LogOf interval list) = Unit {0}
 IsLog _ = ⊥
 

@@ -4,7 +4,7 @@ ghost use Rattle.replication.specs.Packed.{spread};
 ghost use Rattle.carried.specs.Carried.{comes_as, whole_list};
 
 use crate::operation::{Carried, ShortLog};
-use group_world::{Event, Kind, Message, Requests};
+use group_world::{Event, Message, MessageKind, Requests};
 use pg_log::{Entry, NoMemory, Request, copy_log};
 use replication::PackedLog;
 use std::alloc::Global;
@@ -33,7 +33,7 @@ fn spread(alloc: Global, own: &[Entry], log: PackedLog) -> Result<Vec<Request>, 
     }
 }
 
-/// The message of a list, whole; nothing where the own log is too short.
+/// The message of a list, whole; nothing if the own log is too short.
 fn whole_list(alloc: Global, own: &[Entry], short: ShortLog) -> Result<Option<Event>, NoMemory>
     ensures { IfOk result (λ e. e ≡ whole_list (requests_of own.now) short) }
 {
@@ -46,11 +46,11 @@ fn whole_list(alloc: Global, own: &[Entry], short: ShortLog) -> Result<Option<Ev
         return Ok(None);
     }
     let list = Requests::new(spread(alloc, own, log)?);
-    let kind = Kind::Log(interval, list);
+    let kind = MessageKind::Log(interval, list);
     Ok(Some(Event::Message(Message { sender, kind })))
 }
 
-/// The event that comes to a node whose log is `own`. A list gets its beginning from there; where that is too short it is
+/// The event that comes to a node whose log is `own`. A list gets its beginning from there; if that is too short it is
 /// lost, and nothing comes. It fails for want of memory alone, and that for a list alone, of which it copies the beginning.
 pub fn event_of(alloc: Global, own: &[Entry], carried: Carried) -> Result<Option<Event>, NoMemory>
     ensures { IfOk result (λ e. e ≡ comes_as (requests_of own.now) carried) }
@@ -62,7 +62,7 @@ pub fn event_of(alloc: Global, own: &[Entry], carried: Carried) -> Result<Option
             map,
             told: _,
         } => {
-            let kind = Kind::Query(map);
+            let kind = MessageKind::Query(map);
             Ok(Some(Event::Message(Message { sender, kind })))
         }
         Carried::Log(short) => whole_list(alloc, own, short),

@@ -2,12 +2,12 @@ ghost use Rattle.std.specs.Prelude.{◌≡◌, ℕ, IfOk, IfErr};
 ghost use Rattle.carried.specs.Carried.{carried_as, packed_as, IsLog};
 
 use crate::operation::{Carried, ShortLog};
-use group_world::{Epoch, Event, Kind, Message, Packet, Party, Requests};
+use group_world::{Epoch, Event, Message, MessageKind, Packet, Party, Requests};
 use pg_log::NoMemory;
 use replication::pack_log;
 use std::alloc::Global;
 
-/// A list without its first requests, as many as its receiver told, or without all where that is more.
+/// A list without its first requests, as many as its receiver has committed, or without all if that is more.
 fn pack_list(
     alloc: Global,
     told: usize,
@@ -15,7 +15,7 @@ fn pack_list(
     interval: Epoch,
     list: Requests,
 ) -> Result<Carried, NoMemory>
-    ensures { (committed : ℕ) → IfOk result (λ c. c ≡ carried_as committed told sender (Kind.Log interval list)) }
+    ensures { (committed : ℕ) → IfOk result (λ c. c ≡ carried_as committed told sender (MessageKind.Log interval list)) }
 {
     let log = pack_log(alloc, list.items(), told)?;
     Ok(Carried::Log(ShortLog {
@@ -26,41 +26,34 @@ fn pack_list(
 }
 
 /// A message that is carried as it is.
-fn plain(sender: Party, kind: Kind) -> Carried
+fn plain(sender: Party, kind: MessageKind) -> Carried
     ensures { result ≡ Carried.Plain (Event.Message (record { sender = sender; kind = kind })) }
 {
     Carried::Plain(Event::Message(Message { sender, kind }))
 }
 
 /// What a message says, as it is carried.
+#[rattlefmt::skip]
 fn carry(
     alloc: Global,
     committed: usize,
     told: usize,
     sender: Party,
-    kind: Kind,
+    kind: MessageKind,
 ) -> Result<Carried, NoMemory>
     ensures ok { IfOk result (λ c. c ≡ carried_as committed told sender kind) }
     ensures err { IfErr result (λ _. IsLog kind) }
 {
     match kind {
-        Kind::Query(map) => Ok(Carried::Query {
-            sender,
-            map,
-            told: committed,
-        }),
-        Kind::Log(interval, list) => pack_list(alloc, told, sender, interval, list),
-        Kind::Install(map, list) => Ok(plain(sender, Kind::Install(map, list))),
-        Kind::Installed(interval) => Ok(plain(sender, Kind::Installed(interval))),
-        Kind::AskActivate(interval) => Ok(plain(sender, Kind::AskActivate(interval))),
-        Kind::Activated(interval) => Ok(plain(sender, Kind::Activated(interval))),
-        Kind::Rep(interval, place, request) => {
-            Ok(plain(sender, Kind::Rep(interval, place, request)))
-        }
-        Kind::Ack(interval, length) => Ok(plain(sender, Kind::Ack(interval, length))),
-        Kind::Reply(client, number, place, answer) => {
-            Ok(plain(sender, Kind::Reply(client, number, place, answer)))
-        }
+        MessageKind::Query(map)                           => Ok(Carried::Query { sender, map, told: committed }),
+        MessageKind::Log(interval, list)                  => pack_list(alloc, told, sender, interval, list),
+        MessageKind::Install(map, list)                   => Ok(plain(sender, MessageKind::Install(map, list))),
+        MessageKind::Installed(interval)                  => Ok(plain(sender, MessageKind::Installed(interval))),
+        MessageKind::AskActivate(interval)                => Ok(plain(sender, MessageKind::AskActivate(interval))),
+        MessageKind::Activated(interval)                  => Ok(plain(sender, MessageKind::Activated(interval))),
+        MessageKind::Rep(interval, place, request)        => Ok(plain(sender, MessageKind::Rep(interval, place, request))),
+        MessageKind::Ack(interval, length)                => Ok(plain(sender, MessageKind::Ack(interval, length))),
+        MessageKind::Reply(client, number, place, answer) => Ok(plain(sender, MessageKind::Reply(client, number, place, answer))),
     }
 }
 

@@ -33,21 +33,21 @@ made outcomes class call input o is a (Ok reply) l =
     (o, l.0, a, l.1, one_outcome outcomes class call.method.now call.caller input o l.0 is a l.1 l.2 l.3, l.4)
 made outcomes class call input o is a (Err e) l = tt
 
--- the same beside an object, of the call alone
+-- the same on an object, of the call alone
 abbrev IsMadeBeside : List ClassMethod → Call → Content → List ℕ → Reply → Type 0
 IsMadeBeside class call object input reply =
     (outcome : Outcome) × (logged : Logged) × Answers class call.method.now (Some object) call.caller input outcome × IsOneOutcome outcome logged
     × IsReplyOf call.is_shown logged outcome reply
 
 -- the reply of the call's own outcome
-pub told_of : {E : Type 0} (is_shown : Bool) (o : Outcome) (l : Logged) (r : Result Reply E) → IsOneOutcome o l → IfOk r (IsReplyOf is_shown l o)
+pub replies_beside : {E : Type 0} (is_shown : Bool) (o : Outcome) (l : Logged) (r : Result Reply E) → IsOneOutcome o l → IfOk r (IsReplyOf is_shown l o)
     → IfOk r (λ reply. (logged : Logged) × IsOneOutcome o logged × IsReplyOf is_shown logged o reply)
-told_of is_shown o l (Ok reply) one said = (l, one, said)
-told_of is_shown o l (Err e) one said = tt
+replies_beside is_shown o l (Ok reply) one said = (l, one, said)
+replies_beside is_shown o l (Err e) one said = tt
 
 module _ {E : Type 0} (disk : Option Disk) (call : Call) (class : List ClassMethod) (input : List ℕ) (loaded : IsSafeIn disk call.image.now class)
     (read : decode_of call.input.now ≡ Ok input) where
-  -- of the class that was loaded and the input that was read, beside no object
+  -- of the class that was loaded and the input that was read, on no object
   pub reported : (r : Result Reply E) → object_before call ≡ Ok None → IfOk r (IsMade class call input) → IfOk r (Reports disk call)
   reported (Ok reply) begun m = record {
     class = class;
@@ -65,7 +65,7 @@ module _ {E : Type 0} (disk : Option Disk) (call : Call) (class : List ClassMeth
   }
   reported (Err e) begun m = tt
 
-  -- and beside an object
+  -- and on an object
   pub reported_beside : (object : Content) (r : Result Reply E) → object_before call ≡ Ok (Some object) → IfOk r (IsMadeBeside class call object input) → IfOk r (Reports disk call)
   reported_beside object (Ok reply) begun m = record {
     class = class;

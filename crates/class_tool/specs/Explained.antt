@@ -1,4 +1,4 @@
--- What is told beside a failure's line, where that is asked for.
+-- The note below a failure's line, if one is asked for.
 use Rattle.std.specs.Prelude.{◌≡◌, ⊤, ℕ, List, [], Option}
 use Rattle.bpf_decode.specs.Class.{Class}
 use Rattle.verifier.specs.declared.refusal.Refusal.{Refusal}
@@ -14,7 +14,7 @@ use Rattle.class_tool.specs.declared.failure.Failure.TheVariants as failure
 pub record IsRefusalNote (disk : Option Disk) (name : List ℕ) (refusal : Refusal) (note : List ℕ) : Type 0 where
   pub class : Class
   pub image : IsImageIn disk name class
-  pub told : note ≡ refusal_note class refusal
+  pub same : note ≡ refusal_note class refusal
 
 -- of a failed load the note of the refusal, and else nothing
 abbrev pub IsLoadNote : Option Disk → List ℕ → Failure → List ℕ → Type 0
@@ -33,7 +33,7 @@ IsVerifyNote disk name failure.CannotRead note = ⊤
 IsVerifyNote disk name failure.CannotWrite note = ⊤
 IsVerifyNote disk name why note = IsLoadNote disk name why note
 
--- What is told of a failure: where and why `verify` refuses a class; the name of a file that could not be read or written, and
+-- The note of a failure: where and why `verify` refuses a class; the name of a file that could not be read or written, and
 -- the system's reason.
 abbrev pub IsNote : Option Disk → Action → Failure → List ℕ → Type 0
 IsNote disk (action.Verify image) why note = IsVerifyNote disk image.now why note

@@ -22,7 +22,7 @@ abbrev pub Holds : Option Disk → List ℕ → List ℕ → Type 0
 Holds None name bytes = ⊤
 Holds (Some disk) name bytes = disk name ≡ Some bytes
 
--- the bytes are the first ones of the file of that name, so many at most, where that is known
+-- the bytes are the first ones of the file of that name, at most that many, if its content is known
 abbrev pub IsBeginning : Option Disk → List ℕ → ℕ → List ℕ → Type 0
 IsBeginning None name most bytes = ⊤
 IsBeginning (Some disk) name most bytes = (file : List ℕ) × (disk name ≡ Some file) × (bytes ≡ take most file)

@@ -26,7 +26,7 @@ of_digits (Err e) = Err ObjectNotHex
 abbrev pub bytes_in : List ℕ → Result (List ℕ) Failure
 bytes_in text = of_digits (decode_of text)
 
--- a name is hexadecimal behind 0x, and else stands for itself
+-- a name is hexadecimal after 0x, and else stands for itself
 abbrev pub name_in : List ℕ → Result (List ℕ) Failure
 name_in text = if slice_index text 0 == 48 && slice_index text 1 == 120 then bytes_in (drop 2 text) else Ok text
 

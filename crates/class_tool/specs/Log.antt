@@ -14,7 +14,7 @@ use Rattle.class_tool.specs.declared.log.Logged.{Logged}
 use Rattle.class_tool.specs.declared.failure.Failure.{Failure}
 use Rattle.class_tool.specs.declared.failure.Failure.TheVariants as failure
 
--- the caller's first request: that method of the first class, beside the object `o`
+-- the caller's first request: that method of the first class, on the object `o`
 abbrev pub first_request : ℕ → List ℕ → List ℕ → ClientRequest
 first_request caller method input = record { client = caller; number = 1; object = codes "o"; class = 0; method = method; input = input }
 

@@ -1,4 +1,4 @@
--- What is told of a refused method below the line that refuses it.
+-- What is printed of a refused method below the line that refuses it.
 use Rattle.std.specs.Prelude.{ℕ, zero, suc, ◌+◌, ◌==◌, ◌&&◌, ◌||◌, nat_le, nat_lt, Bool, false, List, [], ◌∷◌, ◌++◌, Option, Some, None, codes, slice_get, if◌then◌else◌}
 use Rattle.std.specs.Fmt.{decimal}
 use Rattle.abstract_num.specs.Plain.{Plain}
@@ -135,6 +135,6 @@ abbrev pub unless_memory : Rule → List ℕ → List ℕ
 unless_memory NoMemory text = []
 unless_memory rule text = text
 
--- What is told of a class that is refused so; nothing where memory was refused.
+-- What is printed of a class with that refusal; nothing where memory was refused.
 abbrev pub refusal_note : Class → Refusal → List ℕ
 refusal_note c refusal = unless_memory refusal.rule (of_method c.rules (slice_get c.methods refusal.method))

@@ -53,7 +53,7 @@ pub record IsCodeRefusedIn (disk : Option Disk) (name : List ℕ) (error : Decod
   pub held : Holds disk name bytes
   pub refused : code_of bytes ≡ Err error
 
--- Why a method's code was not read, after so many methods.
+-- Why a method's code was not read, after this number of methods.
 abbrev pub CodeFails : Option Disk → List ℕ → ℕ → Failure → Type 0
 CodeFails disk name done CannotRead = IsUnreadable disk name
 CodeFails disk name done CannotWrite = ⊥

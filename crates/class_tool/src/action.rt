@@ -4,13 +4,13 @@ use pg_log::ClientId;
 /// A name and a value that an object has, as words spell them.
 #[derive(Clone, Copy)]
 pub struct Entry<'a> {
-    /// The name: behind `0x` in hexadecimal, else as it stands.
+    /// The name: after `0x` in hexadecimal, else as it stands.
     pub name: &'a str,
     /// The value, in hexadecimal.
     pub value: &'a str,
 }
 
-/// A call of a method of an image's class, beside the object that is spelled, or none.
+/// A call of a method of an image's class, on the object that is spelled, or on none.
 #[derive(Drop)]
 pub struct Call<'a> {
     /// The file of the image.

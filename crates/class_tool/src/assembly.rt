@@ -62,6 +62,7 @@ pub fn assemble<F: Files>(
     let bytes = image_in(alloc, files, text)?;
     match files.write(image, &bytes) {
         Ok(()) => Ok(()),
+        // Want of memory is this failure too: this line alone says that the file may have changed.
         Err(_) => Err(Failure::CannotWrite),
     }
 }

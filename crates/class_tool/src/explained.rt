@@ -1,4 +1,4 @@
-//! What was found, and what is told beside a failure's line.
+//! What was found, and the note below a failure's line.
 ghost use Rattle.std.specs.Prelude.{◌≡◌, [], IfOk, IfErr, string_bytes};
 ghost use Rattle.class_tool.specs.Answer.{Settles, Fails};
 ghost use Rattle.class_tool.specs.Explained.{IsFileNote, IsLoadNote, IsNote, IsVerifyNote};
@@ -96,7 +96,7 @@ fn find_with_fault<F: Files>(
     }
 }
 
-/// `find`; and what is told of a failure beside its line is put into an empty text.
+/// `find`; and a failure's note is put into an empty text.
 pub fn find_noted<F: Files>(
     alloc: Global,
     files: &mut F,

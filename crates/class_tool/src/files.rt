@@ -17,7 +17,7 @@ pub trait Reads {
         ensures held { IfOk result (λ bytes. Holds (disk self.now) name.now bytes.items) }
         ensures unread { IfErr result (λ e. error_kind e ≢ ErrorKind.OutOfMemory → IsUnreadable (disk self.now) name.now) };
 
-    /// The first bytes of the file of that name, so many at most.
+    /// The first bytes of the file of that name, `most` at most.
     fn read_first(&self, alloc: Global, name: &str, most: usize) -> io::Result<Vec<u8>>
         ensures begun { IfOk result (λ bytes. IsBeginning (disk self.now) name.now most bytes.items) }
         ensures unread { IfErr result (λ e. error_kind e ≢ ErrorKind.OutOfMemory → IsUnreadable (disk self.now) name.now) };

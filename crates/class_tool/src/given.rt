@@ -29,7 +29,7 @@ fn bytes_in(alloc: Global, text: &[u8]) -> Result<Vec<u8>, Failure>
     }
 }
 
-/// The bytes that a name stands for: behind `0x` those of its digits, else its own.
+/// The bytes that a name stands for: after `0x` those of its digits, else its own.
 fn name_in(alloc: Global, text: &[u8]) -> Result<Vec<u8>, Failure>
     ensures { Gives (λ bytes. bytes.items) result (name_in text.now) }
 {

@@ -13,7 +13,7 @@ pub fn read_class<F: Reads>(alloc: Global, files: &F, image: &str) -> Result<Cla
     ensures read { IfOk result (IsImageIn (F.disk files.now) image.now) }
     ensures fails { IfErr result (ReadFails (F.disk files.now) image.now) }
 {
-    // What is proved of the bytes behind those; the call does nothing.
+    // What is proved of the bytes after those; the call does nothing.
     beginning();
     let bytes = match files.read_first(alloc, image, IMAGE_LIMIT + 1) {
         Ok(bytes) => bytes,

@@ -21,7 +21,7 @@ pub struct Logged {
     pub output: Vec<u8>,
 }
 
-/// The caller's first request: that method of the first class, beside the object `o`.
+/// The caller's first request: that method of the first class, on the object `o`.
 fn first_request(
     alloc: Global,
     caller: ClientId,
@@ -75,14 +75,6 @@ fn append_first<C: Classes>(
     append_to(alloc, &mut group, table, request)
 }
 
-/// The same, where the classes are the table's.
-fn append_to_empty(alloc: Global, table: &ClassTable, request: Request) -> Result<Logged, LogError>
-    ensures ok { IfOk result (λ l. reply_at table.now (request ∷ []) 0 ≡ Some (record { code = cast_unsigned w64 l.code; output = l.output.items })) }
-    ensures err { IfErr result (λ e. (append_answer table.now [] request ≡ Err e) ⊎ (e ≡ LogError.NoMemory)) }
-{
-    append_first::<Brand>(alloc, table, request)
-}
-
 /// The refusal of a call that has the name of the log's.
 fn call_error(error: LogError) -> CallError
     requires { IsCallRefusal error }
@@ -115,7 +107,8 @@ pub fn append(
         Err(TableError::TooMany) => unreachable!(),
     }
     let request = first_request(alloc, caller, method, input)?;
-    match append_to_empty(alloc, &table, request) {
+    // The call picks the classes: they are the table's.
+    match append_first::<Brand>(alloc, &table, request) {
         Ok(logged) => Ok(logged),
         Err(error) => Err(Failure::Call(call_error(error))),
     }

@@ -1,4 +1,4 @@
-//! What is told of a refused method below the line that refuses it.
+//! What is printed of a refused method below the line that refuses it.
 ghost use Rattle.std.specs.Prelude.{◌≡◌, ◌++◌, ◌+◌, ◌<◌, [], ◌∷◌, Some, IfOk, OnOk, codes, length, string_bytes};
 ghost use Rattle.std.specs.Fmt.{decimal};
 ghost use Rattle.abstract_num.specs.Plain.{view};
@@ -156,6 +156,7 @@ fn known_text(alloc: Global, insn: &Insn, known: &Option<Frame>) -> Result<Strin
 }
 
 /// What a rule wants.
+#[rattlefmt::skip]
 fn wanted(rule: Rule) -> &'static str
     ensures { result.now ≡ wanted rule }
 {
@@ -166,23 +167,17 @@ fn wanted(rule: Rule) -> &'static str
         Rule::LocalCall => "no call within the program",
         Rule::UnsetRead => "each of these registers set on every way that leads here",
         Rule::WritesR10 => "another destination than register 10",
-        Rule::PointerArithmetic => {
-            "of a pointer a copy, or a number added or subtracted, in 64 bits"
-        }
+        Rule::PointerArithmetic => "of a pointer a copy, or a number added or subtracted, in 64 bits",
         Rule::PointerCompare => "numbers on both sides",
         Rule::PointerStored => "a number to store",
         Rule::Bounds => "a pointer, and all of the bytes within its region",
         Rule::ReadOnlyRegion => "a pointer to the output or the stack",
         Rule::UnknownHelper => "the id of a helper, 1 to 15",
-        Rule::HelperArgument => {
-            "the arguments in the order of the helper, and an output length of at most OUT"
-        }
+        Rule::HelperArgument => "the arguments in the order of the helper, and an output length of at most OUT",
         Rule::WriteHelperInReader => "flags w or rw",
         Rule::ReturnsPointer => "a number in register 0",
         Rule::NoMemory => "more memory",
-        Rule::PointerBytes => {
-            "a stored pointer loaded whole, 8 bytes from its place, and given to no helper"
-        }
+        Rule::PointerBytes => "a stored pointer loaded whole, 8 bytes from its place, and given to no helper",
     }
 }
 
@@ -215,7 +210,7 @@ fn push_wanted(out: &mut String, rule: Rule) -> Result<(), AllocError>
     write!(out, "\n  see docs/VERIFIER.md, {rule}\n")
 }
 
-/// What is told of a refused slot of a method.
+/// What is printed of a refused slot of a method.
 fn slot_text(alloc: Global, method: &Method, refused: &RefusedSlot) -> Result<String, AllocError>
     ensures { IfOk result (λ text. string_bytes text ≡ slot_text method.now refused.now.rule refused.now.insn refused.now.known) }
 {
@@ -227,7 +222,7 @@ fn slot_text(alloc: Global, method: &Method, refused: &RefusedSlot) -> Result<St
     Ok(text)
 }
 
-/// What is told of a method under a rule set: nothing where no rule refuses it.
+/// What is printed of a method under a rule set: nothing where no rule refuses it.
 fn of_verdict(alloc: Global, rules: RuleSet, method: &Method) -> Result<String, AllocError>
     requires { IsMethod method.now }
     ensures { IfOk result (λ text. string_bytes text ≡ of_verdict rules method.now (method_verdict rules method.now)) }
@@ -238,7 +233,7 @@ fn of_verdict(alloc: Global, rules: RuleSet, method: &Method) -> Result<String, 
     }
 }
 
-/// What is told of a class that is refused so; nothing where memory was refused. It costs what `verify` does of the method.
+/// What is printed of a class with that refusal; nothing where memory was refused. It costs what `verify` does of the method.
 pub(crate) fn refusal_note(
     alloc: Global,
     class: &ClassImage,

@@ -9,7 +9,7 @@ use crate::files::{Files, Reads};
 use bpf_decode::{ClassImage, ImageError, Insn, Method, RuleSet, decode, write_image};
 use std::alloc::Global;
 
-/// The instructions of the raw code that a file holds. A refusal of the code is an image's, after so many methods.
+/// The instructions of the raw code that a file holds. A refusal of the code is an image's, after `done` methods.
 fn code_in<F: Reads>(
     alloc: Global,
     files: &F,
@@ -32,7 +32,7 @@ fn code_in<F: Reads>(
     }
 }
 
-/// The method whose raw code a file holds, after so many methods.
+/// The method whose raw code a file holds, after `done` methods.
 fn method_in<F: Reads>(
     alloc: Global,
     files: &F,
@@ -102,6 +102,7 @@ pub fn pack<F: Files>(alloc: Global, files: &mut F, asked: &Packing<'_>) -> Resu
     let bytes = packed(alloc, files, asked.rules, &asked.methods)?;
     match files.write(asked.image, &bytes) {
         Ok(()) => Ok(()),
+        // Want of memory is this failure too: this line alone says that the file may have changed.
         Err(_) => Err(Failure::CannotWrite),
     }
 }

@@ -1,4 +1,5 @@
 ghost use Rattle.std.specs.Prelude.{◌≡◌, IfOk, Some, option_map, string_bytes};
+ghost use Rattle.std.specs.Option.{option_copied};
 ghost use Rattle.std.specs.Fmt.{DisplaysOnOk};
 ghost use Rattle.class_tool.specs.Reply.{IsReplyOf, holdings_of, object_line};
 ghost use Rattle.class_tool.specs.Shown.{or_dash};
@@ -38,8 +39,8 @@ pub struct Holdings {
 
 impl Holdings {
     /// How much an object holds, if there is one.
-    fn of(object: &Option<Object>) -> Option<Holdings>
-        ensures { result ≡ option_map holdings_of object.now }
+    fn of(object: Option<&Object>) -> Option<Holdings>
+        ensures { result ≡ option_map holdings_of (option_copied object.entry) }
     {
         match object {
             Some(object) => Some(Holdings {
@@ -66,8 +67,8 @@ impl Reply {
             code: logged.code,
             output: hex::encode(alloc, &logged.output)?,
             steps: outcome.steps,
-            object: Holdings::of(&outcome.change.after),
-            shown: shown_text(alloc, is_shown, &outcome.change.after)?,
+            object: Holdings::of(outcome.change.after()),
+            shown: shown_text(alloc, is_shown, outcome.change.after())?,
         })
     }
 

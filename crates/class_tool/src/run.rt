@@ -22,7 +22,7 @@ use object_store::Object;
 use std::alloc::{AllocError, Global};
 use verifier::VerifiedClass;
 
-/// Makes the call beside an object, or none.
+/// Makes the call on an object, or on none.
 fn call(
     alloc: Global,
     class: &VerifiedClass,
@@ -64,7 +64,7 @@ fn log(
     Ok(Reply::new(alloc, &logged, outcome, asked.is_shown)?)
 }
 
-/// Makes the call beside no object, then appends the same request to an empty group.
+/// Makes the call on no object, then appends the same request to an empty group.
 fn call_and_log(
     alloc: Global,
     class: VerifiedClass,
@@ -82,7 +82,7 @@ fn call_and_log(
 }
 
 /// The reply of a call's own outcome.
-fn told(alloc: Global, asked: &Call<'_>, outcome: &Outcome) -> Result<Reply, AllocError>
+fn reply_beside(alloc: Global, asked: &Call<'_>, outcome: &Outcome) -> Result<Reply, AllocError>
     ensures { IfOk result (λ reply. (logged : ALogged) × IsOneOutcome outcome.now logged × IsReplyOf asked.now.is_shown logged outcome.now reply) }
 {
     let answered = Logged {
@@ -92,7 +92,7 @@ fn told(alloc: Global, asked: &Call<'_>, outcome: &Outcome) -> Result<Reply, All
     Reply::new(alloc, &answered, outcome, asked.is_shown)
 }
 
-/// Makes the call beside an object.
+/// Makes the call on an object.
 fn call_beside(
     alloc: Global,
     class: &VerifiedClass,
@@ -104,10 +104,10 @@ fn call_beside(
     ensures err { IfErr result (LogFails class.now asked.now.method.now input.now) }
 {
     let outcome = call(alloc, class, asked, Some(object), input)?;
-    Ok(told(alloc, asked, &outcome)?)
+    Ok(reply_beside(alloc, asked, &outcome)?)
 }
 
-/// Makes the call beside the object that is spelled. Beside none, it appends the same request to an empty group, and code
+/// Makes the call on the object that is spelled. If there is none, it appends the same request to an empty group, and code
 /// and output are those of the log's entry.
 pub fn run<F: Reads>(alloc: Global, files: &F, asked: &Call<'_>) -> Result<Reply, Failure>
     ensures ok { IfOk result (Reports (F.disk files.now) asked.now) }

@@ -2,6 +2,7 @@
 ghost use Rattle.std.specs.Prelude.{◌≡◌, ◌++◌, ◌==◌, ◌&&◌, IfOk, OnOk, not, slice_index, string_bytes, codes};
 ghost use Rattle.std.specs.List.{flat_map, list_any};
 ghost use Rattle.std.specs.FinMap as fin;
+ghost use Rattle.std.specs.Option.{option_copied};
 ghost use Rattle.hex.specs.Hex.{encode_lower};
 ghost use Rattle.class_tool.specs.Shown.{content_text, data_line, entry_line, is_printable, is_text, name_text, or_dash, shown_text};
 
@@ -56,7 +57,7 @@ fn is_text(name: &[u8]) -> bool
     !begins_as_hex(name) && !has_other(name)
 }
 
-/// Adds a name in hexadecimal behind `0x`.
+/// Adds a name in hexadecimal after `0x`.
 fn push_digits(alloc: Global, out: &mut String, name: &[u8]) -> Result<(), AllocError>
     ensures { OnOk result (string_bytes out.new ≡ string_bytes out.old ++ codes "0x" ++ encode_lower name.now) }
 {
@@ -65,7 +66,7 @@ fn push_digits(alloc: Global, out: &mut String, name: &[u8]) -> Result<(), Alloc
     out.push_str(&digits)
 }
 
-/// Adds a name: as text, or in hexadecimal behind `0x`.
+/// Adds a name: as text, or in hexadecimal after `0x`.
 #[tactic(auto, using(crate::proofs::Printable::text_is_utf8))]
 fn push_name(alloc: Global, out: &mut String, name: &[u8]) -> Result<(), AllocError>
     ensures { OnOk result (string_bytes out.new ≡ string_bytes out.old ++ name_text name.now) }
@@ -156,9 +157,9 @@ fn content_text(alloc: Global, object: &Object) -> Result<String, AllocError>
 pub(crate) fn shown_text(
     alloc: Global,
     is_shown: bool,
-    object: &Option<Object>,
+    object: Option<&Object>,
 ) -> Result<String, AllocError>
-    ensures { IfOk result (λ text. string_bytes text ≡ shown_text is_shown object.now) }
+    ensures { IfOk result (λ text. string_bytes text ≡ shown_text is_shown (option_copied object.entry)) }
 {
     match object {
         Some(object) if is_shown => content_text(alloc, object),

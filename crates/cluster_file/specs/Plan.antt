@@ -55,7 +55,7 @@ abbrev pub call_in : List (List ℕ) → ℕ → List (List ℕ) → Option Plan
 call_in names clients [] = None
 call_in names clients (client ∷ args) = option_and_then (λ c. call_of names c args) (client_in clients client)
 
--- EACH FURTHER LINE: `client`, or `map`, where so many clients were named above it. A map keeps its line's number.
+-- EACH FURTHER LINE: `client`, or `map`, after this number of clients was named above it. A map keeps its line's number.
 abbrev pub step_in : List (List ℕ) → ℕ → ℕ → List (List ℕ) → Option Step
 step_in names number clients [] = None
 step_in names number clients (word ∷ args) =

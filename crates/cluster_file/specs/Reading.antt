@@ -14,7 +14,7 @@ IsReading (Err line) (ABad n) = n ≡ line
 IsReading (Ok plan) (ABad n) = ⊥
 IsReading (Err line) (APlan p) = ⊥
 
--- steps grew by those of the lines, which name so many clients; or a line is malformed
+-- steps grew by those of the lines, which name this number of clients; or a line is malformed
 abbrev pub StepsRead : List (List ℕ) → List (List ℕ) → List Step → List Step → Ended → Type 0
 StepsRead names lines old new (AtBad line) = steps_of names 1 0 lines ≡ Err line
 StepsRead names lines old new (All clients) = (steps : List Step) × (steps_of names 1 0 lines ≡ Ok steps) × (new ≡ old ++ steps) × (clients ≡ clients_in 0 steps)

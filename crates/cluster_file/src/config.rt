@@ -15,7 +15,7 @@ pub struct Numbers {
     pub tries: u64,
 }
 
-/// The number behind its key.
+/// The number after its key.
 fn value_in(key: &str, word: &str, value: &str) -> Option<u64>
     ensures { result ≡ value_in key.now word.now value.now }
 {

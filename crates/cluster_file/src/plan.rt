@@ -70,7 +70,7 @@ pub enum Reading {
 
 /// Where reading the lines after the first ended.
 enum Ended {
-    /// All are well-formed, and name so many clients.
+    /// All are well-formed, and name this number of clients.
     All(u32),
     /// The first malformed line, by its number.
     Bad(usize),

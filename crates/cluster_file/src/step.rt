@@ -103,7 +103,7 @@ fn step_in(
     }
 }
 
-/// What a line does, where it is well-formed: the line of that number, below which so many clients were named.
+/// What a line does, if it is well-formed: the line of that number, before which `clients` clients were named.
 pub(crate) fn read_step(
     alloc: Global,
     names: &[&str],
@@ -118,7 +118,7 @@ pub(crate) fn read_step(
 }
 
 impl Step {
-    /// How many clients are named after it, where so many were before.
+    /// How many clients are named after it, if `clients` were named before.
     pub(crate) fn clients_after(&self, clients: u32) -> u32
         ensures { result ≡ clients_after clients self.now }
     {

@@ -40,7 +40,7 @@ pub record IsNewCaller (client : ℕ) (c : CallerState) : Type 0 where
   pub ends : c.ends ≡ []
   pub lost : c.lost ≡ false
 
--- so many clients that have called nothing, the first one first
+-- the given number of clients, which have called nothing, the first one first
 pub record AreNew (clients : ℕ) (callers : List CallerState) : Type 0 where
   pub count : length callers ≡ clients
   pub each : (k : ℕ) (d : CallerState) → k < clients → IsNewCaller (suc k) (slice_index_or callers k d)

@@ -57,22 +57,22 @@ IsRefused plan printed = IsLimit plan printed ⊎ IsWithin plan (λ config. IsNo
 
 -- WHAT COMES of a file's text, where memory lasts: what its plan comes to; or, before anything is done, the line that is
 -- malformed first alone.
-abbrev pub ComesOf : Classes → Result FilePlan ℕ → List ℕ → Ending → Type 0
-ComesOf classes (Ok plan) printed Done = IsWithin plan (λ config. IsMade classes plan printed)
-ComesOf classes (Ok plan) printed Bad = ⊥
-ComesOf classes (Ok plan) printed Refused = IsRefused plan printed
-ComesOf classes (Ok plan) printed NoMemory = ⊥
-ComesOf classes (Ok plan) printed Unprinted = ⊥
-ComesOf classes (Err line) printed Done = ⊥
-ComesOf classes (Err line) printed Bad = printed ≡ bad_line line
-ComesOf classes (Err line) printed Refused = ⊥
-ComesOf classes (Err line) printed NoMemory = ⊥
-ComesOf classes (Err line) printed Unprinted = ⊥
+abbrev pub IsPrintoutOf : Classes → Result FilePlan ℕ → List ℕ → Ending → Type 0
+IsPrintoutOf classes (Ok plan) printed Done = IsWithin plan (λ config. IsMade classes plan printed)
+IsPrintoutOf classes (Ok plan) printed Bad = ⊥
+IsPrintoutOf classes (Ok plan) printed Refused = IsRefused plan printed
+IsPrintoutOf classes (Ok plan) printed NoMemory = ⊥
+IsPrintoutOf classes (Ok plan) printed Unprinted = ⊥
+IsPrintoutOf classes (Err line) printed Done = ⊥
+IsPrintoutOf classes (Err line) printed Bad = printed ≡ bad_line line
+IsPrintoutOf classes (Err line) printed Refused = ⊥
+IsPrintoutOf classes (Err line) printed NoMemory = ⊥
+IsPrintoutOf classes (Err line) printed Unprinted = ⊥
 
 -- that was printed, whole, and no write or flush failed
 pub record IsShown (classes : Classes) (names : List (List ℕ)) (text : List ℕ) (old new : Option (List ℕ)) (failed fails : Bool) (ending : Ending) : Type 0 where
   pub printed : List ℕ
-  pub comes : ComesOf classes (plan_of names text) printed ending
+  pub comes : IsPrintoutOf classes (plan_of names text) printed ending
   pub grew : Appends old new printed
   pub well : fails ≡ failed
 
@@ -92,17 +92,17 @@ EndsSo classes names text old new failed fails Unprinted = fails ≡ true
 -- WHAT A CLUSTER FILE COMES TO: with the built-in classes and those of the tenants' files, the text that the file holds.
 pub record Clusters (disk : Option Disk) (c : Clustering) (old new : Option (List ℕ)) (failed fails : Bool) (ending : Ending) : Type 0 where
   pub classes : Classes
-  pub loaded : AreClasses disk c.own.items classes
+  pub loaded : AreClasses disk c.tenants.items classes
   pub text : List ℕ
   pub held : Holds disk c.file.now text
-  pub ends : EndsSo classes (names_of c.own.items) text old new failed fails ending
+  pub ends : EndsSo classes (names_of c.tenants.items) text old new failed fails ending
 
 -- the classes were had, and the file can't be read or is no text; or memory was refused
 pub record FileFails (disk : Option Disk) (c : Clustering) (failure : Failure) : Type 0 where
   pub classes : Classes
-  pub loaded : AreClasses disk c.own.items classes
+  pub loaded : AreClasses disk c.tenants.items classes
   pub why : TextFails disk c.file.now failure
 
 -- Why nothing was done, in the order in which it is tried: by the classes, by the file.
 abbrev pub ClusteringFails : Option Disk → Clustering → Failure → Type 0
-ClusteringFails disk c failure = ClassesFail disk c.own.items failure ⊎ FileFails disk c failure
+ClusteringFails disk c failure = ClassesFail disk c.tenants.items failure ⊎ FileFails disk c failure

@@ -1,6 +1,6 @@
 //! What a run took. Nothing is proved of these numbers.
 
-use osd::{Deal, Fate, Gate};
+use osd::{DeliveryMode, Fate, Gate};
 use std::fmt;
 use std::sync::atomic::{AtomicU64, Ordering};
 use std::time::{Clock, Instant};
@@ -99,9 +99,9 @@ impl Gate for Figures {
 
 /// Counts what nodes send, and lets it pass.
 impl Fate for Figures {
-    fn of(&self, _worker: usize, _n: u64) -> Deal {
+    fn of(&self, _worker: usize, _n: u64) -> DeliveryMode {
         add(&self.messages, 1);
-        Deal::Pass
+        DeliveryMode::Pass
     }
 }
 

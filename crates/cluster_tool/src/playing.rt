@@ -13,7 +13,6 @@ use osd::{ClusterName, NoMemory, Parts, Running, running_crosses};
 use pg_log::ClassTable;
 use rados_client::{ExecError, Reply, Session};
 use std::alloc::{AllocError, Global};
-use std::marker::Brand;
 use std::sync::Wait;
 use std::thread::{Threads, for_each_mut, join};
 use std::time::Clock;
@@ -22,22 +21,8 @@ use std::time::Clock;
 const WORKER_LIMIT: usize = 16;
 
 /// Plays a plan on a cluster of these parts, with these classes: each client and each worker in a thread of its own. It
-/// is not played where memory for the nodes is refused.
-pub(crate) fn play<R: Threads + Wait + Clock + Sync + Drop>(
-    alloc: Global,
-    rt: R,
-    parts: Parts,
-    table: ClassTable,
-    plan: &Plan,
-    figures: &Figures,
-) -> Result<Played, NoMemory>
-    ensures { IfOk result (Plays table parts.config plan.now.steps) }
-{
-    play_named::<Brand, R>(alloc, rt, parts, table, plan, figures)
-}
-
-/// Names the cluster, and plays a plan on it.
-fn play_named<N: ClusterName + Send + Sync, R: Threads + Wait + Clock + Sync + Drop>(
+/// is not played if memory for the nodes is refused. The caller picks the names, which are those of the parts and classes.
+pub(crate) fn play<N: ClusterName + Send + Sync, R: Threads + Wait + Clock + Sync + Drop>(
     alloc: Global,
     rt: R,
     parts: Parts,

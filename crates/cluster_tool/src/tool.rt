@@ -1,7 +1,7 @@
 ghost use Rattle.std.specs.Prelude.{◌≡◌, IfOk, IfErr, IfSome, OnErr, Ok, map, string_bytes};
 ghost use Rattle.cluster_file.specs.Plan.{plan_of};
 ghost use Rattle.cluster_file.specs.Text.{refused_line};
-ghost use Rattle.cluster_tool.specs.Clustering.{Clusters, ClusteringFails, ComesOf, Prints};
+ghost use Rattle.cluster_tool.specs.Clustering.{Clusters, ClusteringFails, IsPrintoutOf, Prints};
 
 use crate::asked::Clustering;
 use crate::config::config_of;
@@ -16,6 +16,7 @@ use pg_log::ClassTable;
 use rados_client::ConfigError;
 use std::alloc::{AllocError, Global};
 use std::fmt::Display;
+use std::marker::Brand;
 use std::sync::Wait;
 use std::thread::Threads;
 use std::time::Clock;
@@ -38,7 +39,7 @@ pub enum Ending {
 
 /// What is printed of a file, and how it ended.
 #[derive(Drop)]
-struct Outcome {
+struct Printout {
     text: String,
     ending: Ending,
 }
@@ -62,21 +63,21 @@ pub fn cluster<F: Reads, O: Output, R: Threads + Wait + Clock + Sync + Drop>(
     ensures fails { IfErr result (ClusteringFails (F.disk files.now) asked.now) }
     ensures silent { OnErr result (out.new ≡ out.old) }
 {
-    let table = classes(alloc, files, &asked.own)?;
-    let names = class_names(alloc, &asked.own)?;
+    let table = classes(alloc, files, &asked.tenants)?;
+    let names = class_names(alloc, &asked.tenants)?;
     let text = read_text(alloc, files, asked.file)?;
     match settle(alloc, rt, table, &names, &text, figures) {
-        Ok(outcome) => Ok(print(outcome, out)),
+        Ok(printout) => Ok(print(printout, out)),
         Err(_) => Ok(Ending::NoMemory),
     }
 }
 
 /// Prints a file's outcome.
-fn print<O: Output>(outcome: Outcome, out: &mut O) -> Ending
-    ensures { Prints (string_bytes outcome.text) outcome.ending (O.printed out.old) (O.printed out.new) (O.failed out.old) (O.failed out.new) result }
+fn print<O: Output>(printout: Printout, out: &mut O) -> Ending
+    ensures { Prints (string_bytes printout.text) printout.ending (O.printed out.old) (O.printed out.new) (O.failed out.old) (O.failed out.new) result }
 {
-    let ending = outcome.ending;
-    match out.print(outcome.text.as_str()) {
+    let ending = printout.ending;
+    match out.print(printout.text.as_str()) {
         Ok(()) => ending,
         Err(_) => Ending::Unprinted,
     }
@@ -90,12 +91,12 @@ fn settle<R: Threads + Wait + Clock + Sync + Drop>(
     names: &[&str],
     text: &str,
     figures: &Figures,
-) -> Result<Outcome, AllocError>
-    ensures { IfOk result (λ o. ComesOf table (plan_of (map (λ n. n.now) names.now) text.now) (string_bytes o.text) o.ending) }
+) -> Result<Printout, AllocError>
+    ensures { IfOk result (λ o. IsPrintoutOf table (plan_of (map (λ n. n.now) names.now) text.now) (string_bytes o.text) o.ending) }
 {
     match read_plan(alloc, names, text)? {
         Reading::Plan(plan) => settle_plan(alloc, rt, table, &plan, figures),
-        Reading::Bad(line) => Ok(Outcome {
+        Reading::Bad(line) => Ok(Printout {
             text: bad_line(alloc, line)?,
             ending: Ending::Bad,
         }),
@@ -103,11 +104,11 @@ fn settle<R: Threads + Wait + Clock + Sync + Drop>(
 }
 
 /// A cluster or a map that is refused, at that line.
-fn refused<E: Display + Drop>(alloc: Global, line: usize, why: E) -> Result<Outcome, AllocError>
+fn refused<E: Display + Drop>(alloc: Global, line: usize, why: E) -> Result<Printout, AllocError>
     ensures ending { IfOk result (λ o. o.ending ≡ Ending.Refused) }
     ensures text { IfOk result (λ o. IfSome (E.output why) (λ reason. string_bytes o.text ≡ refused_line line reason)) }
 {
-    Ok(Outcome {
+    Ok(Printout {
         text: refused_line(alloc, line, why)?,
         ending: Ending::Refused,
     })
@@ -120,8 +121,8 @@ fn settle_plan<R: Threads + Wait + Clock + Sync + Drop>(
     table: ClassTable,
     plan: &Plan,
     figures: &Figures,
-) -> Result<Outcome, AllocError>
-    ensures { IfOk result (λ o. ComesOf table (Ok plan.now) (string_bytes o.text) o.ending) }
+) -> Result<Printout, AllocError>
+    ensures { IfOk result (λ o. IsPrintoutOf table (Ok plan.now) (string_bytes o.text) o.ending) }
 {
     let Some(config) = config_of(plan.numbers()) else {
         return refused(alloc, 1, ConfigError::Limit);
@@ -129,8 +130,9 @@ fn settle_plan<R: Threads + Wait + Clock + Sync + Drop>(
     let Ok(parts) = Parts::new(alloc, config) else {
         return refused(alloc, 1, ConfigError::NoMemory);
     };
-    match play(alloc, rt, parts, table, plan, figures) {
-        Ok(Played::Done(ends)) => Ok(Outcome {
+    // The call picks the cluster's names: parts and classes are there already.
+    match play::<Brand, R>(alloc, rt, parts, table, plan, figures) {
+        Ok(Played::Done(ends)) => Ok(Printout {
             text: lines_of(alloc, &ends)?,
             ending: Ending::Done,
         }),

@@ -11,7 +11,7 @@ use Rattle.atomic_table.proofs.Lists.{at_last, at_longer, at_set, set_again, set
 use Rattle.pg_log.specs.Requests.{ClientRequest}
 use Rattle.commit_board.specs.declared.view.View.{View}
 use Rattle.commit_board.specs.Lists.{list_at, put_at, longer, merged}
-use Rattle.commit_board.specs.Rows.{HasRow, Fits, Kept, Adds, Looks, Merges, Compares, view_of, writes, owner, sees, other_rows, one_row, shared, told_of, newcomer, informed}
+use Rattle.commit_board.specs.Rows.{HasRow, Fits, Kept, Adds, Looks, Merges, Compares, view_of, writes, owner, sees, other_rows, one_row, shared, received_of, new_reader, informed}
 use Rattle.commit_board.proofs.Lists.{prefix_self, prefix_none, prefix_trans, longer_left, longer_right, longer_of, longer_either, list_at-put, list_at-put_else, list_at-merged}
 
 -- f, but x at k
@@ -71,8 +71,8 @@ has_more : (views : List View) (w : View) (j i : ℕ) → HasRow views j i → H
 has_more views w j i h = (h.0, at_longer views (w ∷ []) j h.0 h.1, h.2, h.3)
 
 -- a view that writes nothing fits where what it knows does
-reads : (rows : ℕ) (logs : ℕ → List ClientRequest) (seat : ℕ → ℕ) (by : ℕ) (known told : List (List ClientRequest)) → ((i : ℕ) → IsPrefix (list_at known i) (logs i)) → ((i : ℕ) → IsPrefix (list_at told i) (logs i)) → Fits rows logs seat by (sees known told)
-reads rows logs seat by known told k t = record { owns = λ i lo hi. absurd (omega arith); knows = k; told = t }
+reads : (rows : ℕ) (logs : ℕ → List ClientRequest) (seat : ℕ → ℕ) (by : ℕ) (known received : List (List ClientRequest)) → ((i : ℕ) → IsPrefix (list_at known i) (logs i)) → ((i : ℕ) → IsPrefix (list_at received i) (logs i)) → Fits rows logs seat by (sees known received)
+reads rows logs seat by known received k t = record { owns = λ i lo hi. absurd (omega arith); knows = k; received = t }
 
 index_replicate : (n i : ℕ) → slice_index (replicate n 0) i ≡ 0
 index_replicate zero i = refl
@@ -90,7 +90,7 @@ begins rows words is = record {
   count = ap length is ∙ length_replicate rows;
   words = λ i h. ap (λ (ws : List ℕ). slice_index ws i) is ∙ index_replicate rows i;
   writers = λ i lt. (owner rows, refl, omega arith, lt);
-  views = all_more (Fits rows (λ i. []) (λ i. 0)) [] (owner rows) (record { owns = λ i lo hi. (hi, refl, refl); knows = λ i. prefix_none []; told = λ i. prefix_none [] }) (λ j u e. absurd (no_view j u e));
+  views = all_more (Fits rows (λ i. []) (λ i. 0)) [] (owner rows) (record { owns = λ i lo hi. (hi, refl, refl); knows = λ i. prefix_none []; received = λ i. prefix_none [] }) (λ j u e. absurd (no_view j u e));
 }
 
 index_set : (l : List ℕ) (i a : ℕ) → i < length l → slice_index (set l i a) i ≡ a
@@ -109,21 +109,21 @@ next : (n : ℕ) → n < 65536 → (n + 1) % 2 ^ 64 ≡ n + 1
 next n h = omega arith
 
 -- a row's list grows by a request, at the seat that may write it
-grown : (rows id row : ℕ) (own : List ClientRequest) (request : ClientRequest) (s : State ℕ View) → row < rows → length own < 65536 → Kept rows s → get_elem? s.views id ≡ some (writes row (suc row) own)
-    → Kept rows record { words = set s.words row ((slice_index s.words row + 1) % 2 ^ 64); homes = s.homes; views = set s.views id (writes row (suc row) (own ++ request ∷ [])) }
-grown rows id row own request s lt room kept at =
-    let mine = kept.views id (writes row (suc row) own) at in
+grown : (rows id row : ℕ) (written : List ClientRequest) (request : ClientRequest) (s : State ℕ View) → row < rows → length written < 65536 → Kept rows s → get_elem? s.views id ≡ some (writes row (suc row) written)
+    → Kept rows record { words = set s.words row ((slice_index s.words row + 1) % 2 ^ 64); homes = s.homes; views = set s.views id (writes row (suc row) (written ++ request ∷ [])) }
+grown rows id row written request s lt room kept at =
+    let mine = kept.views id (writes row (suc row) written) at in
     let owned = mine.owns row (omega arith) (omega arith) in
-    let more : List ClientRequest = own ++ request ∷ [] in
+    let more : List ClientRequest = written ++ request ∷ [] in
     let logs' : ℕ → List ClientRequest = swapped kept.logs row more in
     let here : logs' row ≡ more = swapped_here kept.logs row row more refl in
     let grows : (i : ℕ) → IsPrefix (kept.logs i) (logs' i) = λ i.
     dite (ℕ_discrete i row)
     (λ e. subst (λ (l : List ClientRequest). IsPrefix (kept.logs i) l) (sym (swapped_here kept.logs row i more e)) (request ∷ [], ap (λ (l : List ClientRequest). l ++ request ∷ []) (ap kept.logs e ∙ sym owned.2)))
     (λ ne. subst (λ (l : List ClientRequest). IsPrefix (kept.logs i) l) (sym (swapped_else kept.logs row i more ne)) (prefix_self (kept.logs i))) in
-    let found : slice_index s.words row ≡ length own = kept.words row lt ∙ ap length (sym owned.2) in
+    let found : slice_index s.words row ≡ length written = kept.words row lt ∙ ap length (sym owned.2) in
     let n : ℕ = (slice_index s.words row + 1) % 2 ^ 64 in
-    let grew : n ≡ length more = ap (λ (k : ℕ). (k + 1) % 2 ^ 64) found ∙ next (length own) room ∙ sym (length-append own (request ∷ [])) in
+    let grew : n ≡ length more = ap (λ (k : ℕ). (k + 1) % 2 ^ 64) found ∙ next (length written) room ∙ sym (length-append written (request ∷ [])) in
     let within : row < length s.words = subst (λ (k : ℕ). row < k) (sym kept.count) lt in record {
       logs = logs';
       seat = kept.seat;
@@ -131,17 +131,17 @@ grown rows id row own request s lt room kept at =
       words = λ i h. dite (ℕ_discrete i row)
           (λ e. ap (λ (k : ℕ). slice_index (set s.words row n) k) e ∙ index_set s.words row n within ∙ grew ∙ ap length (sym here ∙ ap logs' (sym e)))
           (λ ne. index_set_else s.words row i n ne ∙ kept.words i h ∙ ap length (sym (swapped_else kept.logs row i more ne)));
-      writers = λ i h. has_set s.views id (writes row (suc row) own) (writes row (suc row) more) at refl refl (kept.seat i) i (kept.writers i h);
+      writers = λ i h. has_set s.views id (writes row (suc row) written) (writes row (suc row) more) at refl refl (kept.seat i) i (kept.writers i h);
       views = all_set (Fits rows logs' kept.seat) s.views id (writes row (suc row) more)
           record {
             owns = λ i lo hi. let e : i ≡ row = omega arith in (subst (λ (k : ℕ). k < rows) (sym e) lt, ap kept.seat e ∙ owned.1, sym here ∙ ap logs' (sym e));
             knows = λ i. prefix_none (logs' i);
-            told = λ i. prefix_none (logs' i);
+            received = λ i. prefix_none (logs' i);
           }
           (λ j u apart e. let f = kept.views j u e in record {
             owns = λ i lo hi. let o = f.owns i lo hi in (o.0, o.1, o.2 ∙ sym (swapped_else kept.logs row i more (λ same. apart (sym o.1 ∙ ap kept.seat same ∙ owned.1))));
             knows = λ i. prefix_trans (list_at u.known i) (kept.logs i) (logs' i) (f.knows i) (grows i);
-            told = λ i. prefix_trans (list_at u.told i) (kept.logs i) (logs' i) (f.told i) (grows i);
+            received = λ i. prefix_trans (list_at u.received i) (kept.logs i) (logs' i) (f.received i) (grows i);
           });
     }
 
@@ -163,11 +163,11 @@ set_index (x ∷ xs) zero = refl
 set_index (x ∷ xs) (suc i) = ap (λ (l : List ℕ). x ∷ l) (set_index xs i)
 
 module _ (rows slots id : ℕ) where
-  pub adds : (row k : ℕ) (me : Me ℕ View) (own : List ClientRequest) (request : ClientRequest) → row < rows → length own < 65536 → k ≡ 1 → me ≡ (writes row (suc row) own, [])
+  pub adds : (row k : ℕ) (me : Me ℕ View) (written : List ClientRequest) (request : ClientRequest) → row < rows → length written < 65536 → k ≡ 1 → me ≡ (writes row (suc row) written, [])
       → Allows (Kept rows) slots id me row (λ n. (n + k) % 2 ^ 64) (Adds request (step slots row k 0 none) me)
-  adds row k me own request lt room one is =
-      let here : Allows (Kept rows) slots id (writes row (suc row) own, []) row (λ n. (n + 1) % 2 ^ 64) (Adds request (step slots row 1 0 none) (writes row (suc row) own, [])) =
-      λ s kept homes at small. (writes row (suc row) (own ++ request ∷ []), keeps, tt, grown rows id row own request s lt room kept at, refl) in
+  adds row k me written request lt room one is =
+      let here : Allows (Kept rows) slots id (writes row (suc row) written, []) row (λ n. (n + 1) % 2 ^ 64) (Adds request (step slots row 1 0 none) (writes row (suc row) written, [])) =
+      λ s kept homes at small. (writes row (suc row) (written ++ request ∷ []), keeps, tt, grown rows id row written request s lt room kept at, refl) in
       subst (λ (p : ℕ × Me ℕ View). Allows (Kept rows) slots id p.1 row (λ n. (n + p.0) % 2 ^ 64) (Adds request (step slots row p.0 0 none) p.1)) (λ i. (sym one i, sym is i)) here
 
   pub looks : (row : ℕ) (me : Me ℕ View) (known : List (List ClientRequest)) → row < rows → me ≡ (sees known [], [])
@@ -185,45 +185,45 @@ module _ (rows slots id : ℕ) where
       (sees put [], keeps, tt, changed rows id s (sees known []) (sees put []) (set s.words row (slice_index s.words row)) (set_index s.words row) kept at refl refl (reads rows kept.logs kept.seat id put [] fits (λ i. prefix_none (kept.logs i))), (l, sym (kept.words row lt), mine.knows row, refl)) in
       subst (λ (m : Me ℕ View). Allows (Kept rows) slots id m row (λ n. n) (Looks (step slots row 0 0 none) m)) (sym is) here
 
-  pub unites : (row : ℕ) (me : Me ℕ View) (known told : List (List ClientRequest)) → me ≡ (sees known told, [])
+  pub unites : (row : ℕ) (me : Me ℕ View) (known received : List (List ClientRequest)) → me ≡ (sees known received, [])
       → Allows (Kept rows) slots id me row (λ n. n) (Merges (step slots row 0 0 none) me)
-  unites row me known told is =
-      let here : Allows (Kept rows) slots id (sees known told, []) row (λ n. n) (Merges (step slots row 0 0 none) (sees known told, [])) =
+  unites row me known received is =
+      let here : Allows (Kept rows) slots id (sees known received, []) row (λ n. n) (Merges (step slots row 0 0 none) (sees known received, [])) =
       λ s kept homes at small.
-      let mine = kept.views id (sees known told) at in
-      let all = merged known told in
-      let at_all : (i : ℕ) → longer (list_at known i) (list_at told i) ≡ list_at all i = λ i. sym (list_at-merged known told i) in (
+      let mine = kept.views id (sees known received) at in
+      let all = merged known received in
+      let at_all : (i : ℕ) → longer (list_at known i) (list_at received i) ≡ list_at all i = λ i. sym (list_at-merged known received i) in (
         sees all [],
         keeps,
         tt,
-        changed rows id s (sees known told) (sees all []) (set s.words row (slice_index s.words row)) (set_index s.words row) kept at refl refl
-            (reads rows kept.logs kept.seat id all [] (λ i. subst (λ (x : List ClientRequest). IsPrefix x (kept.logs i)) (at_all i) (longer_of (list_at known i) (list_at told i) (kept.logs i) (mine.knows i) (mine.told i))) (λ i. prefix_none (kept.logs i))),
+        changed rows id s (sees known received) (sees all []) (set s.words row (slice_index s.words row)) (set_index s.words row) kept at refl refl
+            (reads rows kept.logs kept.seat id all [] (λ i. subst (λ (x : List ClientRequest). IsPrefix x (kept.logs i)) (at_all i) (longer_of (list_at known i) (list_at received i) (kept.logs i) (mine.knows i) (mine.received i))) (λ i. prefix_none (kept.logs i))),
         (
           (λ i. (
-            subst (λ (x : List ClientRequest). IsPrefix (list_at known i) x) (at_all i) (longer_left (list_at known i) (list_at told i) (kept.logs i) (mine.knows i) (mine.told i)),
-            subst (λ (x : List ClientRequest). IsPrefix (list_at told i) x) (at_all i) (longer_right (list_at known i) (list_at told i) (kept.logs i) (mine.knows i) (mine.told i)),
-            subst (λ (x : List ClientRequest). (x ≡ list_at known i) ⊎ (x ≡ list_at told i)) (at_all i) (longer_either (list_at known i) (list_at told i) (kept.logs i) (mine.knows i) (mine.told i)),
+            subst (λ (x : List ClientRequest). IsPrefix (list_at known i) x) (at_all i) (longer_left (list_at known i) (list_at received i) (kept.logs i) (mine.knows i) (mine.received i)),
+            subst (λ (x : List ClientRequest). IsPrefix (list_at received i) x) (at_all i) (longer_right (list_at known i) (list_at received i) (kept.logs i) (mine.knows i) (mine.received i)),
+            subst (λ (x : List ClientRequest). (x ≡ list_at known i) ⊎ (x ≡ list_at received i)) (at_all i) (longer_either (list_at known i) (list_at received i) (kept.logs i) (mine.knows i) (mine.received i)),
           )),
           refl,
         ),
       ) in
       subst (λ (m : Me ℕ View). Allows (Kept rows) slots id m row (λ n. n) (Merges (step slots row 0 0 none) m)) (sym is) here
 
-  pub compares : (row : ℕ) (me : Me ℕ View) (own : List ClientRequest) (told : List (List ClientRequest)) → row < rows → me ≡ (view_of row (suc row) own [] told, [])
+  pub compares : (row : ℕ) (me : Me ℕ View) (written : List ClientRequest) (received : List (List ClientRequest)) → row < rows → me ≡ (view_of row (suc row) written [] received, [])
       → Allows (Kept rows) slots id me row (λ n. n) (Compares (step slots row 0 0 none) me)
-  compares row me own told lt is =
-      let v : View = view_of row (suc row) own [] told in
+  compares row me written received lt is =
+      let v : View = view_of row (suc row) written [] received in
       let here : Allows (Kept rows) slots id (v, []) row (λ n. n) (Compares (step slots row 0 0 none) (v, [])) =
       λ s kept homes at small.
       let mine = kept.views id v at in
       let owned = mine.owns row (omega arith) (omega arith) in
-      let w : View = writes row (suc row) own in (
+      let w : View = writes row (suc row) written in (
         w,
         keeps,
         tt,
         changed rows id s v w (set s.words row (slice_index s.words row)) (set_index s.words row) kept at refl refl
-            (record { owns = mine.owns; knows = λ i. prefix_none (kept.logs i); told = λ i. prefix_none (kept.logs i) }),
-        (subst (λ (l : List ClientRequest). IsPrefix (list_at told row) l) (sym owned.2) (mine.told row), refl),
+            (record { owns = mine.owns; knows = λ i. prefix_none (kept.logs i); received = λ i. prefix_none (kept.logs i) }),
+        (subst (λ (l : List ClientRequest). IsPrefix (list_at received row) l) (sym owned.2) (mine.received row), refl),
       ) in
       subst (λ (m : Me ℕ View). Allows (Kept rows) slots id m row (λ n. n) (Compares (step slots row 0 0 none) m)) (sym is) here
 
@@ -240,33 +240,33 @@ gives rows id v known part s kept at =
           (all_more (Fits rows kept.logs kept.seat) s.views (sees known []) (reads rows kept.logs kept.seat (length s.views) known [] (part kept.logs kept.seat (kept.views id v at)) (λ i. prefix_none (kept.logs i))) (λ j u e. kept.views j u e));
     }
 
-pub freshens : (rows id : ℕ) (v : View) → Splits (Kept rows) id v v (newcomer v)
+pub freshens : (rows id : ℕ) (v : View) → Splits (Kept rows) id v v (new_reader v)
 freshens rows id v = gives rows id v [] (λ logs seat f i. prefix_none (logs i))
 
-pub tells : (rows id : ℕ) (v : View) → Splits (Kept rows) id v v (told_of v)
+pub tells : (rows id : ℕ) (v : View) → Splits (Kept rows) id v v (received_of v)
 tells rows id v = gives rows id v v.known (λ logs seat f i. f.knows i)
 
-pub shares : (rows id row : ℕ) (v : View) (own : List ClientRequest) → v ≡ writes row (suc row) own → Splits (Kept rows) id v v (shared v)
-shares rows id row v own is = subst (λ (x : View). Splits (Kept rows) id x x (shared x)) (sym is)
-    (gives rows id (writes row (suc row) own) (put_at [] row own) (λ logs seat f i.
+pub shares : (rows id row : ℕ) (v : View) (written : List ClientRequest) → v ≡ writes row (suc row) written → Splits (Kept rows) id v v (shared v)
+shares rows id row v written is = subst (λ (x : View). Splits (Kept rows) id x x (shared x)) (sym is)
+    (gives rows id (writes row (suc row) written) (put_at [] row written) (λ logs seat f i.
     dite (ℕ_discrete i row)
-    (λ e. subst (λ (x : List ClientRequest). IsPrefix x (logs i)) (sym (f.owns i (omega arith) (omega arith)).2 ∙ sym (list_at-put [] row own) ∙ ap (list_at (put_at [] row own)) (sym e)) (prefix_self (logs i)))
-    (λ ne. subst (λ (x : List ClientRequest). IsPrefix x (logs i)) (sym (list_at-put_else [] row i own ne)) (prefix_none (logs i)))))
+    (λ e. subst (λ (x : List ClientRequest). IsPrefix x (logs i)) (sym (f.owns i (omega arith) (omega arith)).2 ∙ sym (list_at-put [] row written) ∙ ap (list_at (put_at [] row written)) (sym e)) (prefix_self (logs i)))
+    (λ ne. subst (λ (x : List ClientRequest). IsPrefix x (logs i)) (sym (list_at-put_else [] row i written ne)) (prefix_none (logs i)))))
 
-pub informs : (rows id other : ℕ) (v u : View) (told : List (List ClientRequest)) → u ≡ sees told [] → Joins (Kept rows) id v other u (informed v u) (sees [] [])
-informs rows id other v u told is = subst (λ (x : View). Joins (Kept rows) id v other x (informed v x) (sees [] [])) (sym is) here
+pub informs : (rows id other : ℕ) (v u : View) (received : List (List ClientRequest)) → u ≡ sees received [] → Joins (Kept rows) id v other u (informed v u) (sees [] [])
+informs rows id other v u received is = subst (λ (x : View). Joins (Kept rows) id v other x (informed v x) (sees [] [])) (sym is) here
   where
-    here : Joins (Kept rows) id v other (sees told []) (view_of v.first v.end v.own v.known told) (sees [] [])
+    here : Joins (Kept rows) id v other (sees received []) (view_of v.first v.end v.written v.known received) (sees [] [])
     here s kept at apart there =
-        let w : View = view_of v.first v.end v.own v.known told in
+        let w : View = view_of v.first v.end v.written v.known received in
         let mine = kept.views id v at in
-        let was : get_elem? s.views other ≡ some (sees told []) = ⊎_elim (λ (x : (other ≡ id) × (w ≡ sees told [])). absurd (apart x.0)) (λ (x : (other ≢ id) × (get_elem? s.views other ≡ some (sees told []))). x.1) (at_set s.views id other w (sees told []) there) in
-        let theirs = kept.views other (sees told []) was in
-        let once = changed rows id s v w s.words refl kept at refl refl (record { owns = mine.owns; knows = mine.knows; told = theirs.knows }) in
-        changed rows other record { words = s.words; homes = s.homes; views = set s.views id w } (sees told []) (sees [] []) s.words refl once there refl refl (reads rows kept.logs kept.seat other [] [] (λ i. prefix_none (kept.logs i)) (λ i. prefix_none (kept.logs i)))
+        let was : get_elem? s.views other ≡ some (sees received []) = ⊎_elim (λ (x : (other ≡ id) × (w ≡ sees received [])). absurd (apart x.0)) (λ (x : (other ≢ id) × (get_elem? s.views other ≡ some (sees received []))). x.1) (at_set s.views id other w (sees received []) there) in
+        let theirs = kept.views other (sees received []) was in
+        let once = changed rows id s v w s.words refl kept at refl refl (record { owns = mine.owns; knows = mine.knows; received = theirs.knows }) in
+        changed rows other record { words = s.words; homes = s.homes; views = set s.views id w } (sees received []) (sees [] []) s.words refl once there refl refl (reads rows kept.logs kept.seat other [] [] (λ i. prefix_none (kept.logs i)) (λ i. prefix_none (kept.logs i)))
 
-pub deals : (rows id first : ℕ) (v : View) → first < rows → v ≡ writes first rows [] → Splits (Kept rows) id v (other_rows v) (one_row v)
-deals rows id first v lt is = subst (λ (x : View). Splits (Kept rows) id x (other_rows x) (one_row x)) (sym is) here
+pub one_row_splits : (rows id first : ℕ) (v : View) → first < rows → v ≡ writes first rows [] → Splits (Kept rows) id v (other_rows v) (one_row v)
+one_row_splits rows id first v lt is = subst (λ (x : View). Splits (Kept rows) id x (other_rows x) (one_row x)) (sym is) here
   where
     here : Splits (Kept rows) id (writes first rows []) (writes (suc first) rows []) (writes first (suc first) [])
     here s kept at =
@@ -288,17 +288,17 @@ deals rows id first v lt is = subst (λ (x : View). Splits (Kept rows) id x (oth
               record {
                 owns = λ i lo hi. let e : i ≡ first = omega arith in (subst (λ (k : ℕ). k < rows) (sym e) lt, swapped_here kept.seat first i (length views') e, owned.2 ∙ ap kept.logs (sym e));
                 knows = λ i. prefix_none (kept.logs i);
-                told = λ i. prefix_none (kept.logs i);
+                received = λ i. prefix_none (kept.logs i);
               }
               (all_set (Fits rows kept.logs seat') s.views id v'
               record {
                 owns = λ i lo hi. let o = mine.owns i (omega arith) hi in (o.0, swapped_else kept.seat first i (length views') (λ e. omega arith) ∙ o.1, o.2);
                 knows = λ i. prefix_none (kept.logs i);
-                told = λ i. prefix_none (kept.logs i);
+                received = λ i. prefix_none (kept.logs i);
               }
               (λ j u apart e. let f = kept.views j u e in record {
                 owns = λ i lo hi. let o = f.owns i lo hi in (o.0, swapped_else kept.seat first i (length views') (λ same. apart (sym o.1 ∙ ap kept.seat same ∙ owned.1)) ∙ o.1, o.2);
                 knows = f.knows;
-                told = f.told;
+                received = f.received;
               }));
         }

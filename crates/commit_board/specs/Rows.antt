@@ -9,11 +9,11 @@ use Rattle.commit_board.specs.declared.view.View.{View}
 use Rattle.commit_board.specs.Lists.{list_at, put_at, merged}
 
 abbrev pub view_of : ℕ → ℕ → List ClientRequest → List (List ClientRequest) → List (List ClientRequest) → View
-view_of first end own known told = record { first = first; end = end; own = own; known = known; told = told }
+view_of first end written known received = record { first = first; end = end; written = written; known = known; received = received }
 
 -- the seat of the writer of these rows, each of which has this list
 abbrev pub writes : ℕ → ℕ → List ClientRequest → View
-writes first end own = view_of first end own [] []
+writes first end written = view_of first end written [] []
 
 -- the seat of all rows, none of which has a request
 abbrev pub owner : ℕ → View
@@ -21,14 +21,14 @@ owner rows = writes 0 rows []
 
 -- a seat that writes no row
 abbrev pub sees : List (List ClientRequest) → List (List ClientRequest) → View
-sees known told = view_of 0 0 [] known told
+sees known received = view_of 0 0 [] known received
 
--- What the seat with this number knows, and what it was told, is a beginning of each row's list. It has the whole list of the rows that are its own, and it
+-- What the seat with this number knows, and what it received, is a beginning of each row's list. It has the whole list of the rows that are its own, and it
 -- alone writes them
 pub record Fits (rows : ℕ) (logs : ℕ → List ClientRequest) (seat : ℕ → ℕ) (by : ℕ) (v : View) : Type 0 where
-  pub owns : (i : ℕ) → v.first ≤ i → i < v.end → (i < rows) × (seat i ≡ by) × (v.own ≡ logs i)
+  pub owns : (i : ℕ) → v.first ≤ i → i < v.end → (i < rows) × (seat i ≡ by) × (v.written ≡ logs i)
   pub knows : (i : ℕ) → IsPrefix (list_at v.known i) (logs i)
-  pub told : (i : ℕ) → IsPrefix (list_at v.told i) (logs i)
+  pub received : (i : ℕ) → IsPrefix (list_at v.received i) (logs i)
 
 -- the seat with this number has the row among its own
 abbrev pub HasRow : List View → ℕ → ℕ → Type 0
@@ -45,42 +45,42 @@ pub record Kept (rows : ℕ) (s : State ℕ View) : Type 0 where
 
 -- the request was added to the row's list
 abbrev pub Adds : ClientRequest → Step ℕ → Me ℕ View → ℕ → Me ℕ View → Type 0
-Adds request s v n w = w ≡ (writes v.0.first v.0.end (v.0.own ++ request ∷ []), v.1)
+Adds request s v n w = w ≡ (writes v.0.first v.0.end (v.0.written ++ request ∷ []), v.1)
 
 -- the row's list was seen, as long as the number found
 abbrev pub Looks : Step ℕ → Me ℕ View → ℕ → Me ℕ View → Type 0
-Looks s v n w = (l : List ClientRequest) × (length l ≡ n) × IsPrefix (list_at v.0.known s.word) l × (w ≡ (sees (put_at v.0.known s.word l) v.0.told, v.1))
+Looks s v n w = (l : List ClientRequest) × (length l ≡ n) × IsPrefix (list_at v.0.known s.word) l × (w ≡ (sees (put_at v.0.known s.word l) v.0.received, v.1))
 
--- of each row the longer of what was known and what was told is known, and begins with both
+-- of each row the longer of what was known and what was received is known, and begins with both
 abbrev pub Merges : Step ℕ → Me ℕ View → ℕ → Me ℕ View → Type 0
 Merges s v n w =
-    ((i : ℕ) → IsPrefix (list_at v.0.known i) (list_at w.0.known i) × IsPrefix (list_at v.0.told i) (list_at w.0.known i)
-    × ((list_at w.0.known i ≡ list_at v.0.known i) ⊎ (list_at w.0.known i ≡ list_at v.0.told i)))
-    × (w ≡ (sees (merged v.0.known v.0.told) [], v.1))
+    ((i : ℕ) → IsPrefix (list_at v.0.known i) (list_at w.0.known i) × IsPrefix (list_at v.0.received i) (list_at w.0.known i)
+    × ((list_at w.0.known i ≡ list_at v.0.known i) ⊎ (list_at w.0.known i ≡ list_at v.0.received i)))
+    × (w ≡ (sees (merged v.0.known v.0.received) [], v.1))
 
--- what the writer was told of its own row is a beginning of its list
+-- what the writer received of its own row is a beginning of its list
 abbrev pub Compares : Step ℕ → Me ℕ View → ℕ → Me ℕ View → Type 0
-Compares s v n w = IsPrefix (list_at v.0.told s.word) v.0.own × (w ≡ (writes v.0.first v.0.end v.0.own, v.1))
+Compares s v n w = IsPrefix (list_at v.0.received s.word) v.0.written × (w ≡ (writes v.0.first v.0.end v.0.written, v.1))
 
 -- cutting off the first row
 abbrev pub other_rows : View → View
-other_rows v = writes (suc v.first) v.end v.own
+other_rows v = writes (suc v.first) v.end v.written
 
 abbrev pub one_row : View → View
-one_row v = writes v.first (suc v.first) v.own
+one_row v = writes v.first (suc v.first) v.written
 
 -- what a writer hands on
 abbrev pub shared : View → View
-shared v = sees (put_at [] v.first v.own) []
+shared v = sees (put_at [] v.first v.written) []
 
 -- what another seat hands on
-abbrev pub told_of : View → View
-told_of v = sees v.known []
+abbrev pub received_of : View → View
+received_of v = sees v.known []
 
 -- a seat that knows nothing
-abbrev pub newcomer : View → View
-newcomer v = sees [] []
+abbrev pub new_reader : View → View
+new_reader v = sees [] []
 
--- a seat that was told what another knew
+-- a seat that received what another knew
 abbrev pub informed : View → View → View
-informed v w = view_of v.first v.end v.own v.known w.known
+informed v w = view_of v.first v.end v.written v.known w.known

@@ -6,7 +6,7 @@ ghost use Rattle.commit_board.specs.Lists.{list_at};
 ghost use Rattle.commit_board.specs.Tokens.{writer_of, new_writer, knows};
 ghost use Rattle.pg_log.specs.declared.group.TheConstants.{LOG_LIMIT};
 
-use crate::steps::{Add, Compare, Deal, Fresh, Inform, Look, Merge, Said, Share, Tell};
+use crate::steps::{Add, Compare, Fresh, Inform, Look, Merge, OneRow, Said, Share, Tell};
 use crate::tokens::{Note, Seen, Writer};
 use crate::view::{Rows, View};
 use atomic_table::{Seat, Table};
@@ -32,7 +32,7 @@ impl Model for Board {
 }
 
 impl Board {
-    /// A board with so many empty rows, the writer of each in order, and a token that knows nothing.
+    /// A board of `rows` empty rows, the writer of each in order, and a token that knows nothing.
     pub fn new(alloc: Global, rows: usize) -> Result<(Board, Vec<Writer>, Seen), NoMemory>
         requires { 0 < rows }
         ensures rows { IfOk result (λ b. b.0.words ≡ rows) }
@@ -46,7 +46,7 @@ impl Board {
         for row in 0..rows {
             writers.push_reserved(Writer {
                 row,
-                seat: table.shared.split_seat::<Deal>(&mut seat),
+                seat: table.shared.split_seat::<OneRow>(&mut seat),
             });
         }
         let seen = Seen {
@@ -128,7 +128,7 @@ impl Board {
         requires note { note.board ≡ self.now }
         ensures board { seen.new.board ≡ seen.old.board }
         ensures known { (i : ℕ) → IsPrefix (list_at seen.old.lists i) (list_at seen.new.lists i) }
-        ensures told { (i : ℕ) → IsPrefix (list_at note.lists i) (list_at seen.new.lists i) }
+        ensures received { (i : ℕ) → IsPrefix (list_at note.lists i) (list_at seen.new.lists i) }
         ensures either { (i : ℕ) → (list_at seen.new.lists i ≡ list_at seen.old.lists i) ⊎ (list_at seen.new.lists i ≡ list_at note.lists i) }
     {
         self.take_in(seen, note);
@@ -139,7 +139,7 @@ impl Board {
         requires note { note.board ≡ self.now }
         ensures board { seen.new.board ≡ seen.old.board }
         ensures known { (i : ℕ) → IsPrefix (list_at seen.old.lists i) (list_at seen.new.lists i) }
-        ensures told { (i : ℕ) → IsPrefix (list_at note.lists i) (list_at seen.new.lists i) }
+        ensures received { (i : ℕ) → IsPrefix (list_at note.lists i) (list_at seen.new.lists i) }
         ensures either { (i : ℕ) → (list_at seen.new.lists i ≡ list_at seen.old.lists i) ⊎ (list_at seen.new.lists i ≡ list_at note.lists i) }
     {
         let Note { seat } = note;

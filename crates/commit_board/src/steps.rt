@@ -1,5 +1,5 @@
 // What each step tells, and how what a token knows is handed on.
-ghost use Rattle.commit_board.specs.Rows.{Adds, Looks, Merges, Compares, other_rows, one_row, shared, told_of, newcomer, informed, sees};
+ghost use Rattle.commit_board.specs.Rows.{Adds, Looks, Merges, Compares, other_rows, one_row, shared, received_of, new_reader, informed, sees};
 
 use crate::view::View;
 use atomic_table::{Join, Play, Split};
@@ -34,24 +34,24 @@ impl Play<u8, View> for Look {
     ghost then = { Looks };
 }
 
-/// What was told becomes known.
+/// What was received becomes known.
 pub(crate) struct Merge;
 
 impl Play<u8, View> for Merge {
     ghost then = { Merges };
 }
 
-/// What a writer was told is compared with its list.
+/// What a writer received is compared with its list.
 pub(crate) struct Compare;
 
 impl Play<u8, View> for Compare {
     ghost then = { Compares };
 }
 
-/// A writer of the first row is cut off.
-pub(crate) struct Deal;
+/// A writer of the first row is made, apart from those of the other rows.
+pub(crate) struct OneRow;
 
-impl Split<View> for Deal {
+impl Split<View> for OneRow {
     ghost left = { other_rows };
 
     ghost right = { one_row };
@@ -72,7 +72,7 @@ pub(crate) struct Tell;
 impl Split<View> for Tell {
     ghost left = { λ v. v };
 
-    ghost right = { told_of };
+    ghost right = { received_of };
 }
 
 /// A token that knows nothing.
@@ -81,7 +81,7 @@ pub(crate) struct Fresh;
 impl Split<View> for Fresh {
     ghost left = { λ v. v };
 
-    ghost right = { newcomer };
+    ghost right = { new_reader };
 }
 
 /// A token takes in a note. The spent note knows nothing.

@@ -19,9 +19,9 @@ impl Model for Writer {
 
     ghost Value = { Row };
 
-    ghost view = { λ w. writer_of w.seat.table_id w.row w.seat.me.0.own };
+    ghost view = { λ w. writer_of w.seat.table_id w.row w.seat.me.0.written };
 
-    ghost invariant = { λ w. (w.row < w.seat.table_id.words) × (w.seat.me ≡ (writes w.row (suc w.row) w.seat.me.0.own, [])) };
+    ghost invariant = { λ w. (w.row < w.seat.table_id.words) × (w.seat.me ≡ (writes w.row (suc w.row) w.seat.me.0.written, [])) };
 }
 
 impl Writer {

@@ -3,17 +3,17 @@ use atomic_table::TableRule;
 use pg_log::Request;
 use std::collections::LinkedList;
 
-/// The rows from `first` up to `end` are its own to write, and each has the list `own`. It knows a beginning of each row's list, and was told of one. No
+/// The rows from `first` up to `end` are its own to write, and each has the list `written`. It knows a beginning of each row's list, and has received one. No
 /// value of it is made.
 pub struct View {
     pub first: u64,
     pub end: u64,
-    pub own: LinkedList<Request>,
+    pub written: LinkedList<Request>,
     pub known: LinkedList<LinkedList<Request>>,
-    pub told: LinkedList<LinkedList<Request>>,
+    pub received: LinkedList<LinkedList<Request>>,
 }
 
-/// The rule of a board of so many rows.
+/// The rule of a board with that number of rows.
 pub struct Rows;
 
 impl TableRule<u8, View, usize> for Rows {

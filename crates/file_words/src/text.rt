@@ -23,7 +23,7 @@ fn ends_empty(lines: &[&str]) -> bool
     }
 }
 
-/// Leaves out an empty last line behind others.
+/// Leaves out an empty last line after others.
 fn drop_empty_end(lines: &mut Vec<&str>)
     ensures { map (λ l. l.now) lines.new.items ≡ without_empty_end (map (λ l. l.now) lines.old.items) }
 {

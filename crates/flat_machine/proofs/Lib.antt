@@ -1,4 +1,3 @@
-pub mod Cells
 pub mod Table
 pub mod Ranges
 pub mod Row

@@ -5,10 +5,13 @@
 mod calls;
 mod fields;
 mod layout;
+mod machine;
 mod memory;
+mod regions;
 mod rows;
 mod run;
 mod state;
 
 pub use layout::{Layout, is_layout};
-pub use run::{Ending, flat_run};
+pub use machine::Machine;
+pub use run::{Ending, RunStart, flat_run};

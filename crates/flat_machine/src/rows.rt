@@ -1,17 +1,14 @@
 ghost use Rattle.std.specs.Prelude.{◌≡◌, ◌<◌, ◌+◌, ◌*◌, ◌^◌, ℕ, IfOk};
 ghost use Rattle.bpf_machine.specs.State.{State};
 ghost use Rattle.bpf_machine.specs.Flat.{operand, operation_row, neg_row, mov_row, end_row, alu_row, mem_row, memsx_row, ldx_row, st_row, stx_row, wide_row, ja_row, ja32_row, branch_row, call_row, act, step, exit_code, at_base, width_of, store, flat_after};
-ghost use Rattle.flat_machine.specs.View.{layout_of};
-ghost use Rattle.flat_machine.specs.inner.FlatState.{flat_state, sets, sets_wide, GivesState, IsSized};
+ghost use Rattle.flat_machine.specs.inner.FlatState.{caps_in, layout_in, flat_state, sets, sets_wide, GivesState};
 
 use crate::calls::help;
 use crate::fields::{at_slot, signed_width_of, signed16, signed32, width_of};
-use crate::layout::Layout;
 use crate::memory::{load, load_signed, store};
 use crate::state::{FlatState, get, set};
 use bpf_decode::arithmetic::{alu, copied, negative, ordered, sign_extended, taken};
-use bpf_decode::{Arithmetic, Bits, ByteOrder, Comparison, EndWidth, SignedMove, Slot};
-use bpf_machine::Caps;
+use bpf_decode::{Arithmetic, ByteOrder, Comparison, EndWidth, OpWidth, SignedMove, Slot};
 use std::alloc::Global;
 use txn::NoMemory;
 
@@ -33,7 +30,7 @@ fn operand(f: Slot, s: &FlatState) -> Option<u64>
 }
 
 /// What an operation gives; the offset tells signed division and modulo apart.
-fn operation_value(bits: Bits, f: Slot, s: &FlatState) -> Option<u64>
+fn operation_value(bits: OpWidth, f: Slot, s: &FlatState) -> Option<u64>
     ensures { sets f.dst (flat_state s.now) result ≡ operation_row bits f (flat_state s.now) }
 {
     let row = Arithmetic::of(f.opcode / 16)?;
@@ -46,7 +43,7 @@ fn operation_value(bits: Bits, f: Slot, s: &FlatState) -> Option<u64>
 }
 
 /// What NEG gives.
-fn neg_value(bits: Bits, f: Slot, s: &FlatState) -> Option<u64>
+fn neg_value(bits: OpWidth, f: Slot, s: &FlatState) -> Option<u64>
     ensures { sets f.dst (flat_state s.now) result ≡ neg_row bits f (flat_state s.now) }
 {
     if f.opcode / 8 % 2 != 0 || f.src != 0 || f.offset != 0 || f.imm != 0 {
@@ -57,7 +54,7 @@ fn neg_value(bits: Bits, f: Slot, s: &FlatState) -> Option<u64>
 }
 
 /// What MOV gives, and MOVSX of a register.
-fn mov_value(bits: Bits, f: Slot, s: &FlatState) -> Option<u64>
+fn mov_value(bits: OpWidth, f: Slot, s: &FlatState) -> Option<u64>
     ensures { sets f.dst (flat_state s.now) result ≡ mov_row bits f (flat_state s.now) }
 {
     if f.offset == 0 {
@@ -72,7 +69,7 @@ fn mov_value(bits: Bits, f: Slot, s: &FlatState) -> Option<u64>
 }
 
 /// What END gives: the order by the class and the source bit, the bits kept by the immediate.
-fn end_value(bits: Bits, f: Slot, s: &FlatState) -> Option<u64>
+fn end_value(bits: OpWidth, f: Slot, s: &FlatState) -> Option<u64>
     ensures { sets f.dst (flat_state s.now) result ≡ end_row bits f (flat_state s.now) }
 {
     let order = ByteOrder::of(bits, f.opcode / 8 % 2)?;
@@ -84,7 +81,7 @@ fn end_value(bits: Bits, f: Slot, s: &FlatState) -> Option<u64>
 }
 
 /// What an instruction of ALU and ALU64 gives.
-fn alu_value(bits: Bits, f: Slot, s: &FlatState) -> Option<u64>
+fn alu_value(bits: OpWidth, f: Slot, s: &FlatState) -> Option<u64>
     ensures { sets f.dst (flat_state s.now) result ≡ alu_row bits f (flat_state s.now) }
 {
     match f.opcode / 16 {
@@ -107,11 +104,10 @@ fn set_and_go(dst: u8, value: Option<u64>, s: &mut FlatState) -> Option<()>
 }
 
 /// ALU and ALU64.
-fn alu_row(caps: &Caps, bits: Bits, f: Slot, s: &mut FlatState) -> Option<()>
-    requires sized { IsSized caps.now s.old.memory }
+fn alu_row(bits: OpWidth, f: Slot, s: &mut FlatState) -> Option<()>
     requires slot { s.old.slot < 2 ^ 62 }
     ensures row { GivesState result (flat_state s.new) (alu_row bits f (flat_state s.old)) }
-    ensures sized { IsSized caps.now s.new.memory }
+    ensures machine { s.new.memory.machine ≡ s.old.memory.machine }
 {
     let value = alu_value(bits, f, s);
     set_and_go(f.dst, value, s)
@@ -125,96 +121,82 @@ fn at_base(f: Slot, base: u64) -> u64
 }
 
 /// What LDX gives in the mode MEM.
-fn mem_value(caps: &Caps, layout: &Layout, f: Slot, s: &FlatState) -> Option<u64>
-    requires { IsSized caps.now s.now.memory }
-    ensures { sets f.dst (flat_state s.now) result ≡ mem_row caps.now (layout_of layout.now) f (flat_state s.now) }
+fn mem_value(f: Slot, s: &FlatState) -> Option<u64>
+    ensures { sets f.dst (flat_state s.now) result ≡ mem_row (caps_in s.now) (layout_in s.now) f (flat_state s.now) }
 {
     let base = get(s, f.src)?;
-    load(caps, layout, width_of(f.opcode), at_base(f, base), s)
+    load(width_of(f.opcode), at_base(f, base), s)
 }
 
 /// What LDX gives in the mode MEMSX.
-fn memsx_value(caps: &Caps, layout: &Layout, f: Slot, s: &FlatState) -> Option<u64>
-    requires { IsSized caps.now s.now.memory }
-    ensures { sets f.dst (flat_state s.now) result ≡ memsx_row caps.now (layout_of layout.now) f (flat_state s.now) }
+fn memsx_value(f: Slot, s: &FlatState) -> Option<u64>
+    ensures { sets f.dst (flat_state s.now) result ≡ memsx_row (caps_in s.now) (layout_in s.now) f (flat_state s.now) }
 {
     let width = signed_width_of(f.opcode)?;
     let base = get(s, f.src)?;
-    load_signed(caps, layout, width, at_base(f, base), s)
+    load_signed(width, at_base(f, base), s)
 }
 
 /// What LDX gives in the modes MEM and MEMSX.
-fn ldx_value(caps: &Caps, layout: &Layout, f: Slot, s: &FlatState) -> Option<u64>
-    requires { IsSized caps.now s.now.memory }
-    ensures { sets f.dst (flat_state s.now) result ≡ ldx_row caps.now (layout_of layout.now) f (flat_state s.now) }
+fn ldx_value(f: Slot, s: &FlatState) -> Option<u64>
+    ensures { sets f.dst (flat_state s.now) result ≡ ldx_row (caps_in s.now) (layout_in s.now) f (flat_state s.now) }
 {
     if f.imm != 0 {
         return None;
     }
     match f.opcode / 32 {
-        3 => mem_value(caps, layout, f, s),
-        4 => memsx_value(caps, layout, f, s),
+        3 => mem_value(f, s),
+        4 => memsx_value(f, s),
         _ => None,
     }
 }
 
 /// LDX in the modes MEM and MEMSX.
-fn ldx_row(caps: &Caps, layout: &Layout, f: Slot, s: &mut FlatState) -> Option<()>
-    requires sized { IsSized caps.now s.old.memory }
+fn ldx_row(f: Slot, s: &mut FlatState) -> Option<()>
     requires slot { s.old.slot < 2 ^ 62 }
-    ensures row { GivesState result (flat_state s.new) (ldx_row caps.now (layout_of layout.now) f (flat_state s.old)) }
-    ensures sized { IsSized caps.now s.new.memory }
+    ensures row { GivesState result (flat_state s.new) (ldx_row (caps_in s.old) (layout_in s.old) f (flat_state s.old)) }
+    ensures machine { s.new.memory.machine ≡ s.old.memory.machine }
 {
-    let value = ldx_value(caps, layout, f, s);
+    let value = ldx_value(f, s);
     set_and_go(f.dst, value, s)
 }
 
 /// Stores a number at an offset from a base, and goes on at the next slot.
-fn store_and_go(
-    caps: &Caps,
-    layout: &Layout,
-    f: Slot,
-    base: u64,
-    value: u64,
-    s: &mut FlatState,
-) -> Option<()>
-    requires sized { IsSized caps.now s.old.memory }
+fn store_and_go(f: Slot, base: u64, value: u64, s: &mut FlatState) -> Option<()>
     requires slot { s.old.slot < 2 ^ 62 }
-    ensures stores { GivesState result (flat_state s.new) (flat_after caps.now (layout_of layout.now) (flat_state s.old) (store caps.now (layout_of layout.now) (width_of f.opcode) (at_base f base) value (flat_state s.old))) }
-    ensures sized { IsSized caps.now s.new.memory }
+    ensures stores { GivesState result (flat_state s.new) (flat_after (caps_in s.old) (layout_in s.old) (flat_state s.old) (store (caps_in s.old) (layout_in s.old) (width_of f.opcode) (at_base f base) value (flat_state s.old))) }
+    ensures machine { s.new.memory.machine ≡ s.old.memory.machine }
 {
-    store(caps, layout, width_of(f.opcode), at_base(f, base), value, s)?;
+    store(width_of(f.opcode), at_base(f, base), value, s)?;
     s.slot += 1;
     Some(())
 }
 
 /// ST in the mode MEM.
-fn st_row(caps: &Caps, layout: &Layout, f: Slot, s: &mut FlatState) -> Option<()>
-    requires sized { IsSized caps.now s.old.memory }
+fn st_row(f: Slot, s: &mut FlatState) -> Option<()>
     requires slot { s.old.slot < 2 ^ 62 }
-    ensures row { GivesState result (flat_state s.new) (st_row caps.now (layout_of layout.now) f (flat_state s.old)) }
-    ensures sized { IsSized caps.now s.new.memory }
+    ensures row { GivesState result (flat_state s.new) (st_row (caps_in s.old) (layout_in s.old) f (flat_state s.old)) }
+    ensures machine { s.new.memory.machine ≡ s.old.memory.machine }
 {
     if f.opcode / 32 != 3 || f.src != 0 {
         return None;
     }
     let base = get(s, f.dst)?;
-    store_and_go(caps, layout, f, base, signed32(f.imm), s)
+    store_and_go(f, base, signed32(f.imm), s)
 }
 
 /// STX in the mode MEM.
-fn stx_row(caps: &Caps, layout: &Layout, f: Slot, s: &mut FlatState) -> Option<()>
-    requires sized { IsSized caps.now s.old.memory }
+fn stx_row(f: Slot, s: &mut FlatState) -> Option<()>
     requires slot { s.old.slot < 2 ^ 62 }
-    ensures row { GivesState result (flat_state s.new) (stx_row caps.now (layout_of layout.now) f (flat_state s.old)) }
-    ensures sized { IsSized caps.now s.new.memory }
+    ensures row { GivesState result (flat_state s.new) (stx_row (caps_in s.old) (layout_in s.old) f (flat_state s.old)) }
+    ensures machine { s.new.memory.machine ≡ s.old.memory.machine }
 {
     if f.opcode / 32 != 3 || f.imm != 0 {
         return None;
     }
     let base = get(s, f.dst)?;
     let value = get(s, f.src)?;
-    store_and_go(caps, layout, f, base, value, s)
+    store_and_go(f, base, value, s)
 }
 
 /// The number of a wide load: the high half is the next slot's immediate.
@@ -232,11 +214,10 @@ fn wide_value(f: Slot, next: Option<Slot>) -> Option<u64>
 }
 
 /// The wide load of a number.
-fn wide_row(caps: &Caps, f: Slot, next: Option<Slot>, s: &mut FlatState) -> Option<()>
-    requires sized { IsSized caps.now s.old.memory }
+fn wide_row(f: Slot, next: Option<Slot>, s: &mut FlatState) -> Option<()>
     requires slot { s.old.slot < 2 ^ 62 }
     ensures row { GivesState result (flat_state s.new) (wide_row f next (flat_state s.old)) }
-    ensures sized { IsSized caps.now s.new.memory }
+    ensures machine { s.new.memory.machine ≡ s.old.memory.machine }
 {
     set(s, f.dst, wide_value(f, next)?)?;
     s.slot += 2;
@@ -244,11 +225,10 @@ fn wide_row(caps: &Caps, f: Slot, next: Option<Slot>, s: &mut FlatState) -> Opti
 }
 
 /// JA: in slots from the slot after the jump.
-fn ja_row(caps: &Caps, f: Slot, s: &mut FlatState) -> Option<()>
-    requires sized { IsSized caps.now s.old.memory }
+fn ja_row(f: Slot, s: &mut FlatState) -> Option<()>
     requires slot { s.old.slot < 2 ^ 62 }
     ensures row { GivesState result (flat_state s.new) (ja_row f (flat_state s.old)) }
-    ensures sized { IsSized caps.now s.new.memory }
+    ensures machine { s.new.memory.machine ≡ s.old.memory.machine }
 {
     if f.dst != 0 || f.src != 0 || f.imm != 0 {
         return None;
@@ -258,11 +238,10 @@ fn ja_row(caps: &Caps, f: Slot, s: &mut FlatState) -> Option<()>
 }
 
 /// JA by the immediate.
-fn ja32_row(caps: &Caps, f: Slot, s: &mut FlatState) -> Option<()>
-    requires sized { IsSized caps.now s.old.memory }
+fn ja32_row(f: Slot, s: &mut FlatState) -> Option<()>
     requires slot { s.old.slot < 2 ^ 62 }
     ensures row { GivesState result (flat_state s.new) (ja32_row f (flat_state s.old)) }
-    ensures sized { IsSized caps.now s.new.memory }
+    ensures machine { s.new.memory.machine ≡ s.old.memory.machine }
 {
     if f.dst != 0 || f.src != 0 || f.offset != 0 {
         return None;
@@ -272,11 +251,10 @@ fn ja32_row(caps: &Caps, f: Slot, s: &mut FlatState) -> Option<()>
 }
 
 /// A comparison of JMP and JMP32.
-fn branch_row(caps: &Caps, bits: Bits, f: Slot, s: &mut FlatState) -> Option<()>
-    requires sized { IsSized caps.now s.old.memory }
+fn branch_row(bits: OpWidth, f: Slot, s: &mut FlatState) -> Option<()>
     requires slot { s.old.slot < 2 ^ 62 }
     ensures row { GivesState result (flat_state s.new) (branch_row bits f (flat_state s.old)) }
-    ensures sized { IsSized caps.now s.new.memory }
+    ensures machine { s.new.memory.machine ≡ s.old.memory.machine }
 {
     let comparison = Comparison::of(f.opcode / 16)?;
     let x = get(s, f.dst)?;
@@ -290,22 +268,15 @@ fn branch_row(caps: &Caps, bits: Bits, f: Slot, s: &mut FlatState) -> Option<()>
 }
 
 /// CALL of a helper.
-fn call_row(
-    alloc: Global,
-    caps: &Caps,
-    layout: &Layout,
-    f: Slot,
-    s: &mut FlatState,
-) -> Result<Option<()>, NoMemory>
-    requires sized { IsSized caps.now s.old.memory }
+fn call_row(alloc: Global, f: Slot, s: &mut FlatState) -> Result<Option<()>, NoMemory>
     requires slot { s.old.slot < 2 ^ 62 }
-    ensures row { IfOk result (λ o. GivesState o (flat_state s.new) (call_row caps.now (layout_of layout.now) f (flat_state s.old))) }
-    ensures sized { IsSized caps.now s.new.memory }
+    ensures row { IfOk result (λ o. GivesState o (flat_state s.new) (call_row (caps_in s.old) (layout_in s.old) f (flat_state s.old))) }
+    ensures machine { s.new.memory.machine ≡ s.old.memory.machine }
 {
     if f.dst != 0 || f.src != 0 || f.offset != 0 {
         return Ok(None);
     }
-    match help(alloc, caps, layout, f.imm, s)? {
+    match help(alloc, f.imm, s)? {
         None => Ok(None),
         Some(()) => {
             s.slot += 1;
@@ -317,31 +288,28 @@ fn call_row(
 /// One row of the table, by class or by opcode; `next` has the fields of the next slot.
 fn act(
     alloc: Global,
-    caps: &Caps,
-    layout: &Layout,
     f: Slot,
     next: Option<Slot>,
     s: &mut FlatState,
 ) -> Result<Option<()>, NoMemory>
-    requires sized { IsSized caps.now s.old.memory }
     requires slot { s.old.slot < 2 ^ 62 }
-    ensures acts { IfOk result (λ o. GivesState o (flat_state s.new) (act caps.now (layout_of layout.now) f next (flat_state s.old))) }
-    ensures sized { IsSized caps.now s.new.memory }
+    ensures acts { IfOk result (λ o. GivesState o (flat_state s.new) (act (caps_in s.old) (layout_in s.old) f next (flat_state s.old))) }
+    ensures machine { s.new.memory.machine ≡ s.old.memory.machine }
 {
     match f.opcode % 8 {
-        4 => Ok(alu_row(caps, Bits::Bits32, f, s)),
-        7 => Ok(alu_row(caps, Bits::Bits64, f, s)),
-        1 => Ok(ldx_row(caps, layout, f, s)),
-        2 => Ok(st_row(caps, layout, f, s)),
-        3 => Ok(stx_row(caps, layout, f, s)),
+        4 => Ok(alu_row(OpWidth::Bits32, f, s)),
+        7 => Ok(alu_row(OpWidth::Bits64, f, s)),
+        1 => Ok(ldx_row(f, s)),
+        2 => Ok(st_row(f, s)),
+        3 => Ok(stx_row(f, s)),
         class => match f.opcode {
-            0x18 => Ok(wide_row(caps, f, next, s)),
-            0x05 => Ok(ja_row(caps, f, s)),
-            0x06 => Ok(ja32_row(caps, f, s)),
-            0x85 => call_row(alloc, caps, layout, f, s),
+            0x18 => Ok(wide_row(f, next, s)),
+            0x05 => Ok(ja_row(f, s)),
+            0x06 => Ok(ja32_row(f, s)),
+            0x85 => call_row(alloc, f, s),
             _ => match class {
-                5 => Ok(branch_row(caps, Bits::Bits64, f, s)),
-                6 => Ok(branch_row(caps, Bits::Bits32, f, s)),
+                5 => Ok(branch_row(OpWidth::Bits64, f, s)),
+                6 => Ok(branch_row(OpWidth::Bits32, f, s)),
                 _ => Ok(None),
             },
         },
@@ -349,21 +317,14 @@ fn act(
 }
 
 /// A step, where there is one.
-pub fn step(
-    alloc: Global,
-    caps: &Caps,
-    layout: &Layout,
-    code: &[u8],
-    s: &mut FlatState,
-) -> Result<Option<()>, NoMemory>
-    requires sized { IsSized caps.now s.old.memory }
-    ensures stepped { IfOk result (λ o. GivesState o (flat_state s.new) (step caps.now (layout_of layout.now) code.now (flat_state s.old))) }
-    ensures sized { IsSized caps.now s.new.memory }
+pub fn step(alloc: Global, code: &[u8], s: &mut FlatState) -> Result<Option<()>, NoMemory>
+    ensures stepped { IfOk result (λ o. GivesState o (flat_state s.new) (step (caps_in s.old) (layout_in s.old) code.now (flat_state s.old))) }
+    ensures machine { s.new.memory.machine ≡ s.old.memory.machine }
 {
     let bytes = at_slot(code, s.slot);
     match Slot::of(bytes) {
         None => Ok(None),
-        Some(f) => act(alloc, caps, layout, f, Slot::of(&bytes[8..]), s),
+        Some(f) => act(alloc, f, Slot::of(&bytes[8..]), s),
     }
 }
 

@@ -1,19 +1,28 @@
 ghost use Rattle.std.specs.Prelude.{◌≡◌, ◌<◌, ◌≤◌, ◌+◌, ◌-◌, ◌++◌, length, replicate, IfOk};
 ghost use Rattle.std.specs.Option.{option_copied};
-ghost use Rattle.bpf_machine.specs.State.{AreCapacities, opening, outcome_of};
-ghost use Rattle.bpf_machine.specs.Flat.{IsLayout, run, entry};
+ghost use Rattle.bpf_machine.specs.State.{opening, outcome_of};
+ghost use Rattle.bpf_machine.specs.Flat.{run, entry};
 ghost use Rattle.flat_machine.specs.View.{layout_of, ending_of};
-ghost use Rattle.flat_machine.specs.inner.FlatState.{memory_of, flat_state, stopped, IsSized};
+ghost use Rattle.flat_machine.specs.inner.FlatState.{caps_in, layout_in, memory_of, flat_state, stopped};
 
-use crate::layout::Layout;
-use crate::memory::Regions;
+use crate::machine::Machine;
+use crate::regions::Regions;
 use crate::rows::{exit_code, step};
 use crate::state::FlatState;
-use bpf_machine::{Caps, STACK_SIZE};
+use bpf_machine::STACK_SIZE;
 use object_store::Object;
 use std::alloc::{AllocError, Global};
-use std::mem::replace;
 use txn::{NoMemory, Staged};
+
+/// What a run begins with.
+#[derive(Clone, Copy)]
+pub struct RunStart<'a> {
+    /// The object beside which the method runs.
+    pub object: Option<&'a Object>,
+    /// The client for whom it runs.
+    pub caller: u32,
+    pub input: &'a [u8],
+}
 
 /// How a run ends.
 #[derive(Drop)]
@@ -75,16 +84,16 @@ fn copied(object: Option<&Object>) -> Result<Option<Object>, NoMemory>
 }
 
 /// The regions as a method begins.
-fn opening(alloc: Global, caps: &Caps, input: &[u8]) -> Result<Regions, AllocError>
-    requires capacities { AreCapacities caps.now }
-    requires short { length input.now ≤ caps.now.in_cap }
-    ensures memory { IfOk result (λ m. memory_of m ≡ opening caps.now input.now) }
-    ensures sized { IfOk result (λ m. IsSized caps.now m) }
+fn opening(alloc: Global, machine: &Machine, input: &[u8]) -> Result<Regions, AllocError>
+    requires short { length input.now ≤ machine.now.caps.in_cap }
+    ensures memory { IfOk result (λ m. memory_of m ≡ opening machine.now.caps input.now) }
+    ensures machine { IfOk result (λ m. m.machine ≡ machine.now) }
 {
-    let input = padded_with_zeros(alloc, input, usize::from(caps.in_cap))?;
-    let output = zeros(alloc, usize::from(caps.out_cap))?;
+    let input = padded_with_zeros(alloc, input, usize::from(machine.caps.in_cap))?;
+    let output = zeros(alloc, usize::from(machine.caps.out_cap))?;
     let stack = zeros(alloc, STACK_SIZE)?;
     Ok(Regions {
+        machine: *machine,
         input,
         output,
         stack,
@@ -94,58 +103,45 @@ fn opening(alloc: Global, caps: &Caps, input: &[u8]) -> Result<Regions, AllocErr
 /// The state as a method begins.
 fn enter<'a>(
     alloc: Global,
-    caps: &Caps,
-    layout: &Layout,
-    object: Option<&'a Object>,
-    caller: u32,
-    input: &[u8],
+    machine: &Machine,
+    start: &RunStart<'a>,
 ) -> Result<FlatState<'a>, AllocError>
-    requires capacities { AreCapacities caps.now }
-    requires layout { IsLayout caps.now (layout_of layout.now) }
-    requires short { length input.now ≤ caps.now.in_cap }
-    ensures entry { IfOk result (λ s. flat_state s ≡ entry caps.now (layout_of layout.now) (option_copied object.entry) caller input.now) }
-    ensures sized { IfOk result (λ s. IsSized caps.now s.memory) }
+    requires short { length start.now.input.now ≤ machine.now.caps.in_cap }
+    ensures entry { IfOk result (λ s. flat_state s ≡ entry machine.now.caps (layout_of machine.now.layout) (option_copied start.now.object) start.now.caller start.now.input.now) }
+    ensures machine { IfOk result (λ s. s.memory.machine ≡ machine.now) }
 {
-    let memory = opening(alloc, caps, input)?;
+    let memory = opening(alloc, machine, start.input)?;
     Ok(FlatState {
         slot: 0,
         regs: [
             None,
-            Some(layout.input),
-            Some(input.len() as u64),
-            Some(layout.output),
+            Some(machine.layout.input),
+            Some(start.input.len() as u64),
+            Some(machine.layout.output),
             None,
             None,
             None,
             None,
             None,
             None,
-            Some(layout.stack + STACK_SIZE as u64),
+            Some(machine.layout.stack + STACK_SIZE as u64),
         ],
         memory,
-        object: Staged::over(object),
+        object: Staged::over(start.object),
         out_len: 0,
-        caller,
+        caller: start.caller,
     })
 }
 
 /// At most so many steps, from a state to where the run stops.
-fn run_on(
-    alloc: Global,
-    caps: &Caps,
-    layout: &Layout,
-    code: &[u8],
-    s: &mut FlatState,
-    limit: usize,
-) -> Result<Stop, NoMemory>
-    requires { IsSized caps.now s.old.memory }
-    ensures { IfOk result (λ stop. stopped (flat_state s.old).object stop (flat_state s.new) ≡ run caps.now (layout_of layout.now) code.now (flat_state s.old).object limit (flat_state s.old)) }
+fn run_on(alloc: Global, code: &[u8], s: &mut FlatState, limit: usize) -> Result<Stop, NoMemory>
+    ensures { IfOk result (λ stop. stopped (flat_state s.old).object stop (flat_state s.new) ≡ run (caps_in s.old) (layout_in s.old) code.now (flat_state s.old).object limit (flat_state s.old)) }
 {
     for n in 0..limit {
         if let Some(value) = exit_code(code, s) {
             return Ok(Stop::Exit(value, n + 1));
         }
-        match step(alloc, caps, layout, code, s)? {
+        match step(alloc, code, s)? {
             Some(()) => {}
             None => return Ok(Stop::Stuck),
         }
@@ -158,14 +154,16 @@ fn finish(
     alloc: Global,
     before: Option<&Object>,
     code: u64,
-    s: &mut FlatState,
+    s: FlatState,
 ) -> Result<(Vec<u8>, Option<Object>), NoMemory>
-    ensures { IfOk result (λ r. record { code = code; output = r.0.items; object = r.1 } ≡ outcome_of (option_copied before.entry) code (flat_state s.old)) }
+    ensures { IfOk result (λ r. record { code = code; output = r.0.items; object = r.1 } ≡ outcome_of (option_copied before.entry) code (flat_state s.entry)) }
 {
     if code < 0x8000_0000_0000_0000 {
         let object = copied(s.object.object())?;
-        let mut output = replace(&mut s.memory.output, Vec::new(alloc));
-        output.truncate(s.out_len);
+        let len = s.out_len;
+        let memory = s.memory;
+        let mut output = memory.output;
+        output.truncate(len);
         Ok((output, object))
     } else {
         let object = copied(before)?;
@@ -178,9 +176,9 @@ fn ended(
     alloc: Global,
     before: Option<&Object>,
     stop: Stop,
-    s: &mut FlatState,
+    s: FlatState,
 ) -> Result<Ending, NoMemory>
-    ensures { IfOk result (λ e. ending_of e ≡ stopped (option_copied before.entry) stop (flat_state s.old)) }
+    ensures { IfOk result (λ e. ending_of e ≡ stopped (option_copied before.entry) stop (flat_state s.entry)) }
 {
     match stop {
         Stop::Exit(code, steps) => {
@@ -200,38 +198,30 @@ fn ended(
 /// How a run from a state ends that is beside that object.
 fn run_from(
     alloc: Global,
-    caps: &Caps,
-    layout: &Layout,
     code: &[u8],
     before: Option<&Object>,
-    s: &mut FlatState,
+    mut s: FlatState,
     limit: usize,
 ) -> Result<Ending, NoMemory>
-    requires sized { IsSized caps.now s.old.memory }
-    requires beside { s.old.object.after ≡ option_copied before }
-    ensures { IfOk result (λ e. ending_of e ≡ run caps.now (layout_of layout.now) code.now (option_copied before.entry) limit (flat_state s.old)) }
+    requires beside { s.object.after ≡ option_copied before }
+    ensures { IfOk result (λ e. ending_of e ≡ run (caps_in s.entry) (layout_in s.entry) code.now (option_copied before.entry) limit (flat_state s.entry)) }
 {
-    let stop = run_on(alloc, caps, layout, code, s, limit)?;
+    let stop = run_on(alloc, code, &mut s, limit)?;
     ended(alloc, before, stop, s)
 }
 
-/// Runs a method's bytes on plain addresses, beside an object, for a client, on an input, in at most so many steps.
-/// It is the definition of the machine as a program, and slow. Refused: NoMemory.
+/// Runs a method's bytes on plain addresses, in at most so many steps. It is the definition of the machine as a
+/// program, and slow. Refused: NoMemory.
 pub fn flat_run(
     alloc: Global,
-    caps: &Caps,
+    machine: &Machine,
     code: &[u8],
-    layout: &Layout,
-    object: Option<&Object>,
-    caller: u32,
-    input: &[u8],
+    start: &RunStart<'_>,
     limit: usize,
 ) -> Result<Ending, NoMemory>
-    requires capacities { AreCapacities caps.now }
-    requires layout { IsLayout caps.now (layout_of layout.now) }
-    requires short { length input.now ≤ caps.now.in_cap }
-    ensures { IfOk result (λ e. ending_of e ≡ run caps.now (layout_of layout.now) code.now (option_copied object.entry) limit (entry caps.now (layout_of layout.now) (option_copied object.entry) caller input.now)) }
+    requires short { length start.now.input.now ≤ machine.now.caps.in_cap }
+    ensures { IfOk result (λ e. ending_of e ≡ run machine.now.caps (layout_of machine.now.layout) code.now (option_copied start.now.object) limit (entry machine.now.caps (layout_of machine.now.layout) (option_copied start.now.object) start.now.caller start.now.input.now)) }
 {
-    let mut s = enter(alloc, caps, layout, object, caller, input)?;
-    run_from(alloc, caps, layout, code, object, &mut s, limit)
+    let s = enter(alloc, machine, start)?;
+    run_from(alloc, code, start.object, s, limit)
 }

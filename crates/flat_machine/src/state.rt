@@ -3,7 +3,7 @@ ghost use Rattle.bpf_machine.specs.State.{reg, set_reg};
 ghost use Rattle.bpf_machine.specs.Helper.{answered};
 ghost use Rattle.flat_machine.specs.inner.FlatState.{flat_state, GivesState};
 
-use crate::memory::Regions;
+use crate::regions::Regions;
 use txn::Staged;
 
 /// A state of the flat machine. No register says whether it is an address.

@@ -12,8 +12,8 @@ use Rattle.group_world.specs.World.{IsTrueOf}
 use Rattle.group_world.specs.declared.status.Status.{Status}
 use Rattle.group_world.specs.declared.status.Status.TheVariants.{Out, Waiting, Installed, Asking, Installing, Active}
 use Rattle.group_world.specs.declared.party.Party.TheVariants.{Node as ANode}
-use Rattle.group_world.specs.declared.message.Kind.{Kind}
-use Rattle.group_world.specs.declared.message.Kind.TheVariants.{Query, Install}
+use Rattle.group_world.specs.declared.message.MessageKind.{MessageKind}
+use Rattle.group_world.specs.declared.message.MessageKind.TheVariants.{Query, Install}
 use Rattle.group_world.specs.declared.message.Packet.{Packet}
 
 -- what holds of all elements holds of one that is there
@@ -31,11 +31,11 @@ module _ (classes : Classes) (list : List ClientRequest) where
   both_true [] qs h k = k
   both_true (p ∷ ps) qs h k = (h.0, both_true ps qs h.1 k)
 
-  to_all-true : (n : ℕ) (ns : List ℕ) (kind : Kind) → IsTrueOf classes list kind → AllByRecursion IsTrueHere (to_all n ns kind)
+  to_all-true : (n : ℕ) (ns : List ℕ) (kind : MessageKind) → IsTrueOf classes list kind → AllByRecursion IsTrueHere (to_all n ns kind)
   to_all-true n [] kind h = tt
   to_all-true n (m ∷ ms) kind h = (h, to_all-true n ms kind h)
 
-  to_missing-true : (n : ℕ) (js ns : List ℕ) (kind : Kind) → IsTrueOf classes list kind → AllByRecursion IsTrueHere (to_missing n js ns kind)
+  to_missing-true : (n : ℕ) (js ns : List ℕ) (kind : MessageKind) → IsTrueOf classes list kind → AllByRecursion IsTrueHere (to_missing n js ns kind)
   to_missing-true n js [] kind h = tt
   to_missing-true n js (m ∷ ms) kind h =
       let rest = to_missing-true n js ms kind h in

@@ -9,8 +9,8 @@ use Rattle.group_world.specs.Node.{NodeState, committed_list}
 use Rattle.group_world.specs.Rules.{local_step}
 use Rattle.group_world.specs.World.{IsTrueOf}
 use Rattle.group_world.specs.declared.party.Party.TheVariants.{Client as AClient}
-use Rattle.group_world.specs.declared.message.Kind.{Kind}
-use Rattle.group_world.specs.declared.message.Kind.TheVariants.{Reply as ReplyTo}
+use Rattle.group_world.specs.declared.message.MessageKind.{MessageKind}
+use Rattle.group_world.specs.declared.message.MessageKind.TheVariants.{Reply as ReplyTo}
 use Rattle.group_world.specs.declared.message.Packet.{Packet}
 use Rattle.group_world.specs.declared.event.Event.{Event}
 use Rattle.group_world.specs.declared.event.Event.TheVariants.{Request as ARequest, Map as AMap, Message as AMessage}
@@ -39,13 +39,13 @@ refusal_deserved law classes n s r why (inl is) = law classes n s r why is
 refusal_deserved law classes n s r why (inr m) = subst (λ (e : HandleError). IsDeserved classes r e) {x = node.NoMemory} (sym m.0) (record { class = λ e. absurd (cc); method = λ e. absurd (cc); input = λ e. absurd (cc) })
 
 -- the reply made of a message is the one that it gives
-pub reply_goes : (N : Type 0) (classes : Classes) (cell : CellState) (told : ℕ) (p : Packet) (client by nth at : ℕ) (answer : Reply) (r : PostedReply) → p.receiver ≡ AClient client → p.message.kind ≡ ReplyTo by nth at answer
-    → IsTrueOf classes cell.written (ReplyTo by nth at answer) → IsReplyOf cell at r → r.answer ≡ answer → slice_get cell.written at ≡ Some r.request → MayGoOutAs {N = N} cell told p (Some (ToClient client (post.Reply r)))
-reply_goes N classes cell told p client by nth at answer r receiver kind true_of of_cell same there =
+pub reply_goes : (N : Type 0) (classes : Classes) (cell : CellState) (reported : ℕ) (p : Packet) (client by nth at : ℕ) (answer : Reply) (r : PostedReply) → p.receiver ≡ AClient client → p.message.kind ≡ ReplyTo by nth at answer
+    → IsTrueOf classes cell.written (ReplyTo by nth at answer) → IsReplyOf cell at r → r.answer ≡ answer → slice_get cell.written at ≡ Some r.request → MayGoOutAs {N = N} cell reported p (Some (ToClient client (post.Reply r)))
+reply_goes N classes cell reported p client by nth at answer r receiver kind true_of of_cell same there =
     let stands = true_of.0 in
     let request = same_Some _ _ (sym there ∙ stands.stands) in (
       receiver,
-      subst (λ (k : Kind). GivesReply cell k r) {x = ReplyTo by nth at answer} (sym kind) (record {
+      subst (λ (k : MessageKind). GivesReply cell k r) {x = ReplyTo by nth at answer} (sym kind) (record {
         of_cell = of_cell;
         answer = same;
         client = ap (λ (q : ClientRequest). q.client) request ∙ stands.of_client;
@@ -54,12 +54,12 @@ reply_goes N classes cell told p client by nth at answer r receiver kind true_of
     )
 
 -- an event that was taken
-pub taken : {N : Type 0} (classes : Classes) (old new : CellState) (told : ℕ) (event : Event) (sent : List Packet) (out : List (Option (Outgoing N)))
-    → IsDone old.node new.node sent (local_step classes old.node.number old.node.state event) → new.row ≡ old.row → GoOutAs new told sent out → IsTurn classes old new told (Some event) out
-taken classes old new told event sent out done row goes = inl (record {
+pub taken : {N : Type 0} (classes : Classes) (old new : CellState) (reported : ℕ) (event : Event) (sent : List Packet) (out : List (Option (Outgoing N)))
+    → IsDone old.node new.node sent (local_step classes old.node.number old.node.state event) → new.row ≡ old.row → GoOutAs new reported sent out → IsTurn classes old new reported (Some event) out
+taken classes old new reported event sent out done row goes = inl (record {
   done = record { number = done.number; state = done.state; sent = refl; unrefused = done.unrefused };
   row = row;
-  out = subst (λ (l : List Packet). GoOutAs new told l out) done.sent goes;
+  out = subst (λ (l : List Packet). GoOutAs new reported l out) done.sent goes;
 })
 
 -- one of which all messages were lost
@@ -68,9 +68,9 @@ pub lost : (classes : Classes) (old new : CellState) (event : Event) (sent : Lis
 lost classes old new event sent done row = inr (row, record { number = done.number; state = done.state; sent = refl; unrefused = done.unrefused })
 
 -- one that was refused
-pub turned_down : {N : Type 0} (classes : Classes) (old new : CellState) (told : ℕ) (event : Event) (why : HandleError) (out : List (Option (Outgoing N)))
-    → IsRefusal (local_step classes old.node.number old.node.state event) why → new ≡ old → out ≡ refusal_to event why → IsTurn classes old new told (Some event) out
-turned_down classes old new told event why out refusal same goes = inr (record { why = why; refusal = refusal; same = same; out = goes })
+pub turned_down : {N : Type 0} (classes : Classes) (old new : CellState) (reported : ℕ) (event : Event) (why : HandleError) (out : List (Option (Outgoing N)))
+    → IsRefusal (local_step classes old.node.number old.node.state event) why → new ≡ old → out ≡ refusal_to event why → IsTurn classes old new reported (Some event) out
+turned_down classes old new reported event why out refusal same goes = inr (record { why = why; refusal = refusal; same = same; out = goes })
 
 -- a refusal of which nothing goes out
 pub nothing_goes : (N : Type 0) (event : Event) (why : HandleError) → IsQuiet event → [] ≡ refusal_to {N = N} event why

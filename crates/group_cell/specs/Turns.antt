@@ -5,8 +5,8 @@ use Rattle.pg_log.specs.Log.{Classes, Reply}
 use Rattle.group_world.specs.Rules.{local_step}
 use Rattle.group_world.specs.declared.party.Party.{Party}
 use Rattle.group_world.specs.declared.party.Party.TheVariants.{Node as ANode, Monitor as TheMonitor, Client as AClient}
-use Rattle.group_world.specs.declared.message.Kind.{Kind}
-use Rattle.group_world.specs.declared.message.Kind.TheVariants.{Query, Log as LogOf, Install, Installed as InstalledIn, AskActivate, Activated, Rep, Ack, Reply as ReplyTo}
+use Rattle.group_world.specs.declared.message.MessageKind.{MessageKind}
+use Rattle.group_world.specs.declared.message.MessageKind.TheVariants.{Query, Log as LogOf, Install, Installed as InstalledIn, AskActivate, Activated, Rep, Ack, Reply as ReplyTo}
 use Rattle.group_world.specs.declared.message.Packet.{Packet}
 use Rattle.group_world.specs.declared.event.Event.{Event}
 use Rattle.group_world.specs.declared.event.Event.TheVariants.{Request as ARequest, Map as AMap, Message as AMessage}
@@ -27,7 +27,7 @@ pub record IsReplyTo (cell : CellState) (by nth at : ℕ) (reply : Reply) (r : P
   pub client : r.request.client ≡ by
   pub number : r.request.number ≡ nth
 
-abbrev pub GivesReply : CellState → Kind → PostedReply → Type 0
+abbrev pub GivesReply : CellState → MessageKind → PostedReply → Type 0
 GivesReply cell (Query m) r = ⊥
 GivesReply cell (LogOf interval list) r = ⊥
 GivesReply cell (Install m list) r = ⊥
@@ -38,42 +38,42 @@ GivesReply cell (Rep interval place request) r = ⊥
 GivesReply cell (Ack interval length) r = ⊥
 GivesReply cell (ReplyTo client number place answer) r = IsReplyTo cell client number place answer r
 
--- A MESSAGE GOES OUT to another node as it is packed for a receiver that told so much, to the monitor as what it asks, to
+-- A MESSAGE GOES OUT to another node as it is packed for a receiver that reported how many entries it has, to the monitor as what it asks, to
 -- a client as a reply.
 abbrev pub GoesOutAs : {N : Type 0} → CellState → ℕ → Packet → Outgoing N → Type 0
-GoesOutAs cell told p (ToNode n carried) = packed_as cell.node.state.committed told p ≡ (ANode n, carried)
-GoesOutAs cell told p (ToMonitor interval) = (p.receiver ≡ TheMonitor) × (p.message.kind ≡ AskActivate interval)
-GoesOutAs cell told p (ToClient client (post.Reply r)) = (p.receiver ≡ AClient client) × GivesReply cell p.message.kind r
-GoesOutAs cell told p (ToClient client (post.Refused r)) = ⊥
+GoesOutAs cell reported p (ToNode n carried) = packed_as cell.node.state.committed reported p ≡ (ANode n, carried)
+GoesOutAs cell reported p (ToMonitor interval) = (p.receiver ≡ TheMonitor) × (p.message.kind ≡ AskActivate interval)
+GoesOutAs cell reported p (ToClient client (post.Reply r)) = (p.receiver ≡ AClient client) × GivesReply cell p.message.kind r
+GoesOutAs cell reported p (ToClient client (post.Refused r)) = ⊥
 
-abbrev pub is_log : Kind → Bool
+abbrev pub is_log : MessageKind → Bool
 is_log (LogOf interval list) = true
 is_log _ = false
 
-abbrev pub asks_activation : Kind → Bool
+abbrev pub asks_activation : MessageKind → Bool
 asks_activation (AskActivate interval) = true
 asks_activation _ = false
 
 -- A message may be left out where it takes memory, as a Log and a reply do, or where it means nothing to its receiver: the
 -- monitor takes AskActivate alone, and a client replies alone. Any other goes out.
-abbrev pub may_be_left_out : Party → Kind → Bool
+abbrev pub may_be_left_out : Party → MessageKind → Bool
 may_be_left_out (ANode n) kind = is_log kind
 may_be_left_out TheMonitor kind = not (asks_activation kind)
 may_be_left_out (AClient client) kind = true
 
 abbrev pub MayGoOutAs : {N : Type 0} → CellState → ℕ → Packet → Option (Outgoing N) → Type 0
-MayGoOutAs cell told p None = may_be_left_out p.receiver p.message.kind ≡ true
-MayGoOutAs cell told p (Some o) = GoesOutAs cell told p o
+MayGoOutAs cell reported p None = may_be_left_out p.receiver p.message.kind ≡ true
+MayGoOutAs cell reported p (Some o) = GoesOutAs cell reported p o
 
 -- messages go out one by one, in their order
 abbrev pub GoOutAs : {N : Type 0} → CellState → ℕ → List Packet → List (Option (Outgoing N)) → Type 0
-GoOutAs cell told sent out = AllZip (MayGoOutAs cell told) sent out
+GoOutAs cell reported sent out = AllZip (MayGoOutAs cell reported) sent out
 
 -- A TURN. The node takes the event: its step is done, and its messages go out.
-pub record IsTaken {N : Type 0} (classes : Classes) (old new : CellState) (told : ℕ) (event : Event) (went : List (Option (Outgoing N))) : Type 0 where
+pub record IsTaken {N : Type 0} (classes : Classes) (old new : CellState) (reported : ℕ) (event : Event) (went : List (Option (Outgoing N))) : Type 0 where
   pub done : IsDone old.node new.node (local_step classes old.node.number old.node.state event).sent (local_step classes old.node.number old.node.state event)
   pub row : new.row ≡ old.row
-  pub out : GoOutAs new told (local_step classes old.node.number old.node.state event).sent went
+  pub out : GoOutAs new reported (local_step classes old.node.number old.node.state event).sent went
 
 -- what goes out by a refusal: that of a request goes to its client
 abbrev pub refusal_to : {N : Type 0} → Event → HandleError → List (Option (Outgoing N))
@@ -96,8 +96,8 @@ pub record IsTurnedDown {N : Type 0} (classes : Classes) (old new : CellState) (
 
 -- where no event comes nothing happens
 abbrev pub IsTurn : {N : Type 0} → Classes → CellState → CellState → ℕ → Option Event → List (Option (Outgoing N)) → Type 0
-IsTurn classes old new told None out = (new ≡ old) × (out ≡ [])
-IsTurn classes old new told (Some event) out = IsTaken classes old new told event out ⊎ IsTurnedDown classes old new event out
+IsTurn classes old new reported None out = (new ≡ old) × (out ≡ [])
+IsTurn classes old new reported (Some event) out = IsTaken classes old new reported event out ⊎ IsTurnedDown classes old new event out
 
 -- Where memory is refused before the event comes nothing has happened; after it, all its messages are lost.
 abbrev pub IsCutShort : Classes → CellState → CellState → Option Event → Type 0

@@ -16,7 +16,7 @@ ghost use Rattle.group_cell.specs.Posts.{IsReplyOf};
 use crate::board_name::BoardName;
 use crate::reply::Reply;
 use commit_board::{Board, Note, Writer};
-use group_world::{Answer, Event, HandleError, Messages, Place, replies_are_committed};
+use group_world::{CallReply, Event, HandleError, Messages, Place, replies_are_committed};
 use peering::{GroupNode, nothing_is_cut};
 use pg_log::{ClassTable, Entry, NoMemory, legal_lists, pairs, replies};
 use std::alloc::Global;
@@ -132,7 +132,7 @@ impl<N: BoardName> GroupCell<N> {
         let Some((code, output)) = self.node.group().reply_at(place) else {
             return Ok(None);
         };
-        let answer = Answer::new(code, Vec::from_slice(alloc, output)?);
+        let answer = CallReply::new(code, Vec::from_slice(alloc, output)?);
         self.reply_with(alloc, board, place, answer).map(Some)
     }
 
@@ -142,7 +142,7 @@ impl<N: BoardName> GroupCell<N> {
         alloc: Global,
         board: &Board,
         place: Place,
-        answer: Answer,
+        answer: CallReply,
     ) -> Result<Reply<N>, NoMemory>
         requires board { board.now ≡ N.board }
         requires committed { place < length self.old.written }

@@ -5,9 +5,12 @@ ghost use Rattle.group_cell.specs.Posts.{Stands};
 
 use crate::board_name::BoardName;
 use commit_board::Note;
-use group_world::{Answer, Place};
+use group_world::{CallReply, Place};
 use pg_log::Request;
 use std::marker::{Model, PhantomData};
+
+// No clause says that the row is one of the request's group: a cell lies under a lock, where its type says all that is
+// known, and that type names no group.
 
 /// The answer to a committed request, with a note of its own. In the list that the note knows of the row, which is
 /// legal, the whole request stands at the place and at no other, and is answered so there.
@@ -16,7 +19,7 @@ pub struct Reply<N: BoardName> {
     pub(crate) request: Request,
     pub(crate) row: usize,
     pub(crate) place: Place,
-    pub(crate) answer: Answer,
+    pub(crate) answer: CallReply,
     pub(crate) note: Note,
     pub(crate) of: PhantomData<N>,
 }
@@ -69,7 +72,7 @@ impl<N: BoardName> Reply<N> {
     }
 
     /// Takes the reply apart: the place, the answer, and the note, which is of the named board.
-    pub fn into_parts(self) -> (Place, Answer, Note)
+    pub fn into_parts(self) -> (Place, CallReply, Note)
         ensures place { result.0 ≡ self.place }
         ensures answer { result.1 ≡ self.answer }
         ensures note { (result.2.board ≡ N.board) × (result.2.lists ≡ self.lists) }

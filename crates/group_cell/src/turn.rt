@@ -15,7 +15,7 @@ use crate::post::Post;
 use crate::refused::Refused;
 use carried::{Carried, event_of, pack};
 use commit_board::Board;
-use group_world::{Event, Kind, Message, Messages, Packet, Party, refusals_are_deserved};
+use group_world::{Event, Message, MessageKind, Messages, Packet, Party, refusals_are_deserved};
 use pg_log::{ClassTable, ClientId, NoMemory, Request};
 use placement::NodeId;
 use std::alloc::Global;
@@ -42,13 +42,15 @@ impl<N: BoardName> GroupCell<N> {
         ensures turn { IfOk result (λ v. IsTurn N.classes self.old self.new (told_of carried) (comes_as self.old.node.state.log carried) v.items) }
         ensures lost { OnErr result (IsCutShort N.classes self.old self.new (comes_as self.old.node.state.log carried)) }
     {
-        let told = carried.told();
+        // An item for each message, also for one that memory was refused to: then a proof refuses a worker that drops
+        // another, and no test has to.
+        let reported = carried.told();
         match event_of(alloc, self.node().group().entries(), carried)? {
             None => Ok(Vec::new(alloc)),
-            Some(Event::Request(request)) => self.ask(alloc, board, table, told, request),
-            Some(Event::Map(map)) => self.take(alloc, board, table, told, Event::Map(map)),
+            Some(Event::Request(request)) => self.ask(alloc, board, table, reported, request),
+            Some(Event::Map(map)) => self.take(alloc, board, table, reported, Event::Map(map)),
             Some(Event::Message(message)) => {
-                self.take(alloc, board, table, told, Event::Message(message))
+                self.take(alloc, board, table, reported, Event::Message(message))
             }
         }
     }
@@ -75,12 +77,12 @@ impl<N: BoardName> GroupCell<N> {
         alloc: Global,
         board: &Board,
         table: &ClassTable,
-        told: usize,
+        reported: usize,
         request: Request,
     ) -> Result<Vec<Option<Outgoing<N>>>, NoMemory>
         requires board { board.now ≡ N.board }
         requires table { table.now ≡ N.classes }
-        ensures turn { IfOk result (λ v. IsTurn N.classes self.old self.new told (Some (Event.Request request)) v.items) }
+        ensures turn { IfOk result (λ v. IsTurn N.classes self.old self.new reported (Some (Event.Request request)) v.items) }
         ensures lost { OnErr result (IsCutShort N.classes self.old self.new (Some (Event.Request request))) }
     {
         refusals_are_deserved();
@@ -91,7 +93,7 @@ impl<N: BoardName> GroupCell<N> {
         let mut out = Vec::new(alloc);
         out.reserve(1)?;
         match self.handle(board, table, Event::Request(request)) {
-            Ok(sent) => self.all_out(alloc, board, told, sent),
+            Ok(sent) => self.all_out(alloc, board, reported, sent),
             Err(why) => {
                 let client = copy.client();
                 let post = Post::Refused(Refused::new(copy, why));
@@ -107,17 +109,17 @@ impl<N: BoardName> GroupCell<N> {
         alloc: Global,
         board: &Board,
         table: &ClassTable,
-        told: usize,
+        reported: usize,
         event: Event,
     ) -> Result<Vec<Option<Outgoing<N>>>, NoMemory>
         requires board { board.now ≡ N.board }
         requires table { table.now ≡ N.classes }
         requires quiet { IsQuiet event }
-        ensures turn { IfOk result (λ v. IsTurn N.classes self.old self.new told (Some event) v.items) }
+        ensures turn { IfOk result (λ v. IsTurn N.classes self.old self.new reported (Some event) v.items) }
         ensures lost { OnErr result (IsCutShort N.classes self.old self.new (Some event)) }
     {
         match self.handle(board, table, event) {
-            Ok(sent) => self.all_out(alloc, board, told, sent),
+            Ok(sent) => self.all_out(alloc, board, reported, sent),
             Err(_) => Ok(Vec::new(alloc)),
         }
     }
@@ -127,19 +129,19 @@ impl<N: BoardName> GroupCell<N> {
         &mut self,
         alloc: Global,
         board: &Board,
-        told: usize,
+        reported: usize,
         sent: Messages,
     ) -> Result<Vec<Option<Outgoing<N>>>, NoMemory>
         requires board { board.now ≡ N.board }
         requires replies { (p : Packet) → Contains sent p → IsTrueOf N.classes self.old.written p.message.kind }
         ensures same { self.new ≡ self.old }
-        ensures out { IfOk result (λ v. GoOutAs self.old told sent v.items) }
+        ensures out { IfOk result (λ v. GoOutAs self.old reported sent v.items) }
     {
         let packets = sent.into_items();
         let mut out = Vec::new(alloc);
         out.reserve(packets.len())?;
         for packet in packets {
-            out.push_reserved(self.one_out(alloc, board, told, packet));
+            out.push_reserved(self.one_out(alloc, board, reported, packet));
         }
         Ok(out)
     }
@@ -149,17 +151,17 @@ impl<N: BoardName> GroupCell<N> {
         &mut self,
         alloc: Global,
         board: &Board,
-        told: usize,
+        reported: usize,
         packet: Packet,
     ) -> Option<Outgoing<N>>
         requires board { board.now ≡ N.board }
         requires reply { IsTrueOf N.classes self.old.written packet.message.kind }
         ensures same { self.new ≡ self.old }
-        ensures out { MayGoOutAs self.old told packet result }
+        ensures out { MayGoOutAs self.old reported packet result }
     {
         let receiver = packet.receiver;
         match receiver {
-            Party::Node(node) => self.to_node(alloc, told, node, packet),
+            Party::Node(node) => self.to_node(alloc, reported, node, packet),
             Party::Monitor => to_monitor(packet),
             Party::Client(client) => self.to_client(alloc, board, client, packet),
         }
@@ -171,15 +173,15 @@ impl<N: BoardName> GroupCell<N> {
     fn to_node(
         &self,
         alloc: Global,
-        told: usize,
+        reported: usize,
         node: NodeId,
         packet: Packet,
     ) -> Option<Outgoing<N>>
         requires { packet.receiver ≡ Party.Node node }
-        ensures { MayGoOutAs self.now told packet result }
+        ensures { MayGoOutAs self.now reported packet result }
     {
         let committed = self.node().committed();
-        match pack(alloc, committed, told, packet) {
+        match pack(alloc, committed, reported, packet) {
             Ok((_, carried)) => Some(Outgoing::ToNode(node, carried)),
             Err(_) => None,
         }
@@ -197,14 +199,14 @@ impl<N: BoardName> GroupCell<N> {
         requires receiver { packet.receiver ≡ Party.Client client }
         requires reply { IsTrueOf N.classes self.old.written packet.message.kind }
         ensures same { self.new ≡ self.old }
-        ensures out { (told : ℕ) → MayGoOutAs self.old told packet result }
+        ensures out { (reported : ℕ) → MayGoOutAs self.old reported packet result }
     {
         let Packet {
             receiver: _,
             message,
         } = packet;
         let Message { sender: _, kind } = message;
-        let Kind::Reply(_, _, place, answer) = kind else {
+        let MessageKind::Reply(_, _, place, answer) = kind else {
             return None;
         };
         match self.reply_with(alloc, board, place, answer) {
@@ -217,14 +219,14 @@ impl<N: BoardName> GroupCell<N> {
 /// A message to the monitor.
 fn to_monitor<N: BoardName>(packet: Packet) -> Option<Outgoing<N>>
     requires { packet.receiver ≡ Party.Monitor }
-    ensures { (cell : CellState) (told : ℕ) → MayGoOutAs cell told packet result }
+    ensures { (cell : CellState) (reported : ℕ) → MayGoOutAs cell reported packet result }
 {
     let Packet {
         receiver: _,
         message,
     } = packet;
     let Message { sender: _, kind } = message;
-    let Kind::AskActivate(interval) = kind else {
+    let MessageKind::AskActivate(interval) = kind else {
         return None;
     };
     Some(Outgoing::ToMonitor(interval))

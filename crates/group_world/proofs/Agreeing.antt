@@ -12,8 +12,8 @@ use Rattle.group_world.specs.World.{World, opening, WorldEvent, run, brought, St
 use Rattle.group_world.specs.declared.status.Status.{Status}
 use Rattle.group_world.specs.declared.status.Status.TheVariants.{Out, Waiting, Installed, Asking, Installing, Active}
 use Rattle.group_world.specs.declared.party.Party.{Party}
-use Rattle.group_world.specs.declared.message.Kind.{Kind}
-use Rattle.group_world.specs.declared.message.Kind.TheVariants.{Query, Log as LogOf, Install, Installed as InstalledIn, AskActivate, Activated, Rep, Ack, Reply as ReplyTo}
+use Rattle.group_world.specs.declared.message.MessageKind.{MessageKind}
+use Rattle.group_world.specs.declared.message.MessageKind.TheVariants.{Query, Log as LogOf, Install, Installed as InstalledIn, AskActivate, Activated, Rep, Ack, Reply as ReplyTo}
 use Rattle.group_world.specs.declared.message.Packet.{Packet}
 use Rattle.group_world.proofs.Lists.{prefix_nil, slice_get_front}
 use Rattle.group_world.proofs.LogFacts.{LogLaws, reply_front}
@@ -23,7 +23,7 @@ use Rattle.group_world.proofs.Reach.{Inv, inv_start}
 use Rattle.group_world.proofs.Running.{inv_run}
 
 -- what is true of a list is true of each longer one
-pub reply_longer : LogLaws → (t : Classes) (xs ys : List ClientRequest) (m : Kind) → IsPrefix xs ys → IsTrueOf t xs m → IsTrueOf t ys m
+pub reply_longer : LogLaws → (t : Classes) (xs ys : List ClientRequest) (m : MessageKind) → IsPrefix xs ys → IsTrueOf t xs m → IsTrueOf t ys m
 reply_longer w t xs ys (ReplyTo c number k a) p h =
     let st : StandsAt xs c number k = h.0 in
     let g : slice_get ys k ≡ Some st.request = subst (λ z. slice_get z k ≡ Some st.request) p.1 (slice_get_front xs p.0 k st.request st.stands) in
@@ -72,7 +72,7 @@ committed_in past v s Installed h c = elim c [ inl z ↦ subst (λ x. IsPrefix x
 committed_in past v s Asking h c = elim c [ inl z ↦ subst (λ x. IsPrefix x h.list) (sym z) (prefix_nil h.list) | inr p ↦ h.all p.0 _ p.2 ]
 committed_in past v s Installing h c = elim c [ inl z ↦ subst (λ x. IsPrefix x h.list) (sym z) (prefix_nil h.list) | inr p ↦ h.all p.0 _ p.2 ]
 
-pub reply_in : LogLaws → (past : List WorldEvent) (v : View) (from to : Party) (m : Kind) (h : Whole past v) → MessageOk v from to m → IsTrueOf v.classes h.list m
+pub reply_in : LogLaws → (past : List WorldEvent) (v : View) (from to : Party) (m : MessageKind) (h : Whole past v) → MessageOk v from to m → IsTrueOf v.classes h.list m
 reply_in w past v from to (ReplyTo c number k a) h o = reply_longer w v.classes o.list h.list (ReplyTo c number k a) (h.all o.interval o.list o.chosen) o.reply
 reply_in w past v from to (Query m) h o = tt
 reply_in w past v from to (LogOf e zs) h o = tt
@@ -90,7 +90,7 @@ begun_by v e front xs c h = elim h [
   | inr p ↦ (let d : Chosen v p.0 front = p.2 in chosen_covered v p.0 front xs p.2 (c p.0 d.active p.1))
 ]
 
-pub begun_in : (v : View) (n : ℕ) (s : NodeState) (from to : Party) (m : Kind) → Sound v → NodeOk v n s → MessageOk v from to m → KeepsCommitted s m
+pub begun_in : (v : View) (n : ℕ) (s : NodeState) (from to : Party) (m : MessageKind) → Sound v → NodeOk v n s → MessageOk v from to m → KeepsCommitted s m
 begun_in v n s from to (LogOf e xs) d k h = λ z y.
     let co : CommittedOk v s Asking = subst (λ st. CommittedOk v s st) y k.committed in
     begun_by v e (take s.committed s.log) xs h.covered (subst (λ x. ChosenBefore v x (take s.committed s.log)) (sym z) co)

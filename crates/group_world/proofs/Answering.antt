@@ -19,8 +19,8 @@ use Rattle.group_world.specs.Told.{RepliesAreCommitted}
 use Rattle.group_world.specs.declared.status.Status.TheVariants.{Asking}
 use Rattle.group_world.specs.declared.party.Party.{Party}
 use Rattle.group_world.specs.declared.party.Party.TheVariants.{Node as ANode, Monitor as TheMonitor, Client as AClient}
-use Rattle.group_world.specs.declared.message.Kind.{Kind}
-use Rattle.group_world.specs.declared.message.Kind.TheVariants.{Query, Log as LogOf, Install, Installed as InstalledIn, AskActivate, Activated, Rep, Ack, Reply as ReplyTo}
+use Rattle.group_world.specs.declared.message.MessageKind.{MessageKind}
+use Rattle.group_world.specs.declared.message.MessageKind.TheVariants.{Query, Log as LogOf, Install, Installed as InstalledIn, AskActivate, Activated, Rep, Ack, Reply as ReplyTo}
 use Rattle.group_world.specs.declared.message.Packet.{Packet}
 use Rattle.group_world.specs.declared.event.Event.{Event}
 use Rattle.group_world.specs.declared.event.Event.TheVariants.{Request as ARequest, Map as AMap, Message as AMessage}
@@ -52,11 +52,11 @@ no_reply_true : (cl : Classes) (xs : List ClientRequest) (ps : List Packet) → 
 no_reply_true cl xs [] h = tt
 no_reply_true cl xs (p ∷ ps) h = (h.0 xs, no_reply_true cl xs ps h.1)
 
-to_all_no_reply : (cl : Classes) (n : ℕ) (ns : List ℕ) (m : Kind) → ((xs : List ClientRequest) → IsTrueOf cl xs m) → NoReply cl (to_all n ns m)
+to_all_no_reply : (cl : Classes) (n : ℕ) (ns : List ℕ) (m : MessageKind) → ((xs : List ClientRequest) → IsTrueOf cl xs m) → NoReply cl (to_all n ns m)
 to_all_no_reply cl n [] m h = tt
 to_all_no_reply cl n (k ∷ ks) m h = (h, to_all_no_reply cl n ks m h)
 
-to_others_no_reply : (cl : Classes) (n : ℕ) (ns : List ℕ) (m : Kind) → ((xs : List ClientRequest) → IsTrueOf cl xs m) → NoReply cl (to_others n ns m)
+to_others_no_reply : (cl : Classes) (n : ℕ) (ns : List ℕ) (m : MessageKind) → ((xs : List ClientRequest) → IsTrueOf cl xs m) → NoReply cl (to_others n ns m)
 to_others_no_reply cl n [] m h = tt
 to_others_no_reply cl n (k ∷ ks) m h =
     let rest : NoReply cl (to_others n ks m) = to_others_no_reply cl n ks m h in
@@ -146,7 +146,7 @@ acknowledged_true w cl n s (ANode m) e k within = cond_both ((eqb e s.interval) 
 acknowledged_true w cl n s TheMonitor e k within = tt
 acknowledged_true w cl n s (AClient c) e k within = tt
 
-message_true : LogLaws → (cl : Classes) (n : ℕ) (s : NodeState) (from : Party) (m : Kind) → s.committed ≤ length s.log → TellsTruth cl (receive cl n s from m)
+message_true : LogLaws → (cl : Classes) (n : ℕ) (s : NodeState) (from : Party) (m : MessageKind) → s.committed ≤ length s.log → TellsTruth cl (receive cl n s from m)
 message_true w cl n s from (Query m) within = cond_both (ltb m.interval s.interval || would_forget n s m) _ _ (TellsTruth cl) (λ t. tt)
     (λ t. all_true_append cl _ (arrive n s m).sent _ (no_reply_true cl _ (arrive n s m).sent (arrive_no_reply cl n s m)) (tt, tt))
 message_true w cl n s from (LogOf e xs) within = cond_both ((eqb e s.interval) && (is_asking s.status && is_usable cl s xs)) _ _ (TellsTruth cl)

@@ -15,7 +15,7 @@ use Rattle.group_world.specs.Rules.{is_usable, ask_if, adopt, adopt_log, note_in
 use Rattle.group_world.specs.declared.status.Status.TheVariants.{Installed, Asking, Installing, Active}
 use Rattle.group_world.specs.declared.party.Party.{Party}
 use Rattle.group_world.specs.declared.party.Party.TheVariants.{Node as ANode, Monitor as TheMonitor, Client as AClient}
-use Rattle.group_world.specs.declared.message.Kind.TheVariants.{Install, AskActivate}
+use Rattle.group_world.specs.declared.message.MessageKind.TheVariants.{Install, AskActivate}
 use Rattle.group_world.proofs.Lists.{primary, has_head, has_tail, has_cases, has_push, all_among_has, prefix_refl, prefix_nil, prefix_trans, prefix_more, prefix_push, prefix_same, prefix_either, prefix_equal}
 use Rattle.group_world.proofs.LogFacts.{is_none_true, push_legal}
 use Rattle.group_world.proofs.View.{View, of_interval, acting, first, HeldFrom, Covered, Chosen, IsMade, Within, Proper, Sound, Later}

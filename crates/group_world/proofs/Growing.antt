@@ -18,8 +18,8 @@ use Rattle.group_world.specs.World.{World, opening, WorldEvent, RequestAt, MapMa
 use Rattle.group_world.specs.declared.status.Status.TheVariants.{Installed}
 use Rattle.group_world.specs.declared.party.Party.{Party}
 use Rattle.group_world.specs.declared.party.Party.TheVariants.{Node as ANode, Monitor as TheMonitor, Client as AClient}
-use Rattle.group_world.specs.declared.message.Kind.{Kind}
-use Rattle.group_world.specs.declared.message.Kind.TheVariants.{Query, Log as LogOf, Install, Installed as InstalledIn, AskActivate, Activated, Rep, Ack, Reply as ReplyTo}
+use Rattle.group_world.specs.declared.message.MessageKind.{MessageKind}
+use Rattle.group_world.specs.declared.message.MessageKind.TheVariants.{Query, Log as LogOf, Install, Installed as InstalledIn, AskActivate, Activated, Rep, Ack, Reply as ReplyTo}
 use Rattle.group_world.specs.declared.message.Message.{Message}
 use Rattle.group_world.specs.declared.message.Packet.{Packet}
 use Rattle.group_world.specs.declared.event.Event.{Event}
@@ -120,7 +120,7 @@ grown_acknowledged cl n s (ANode m) e k w = cond_both ((eqb e s.interval) && is_
 grown_acknowledged cl n s TheMonitor e k w = grown_refl s w
 grown_acknowledged cl n s (AClient c) e k w = grown_refl s w
 
-pub grown_message : (cl : Classes) (n : ℕ) (s : NodeState) (from : Party) (m : Kind) → s.committed ≤ length s.log → Grown s (receive cl n s from m).node
+pub grown_message : (cl : Classes) (n : ℕ) (s : NodeState) (from : Party) (m : MessageKind) → s.committed ≤ length s.log → Grown s (receive cl n s from m).node
 grown_message cl n s from (Query m) w = cond_both (ltb m.interval s.interval || would_forget n s m) _ _ (λ (o : Outcome). Grown s o.node) (λ t. grown_refl s w) (λ t. grown_arrive n s m w (or_parts _ _ t).1)
 grown_message cl n s from (LogOf e xs) w = cond_both ((eqb e s.interval) && (is_asking s.status && is_usable cl s xs)) _ _ (λ (o : Outcome). Grown s o.node)
     (λ t. grown_usable s (adopt n s xs).node xs (usable_true cl s xs w (and_parts _ _ (and_parts _ _ t).1).1) refl refl) (λ t. grown_refl s w)
@@ -161,7 +161,7 @@ uncut_at w n e h k =
 pub uncut_same : (w : World) → IsUncut w w
 uncut_same w n = prefix_refl (committed_list (w.nodes n))
 
-pub uncut_monitor : (w : World) (from : Party) (m : Kind) → IsUncut w (at_monitor w from m)
+pub uncut_monitor : (w : World) (from : Party) (m : MessageKind) → IsUncut w (at_monitor w from m)
 uncut_monitor w from (AskActivate e) = cond_both (is_none (activation_refusal w.monitor e)) _ w (IsUncut w) (λ t n. prefix_refl (committed_list (w.nodes n))) (λ t. uncut_same w)
 uncut_monitor w from _ = uncut_same w
 

@@ -16,7 +16,7 @@ use Rattle.group_world.specs.Rules.{least_of, reply_packet, replies_from, commit
 use Rattle.group_world.specs.declared.status.Status.TheVariants.{Active}
 use Rattle.group_world.specs.declared.party.Party.{Party}
 use Rattle.group_world.specs.declared.party.Party.TheVariants.{Node as ANode, Monitor as TheMonitor, Client as AClient}
-use Rattle.group_world.specs.declared.message.Kind.TheVariants.{Rep}
+use Rattle.group_world.specs.declared.message.MessageKind.TheVariants.{Rep}
 use Rattle.group_world.specs.declared.handle_error.HandleError.{HandleError}
 use Rattle.group_world.specs.declared.handle_error.HandleError.TheVariants.{NotPrimary, Peering}
 use Rattle.group_world.proofs.Lists.{has_cases, prefix_refl, prefix_more, prefix_push, prefix_same, prefix_length, take_prefix, take_in_front}

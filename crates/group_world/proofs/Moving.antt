@@ -11,7 +11,7 @@ use Rattle.group_world.specs.Rules.{adopt, at_map, move_to, arrive, would_forget
 use Rattle.group_world.specs.declared.status.Status.{Status}
 use Rattle.group_world.specs.declared.status.Status.TheVariants.{Out, Waiting, Installed, Asking, Installing, Active}
 use Rattle.group_world.specs.declared.party.Party.{Party}
-use Rattle.group_world.specs.declared.message.Kind.TheVariants.{Query, Log as LogOf}
+use Rattle.group_world.specs.declared.message.MessageKind.TheVariants.{Query, Log as LogOf}
 use Rattle.group_world.proofs.Lists.{primary, first_true, first_false, prefix_refl, spot_cases}
 use Rattle.group_world.proofs.View.{View, acting, prev, first, HeldFrom, Covered, IsMade, HeldBy, Sound, Later, covered_later, covered_below}
 use Rattle.group_world.proofs.Moves.{proper_later, move_view, move_later, move_sound}

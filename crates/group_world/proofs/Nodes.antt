@@ -10,8 +10,8 @@ use Rattle.group_world.specs.declared.status.Status.{Status}
 use Rattle.group_world.specs.declared.status.Status.TheVariants.{Out, Waiting, Installed, Asking, Installing, Active}
 use Rattle.group_world.specs.declared.party.Party.{Party}
 use Rattle.group_world.specs.declared.party.Party.TheVariants.{Node as ANode, Monitor as TheMonitor, Client as AClient}
-use Rattle.group_world.specs.declared.message.Kind.{Kind}
-use Rattle.group_world.specs.declared.message.Kind.TheVariants.{Query, Log as LogOf, Install, Installed as InstalledIn, AskActivate, Activated, Rep, Ack, Reply as ReplyTo}
+use Rattle.group_world.specs.declared.message.MessageKind.{MessageKind}
+use Rattle.group_world.specs.declared.message.MessageKind.TheVariants.{Query, Log as LogOf, Install, Installed as InstalledIn, AskActivate, Activated, Rep, Ack, Reply as ReplyTo}
 use Rattle.group_world.specs.declared.message.Packet.{Packet}
 use Rattle.group_world.proofs.Lists.{primary, prefix_refl}
 use Rattle.group_world.proofs.View.{View, of_interval, acting, prev, first, HeldFrom, Covered, Chosen, IsMade, Proper, Sound, Later, covered_later, held_from_later, chosen_later}
@@ -109,13 +109,13 @@ pub record AllHold (v : View) (e : ℕ) : Type 0 where
   pub made : e ≤ v.newest
   pub all : (m : ℕ) → has m (acting v e) ≡ true → HeldFrom v e m []
 
-pub record ReplyOk (v : View) (m : Kind) : Type 0 where
+pub record ReplyOk (v : View) (m : MessageKind) : Type 0 where
   pub interval : ℕ
   pub list : List ClientRequest
   pub chosen : Chosen v interval list
   pub reply : IsTrueOf v.classes list m
 
-abbrev pub MessageOk : View → Party → Party → Kind → Type 0
+abbrev pub MessageOk : View → Party → Party → MessageKind → Type 0
 MessageOk v from to (Query m) = MapOk v m × ToNode to (λ k. (1 ≤ m.prev) × (has k (acting v m.prev) ≡ true))
 MessageOk v from to (LogOf e xs) = LogOk v e xs
 MessageOk v from to (Install m xs) = InstallOk v m xs × ToNode to (λ k. (has k m.acting ≡ true) × (k ≡ primary m → ⊥))
@@ -154,7 +154,7 @@ pub covered_all_later : (v w : View) (e : ℕ) (xs : List ClientRequest) → Sou
 covered_all_later v w e xs s l made c a h lt =
     elim (l.activated a h) [ inl old ↦ covered_later v w a xs s l (c a old lt) | inr new ↦ absurd (omega arith) ]
 
-pub message_later : (v w : View) (from to : Party) (m : Kind) → Sound v → Later v w → MessageOk v from to m → MessageOk w from to m
+pub message_later : (v w : View) (from to : Party) (m : MessageKind) → Sound v → Later v w → MessageOk v from to m → MessageOk w from to m
 message_later v w from to (Query m) s l h =
     let b : v.newest ≤ w.newest = l.newest in
     let mk : MapOk v m = h.0 in

@@ -11,8 +11,8 @@ use Rattle.group_world.specs.Rules.{receive, local_step}
 use Rattle.group_world.specs.World.{World, opening, WorldEvent, at_node, brought_by, brought}
 use Rattle.group_world.specs.declared.party.Party.{Party}
 use Rattle.group_world.specs.declared.party.Party.TheVariants.{Node as ANode}
-use Rattle.group_world.specs.declared.message.Kind.{Kind}
-use Rattle.group_world.specs.declared.message.Kind.TheVariants.{Query, Log as LogOf, Install, Installed as InstalledIn, AskActivate, Activated, Rep, Ack, Reply as ReplyTo}
+use Rattle.group_world.specs.declared.message.MessageKind.{MessageKind}
+use Rattle.group_world.specs.declared.message.MessageKind.TheVariants.{Query, Log as LogOf, Install, Installed as InstalledIn, AskActivate, Activated, Rep, Ack, Reply as ReplyTo}
 use Rattle.group_world.specs.declared.message.Packet.{Packet}
 use Rattle.group_world.specs.declared.event.Event.{Event}
 use Rattle.group_world.proofs.Lists.{spot_cases}
@@ -131,7 +131,7 @@ inv_node past w n e i g0 =
       sent = all_packets_append g.after w.sent (local_step w.classes n (w.nodes n) e).sent (packets_later i.view g.after w.sent i.sound g.later i.sent) g.sent;
     }
 
-pub kept_message : (v : View) (n : ℕ) (s : NodeState) (from : Party) (m : Kind) → Sound v → NodeOk v n s → MessageOk v from (ANode n) m → Kept v n (receive v.classes n s from m)
+pub kept_message : (v : View) (n : ℕ) (s : NodeState) (from : Party) (m : MessageKind) → Sound v → NodeOk v n s → MessageOk v from (ANode n) m → Kept v n (receive v.classes n s from m)
 kept_message v n s from (Query m) d k h = kept_query v n s from m d k h.0 h.1.0 h.1.1
 kept_message v n s from (LogOf e xs) d k h = kept_log v n s e xs d k h
 kept_message v n s from (Install m xs) d k h = kept_install v n s from m xs d k h.0

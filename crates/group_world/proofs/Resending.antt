@@ -16,8 +16,8 @@ use Rattle.group_world.specs.declared.status.Status.{Status}
 use Rattle.group_world.specs.declared.status.Status.TheVariants.{Out, Waiting, Installed, Asking, Installing, Active}
 use Rattle.group_world.specs.declared.party.Party.{Party}
 use Rattle.group_world.specs.declared.party.Party.TheVariants.{Node as ANode, Monitor as TheMonitor, Client as AClient}
-use Rattle.group_world.specs.declared.message.Kind.{Kind}
-use Rattle.group_world.specs.declared.message.Kind.TheVariants.{Query, Install, AskActivate, Rep}
+use Rattle.group_world.specs.declared.message.MessageKind.{MessageKind}
+use Rattle.group_world.specs.declared.message.MessageKind.TheVariants.{Query, Install, AskActivate, Rep}
 use Rattle.group_world.specs.declared.message.Message.{Message}
 use Rattle.group_world.specs.declared.message.Packet.{Packet}
 use Rattle.group_world.specs.declared.event.Event.{Event}
@@ -37,7 +37,7 @@ all_sent_node w n e h k =
       | inr p ↦ subst (λ (x : NodeState). SentOk (w.sent ++ o.sent) k x x.status) (sym p.1) (sent_more w.sent o.sent k (w.nodes k) (w.nodes k).status (h k))
     ]
 
-pub all_sent_monitor : (w : World) (from : Party) (m : Kind) → AllSent w → AllSent (at_monitor w from m)
+pub all_sent_monitor : (w : World) (from : Party) (m : MessageKind) → AllSent w → AllSent (at_monitor w from m)
 all_sent_monitor w from (AskActivate e) h = cond_both (is_none (activation_refusal w.monitor e)) _ w AllSent (λ t k. sent_more w.sent _ k (w.nodes k) (w.nodes k).status (h k)) (λ t. h)
 all_sent_monitor w from _ h = h
 
@@ -70,11 +70,11 @@ pub all_contained_append : (sent ps qs : List Packet) → AllByRecursion (Contai
 all_contained_append sent [] qs a b = b
 all_contained_append sent (p ∷ ps) qs a b = (a.0, all_contained_append sent ps qs a.1 b)
 
-pub to_all_contained : (sent : List Packet) (n : ℕ) (ns : List ℕ) (m : Kind) → ((k : ℕ) → has k ns ≡ true → Contains sent (packet n (ANode k) m)) → AllByRecursion (Contains sent) (to_all n ns m)
+pub to_all_contained : (sent : List Packet) (n : ℕ) (ns : List ℕ) (m : MessageKind) → ((k : ℕ) → has k ns ≡ true → Contains sent (packet n (ANode k) m)) → AllByRecursion (Contains sent) (to_all n ns m)
 to_all_contained sent n [] m h = tt
 to_all_contained sent n (k ∷ ks) m h = (h k (has_head k ks), to_all_contained sent n ks m (λ j a. h j (has_tail j k ks a)))
 
-pub missing_contained : (sent : List Packet) (n : ℕ) (js ns : List ℕ) (m : Kind) → ((k : ℕ) → has k ns ≡ true → (k ≡ n → ⊥) → Contains sent (packet n (ANode k) m)) → AllByRecursion (Contains sent) (to_missing n js ns m)
+pub missing_contained : (sent : List Packet) (n : ℕ) (js ns : List ℕ) (m : MessageKind) → ((k : ℕ) → has k ns ≡ true → (k ≡ n → ⊥) → Contains sent (packet n (ANode k) m)) → AllByRecursion (Contains sent) (to_missing n js ns m)
 missing_contained sent n js [] m h = tt
 missing_contained sent n js (k ∷ ks) m h =
     let rest : AllByRecursion (Contains sent) (to_missing n js ks m) = missing_contained sent n js ks m (λ j a ne. h j (has_tail j k ks a) ne) in

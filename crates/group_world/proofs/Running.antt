@@ -7,8 +7,8 @@ use Rattle.group_world.specs.Maps.{GroupMap}
 use Rattle.group_world.specs.World.{World, WorldEvent, RequestAt, MapMade, MapSeen, Delivered, WithoutMemory, at_monitor, deliver_to, deliver, show_map, happens, run, brought}
 use Rattle.group_world.specs.declared.party.Party.{Party}
 use Rattle.group_world.specs.declared.party.Party.TheVariants.{Node as ANode, Monitor as TheMonitor, Client as AClient}
-use Rattle.group_world.specs.declared.message.Kind.{Kind}
-use Rattle.group_world.specs.declared.message.Kind.TheVariants.{AskActivate}
+use Rattle.group_world.specs.declared.message.MessageKind.{MessageKind}
+use Rattle.group_world.specs.declared.message.MessageKind.TheVariants.{AskActivate}
 use Rattle.group_world.specs.declared.message.Message.{Message}
 use Rattle.group_world.specs.declared.message.Packet.{Packet}
 use Rattle.group_world.specs.declared.event.Event.TheVariants.{Request as ARequest, Map as AMap, Message as AMessage}
@@ -18,7 +18,7 @@ use Rattle.group_world.proofs.Moving.{kept_learn_map}
 use Rattle.group_world.proofs.Reach.{Inv, brought_more, inv_ask, inv_node, kept_message, packet_at}
 use Rattle.group_world.proofs.Monitoring.{inv_activate, inv_map}
 
-pub inv_monitor : (past : List WorldEvent) (w : World) (from : Party) (m : Kind) → (i : Inv past w) → MessageOk i.view from TheMonitor m → Inv past (at_monitor w from m)
+pub inv_monitor : (past : List WorldEvent) (w : World) (from : Party) (m : MessageKind) → (i : Inv past w) → MessageOk i.view from TheMonitor m → Inv past (at_monitor w from m)
 inv_monitor past w from (AskActivate e) i h = inv_activate past w from e i h
 inv_monitor past w from _ i h = i
 

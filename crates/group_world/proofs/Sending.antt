@@ -17,8 +17,8 @@ use Rattle.group_world.specs.declared.status.Status.{Status}
 use Rattle.group_world.specs.declared.status.Status.TheVariants.{Out, Waiting, Installed, Asking, Installing, Active}
 use Rattle.group_world.specs.declared.party.Party.{Party}
 use Rattle.group_world.specs.declared.party.Party.TheVariants.{Node as ANode, Monitor as TheMonitor, Client as AClient}
-use Rattle.group_world.specs.declared.message.Kind.{Kind}
-use Rattle.group_world.specs.declared.message.Kind.TheVariants.{Query, Log as LogOf, Install, Installed as InstalledIn, AskActivate, Activated, Rep, Ack, Reply as ReplyTo}
+use Rattle.group_world.specs.declared.message.MessageKind.{MessageKind}
+use Rattle.group_world.specs.declared.message.MessageKind.TheVariants.{Query, Log as LogOf, Install, Installed as InstalledIn, AskActivate, Activated, Rep, Ack, Reply as ReplyTo}
 use Rattle.group_world.specs.declared.message.Packet.{Packet}
 use Rattle.group_world.specs.declared.event.Event.{Event}
 use Rattle.group_world.specs.declared.event.Event.TheVariants.{Request as ARequest, Map as AMap, Message as AMessage}
@@ -31,7 +31,7 @@ contains_here p ps = (0, omega arith, refl)
 pub contains_there : (q p : Packet) (ps : List Packet) → Contains ps p → Contains (q ∷ ps) p
 contains_there q p ps c = (suc c.0, (let l : c.0 < length ps = c.1 in omega arith), c.2)
 
-pub to_others_sent : (n k : ℕ) (ns : List ℕ) (m : Kind) → has k ns ≡ true → (k ≡ n → ⊥) → Contains (to_others n ns m) (packet n (ANode k) m)
+pub to_others_sent : (n k : ℕ) (ns : List ℕ) (m : MessageKind) → has k ns ≡ true → (k ≡ n → ⊥) → Contains (to_others n ns m) (packet n (ANode k) m)
 to_others_sent n k [] m h ne = absurd (false≢true h)
 to_others_sent n k (j ∷ js) m h ne =
     cond_both (eqb j n) (to_others n js m) (packet n (ANode j) m ∷ to_others n js m) (λ (ps : List Packet). Contains ps (packet n (ANode k) m))
@@ -41,7 +41,7 @@ to_others_sent n k (j ∷ js) m h ne =
       | inr z ↦ contains_there _ _ _ (to_others_sent n k js m z ne)
     ])
 
-pub to_all_sent : (n k : ℕ) (ns : List ℕ) (m : Kind) → has k ns ≡ true → Contains (to_all n ns m) (packet n (ANode k) m)
+pub to_all_sent : (n k : ℕ) (ns : List ℕ) (m : MessageKind) → has k ns ≡ true → Contains (to_all n ns m) (packet n (ANode k) m)
 to_all_sent n k [] m h = absurd (false≢true h)
 to_all_sent n k (j ∷ js) m h =
     elim (has_cases k j js h) [
@@ -187,7 +187,7 @@ resends_acknowledged cl sent n s (ANode from) e k h = cond_both ((eqb e s.interv
 resends_acknowledged cl sent n s TheMonitor e k h = resends_nothing sent n s h
 resends_acknowledged cl sent n s (AClient c) e k h = resends_nothing sent n s h
 
-pub resends_message : (cl : Classes) (sent : List Packet) (n : ℕ) (s : NodeState) (from : Party) (m : Kind) → SentOk sent n s s.status → Resends sent n (receive cl n s from m)
+pub resends_message : (cl : Classes) (sent : List Packet) (n : ℕ) (s : NodeState) (from : Party) (m : MessageKind) → SentOk sent n s s.status → Resends sent n (receive cl n s from m)
 resends_message cl sent n s from (Query m) h = cond_both (ltb m.interval s.interval || would_forget n s m) (nothing s) _ (λ (o : Outcome). Resends sent n o)
     (λ t. resends_nothing sent n s h) (λ t. resends_and sent n (arrive n s m) _ (resends_arrive sent n s m h))
 resends_message cl sent n s from (LogOf e xs) h = cond_both ((eqb e s.interval) && (is_asking s.status && is_usable cl s xs)) _ (nothing s) (λ (o : Outcome). Resends sent n o)

@@ -15,7 +15,7 @@ use Rattle.group_world.specs.Rules.{begins, is_usable}
 use Rattle.group_world.specs.declared.status.Status.{Status}
 use Rattle.group_world.specs.declared.status.Status.TheVariants.{Waiting, Installed, Asking, Installing, Active}
 use Rattle.group_world.specs.declared.party.Party.TheVariants.{Node as ANode}
-use Rattle.group_world.specs.declared.message.Kind.{Kind}
+use Rattle.group_world.specs.declared.message.MessageKind.{MessageKind}
 use Rattle.group_world.specs.declared.message.Packet.{Packet}
 use Rattle.group_world.proofs.Lists.{primary, has_head, has_tail, begins_true, take_kept, take_within, cell_cases, cell_same, spot_cases}
 use Rattle.group_world.proofs.LogFacts.{LogLaws, list_legal}
@@ -69,7 +69,7 @@ pub all_packets_append : (v : View) (ps qs : List Packet) → AllByRecursion (Pa
 all_packets_append v [] qs a b = b
 all_packets_append v (p ∷ ps) qs a b = (a.0, all_packets_append v ps qs a.1 b)
 
-pub to_others_ok : (v : View) (n : ℕ) (ns : List ℕ) (m : Kind)
+pub to_others_ok : (v : View) (n : ℕ) (ns : List ℕ) (m : MessageKind)
     → ((k : ℕ) → has k ns ≡ true → (k ≡ n → ⊥) → MessageOk v (ANode n) (ANode k) m) → AllByRecursion (PacketOk v) (to_others n ns m)
 to_others_ok v n [] m h = tt
 to_others_ok v n (k ∷ ks) m h =
@@ -78,7 +78,7 @@ to_others_ok v n (k ∷ ks) m h =
     (λ e. rest)
     (λ e. (h k (has_head k ks) (eqb-false k n e), rest))
 
-pub to_all_ok : (v : View) (n : ℕ) (ns : List ℕ) (m : Kind)
+pub to_all_ok : (v : View) (n : ℕ) (ns : List ℕ) (m : MessageKind)
     → ((k : ℕ) → has k ns ≡ true → MessageOk v (ANode n) (ANode k) m) → AllByRecursion (PacketOk v) (to_all n ns m)
 to_all_ok v n [] m h = tt
 to_all_ok v n (k ∷ ks) m h = (h k (has_head k ks), to_all_ok v n ks m (λ j a. h j (has_tail j k ks a)))

@@ -6,7 +6,7 @@ use Rattle.group_world.specs.declared.status.Status.{Status}
 use Rattle.group_world.specs.declared.status.Status.TheVariants.{Out, Waiting, Installed, Asking, Installing, Active}
 use Rattle.group_world.specs.declared.party.Party.{Party}
 use Rattle.group_world.specs.declared.party.Party.TheVariants.{Node as ANode}
-use Rattle.group_world.specs.declared.message.Kind.{Kind}
+use Rattle.group_world.specs.declared.message.MessageKind.{MessageKind}
 use Rattle.group_world.specs.declared.message.Packet.{Packet}
 use Rattle.group_world.specs.declared.handle_error.HandleError.{HandleError}
 
@@ -50,16 +50,16 @@ abbrev pub and_sends : Outcome → Packet → Outcome
 and_sends o p = record { node = o.node; sent = o.sent ++ p ∷ []; refusal = None }
 
 -- a message of a node
-abbrev pub packet : ℕ → Party → Kind → Packet
+abbrev pub packet : ℕ → Party → MessageKind → Packet
 packet n receiver kind = record { receiver = receiver; message = record { sender = ANode n; kind = kind } }
 
 -- the same message to each of these nodes
-abbrev pub to_all : ℕ → List ℕ → Kind → List Packet
+abbrev pub to_all : ℕ → List ℕ → MessageKind → List Packet
 to_all n [] kind = []
 to_all n (m ∷ ms) kind = packet n (ANode m) kind ∷ to_all n ms kind
 
 -- the same message to each of these nodes but the sender
-abbrev pub to_others : ℕ → List ℕ → Kind → List Packet
+abbrev pub to_others : ℕ → List ℕ → MessageKind → List Packet
 to_others n [] kind = []
 to_others n (m ∷ ms) kind = if m == n then to_others n ms kind else packet n (ANode m) kind ∷ to_others n ms kind
 

@@ -12,8 +12,8 @@ use Rattle.group_world.specs.declared.status.Status.{Status}
 use Rattle.group_world.specs.declared.status.Status.TheVariants.{Out, Waiting, Installed, Asking, Installing, Active}
 use Rattle.group_world.specs.declared.party.Party.{Party}
 use Rattle.group_world.specs.declared.party.Party.TheVariants.{Node as ANode, Monitor as TheMonitor, Client as AClient}
-use Rattle.group_world.specs.declared.message.Kind.{Kind}
-use Rattle.group_world.specs.declared.message.Kind.TheVariants.{Query, Log as LogOf, Install, Installed as InstalledIn, AskActivate, Activated, Rep, Ack, Reply as ReplyTo}
+use Rattle.group_world.specs.declared.message.MessageKind.{MessageKind}
+use Rattle.group_world.specs.declared.message.MessageKind.TheVariants.{Query, Log as LogOf, Install, Installed as InstalledIn, AskActivate, Activated, Rep, Ack, Reply as ReplyTo}
 use Rattle.group_world.specs.declared.message.Packet.{Packet}
 use Rattle.group_world.specs.declared.event.Event.{Event}
 use Rattle.group_world.specs.declared.event.Event.TheVariants.{Request as ARequest, Map as AMap, Message as AMessage}
@@ -195,7 +195,7 @@ acknowledge classes n s (ANode m) interval k = if (interval == s.interval) && is
 acknowledge classes n s _ interval k = nothing s
 
 -- what a node does at a message
-abbrev pub receive : Classes → ℕ → NodeState → Party → Kind → Outcome
+abbrev pub receive : Classes → ℕ → NodeState → Party → MessageKind → Outcome
 receive classes n s sender (Query m) = answer_query n s sender m
 receive classes n s sender (LogOf interval list) = adopt_log classes n s interval list
 receive classes n s sender (Install m list) = install classes n s sender m list

@@ -11,8 +11,8 @@ use Rattle.group_world.specs.declared.status.Status.{Status}
 use Rattle.group_world.specs.declared.status.Status.TheVariants.{Installed, Asking, Installing, Active}
 use Rattle.group_world.specs.declared.party.Party.{Party}
 use Rattle.group_world.specs.declared.party.Party.TheVariants.{Node as ANode, Monitor as TheMonitor, Client as AClient}
-use Rattle.group_world.specs.declared.message.Kind.{Kind}
-use Rattle.group_world.specs.declared.message.Kind.TheVariants.{Query, Log as LogOf, Install, Installed as InstalledIn, AskActivate, Activated, Rep, Ack, Reply as ReplyTo}
+use Rattle.group_world.specs.declared.message.MessageKind.{MessageKind}
+use Rattle.group_world.specs.declared.message.MessageKind.TheVariants.{Query, Log as LogOf, Install, Installed as InstalledIn, AskActivate, Activated, Rep, Ack, Reply as ReplyTo}
 use Rattle.group_world.specs.declared.message.Packet.{Packet}
 
 -- A message in short: sender, receiver, kind, its interval (of a reply the request's number), and a list's length, a
@@ -20,7 +20,7 @@ use Rattle.group_world.specs.declared.message.Packet.{Packet}
 abbrev pub Line : Type 0
 Line = Party × Party × List ℕ × ℕ × ℕ
 
-abbrev pub in_short : Kind → List ℕ × ℕ × ℕ
+abbrev pub in_short : MessageKind → List ℕ × ℕ × ℕ
 in_short (Query m) = (codes "Query", m.interval, 0)
 in_short (LogOf interval list) = (codes "Log", interval, length list)
 in_short (Install m list) = (codes "Install", m.interval, length list)

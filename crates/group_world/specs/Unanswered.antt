@@ -8,12 +8,12 @@ use Rattle.group_world.specs.Rules.{ask_if}
 use Rattle.group_world.specs.declared.status.Status.{Status}
 use Rattle.group_world.specs.declared.status.Status.TheVariants.{Out, Waiting, Installed, Asking, Installing, Active}
 use Rattle.group_world.specs.declared.party.Party.TheVariants.{Node as ANode}
-use Rattle.group_world.specs.declared.message.Kind.{Kind}
-use Rattle.group_world.specs.declared.message.Kind.TheVariants.{Query, Install, Rep}
+use Rattle.group_world.specs.declared.message.MessageKind.{MessageKind}
+use Rattle.group_world.specs.declared.message.MessageKind.TheVariants.{Query, Install, Rep}
 use Rattle.group_world.specs.declared.message.Packet.{Packet}
 
 -- the same message to each of these nodes that isn't the sender and hasn't joined
-abbrev pub to_missing : ℕ → List ℕ → List ℕ → Kind → List Packet
+abbrev pub to_missing : ℕ → List ℕ → List ℕ → MessageKind → List Packet
 to_missing n joined [] kind = []
 to_missing n joined (m ∷ ms) kind = if has m joined || m == n then to_missing n joined ms kind else packet n (ANode m) kind ∷ to_missing n joined ms kind
 

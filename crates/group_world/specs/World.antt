@@ -12,8 +12,8 @@ use Rattle.group_world.specs.Monitor.{MonitorState, no_maps, map_refusal, next_m
 use Rattle.group_world.specs.declared.status.Status.TheVariants.{Waiting, Asking}
 use Rattle.group_world.specs.declared.party.Party.{Party}
 use Rattle.group_world.specs.declared.party.Party.TheVariants.{Node as ANode, Monitor as TheMonitor, Client as AClient}
-use Rattle.group_world.specs.declared.message.Kind.{Kind}
-use Rattle.group_world.specs.declared.message.Kind.TheVariants.{Log as LogOf, Install, AskActivate, Activated, Reply as ReplyTo}
+use Rattle.group_world.specs.declared.message.MessageKind.{MessageKind}
+use Rattle.group_world.specs.declared.message.MessageKind.TheVariants.{Log as LogOf, Install, AskActivate, Activated, Reply as ReplyTo}
 use Rattle.group_world.specs.declared.message.Message.{Message}
 use Rattle.group_world.specs.declared.message.Packet.{Packet}
 use Rattle.group_world.specs.declared.event.Event.{Event}
@@ -68,7 +68,7 @@ activate_for w asker interval = if is_none (activation_refusal w.monitor interva
     else w
 
 -- the monitor takes a message
-abbrev pub at_monitor : World → Party → Kind → World
+abbrev pub at_monitor : World → Party → MessageKind → World
 at_monitor w sender (AskActivate interval) = activate_for w sender interval
 at_monitor w sender _ = w
 
@@ -116,13 +116,13 @@ pub record StandsAt (list : List ClientRequest) (client number place : ℕ) : Ty
   pub of_number : request.number ≡ number
 
 -- A reply names a place of the list at which a request of that client and number stands, and carries what is answered there.
-abbrev pub IsTrueOf : Classes → List ClientRequest → Kind → Type 0
+abbrev pub IsTrueOf : Classes → List ClientRequest → MessageKind → Type 0
 IsTrueOf classes list (ReplyTo client number place answer) =
     StandsAt list client number place × (reply_at classes list place ≡ Some answer)
 IsTrueOf classes list _ = Unit {0}
 
 -- A list that the node would adopt or install begins with its committed list.
-abbrev pub KeepsCommitted : NodeState → Kind → Type 0
+abbrev pub KeepsCommitted : NodeState → MessageKind → Type 0
 KeepsCommitted s (LogOf interval list) = interval ≡ s.interval → s.status ≡ Asking → IsPrefix (committed_list s) list
 KeepsCommitted s (Install m list) = m.interval ≡ s.interval → s.status ≡ Waiting → IsPrefix (committed_list s) list
 KeepsCommitted s _ = Unit {0}

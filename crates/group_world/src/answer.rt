@@ -5,12 +5,12 @@ use std::marker::Model;
 
 /// What a request is answered: its code and its output. Contracts see the log's reply.
 #[derive(Drop)]
-pub struct Answer {
+pub struct CallReply {
     code: i64,
     output: Vec<u8>,
 }
 
-impl Model for Answer {
+impl Model for CallReply {
     ghost use Rattle.std.specs.Int.{w64, cast_unsigned};
     ghost use Rattle.pg_log.specs.Log.{Reply};
 
@@ -19,12 +19,12 @@ impl Model for Answer {
     ghost view = { λ a. record { code = cast_unsigned w64 a.code; output = a.output.items } };
 }
 
-impl Answer {
+impl CallReply {
     /// The answer of that code and output. It takes no memory.
-    pub fn new(code: i64, output: Vec<u8>) -> Answer
+    pub fn new(code: i64, output: Vec<u8>) -> CallReply
         ensures { result ≡ record { code = cast_unsigned w64 code; output = output.items } }
     {
-        Answer { code, output }
+        CallReply { code, output }
     }
 
     /// The code; a negative one is an error.

@@ -1,10 +1,10 @@
 //! Copies of messages.
 ghost use Rattle.std.specs.Prelude.{◌≡◌, IfOk};
 
-use crate::answer::Answer;
+use crate::answer::CallReply;
 use crate::epoch::Epoch;
 use crate::group_map::GroupMap;
-use crate::message::{Kind, Place};
+use crate::message::{MessageKind, Place};
 use crate::requests::Requests;
 use pg_log::{ClientId, Request, RequestNumber};
 use std::alloc::{AllocError, Global};
@@ -30,33 +30,33 @@ fn copy_requests(alloc: Global, list: &[Request]) -> Result<Requests, AllocError
 }
 
 /// An equal answer.
-fn copy_answer(alloc: Global, answer: &Answer) -> Result<Answer, AllocError>
+fn copy_answer(alloc: Global, answer: &CallReply) -> Result<CallReply, AllocError>
     ensures { IfOk result (λ a. a ≡ answer.now) }
 {
     let output = Vec::from_slice(alloc, answer.output())?;
-    Ok(Answer::new(answer.code(), output))
+    Ok(CallReply::new(answer.code(), output))
 }
 
 /// An equal Query.
-fn copy_query(alloc: Global, map: &GroupMap) -> Result<Kind, AllocError>
-    ensures { IfOk result (λ k. k ≡ Kind.Query map.now) }
+fn copy_query(alloc: Global, map: &GroupMap) -> Result<MessageKind, AllocError>
+    ensures { IfOk result (λ k. k ≡ MessageKind.Query map.now) }
 {
-    Ok(Kind::Query(map.copy(alloc)?))
+    Ok(MessageKind::Query(map.copy(alloc)?))
 }
 
 /// An equal Log.
-fn copy_log(alloc: Global, interval: Epoch, list: &Requests) -> Result<Kind, AllocError>
-    ensures { IfOk result (λ k. k ≡ Kind.Log interval list.now) }
+fn copy_log(alloc: Global, interval: Epoch, list: &Requests) -> Result<MessageKind, AllocError>
+    ensures { IfOk result (λ k. k ≡ MessageKind.Log interval list.now) }
 {
-    Ok(Kind::Log(interval, copy_requests(alloc, list.items())?))
+    Ok(MessageKind::Log(interval, copy_requests(alloc, list.items())?))
 }
 
 /// An equal Install.
-fn copy_install(alloc: Global, map: &GroupMap, list: &Requests) -> Result<Kind, AllocError>
-    ensures { IfOk result (λ k. k ≡ Kind.Install map.now list.now) }
+fn copy_install(alloc: Global, map: &GroupMap, list: &Requests) -> Result<MessageKind, AllocError>
+    ensures { IfOk result (λ k. k ≡ MessageKind.Install map.now list.now) }
 {
     let map = map.copy(alloc)?;
-    Ok(Kind::Install(map, copy_requests(alloc, list.items())?))
+    Ok(MessageKind::Install(map, copy_requests(alloc, list.items())?))
 }
 
 /// An equal Rep.
@@ -65,10 +65,10 @@ fn copy_rep(
     interval: Epoch,
     place: Place,
     request: &Request,
-) -> Result<Kind, AllocError>
-    ensures { IfOk result (λ k. k ≡ Kind.Rep interval place request.now) }
+) -> Result<MessageKind, AllocError>
+    ensures { IfOk result (λ k. k ≡ MessageKind.Rep interval place request.now) }
 {
-    Ok(Kind::Rep(interval, place, copy_request(alloc, request)?))
+    Ok(MessageKind::Rep(interval, place, copy_request(alloc, request)?))
 }
 
 /// An equal Reply.
@@ -77,28 +77,27 @@ fn copy_reply(
     client: ClientId,
     number: RequestNumber,
     place: Place,
-    answer: &Answer,
-) -> Result<Kind, AllocError>
-    ensures { IfOk result (λ k. k ≡ Kind.Reply client number place answer.now) }
+    answer: &CallReply,
+) -> Result<MessageKind, AllocError>
+    ensures { IfOk result (λ k. k ≡ MessageKind.Reply client number place answer.now) }
 {
-    Ok(Kind::Reply(client, number, place, copy_answer(alloc, answer)?))
+    Ok(MessageKind::Reply(client, number, place, copy_answer(alloc, answer)?))
 }
 
 /// What an equal message says.
-pub(crate) fn copy_kind(alloc: Global, kind: &Kind) -> Result<Kind, AllocError>
+#[rattlefmt::skip]
+pub(crate) fn copy_kind(alloc: Global, kind: &MessageKind) -> Result<MessageKind, AllocError>
     ensures { IfOk result (λ k. k ≡ kind.now) }
 {
     match kind {
-        Kind::Query(map) => copy_query(alloc, map),
-        Kind::Log(interval, list) => copy_log(alloc, *interval, list),
-        Kind::Install(map, list) => copy_install(alloc, map, list),
-        Kind::Installed(interval) => Ok(Kind::Installed(*interval)),
-        Kind::AskActivate(interval) => Ok(Kind::AskActivate(*interval)),
-        Kind::Activated(interval) => Ok(Kind::Activated(*interval)),
-        Kind::Rep(interval, place, request) => copy_rep(alloc, *interval, *place, request),
-        Kind::Ack(interval, length) => Ok(Kind::Ack(*interval, *length)),
-        Kind::Reply(client, number, place, answer) => {
-            copy_reply(alloc, *client, *number, *place, answer)
-        }
+        MessageKind::Query(map)                           => copy_query(alloc, map),
+        MessageKind::Log(interval, list)                  => copy_log(alloc, *interval, list),
+        MessageKind::Install(map, list)                   => copy_install(alloc, map, list),
+        MessageKind::Installed(interval)                  => Ok(MessageKind::Installed(*interval)),
+        MessageKind::AskActivate(interval)                => Ok(MessageKind::AskActivate(*interval)),
+        MessageKind::Activated(interval)                  => Ok(MessageKind::Activated(*interval)),
+        MessageKind::Rep(interval, place, request)        => copy_rep(alloc, *interval, *place, request),
+        MessageKind::Ack(interval, length)                => Ok(MessageKind::Ack(*interval, *length)),
+        MessageKind::Reply(client, number, place, answer) => copy_reply(alloc, *client, *number, *place, answer),
     }
 }

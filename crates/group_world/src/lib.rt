@@ -20,7 +20,7 @@ mod requests;
 mod runs;
 mod status;
 
-pub use answer::Answer;
+pub use answer::CallReply;
 pub use crossing::{event_crosses, map_crosses, message_crosses};
 pub use epoch::Epoch;
 pub use event::Event;
@@ -29,7 +29,7 @@ pub use handle_error::HandleError;
 pub use laws::{
     agreement, kept_stays_activated, nothing_is_cut, refusals_are_deserved, replies_are_committed,
 };
-pub use message::{Kind, Message, Packet, Place};
+pub use message::{Message, MessageKind, Packet, Place};
 pub use messages::Messages;
 pub use monitor_error::MonitorError;
 pub use party::Party;

@@ -1,6 +1,6 @@
 ghost use Rattle.std.specs.Prelude.{◌≡◌, IfOk};
 
-use crate::answer::Answer;
+use crate::answer::CallReply;
 use crate::copies::copy_kind;
 use crate::epoch::Epoch;
 use crate::group_map::GroupMap;
@@ -14,7 +14,7 @@ pub type Place = usize;
 
 /// What a message says. Epochs are those in which an interval began.
 #[derive(Drop)]
-pub enum Kind {
+pub enum MessageKind {
     /// The primary of the map asks a member of the interval before for its list.
     Query(GroupMap),
     /// A member's list, for the primary of that interval.
@@ -32,7 +32,7 @@ pub enum Kind {
     /// A member of that interval has a list of that length.
     Ack(Epoch, usize),
     /// The request of that client and number stands at that place, and is answered so.
-    Reply(ClientId, RequestNumber, Place, Answer),
+    Reply(ClientId, RequestNumber, Place, CallReply),
 }
 
 /// A message, and who sends it.
@@ -41,7 +41,7 @@ pub struct Message {
     /// Who sends it.
     pub sender: Party,
     /// What it says.
-    pub kind: Kind,
+    pub kind: MessageKind,
 }
 
 impl Message {

@@ -9,7 +9,7 @@ use txn::NoMemory;
 
 /// What a helper answers in register 0, and the bytes that it copies to the beginning of its writable range.
 #[derive(Clone, Copy)]
-pub struct Answer<'a> {
+pub struct HelperAnswer<'a> {
     pub number: u64,
     pub bytes: &'a [u8],
 }
@@ -38,12 +38,14 @@ fn errno_of(error: StoreError) -> u64
     }
 }
 
-/// What a helper answers where its change came to this: the number that it gives, or the negative of an error number.
+/// What a helper answers if its change came to this: the number that it gives, or the negative of an error number.
 pub fn answered(change: Result<(), StoreError>, number: u64) -> Result<u64, NoMemory>
     ensures answer { IfOk result (λ n. n ≡ number_of change number) }
     ensures no_want { IfOk result (λ _. IsAnswer change) }
     ensures want { OnErr result (change ≡ Err StoreError.NoMemory) }
 {
+    // Want of memory ends the call and has no error number here: what a method computes depends on its object, client and
+    // input alone, so every replica computes the same.
     match change {
         Ok(()) => Ok(number),
         Err(StoreError::NoMemory) => Err(NoMemory),
@@ -51,8 +53,8 @@ pub fn answered(change: Result<(), StoreError>, number: u64) -> Result<u64, NoMe
     }
 }
 
-/// What a helper answers where it looked up this value, with that much room for it.
-pub fn looked_up(value: Result<&[u8], StoreError>, room: u64) -> Answer<'_>
+/// What a helper answers if it looked up this value, with that much room for it.
+pub fn looked_up(value: Result<&[u8], StoreError>, room: u64) -> HelperAnswer<'_>
     ensures number { result.number ≡ (looked_up room (behind value.entry)).number }
     ensures bytes { result.bytes.now ≡ (looked_up room (behind value.entry)).bytes }
     ensures short { length result.bytes.now ≤ room }
@@ -64,7 +66,7 @@ pub fn looked_up(value: Result<&[u8], StoreError>, room: u64) -> Answer<'_>
             if room < count {
                 refused(ERANGE)
             } else {
-                Answer {
+                HelperAnswer {
                     number: count,
                     bytes,
                 }
@@ -74,12 +76,12 @@ pub fn looked_up(value: Result<&[u8], StoreError>, room: u64) -> Answer<'_>
 }
 
 /// A refusal: it copies nothing.
-fn refused<'a>(errno: u64) -> Answer<'a>
+fn refused<'a>(errno: u64) -> HelperAnswer<'a>
     requires { (1 ≤ errno) × (errno < 4096) }
     ensures number { result.number ≡ (refuses errno).number }
     ensures bytes { result.bytes.now ≡ (refuses errno).bytes }
 {
-    Answer {
+    HelperAnswer {
         number: negative(errno),
         bytes: &[],
     }

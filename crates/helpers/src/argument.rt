@@ -1,4 +1,4 @@
-/// What a helper takes from a register, or from two for a range: a pointer and a length in bytes.
+/// What a helper is given in a register, or in two for a range: a pointer and a length in bytes.
 #[derive(Clone, Copy, PartialEq, Eq)]
 pub enum Argument {
     /// A number.
@@ -11,7 +11,7 @@ pub enum Argument {
     Writable,
 }
 
-/// What a helper takes from register 1 on, and whether it may change the object.
+/// What a helper is given from register 1 on, and whether it may change the object.
 #[derive(Clone, Copy)]
 pub struct Signature {
     pub arguments: &'static [Argument],

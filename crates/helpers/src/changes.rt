@@ -43,7 +43,7 @@ pub fn remove(staged: &mut Staged) -> u64
 }
 
 /// Helper 7, `setxattr`: sets an xattr, of an absent object too, which it creates. It answers 0. Refused, in this
-/// order: EINVAL where the name is none, ENOSPC where it is new and the object has all xattrs that it may have.
+/// order: EINVAL if the name is none, ENOSPC if it is new and the object has all xattrs that it may have.
 pub fn setxattr(
     alloc: Global,
     staged: &mut Staged,
@@ -59,8 +59,8 @@ pub fn setxattr(
     answered(staged.set_xattr(alloc, name, value), 0)
 }
 
-/// Helper 8, `rmxattr`: removes an xattr. It answers 0. Refused, in this order: EINVAL where the name is none, ENOENT,
-/// ENODATA where it has no such xattr.
+/// Helper 8, `rmxattr`: removes an xattr. It answers 0. Refused, in this order: EINVAL if the name is none, ENOENT,
+/// ENODATA if it has no such xattr.
 pub fn rmxattr(alloc: Global, staged: &mut Staged, name: &[u8]) -> Result<u64, NoMemory>
     ensures answer { IfOk result (λ n. n ≡ (rmxattr_effect staged.old.after name.now).answer) }
     ensures object { IfOk result (λ _. staged.new.after ≡ (rmxattr_effect staged.old.after name.now).object) }
@@ -96,7 +96,7 @@ pub fn map_rm(alloc: Global, staged: &mut Staged, key: &[u8]) -> Result<u64, NoM
     answered(staged.remove_key(alloc, key), 0)
 }
 
-/// Helper 14, `create`: creates an absent object. It answers 0 and takes no memory. Refused: EEXIST where the object is
+/// Helper 14, `create`: creates an absent object. It answers 0 and takes no memory. Refused: EEXIST if the object is
 /// there and is to be new, which any number but 0 says.
 pub fn create(staged: &mut Staged, exclusive: u64) -> u64
     ensures answer { result ≡ (create_effect staged.old.after exclusive).answer }

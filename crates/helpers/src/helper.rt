@@ -56,52 +56,33 @@ pub fn signature(id: u32) -> Option<Signature>
     ensures short { IfSome result (λ s. length s.arguments.now ≤ 5) }
 {
     match Helper::of(id) {
-        Some(helper) => Some(Signature {
-            arguments: arguments(helper),
-            writes: writes(helper),
-        }),
+        Some(helper) => Some(takes(helper)),
         None => None,
     }
 }
 
-/// What a helper takes, by the table of helpers.
-fn arguments(helper: Helper) -> &'static [Argument]
-    ensures arguments { result.now ≡ (row helper).takes.arguments }
-    ensures short { length result.now ≤ 5 }
+/// The table of helpers: what each is given, and whether it may change the object.
+#[rattlefmt::skip]
+fn takes(helper: Helper) -> Signature
+    ensures arguments { result.arguments.now ≡ (row helper).takes.arguments }
+    ensures writes { result.writes ≡ (row helper).takes.writes }
+    ensures short { length result.arguments.now ≤ 5 }
 {
     match helper {
-        Helper::Stat | Helper::Remove | Helper::Caller => &[],
-        Helper::Read => &[Argument::Number, Argument::Writable],
-        Helper::Write => &[Argument::Number, Argument::Readable],
-        Helper::Truncate | Helper::Create => &[Argument::Number],
-        Helper::GetXattr | Helper::MapGet | Helper::MapNext => {
-            &[Argument::Readable, Argument::Writable]
-        }
-        Helper::SetXattr | Helper::MapSet => &[Argument::Readable, Argument::Readable],
-        Helper::RmXattr | Helper::MapRm => &[Argument::Readable],
-        Helper::OutLen => &[Argument::OutputLength],
-    }
-}
-
-/// Whether a helper may change the object.
-fn writes(helper: Helper) -> bool
-    ensures { result ≡ (row helper).takes.writes }
-{
-    match helper {
-        Helper::Stat
-        | Helper::Read
-        | Helper::GetXattr
-        | Helper::MapGet
-        | Helper::MapNext
-        | Helper::OutLen
-        | Helper::Caller => false,
-        Helper::Write
-        | Helper::Truncate
-        | Helper::Remove
-        | Helper::SetXattr
-        | Helper::RmXattr
-        | Helper::MapSet
-        | Helper::MapRm
-        | Helper::Create => true,
+        Helper::Stat     => Signature { arguments: &[], writes: false },
+        Helper::Read     => Signature { arguments: &[Argument::Number, Argument::Writable], writes: false },
+        Helper::Write    => Signature { arguments: &[Argument::Number, Argument::Readable], writes: true },
+        Helper::Truncate => Signature { arguments: &[Argument::Number], writes: true },
+        Helper::Remove   => Signature { arguments: &[], writes: true },
+        Helper::GetXattr => Signature { arguments: &[Argument::Readable, Argument::Writable], writes: false },
+        Helper::SetXattr => Signature { arguments: &[Argument::Readable, Argument::Readable], writes: true },
+        Helper::RmXattr  => Signature { arguments: &[Argument::Readable], writes: true },
+        Helper::MapGet   => Signature { arguments: &[Argument::Readable, Argument::Writable], writes: false },
+        Helper::MapSet   => Signature { arguments: &[Argument::Readable, Argument::Readable], writes: true },
+        Helper::MapRm    => Signature { arguments: &[Argument::Readable], writes: true },
+        Helper::MapNext  => Signature { arguments: &[Argument::Readable, Argument::Writable], writes: false },
+        Helper::OutLen   => Signature { arguments: &[Argument::OutputLength], writes: false },
+        Helper::Create   => Signature { arguments: &[Argument::Number], writes: true },
+        Helper::Caller   => Signature { arguments: &[], writes: false },
     }
 }

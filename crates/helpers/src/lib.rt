@@ -15,7 +15,7 @@ mod memory;
 mod plain;
 mod span;
 
-pub use answer::Answer;
+pub use answer::HelperAnswer;
 pub use argument::{Argument, Signature};
 pub use changes::{create, map_rm, map_set, remove, rmxattr, setxattr, truncate, write};
 pub use errno::{EBUSY, EEXIST, EFBIG, EINVAL, EIO, ENODATA, ENOENT, ENOMEM, ENOSPC, ERANGE};

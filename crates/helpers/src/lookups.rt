@@ -1,7 +1,7 @@
 ghost use Rattle.std.specs.Prelude.{◌≡◌, ◌≤◌, length};
 ghost use Rattle.helpers.specs.Table.{stat_answer, getxattr_answer, map_get_answer, map_next_answer};
 
-use crate::answer::{Answer, looked_up, negative};
+use crate::answer::{HelperAnswer, looked_up, negative};
 use crate::errno::ENOENT;
 use object_store::calls;
 use txn::Staged;
@@ -17,7 +17,7 @@ pub fn stat(staged: &Staged) -> u64
 }
 
 /// What `getxattr` answers: the value of an xattr. Refused: EINVAL, ENOENT, ENODATA, ERANGE.
-pub fn xattr_value<'a>(staged: &'a Staged, name: &[u8], room: u64) -> Answer<'a>
+pub fn xattr_value<'a>(staged: &'a Staged, name: &[u8], room: u64) -> HelperAnswer<'a>
     ensures number { result.number ≡ (getxattr_answer staged.entry.now.after name.now room).number }
     ensures bytes { result.bytes.now ≡ (getxattr_answer staged.entry.now.after name.now room).bytes }
     ensures short { length result.bytes.now ≤ room }
@@ -26,7 +26,7 @@ pub fn xattr_value<'a>(staged: &'a Staged, name: &[u8], room: u64) -> Answer<'a>
 }
 
 /// What `map_get` answers: the value of a key of the omap. Refused: EINVAL, ENOENT, ENODATA, ERANGE.
-pub fn map_value<'a>(staged: &'a Staged, key: &[u8], room: u64) -> Answer<'a>
+pub fn map_value<'a>(staged: &'a Staged, key: &[u8], room: u64) -> HelperAnswer<'a>
     ensures number { result.number ≡ (map_get_answer staged.entry.now.after key.now room).number }
     ensures bytes { result.bytes.now ≡ (map_get_answer staged.entry.now.after key.now room).bytes }
     ensures short { length result.bytes.now ≤ room }
@@ -36,7 +36,7 @@ pub fn map_value<'a>(staged: &'a Staged, key: &[u8], room: u64) -> Answer<'a>
 
 /// What `map_next` answers: the least key of the omap above some bytes, and with no bytes the least key. Refused:
 /// EINVAL, ENOENT, ENODATA, ERANGE.
-pub fn key_above<'a>(staged: &'a Staged, key: &[u8], room: u64) -> Answer<'a>
+pub fn key_above<'a>(staged: &'a Staged, key: &[u8], room: u64) -> HelperAnswer<'a>
     ensures number { result.number ≡ (map_next_answer staged.entry.now.after key.now room).number }
     ensures bytes { result.bytes.now ≡ (map_next_answer staged.entry.now.after key.now room).bytes }
     ensures short { length result.bytes.now ≤ room }

@@ -32,7 +32,7 @@ pub fn answer(
 {
     let code = code.cast_signed();
     if code < 0 {
-        let change = Change::of(given, given)?;
+        let change = Change::none(given)?;
         leads_within(&change);
         return Ok(Outcome {
             code,
@@ -57,7 +57,7 @@ pub fn answer(
 fn leads_within(change: &Change)
     ensures { IsObject change.now.after }
 {
-    match &change.after {
+    match change.after() {
         None => {}
         Some(object) => object.within(),
     }

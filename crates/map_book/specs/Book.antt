@@ -10,7 +10,7 @@ use Rattle.map_book.specs.declared.new_map.NewMap.{NewMap}
 pub record Book : Type 0 where
   -- how many nodes the cluster has; their numbers are below this
   pub nodes : ℕ
-  -- how many nodes act for a group, where so many are up
+  -- how many nodes act for a group, if that many are up
   pub replicas : ℕ
   -- the epoch of the newest maps, 0 before the first
   pub epoch : ℕ
@@ -34,7 +34,7 @@ abbrev pub are_below : ℕ → List ℕ → Bool
 are_below bound [] = true
 are_below bound (n ∷ ns) = nat_lt n bound && are_below bound ns
 
--- each is the number of one of so many nodes, and none stands twice
+-- each is the number of a node, below this number of nodes, and none stands twice
 abbrev pub are_nodes_of : ℕ → List ℕ → Bool
 are_nodes_of nodes up = are_below nodes up && are_nodes up
 

@@ -105,7 +105,7 @@ fn all_moved(
 }
 
 impl MapBook {
-    /// The book of a cluster that has so many nodes and groups, and so many nodes that act for a group. No map is made
+    /// The book of a cluster with this number of nodes and groups, and with `replicas` nodes that act for a group. No map is made
     /// yet. Only memory may be refused.
     pub fn new(alloc: Global, nodes: u64, replicas: usize, groups: u64) -> Result<MapBook, MapError>
         requires nodes { nodes ≤ 16 }

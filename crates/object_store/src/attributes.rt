@@ -33,7 +33,7 @@ pub(crate) fn nth_in(attributes: &Attributes, n: usize) -> Option<(&[u8], &[u8])
     }
 }
 
-/// Sets the value of a name, where there are at most so many names then.
+/// Sets the value of a name, unless there would be more than `most` names then.
 pub(crate) fn set_in(
     alloc: Global,
     attributes: &mut Attributes,

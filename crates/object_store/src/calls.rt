@@ -20,7 +20,7 @@ pub fn stat(object: Option<&Object>) -> Result<usize, StoreError>
     Ok(there(object)?.len())
 }
 
-/// Copies the bytes from a place on that there are into a buffer, as many as it takes, and answers how many. Refused: 1 Absent; the buffer is then as it was.
+/// Copies the bytes from a place on into a buffer, as many as there are and as fit, and answers how many. Refused: 1 Absent; the buffer is then as it was.
 pub fn read(object: Option<&Object>, at: u64, out: &mut [u8]) -> Result<usize, StoreError>
     ensures count { result ≡ spec.count (spec.read (option_copied object.entry) at (length out.old)) }
     ensures bytes { out.new ≡ spec.filled (spec.read (option_copied object.entry) at (length out.old)) out.old }
@@ -133,7 +133,7 @@ pub fn remove_key(alloc: Global, object: Option<&Object>, key: &[u8]) -> Result<
     finished(alloc, new, done)
 }
 
-/// An object without data, xattrs and keys where none is; one that is there stays as it is. Refused: 2 Exists, where it is there and the creation is
+/// An object without data, xattrs and keys if there is none; one that is there stays as it is. Refused: 2 Exists, if it is there and the creation is
 /// exclusive, 7 NoMemory.
 pub fn create(object: Option<&Object>, exclusive: bool) -> Result<Object, StoreError>
     ensures { Gives (λ o. o) result (spec.create (option_copied object.entry) exclusive) }
@@ -172,7 +172,7 @@ fn named<'a>(object: Option<&'a Object>, name: &[u8]) -> Result<&'a Object, Stor
     there(object)
 }
 
-/// What the object holds, to be changed; nothing where it is absent.
+/// What the object holds, to be changed; nothing if it is absent.
 fn there_or_new(object: Option<&Object>) -> Result<Held, StoreError>
     ensures value { IfOk result (λ h. h ≡ content_of (option_copied object.entry)) }
     ensures refused { IfErr result (λ e. e ≡ StoreError.NoMemory) }
@@ -197,6 +197,7 @@ fn check_entry(name: &[u8], value: &[u8]) -> Result<(), StoreError>
     ensures name { IfOk result (λ _. IsName name.now) }
     ensures value { IfOk result (λ _. IsValue value.now) }
 {
+    // The name first: of two refusals it is the one that is answered.
     check_name(name)?;
     check_value(value)
 }

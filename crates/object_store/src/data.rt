@@ -15,7 +15,7 @@ pub trait Data: Drop {
     fn len(&self) -> usize
         ensures { result ≡ length (bytes self.now) };
 
-    /// Copies the bytes from a place on that there are into a buffer, as many as it takes, and answers how many.
+    /// Copies the bytes from a place on into a buffer, as many as there are and as fit, and answers how many.
     fn read(&self, at: u64, out: &mut [u8]) -> usize
         ensures count { result ≡ length (part (bytes self.now) at (length out.old)) }
         ensures bytes { out.new ≡ overlaid (part (bytes self.now) at (length out.old)) out.old };

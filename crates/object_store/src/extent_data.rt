@@ -12,8 +12,8 @@ use std::alloc::{AllocError, Global};
 use std::marker::Model;
 use std::sync::Arc;
 
-/// Data in extents of 1 to 4,096 bytes, as few as it needs, which never change once they are made: a copy costs one pointer, and a write makes anew what it
-/// touches and shares the other extents. Contracts see the bytes.
+/// Data in extents of 1 to 4,096 bytes, as few as it needs, which never change once they are made: a copy costs one pointer, and a write copies the extents that
+/// it touches and shares the others. Contracts see the bytes.
 #[derive(Drop)]
 pub struct ExtentData {
     parts: Option<Arc<Vec<Extent>>>,
@@ -99,7 +99,7 @@ impl ExtentData {
         self.remake(alloc, parts, len)
     }
 
-    /// Makes the data that of these extents, which have so many bytes.
+    /// Makes the data that of these extents, which have `len` bytes.
     fn remake(&mut self, alloc: Global, parts: Vec<Extent>, len: usize) -> Result<(), AllocError>
         requires len { (len ≡ length (flat parts.items)) × (len ≤ DATA_LIMIT) }
         requires packed { ArePacked parts.items }
@@ -158,7 +158,7 @@ impl ExtentData {
         self.parts().len()
     }
 
-    /// The length of its longest extent: 4,096, or all bytes where they are fewer.
+    /// The length of its longest extent: 4,096, or all bytes if they are fewer.
     pub fn longest_extent(&self) -> usize
         ensures { result ≡ min (length self.now) 4096 }
     {

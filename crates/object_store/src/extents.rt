@@ -78,7 +78,7 @@ fn touched(
     Ok(bytes)
 }
 
-/// The extents with those of a range replaced by new bytes, which fill theirs where others follow.
+/// The extents with those of a range replaced by new bytes, which fill theirs if others follow.
 fn replaced(
     alloc: Global,
     parts: &[Extent],
@@ -224,7 +224,7 @@ fn share(parts: &mut Vec<Extent>, others: &[Extent]) -> Result<(), AllocError>
     Ok(())
 }
 
-/// Adds extents of new bytes, which become the extent themselves where they fill one.
+/// Adds extents of new bytes, which become the extent themselves if they fill one.
 fn push_bytes(alloc: Global, parts: &mut Vec<Extent>, bytes: Vec<u8>) -> Result<(), AllocError>
     requires { AreFull parts.old.items }
     ensures bytes { OnOk result (flat parts.new.items ≡ flat parts.old.items ++ bytes.items) }

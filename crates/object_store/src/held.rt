@@ -64,7 +64,7 @@ impl Held {
         self.bytes.len()
     }
 
-    /// Copies the bytes from a place on that there are into a buffer, as many as it takes, and answers how many. It takes no memory.
+    /// Copies the bytes from a place on into a buffer, as many as there are and as fit, and answers how many. It takes no memory.
     pub(crate) fn read(&self, at: u64, out: &mut [u8]) -> usize
         ensures count { result ≡ length (part self.now.bytes at (length out.old)) }
         ensures bytes { out.new ≡ overlaid (part self.now.bytes at (length out.old)) out.old }

@@ -5,7 +5,7 @@ ghost use Rattle.object_store.specs.Object.{AreBytes, IsValue};
 ghost use Rattle.object_store.specs.Calls as spec;
 ghost use Rattle.object_store.specs.Laws.{Keeps, Reads};
 
-/// A change of an object within the limits leaves one within them, where it is given bytes.
+/// A change of an object within the limits leaves one within them, if it is given bytes.
 pub fn changes_keep_the_limits()
     ensures write { (at : ℕ) (text : List ℕ) → AreBytes text → Keeps (λ o. spec.write o at text) }
     ensures truncate { (len : ℕ) → Keeps (λ o. spec.truncate o len) }

@@ -19,7 +19,7 @@ pub struct Object {
     held: Option<Arc<Held>>,
 }
 
-// Written out, so that a crate that drops an object calls this, and proves nothing of what is behind it once more.
+// Written out, so that a crate that drops an object calls this and needn't prove again how its parts are dropped.
 impl Drop for Object {
     fn drop(self) {
         let Object { held } = self;
@@ -87,7 +87,7 @@ impl Object {
         }
     }
 
-    /// Copies the bytes from a place on that there are into a buffer, as many as it takes, and answers how many. It takes no memory.
+    /// Copies the bytes from a place on into a buffer, as many as there are and as fit, and answers how many. It takes no memory.
     pub fn read(&self, at: u64, out: &mut [u8]) -> usize
         ensures count { result ≡ length (part self.now.bytes at (length out.old)) }
         ensures bytes { out.new ≡ overlaid (part self.now.bytes at (length out.old)) out.old }

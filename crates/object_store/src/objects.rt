@@ -109,7 +109,7 @@ impl Objects {
         self.put(alloc, name, changed?)
     }
 
-    /// Takes the object of that name away, where there is one.
+    /// Takes the object of that name away, if it exists.
     fn take_away(&mut self, alloc: Global, name: &ObjectName) -> Result<(), StoreError>
         ensures ok { OnOk result (self.new ≡ fin.remove self.old name.now) }
         ensures refused { IfErr result (λ e. e ≡ StoreError.NoMemory) }
@@ -142,7 +142,7 @@ impl Objects {
         calls::stat(self.get(name))
     }
 
-    /// Copies the bytes of an object from a place on that there are into a buffer, as many as it takes, and answers how many. Refused: 1 Absent; the buffer is
+    /// Copies the bytes of an object from a place on into a buffer, as many as there are and as fit, and answers how many. Refused: 1 Absent; the buffer is
     /// then as it was.
     pub fn read(&self, name: &ObjectName, at: u64, out: &mut [u8]) -> Result<usize, StoreError>
         ensures count { result ≡ spec.count (spec.read (fin.get self.now name.now) at (length out.old)) }
@@ -172,7 +172,7 @@ impl Objects {
         calls::next_key(self.get(name), key)
     }
 
-    /// Writes text at a place of an object, which it creates where it is absent. Zeros fill a gap, and no bytes leave the data as it is. Refused: 4 TooBig,
+    /// Writes text at a place of an object, which it creates if it is absent. Zeros fill a gap, and no bytes leave the data as it is. Refused: 4 TooBig,
     /// 7 NoMemory; nothing has changed then.
     pub fn write(
         &mut self,
@@ -197,7 +197,7 @@ impl Objects {
         self.put_changed(alloc, name, changed)
     }
 
-    /// Sets an xattr of an object, which it creates where it is absent. Refused: 6 Range, 4 TooBig, 5 TooMany, 7 NoMemory; nothing has changed then.
+    /// Sets an xattr of an object, which it creates if it is absent. Refused: 6 Range, 4 TooBig, 5 TooMany, 7 NoMemory; nothing has changed then.
     pub fn set_xattr(
         &mut self,
         alloc: Global,
@@ -212,7 +212,7 @@ impl Objects {
         self.put_changed(alloc, name, changed)
     }
 
-    /// Sets a key of the omap of an object, which it creates where it is absent. Refused: 6 Range, 4 TooBig, 5 TooMany, 7 NoMemory; nothing has changed then.
+    /// Sets a key of the omap of an object, which it creates if it is absent. Refused: 6 Range, 4 TooBig, 5 TooMany, 7 NoMemory; nothing has changed then.
     pub fn set_key(
         &mut self,
         alloc: Global,
@@ -255,7 +255,7 @@ impl Objects {
         self.put_changed(alloc, name, changed)
     }
 
-    /// Creates an object without data, xattrs and keys; one that is there stays as it is. Refused: 2 Exists, where it is there and the creation is exclusive,
+    /// Creates an object without data, xattrs and keys; one that is there stays as it is. Refused: 2 Exists, if it is there and the creation is exclusive,
     /// 7 NoMemory; nothing has changed then.
     pub fn create(
         &mut self,

@@ -5,11 +5,12 @@ ghost use Rattle.object_store.specs.Object.{part};
 use crate::limits::DATA_LIMIT;
 use std::alloc::AllocError;
 
-/// The place, where bytes that many from there on stay within the limit of data.
+/// The place, if `len` bytes from there on stay within the limit of data.
 pub(crate) fn place_of(at: u64, len: usize) -> Option<usize>
     ensures value { IfSome result (λ place. place ≡ at) }
     ensures within { IsSome result ↔ (at + len ≤ DATA_LIMIT) }
 {
+    // A place is 64 bits wide, as a register is, so that none is cut before it is refused.
     if len > DATA_LIMIT || at > (DATA_LIMIT - len) as u64 {
         return None;
     }
@@ -40,7 +41,7 @@ pub(crate) fn overlay(bytes: &mut [u8], at: usize, text: &[u8])
     bytes[at..at + text.len()].copy_from_slice(text);
 }
 
-/// Adds zeros up to a length, where the bytes are fewer.
+/// Adds zeros up to a length, if the bytes are fewer.
 pub(crate) fn lengthen(bytes: &mut Vec<u8>, len: usize) -> Result<(), AllocError>
     ensures lengthened { OnOk result (bytes.new.items ≡ bytes.old.items ++ replicate (len - length bytes.old.items) 0) }
     ensures refused { OnErr result (bytes.new.items ≡ bytes.old.items) }

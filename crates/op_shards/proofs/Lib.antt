@@ -1,6 +1,6 @@
 pub mod Operations
 pub mod Keeps
-pub mod Lanes
-pub mod Dealt
+pub mod EndSteps
+pub mod NewEnds
 pub mod Gathered
 pub mod Sent

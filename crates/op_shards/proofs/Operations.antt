@@ -8,7 +8,7 @@ use mathlib.Core.Logic.{dite}
 use Rattle.crossbeam_queue.proofs.Lists.{at_set}
 use Rattle.atomic_table.proofs.Lists.{at_longer, set_else}
 use Rattle.op_shards.specs.declared.rule.Ranked.{Ranked}
-use Rattle.op_shards.specs.declared.rule.Hand.{Hand}
+use Rattle.op_shards.specs.declared.rule.PassState.{PassState}
 use Rattle.op_shards.specs.Order.{of, IsRanked, Each, weigh, total, HasSender}
 
 -- f, but x at k
@@ -48,29 +48,29 @@ module _ {V : Type 0} where
 
 module _ {T : Type 0} where
   -- who has a sender has it still after a pass changed, if that pass keeps the sender or didn't have it
-  has_after : (views : List (Hand T)) (by : ℕ) (v w : Hand T) → get_elem? views by ≡ some v → (j p : ℕ) → (v.first ≤ p → p < v.end → (w.first ≤ p) × (p < w.end)) → HasSender views j p → HasSender (set views by w) j p
+  has_after : (views : List (PassState T)) (by : ℕ) (v w : PassState T) → get_elem? views by ≡ some v → (j p : ℕ) → (v.first ≤ p → p < v.end → (w.first ≤ p) × (p < w.end)) → HasSender views j p → HasSender (set views by w) j p
   has_after views by v w at j p keeps h =
       dite (ℕ_discrete j by)
       (λ e.
       let same : h.0 ≡ v = some-injective h.0 v (sym h.1 ∙ ap (get_elem? views) e ∙ at) in
-      let kept = keeps (subst (λ (u : Hand T). u.first ≤ p) same h.2) (subst (λ (u : Hand T). p < u.end) same h.3) in
+      let kept = keeps (subst (λ (u : PassState T). u.first ≤ p) same h.2) (subst (λ (u : PassState T). p < u.end) same h.3) in
       (w, ap (get_elem? (set views by w)) e ∙ set_here views by v w at, kept.0, kept.1))
       (λ ne. (h.0, set_else views by j w ne ∙ h.1, h.2, h.3))
 
   -- so after a pass changed but for its senders
-  pub has_set : (views : List (Hand T)) (by : ℕ) (v w : Hand T) → get_elem? views by ≡ some v → w.first ≡ v.first → w.end ≡ v.end → (j p : ℕ) → HasSender views j p → HasSender (set views by w) j p
+  pub has_set : (views : List (PassState T)) (by : ℕ) (v w : PassState T) → get_elem? views by ≡ some v → w.first ≡ v.first → w.end ≡ v.end → (j p : ℕ) → HasSender views j p → HasSender (set views by w) j p
   has_set views by v w at first end j p = has_after views by v w at j p (λ lo hi. (omega (arith, first, lo), omega (arith, end, hi)))
 
   -- after a pass gave away another sender
-  pub has_rest : (views : List (Hand T)) (by : ℕ) (v w : Hand T) → get_elem? views by ≡ some v → (j p : ℕ) → (v.first ≤ p → w.first ≤ p) → w.end ≡ v.end → HasSender views j p → HasSender (set views by w) j p
+  pub has_rest : (views : List (PassState T)) (by : ℕ) (v w : PassState T) → get_elem? views by ≡ some v → (j p : ℕ) → (v.first ≤ p → w.first ≤ p) → w.end ≡ v.end → HasSender views j p → HasSender (set views by w) j p
   has_rest views by v w at j p later end = has_after views by v w at j p (λ lo hi. (later lo, omega (arith, end, hi)))
 
   -- and after a pass without senders changed
-  pub has_still : (views : List (Hand T)) (by : ℕ) (v w : Hand T) → get_elem? views by ≡ some v → v.end ≡ 0 → (j p : ℕ) → HasSender views j p → HasSender (set views by w) j p
+  pub has_still : (views : List (PassState T)) (by : ℕ) (v w : PassState T) → get_elem? views by ≡ some v → v.end ≡ 0 → (j p : ℕ) → HasSender views j p → HasSender (set views by w) j p
   has_still views by v w at none j p = has_after views by v w at j p (λ lo hi. absurd (omega (arith, none, hi)))
 
   -- and where another pass comes
-  pub has_more : (views : List (Hand T)) (w : Hand T) (j p : ℕ) → HasSender views j p → HasSender (views ++ w ∷ []) j p
+  pub has_more : (views : List (PassState T)) (w : PassState T) (j p : ℕ) → HasSender views j p → HasSender (views ++ w ∷ []) j p
   has_more views w j p h = (h.0, at_longer views (w ∷ []) j h.0 h.1, h.2, h.3)
 
   pub of_append : (p : ℕ) (xs ys : List (Ranked T)) → of p (xs ++ ys) ≡ of p xs ++ of p ys
@@ -88,10 +88,10 @@ module _ {T : Type 0} where
       let e : length (of p (xs ++ x ∷ [])) ≡ length (of p xs ++ of p (x ∷ [])) = ap length (of_append p xs (x ∷ [])) in
       omega (arith, e, length-append (of p xs) (of p (x ∷ [])))
 
-  pub length_of_own : (p : ℕ) (xs : List (Ranked T)) (x : Ranked T) → x.sender ≡ p → length (of p (xs ++ x ∷ [])) ≡ length (of p xs) + 1
-  length_of_own p xs x own =
+  pub length_of_sender : (p : ℕ) (xs : List (Ranked T)) (x : Ranked T) → x.sender ≡ p → length (of p (xs ++ x ∷ [])) ≡ length (of p xs) + 1
+  length_of_sender p xs x same_sender =
       let e : length (of p (xs ++ x ∷ [])) ≡ length (of p xs ++ of p (x ∷ [])) = ap length (of_append p xs (x ∷ [])) in
-      let one : length (of p (x ∷ [])) ≡ 1 = ap length (of_here p x [] own) in
+      let one : length (of p (x ∷ [])) ≡ 1 = ap length (of_here p x [] same_sender) in
       omega (arith, e, one, length-append (of p xs) (of p (x ∷ [])))
 
   pub ranked_snoc : (k : ℕ) (xs : List (Ranked T)) (x : Ranked T) → IsRanked k xs → x.rank ≡ k + length xs → IsRanked k (xs ++ x ∷ [])
@@ -127,44 +127,44 @@ module _ {T : Type 0} where
   weigh_ones (x ∷ xs) = let r = weigh_ones xs in omega (arith, r)
 
   -- the total after a change of one pass
-  pub total_set : (f : Hand T → ℕ) (views : List (Hand T)) (by : ℕ) (v w : Hand T) → get_elem? views by ≡ some v → total f (set views by w) + f v ≡ total f views + f w
+  pub total_set : (f : PassState T → ℕ) (views : List (PassState T)) (by : ℕ) (v w : PassState T) → get_elem? views by ≡ some v → total f (set views by w) + f v ≡ total f views + f w
   total_set f [] by v w e = absurd (some-ne-none v (sym e))
   total_set f (x ∷ xs) zero v w e = let same : f x ≡ f v = ap f (some-injective x v e) in omega (arith, same)
   total_set f (x ∷ xs) (suc by) v w e = let r = total_set f xs by v w e in omega (arith, r)
 
-  pub total_add : (f : Hand T → ℕ) (views : List (Hand T)) (w : Hand T) → total f (views ++ w ∷ []) ≡ total f views + f w
+  pub total_add : (f : PassState T → ℕ) (views : List (PassState T)) (w : PassState T) → total f (views ++ w ∷ []) ≡ total f views + f w
   total_add f [] w = omega arith
   total_add f (x ∷ xs) w = let r = total_add f xs w in omega (arith, r)
 
-  pub part_of_total : (f : Hand T → ℕ) (views : List (Hand T)) (by : ℕ) (v : Hand T) → get_elem? views by ≡ some v → f v ≤ total f views
+  pub part_of_total : (f : PassState T → ℕ) (views : List (PassState T)) (by : ℕ) (v : PassState T) → get_elem? views by ≡ some v → f v ≤ total f views
   part_of_total f [] by v e = absurd (some-ne-none v (sym e))
   part_of_total f (x ∷ xs) zero v e = let same : f x ≡ f v = ap f (some-injective x v e) in omega (arith, same)
   part_of_total f (x ∷ xs) (suc by) v e = let r = part_of_total f xs by v e in omega (arith, r)
 
-  nothing : (f : Hand T → ℕ) (views : List (Hand T)) → total (λ u. u.parts) views ≡ 0 → ((by : ℕ) (u : Hand T) → get_elem? views by ≡ some u → u.parts ≡ 0 → f u ≡ 0) → total f views ≡ 0
+  nothing : (f : PassState T → ℕ) (views : List (PassState T)) → total (λ u. u.parts) views ≡ 0 → ((by : ℕ) (u : PassState T) → get_elem? views by ≡ some u → u.parts ≡ 0 → f u ≡ 0) → total f views ≡ 0
   nothing f [] none idle = refl
   nothing f (x ∷ xs) none idle =
       let first : x.parts ≡ 0 = omega (arith, none) in
       let here = idle 0 x refl first in
-      let rest : total (λ (u : Hand T). u.parts) xs ≡ 0 = omega (arith, none) in
+      let rest : total (λ (u : PassState T). u.parts) xs ≡ 0 = omega (arith, none) in
       let r = nothing f xs rest (λ by u. idle (suc by) u) in
       omega (arith, here, r)
 
   -- where one pass has all parts, the others add nothing to what the passes with parts have
-  pub total_alone : (f : Hand T → ℕ) (views : List (Hand T)) (by : ℕ) (v : Hand T) → get_elem? views by ≡ some v → total (λ u. u.parts) views ≡ v.parts
-      → ((by : ℕ) (u : Hand T) → get_elem? views by ≡ some u → u.parts ≡ 0 → f u ≡ 0) → total f views ≡ f v
+  pub total_alone : (f : PassState T → ℕ) (views : List (PassState T)) (by : ℕ) (v : PassState T) → get_elem? views by ≡ some v → total (λ u. u.parts) views ≡ v.parts
+      → ((by : ℕ) (u : PassState T) → get_elem? views by ≡ some u → u.parts ≡ 0 → f u ≡ 0) → total f views ≡ f v
   total_alone f [] by v e all idle = absurd (some-ne-none v (sym e))
   total_alone f (x ∷ xs) zero v e all idle =
       let same : f x ≡ f v = ap f (some-injective x v e) in
-      let parts : x.parts ≡ v.parts = ap (λ (u : Hand T). u.parts) (some-injective x v e) in
-      let rest : total (λ (u : Hand T). u.parts) xs ≡ 0 = omega (arith, all, parts) in
+      let parts : x.parts ≡ v.parts = ap (λ (u : PassState T). u.parts) (some-injective x v e) in
+      let rest : total (λ (u : PassState T). u.parts) xs ≡ 0 = omega (arith, all, parts) in
       let r = nothing f xs rest (λ by u. idle (suc by) u) in
       omega (arith, same, r)
   total_alone f (x ∷ xs) (suc by) v e all idle =
-      let part = part_of_total (λ (u : Hand T). u.parts) xs by v e in
+      let part = part_of_total (λ (u : PassState T). u.parts) xs by v e in
       let first : x.parts ≡ 0 = omega (arith, all, part) in
       let here = idle 0 x refl first in
-      let rest : total (λ (u : Hand T). u.parts) xs ≡ v.parts = omega (arith, all, first) in
+      let rest : total (λ (u : PassState T). u.parts) xs ≡ v.parts = omega (arith, all, first) in
       let r = total_alone f xs by v e rest (λ by u. idle (suc by) u) in
       omega (arith, here, r)
 

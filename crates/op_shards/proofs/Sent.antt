@@ -4,7 +4,7 @@ use Rattle.std.specs.Prelude.{slice_get, MatchResult, OnOk}
 use Rattle.std.proofs.lemmas.List.{append-nil, length-map}
 use mathlib.Core.List.{IsPrefix}
 use Rattle.op_shards.specs.declared.rule.Ranked.{Ranked}
-use Rattle.op_shards.specs.Passes.{Sender, ranked, at_shard, with_one, after_submit, next_rank, Grew, WasSent}
+use Rattle.op_shards.specs.Passes.{Sender, ranked, at_shard, pushed_at, after_submit, next_rank, Grew, WasSent}
 
 module _ {A : Type 0} where
   prefix_self : (xs : List A) → IsPrefix xs xs
@@ -49,14 +49,14 @@ module _ {T : Type 0} where
         so = w.so;
       }
 
-  one_more : (ls : List (List (Ranked T))) (k i : ℕ) (x : Ranked T) → IsPrefix (at_shard ls i) (at_shard (with_one ls k x) i)
+  one_more : (ls : List (List (Ranked T))) (k i : ℕ) (x : Ranked T) → IsPrefix (at_shard ls i) (at_shard (pushed_at ls k x) i)
   one_more [] k i x = prefix_self []
   one_more (l ∷ ls) zero zero x = (x ∷ [], refl)
   one_more (l ∷ ls) zero (suc i) x = prefix_self (at_shard ls i)
   one_more (l ∷ ls) (suc k) zero x = prefix_self l
   one_more (l ∷ ls) (suc k) (suc i) x = one_more ls k i x
 
-  one_there : (ls : List (List (Ranked T))) (k : ℕ) (x : Ranked T) → k < length ls → slice_get (at_shard (with_one ls k x) k) (length (at_shard ls k)) ≡ Some x
+  one_there : (ls : List (List (Ranked T))) (k : ℕ) (x : Ranked T) → k < length ls → slice_get (at_shard (pushed_at ls k x) k) (length (at_shard ls k)) ≡ Some x
   one_there [] k x lt = absurd (omega (arith, lt))
   one_there (l ∷ ls) zero x lt = at_end l x
   one_there (l ∷ ls) (suc k) x lt = one_there ls k x (omega (arith, lt))

@@ -2,55 +2,55 @@
 use Rattle.std.specs.Prelude.{◌≡◌, ◌⊎◌, ℕ, suc, ◌+◌, ◌%◌, ◌<◌, ◌≤◌, ◌==◌, cond, List, [], ◌∷◌, ◌++◌, length, take}
 use mathlib.Core.Option.{some}
 use lib.ListN.{get_elem?}
-use Rattle.op_shards.specs.declared.rule.Place.{Place}
+use Rattle.op_shards.specs.declared.rule.QueuePosition.{QueuePosition}
 use Rattle.op_shards.specs.declared.rule.Ranked.{Ranked}
-use Rattle.op_shards.specs.declared.rule.Hand.{Hand}
+use Rattle.op_shards.specs.declared.rule.PassState.{PassState}
 
--- the queue of a shard among so many shards, for so many senders and takers
-abbrev pub place_at : ℕ → ℕ → ℕ → ℕ → Place
-place_at shard shards senders takers = record { shard = shard; shards = shards; senders = senders; takers = takers }
+-- where the queue of a shard stands among all shards, with all senders and takers
+abbrev pub queue_position : ℕ → ℕ → ℕ → ℕ → QueuePosition
+queue_position shard shards senders takers = record { shard = shard; shards = shards; senders = senders; takers = takers }
 
 module _ {T : Type 0} where
-  abbrev pub hand : Place → ℕ → ℕ → ℕ → List (Ranked T) → List (Ranked T) → Hand T
-  hand place first end parts put got = record { place = place; first = first; end = end; parts = parts; put = put; got = got }
+  abbrev pub pass_state : QueuePosition → ℕ → ℕ → ℕ → List (Ranked T) → List (Ranked T) → PassState T
+  pass_state place first end parts put got = record { place = place; first = first; end = end; parts = parts; put = put; got = got }
 
   -- the pass of a new queue whose place isn't known yet
-  abbrev pub unopened : Hand T
-  unopened = hand (place_at 1 0 0 0) 0 0 0 [] []
+  abbrev pub unopened : PassState T
+  unopened = pass_state (queue_position 1 0 0 0) 0 0 0 [] []
 
   -- a pass that another took in
-  abbrev pub spent : Hand T
-  spent = hand (place_at 0 0 0 0) 0 0 0 [] []
+  abbrev pub spent : PassState T
+  spent = pass_state (queue_position 0 0 0 0) 0 0 0 [] []
 
   -- the pass of one sender, of which the queue accepted these
-  abbrev pub sender : Place → ℕ → List (Ranked T) → Hand T
-  sender place number put = hand place number (suc number) 0 put []
+  abbrev pub sender : QueuePosition → ℕ → List (Ranked T) → PassState T
+  sender place number put = pass_state place number (suc number) 0 put []
 
-  -- a pass that has so many takers' parts, and took these
-  abbrev pub taker : Place → ℕ → List (Ranked T) → Hand T
-  taker place parts got = hand place 0 0 parts [] got
+  -- a pass that has a number of takers' parts, and took these
+  abbrev pub taker : QueuePosition → ℕ → List (Ranked T) → PassState T
+  taker place parts got = pass_state place 0 0 parts [] got
 
-  -- the pass of all senders from a number on, and of so many takers, none of which has done anything
-  abbrev pub dealer : Place → ℕ → ℕ → Hand T
-  dealer place next parts = hand place next place.senders parts [] []
+  -- the pass of all senders from a number on, and of a number of takers, none of which has done anything
+  abbrev pub free_end : QueuePosition → ℕ → ℕ → PassState T
+  free_end place next parts = pass_state place next place.senders parts [] []
 
-  -- how a dealer's pass is cut
-  abbrev pub other_senders : Hand T → Hand T
-  other_senders v = hand v.place (suc v.first) v.end v.parts v.put v.got
+  -- how the pass of a free end is cut
+  abbrev pub other_senders : PassState T → PassState T
+  other_senders v = pass_state v.place (suc v.first) v.end v.parts v.put v.got
 
-  abbrev pub one_sender : Hand T → Hand T
+  abbrev pub one_sender : PassState T → PassState T
   one_sender v = sender v.place v.first v.put
 
   -- what a pass put in and what it took, apart
-  abbrev pub put_alone : Hand T → Hand T
-  put_alone v = hand v.place v.first v.end 0 v.put []
+  abbrev pub put_alone : PassState T → PassState T
+  put_alone v = pass_state v.place v.first v.end 0 v.put []
 
-  abbrev pub got_alone : Hand T → Hand T
+  abbrev pub got_alone : PassState T → PassState T
   got_alone v = taker v.place v.parts v.got
 
   -- what another pass took, too
-  abbrev pub together : Hand T → Hand T → Hand T
-  together v w = hand v.place v.first v.end (v.parts + w.parts) v.put (v.got ++ w.got)
+  abbrev pub together : PassState T → PassState T → PassState T
+  together v w = pass_state v.place v.first v.end (v.parts + w.parts) v.put (v.got ++ w.got)
 
   -- the operations of a sender
   abbrev pub of : ℕ → List (Ranked T) → List (Ranked T)
@@ -72,7 +72,7 @@ module _ {T : Type 0} where
   weigh h (x ∷ xs) = h x + weigh h xs
 
   -- a number of each pass, added up
-  abbrev pub total : (Hand T → ℕ) → List (Hand T) → ℕ
+  abbrev pub total : (PassState T → ℕ) → List (PassState T) → ℕ
   total f [] = 0
   total f (v ∷ vs) = f v + total f vs
 
@@ -89,16 +89,16 @@ module _ {T : Type 0} where
   IsNextAfter xs x = Each (λ y. y.sender ≡ x.sender → y.rank < x.rank) xs
 
   -- the operation belongs into this queue: its group's number, modulo the number of shards, is the shard
-  abbrev pub IsHere : (T → ℕ) → Place → Ranked T → Type 0
+  abbrev pub IsHere : (T → ℕ) → QueuePosition → Ranked T → Type 0
   IsHere group place x = (group x.op % place.shards ≡ place.shard) × (x.sender < place.senders)
 
   -- the pass with this number has the sender among its own
-  abbrev pub HasSender : List (Hand T) → ℕ → ℕ → Type 0
-  HasSender views by p = (v : Hand T) × (get_elem? views by ≡ some v) × (v.first ≤ p) × (p < v.end)
+  abbrev pub HasSender : List (PassState T) → ℕ → ℕ → Type 0
+  HasSender views by p = (v : PassState T) × (get_elem? views by ≡ some v) × (v.first ≤ p) × (p < v.end)
 
   -- The pass with this number is of this queue, unless it is spent. It knows all that the queue accepted of the senders that are its own. What it took was taken before
   -- what comes next of each sender, and without a part it took nothing
-  pub record Fits (place : Place) (taken : List (Ranked T)) (sent : ℕ → List (Ranked T)) (seat : ℕ → ℕ) (by : ℕ) (v : Hand T) : Type 0 where
+  pub record Fits (place : QueuePosition) (taken : List (Ranked T)) (sent : ℕ → List (Ranked T)) (seat : ℕ → ℕ) (by : ℕ) (v : PassState T) : Type 0 where
     pub opened : 0 < v.place.shard → 0 < v.place.shards
     pub placed : 0 < v.place.shards → v.place ≡ place
     pub senders : (p : ℕ) → v.first ≤ p → p < v.end → (p < place.senders) × (seat p ≡ by) × (v.put ≡ sent p)
@@ -108,8 +108,8 @@ module _ {T : Type 0} where
   -- What was taken, and then what the queue holds, is of each sender what the queue accepted of it, by rank from 0 on. So what was taken of a sender has
   -- the ranks below some number, and what the queue holds of it those from there on, in order. Each of these operations is of a sender and of the queue's
   -- shard. What was taken is what the passes took, each once. Each sender has a pass
-  pub record Kept (group : T → ℕ) (items : List (Ranked T)) (views : List (Hand T)) : Type 0 where
-    pub place : Place
+  pub record Kept (group : T → ℕ) (items : List (Ranked T)) (views : List (PassState T)) : Type 0 where
+    pub place : QueuePosition
     pub taken : List (Ranked T)
     pub sent : ℕ → List (Ranked T)
     pub seat : ℕ → ℕ
@@ -120,36 +120,36 @@ module _ {T : Type 0} where
     pub once : (h : Ranked T → ℕ) → weigh h taken ≡ total (λ v. weigh h v.got) views
     pub parts : total (λ v. v.parts) views ≡ place.takers
     pub seats : (p : ℕ) → p < place.senders → HasSender views (seat p) p
-    pub passes : (by : ℕ) (v : Hand T) → get_elem? views by ≡ some v → Fits place taken sent seat by v
+    pub passes : (by : ℕ) (v : PassState T) → get_elem? views by ≡ some v → Fits place taken sent seat by v
 
   -- the queue's place isn't known yet, it is empty, and it has one pass
-  abbrev pub IsUnopened : List (Ranked T) → List (Hand T) → Type 0
+  abbrev pub IsUnopened : List (Ranked T) → List (PassState T) → Type 0
   IsUnopened items views = (items ≡ []) × (views ≡ unopened ∷ [])
 
   -- the rule of a queue
-  abbrev pub Rule : (T → ℕ) → List (Ranked T) → List (Hand T) → Type 0
+  abbrev pub Rule : (T → ℕ) → List (Ranked T) → List (PassState T) → Type 0
   Rule group items views = IsUnopened items views ⊎ Kept group items views
 
   -- the queue held these, in order, and this was what one of its passes knew
-  pub record KeptWith (group : T → ℕ) (v : Hand T) (items : List (Ranked T)) : Type 0 where
-    pub views : List (Hand T)
+  pub record KeptWith (group : T → ℕ) (v : PassState T) (items : List (Ranked T)) : Type 0 where
+    pub views : List (PassState T)
     pub by : ℕ
     pub kept : Kept group items views
     pub mine : get_elem? views by ≡ some v
 
   -- there was a moment at which the queue was in order
-  abbrev pub WasKept : (T → ℕ) → Hand T → Type 0
+  abbrev pub WasKept : (T → ℕ) → PassState T → Type 0
   WasKept group v = (items : List (Ranked T)) × KeptWith group v items
 
   -- what a push and a pop tell
-  abbrev pub Puts : (T → ℕ) → Hand T → Ranked T → Hand T → Type 0
-  Puts group v x w = (w ≡ hand v.place v.first v.end v.parts (v.put ++ x ∷ []) v.got) × WasKept group w
+  abbrev pub Puts : (T → ℕ) → PassState T → Ranked T → PassState T → Type 0
+  Puts group v x w = (w ≡ pass_state v.place v.first v.end v.parts (v.put ++ x ∷ []) v.got) × WasKept group w
 
-  abbrev pub Takes : (T → ℕ) → Hand T → Ranked T → Hand T → Type 0
+  abbrev pub Takes : (T → ℕ) → PassState T → Ranked T → PassState T → Type 0
   Takes group v x w =
-      (w ≡ hand v.place v.first v.end v.parts v.put (v.got ++ x ∷ []))
+      (w ≡ pass_state v.place v.first v.end v.parts v.put (v.got ++ x ∷ []))
       × IsHere group v.place x × IsNextAfter v.got x × WasKept group w
 
   -- what a sender's pass learns of what it was handed: each operation of its own was accepted, and where it was handed all parts, they are the first ones
-  abbrev pub Accounts : Hand T → List (Ranked T) → Type 0
+  abbrev pub Accounts : PassState T → List (Ranked T) → Type 0
   Accounts v items = IsPartOf (of v.first v.got) v.put × (v.parts ≡ v.place.takers → AreFirstOf (of v.first v.got) v.put)

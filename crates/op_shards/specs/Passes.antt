@@ -4,9 +4,9 @@ use mathlib.Core.List.{IsPrefix}
 use Rattle.crossbeam_queue.specs.Fifo.{Held}
 use Rattle.crossbeam_queue.specs.declared.array_queue.Slotted.{Slotted}
 use Rattle.atomic_table.specs.Seated.{TableId}
-use Rattle.op_shards.specs.declared.rule.Place.{Place}
+use Rattle.op_shards.specs.declared.rule.QueuePosition.{QueuePosition}
 use Rattle.op_shards.specs.declared.rule.Ranked.{Ranked}
-use Rattle.op_shards.specs.Order.{place_at, sender, taker, KeptWith, WasKept}
+use Rattle.op_shards.specs.Order.{queue_position, sender, taker, KeptWith, WasKept}
 
 -- which queue it is
 abbrev pub name : {S D Q A : Type 0} → Slotted S D Q A → TableId
@@ -18,9 +18,9 @@ names queues = map (λ q. name q) queues
 -- a queue and where it stands
 pub record Spot : Type 0 where
   pub queue : TableId
-  pub place : Place
+  pub place : QueuePosition
 
-abbrev pub spot_of : TableId → Place → Spot
+abbrev pub spot_of : TableId → QueuePosition → Spot
 spot_of queue place = record { queue = queue; place = place }
 
 -- the queues, by shard, and how many senders and takers have passes of them
@@ -32,10 +32,10 @@ pub record Queues : Type 0 where
 abbrev pub queues_of : List TableId → ℕ → ℕ → Queues
 queues_of names senders takers = record { names = names; senders = senders; takers = takers }
 
--- where each of these queues stands, the first at shard k of so many shards
+-- where each of these queues stands, the first at shard k of all shards
 abbrev pub spots_from : ℕ → ℕ → ℕ → ℕ → List TableId → List Spot
 spots_from k shards senders takers [] = []
-spots_from k shards senders takers (q ∷ qs) = spot_of q (place_at k shards senders takers) ∷ spots_from (suc k) shards senders takers qs
+spots_from k shards senders takers (q ∷ qs) = spot_of q (queue_position k shards senders takers) ∷ spots_from (suc k) shards senders takers qs
 
 abbrev pub spots : Queues → List Spot
 spots q = spots_from 0 (length q.names) q.senders q.takers q.names
@@ -45,14 +45,14 @@ pub record Shards : Type 0 where
   pub queues : Queues
   pub places : ℕ
 
--- the end of a queue that still has all senders from a number on, and so many takers
-pub record Dealing : Type 0 where
+-- the end of a queue that still has all senders from a number on, and a number of takers
+pub record FreeEndState : Type 0 where
   pub spot : Spot
   pub next : ℕ
   pub parts : ℕ
 
-abbrev pub dealing : ℕ → ℕ → Spot → Dealing
-dealing next parts spot = record { spot = spot; next = next; parts = parts }
+abbrev pub free_end_state : ℕ → ℕ → Spot → FreeEndState
+free_end_state next parts spot = record { spot = spot; next = next; parts = parts }
 
 -- a sender's end of a queue, and what the queue accepted of this sender, in order
 pub record Sent (T : Type 0) : Type 0 where
@@ -79,8 +79,8 @@ pub record Taker (T : Type 0) : Type 0 where
   pub taken : List (List (Ranked T))
 
 -- where this shard's queue stands
-abbrev pub shard_of : Queues → ℕ → Place
-shard_of q shard = place_at shard (length q.names) q.senders q.takers
+abbrev pub shard_of : Queues → ℕ → QueuePosition
+shard_of q shard = queue_position shard (length q.names) q.senders q.takers
 
 module _ {T : Type 0} where
   -- an operation with its sender and its rank
@@ -99,21 +99,21 @@ module _ {T : Type 0} where
   parts_of (l ∷ ls) = l.parts
 
   -- two takers' ends of one queue as one
-  abbrev pub join_lane : Got T → Got T → Got T
-  join_lane x y = record { spot = x.spot; parts = x.parts + y.parts; taken = x.taken ++ y.taken }
+  abbrev pub joined_end : Got T → Got T → Got T
+  joined_end x y = record { spot = x.spot; parts = x.parts + y.parts; taken = x.taken ++ y.taken }
 
-  abbrev pub join_lanes : List (Got T) → List (Got T) → List (Got T)
-  join_lanes [] ys = []
-  join_lanes (x ∷ xs) [] = x ∷ xs
-  join_lanes (x ∷ xs) (y ∷ ys) = join_lane x y ∷ join_lanes xs ys
+  abbrev pub join_ends : List (Got T) → List (Got T) → List (Got T)
+  join_ends [] ys = []
+  join_ends (x ∷ xs) [] = x ∷ xs
+  join_ends (x ∷ xs) (y ∷ ys) = joined_end x y ∷ join_ends xs ys
 
   -- a shard's list
   abbrev pub at_shard : List (List (Ranked T)) → ℕ → List (Ranked T)
   at_shard lists shard = slice_index_or lists shard []
 
   -- one more at the end of a shard's list
-  abbrev pub with_one : List (List (Ranked T)) → ℕ → Ranked T → List (List (Ranked T))
-  with_one lists shard x = slice_set lists shard (at_shard lists shard ++ x ∷ [])
+  abbrev pub pushed_at : List (List (Ranked T)) → ℕ → Ranked T → List (List (Ranked T))
+  pushed_at lists shard x = slice_set lists shard (at_shard lists shard ++ x ∷ [])
 
   -- of each shard the one list, and then the other
   abbrev pub put_together : List (List (Ranked T)) → List (List (Ranked T)) → List (List (Ranked T))
@@ -126,10 +126,10 @@ module _ {T : Type 0} where
   next_rank s shard = length (at_shard s.accepted shard)
 
   abbrev pub after_submit : Sender T → ℕ → T → Sender T
-  after_submit s shard op = record { queues = s.queues; sender = s.sender; accepted = with_one s.accepted shard (ranked s.sender (next_rank s shard) op) }
+  after_submit s shard op = record { queues = s.queues; sender = s.sender; accepted = pushed_at s.accepted shard (ranked s.sender (next_rank s shard) op) }
 
   abbrev pub after_take : Taker T → ℕ → Ranked T → Taker T
-  after_take t shard x = record { queues = t.queues; takers = t.takers; taken = with_one t.taken shard x }
+  after_take t shard x = record { queues = t.queues; takers = t.takers; taken = pushed_at t.taken shard x }
 
   -- the two takers as one
   abbrev pub after_gather : Taker T → Taker T → Taker T

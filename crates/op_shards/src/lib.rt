@@ -5,10 +5,10 @@
 #![tactic(auto)]
 
 mod crossing;
-mod lane;
 mod laws;
 mod op;
 mod pass;
+mod queue_end;
 mod rule;
 mod shards;
 
@@ -16,6 +16,6 @@ pub use crossing::queues_cross;
 pub use laws::{Property, sending_goes_on};
 pub use op::Op;
 pub use pass::{SendPass, TakePass};
-pub use rule::{Place, Ranked};
+pub use rule::{QueuePosition, Ranked};
 pub use shards::OpShards;
 pub use txn::NoMemory;

@@ -3,10 +3,10 @@ ghost use Rattle.std.specs.Prelude.{◌≡◌, ◌<◌, ◌+◌, ◌-◌, ◌%�
 ghost use Rattle.std.specs.List.{range_with_len};
 ghost use Rattle.crossbeam_queue.specs.Passes.{ruled_capacity};
 ghost use Rattle.op_shards.specs.Order.{of, IsPartOf, AreFirstOf, IsHere, IsNextAfter};
-ghost use Rattle.op_shards.specs.Passes.{at_shard, name, names, queues_of, spots, shard_of, dealing, new_sender, new_taker, after_submit, after_take, after_gather, join_lanes, SenderWasKept, SenderWasKeptAt, TakerWasKept, TakerWasKeptAt};
+ghost use Rattle.op_shards.specs.Passes.{at_shard, name, names, queues_of, spots, shard_of, free_end_state, new_sender, new_taker, after_submit, after_take, after_gather, join_ends, SenderWasKept, SenderWasKeptAt, TakerWasKept, TakerWasKeptAt};
 
-use crate::lane::{Dealer, SendLane, TakeLane};
 use crate::op::Op;
+use crate::queue_end::{FreeEnd, SendEnd, TakeEnd};
 use crate::rule::{Queue, Ranked};
 use std::alloc::{AllocError, Global};
 use std::marker::Model;
@@ -18,7 +18,7 @@ pub struct SendPass<T> {
     sender: u64,
     senders: usize,
     takers: usize,
-    lanes: Vec<SendLane<T>>,
+    ends: Vec<SendEnd<T>>,
 }
 
 impl<T> Model for SendPass<T> {
@@ -27,9 +27,9 @@ impl<T> Model for SendPass<T> {
 
     ghost Value = { Sender T };
 
-    ghost view = { λ s. record { queues = queues_of (map (λ l. l.spot.queue) s.lanes.items) s.senders s.takers; sender = s.sender; accepted = map (λ l. l.accepted) s.lanes.items } };
+    ghost view = { λ s. record { queues = queues_of (map (λ l. l.spot.queue) s.ends.items) s.senders s.takers; sender = s.sender; accepted = map (λ l. l.accepted) s.ends.items } };
 
-    ghost invariant = { λ s. (map (λ l. l.spot) s.lanes.items ≡ spots (queues_of (map (λ l. l.spot.queue) s.lanes.items) s.senders s.takers)) × All (λ l. l.sender ≡ s.sender) s.lanes.items };
+    ghost invariant = { λ s. (map (λ l. l.spot) s.ends.items ≡ spots (queues_of (map (λ l. l.spot.queue) s.ends.items) s.senders s.takers)) × All (λ l. l.sender ≡ s.sender) s.ends.items };
 }
 
 /// What a taker holds, or several whose passes were put together. To a contract it is the queues that it came with, how many takers it is, and what
@@ -38,7 +38,7 @@ impl<T> Model for SendPass<T> {
 pub struct TakePass<T> {
     senders: usize,
     takers: usize,
-    lanes: Vec<TakeLane<T>>,
+    ends: Vec<TakeEnd<T>>,
 }
 
 impl<T> Model for TakePass<T> {
@@ -47,9 +47,9 @@ impl<T> Model for TakePass<T> {
 
     ghost Value = { Taker T };
 
-    ghost view = { λ s. record { queues = queues_of (map (λ l. l.spot.queue) s.lanes.items) s.senders s.takers; takers = parts_of s.lanes.items; taken = map (λ l. l.taken) s.lanes.items } };
+    ghost view = { λ s. record { queues = queues_of (map (λ l. l.spot.queue) s.ends.items) s.senders s.takers; takers = parts_of s.ends.items; taken = map (λ l. l.taken) s.ends.items } };
 
-    ghost invariant = { λ s. (map (λ l. l.spot) s.lanes.items ≡ spots (queues_of (map (λ l. l.spot.queue) s.lanes.items) s.senders s.takers)) × (0 < parts_of s.lanes.items) × All (λ l. l.parts ≡ parts_of s.lanes.items) s.lanes.items };
+    ghost invariant = { λ s. (map (λ l. l.spot) s.ends.items ≡ spots (queues_of (map (λ l. l.spot.queue) s.ends.items) s.senders s.takers)) × (0 < parts_of s.ends.items) × All (λ l. l.parts ≡ parts_of s.ends.items) s.ends.items };
 }
 
 impl<T: Op> SendPass<T> {
@@ -69,8 +69,8 @@ impl<T: Op> SendPass<T> {
             (λ x. (x ≡ op) × (self.new ≡ self.old) × SenderWasKeptAt T.group (ruled_capacity queue.now) self.old shard) }
     {
         let sender = self.sender;
-        let lane = &mut self.lanes[shard];
-        lane.push(rt, queue, sender, op)
+        let queue_end = &mut self.ends[shard];
+        queue_end.push(rt, queue, sender, op)
     }
 
     /// What the taker took of this sender was accepted, each operation at least as often. Of all takers together it is what was accepted first.
@@ -81,8 +81,8 @@ impl<T: Op> SendPass<T> {
         ensures accepted { IsPartOf (of self.old.sender (at_shard other.old.taken shard)) (at_shard self.old.accepted shard) }
         ensures first { other.old.takers ≡ other.old.queues.takers → AreFirstOf (of self.old.sender (at_shard other.old.taken shard)) (at_shard self.old.accepted shard) }
     {
-        let mine = &mut self.lanes[shard];
-        let theirs = &mut other.lanes[shard];
+        let mine = &mut self.ends[shard];
+        let theirs = &mut other.ends[shard];
         mine.compare(queue, theirs);
     }
 }
@@ -100,8 +100,8 @@ impl<T: Op> TakePass<T> {
             ((self.new ≡ self.old) × TakerWasKeptAt T.group 0 self.old shard)
             (λ x. (self.new ≡ after_take self.old shard x) × IsHere T.group (shard_of self.old.queues shard) x × IsNextAfter (at_shard self.old.taken shard) x × TakerWasKept T.group self.new shard) }
     {
-        let lane = &mut self.lanes[shard];
-        lane.pop(rt, queue)
+        let queue_end = &mut self.ends[shard];
+        queue_end.pop(rt, queue)
     }
 
     /// Takes over what the other took of each shard, and its takers.
@@ -110,120 +110,123 @@ impl<T: Op> TakePass<T> {
         requires other { other.queues ≡ self.old.queues }
         ensures { self.new ≡ after_gather self.old other }
     {
-        let TakePass { lanes, .. } = other;
-        gather_lanes(queues, &mut self.lanes, lanes);
+        let TakePass { ends, .. } = other;
+        gather_ends(queues, &mut self.ends, ends);
     }
 }
 
 // Puts two takers' ends of each queue together.
-fn gather_lanes<T: Op>(
+fn gather_ends<T: Op>(
     queues: &Vec<Queue<T>>,
-    lanes: &mut Vec<TakeLane<T>>,
-    mut others: Vec<TakeLane<T>>,
+    ends: &mut Vec<TakeEnd<T>>,
+    mut others: Vec<TakeEnd<T>>,
 )
-    requires lanes { map (λ l. l.spot.queue) lanes.old.items ≡ names queues.now.items }
-    requires others { map (λ l. l.spot) others.items ≡ map (λ l. l.spot) lanes.old.items }
-    ensures { lanes.new.items ≡ join_lanes lanes.old.items others.items }
+    requires ends { map (λ l. l.spot.queue) ends.old.items ≡ names queues.now.items }
+    requires others { map (λ l. l.spot) others.items ≡ map (λ l. l.spot) ends.old.items }
+    ensures { ends.new.items ≡ join_ends ends.old.items others.items }
 {
     for i in 0..queues.len() {
         let queue = &queues[i];
-        let lane = &mut lanes[i];
+        let queue_end = &mut ends[i];
         let other = &mut others[i];
-        lane.gather(queue, other);
+        queue_end.gather(queue, other);
     }
+}
+
+/// How many senders and takers have passes of the queues.
+#[derive(Clone, Copy)]
+pub(crate) struct Members {
+    pub senders: usize,
+    pub takers: usize,
 }
 
 // The next sender's pass.
-fn deal_pass<T: Op>(
+fn next_send_pass<T: Op>(
     alloc: Global,
     queues: &Vec<Queue<T>>,
-    dealers: &mut Vec<Dealer<T>>,
+    free_ends: &mut Vec<FreeEnd<T>>,
+    members: Members,
     sender: u64,
-    senders: usize,
-    takers: usize,
 ) -> Result<SendPass<T>, AllocError>
-    requires room { sender < senders }
-    requires dealers { dealers.old.items ≡ map (dealing sender takers) (spots (queues_of (names queues.now.items) senders takers)) }
-    ensures dealers { OnOk result (dealers.new.items ≡ map (dealing (sender + 1) takers) (spots (queues_of (names queues.now.items) senders takers))) }
-    ensures pass { IfOk result (λ p. p ≡ new_sender (queues_of (names queues.now.items) senders takers) sender) }
+    requires room { sender < members.senders }
+    requires free_ends { free_ends.old.items ≡ map (free_end_state sender members.takers) (spots (queues_of (names queues.now.items) members.senders members.takers)) }
+    ensures free_ends { OnOk result (free_ends.new.items ≡ map (free_end_state (sender + 1) members.takers) (spots (queues_of (names queues.now.items) members.senders members.takers))) }
+    ensures pass { IfOk result (λ p. p ≡ new_sender (queues_of (names queues.now.items) members.senders members.takers) sender) }
 {
-    let mut lanes = Vec::new(alloc);
+    let mut ends = Vec::new(alloc);
     for i in 0..queues.len() {
         let queue = &queues[i];
-        let dealer = &mut dealers[i];
-        lanes.push(dealer.deal(queue))?;
+        let free_end = &mut free_ends[i];
+        ends.push(free_end.next_sender(queue))?;
     }
     Ok(SendPass {
         sender,
-        senders,
-        takers,
-        lanes,
+        senders: members.senders,
+        takers: members.takers,
+        ends,
     })
 }
 
-// One more taker's pass, where so many takers are left.
-fn hire_pass<T: Op>(
+// One more taker's pass, of the `left` that have none yet.
+fn next_take_pass<T: Op>(
     alloc: Global,
     queues: &Vec<Queue<T>>,
-    dealers: &mut Vec<Dealer<T>>,
-    senders: usize,
-    takers: usize,
+    free_ends: &mut Vec<FreeEnd<T>>,
+    members: Members,
     left: usize,
 ) -> Result<TakePass<T>, AllocError>
     requires some { 0 < length queues.now.items }
     requires room { 0 < left }
-    requires dealers { dealers.old.items ≡ map (dealing senders left) (spots (queues_of (names queues.now.items) senders takers)) }
-    ensures dealers { OnOk result (dealers.new.items ≡ map (dealing senders (left - 1)) (spots (queues_of (names queues.now.items) senders takers))) }
-    ensures pass { IfOk result (λ p. p ≡ new_taker (queues_of (names queues.now.items) senders takers)) }
+    requires free_ends { free_ends.old.items ≡ map (free_end_state members.senders left) (spots (queues_of (names queues.now.items) members.senders members.takers)) }
+    ensures free_ends { OnOk result (free_ends.new.items ≡ map (free_end_state members.senders (left - 1)) (spots (queues_of (names queues.now.items) members.senders members.takers))) }
+    ensures pass { IfOk result (λ p. p ≡ new_taker (queues_of (names queues.now.items) members.senders members.takers)) }
 {
-    let mut lanes = Vec::new(alloc);
+    let mut ends = Vec::new(alloc);
     for i in 0..queues.len() {
         let queue = &queues[i];
-        let dealer = &mut dealers[i];
-        lanes.push(dealer.hire(queue))?;
+        let free_end = &mut free_ends[i];
+        ends.push(free_end.next_taker(queue))?;
     }
     Ok(TakePass {
-        senders,
-        takers,
-        lanes,
+        senders: members.senders,
+        takers: members.takers,
+        ends,
     })
 }
 
 /// The passes of all senders.
-pub(crate) fn deal_passes<T: Op>(
+pub(crate) fn new_send_passes<T: Op>(
     alloc: Global,
     queues: &Vec<Queue<T>>,
-    dealers: &mut Vec<Dealer<T>>,
-    senders: usize,
-    takers: usize,
+    free_ends: &mut Vec<FreeEnd<T>>,
+    members: Members,
 ) -> Result<Vec<SendPass<T>>, AllocError>
-    requires dealers { dealers.old.items ≡ map (dealing 0 takers) (spots (queues_of (names queues.now.items) senders takers)) }
-    ensures dealers { OnOk result (dealers.new.items ≡ map (dealing senders takers) (spots (queues_of (names queues.now.items) senders takers))) }
-    ensures passes { IfOk result (λ v. v.items ≡ map (new_sender (queues_of (names queues.now.items) senders takers)) (range_with_len 0 senders)) }
+    requires free_ends { free_ends.old.items ≡ map (free_end_state 0 members.takers) (spots (queues_of (names queues.now.items) members.senders members.takers)) }
+    ensures free_ends { OnOk result (free_ends.new.items ≡ map (free_end_state members.senders members.takers) (spots (queues_of (names queues.now.items) members.senders members.takers))) }
+    ensures passes { IfOk result (λ v. v.items ≡ map (new_sender (queues_of (names queues.now.items) members.senders members.takers)) (range_with_len 0 members.senders)) }
 {
     let mut passes = Vec::new(alloc);
-    for sender in 0..senders {
-        let pass = deal_pass(alloc, queues, dealers, sender as u64, senders, takers)?;
+    for sender in 0..members.senders {
+        let pass = next_send_pass(alloc, queues, free_ends, members, sender as u64)?;
         passes.push(pass)?;
     }
     Ok(passes)
 }
 
 /// The passes of all takers.
-pub(crate) fn hire_passes<T: Op>(
+pub(crate) fn new_take_passes<T: Op>(
     alloc: Global,
     queues: &Vec<Queue<T>>,
-    dealers: &mut Vec<Dealer<T>>,
-    senders: usize,
-    takers: usize,
+    free_ends: &mut Vec<FreeEnd<T>>,
+    members: Members,
 ) -> Result<Vec<TakePass<T>>, AllocError>
     requires some { 0 < length queues.now.items }
-    requires dealers { dealers.old.items ≡ map (dealing senders takers) (spots (queues_of (names queues.now.items) senders takers)) }
-    ensures passes { IfOk result (λ v. v.items ≡ map (λ _. new_taker (queues_of (names queues.now.items) senders takers)) (range_with_len 0 takers)) }
+    requires free_ends { free_ends.old.items ≡ map (free_end_state members.senders members.takers) (spots (queues_of (names queues.now.items) members.senders members.takers)) }
+    ensures passes { IfOk result (λ v. v.items ≡ map (λ _. new_taker (queues_of (names queues.now.items) members.senders members.takers)) (range_with_len 0 members.takers)) }
 {
     let mut passes = Vec::new(alloc);
-    for taker in 0..takers {
-        let pass = hire_pass(alloc, queues, dealers, senders, takers, takers - taker)?;
+    for taker in 0..members.takers {
+        let pass = next_take_pass(alloc, queues, free_ends, members, members.takers - taker)?;
         passes.push(pass)?;
     }
     Ok(passes)

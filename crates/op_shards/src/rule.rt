@@ -13,17 +13,17 @@ pub struct Ranked<T> {
     pub op: T,
 }
 
-/// The queue of a shard among so many shards, for so many senders and takers. No value of it is made.
-pub struct Place {
+/// Where a queue stands: its shard, and how many shards, senders and takers there are. No value of it is made.
+pub struct QueuePosition {
     pub shard: u64,
     pub shards: u64,
     pub senders: u64,
     pub takers: u64,
 }
 
-/// The senders from `first` up to `end` are its own, and each has put these in. It has so many takers' parts, and has taken those. No value of it is made.
-pub struct Hand<T> {
-    pub place: Place,
+/// What a pass of one queue knows. The senders from `first` up to `end` are its own, and each has put in the list `put`. It has the parts of `parts` takers, and has taken the list `got`. No value of it is made.
+pub struct PassState<T> {
+    pub place: QueuePosition,
     pub first: u64,
     pub end: u64,
     pub parts: u64,
@@ -31,13 +31,13 @@ pub struct Hand<T> {
     pub got: LinkedList<Ranked<T>>,
 }
 
-pub type Queue<T> = RuledArrayQueue<Ranked<T>, Hand<T>, InOrder<T>>;
+pub type Queue<T> = RuledArrayQueue<Ranked<T>, PassState<T>, InOrder<T>>;
 
 pub struct InOrder<T> {
     of: PhantomData<T>,
 }
 
-impl<T: Op> Protocol<Ranked<T>, Hand<T>> for InOrder<T> {
+impl<T: Op> Protocol<Ranked<T>, PassState<T>> for InOrder<T> {
     ghost use Rattle.op_shards.specs.Order.{Rule, unopened};
 
     ghost holds = { Rule T.group };
@@ -47,15 +47,15 @@ impl<T: Op> Protocol<Ranked<T>, Hand<T>> for InOrder<T> {
 
 /// Where a new queue stands. Each call that opens one picks it.
 pub trait Placed {
-    ghost use Rattle.op_shards.specs.declared.rule.Place.{Place};
+    ghost use Rattle.op_shards.specs.declared.rule.QueuePosition.{QueuePosition};
 
-    ghost place: { Place };
+    ghost place: { QueuePosition };
 }
 
 impl Placed for Brand {
-    ghost use Rattle.op_shards.specs.Order.{place_at};
+    ghost use Rattle.op_shards.specs.Order.{queue_position};
 
-    ghost place = { place_at 0 0 0 0 };
+    ghost place = { queue_position 0 0 0 0 };
 }
 
 /// The queue's place is known from now on.
@@ -63,19 +63,19 @@ pub struct Opened<J> {
     of: PhantomData<J>,
 }
 
-impl<T, J: Placed> Split<Hand<T>> for Opened<J> {
+impl<T, J: Placed> Split<PassState<T>> for Opened<J> {
     ghost use Rattle.std.specs.Prelude.{[]};
-    ghost use Rattle.op_shards.specs.Order.{dealer, taker};
+    ghost use Rattle.op_shards.specs.Order.{free_end, taker};
 
-    ghost left = { λ v. dealer J.place 0 J.place.takers };
+    ghost left = { λ v. free_end J.place 0 J.place.takers };
 
     ghost right = { λ v. taker J.place 0 [] };
 }
 
 /// One sender more.
-pub struct Deal;
+pub struct NextSender;
 
-impl<T> Split<Hand<T>> for Deal {
+impl<T> Split<PassState<T>> for NextSender {
     ghost use Rattle.op_shards.specs.Order.{other_senders, one_sender};
 
     ghost left = { other_senders };
@@ -84,13 +84,13 @@ impl<T> Split<Hand<T>> for Deal {
 }
 
 /// One taker more.
-pub struct Hire;
+pub struct NextTaker;
 
-impl<T> Split<Hand<T>> for Hire {
+impl<T> Split<PassState<T>> for NextTaker {
     ghost use Rattle.std.specs.Prelude.{◌-◌, []};
-    ghost use Rattle.op_shards.specs.Order.{hand, taker};
+    ghost use Rattle.op_shards.specs.Order.{pass_state, taker};
 
-    ghost left = { λ v. hand v.place v.first v.end (v.parts - 1) v.put v.got };
+    ghost left = { λ v. pass_state v.place v.first v.end (v.parts - 1) v.put v.got };
 
     ghost right = { λ v. taker v.place 1 [] };
 }
@@ -98,13 +98,13 @@ impl<T> Split<Hand<T>> for Hire {
 /// A push.
 pub struct Put;
 
-impl<T: Op> Outcome<Ranked<T>, Hand<T>> for Put {
+impl<T: Op> Outcome<Ranked<T>, PassState<T>> for Put {
     ghost use Rattle.op_shards.specs.Order.{Puts};
 
     ghost then = { Puts T.group };
 }
 
-impl<T: Op> Lesson<Ranked<T>, Hand<T>> for Put {
+impl<T: Op> Lesson<Ranked<T>, PassState<T>> for Put {
     ghost use Rattle.op_shards.specs.Order.{KeptWith};
 
     ghost fact = { KeptWith T.group };
@@ -113,13 +113,13 @@ impl<T: Op> Lesson<Ranked<T>, Hand<T>> for Put {
 /// A pop.
 pub struct Take;
 
-impl<T: Op> Outcome<Ranked<T>, Hand<T>> for Take {
+impl<T: Op> Outcome<Ranked<T>, PassState<T>> for Take {
     ghost use Rattle.op_shards.specs.Order.{Takes};
 
     ghost then = { Takes T.group };
 }
 
-impl<T: Op> Lesson<Ranked<T>, Hand<T>> for Take {
+impl<T: Op> Lesson<Ranked<T>, PassState<T>> for Take {
     ghost use Rattle.op_shards.specs.Order.{KeptWith};
 
     ghost fact = { KeptWith T.group };
@@ -128,7 +128,7 @@ impl<T: Op> Lesson<Ranked<T>, Hand<T>> for Take {
 /// What was taken, apart from what was put in.
 pub struct Part;
 
-impl<T> Split<Hand<T>> for Part {
+impl<T> Split<PassState<T>> for Part {
     ghost use Rattle.op_shards.specs.Order.{put_alone, got_alone};
 
     ghost left = { put_alone };
@@ -139,7 +139,7 @@ impl<T> Split<Hand<T>> for Part {
 /// What another took, too.
 pub struct Meet;
 
-impl<T> Join<Hand<T>> for Meet {
+impl<T> Join<PassState<T>> for Meet {
     ghost use Rattle.op_shards.specs.Order.{together, spent};
 
     ghost both = { together };
@@ -147,7 +147,7 @@ impl<T> Join<Hand<T>> for Meet {
     ghost spent = { spent };
 }
 
-impl<T> Lesson<Ranked<T>, Hand<T>> for Meet {
+impl<T> Lesson<Ranked<T>, PassState<T>> for Meet {
     ghost use Rattle.op_shards.specs.Order.{Accounts};
 
     ghost fact = { Accounts };

@@ -3,18 +3,20 @@ ghost use Rattle.std.specs.Prelude.{◌≡◌, ◌<◌, ◌%◌, length, map, Al
 ghost use Rattle.crossbeam_queue.specs.Passes.{ruled_capacity};
 ghost use Rattle.std.specs.List.{range_with_len};
 ghost use Rattle.op_shards.specs.declared.rule.Ranked.{Ranked};
-ghost use Rattle.op_shards.specs.Order.{place_at, of, IsPartOf, AreFirstOf, IsHere, IsNextAfter};
-ghost use Rattle.op_shards.specs.Passes.{name, names, queues_of, spots, spot_of, shard_of, at_shard, dealing, new_sender, new_taker, after_submit, after_take, after_gather, Grew, WasSent, SenderWasKept, SenderWasKeptAt, TakerWasKept, TakerWasKeptAt};
+ghost use Rattle.op_shards.specs.Order.{queue_position, of, IsPartOf, AreFirstOf, IsHere, IsNextAfter};
+ghost use Rattle.op_shards.specs.Passes.{name, names, queues_of, spots, spot_of, shard_of, at_shard, free_end_state, new_sender, new_taker, after_submit, after_take, after_gather, Grew, WasSent, SenderWasKept, SenderWasKeptAt, TakerWasKept, TakerWasKeptAt};
 
-use crate::lane::Dealer;
 use crate::op::Op;
-use crate::pass::{SendPass, TakePass, deal_passes, hire_passes};
+use crate::pass::{Members, SendPass, TakePass, new_send_passes, new_take_passes};
+use crate::queue_end::FreeEnd;
 use crate::rule::{Placed, Queue};
 use crossbeam_queue::RuledArrayQueue;
 use std::alloc::{AllocError, Global};
 use std::marker::{Brand, Model};
 use std::sync::Wait;
 use txn::NoMemory;
+
+// It keeps no runtime: each call is handed the one by which it locks and waits.
 
 /// A bounded queue for each shard. An operation's shard is the number of its group modulo the number of shards. To a contract it is the queues by
 /// shard, how many senders and takers have passes of them, and how many operations each holds at most.
@@ -39,7 +41,7 @@ impl<T: Op> Model for OpShards<T> {
 }
 
 impl<T: Op> OpShards<T> {
-    /// Empty queues of so many places, and a pass of all of them for each sender and each taker.
+    /// Empty queues of `places` places each, and a pass of all of them for each sender and each taker.
     pub fn new(
         alloc: Global,
         shards: usize,
@@ -53,9 +55,10 @@ impl<T: Op> OpShards<T> {
         ensures senders { IfOk result (λ r. r.1.items ≡ map (new_sender r.0.queues) (range_with_len 0 senders)) }
         ensures takers { IfOk result (λ r. r.2.items ≡ map (λ _. new_taker r.0.queues) (range_with_len 0 takers)) }
     {
-        let (queues, mut dealers) = open_all(alloc, shards, places, senders, takers)?;
-        let send_passes = deal_passes(alloc, &queues, &mut dealers, senders, takers)?;
-        let take_passes = hire_passes(alloc, &queues, &mut dealers, senders, takers)?;
+        let members = Members { senders, takers };
+        let (queues, mut free_ends) = open_all(alloc, shards, places, members)?;
+        let send_passes = new_send_passes(alloc, &queues, &mut free_ends, members)?;
+        let take_passes = new_take_passes(alloc, &queues, &mut free_ends, members)?;
         let shards = OpShards {
             places,
             senders,
@@ -91,7 +94,7 @@ impl<T: Op> OpShards<T> {
         pass.push(rt, queue, shard, op)
     }
 
-    /// Takes an operation from the front of the shard's queue, and adds it to the pass. It is of one of the senders and of that shard, and behind all
+    /// Takes an operation from the front of the shard's queue, and adds it to the pass. It is of one of the senders and of that shard, and after all
     /// operations of its sender that the pass has there. None, and the pass as it was, only if that queue was empty at one moment: of the call, which the
     /// contract can't say.
     pub fn take<R: Wait>(&self, rt: &R, pass: &mut TakePass<T>, shard: usize) -> Option<T>
@@ -140,56 +143,38 @@ fn open_all<T: Op>(
     alloc: Global,
     shards: usize,
     places: usize,
-    senders: usize,
-    takers: usize,
-) -> Result<(Vec<Queue<T>>, Vec<Dealer<T>>), AllocError>
+    members: Members,
+) -> Result<(Vec<Queue<T>>, Vec<FreeEnd<T>>), AllocError>
     requires shards { 0 < shards }
     requires places { 0 < places }
     ensures queues { IfOk result (λ r. (length r.0.items ≡ shards) × All (λ q. ruled_capacity q ≡ places) r.0.items) }
-    ensures dealers { IfOk result (λ r. r.1.items ≡ map (dealing 0 takers) (spots (queues_of (names r.0.items) senders takers))) }
+    ensures free_ends { IfOk result (λ r. r.1.items ≡ map (free_end_state 0 members.takers) (spots (queues_of (names r.0.items) members.senders members.takers))) }
 {
     let mut queues = Vec::new(alloc);
-    let mut dealers = Vec::new(alloc);
+    let mut free_ends = Vec::new(alloc);
     for shard in 0..shards {
-        let (queue, dealer) = open(alloc, shard, shards, places, senders, takers)?;
-        dealers.push(dealer)?;
+        let (queue, free_end) = open::<T, Brand>(alloc, shard, shards, places, members)?;
+        free_ends.push(free_end)?;
         queues.push(queue)?;
     }
-    Ok((queues, dealers))
+    Ok((queues, free_ends))
 }
 
-// The queue of a shard.
-fn open<T: Op>(
+// The queue of a shard. Its caller picks where the queue stands.
+fn open<T: Op, J: Placed>(
     alloc: Global,
     shard: usize,
     shards: usize,
     places: usize,
-    senders: usize,
-    takers: usize,
-) -> Result<(Queue<T>, Dealer<T>), AllocError>
+    members: Members,
+) -> Result<(Queue<T>, FreeEnd<T>), AllocError>
     requires shards { shard < shards }
     requires places { 0 < places }
+    requires place { J.place ≡ queue_position shard shards members.senders members.takers }
     ensures queue { IfOk result (λ r. ruled_capacity r.0 ≡ places) }
-    ensures dealer { IfOk result (λ r. r.1 ≡ dealing 0 takers (spot_of (name r.0) (place_at shard shards senders takers))) }
-{
-    open_at::<T, Brand>(alloc, shard, shards, places, senders, takers)
-}
-
-fn open_at<T: Op, J: Placed>(
-    alloc: Global,
-    shard: usize,
-    shards: usize,
-    places: usize,
-    senders: usize,
-    takers: usize,
-) -> Result<(Queue<T>, Dealer<T>), AllocError>
-    requires shards { shard < shards }
-    requires places { 0 < places }
-    requires place { J.place ≡ place_at shard shards senders takers }
-    ensures queue { IfOk result (λ r. ruled_capacity r.0 ≡ places) }
-    ensures dealer { IfOk result (λ r. r.1 ≡ dealing 0 takers (spot_of (name r.0) (place_at shard shards senders takers))) }
+    ensures free_end { IfOk result (λ r. r.1 ≡ free_end_state 0 members.takers (spot_of (name r.0) (queue_position shard shards members.senders members.takers))) }
 {
     let (queue, pass) = RuledArrayQueue::ruled(alloc, places)?;
-    let dealer = Dealer::open::<J>(&queue, pass);
-    Ok((queue, dealer))
+    let free_end = FreeEnd::open::<J>(&queue, pass);
+    Ok((queue, free_end))
 }

@@ -4,12 +4,12 @@ use Rattle.std.specs.Prelude.{All, MatchResult}
 use Rattle.std.proofs.lemmas.List.{append-nil}
 use Rattle.std.proofs.lemmas.List.Elements.{All-nil, All-cons, All-append, All-weaker}
 use Rattle.op_shards.specs.declared.rule.Ranked.{Ranked}
-use Rattle.op_shards.specs.Passes.{Sender, ranked, at_shard, with_one, after_submit, next_rank, Grew, WasSent}
+use Rattle.op_shards.specs.Passes.{Sender, ranked, at_shard, pushed_at, after_submit, next_rank, Grew, WasSent}
 use Rattle.carried.specs.declared.operation.Carried.{Carried}
 use Rattle.carried.specs.declared.operation.Operation.{Operation}
 use Rattle.group_cell.specs.declared.outgoing.Outgoing.{Outgoing}
 use Rattle.group_cell.specs.declared.outgoing.Outgoing.TheVariants.{ToNode}
-use Rattle.osd.specs.Sent.{OnlySent, IsAny, IsThat, IsNoRequest, IsOwn, IsOfNode, IsOfNodeOrLost, IsOf}
+use Rattle.osd.specs.Sent.{OnlySent, IsAny, IsThat, IsNoRequest, IsInternalTo, IsOfNode, IsOfNodeOrLost, IsOf}
 
 abbrev on : (Operation → Type 0) → Ranked Operation → Type 0
 on P x = P x.op
@@ -35,7 +35,7 @@ only_grew P s t g = record { begins = λ shard. (g.since shard, g.kept shard) }
 
 -- what one submit adds in each shard
 one_more : (P : Operation → Type 0) (ls : List (List (Ranked Operation))) (k i : ℕ) (x : Ranked Operation) → P x.op
-    → (rest : List (Ranked Operation)) × ((at_shard ls i ++ rest ≡ at_shard (with_one ls k x) i) × All (on P) rest)
+    → (rest : List (Ranked Operation)) × ((at_shard ls i ++ rest ≡ at_shard (pushed_at ls k x) i) × All (on P) rest)
 one_more P [] k i x p = ([], (refl, All-nil (on P)))
 one_more P (l ∷ ls) zero zero x p = (x ∷ [], (refl, All-cons (on P) x [] p (All-nil (on P))))
 one_more P (l ∷ ls) zero (suc i) x p = ([], (append-nil (at_shard ls i), All-nil (on P)))
@@ -78,8 +78,8 @@ some_of_node o x e h = subst IsOfNodeOrLost e h
 
 -- what a node sends
 module _ {N : Type 0} (group : ℕ) (o : Outgoing N) (s t : Sender Operation) where
-  pub only_own : OnlySent s t (IsOwn group) → OnlySent s t (IsOf group o)
-  only_own g = only_weaker (IsOwn group) (IsOf group o) s t (λ op h. (h.0, λ _. h.1)) g
+  pub only_internal : OnlySent s t (IsInternalTo group) → OnlySent s t (IsOf group o)
+  only_internal g = only_weaker (IsInternalTo group) (IsOf group o) s t (λ op h. (h.0, λ _. h.1)) g
 
-  pub own_only : IsOfNode o → OnlySent s t (IsOf group o) → OnlySent s t (IsOwn group)
-  own_only n g = only_weaker (IsOf group o) (IsOwn group) s t (λ op h. (h.0, h.1 n)) g
+  pub internal_only : IsOfNode o → OnlySent s t (IsOf group o) → OnlySent s t (IsInternalTo group)
+  internal_only n g = only_weaker (IsOf group o) (IsInternalTo group) s t (λ op h. (h.0, h.1 n)) g

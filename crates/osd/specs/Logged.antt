@@ -1,4 +1,4 @@
--- What is told of a node's log.
+-- What is reported of a node's log.
 use Rattle.std.specs.Prelude.{◌≡◌, List, map}
 use Rattle.std.specs.FinMap as fin
 use Rattle.pg_log.specs.Log.{Classes, Legal}
@@ -10,9 +10,9 @@ use Rattle.osd.specs.declared.logged.LoggedEntry.{LoggedEntry}
 abbrev pub logged_entry : Entry → LoggedEntry
 logged_entry e = record { client = e.request.client; number = e.request.number; code = e.code }
 
--- a legal list is told of, with the code that each request is answered in it
+-- a legal list is reported, with the code that each request is answered in it
 pub record IsLogOf (classes : Classes) (items : List LoggedEntry) : Type 0 where
   pub entries : List Entry
-  pub told : items ≡ map logged_entry entries
+  pub listed : items ≡ map logged_entry entries
   pub legal : Legal classes (requests_of entries)
   pub kept : AreEntries classes fin.empty entries

@@ -28,12 +28,12 @@ abbrev pub IsNoRequest : Carried → Type 0
 IsNoRequest (Plain (ARequest r)) = ⊥
 IsNoRequest (Plain (AMap m)) = Unit {0}
 IsNoRequest (Plain (AMessage m)) = Unit {0}
-IsNoRequest (Query sender map told) = Unit {0}
+IsNoRequest (Query sender map reported) = Unit {0}
 IsNoRequest (Log short) = Unit {0}
 
 -- an operation of the group that brings no request of a client
-abbrev pub IsOwn : ℕ → Operation → Type 0
-IsOwn group op = (op.group ≡ group) × IsNoRequest op.carried
+abbrev pub IsInternalTo : ℕ → Operation → Type 0
+IsInternalTo group op = (op.group ≡ group) × IsNoRequest op.carried
 
 -- what a node sends: it brings no request of a client
 abbrev pub IsOfNode : {N : Type 0} → Outgoing N → Type 0

@@ -7,7 +7,7 @@ ghost use Rattle.placement.specs.Placement.{is_group_count};
 pub struct Config {
     /// How many nodes there are, 1 to 16, numbered from 0 on.
     pub nodes: u64,
-    /// How many nodes act for a group, 1 to 3, where so many are up.
+    /// How many nodes act for a group, 1 to 3, if that many are up.
     pub replicas: usize,
     /// How many groups there are, 1 to 64, a power of two.
     pub groups: u64,

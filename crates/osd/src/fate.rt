@@ -1,6 +1,6 @@
 /// What becomes of a message.
 #[derive(Clone, Copy, Debug, PartialEq, Eq)]
-pub enum Deal {
+pub enum DeliveryMode {
     /// It is sent.
     Pass,
     /// It is lost.
@@ -15,7 +15,7 @@ pub enum Deal {
 /// `new_map` submit pass.
 pub trait Fate {
     /// Comes for each message of a worker, which are numbered from 0 on, modulo 2^64.
-    fn of(&self, worker: usize, n: u64) -> Deal;
+    fn of(&self, worker: usize, n: u64) -> DeliveryMode;
 }
 
 /// The fate under which all messages pass.
@@ -23,7 +23,7 @@ pub trait Fate {
 pub struct PassAll;
 
 impl Fate for PassAll {
-    fn of(&self, _worker: usize, _n: u64) -> Deal {
-        Deal::Pass
+    fn of(&self, _worker: usize, _n: u64) -> DeliveryMode {
+        DeliveryMode::Pass
     }
 }

@@ -34,7 +34,7 @@ pub use commit_board::NoMemory;
 pub use config::Config;
 pub use crossing::running_crosses;
 pub use desk::Opened;
-pub use fate::{Deal, Fate, PassAll};
+pub use fate::{DeliveryMode, Fate, PassAll};
 pub use gate::{Gate, Open};
 pub use logged::{LoggedEntry, LoggedError};
 pub use name::ClusterName;

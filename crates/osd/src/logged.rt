@@ -11,7 +11,7 @@ pub struct LoggedEntry {
     pub code: i64,
 }
 
-/// Why a node's log isn't told. It prints as number and name, as `1 NoSuch`.
+/// Why a node's log isn't reported. It prints as number and name, as `1 NoSuch`.
 #[derive(Clone, Copy, Debug, PartialEq, Eq, Error)]
 pub enum LoggedError {
     /// There is no such node, or no such group.

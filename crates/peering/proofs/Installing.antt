@@ -18,7 +18,7 @@ use Rattle.group_world.specs.Rules.{is_usable, says_installed, install_after, ar
 use Rattle.group_world.specs.declared.status.Status.{Status}
 use Rattle.group_world.specs.declared.status.Status.TheVariants.{Out, Waiting, Installed, Asking, Installing, Active}
 use Rattle.group_world.specs.declared.party.Party.{Party}
-use Rattle.group_world.specs.declared.message.Kind.TheVariants.{Query, Log as LogOf, Installed as InstalledIn}
+use Rattle.group_world.specs.declared.message.MessageKind.TheVariants.{Query, Log as LogOf, Installed as InstalledIn}
 use Rattle.group_world.specs.declared.message.Packet.{Packet}
 use Rattle.group_world.specs.declared.handle_error.HandleError.{HandleError}
 use Rattle.peering.specs.declared.node.moves.Arrival.{Arrival}

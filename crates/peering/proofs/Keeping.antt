@@ -16,8 +16,8 @@ use Rattle.peering.specs.Numbered.{IsRefusal}
 use Rattle.group_world.specs.declared.status.Status.TheVariants.{Out, Waiting, Installed, Asking, Active}
 use Rattle.group_world.specs.declared.party.Party.{Party}
 use Rattle.group_world.specs.declared.party.Party.TheVariants.{Node as ANode, Monitor as TheMonitor, Client as AClient}
-use Rattle.group_world.specs.declared.message.Kind.{Kind}
-use Rattle.group_world.specs.declared.message.Kind.TheVariants.{Query, Log as LogOf, Install, Installed as InstalledIn, AskActivate, Activated, Rep, Ack, Reply as ReplyTo}
+use Rattle.group_world.specs.declared.message.MessageKind.{MessageKind}
+use Rattle.group_world.specs.declared.message.MessageKind.TheVariants.{Query, Log as LogOf, Install, Installed as InstalledIn, AskActivate, Activated, Rep, Ack, Reply as ReplyTo}
 use Rattle.group_world.specs.declared.event.Event.{Event}
 use Rattle.group_world.specs.declared.event.Event.TheVariants.{Request as ARequest, Map as AMap, Message as AMessage}
 use Rattle.peering.proofs.Following.{next_legal}
@@ -122,7 +122,7 @@ acknowledge_kept classes n s (ANode m) interval k l =
 acknowledge_kept classes n s TheMonitor interval k l = (refl, l)
 acknowledge_kept classes n s (AClient client) interval k l = (refl, l)
 
-pub receive_kept : Laws → (classes : Classes) (n : ℕ) (s : NodeState) (sender : Party) (kind : Kind) → Legal classes s.log → IsKept classes (receive classes n s sender kind)
+pub receive_kept : Laws → (classes : Classes) (n : ℕ) (s : NodeState) (sender : Party) (kind : MessageKind) → Legal classes s.log → IsKept classes (receive classes n s sender kind)
 receive_kept laws classes n s sender (Query m) l = query_kept laws classes n s sender m l
 receive_kept laws classes n s sender (LogOf interval list) l = adopt_kept laws classes n s interval list l
 receive_kept laws classes n s sender (Install m list) l = install_kept laws classes n s sender m list l

@@ -11,7 +11,7 @@ use Rattle.replication.specs.Places.{added_or, append_at_answer, list_with}
 use Rattle.group_world.specs.Node.{NodeState, Outcome, nothing, and_sends, is_installed, packet}
 use Rattle.group_world.specs.Rules.{and_acks, replicate}
 use Rattle.group_world.specs.declared.party.Party.{Party}
-use Rattle.group_world.specs.declared.message.Kind.TheVariants.{Ack}
+use Rattle.group_world.specs.declared.message.MessageKind.TheVariants.{Ack}
 use Rattle.peering.specs.Arriving.{acks_if, is_memory}
 
 -- what is made of an answer, where the place is the last or isn't

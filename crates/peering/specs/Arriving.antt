@@ -12,7 +12,7 @@ use Rattle.group_world.specs.Rules.{is_usable, replies_from}
 use Rattle.group_world.specs.declared.status.Status.{Status}
 use Rattle.group_world.specs.declared.status.Status.TheVariants.{Installed}
 use Rattle.group_world.specs.declared.party.Party.{Party}
-use Rattle.group_world.specs.declared.message.Kind.TheVariants.{Installed as InstalledIn, Rep, Ack}
+use Rattle.group_world.specs.declared.message.MessageKind.TheVariants.{Installed as InstalledIn, Rep, Ack}
 use Rattle.group_world.specs.declared.message.Packet.{Packet}
 use Rattle.peering.specs.declared.node.moves.Arrival.{Arrival}
 use Rattle.peering.specs.declared.node.serve.Commit.{Commit}

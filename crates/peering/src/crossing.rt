@@ -20,7 +20,7 @@ pub fn monitor_crosses()
     sends::<Monitor>()
 }
 
-/// A node may go to another thread where the name of its classes may. So threads may share a lock on it.
+/// A node may go to another thread if the name of its classes may. So threads may share a lock on it.
 pub fn node_crosses<C: Classes + Send>()
     ensures { IsSend (node.the_row C.row (record { classes = C.classes })) }
 {

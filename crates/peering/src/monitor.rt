@@ -18,7 +18,7 @@ pub struct Monitor {
     newest: GroupMap,
     /// The newest map was the newest at the last activation.
     is_activated: bool,
-    /// Where it wasn't, the one that was.
+    /// If it wasn't, the one that was.
     activated: GroupMap,
 }
 
@@ -80,9 +80,9 @@ impl Monitor {
 }
 
 impl Monitor {
-    /// Makes the next map, and gives it. Where the acting list is that of the newest map, in the same order, it keeps that
+    /// Makes the next map, and gives it. If the acting list is that of the newest map, in the same order, it keeps that
     /// map's interval and what was before it; else an interval begins, and before it was the last activated one. It
-    /// refuses by, the first that applies: `BadActing` where the list hasn't one to three nodes, or has one twice or a
+    /// refuses by, the first that applies: `BadActing` if the list hasn't one to three nodes, or has one twice or a
     /// number above 15; `EpochsUsedUp` after epoch 2^32 - 1; `NoMemory`. A refusal leaves the monitor as it was.
     pub fn new_map(&mut self, acting: &[NodeId]) -> Result<GroupMap, MonitorError>
         ensures ok { IfOk result (λ m. (m ≡ next_map self.old acting.now) × (map_refusal self.old acting.now ≡ None)) }
@@ -158,7 +158,7 @@ impl Monitor {
         }
     }
 
-    /// Activates an interval. It refuses by `NotNewest` where it isn't the newest map's, and is then as it was. A second
+    /// Activates an interval. It refuses by `NotNewest` if it isn't the newest map's, and is then as it was. A second
     /// time changes nothing, also after a map that kept the interval. It takes no memory.
     pub fn activate(&mut self, interval: Epoch) -> Result<(), MonitorError>
         ensures answer { MatchResult result (λ _. activation_refusal self.old interval ≡ None) (λ e. activation_refusal self.old interval ≡ Some e) }

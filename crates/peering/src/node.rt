@@ -11,7 +11,9 @@ mod moves;
 mod resend;
 mod serve;
 
-use group_world::{Epoch, Event, GroupMap, HandleError, Kind, Messages, Packet, Party, Status};
+use group_world::{
+    Epoch, Event, GroupMap, HandleError, MessageKind, Messages, Packet, Party, Status,
+};
 use pg_log::{ClassTable, Classes, Group, legal_lists, refusals};
 use placement::NodeId;
 use replication::{Ack, Rep};
@@ -160,12 +162,12 @@ impl<C: Classes> GroupNode<C> {
     ///
     /// The table is that of the earlier calls, or that one with classes added.
     ///
-    /// What each event costs, beside what it sends: a request at the primary its call, a logarithm and a copy of the
+    /// What each event costs, apart from what it sends: a request at the primary its call, a logarithm and a copy of the
     /// request for each other member; a Rep its call; an Ack a constant and a Reply for each newly committed entry; a
     /// Query a copy of the whole log. The list of a Log at an asking primary is tested before anything is copied or run,
     /// which costs a comparison with what is committed and a logarithm for each request. A usable one costs a copy for
     /// each other member, a comparison with the log, and what undoing and running the ends costs. The list of an Install
-    /// costs that comparison and the ends where the node waits, else the test alone.
+    /// costs that comparison and the ends if the node waits, else the test alone.
     pub fn handle(&mut self, table: &ClassTable, event: Event) -> Result<Messages, HandleError>
         requires table { IsPrefix table.now C.classes }
         requires legal { Legal table.now self.old.state.log }
@@ -198,11 +200,12 @@ impl<C: Classes> GroupNode<C> {
     }
 
     /// Takes a message.
+    #[rattlefmt::skip]
     fn receive(
         &mut self,
         table: &ClassTable,
         sender: Party,
-        kind: Kind,
+        kind: MessageKind,
     ) -> Result<Vec<Packet>, HandleError>
         requires { IsLegalBy table.now C.classes self.old.state.log }
         ensures done { IfOk result (λ sent. IsDone self.old self.new sent.items (receive table.now self.old.number self.old.state sender kind)) }
@@ -210,29 +213,16 @@ impl<C: Classes> GroupNode<C> {
         ensures why { IfErr result (λ e. e ≡ HandleError.NoMemory) }
     {
         match kind {
-            Kind::Query(map) => self.answer_query(sender, map),
-            Kind::Log(interval, list) => self.adopt_log(table, interval, list.items()),
-            Kind::Install(map, list) => self.install(table, sender, map, list.items()),
-            Kind::Installed(interval) => self.note_installed(sender, interval),
-            Kind::Activated(interval) => self.activate(interval),
-            Kind::Rep(interval, place, request) => {
-                let epoch = interval.get();
-                self.replicate(
-                    table,
-                    sender,
-                    Rep {
-                        epoch,
-                        place,
-                        request,
-                    },
-                )
-            }
-            Kind::Ack(interval, length) => self.take_ack(table, sender, interval, length),
-            Kind::AskActivate(_) => Ok(Vec::new(self.alloc)),
-            Kind::Reply(_, _, _, answer) => {
-                drop(answer);
-                Ok(Vec::new(self.alloc))
-            }
+            MessageKind::Query(map)                    => self.answer_query(sender, map),
+            MessageKind::Log(interval, list)           => self.adopt_log(table, interval, list.items()),
+            MessageKind::Install(map, list)            => self.install(table, sender, map, list.items()),
+            MessageKind::Installed(interval)           => self.note_installed(sender, interval),
+            MessageKind::Activated(interval)           => self.activate(interval),
+            MessageKind::Rep(interval, place, request) => { let epoch = interval.get(); self.replicate(table, sender, Rep { epoch, place, request }) }
+            MessageKind::Ack(interval, length)         => self.take_ack(table, sender, interval, length),
+            // These two are for the monitor and for clients.
+            MessageKind::AskActivate(_)                => Ok(Vec::new(self.alloc)),
+            MessageKind::Reply(_, _, _, answer)        => { drop(answer); Ok(Vec::new(self.alloc)) }
         }
     }
 

@@ -9,7 +9,7 @@ use Rattle.pg_log.specs.Log.{Classes, Legal, Reply, reply_at}
 use Rattle.pg_log.specs.Laws.{ClassesAdded, RepliesStay}
 use Rattle.pg_log.specs.declared.entry.Entry.{Entry}
 use Rattle.group_world.specs.declared.party.Party.TheVariants.{Client as AClient}
-use Rattle.group_world.specs.declared.message.Kind.TheVariants.{Reply as ReplyTo}
+use Rattle.group_world.specs.declared.message.MessageKind.TheVariants.{Reply as ReplyTo}
 use Rattle.group_world.specs.declared.message.Packet.{Packet}
 use Rattle.group_world.specs.Node.{packet}
 use Rattle.group_world.specs.Rules.{or_empty, reply_packet, replies_from}

@@ -8,7 +8,7 @@ use Rattle.pg_log.specs.declared.entry.Entry.{Entry}
 use Rattle.group_world.specs.Maps.{GroupMap, all_among}
 use Rattle.group_world.specs.Node.{packet, to_others}
 use Rattle.group_world.specs.declared.party.Party.TheVariants.{Monitor as TheMonitor}
-use Rattle.group_world.specs.declared.message.Kind.TheVariants.{Install, AskActivate}
+use Rattle.group_world.specs.declared.message.MessageKind.TheVariants.{Install, AskActivate}
 use Rattle.group_world.specs.declared.message.Packet.{Packet}
 
 -- what the primary sends on adopting a list

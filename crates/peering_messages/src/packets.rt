@@ -6,13 +6,15 @@ ghost use Rattle.group_world.specs.Unanswered.{to_missing, reps_from};
 ghost use Rattle.peering_messages.specs.Sending.{adopted_sent, asked_if};
 
 use crate::compare::are_among;
-use group_world::{Epoch, GroupMap, HandleError, Kind, Message, Packet, Party, Place, Requests};
+use group_world::{
+    Epoch, GroupMap, HandleError, Message, MessageKind, Packet, Party, Place, Requests,
+};
 use pg_log::{Entry, Request, copy_requests};
 use placement::{NodeId, has};
 use std::alloc::Global;
 
 /// A message of a node.
-pub fn packet(number: NodeId, receiver: Party, kind: Kind) -> Packet
+pub fn packet(number: NodeId, receiver: Party, kind: MessageKind) -> Packet
     ensures { result ≡ packet number receiver kind }
 {
     Packet {
@@ -24,7 +26,7 @@ pub fn packet(number: NodeId, receiver: Party, kind: Kind) -> Packet
     }
 }
 
-/// Adds a message to those that are sent. Where memory is refused they are as they were.
+/// Adds a message to those that are sent. If memory is refused they are as they were.
 pub fn send(sent: &mut Vec<Packet>, packet: Packet) -> Result<(), HandleError>
     ensures ok { OnOk result (sent.new.items ≡ sent.old.items ++ packet ∷ []) }
     ensures err { IfErr result (λ e. e ≡ HandleError.NoMemory) }
@@ -41,7 +43,7 @@ pub fn query_to_all(
     nodes: &[NodeId],
     map: &GroupMap,
 ) -> Result<Vec<Packet>, HandleError>
-    ensures ok { IfOk result (λ v. v.items ≡ to_all number nodes.now (Kind.Query map.now)) }
+    ensures ok { IfOk result (λ v. v.items ≡ to_all number nodes.now (MessageKind.Query map.now)) }
     ensures err { IfErr result (λ e. e ≡ HandleError.NoMemory) }
 {
     let mut sent = Vec::new(alloc);
@@ -59,10 +61,10 @@ fn send_query(
     map: &GroupMap,
     sent: &mut Vec<Packet>,
 ) -> Result<(), HandleError>
-    ensures ok { OnOk result (sent.new.items ≡ sent.old.items ++ packet number (Party.Node node) (Kind.Query map.now) ∷ []) }
+    ensures ok { OnOk result (sent.new.items ≡ sent.old.items ++ packet number (Party.Node node) (MessageKind.Query map.now) ∷ []) }
     ensures err { IfErr result (λ e. e ≡ HandleError.NoMemory) }
 {
-    let kind = Kind::Query(map.copy(alloc)?);
+    let kind = MessageKind::Query(map.copy(alloc)?);
     send(sent, packet(number, Party::Node(node), kind))
 }
 
@@ -75,7 +77,7 @@ pub fn install_to_missing(
     map: &GroupMap,
     list: &[Request],
 ) -> Result<Vec<Packet>, HandleError>
-    ensures ok { IfOk result (λ v. v.items ≡ to_missing number joined.now nodes.now (Kind.Install map.now list.now)) }
+    ensures ok { IfOk result (λ v. v.items ≡ to_missing number joined.now nodes.now (MessageKind.Install map.now list.now)) }
     ensures err { IfErr result (λ e. e ≡ HandleError.NoMemory) }
 {
     let mut sent = Vec::new(alloc);
@@ -100,11 +102,11 @@ fn send_install(
     list: &[Request],
     sent: &mut Vec<Packet>,
 ) -> Result<(), HandleError>
-    ensures ok { OnOk result (sent.new.items ≡ sent.old.items ++ packet number (Party.Node node) (Kind.Install map.now list.now) ∷ []) }
+    ensures ok { OnOk result (sent.new.items ≡ sent.old.items ++ packet number (Party.Node node) (MessageKind.Install map.now list.now) ∷ []) }
     ensures err { IfErr result (λ e. e ≡ HandleError.NoMemory) }
 {
     let list = Requests::new(copy_requests(alloc, list)?);
-    let kind = Kind::Install(map.copy(alloc)?, list);
+    let kind = MessageKind::Install(map.copy(alloc)?, list);
     send(sent, packet(number, Party::Node(node), kind))
 }
 
@@ -117,7 +119,7 @@ pub fn rep_to_others(
     place: Place,
     request: &Request,
 ) -> Result<Vec<Packet>, HandleError>
-    ensures ok { IfOk result (λ v. v.items ≡ to_others number nodes.now (Kind.Rep interval place request.now)) }
+    ensures ok { IfOk result (λ v. v.items ≡ to_others number nodes.now (MessageKind.Rep interval place request.now)) }
     ensures err { IfErr result (λ e. e ≡ HandleError.NoMemory) }
 {
     let mut sent = Vec::new(alloc);
@@ -140,10 +142,10 @@ fn send_rep(
     request: &Request,
     sent: &mut Vec<Packet>,
 ) -> Result<(), HandleError>
-    ensures ok { OnOk result (sent.new.items ≡ sent.old.items ++ packet number (Party.Node node) (Kind.Rep interval place request.now) ∷ []) }
+    ensures ok { OnOk result (sent.new.items ≡ sent.old.items ++ packet number (Party.Node node) (MessageKind.Rep interval place request.now) ∷ []) }
     ensures err { IfErr result (λ e. e ≡ HandleError.NoMemory) }
 {
-    let kind = Kind::Rep(interval, place, request.copy(alloc)?);
+    let kind = MessageKind::Rep(interval, place, request.copy(alloc)?);
     send(sent, packet(number, Party::Node(node), kind))
 }
 
@@ -167,7 +169,7 @@ pub fn reps_to(
     Ok(())
 }
 
-/// What the primary sends on adopting a list: Install to the others, and where it acts alone AskActivate to the monitor.
+/// What the primary sends on adopting a list: Install to the others, and if it acts alone AskActivate to the monitor.
 #[tactic(auto, using(crate::proofs::Messages::to_missing_none))]
 pub fn adoption(
     alloc: Global,
@@ -185,7 +187,7 @@ pub fn adoption(
     Ok(sent)
 }
 
-/// Asks the monitor to activate the interval, where all have installed.
+/// Asks the monitor to activate the interval, if all have installed.
 pub fn ask_if(
     number: NodeId,
     interval: Epoch,
@@ -196,7 +198,7 @@ pub fn ask_if(
     ensures err { IfErr result (λ e. e ≡ HandleError.NoMemory) }
 {
     if all {
-        let kind = Kind::AskActivate(interval);
+        let kind = MessageKind::AskActivate(interval);
         send(sent, packet(number, Party::Monitor, kind))?;
     }
     Ok(())

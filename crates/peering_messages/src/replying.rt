@@ -6,19 +6,19 @@ ghost use Rattle.group_world.specs.Rules.{reply_packet, replies_from};
 ghost use Rattle.peering_messages.specs.Sending.{IsEntryAt, IsLegalBy, IsNextReply, answer_in};
 
 use crate::packets::{packet, send};
-use group_world::{Answer, HandleError, Kind, Packet, Party, Place};
+use group_world::{CallReply, HandleError, MessageKind, Packet, Party, Place};
 use pg_log::{ClassTable, Classes, Entry, Group, classes_added, replies as replies_of_lists};
 use placement::NodeId;
 use std::alloc::Global;
 
 /// The Reply to the request of an entry, which stands at that place of the log.
 fn reply(alloc: Global, number: NodeId, place: Place, entry: &Entry) -> Result<Packet, HandleError>
-    ensures ok { IfOk result (λ p. p ≡ packet number (Party.Client entry.now.request.client) (Kind.Reply entry.now.request.client entry.now.request.number place (answer_in entry.now))) }
+    ensures ok { IfOk result (λ p. p ≡ packet number (Party.Client entry.now.request.client) (MessageKind.Reply entry.now.request.client entry.now.request.number place (answer_in entry.now))) }
     ensures err { IfErr result (λ e. e ≡ HandleError.NoMemory) }
 {
     let client = entry.request.client();
-    let answer = Answer::new(entry.code, Vec::from_slice(alloc, &entry.output)?);
-    let kind = Kind::Reply(client, entry.request.number(), place, answer);
+    let answer = CallReply::new(entry.code, Vec::from_slice(alloc, &entry.output)?);
+    let kind = MessageKind::Reply(client, entry.request.number(), place, answer);
     Ok(packet(number, Party::Client(client), kind))
 }
 
@@ -33,7 +33,7 @@ fn entry_at<'a, C: Classes>(table: &ClassTable, group: &'a Group<C>, place: Plac
     &group.entries()[place]
 }
 
-/// The entry at a place of a log to which one is to come.
+/// The entry at a place of a log to which one is about to be added.
 fn entry_with<'a, C: Classes>(
     table: &ClassTable,
     group: &'a Group<C>,
@@ -90,7 +90,7 @@ pub fn replies<C: Classes>(
     Ok(sent)
 }
 
-/// Adds the same, of the log with the entry that is to come.
+/// Adds the same, of the log with the entry that is about to be added.
 pub fn replies_with<C: Classes>(
     alloc: Global,
     table: &ClassTable,

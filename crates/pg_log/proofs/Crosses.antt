@@ -5,7 +5,6 @@ use denote.Struct.Declared.{shape}
 use denote.Struct.Struct.{Struct}
 use Rattle.std.proofs.Crossing as crossing
 use Rattle.std.proofs.MapsCrossing as maps
-use Rattle.object_store.specs.contracts.object.Object as object
 use Rattle.object_store.specs.contracts.objects.Objects as objects
 use Rattle.pg_log.specs.contracts.entry.Entry as entry
 use Rattle.pg_log.specs.contracts.group.Group as group
@@ -13,11 +12,12 @@ use Rattle.pg_log.specs.contracts.group.Group.TheInside as inside
 use Rattle.pg_log.specs.contracts.places.Places as places
 use Rattle.pg_log.specs.contracts.request.Request as request
 use Rattle.pg_log.specs.declared.classes.Classes.{Ghosts}
+use Rattle.txn.specs.contracts.change.Change as change
 
-pub entry_sends : IsSend request.the_row → IsSend object.the_row → IsSend entry.the_row
-entry_sends r o =
+pub entry_sends : IsSend request.the_row → IsSend change.the_row → IsSend entry.the_row
+entry_sends r c =
     let T = entry.the_type in
-    let parts : AllSend (shape T).fields = (r, (search (crossing.crosses, sendable) depth 8, (search (crossing.crosses, sendable) depth 8, (search (o, crossing.crosses, sendable) depth 12, tt)))) in
+    let parts : AllSend (shape T).fields = (r, (search (crossing.crosses, sendable) depth 8, (search (crossing.crosses, sendable) depth 8, (c, tt)))) in
     recorded_send (Struct (shape T)) T.D T.to T.to_one (struct_send (shape T) parts)
 
 pub group_sends : (C : RattleType) (classes : Ghosts C.Denot) → IsSend entry.the_row → IsSend objects.the_row → IsSend (group.the_row C classes)

@@ -8,7 +8,7 @@ use Rattle.std.proofs.lemmas.Bool.Decides.{nat_tests}
 use mathlib.Core.List.{IsPrefix}
 use Rattle.object_store.specs.Object.{PlainObject}
 use Rattle.object_store.specs.Names.{PlainObjects}
-use Rattle.txn.specs.declared.change.Change.{Change}
+use Rattle.txn.specs.Versions.{Versions}
 use Rattle.bpf_decode.specs.Class.{ClassMethod, IsMethod}
 use Rattle.bpf_machine.specs.Safe.{OutcomesAreOne}
 use Rattle.interp.specs.Plain.{method_named}
@@ -63,7 +63,7 @@ ran one m is object r o a =
     let same = one m (omega (arith, is.in_cap)) (omega (arith, is.out_cap)) object r.client r.input _ o.steps a.bounded a.runs in
     record { made = sym same; from_before = a.before }
 
-pub more-outcome : (classes more : Classes) (objects : PlainObjects) (r : ClientRequest) (code : ℤ) (output : List ℕ) (change : Change) → CanRun classes r →
+pub more-outcome : (classes more : Classes) (objects : PlainObjects) (r : ClientRequest) (code : ℤ) (output : List ℕ) (change : Versions) → CanRun classes r →
     IsOutcomeOn classes objects r code output change → IsOutcomeOn (classes ++ more) objects r code output change
 more-outcome classes more objects r code output change c o =
     let P : Option (List ClassMethod) → Type 0 = λ w. IsOutcome (method_in w r.method) (fin.get objects r.object) r code output change in
@@ -79,7 +79,7 @@ next_legal table classes xs r pre l e =
     let P : Classes → Type 0 = λ w. CanRun w r in
     legal_push classes xs r l (record { room = f.room; run = subst P pre.1 (CanRun-more table pre.0 r f.run); above = f.above })
 
-pub next_outcome : (table classes : Classes) (xs : List ClientRequest) (objects : PlainObjects) (r : ClientRequest) (code : ℤ) (output : List ℕ) (change : Change) →
+pub next_outcome : (table classes : Classes) (xs : List ClientRequest) (objects : PlainObjects) (r : ClientRequest) (code : ℤ) (output : List ℕ) (change : Versions) →
     IsPrefix table classes → refusal table xs r ≡ None → IsOutcomeOn table objects r code output change → IsOutcomeOn classes objects r code output change
 next_outcome table classes xs objects r code output change pre e o =
     let f = follows_unrefused table xs r e in
@@ -102,7 +102,7 @@ entry_made classes xs r o e request code output change legal safe ran =
     let R : ClientRequest → Type 0 = λ w. IsOutcomeOn classes (fold classes xs) w e.code e.output.items e.change in
     let C : ℤ → Type 0 = λ w. IsOutcomeOn classes (fold classes xs) r w e.output.items e.change in
     let U : List ℕ → Type 0 = λ w. IsOutcomeOn classes (fold classes xs) r o.code w e.change in
-    let D : Change → Type 0 = λ w. IsOutcomeOn classes (fold classes xs) r o.code o.output.items w in
+    let D : Versions → Type 0 = λ w. IsOutcomeOn classes (fold classes xs) r o.code o.output.items w in
     record {
       legal = subst L (sym request) legal;
       safe = subst S (sym request) safe;

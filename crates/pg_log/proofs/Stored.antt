@@ -9,7 +9,7 @@ use Rattle.std.specs.FinMap as fin
 use Rattle.std.specs.FinMap.{nat_cmp-IsAntisymmetric, slice_cmp-IsAntisymmetric}
 use Rattle.object_store.specs.Object.{PlainObject}
 use Rattle.object_store.specs.Names.{PlainObjects, stored}
-use Rattle.txn.specs.declared.change.Change.{Change}
+use Rattle.txn.specs.Versions.{Versions}
 use Rattle.pg_log.specs.Entries.{undone}
 
 get-stored : (objects : PlainObjects) (name : List ℕ) (o : PlainObject) (q : List ℕ) →
@@ -43,6 +43,6 @@ stored-back objects name o =
     ∙ tie objects name q)
 
 -- what was done to an object is undone
-pub undone-stored : (objects : PlainObjects) (name : List ℕ) (change : Change) → change.before ≡ fin.get objects name →
+pub undone-stored : (objects : PlainObjects) (name : List ℕ) (change : Versions) → change.before ≡ fin.get objects name →
     undone (stored objects name change.after) name change ≡ objects
 undone-stored objects name change h = ap (stored (stored objects name change.after) name) h ∙ stored-back objects name change.after

@@ -5,7 +5,7 @@ use Rattle.std.specs.FinMap as fin
 use Rattle.std.specs.Int.{w64, cast_unsigned}
 use Rattle.object_store.specs.Object.{PlainObject}
 use Rattle.object_store.specs.Names.{PlainObjects, stored}
-use Rattle.txn.specs.declared.change.Change.{Change}
+use Rattle.txn.specs.Versions.{Versions}
 use Rattle.bpf_decode.specs.Class.{ClassMethod}
 use Rattle.bpf_machine.specs.State.{Outcome}
 use Rattle.bpf_machine.specs.Safe.{IsSafe}
@@ -16,16 +16,16 @@ use Rattle.pg_log.specs.Log.{Classes, Reply, Legal, method_of, outcome_of_method
 use Rattle.pg_log.specs.Places.{ArePlaces}
 
 -- a reply and the object after a change as a machine's outcome
-abbrev pub outcome_made : ℤ → List ℕ → Change → Outcome
+abbrev pub outcome_made : ℤ → List ℕ → Versions → Outcome
 outcome_made code output change = record { code = cast_unsigned w64 code; output = output; object = change.after }
 
 -- Code, output and the object after are the machine's outcome of a method beside an object, which is the one before.
-pub record IsOutcome (method : Option ClassMethod) (object : PlainObject) (r : ClientRequest) (code : ℤ) (output : List ℕ) (change : Change) : Type 0 where
+pub record IsOutcome (method : Option ClassMethod) (object : PlainObject) (r : ClientRequest) (code : ℤ) (output : List ℕ) (change : Versions) : Type 0 where
   pub made : outcome_made code output change ≡ outcome_of_method method object r
   pub from_before : change.before ≡ object
 
 -- those of the request on these objects
-abbrev pub IsOutcomeOn : Classes → PlainObjects → ClientRequest → ℤ → List ℕ → Change → Type 0
+abbrev pub IsOutcomeOn : Classes → PlainObjects → ClientRequest → ℤ → List ℕ → Versions → Type 0
 IsOutcomeOn classes objects r code output change = IsOutcome (method_of classes r) (fin.get objects r.object) r code output change
 
 -- each entry's reply and change are those of its request on the objects that the requests before it made
@@ -38,7 +38,7 @@ abbrev pub requests_of : List Entry → List ClientRequest
 requests_of es = map (λ e. e.request) es
 
 -- the objects before a change of the one of a name
-abbrev pub undone : PlainObjects → List ℕ → Change → PlainObjects
+abbrev pub undone : PlainObjects → List ℕ → Versions → PlainObjects
 undone objects name change = stored objects name change.before
 
 -- the method that a request names is safe

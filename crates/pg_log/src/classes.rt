@@ -1,7 +1,7 @@
 use std::marker::Brand;
 
-/// The classes that are ever loaded beside a group, by id. It names them for the proofs of all calls on one group, also
-/// of one that comes out of a lock, of which nothing but the type is known.
+/// The classes that are ever loaded for a group, by id. It names them for the proofs of all calls on one group.
+// A type parameter, since of a value that comes out of a lock nothing is known but its type.
 pub trait Classes {
     ghost use Rattle.std.specs.Prelude.{List};
     ghost use Rattle.bpf_decode.specs.Class.{ClassMethod};

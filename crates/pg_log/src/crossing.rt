@@ -8,12 +8,14 @@ ghost use Rattle.pg_log.specs.contracts.entry.Entry as entry;
 ghost use Rattle.pg_log.specs.contracts.group.Group as group;
 ghost use Rattle.pg_log.specs.contracts.request.Request as request;
 ghost use Rattle.shared_map.specs.contracts.shared_map.SharedMap as map;
+ghost use Rattle.txn.specs.contracts.change.Change as change;
 
 use crate::classes::Classes;
 use crate::request::Request;
 use interp::ClassTable;
 use object_store::{Object, Objects};
 use shared_map::SharedMap;
+use txn::Change;
 
 /// Values of the type may go to another thread.
 fn sends<T: Send>()
@@ -56,12 +58,19 @@ pub fn request_crosses()
     shares::<Request>()
 }
 
+fn change_crosses()
+    ensures { IsSend change.the_row }
+{
+    object_crosses();
+    sends::<Change>()
+}
+
 /// An entry may go to another thread.
 pub fn entry_crosses()
     ensures { IsSend entry.the_row }
 {
     request_crosses();
-    object_crosses()
+    change_crosses()
 }
 
 /// A table of classes may go to another thread, and threads may share it.
@@ -73,7 +82,7 @@ pub fn table_crosses()
     shares::<ClassTable>()
 }
 
-/// A group may go to another thread where the name of its classes may. So threads may share a lock on it.
+/// A group may go to another thread if the name of its classes may. So threads may share a lock on it.
 pub fn group_crosses<C: Classes + Send>()
     ensures { IsSend (group.the_row C.row (record { classes = C.classes })) }
 {

@@ -31,7 +31,7 @@ pub struct Group<C: Classes> {
     places: Places,
 }
 
-// Written out, so that a crate that drops a group calls this, and proves nothing of what it holds once more.
+// Written out, so that a crate that drops a group calls this and needn't prove again how its parts are dropped.
 impl<C: Classes> Drop for Group<C> {
     fn drop(self) {
         let Group {

@@ -34,6 +34,7 @@ pub fn with_group<W: GroupWork>(alloc: Global, table: &ClassTable, work: W) -> W
 }
 
 /// The same, for classes that have a name.
+// A function of its own, as `go_on_as` is: a call picks the names that the called function takes.
 pub fn start<C: Classes, W: GroupWork>(alloc: Global, table: &ClassTable, work: W) -> W::Output
     requires { table.now ≡ C.classes }
     ensures { W.gives work table.now [] result }

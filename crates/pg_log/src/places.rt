@@ -51,7 +51,7 @@ impl Places {
     }
 
     /// Adds the place of a request that follows the list.
-    /// It needs no memory where the client has room.
+    /// It needs no memory if the client has room.
     pub(crate) fn add(
         &mut self,
         alloc: Global,

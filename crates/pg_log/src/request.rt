@@ -7,7 +7,7 @@ use object_store::ObjectName;
 use std::alloc::Global;
 use std::marker::Model;
 
-/// A client's request: a method of a class, to be run beside an object. Contracts see its parts.
+/// A client's request: a method of a class, to be run on an object. Contracts see its parts.
 pub struct Request {
     client: ClientId,
     number: RequestNumber,

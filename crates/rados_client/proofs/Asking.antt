@@ -14,7 +14,7 @@ use Rattle.op_shards.specs.declared.rule.Ranked.{Ranked}
 use Rattle.group_world.specs.declared.event.Event.TheVariants.{Request as ARequest}
 use Rattle.carried.specs.declared.operation.Operation.{Operation}
 use Rattle.carried.specs.declared.operation.Carried.TheVariants.{Plain}
-use Rattle.osd.specs.Sent.{OnlySent, IsNoRequest, IsOwn}
+use Rattle.osd.specs.Sent.{OnlySent, IsNoRequest, IsInternalTo}
 use Rattle.rados_client.specs.declared.exec_error.ExecError.{ExecError}
 use Rattle.rados_client.specs.declared.exec_error.ExecError.TheVariants as exec
 use Rattle.rados_client.specs.Session.{Contact, PlacedReply, KnowsMore}
@@ -99,14 +99,14 @@ not_asked_self s r w = past (at_shard s.accepted w.shard) w.rank w.x w.new w.the
 pub not_asked_same : (s t : Sender Operation) (r : ClientRequest) → t ≡ s → NotAsked s t r
 not_asked_same s t r e = subst (λ (u : Sender Operation). NotAsked s u r) (sym e) (not_asked_self s r)
 
-no_request : (group : ℕ) (op : Operation) (r : ClientRequest) → IsOwn group op → op.carried ≡ Plain (ARequest r) → ⊥
+no_request : (group : ℕ) (op : Operation) (r : ClientRequest) → IsInternalTo group op → op.carried ≡ Plain (ARequest r) → ⊥
 no_request group op r h e = subst IsNoRequest e h.1
 
 -- what a nudge submits is no request of a client
-pub own_not_asked : (group : ℕ) (s t : Sender Operation) (r : ClientRequest) → OnlySent s t (IsOwn group) → NotAsked s t r
-own_not_asked group s t r o w =
+pub internal_not_asked : (group : ℕ) (s t : Sender Operation) (r : ClientRequest) → OnlySent s t (IsInternalTo group) → NotAsked s t r
+internal_not_asked group s t r o w =
     let there = subst (λ (l : List (Ranked Operation)). slice_get l w.rank ≡ Some w.x) (sym (o.kept w.shard)) w.there in
-    no_request group w.x.op r (rest_has (λ (x : Ranked Operation). IsOwn group x.op) (at_shard s.accepted w.shard) (o.since w.shard) w.rank w.x w.new there (o.each w.shard)) w.so
+    no_request group w.x.op r (rest_has (λ (x : Ranked Operation). IsInternalTo group x.op) (at_shard s.accepted w.shard) (o.since w.shard) w.rank w.x w.new there (o.each w.shard)) w.so
 
 -- a node's refusal says the same, whatever the queues took
 says_anyway : (classes : Classes) (r : ClientRequest) (A B : Type 0) (e : ExecError) → Says classes r ⊥ ⊥ e → Says classes r A B e
@@ -167,10 +167,10 @@ ends classes old new r taken e known grew f g m = record {
 }
 
 -- a reply whose note a session has heard is true by what the session knows
-pub is_answered : (classes : Classes) (told seen lists : List (List ClientRequest)) (row : ℕ) (r : ClientRequest) (place at : ℕ) (answer given : Answer) (reply : PlacedReply)
-    → KnowsMore told seen → told ≡ lists → Stands classes (list_at lists row) at r given → place ≡ at → answer ≡ given → reply ≡ record { place = place; answer = answer }
+pub is_answered : (classes : Classes) (heard seen lists : List (List ClientRequest)) (row : ℕ) (r : ClientRequest) (place at : ℕ) (answer given : Answer) (reply : PlacedReply)
+    → KnowsMore heard seen → heard ≡ lists → Stands classes (list_at lists row) at r given → place ≡ at → answer ≡ given → reply ≡ record { place = place; answer = answer }
     → IsAnswered classes seen r reply
-is_answered classes told seen lists row r place at answer given reply known is stands p a made = record {
+is_answered classes heard seen lists row r place at answer given reply known is stands p a made = record {
   row = row;
   begun = list_at lists row;
   begins = subst (λ (l : List (List ClientRequest)). IsPrefix (list_at l row) (list_at seen row)) is (known row);

@@ -32,7 +32,7 @@ pub struct Cluster {
 enum Stage {
     /// Not yet: it has its parts and its classes.
     Idle(Parts, ClassTable),
-    /// It has, with so many classes.
+    /// It has, with this number of classes.
     Started(usize),
 }
 
@@ -154,7 +154,7 @@ impl Stage {
     }
 }
 
-/// Why no class is loaded into a cluster that has started with so many.
+/// Why no class is loaded into a cluster that has started with this number of classes.
 fn started_with(count: usize) -> LoadError
     ensures { Some result ≡ refusal_of_room (count == CLASS_LIMIT) (refusal_of_start None) }
 {

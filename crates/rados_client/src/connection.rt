@@ -87,7 +87,7 @@ impl<'a, N: ClusterName, R: Wait> Connection<'a, N, R> {
     pub fn hear(&mut self, note: Note)
         requires { note.board ≡ N.board }
         ensures known { KnowsMore self.old.seen self.new.seen }
-        ensures told { KnowsMore note.lists self.new.seen }
+        ensures heard { KnowsMore note.lists self.new.seen }
         ensures sends { self.new.sends ≡ self.old.sends }
     {
         self.running.board().meet(&mut self.seen, note);

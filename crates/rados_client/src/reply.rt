@@ -1,14 +1,14 @@
 ghost use Rattle.std.specs.Prelude.{◌≡◌};
 ghost use Rattle.std.specs.Int.{w64, cast_unsigned};
 
-use group_world::{Answer, Place};
+use group_world::{CallReply, Place};
 use std::marker::Model;
 
 /// The reply to a call. Contracts see its place and its answer.
 #[derive(Drop)]
 pub struct Reply {
     place: Place,
-    answer: Answer,
+    answer: CallReply,
 }
 
 impl Model for Reply {
@@ -23,7 +23,7 @@ impl Model for Reply {
 }
 
 impl Reply {
-    pub(crate) fn new(place: Place, answer: Answer) -> Reply
+    pub(crate) fn new(place: Place, answer: CallReply) -> Reply
         ensures { result ≡ record {
           place = place;
           answer = answer;

@@ -75,10 +75,11 @@ impl<'a, N: ClusterName, R: Wait> Session<'a, N, R> {
         self.connection.nudges()
     }
 
-    /// Calls a method beside an object, and waits for the reply in as many tries as the cluster gives a call. The
+    /// Calls a method on an object, and waits for the reply in as many tries as the cluster gives a call. The
     /// request has the next number.
     ///
-    /// A reply is true: among the lists that the session knows then is one, of some row of the board, with a legal
+    /// Each call of a session makes the same promise (`IsCall`), of the request that it would send next. A reply is true:
+    /// among the lists that the session knows then is one, of some row of the board, with a legal
     /// beginning in which the whole request stands once, at the reply's place, and is answered there by its method as
     /// the reply says. That list begins with all that the session had seen or been told of the row.
     ///
@@ -137,7 +138,7 @@ impl<'a, N: ClusterName, R: Wait> Session<'a, N, R> {
     pub fn hear(&mut self, note: Note)
         requires { note.board ≡ N.board }
         ensures known { KnowsMore self.old.contact.seen self.new.contact.seen }
-        ensures told { KnowsMore note.lists self.new.contact.seen }
+        ensures heard { KnowsMore note.lists self.new.contact.seen }
         ensures same { (self.new.client ≡ self.old.client) × (self.new.used ≡ self.old.used) × (self.new.last ≡ self.old.last) }
     {
         self.connection.hear(note);

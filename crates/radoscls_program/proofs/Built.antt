@@ -14,7 +14,7 @@ HasLine line o = IfOk o (λ c. app_of c ≡ line)
 abbrev pub IsLocal : {E : Type 0} → Result Command E → Type 0
 IsLocal o = IfOk o (λ c. (out-Command c).has_globals ≡ false)
 
--- behind the line of a command stands that of an argument for it alone
+-- after the line of a command stands that of an argument for it alone
 pub arg_line : {E : Type 0} (before after : Result Command E) (a : Arg) (line : App) (rule : Rule)
     → IfOk after (λ new. (old : Command) × (before ≡ Ok old) × AddsArg old a new) → a.global ≡ false → rule_of a ≡ rule
     → HasLine line before → HasLine (with_rule line rule) after
@@ -30,7 +30,7 @@ arg_local {E} before (Ok new) a added local had =
     added.2.globals ∙ ap₂ (λ x y. x || y) local_before local
 arg_local before (Err e) a added local had = tt
 
--- behind it stands that of a subcommand
+-- after it stands that of a subcommand
 pub subcommand_line : {E : Type 0} (before added after : Result Command E) (line more : App)
     → IfOk after (λ new. (old : Command) × (sub : Command) × (before ≡ Ok old) × (added ≡ Ok sub) × AddsSubcommand old sub new)
     → IsLocal added → HasLine more added → HasLine line before → HasLine (with_subcommand line more.top) after

@@ -14,13 +14,13 @@ use Rattle.sim.specs.declared.file.Ending.TheVariants as ending
 use Rattle.radoscls_program.specs.Program.{AreFor, AreForNone, Ends, Found, IsDone, IsRefused, IsUnstarted, Responds, Starts, TaskEnds}
 use Rattle.radoscls_program.specs.Status.{code_of}
 use Rattle.radoscls_program.specs.Streams.{IsPrinted, Stream, failure_line}
-use Rattle.radoscls_program.specs.declared.status.Status.{Status}
-use Rattle.radoscls_program.specs.declared.status.Status.TheVariants.{Done, Refused, Usage}
+use Rattle.radoscls_program.specs.declared.status.ExitStatus.{ExitStatus}
+use Rattle.radoscls_program.specs.declared.status.ExitStatus.TheVariants.{Done, Refused, Usage}
 use Rattle.radoscls_program.specs.declared.task.Task.{Task}
 use Rattle.radoscls_program.specs.declared.task.Task.TheVariants.{Class, Sim, Cluster}
 
 -- where they name an action
-class_ended : (before after : Storage) (old new : Stream) (words : List Text) (a : Action) (e : Bool) (found : Result Answer Failure) (note : List ℕ) (status : Status)
+class_ended : (before after : Storage) (old new : Stream) (words : List Text) (a : Action) (e : Bool) (found : Result Answer Failure) (note : List ℕ) (status : ExitStatus)
     → AreFor words (Class a e) → Found before after a e found note → Responds old new found note status → Ends before after old new words status
 class_ended before after old new words a e (Ok answer) note Done named found took =
     inl (record { action = a; is_explained = e; named = named; answer = answer; settles = found; printed = took })
@@ -29,11 +29,11 @@ class_ended before after old new words a e (Ok answer) note Refused named found 
 class_ended before after old new words a e (Ok answer) note Usage named found none = absurd none
 class_ended before after old new words a e (Err failure) note Done named found none = absurd none
 class_ended before after old new words a e (Err failure) note Refused named found printed =
-    inl (record { action = a; is_explained = e; named = named; failure = failure; fails = found.0; note = note; told = found.1; printed = printed })
+    inl (record { action = a; is_explained = e; named = named; failure = failure; fails = found.0; note = note; noted = found.1; printed = printed })
 class_ended before after old new words a e (Err failure) note Usage named found none = absurd none
 
 -- where the words name the task
-pub ended : (before after : Storage) (old new : Stream) (words : List Text) (task : Task) (status : Status)
+pub ended : (before after : Storage) (old new : Stream) (words : List Text) (task : Task) (status : ExitStatus)
     → AreFor words task → TaskEnds before after old new task status → Ends before after old new words status
 ended before after old new words (Class a e) status named acts =
     class_ended before after old new words a e acts.found acts.note status named acts.true_of acts.responds
@@ -47,7 +47,7 @@ ended before after old new words (Cluster c m) Refused named ran =
 ended before after old new words (Cluster c m) Usage named ran = absurd ran.1
 
 -- where they name none, and why was said
-pub explained : (files : Storage) (old new : Stream) (words : List Text) (e : Error) (status : Status) → (kind_of e ≢ OutOfMemory → AreForNone words)
+pub explained : (files : Storage) (old new : Stream) (words : List Text) (e : Error) (status : ExitStatus) → (kind_of e ≢ OutOfMemory → AreForNone words)
     → status ≢ Done → (status ≡ Refused → IsPrinted old new (failure_line NoMemory))
     → (status ≡ Usage → (kind_of e ≢ OutOfMemory) × (new ≡ old)) → Ends files files old new words status
 explained files old new words e Done none done refused usage = absurd (done refl)
@@ -55,7 +55,7 @@ explained files old new words e Refused none done refused usage = inr (inr (inl 
 explained files old new words e Usage none done refused usage = record { unasked = none (usage refl).0; left = refl; silent = (usage refl).1 }
 
 -- what the status 1 says
-pub refused_by : (before after : Storage) (old new : Stream) (words : List Text) (status : Status) (n : ℕ)
+pub refused_by : (before after : Storage) (old new : Stream) (words : List Text) (status : ExitStatus) (n : ℕ)
     → n ≡ code_of status → Ends before after old new words status → n ≡ 1 → IsRefused before after old new words
 refused_by before after old new words Done n is ends one = let bad : 0 ≡ 1 = sym is ∙ one in absurd (omega arith)
 refused_by before after old new words Refused n is ends one = ends
@@ -74,7 +74,7 @@ done_well before after old new words (inr (inl played)) = let p = played.ended i
 done_well before after old new words (inr (inr ran)) = ran.ended.ends.well
 
 -- where a write fails, the status is 1
-pub failed_by : (before after : Storage) (old new : Stream) (words : List Text) (status : Status) (n : ℕ)
+pub failed_by : (before after : Storage) (old new : Stream) (words : List Text) (status : ExitStatus) (n : ℕ)
     → n ≡ code_of status → Ends before after old new words status → old.failed ≡ false → new.failed ≡ true → n ≡ 1
 failed_by before after old new words Done n is ends well failed =
     let bad : false ≡ true = sym well ∙ sym (done_well before after old new words ends) ∙ failed in absurd cc
@@ -83,7 +83,7 @@ failed_by before after old new words Usage n is ends well failed =
     let bad : false ≡ true = sym well ∙ sym (ap (λ (s : Stream). s.failed) ends.silent) ∙ failed in absurd cc
 
 -- where the words were read, or not
-pub started : {A B : Type 0} (words : Result A B) (texts : A → List Text) (before after : Storage) (old new : Stream) (status : Status)
+pub started : {A B : Type 0} (words : Result A B) (texts : A → List Text) (before after : Storage) (old new : Stream) (status : ExitStatus)
     → IfOk words (λ all. Ends before after old new (texts all) status) → IfErr words (λ _. IsUnstarted before after old new status)
     → Starts before after old new status
 started (Ok all) texts before after old new status ends none = inl (texts all, ends)

@@ -16,7 +16,7 @@ use Rattle.radoscls_program.proofs.Unasked.{other}
 -- the values by the rows
 same_taken : (f : ArgMatches) (c : Clustering) → TakesCluster (first_value (found_of f)) (λ id. all_of id (rows_of (found_of f))) c
     → TakesCluster (λ id. first_of id (rows_of (found_of f))) (λ id. all_of id (rows_of (found_of f))) c
-same_taken f c takes = record { file = sym (first_value-rows (found_of f) (codes "FILE")) ∙ takes.file; own = takes.own }
+same_taken f c takes = record { file = sym (first_value-rows (found_of f) (codes "FILE")) ∙ takes.file; tenants = takes.tenants }
 
 -- what `cluster` asks for
 pub asks_cluster : (m found : ArgMatches) → subcommand_name_of m ≡ Some (codes "cluster")
@@ -51,4 +51,4 @@ cluster_asks_nothing m found named rows none (Sim s) asks =
 cluster_asks_nothing m found named rows none (Cluster c measured) asks =
     let same = some_pair_parts (codes "cluster") (codes "cluster") asks.rows (rows_of (found_of found)) (sym asks.entered ∙ entered m (codes "cluster") (rows_of (found_of found)) named rows) in
     let takes = subst (λ (rs : List Row). TakesCluster (λ id. first_of id rs) (λ id. all_of id rs) c) same.1 asks.asked in
-    none (record { file = ap is_some (first_value-rows (found_of found) (codes "FILE") ∙ takes.file); own = takes.own.may })
+    none (record { file = ap is_some (first_value-rows (found_of found) (codes "FILE") ∙ takes.file); tenants = takes.tenants.may })

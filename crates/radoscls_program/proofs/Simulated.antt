@@ -19,7 +19,7 @@ same_taken : (f : ArgMatches) (s : Simulation) → TakesSim (first_value (found_
     → TakesSim (λ id. first_of id (rows_of (found_of f))) (λ id. all_of id (rows_of (found_of f))) s
 same_taken f s takes = record {
   file = sym (first_value-rows (found_of f) (codes "FILE")) ∙ takes.file;
-  own = takes.own;
+  tenants = takes.tenants;
   drawn = takes.drawn ∙ ap is_set (first_value-rows (found_of f) (codes "trace"));
 }
 
@@ -51,7 +51,7 @@ sim_asks_nothing m found named rows none (Class a is_explained) asks =
 sim_asks_nothing m found named rows none (Sim s) asks =
     let same = some_pair_parts (codes "sim") (codes "sim") asks.rows (rows_of (found_of found)) (sym asks.entered ∙ entered m (codes "sim") (rows_of (found_of found)) named rows) in
     let takes = subst (λ (rs : List Row). TakesSim (λ id. first_of id rs) (λ id. all_of id rs) s) same.1 asks.asked in
-    none (record { file = ap is_some (first_value-rows (found_of found) (codes "FILE") ∙ takes.file); own = takes.own.may })
+    none (record { file = ap is_some (first_value-rows (found_of found) (codes "FILE") ∙ takes.file); tenants = takes.tenants.may })
 sim_asks_nothing m found named rows none (Cluster c measured) asks =
     let same = some_pair_parts (codes "cluster") (codes "sim") asks.rows (rows_of (found_of found)) (sym asks.entered ∙ entered m (codes "sim") (rows_of (found_of found)) named rows) in
     other (codes "cluster") (codes "sim") refl same.0

@@ -12,11 +12,11 @@ use Rattle.class_tool.specs.declared.action.Packing.{Packing}
 use Rattle.cluster_tool.specs.declared.asked.Clustering.{Clustering}
 use Rattle.sim.specs.declared.asked.Simulation.{Simulation}
 use Rattle.radoscls_program.specs.Entries.{AreEntries}
-use Rattle.radoscls_program.specs.Own.{Owns, are_own}
+use Rattle.radoscls_program.specs.Tenants.{SpellsTenants, are_tenants}
 use Rattle.radoscls_program.specs.Raw.{AreRaw}
 use Rattle.radoscls_program.specs.declared.arguments.Plain.{Plain}
 
--- the number that a text writes in decimal digits, behind a plus or none
+-- the number that a text writes in decimal digits, with or without a plus
 abbrev pub number_in : List ℕ → ℕ
 number_in text = digits_value 10 (without_leading_plus text)
 
@@ -104,20 +104,20 @@ NamesFiles value = IsSome (value (codes "IN")) × IsSome (value (codes "OUT"))
 -- `values` gives all texts of an option.
 pub record TakesSim (value : List ℕ → Option (List ℕ)) (values : List ℕ → Option (List (List ℕ))) (s : Simulation) : Type 0 where
   pub file : value (codes "FILE") ≡ Some s.file.now
-  pub own : Owns (texts_of (values (codes "class"))) s.own.items
+  pub tenants : SpellsTenants (texts_of (values (codes "class"))) s.tenants.items
   pub drawn : s.is_drawn ≡ is_set (value (codes "trace"))
 
 -- a file of events is named, and each --class spells a tenant's class
 pub record NamesSim (value : List ℕ → Option (List ℕ)) (values : List ℕ → Option (List (List ℕ))) : Type 0 where
   pub file : IsSome (value (codes "FILE"))
-  pub own : are_own (texts_of (values (codes "class"))) ≡ true
+  pub tenants : are_tenants (texts_of (values (codes "class"))) ≡ true
 
 -- What `cluster` takes from the values: the file of calls and maps FILE, and a tenant's class of each --class.
 pub record TakesCluster (value : List ℕ → Option (List ℕ)) (values : List ℕ → Option (List (List ℕ))) (c : Clustering) : Type 0 where
   pub file : value (codes "FILE") ≡ Some c.file.now
-  pub own : Owns (texts_of (values (codes "class"))) c.own.items
+  pub tenants : SpellsTenants (texts_of (values (codes "class"))) c.tenants.items
 
 -- a file of calls and maps is named, and each --class spells a tenant's class
 pub record NamesCluster (value : List ℕ → Option (List ℕ)) (values : List ℕ → Option (List (List ℕ))) : Type 0 where
   pub file : IsSome (value (codes "FILE"))
-  pub own : are_own (texts_of (values (codes "class"))) ≡ true
+  pub tenants : are_tenants (texts_of (values (codes "class"))) ≡ true

@@ -8,8 +8,8 @@ use Rattle.cluster_tool.specs.declared.tool.Ending.{Ending}
 use Rattle.cluster_tool.specs.declared.tool.Ending.TheVariants as ending
 use Rattle.cluster_tool.specs.declared.asked.Clustering.{Clustering}
 use Rattle.radoscls_program.specs.Streams.{Stream, IsPrinted, failure_line}
-use Rattle.radoscls_program.specs.declared.status.Status.{Status}
-use Rattle.radoscls_program.specs.declared.status.Status.TheVariants.{Done, Refused, Usage}
+use Rattle.radoscls_program.specs.declared.status.ExitStatus.{ExitStatus}
+use Rattle.radoscls_program.specs.declared.status.ExitStatus.TheVariants.{Done, Refused, Usage}
 
 -- it was played to that ending
 abbrev pub Ran : Option Disk → Stream → Stream → Clustering → Ending → Type 0
@@ -25,7 +25,7 @@ IsBarred disk old new c = (failure : Failure) × ClusteringFails disk c failure 
 
 -- How playing a file ends: each call was made, and its line printed by the answer that its session gave; or a line is bad,
 -- the cluster or a map is refused, a write or a flush failed, memory was refused, or nothing was done.
-abbrev pub ClusterEnds : Option Disk → Stream → Stream → Clustering → Status → Type 0
+abbrev pub ClusterEnds : Option Disk → Stream → Stream → Clustering → ExitStatus → Type 0
 ClusterEnds disk old new c Done = Ran disk old new c ending.Done
 ClusterEnds disk old new c Refused =
     Ran disk old new c ending.Bad ⊎ Ran disk old new c ending.Refused ⊎ Ran disk old new c ending.Unprinted

@@ -51,7 +51,7 @@ call_line =
     with_rule (with_rule (with_rule (with_rule (new_app (codes "run")) (required_rule (codes "IN")))
     (required_rule (codes "METHOD"))) (option_rule (codes "input") (codes ""))) caller_rule
 
--- beside an object
+-- on an object
 abbrev pub run_line : App
 run_line =
     with_rule (with_rule (with_rule (with_rule (with_rule call_line (value_rule (codes "object"))) (each_rule (codes "xattr")))

@@ -3,9 +3,9 @@ use Rattle.std.specs.Prelude.{◌≡◌, ⊤, List, [], ◌∷◌, true}
 use Rattle.std.specs.List.{list_any}
 use Rattle.clap.specs.Words.{Text}
 use Rattle.class_tool.specs.declared.action.Entry.{Entry}
-use Rattle.radoscls_program.specs.Own.{image_in, is_equals, name_in}
+use Rattle.radoscls_program.specs.Tenants.{image_in, is_equals, name_in}
 
--- a text spells that entry: its name stands before the first `=`, its value behind it
+-- a text spells that entry: its name stands before the first `=`, its value after it
 pub record IsEntry (text : Text) (e : Entry) : Type 0 where
   pub ends : list_any is_equals text ≡ true
   pub name : e.name.now ≡ name_in text

@@ -8,8 +8,8 @@ use Rattle.sim.specs.declared.file.Ending.{Ending}
 use Rattle.sim.specs.declared.file.Ending.TheVariants as ending
 use Rattle.sim.specs.declared.asked.Simulation.{Simulation}
 use Rattle.radoscls_program.specs.Streams.{Stream, IsPrinted, failure_line}
-use Rattle.radoscls_program.specs.declared.status.Status.{Status}
-use Rattle.radoscls_program.specs.declared.status.Status.TheVariants.{Done, Refused, Usage}
+use Rattle.radoscls_program.specs.declared.status.ExitStatus.{ExitStatus}
+use Rattle.radoscls_program.specs.declared.status.ExitStatus.TheVariants.{Done, Refused, Usage}
 
 -- it was played to that ending
 abbrev pub Plays : Option Disk → Stream → Stream → Simulation → Ending → Type 0
@@ -25,7 +25,7 @@ IsBarred disk old new s = (failure : Failure) × SimulationFails disk s failure 
 
 -- How playing a file ends: each line was done and printed; or one is bad, a write or a flush failed, memory was refused at
 -- a line, or no line was done.
-abbrev pub SimEnds : Option Disk → Stream → Stream → Simulation → Status → Type 0
+abbrev pub SimEnds : Option Disk → Stream → Stream → Simulation → ExitStatus → Type 0
 SimEnds disk old new s Done = Plays disk old new s ending.Done
 SimEnds disk old new s Refused =
     Plays disk old new s ending.Bad ⊎ Plays disk old new s ending.Unprinted ⊎ IsCut disk old new s ⊎ IsBarred disk old new s

@@ -14,8 +14,8 @@ use Rattle.radoscls_program.specs.Clustered.{ClusterEnds}
 use Rattle.radoscls_program.specs.CommandLine.{AsksTask, command_line}
 use Rattle.radoscls_program.specs.Playing.{SimEnds}
 use Rattle.radoscls_program.specs.Streams.{Stream, Took, IsPrinted, failure_line}
-use Rattle.radoscls_program.specs.declared.status.Status.{Status}
-use Rattle.radoscls_program.specs.declared.status.Status.TheVariants.{Done, Refused, Usage}
+use Rattle.radoscls_program.specs.declared.status.ExitStatus.{ExitStatus}
+use Rattle.radoscls_program.specs.declared.status.ExitStatus.TheVariants.{Done, Refused, Usage}
 use Rattle.radoscls_program.specs.declared.task.Task.{Task}
 use Rattle.radoscls_program.specs.declared.task.Task.TheVariants.{Class, Sim, Cluster}
 
@@ -37,12 +37,12 @@ pub record IsAnswered (before after : Storage) (old new : Stream) (words : List 
   pub settles : Settles before after action answer
   pub printed : Took old new (answer_text answer)
 
--- what is printed behind a failure's line, where that is asked for
-abbrev pub IsTold : Bool → Option Disk → Action → Failure → List ℕ → Type 0
-IsTold false disk action failure note = note ≡ []
-IsTold true disk action failure note = IsNote disk action failure note
+-- what is printed after a failure's line, where that is asked for
+abbrev pub IsNoteAsked : Bool → Option Disk → Action → Failure → List ℕ → Type 0
+IsNoteAsked false disk action failure note = note ≡ []
+IsNoteAsked true disk action failure note = IsNote disk action failure note
 
--- There was a reason against the action that the words name, and its line was printed, with --explain what is told beside it.
+-- There was a reason against the action that the words name, and its line was printed, with --explain the note below it.
 pub record IsFailed (before after : Storage) (old new : Stream) (words : List Text) : Type 0 where
   pub action : Action
   pub is_explained : Bool
@@ -50,7 +50,7 @@ pub record IsFailed (before after : Storage) (old new : Stream) (words : List Te
   pub failure : Failure
   pub fails : Fails before after action failure
   pub note : List ℕ
-  pub told : IsTold is_explained before.disk action failure note
+  pub noted : IsNoteAsked is_explained before.disk action failure note
   pub printed : IsPrinted old new (failure_line failure ++ note)
 
 -- There was a true answer, and a write or a flush of standard output failed.
@@ -67,14 +67,14 @@ abbrev pub IsUnread : Storage → Storage → Stream → Stream → Type 0
 IsUnread before after old new = (after ≡ before) × IsPrinted old new (failure_line NoMemory)
 
 -- The words name a file of events, which was played so; no file changed.
-pub record IsPlayed (before after : Storage) (old new : Stream) (words : List Text) (status : Status) : Type 0 where
+pub record IsPlayed (before after : Storage) (old new : Stream) (words : List Text) (status : ExitStatus) : Type 0 where
   pub simulation : Simulation
   pub named : AreFor words (Sim simulation)
   pub left : after ≡ before
   pub ended : SimEnds before.disk old new simulation status
 
 -- The words name a file of calls and maps, which was played so; no file changed.
-pub record IsRun (before after : Storage) (old new : Stream) (words : List Text) (status : Status) : Type 0 where
+pub record IsRun (before after : Storage) (old new : Stream) (words : List Text) (status : ExitStatus) : Type 0 where
   pub asked : Clustering
   pub is_measured : Bool
   pub named : AreFor words (Cluster asked is_measured)
@@ -99,24 +99,24 @@ pub record IsUsage (before after : Storage) (old new : Stream) (words : List Tex
   pub silent : new ≡ old
 
 -- how an ending came about
-abbrev pub Ends : Storage → Storage → Stream → Stream → List Text → Status → Type 0
+abbrev pub Ends : Storage → Storage → Stream → Stream → List Text → ExitStatus → Type 0
 Ends before after old new words Done = IsDone before after old new words
 Ends before after old new words Refused = IsRefused before after old new words
 Ends before after old new words Usage = IsUsage before after old new words
 
 -- The words could not be read; nothing was done, and a line says why.
-pub record IsUnstarted (before after : Storage) (old new : Stream) (status : Status) : Type 0 where
+pub record IsUnstarted (before after : Storage) (old new : Stream) (status : ExitStatus) : Type 0 where
   pub refused : status ≡ Refused
   pub left : after ≡ before
   pub failure : Failure
   pub printed : IsPrinted old new (failure_line failure)
 
 -- how a process ends: as words ask, or without words
-abbrev pub Starts : Storage → Storage → Stream → Stream → Status → Type 0
+abbrev pub Starts : Storage → Storage → Stream → Stream → ExitStatus → Type 0
 Starts before after old new status = ((words : List Text) × Ends before after old new words status) ⊎ IsUnstarted before after old new status
 
 -- an answer was printed, or a write or a flush failed; a failure's line was printed, or a write or a flush failed
-abbrev pub Responds : Stream → Stream → Result Answer Failure → List ℕ → Status → Type 0
+abbrev pub Responds : Stream → Stream → Result Answer Failure → List ℕ → ExitStatus → Type 0
 Responds old new (Ok answer) note Done = Took old new (answer_text answer)
 Responds old new (Ok answer) note Refused = new.failed ≡ true
 Responds old new (Ok answer) note Usage = ⊥
@@ -128,15 +128,15 @@ Responds old new (Err failure) note Usage = ⊥
 -- played, and no file changes
 abbrev pub Found : Storage → Storage → Action → Bool → Result Answer Failure → List ℕ → Type 0
 Found before after action is_explained (Ok answer) note = Settles before after action answer
-Found before after action is_explained (Err failure) note = Fails before after action failure × IsTold is_explained before.disk action failure note
+Found before after action is_explained (Err failure) note = Fails before after action failure × IsNoteAsked is_explained before.disk action failure note
 
-pub record Acts (before after : Storage) (old new : Stream) (action : Action) (is_explained : Bool) (status : Status) : Type 0 where
+pub record Acts (before after : Storage) (old new : Stream) (action : Action) (is_explained : Bool) (status : ExitStatus) : Type 0 where
   pub found : Result Answer Failure
   pub note : List ℕ
   pub true_of : Found before after action is_explained found note
   pub responds : Responds old new found note status
 
-abbrev pub TaskEnds : Storage → Storage → Stream → Stream → Task → Status → Type 0
+abbrev pub TaskEnds : Storage → Storage → Stream → Stream → Task → ExitStatus → Type 0
 TaskEnds before after old new (Class action is_explained) status = Acts before after old new action is_explained status
 TaskEnds before after old new (Sim simulation) status = (after ≡ before) × SimEnds before.disk old new simulation status
 TaskEnds before after old new (Cluster asked is_measured) status = (after ≡ before) × ClusterEnds before.disk old new asked status

@@ -3,6 +3,7 @@ use Rattle.std.specs.Prelude.{◌≡◌, ◌==◌, ◌<◌, ◌^◌, ⊤, ℕ, B
 use Rattle.std.specs.List.{after_first, before_first, list_any}
 use Rattle.std.specs.Str.{bytes_eq}
 use Rattle.std.specs.Str.Parse.{IsNumeral, digits_value, without_leading_plus}
+use Rattle.asm_lines.specs.Statements.{flags_of}
 use Rattle.clap.specs.Words.{Text}
 use Rattle.class_tool.specs.declared.action.RawMethod.{RawMethod}
 
@@ -20,10 +21,9 @@ field_in text = before_first is_colon text
 abbrev pub after_field : Text → Text
 after_field text = after_first is_colon text
 
--- r reads, w writes, rw both
+-- the flags of a word, as in a class's text
 abbrev pub flags_in : Text → Option ℕ
-flags_in text =
-    if bytes_eq text (codes "r") then Some 1 else (if bytes_eq text (codes "w") then Some 2 else (if bytes_eq text (codes "rw") then Some 3 else None))
+flags_in text = flags_of text
 
 -- a text is that number of 16 bits, in decimal digits
 pub record IsShort (text : Text) (n : ℕ) : Type 0 where

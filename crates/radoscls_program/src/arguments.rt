@@ -2,11 +2,11 @@ ghost use Rattle.std.specs.Prelude.{◌≡◌, ◌≢◌, ◌↔◌, ◌≤◌, 
 ghost use Rattle.clap.specs.declared.builder.command.Command.{Command as ACommand};
 ghost use Rattle.clap.specs.declared.builder.command.Command.TheViews.{out-Command};
 ghost use Rattle.clap.specs.Words.{AddsArg, AddsSubcommand, all_of, app_of, fault_of, first_value, found_of, kind_of, new_app, rows_of, rule_of, subcommand_name_of, subcommand_of, subcommand_rows_of, with_rule};
-ghost use Rattle.tenant_classes.specs.declared.own_class.TheConstants.{OWN_LIMIT};
+ghost use Rattle.tenant_classes.specs.declared.tenant_class.TheConstants.{TENANT_LIMIT};
 ghost use Rattle.radoscls_program.specs.CommandLine.{Asks, AsksNoTask, AsksNothing, AsksTask, asm_line, call_line, caller_rule, class_rule, cluster_line, command_line, dis_line, each_rule, explain_rule, flag_rule, image_line, is_explained_in, methods_rule, option_rule, pack_line, plain_line, required_rule, rules_rule, run_line, sim_line, stats_rule, trace_rule, value_rule, verify_line};
 ghost use Rattle.radoscls_program.specs.Arguments.{AsksBy, IsClientNumber, NamesCluster, NamesFiles, NamesSim, TakesCall, TakesCluster, TakesPacking, TakesPlain, TakesRules, TakesSim, is_set, number_in, rules_named, texts_of};
 ghost use Rattle.radoscls_program.specs.Entries.{AreEntries};
-ghost use Rattle.radoscls_program.specs.Own.{Owns, are_own};
+ghost use Rattle.radoscls_program.specs.Tenants.{SpellsTenants, are_tenants};
 ghost use Rattle.radoscls_program.specs.Raw.{AreRaw};
 ghost use Rattle.bpf_decode.specs.declared.rule_set.RuleSet.{RuleSet as ARuleSet};
 ghost use Rattle.class_tool.specs.declared.action.Call.{Call as ACall};
@@ -16,9 +16,9 @@ ghost use Rattle.class_tool.specs.declared.action.RawMethod.{RawMethod as ARawMe
 ghost use Rattle.radoscls_program.specs.Program.{AreForNone};
 
 use crate::entry::entries;
-use crate::own_class::own_classes;
 use crate::raw_method::raw_methods;
 use crate::task::Task;
+use crate::tenant_class::tenants_in;
 use bpf_decode::RuleSet;
 use clap::error::{Error, ErrorKind};
 use clap::{Arg, ArgAction, ArgMatches, Command, value_parser};
@@ -28,7 +28,7 @@ use pg_log::ClientId;
 use sim::Simulation;
 use std::alloc::{AllocError, Global};
 use std::convert::AsStr;
-use tenant_classes::OwnClass;
+use tenant_classes::TenantClass;
 
 /// What a file of calls and maps is, for the help of `cluster`.
 const CLUSTER_FILE: &str =
@@ -344,7 +344,7 @@ fn root_command<'a>(alloc: Global) -> Result<Command<'a>, AllocError>
     with_subcommand(of_groups, cluster_command(alloc))
 }
 
-/// The client of the number that a text writes in decimal digits, behind a plus or none: 1 to 4294967295.
+/// The client of the number that a text writes in decimal digits, with or without a plus: 1 to 4294967295.
 fn caller_of(text: &str) -> Option<ClientId>
     ensures value { IfSome result (λ caller. caller ≡ number_in text.now) }
     ensures within { IsSome result ↔ IsClientNumber text.now }
@@ -528,17 +528,17 @@ fn action_of<'a>(matches: &ArgMatches<'a>) -> Option<Action<'a>>
 }
 
 /// The tenants' classes that `sim` or `cluster` is given, where their names may be theirs.
-fn own_of<'a>(
+fn tenants_of<'a>(
     alloc: Global,
     matches: &ArgMatches<'a>,
-) -> Result<Option<Vec<OwnClass<'a>>>, AllocError>
-    ensures none { IfOk result (λ found. IfNone found (are_own (texts_of (all_of (codes "class") (rows_of (found_of matches.now)))) ≡ false)) }
-    ensures some { IfOk result (λ found. IfSome found (λ own. Owns (texts_of (all_of (codes "class") (rows_of (found_of matches.now)))) own.items)) }
-    ensures room { IfOk result (λ found. IfSome found (λ own. length own.items ≤ OWN_LIMIT)) }
+) -> Result<Option<Vec<TenantClass<'a>>>, AllocError>
+    ensures none { IfOk result (λ found. IfNone found (are_tenants (texts_of (all_of (codes "class") (rows_of (found_of matches.now)))) ≡ false)) }
+    ensures some { IfOk result (λ found. IfSome found (λ tenants. SpellsTenants (texts_of (all_of (codes "class") (rows_of (found_of matches.now)))) tenants.items)) }
+    ensures room { IfOk result (λ found. IfSome found (λ tenants. length tenants.items ≤ TENANT_LIMIT)) }
 {
     match matches.get_strs("class") {
-        Some(texts) => own_classes(alloc, texts),
-        None => own_classes(alloc, &[]),
+        Some(texts) => tenants_in(alloc, texts),
+        None => tenants_in(alloc, &[]),
     }
 }
 
@@ -570,10 +570,10 @@ fn sim_of<'a>(alloc: Global, matches: &ArgMatches<'a>) -> Result<Option<Simulati
     let Some(file) = matches.get_str("FILE") else {
         return Ok(None);
     };
-    match own_of(alloc, matches)? {
-        Some(own) => Ok(Some(Simulation {
+    match tenants_of(alloc, matches)? {
+        Some(tenants) => Ok(Some(Simulation {
             file,
-            own,
+            tenants,
             is_drawn: is_set(matches, "trace"),
         })),
         None => Ok(None),
@@ -591,8 +591,8 @@ fn cluster_of<'a>(
     let Some(file) = matches.get_str("FILE") else {
         return Ok(None);
     };
-    match own_of(alloc, matches)? {
-        Some(own) => Ok(Some(Clustering { file, own })),
+    match tenants_of(alloc, matches)? {
+        Some(tenants) => Ok(Some(Clustering { file, tenants })),
         None => Ok(None),
     }
 }

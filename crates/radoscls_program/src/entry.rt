@@ -3,12 +3,12 @@ ghost use Rattle.std.specs.Prelude.{◌≡◌, List, false, true, map, IfNone, I
 ghost use Rattle.std.specs.List.{list_any};
 ghost use Rattle.class_tool.specs.declared.action.Entry.{Entry as AnEntry};
 ghost use Rattle.radoscls_program.specs.Entries.{AreEntries, IsEntry};
-ghost use Rattle.radoscls_program.specs.Own.{is_equals};
+ghost use Rattle.radoscls_program.specs.Tenants.{is_equals};
 
 use class_tool::Entry;
 use std::alloc::{AllocError, Global};
 
-/// The entry that a text spells: its name stands before the first `=`, its value behind it.
+/// The entry that a text spells: its name stands before the first `=`, its value after it.
 fn entry_of<'a>(text: &'a str) -> Option<Entry<'a>>
     ensures none { IfNone result (list_any is_equals text.now ≡ false) }
     ensures some { IfSome result (IsEntry text.now) }

@@ -6,15 +6,15 @@
 
 mod arguments;
 mod entry;
-mod own_class;
 mod perform;
 mod process;
 mod raw_method;
 mod status;
 mod task;
+mod tenant_class;
 mod threads;
 
 pub use class_tool::Printer;
 pub use perform::program;
 pub use process::{end_of, start};
-pub use status::Status;
+pub use status::ExitStatus;

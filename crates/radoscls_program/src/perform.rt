@@ -6,10 +6,10 @@ ghost use Rattle.radoscls_program.specs.Program.{Acts, Ends, Found, IsDone, IsRe
 ghost use Rattle.class_tool.specs.Files.{storage};
 ghost use Rattle.radoscls_program.specs.Status.{code_of};
 ghost use Rattle.radoscls_program.specs.Streams.{stream, IsPrinted, failure_line};
-ghost use Rattle.radoscls_program.specs.declared.status.Status.{Status as AStatus};
+ghost use Rattle.radoscls_program.specs.declared.status.ExitStatus.{ExitStatus as AStatus};
 
 use crate::arguments::parse;
-use crate::status::Status;
+use crate::status::ExitStatus;
 use crate::task::Task;
 use crate::threads::play_cluster;
 use clap::error::{Error, ErrorKind};
@@ -24,32 +24,32 @@ use std::thread::Threads;
 use std::time::Clock;
 
 /// Prints a failure's line.
-pub fn refuse<O: Output>(failure: Failure, out: &mut O) -> Status
-    ensures status { result ≡ Status.Refused }
+pub fn refuse<O: Output>(failure: Failure, out: &mut O) -> ExitStatus
+    ensures status { result ≡ ExitStatus.Refused }
     ensures printed { IsPrinted (stream O.printed O.failed out.old) (stream O.printed O.failed out.new) (failure_line failure) }
 {
     let _ = out.print(format_args!("{failure}\n"));
-    Status::Refused
+    ExitStatus::Refused
 }
 
 /// Prints an answer, or a failure and the note below it.
-fn respond<O: Output>(found: Result<Answer, Failure>, note: &str, out: &mut O) -> Status
+fn respond<O: Output>(found: Result<Answer, Failure>, note: &str, out: &mut O) -> ExitStatus
     ensures { Responds (stream O.printed O.failed out.old) (stream O.printed O.failed out.new) found note.now result }
 {
     match found {
         Ok(answer) => match out.print(&answer) {
-            Ok(()) => Status::Done,
-            Err(_) => Status::Refused,
+            Ok(()) => ExitStatus::Done,
+            Err(_) => ExitStatus::Refused,
         },
         Err(failure) => {
             let _ = out.print(format_args!("{failure}\n{note}"));
-            Status::Refused
+            ExitStatus::Refused
         }
     }
 }
 
 /// What was found, and the note where that is asked for.
-fn find_told<F: Files>(
+fn find_with_note<F: Files>(
     alloc: Global,
     files: &mut F,
     action: &Action<'_>,
@@ -73,11 +73,11 @@ fn act<F: Files, O: Output>(
     action: &Action<'_>,
     is_explained: bool,
     out: &mut O,
-) -> Status
+) -> ExitStatus
     ensures { Acts (storage F.disk F.failed files.old) (storage F.disk F.failed files.new) (stream O.printed O.failed out.old) (stream O.printed O.failed out.new) action.now is_explained result }
 {
     let mut note = String::new(alloc);
-    let found = find_told(alloc, files, action, is_explained, &mut note);
+    let found = find_with_note(alloc, files, action, is_explained, &mut note);
     respond(found, &note, out)
 }
 
@@ -87,13 +87,13 @@ fn play<F: Reads, O: Output>(
     files: &F,
     simulation: &Simulation<'_>,
     out: &mut O,
-) -> Status
+) -> ExitStatus
     ensures { SimEnds (F.disk files.now) (stream O.printed O.failed out.old) (stream O.printed O.failed out.new) simulation.now result }
 {
     match simulate(alloc, files, simulation, out) {
-        Ok(Ending::Done) => Status::Done,
-        Ok(Ending::Bad) => Status::Refused,
-        Ok(Ending::Unprinted) => Status::Refused,
+        Ok(Ending::Done) => ExitStatus::Done,
+        Ok(Ending::Bad) => ExitStatus::Refused,
+        Ok(Ending::Unprinted) => ExitStatus::Refused,
         Ok(Ending::NoMemory) => refuse(Failure::NoMemory, out),
         Err(failure) => refuse(failure, out),
     }
@@ -108,18 +108,19 @@ fn measure<R: Threads + Wait + Clock + Sync, F: Reads, O: Output, E: io::Write>(
     is_measured: bool,
     out: &mut O,
     err: &mut E,
-) -> Status
+) -> ExitStatus
     ensures { ClusterEnds (F.disk files.now) (stream O.printed O.failed out.old) (stream O.printed O.failed out.new) asked.now result }
 {
     let figures = Figures::new();
     let status = play_cluster(alloc, rt, files, asked, &figures, out);
-    if is_measured && status == Status::Done {
+    if is_measured && status == ExitStatus::Done {
         let _ = write!(err, "{figures}");
     }
     status
 }
 
 /// Does what the words ask for, and prints it.
+#[rattlefmt::skip]
 fn do_task<R: Threads + Wait + Clock + Sync, F: Files, O: Output, E: io::Write>(
     alloc: Global,
     rt: &R,
@@ -127,35 +128,27 @@ fn do_task<R: Threads + Wait + Clock + Sync, F: Files, O: Output, E: io::Write>(
     task: &Task<'_>,
     out: &mut O,
     err: &mut E,
-) -> Status
+) -> ExitStatus
     ensures { TaskEnds (storage F.disk F.failed files.old) (storage F.disk F.failed files.new) (stream O.printed O.failed out.old) (stream O.printed O.failed out.new) task.now result }
 {
     match task {
         Task::Class(action, is_explained) => act(alloc, files, action, *is_explained, out),
         Task::Sim(simulation) => play(alloc, files, simulation, out),
-        Task::Cluster(asked, is_measured) => measure(
-            alloc,
-            rt,
-            files,
-            asked,
-            *is_measured,
-            out,
-            err,
-        ),
+        Task::Cluster(asked, is_measured) => measure(alloc, rt, files, asked, *is_measured, out, err),
     }
 }
 
 /// Prints why the words name no task: a refusal where memory ran out, else usage or help.
-fn explain<O: Output, E: io::Write>(error: &Error, out: &mut O, err: &mut E) -> Status
-    ensures done { result ≢ Status.Done }
-    ensures refused { result ≡ Status.Refused → IsPrinted (stream O.printed O.failed out.old) (stream O.printed O.failed out.new) (failure_line Failure.NoMemory) }
-    ensures usage { result ≡ Status.Usage → (kind_of error.now ≢ ErrorKind.OutOfMemory) × (stream O.printed O.failed out.new ≡ stream O.printed O.failed out.old) }
+fn explain<O: Output, E: io::Write>(error: &Error, out: &mut O, err: &mut E) -> ExitStatus
+    ensures done { result ≢ ExitStatus.Done }
+    ensures refused { result ≡ ExitStatus.Refused → IsPrinted (stream O.printed O.failed out.old) (stream O.printed O.failed out.new) (failure_line Failure.NoMemory) }
+    ensures usage { result ≡ ExitStatus.Usage → (kind_of error.now ≢ ErrorKind.OutOfMemory) × (stream O.printed O.failed out.new ≡ stream O.printed O.failed out.old) }
 {
     if error.kind() == ErrorKind::OutOfMemory {
         return refuse(Failure::NoMemory, out);
     }
     let _ = write!(err, "{error}");
-    Status::Usage
+    ExitStatus::Usage
 }
 
 /// Does what the words ask for, and says why where they name no task.
@@ -165,7 +158,7 @@ pub(crate) fn perform<
     F: Files,
     O: Output,
     E: io::Write,
->(alloc: Global, rt: &R, words: &[S], files: &mut F, out: &mut O, err: &mut E) -> Status
+>(alloc: Global, rt: &R, words: &[S], files: &mut F, out: &mut O, err: &mut E) -> ExitStatus
     ensures { Ends (storage F.disk F.failed files.old) (storage F.disk F.failed files.new) (stream O.printed O.failed out.old) (stream O.printed O.failed out.new) (map S.text words.now) result }
 {
     match parse(alloc, words) {

@@ -4,10 +4,10 @@ ghost use Rattle.radoscls_program.specs.Program.{Ends, IsUnstarted, Starts};
 ghost use Rattle.class_tool.specs.Files.{Storage, storage, unwritten};
 ghost use Rattle.radoscls_program.specs.Status.{code_of};
 ghost use Rattle.radoscls_program.specs.Streams.{stream};
-ghost use Rattle.radoscls_program.specs.declared.status.Status.{Status as AStatus};
+ghost use Rattle.radoscls_program.specs.declared.status.ExitStatus.{ExitStatus as AStatus};
 
 use crate::perform::{perform, refuse};
-use crate::status::Status;
+use crate::status::ExitStatus;
 use class_tool::{Failure, Output, SystemFiles};
 use std::alloc::Global;
 use std::io::Input;
@@ -31,7 +31,7 @@ pub fn end_of<R: Threads + Wait + Clock + Sync, F: class_tool::Files, O: Output,
     files: &mut F,
     out: &mut O,
     err: &mut E,
-) -> Status
+) -> ExitStatus
     ensures asked { IfOk words.now (λ all. Ends (storage F.disk F.failed files.old) (storage F.disk F.failed files.new) (stream O.printed O.failed out.old) (stream O.printed O.failed out.new) (map string_bytes all.items) result) }
     ensures unread { IfErr words.now (λ _. IsUnstarted (storage F.disk F.failed files.old) (storage F.disk F.failed files.new) (stream O.printed O.failed out.old) (stream O.printed O.failed out.new) result) }
 {

@@ -3,6 +3,7 @@ ghost use Rattle.std.specs.Prelude.{◌≡◌, ℕ, List, false, true, map, IfNo
 ghost use Rattle.class_tool.specs.declared.action.RawMethod.{RawMethod as ARawMethod};
 ghost use Rattle.radoscls_program.specs.Raw.{AreRaw, IsCapacity, IsRaw, IsShort, after_field, field_in, flags_in, has_field};
 
+use asm_lines::flags;
 use class_tool::RawMethod;
 use std::alloc::{AllocError, Global};
 
@@ -18,15 +19,10 @@ fn split<'a>(text: &'a str) -> Option<(&'a str, &'a str)>
 fn flags_of(text: &str) -> Option<u8>
     ensures { result ≡ flags_in text.now }
 {
-    match text {
-        "r" => Some(1),
-        "w" => Some(2),
-        "rw" => Some(3),
-        _ => None,
-    }
+    flags(text.as_bytes())
 }
 
-/// The number of 16 bits that a text writes in decimal digits, behind a plus or none.
+/// The number of 16 bits that a text writes in decimal digits, with or without a plus.
 fn short_of(text: &str) -> Option<u16>
     ensures some { IfSome result (IsShort text.now) }
     ensures none { IsNone result → (n : ℕ) → IsShort text.now n → ⊥ }

@@ -3,7 +3,7 @@ ghost use Rattle.radoscls_program.specs.Status.{code_of};
 
 /// How a run of the program ended.
 #[derive(Clone, Copy, PartialEq, Eq)]
-pub enum Status {
+pub enum ExitStatus {
     /// What was asked for was done and printed.
     Done,
     /// It was refused, or the answer could not be printed.
@@ -12,15 +12,15 @@ pub enum Status {
     Usage,
 }
 
-impl Status {
+impl ExitStatus {
     /// What the process ends with: 0, 1 or 2.
     pub fn code(self) -> u8
         ensures { result ≡ code_of self }
     {
         match self {
-            Status::Done => 0,
-            Status::Refused => 1,
-            Status::Usage => 2,
+            ExitStatus::Done => 0,
+            ExitStatus::Refused => 1,
+            ExitStatus::Usage => 2,
         }
     }
 }

@@ -3,7 +3,7 @@ ghost use Rattle.radoscls_program.specs.Clustered.{ClusterEnds};
 ghost use Rattle.radoscls_program.specs.Streams.{stream};
 
 use crate::perform::refuse;
-use crate::status::Status;
+use crate::status::ExitStatus;
 use class_tool::{Failure, Output, Reads};
 use cluster_tool::{Clustering, Ending, Figures, cluster};
 use std::alloc::Global;
@@ -19,14 +19,14 @@ pub(crate) fn play_cluster<R: Threads + Wait + Clock + Sync, F: Reads, O: Output
     asked: &Clustering<'_>,
     figures: &Figures,
     out: &mut O,
-) -> Status
+) -> ExitStatus
     ensures { ClusterEnds (F.disk files.now) (stream O.printed O.failed out.old) (stream O.printed O.failed out.new) asked.now result }
 {
     match cluster(alloc, rt, files, asked, figures, out) {
-        Ok(Ending::Done) => Status::Done,
-        Ok(Ending::Bad) => Status::Refused,
-        Ok(Ending::Refused) => Status::Refused,
-        Ok(Ending::Unprinted) => Status::Refused,
+        Ok(Ending::Done) => ExitStatus::Done,
+        Ok(Ending::Bad) => ExitStatus::Refused,
+        Ok(Ending::Refused) => ExitStatus::Refused,
+        Ok(Ending::Unprinted) => ExitStatus::Refused,
         Ok(Ending::NoMemory) => refuse(Failure::NoMemory, out),
         Err(failure) => refuse(failure, out),
     }

@@ -18,7 +18,7 @@ const LONG: usize = 5_000;
 /// How many bytes of a file's beginning are asked for: of the long file all but one.
 const MOST: usize = 4_999;
 
-/// Words behind the program's name.
+/// Words after the program's name.
 static CALLS: [&[&str]; 19] = [
     // each status
     &["radoscls", "verify", "keep.img"],

@@ -1,6 +1,6 @@
 use placement::NodeId;
 
-/// That a member's log has come to a length in an epoch.
+/// A member's log has this length in an epoch.
 #[derive(Clone, Copy, PartialEq, Eq, Drop)]
 pub struct Ack {
     /// The sender's epoch.

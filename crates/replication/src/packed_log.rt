@@ -61,8 +61,8 @@ impl PackedLog {
     }
 }
 
-/// Leaves out of a list the first requests, as many as the receiver has told that it has, or all of them where the list
-/// is no longer. It costs a copy of the rest.
+/// Leaves out of a list the first `told` requests, which the receiver says that it has, or all of them if the list is no
+/// longer. It costs a copy of the rest.
 pub fn pack_log(alloc: Global, list: &[Request], told: usize) -> Result<PackedLog, NoMemory>
     ensures { IfOk result (λ p. p ≡ packed list.now told) }
 {
@@ -90,8 +90,8 @@ fn unpacked(alloc: Global, own: &[Request], log: &PackedLog) -> Result<Vec<Reque
     }
 }
 
-/// The list that was packed, where the own list begins with what was left out. It costs a copy of the list. It refuses
-/// by `TooShort` exactly where the own list is shorter than what was left out, and else by `NoMemory`.
+/// The list that was packed, if the own list begins with what was left out. It costs a copy of the list. It refuses by
+/// `TooShort` exactly if the own list is shorter than what was left out, and else by `NoMemory`.
 pub fn unpack_log(
     alloc: Global,
     own: &[Request],

@@ -7,8 +7,8 @@ ghost use Rattle.replication.specs.Places.{append_at_answer, list_with};
 use crate::rep::Rep;
 use pg_log::{ClassTable, Classes, Group, LogError};
 
-/// Puts a request at its place. Where that is the log's length the request is added, and where it is a smaller one
-/// nothing changes; both give the length after. A greater place gives none, and changes nothing. Its epoch isn't looked
+/// Puts a request at its place. If that is the log's length the request is added, and if it is a smaller one nothing
+/// changes; both give the length after. A greater place gives none, and changes nothing. Its epoch isn't looked
 /// at.
 ///
 /// At the length it refuses as `Group::append` does, save that a logged pair is `StaleNumber`, on a full log `LogFull`.

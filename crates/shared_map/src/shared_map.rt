@@ -14,7 +14,7 @@ pub struct SharedMap<V> {
     tree: Tree<V>,
 }
 
-// Written out, so that a crate that drops a map calls this, and proves nothing of the tree's own drop once more.
+// Written out, so that a crate that drops a map calls this and needn't prove again how a tree is dropped.
 impl<V: Drop> Drop for SharedMap<V> {
     fn drop(self) {
         let SharedMap { tree } = self;
@@ -108,7 +108,7 @@ impl<V: Drop> SharedMap<V> {
         }
     }
 
-    /// How many nodes stand on the longest way down, 255 where it is more: what a call costs at most. No clause speaks of it; tests hold it low.
+    /// How many nodes stand on the longest way down, 255 if it is more: what a call costs at most. No clause speaks of it; tests hold it low.
     pub fn height(&self) -> u8 {
         self.tree.height()
     }

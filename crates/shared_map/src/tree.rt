@@ -57,7 +57,7 @@ impl<V> Model for Tree<V> {
 
     ghost size = { λ s. length s.entries };
 
-    ghost use Rattle.shared_map.specs.TreeFalls.{depth_le-length-listed};
+    ghost use Rattle.shared_map.specs.proved.TreeFalls.{depth_le-length-listed};
 
     ghost size_decreases = { λ t h. depth_le-length-listed t.root };
 }
@@ -70,7 +70,7 @@ impl<V: Drop> Tree<V> {
         Tree { root: Link::Leaf }
     }
 
-    /// How many branches stand on the longest way down: 255 where it is more.
+    /// How many branches stand on the longest way down: 255 if it is more.
     pub(crate) fn height(&self) -> u8
         ensures { result ≡ byte_of self.now.height }
     {
@@ -180,7 +180,7 @@ impl<V: Drop> Tree<V> {
                 let entry: &Entry<V> = &b.entry;
                 match new.key.as_slice().cmp(entry.key.as_slice()) {
                     Ordering::Less => with_left(alloc, b.left.set(alloc, new)?, b),
-                    Ordering::Equal => sharing_sides(alloc, &b.left, new, &b.right),
+                    Ordering::Equal => joined(alloc, b.left.copy()?, new, b.right.copy()?),
                     Ordering::Greater => with_right(alloc, b, b.right.set(alloc, new)?),
                 }
             }
@@ -249,7 +249,7 @@ fn joined<V: Drop>(
     })
 }
 
-/// How many entries a branch has over sides of so many.
+/// How many entries a branch has, by those of its sides.
 fn size_over(left: usize, right: usize) -> Result<usize, AllocError>
     ensures { IfOk result (λ n. n ≡ left + right + 1) }
 {
@@ -257,71 +257,6 @@ fn size_over(left: usize, right: usize) -> Result<usize, AllocError>
         Some(sum) if sum < usize::MAX => Ok(sum + 1),
         _ => Err(AllocError),
     }
-}
-
-/// The same, sharing the left side.
-fn sharing_left<V: Drop>(
-    alloc: Global,
-    left: &Tree<V>,
-    entry: Arc<Entry<V>>,
-    right: Tree<V>,
-) -> Result<Tree<V>, AllocError>
-    requires { IsTrue (sorted (left.now.entries ++ pair (arc_value entry) ∷ right.entries)) }
-    ensures { IfOk result (λ t. t.entries ≡ left.now.entries ++ pair (arc_value entry) ∷ right.entries) }
-{
-    joined(alloc, left.copy()?, entry, right)
-}
-
-/// The same, sharing the right side.
-fn sharing_right<V: Drop>(
-    alloc: Global,
-    left: Tree<V>,
-    entry: Arc<Entry<V>>,
-    right: &Tree<V>,
-) -> Result<Tree<V>, AllocError>
-    requires { IsTrue (sorted (left.entries ++ pair (arc_value entry) ∷ right.now.entries)) }
-    ensures { IfOk result (λ t. t.entries ≡ left.entries ++ pair (arc_value entry) ∷ right.now.entries) }
-{
-    joined(alloc, left, entry, right.copy()?)
-}
-
-/// The same, sharing both sides.
-fn sharing_sides<V: Drop>(
-    alloc: Global,
-    left: &Tree<V>,
-    entry: Arc<Entry<V>>,
-    right: &Tree<V>,
-) -> Result<Tree<V>, AllocError>
-    requires { IsTrue (sorted (left.now.entries ++ pair (arc_value entry) ∷ right.now.entries)) }
-    ensures { IfOk result (λ t. t.entries ≡ left.now.entries ++ pair (arc_value entry) ∷ right.now.entries) }
-{
-    sharing_left(alloc, left, entry, right.copy()?)
-}
-
-/// The same, sharing the entry.
-fn sharing_entry<V: Drop>(
-    alloc: Global,
-    left: Tree<V>,
-    entry: &Arc<Entry<V>>,
-    right: Tree<V>,
-) -> Result<Tree<V>, AllocError>
-    requires { IsTrue (sorted (left.entries ++ pair (arc_value entry.now) ∷ right.entries)) }
-    ensures { IfOk result (λ t. t.entries ≡ left.entries ++ pair (arc_value entry.now) ∷ right.entries) }
-{
-    joined(alloc, left, Arc::try_clone(entry)?, right)
-}
-
-/// The same, sharing all three.
-fn sharing<V: Drop>(
-    alloc: Global,
-    left: &Tree<V>,
-    entry: &Arc<Entry<V>>,
-    right: &Tree<V>,
-) -> Result<Tree<V>, AllocError>
-    requires { IsTrue (sorted (left.now.entries ++ pair (arc_value entry.now) ∷ right.now.entries)) }
-    ensures { IfOk result (λ t. t.entries ≡ left.now.entries ++ pair (arc_value entry.now) ∷ right.now.entries) }
-{
-    sharing_sides(alloc, left, Arc::try_clone(entry)?, right)
 }
 
 /// The tree of a branch with another left side.
@@ -337,7 +272,7 @@ fn with_right<V: Drop>(alloc: Global, b: &Branch<V>, right: Tree<V>) -> Result<T
     requires { IsTrue (sorted (b.now.left.entries ++ pair (arc_value b.now.entry) ∷ right.entries)) }
     ensures { IfOk result (λ t. t.entries ≡ b.now.left.entries ++ pair (arc_value b.now.entry) ∷ right.entries) }
 {
-    balanced_beside(alloc, &b.left, Arc::try_clone(&b.entry)?, right)
+    balanced(alloc, b.left.copy()?, Arc::try_clone(&b.entry)?, right)
 }
 
 /// The tree of a branch without its entry.
@@ -347,24 +282,11 @@ fn without_entry<V: Drop>(alloc: Global, b: &Branch<V>) -> Result<Tree<V>, Alloc
 {
     match b.right.split_first(alloc)? {
         None => b.left.copy(),
-        Some((first, right)) => balanced_beside(alloc, &b.left, first, right),
+        Some((first, right)) => balanced(alloc, b.left.copy()?, first, right),
     }
 }
 
-/// What `balanced` makes, sharing the left side.
-fn balanced_beside<V: Drop>(
-    alloc: Global,
-    left: &Tree<V>,
-    entry: Arc<Entry<V>>,
-    right: Tree<V>,
-) -> Result<Tree<V>, AllocError>
-    requires { IsTrue (sorted (left.now.entries ++ pair (arc_value entry) ∷ right.entries)) }
-    ensures { IfOk result (λ t. t.entries ≡ left.now.entries ++ pair (arc_value entry) ∷ right.entries) }
-{
-    balanced(alloc, left.copy()?, entry, right)
-}
-
-/// The tree of a branch, turned where one side is two higher than the other.
+/// The tree of a branch, turned if one side is two higher than the other.
 fn balanced<V: Drop>(
     alloc: Global,
     left: Tree<V>,
@@ -384,7 +306,7 @@ fn balanced<V: Drop>(
     }
 }
 
-/// What `balanced` makes where the left side is two higher.
+/// What `balanced` makes if the left side is two higher.
 fn lean_left<V: Drop>(
     alloc: Global,
     left: &Tree<V>,
@@ -418,8 +340,13 @@ fn once_left<V: Drop>(
     requires { IsTrue (sorted ((outer.now.left.entries ++ pair (arc_value outer.now.entry) ∷ outer.now.right.entries) ++ pair (arc_value entry) ∷ right.entries)) }
     ensures { IfOk result (λ t. t.entries ≡ (outer.now.left.entries ++ pair (arc_value outer.now.entry) ∷ outer.now.right.entries) ++ pair (arc_value entry) ∷ right.entries) }
 {
-    let high = sharing_left(alloc, &outer.right, entry, right)?;
-    sharing_left(alloc, &outer.left, Arc::try_clone(&outer.entry)?, high)
+    let high = joined(alloc, outer.right.copy()?, entry, right)?;
+    joined(
+        alloc,
+        outer.left.copy()?,
+        Arc::try_clone(&outer.entry)?,
+        high,
+    )
 }
 
 /// The right branch of the left one comes up.
@@ -433,12 +360,17 @@ fn twice_left<V: Drop>(
     requires { IsTrue (sorted ((outer.now.left.entries ++ pair (arc_value outer.now.entry) ∷ (inner.now.left.entries ++ pair (arc_value inner.now.entry) ∷ inner.now.right.entries)) ++ pair (arc_value entry) ∷ right.entries)) }
     ensures { IfOk result (λ t. t.entries ≡ (outer.now.left.entries ++ pair (arc_value outer.now.entry) ∷ (inner.now.left.entries ++ pair (arc_value inner.now.entry) ∷ inner.now.right.entries)) ++ pair (arc_value entry) ∷ right.entries) }
 {
-    let high = sharing_left(alloc, &inner.right, entry, right)?;
-    let low = sharing(alloc, &outer.left, &outer.entry, &inner.left)?;
-    sharing_entry(alloc, low, &inner.entry, high)
+    let high = joined(alloc, inner.right.copy()?, entry, right)?;
+    let low = joined(
+        alloc,
+        outer.left.copy()?,
+        Arc::try_clone(&outer.entry)?,
+        inner.left.copy()?,
+    )?;
+    joined(alloc, low, Arc::try_clone(&inner.entry)?, high)
 }
 
-/// What `balanced` makes where the right side is two higher.
+/// What `balanced` makes if the right side is two higher.
 fn lean_right<V: Drop>(
     alloc: Global,
     left: Tree<V>,
@@ -472,8 +404,13 @@ fn once_right<V: Drop>(
     requires { IsTrue (sorted (left.entries ++ pair (arc_value entry) ∷ (outer.now.left.entries ++ pair (arc_value outer.now.entry) ∷ outer.now.right.entries))) }
     ensures { IfOk result (λ t. t.entries ≡ left.entries ++ pair (arc_value entry) ∷ (outer.now.left.entries ++ pair (arc_value outer.now.entry) ∷ outer.now.right.entries)) }
 {
-    let low = sharing_right(alloc, left, entry, &outer.left)?;
-    sharing_right(alloc, low, Arc::try_clone(&outer.entry)?, &outer.right)
+    let low = joined(alloc, left, entry, outer.left.copy()?)?;
+    joined(
+        alloc,
+        low,
+        Arc::try_clone(&outer.entry)?,
+        outer.right.copy()?,
+    )
 }
 
 /// The left branch of the right one comes up.
@@ -487,7 +424,12 @@ fn twice_right<V: Drop>(
     requires { IsTrue (sorted (left.entries ++ pair (arc_value entry) ∷ ((inner.now.left.entries ++ pair (arc_value inner.now.entry) ∷ inner.now.right.entries) ++ pair (arc_value outer.now.entry) ∷ outer.now.right.entries))) }
     ensures { IfOk result (λ t. t.entries ≡ left.entries ++ pair (arc_value entry) ∷ ((inner.now.left.entries ++ pair (arc_value inner.now.entry) ∷ inner.now.right.entries) ++ pair (arc_value outer.now.entry) ∷ outer.now.right.entries)) }
 {
-    let low = sharing_right(alloc, left, entry, &inner.left)?;
-    let high = sharing(alloc, &inner.right, &outer.entry, &outer.right)?;
-    sharing_entry(alloc, low, &inner.entry, high)
+    let low = joined(alloc, left, entry, inner.left.copy()?)?;
+    let high = joined(
+        alloc,
+        inner.right.copy()?,
+        Arc::try_clone(&outer.entry)?,
+        outer.right.copy()?,
+    )?;
+    joined(alloc, low, Arc::try_clone(&inner.entry)?, high)
 }

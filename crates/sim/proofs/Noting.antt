@@ -87,7 +87,7 @@ Coursing classes names ws i number first w before steps = (p : Played) → Holds
 pub course_starts : (classes : Classes) (names : List (List ℕ)) (ws : List (Bor (List ℕ))) (w : Parts) (steps : List Noted) → Coursing classes names ws 0 0 w w steps steps
 course_starts classes names ws w steps = λ p held. record { played = p; held = held; same = refl }
 
--- the line at a place, and those behind it
+-- the line at a place, and those after it
 next_of : (names : List (List ℕ)) (ws : List (Bor (List ℕ))) (i number : ℕ) (d : Bor (List ℕ)) (p : Played) (steps : List Noted) → i < length ws
     → ahead steps (follow names (get_or ws i d).now (suc number) (λ q. course_from names (suc number) q (texts (drop (suc i) ws))) (step p (line_of names (get_or ws i d).now)))
     ≡ ahead steps (course_from names number p (texts (drop i ws)))
@@ -102,15 +102,15 @@ course_more classes names ws i number d w v steps grown bad whole h at takes goo
     let h' = step at.played (line_of names line) in
     let is = takes at.played at.held in
     let fine : is_bad h'.taken ≡ false = sym is.is ∙ good in
-    let own = noted names line h'.taken in
+    let added = noted names line h'.taken in
     let rest = course_from names (suc number) h'.played (texts (drop (suc i) ws)) in
-    let more : grown ≡ steps ++ own = is.steps ∙ ap (λ (b : Bool). if b then steps else steps ++ own) fine in
+    let more : grown ≡ steps ++ added = is.steps ∙ ap (λ (b : Bool). if b then steps else steps ++ added) fine in
     record {
       played = h'.played;
       held = is.held;
       same = ap (λ (s : List Noted). ahead s rest) more
-          ∙ ap (λ (s : List Noted). record { steps = s; played = rest.played; bad = rest.bad }) (append_assoc steps own rest.steps)
-          ∙ sym (ap (λ (b : Bool). ahead steps (if b then record { steps = []; played = h'.played; bad = Some (suc number) } else ahead own rest)) fine)
+          ∙ ap (λ (s : List Noted). record { steps = s; played = rest.played; bad = rest.bad }) (append_assoc steps added rest.steps)
+          ∙ sym (ap (λ (b : Bool). ahead steps (if b then record { steps = []; played = h'.played; bad = Some (suc number) } else ahead added rest)) fine)
           ∙ next_of names ws i number d at.played steps h
           ∙ at.same;
     }
@@ -132,14 +132,14 @@ course_bad classes names ws i number d w v before steps grown bad run h at takes
     let h' = step at.played (line_of names line) in
     let is = takes at.played at.held in
     let wrong : is_bad h'.taken ≡ true = sym is.is ∙ was in
-    let own = noted names line h'.taken in
+    let added = noted names line h'.taken in
     let rest = course_from names (suc number) h'.played (texts (drop (suc i) ws)) in
-    let same : grown ≡ steps = is.steps ∙ ap (λ (b : Bool). if b then steps else steps ++ own) wrong in
+    let same : grown ≡ steps = is.steps ∙ ap (λ (b : Bool). if b then steps else steps ++ added) wrong in
     record {
       played = h'.played;
       held = is.held;
       same = ap (λ (s : List Noted). record { steps = s; played = h'.played; bad = Some (suc number) }) (same ∙ sym (append-nil steps))
-          ∙ sym (ap (λ (b : Bool). ahead steps (if b then record { steps = []; played = h'.played; bad = Some (suc number) } else ahead own rest)) wrong)
+          ∙ sym (ap (λ (b : Bool). ahead steps (if b then record { steps = []; played = h'.played; bad = Some (suc number) } else ahead added rest)) wrong)
           ∙ next_of names ws i number d at.played steps h
           ∙ at.same;
     }

@@ -84,7 +84,7 @@ appends_more (Some s) None c x y p q = absurd p
 appends_more (Some s) (Some t) None x y p q = absurd q
 appends_more (Some s) (Some t) (Some u) x y p q = q ∙ ap (λ z. z ++ y) p ∙ append_assoc s x y
 
--- where a run stands: so many lines were done, and what they come to was printed
+-- where a run stands: some lines were done, and what they print was printed
 pub record Going (classes : Classes) (names above : List (List ℕ)) (number : ℕ) (w : Parts) (old new : Option (List ℕ)) (failed fails : Bool) : Type 0 where
   pub played : Played
   pub held : Holds classes w played

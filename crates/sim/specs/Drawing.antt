@@ -136,7 +136,7 @@ abbrev pub follow : List (List ℕ) → List ℕ → ℕ → (Played → Course)
 follow names line number rest h = if is_bad h.taken then record { steps = []; played = h.played; bad = Some number }
     else ahead (noted names line h.taken) (rest h.played)
 
--- from a played world, below so many lines
+-- from a played world, after this number of lines
 abbrev pub course_from : List (List ℕ) → ℕ → Played → List (List ℕ) → Course
 course_from names number p [] = record { steps = []; played = p; bad = None }
 course_from names number p (line ∷ lines) = follow names line (suc number) (λ q. course_from names (suc number) q lines) (step p (line_of names line))

@@ -35,7 +35,7 @@ abbrev pub go_on : ℕ → (Played → Printed) → Happened → Printed
 go_on number rest h = let text = line_text number h.played.world.sent h.taken in
     if is_bad h.taken then record { text = text; bad = true; played = h.played } else before_rest text (rest h.played)
 
--- from a played world, below so many lines
+-- from a played world, after this number of lines
 abbrev pub run_from : List (List ℕ) → ℕ → Played → List (List ℕ) → Printed
 run_from names number p [] = record { text = []; bad = false; played = p }
 run_from names number p (line ∷ lines) = go_on (suc number) (λ q. run_from names (suc number) q lines) (step p (line_of names line))

@@ -28,17 +28,17 @@ Plays false classes names text old new failed fails ending = EndsBy classes name
 -- was played.
 pub record Simulates (disk : Option Disk) (s : Simulation) (old new : Option (List ℕ)) (failed fails : Bool) (ending : Ending) : Type 0 where
   pub classes : Classes
-  pub loaded : AreClasses disk s.own.items classes
+  pub loaded : AreClasses disk s.tenants.items classes
   pub text : List ℕ
   pub held : Holds disk s.file.now text
-  pub played : Plays s.is_drawn classes (names_of s.own.items) text old new failed fails ending
+  pub played : Plays s.is_drawn classes (names_of s.tenants.items) text old new failed fails ending
 
 -- the classes were had, and the file of events can't be read or is no text; or memory was refused
 pub record FileFails (disk : Option Disk) (s : Simulation) (failure : Failure) : Type 0 where
   pub classes : Classes
-  pub loaded : AreClasses disk s.own.items classes
+  pub loaded : AreClasses disk s.tenants.items classes
   pub why : TextFails disk s.file.now failure
 
 -- Why no line was done, in the order in which it is tried: by the classes, by the file of events.
 abbrev pub SimulationFails : Option Disk → Simulation → Failure → Type 0
-SimulationFails disk s failure = ClassesFail disk s.own.items failure ⊎ FileFails disk s failure
+SimulationFails disk s failure = ClassesFail disk s.tenants.items failure ⊎ FileFails disk s failure

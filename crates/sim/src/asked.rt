@@ -1,7 +1,7 @@
 ghost use Rattle.std.specs.Prelude.{◌≤◌, length};
-ghost use Rattle.tenant_classes.specs.declared.own_class.TheConstants.{OWN_LIMIT};
+ghost use Rattle.tenant_classes.specs.declared.tenant_class.TheConstants.{TENANT_LIMIT};
 
-use tenant_classes::OwnClass;
+use tenant_classes::TenantClass;
 
 /// What is asked for: a file of events, played with the built-in classes and the tenants'.
 #[derive(Drop)]
@@ -9,8 +9,8 @@ pub struct Simulation<'a> {
     /// The file of events.
     pub file: &'a str,
     /// The tenants' classes, by their ids from 2.
-    pub own: Vec<OwnClass<'a>>,
+    pub tenants: Vec<TenantClass<'a>>,
     /// Whether the run is drawn, in place of what its lines print.
     pub is_drawn: bool,
-    ghost room: { length own.items ≤ OWN_LIMIT },
+    ghost room: { length tenants.items ≤ TENANT_LIMIT },
 }

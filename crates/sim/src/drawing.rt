@@ -110,7 +110,7 @@ fn drawn(
     })
 }
 
-/// Puts the line behind a drawing that says which line is bad.
+/// Appends the line to a drawing that says which line is bad.
 fn push_bad(alloc: Global, text: &mut String, number: usize) -> Result<(), AllocError>
     ensures { OnOk result (string_bytes text.new ≡ string_bytes text.old ++ bad_line number) }
 {
@@ -151,18 +151,6 @@ fn trace_lines<C: Classes>(
     trace_from(alloc, table, names, lines, &mut world)
 }
 
-/// The same, where the classes are the table's.
-fn trace_named(
-    alloc: Global,
-    table: &ClassTable,
-    names: &[&str],
-    lines: &[&str],
-) -> Result<Traced, AllocError>
-    ensures { IfOk result (λ t. DrawsRun table.now (course table.now (map (λ n. n.now) names.now) (map (λ l. l.now) lines.now)) (string_bytes t.text) t.bad) }
-{
-    trace_lines::<Brand>(alloc, table, names, lines)
-}
-
 /// Does the lines of a text as `run` does, and draws what happened, once all are done or one is bad. It fails for want of
 /// memory alone.
 pub(crate) fn trace(
@@ -174,5 +162,6 @@ pub(crate) fn trace(
     ensures { IfOk result (λ t. DrawsRun table.now (course table.now (map (λ n. n.now) names.now) (lines_of text.now)) (string_bytes t.text) t.bad) }
 {
     let lines = lines(alloc, text)?;
-    trace_named(alloc, table, names, &lines)
+    // The call picks the classes: they are the table's.
+    trace_lines::<Brand>(alloc, table, names, &lines)
 }

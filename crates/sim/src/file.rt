@@ -119,19 +119,6 @@ fn run_lines<C: Classes, O: Output>(
     }
 }
 
-/// The same, where the classes are the table's.
-fn run_named<O: Output>(
-    alloc: Global,
-    table: &ClassTable,
-    names: &[&str],
-    lines: &[&str],
-    out: &mut O,
-) -> Ending
-    ensures { EndsBy table.now (map (λ n. n.now) names.now) (map (λ l. l.now) lines.now) (O.printed out.old) (O.printed out.new) (O.failed out.old) (O.failed out.new) result }
-{
-    run_lines::<Brand, O>(alloc, table, names, lines, out)
-}
-
 /// Does the lines of a text, and prints of each what it comes to before the next is done. Requests go to the table's
 /// classes by these names, the one of id 0 first; another word is a class that isn't loaded.
 ///
@@ -148,7 +135,8 @@ pub(crate) fn run<O: Output>(
 {
     reached_worlds_agree();
     match lines(alloc, text) {
-        Ok(lines) => run_named(alloc, table, names, &lines, out),
+        // The call picks the classes: they are the table's.
+        Ok(lines) => run_lines::<Brand, O>(alloc, table, names, &lines, out),
         Err(_) => Ending::NoMemory,
     }
 }

@@ -28,6 +28,7 @@ pub(crate) fn column(party: Party) -> Column
 }
 
 /// What a line is to make happen, if anything; of a delivery, that the message arrives.
+#[rattlefmt::skip]
 pub(crate) fn meant(line: &Line) -> Option<What>
     ensures { result ≡ meant_by line.now }
 {
@@ -35,10 +36,7 @@ pub(crate) fn meant(line: &Line) -> Option<What>
         Line::Empty => None,
         Line::Bad => None,
         Line::Map(_) => Some(What::At(Column::Monitor)),
-        Line::Ask(node, request) => Some(What::Asked(
-            Column::Client(request.client().get()),
-            column_of_node(*node),
-        )),
+        Line::Ask(node, request) => Some(What::Asked(Column::Client(request.client().get()), column_of_node(*node))),
         Line::Deliver(number) => Some(What::Arrived(*number as usize)),
         Line::See(node, _) => Some(What::At(column_of_node(*node))),
         Line::Show(node) => Some(What::At(column_of_node(*node))),

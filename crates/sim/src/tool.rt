@@ -24,8 +24,8 @@ pub fn simulate<F: Reads, O: Output>(
     ensures fails { IfErr result (SimulationFails (F.disk files.now) simulation.now) }
     ensures silent { OnErr result (out.new ≡ out.old) }
 {
-    let table = classes(alloc, files, &simulation.own)?;
-    let names = class_names(alloc, &simulation.own)?;
+    let table = classes(alloc, files, &simulation.tenants)?;
+    let names = class_names(alloc, &simulation.tenants)?;
     let text = read_text(alloc, files, simulation.file)?;
     Ok(play(alloc, &table, &names, &text, simulation.is_drawn, out))
 }

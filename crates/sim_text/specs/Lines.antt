@@ -25,18 +25,18 @@ abbrev pub ids_in : List ℕ → List ℕ → Option (ℕ × ℕ)
 ids_in client number = option_and_then (λ c. option_map (λ n. (c, n)) (id_in number)) (id_in client)
 
 -- and its words in their order: client and number, object and class, method and input; too few or too many are none
-abbrev pub request_of : ℕ → ℕ → List ℕ → ℕ → List (List ℕ) → Option ClientRequest
-request_of client number object class (method ∷ input ∷ []) =
+abbrev pub request_with_method : ℕ → ℕ → List ℕ → ℕ → List (List ℕ) → Option ClientRequest
+request_with_method client number object class (method ∷ input ∷ []) =
     option_map (λ bytes. record { client = client; number = number; object = object; class = class; method = method; input = bytes }) (bytes_in input)
-request_of client number object class _ = None
+request_with_method client number object class _ = None
 
-abbrev pub object_of : List (List ℕ) → ℕ → ℕ → List (List ℕ) → Option ClientRequest
-object_of names client number (object ∷ class ∷ args) = option_and_then (λ name. request_of client number name (class_of 0 names class) args) (object_in object)
-object_of names client number _ = None
+abbrev pub request_with_object : List (List ℕ) → ℕ → ℕ → List (List ℕ) → Option ClientRequest
+request_with_object names client number (object ∷ class ∷ args) = option_and_then (λ name. request_with_method client number name (class_of 0 names class) args) (object_in object)
+request_with_object names client number _ = None
 
-abbrev pub client_of : List (List ℕ) → List (List ℕ) → Option ClientRequest
-client_of names (client ∷ number ∷ args) = option_and_then (λ ids. object_of names ids.0 ids.1 args) (ids_in client number)
-client_of names _ = None
+abbrev pub request_with_client : List (List ℕ) → List (List ℕ) → Option ClientRequest
+request_with_client names (client ∷ number ∷ args) = option_and_then (λ ids. request_with_object names ids.0 ids.1 args) (ids_in client number)
+request_with_client names _ = None
 
 abbrev pub ask_at : Option ℕ → Option ClientRequest → Line
 ask_at None r = Bad
@@ -45,7 +45,7 @@ ask_at (Some n) (Some r) = Ask n r
 
 abbrev pub asks : List (List ℕ) → List (List ℕ) → Line
 asks names [] = Bad
-asks names (node ∷ args) = ask_at (number_in node) (client_of names args)
+asks names (node ∷ args) = ask_at (number_in node) (request_with_client names args)
 
 -- the words with one number
 abbrev pub of_one : List ℕ → ℕ → Line

@@ -9,8 +9,8 @@ use Rattle.group_world.specs.Node.{NodeState}
 use Rattle.group_world.specs.Refusal.{handle_error_text, monitor_error_text}
 use Rattle.group_world.specs.declared.party.Party.{Party}
 use Rattle.group_world.specs.declared.party.Party.TheVariants.{Node as ANode, Monitor as TheMonitor, Client as AClient}
-use Rattle.group_world.specs.declared.message.Kind.{Kind}
-use Rattle.group_world.specs.declared.message.Kind.TheVariants.{Query, Log as LogOf, Install, Installed as InstalledIn, AskActivate, Activated, Rep, Ack, Reply as ReplyTo}
+use Rattle.group_world.specs.declared.message.MessageKind.{MessageKind}
+use Rattle.group_world.specs.declared.message.MessageKind.TheVariants.{Query, Log as LogOf, Install, Installed as InstalledIn, AskActivate, Activated, Rep, Ack, Reply as ReplyTo}
 use Rattle.group_world.specs.declared.message.Packet.{Packet}
 use Rattle.group_world.specs.declared.status.Status.{Status}
 use Rattle.group_world.specs.declared.status.Status.TheVariants.{Out, Waiting, Installed, Asking, Installing, Active}
@@ -28,11 +28,11 @@ party_text TheMonitor = codes "mon"
 party_text (AClient c) = codes "c" ++ decimal c
 
 -- a word and one or two numbers
-abbrev pub with_one : List ℕ → ℕ → List ℕ
-with_one word n = word ++ (codes " " ++ decimal n)
+abbrev pub word_and_number : List ℕ → ℕ → List ℕ
+word_and_number word n = word ++ (codes " " ++ decimal n)
 
-abbrev pub with_two : List ℕ → ℕ → ℕ → List ℕ
-with_two word n k = word ++ (codes " " ++ (decimal n ++ (codes " " ++ decimal k)))
+abbrev pub word_and_two_numbers : List ℕ → ℕ → ℕ → List ℕ
+word_and_two_numbers word n k = word ++ (codes " " ++ (decimal n ++ (codes " " ++ decimal k)))
 
 -- hexadecimal digits, with a sign for none
 abbrev pub digits_or_dash : List ℕ → List ℕ
@@ -46,15 +46,15 @@ reply_text number place answer =
     ++ (codes " " ++ digits_or_dash (encode_lower answer.output)))))))
 
 -- what a message says: its kind, its interval, and how long a list is, a place or an acknowledged length
-abbrev pub kind_text : Kind → List ℕ
-kind_text (Query m) = with_one (codes "Query") m.interval
-kind_text (LogOf interval list) = with_two (codes "Log") interval (length list)
-kind_text (Install m list) = with_two (codes "Install") m.interval (length list)
-kind_text (InstalledIn interval) = with_one (codes "Installed") interval
-kind_text (AskActivate interval) = with_one (codes "AskActivate") interval
-kind_text (Activated interval) = with_one (codes "Activated") interval
-kind_text (Rep interval place r) = with_two (codes "Rep") interval place
-kind_text (Ack interval k) = with_two (codes "Ack") interval k
+abbrev pub kind_text : MessageKind → List ℕ
+kind_text (Query m) = word_and_number (codes "Query") m.interval
+kind_text (LogOf interval list) = word_and_two_numbers (codes "Log") interval (length list)
+kind_text (Install m list) = word_and_two_numbers (codes "Install") m.interval (length list)
+kind_text (InstalledIn interval) = word_and_number (codes "Installed") interval
+kind_text (AskActivate interval) = word_and_number (codes "AskActivate") interval
+kind_text (Activated interval) = word_and_number (codes "Activated") interval
+kind_text (Rep interval place r) = word_and_two_numbers (codes "Rep") interval place
+kind_text (Ack interval k) = word_and_two_numbers (codes "Ack") interval k
 kind_text (ReplyTo client number place answer) = reply_text number place answer
 
 -- a message with its number: `m7 1->2 Rep 1 0`
@@ -130,7 +130,7 @@ said_text (Made m) = map_text m
 said_text (Shown s) = node_text s
 said_text (Again numbers) = []
 
--- the last of the messages that were sent, so many
+-- the last `count` of the messages that were sent
 abbrev pub last_text : List Packet → ℕ → List ℕ
 last_text sent count = sent_text (suc (length sent - count)) (drop (length sent - count) sent)
 

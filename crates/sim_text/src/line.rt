@@ -108,7 +108,7 @@ fn other_of(word: &str, args: &[&str]) -> Line
     }
 }
 
-/// What a first word says with those behind it.
+/// What a first word says with those after it.
 fn with_args(alloc: Global, names: &[&str], word: &str, args: &[&str]) -> Result<Line, AllocError>
     ensures { IfOk result (λ l. l ≡ says (map (λ n. n.now) names.now) (word.now ∷ map (λ w. w.now) args.now)) }
 {

@@ -1,10 +1,10 @@
 //! What is printed of messages, as texts.
 ghost use Rattle.std.specs.Prelude.{◌≡◌, ◌+◌, IfOk, length, string_bytes};
 ghost use Rattle.sim_text.specs.Kept.{carried_text, event_text, kept_line, sender_in, sender_of};
-ghost use Rattle.sim_text.specs.Texts.{digits_or_dash, kind_text, party_text, reply_text, with_one, with_two};
+ghost use Rattle.sim_text.specs.Texts.{digits_or_dash, kind_text, party_text, reply_text, word_and_number, word_and_two_numbers};
 
 use carried::Carried;
-use group_world::{Answer, Event, Kind, Party};
+use group_world::{CallReply, Event, MessageKind, Party};
 use replication::PackedLog;
 use std::alloc::{AllocError, Global};
 
@@ -19,14 +19,14 @@ fn party_text(alloc: Global, party: Party) -> Result<String, AllocError>
     }
 }
 
-fn with_one(alloc: Global, word: &str, n: u32) -> Result<String, AllocError>
-    ensures { IfOk result (λ t. string_bytes t ≡ with_one word.now n) }
+fn word_and_number(alloc: Global, word: &str, n: u32) -> Result<String, AllocError>
+    ensures { IfOk result (λ t. string_bytes t ≡ word_and_number word.now n) }
 {
     format!(in alloc; "{word} {n}")
 }
 
-fn with_two(alloc: Global, word: &str, n: u32, k: usize) -> Result<String, AllocError>
-    ensures { IfOk result (λ t. string_bytes t ≡ with_two word.now n k) }
+fn word_and_two_numbers(alloc: Global, word: &str, n: u32, k: usize) -> Result<String, AllocError>
+    ensures { IfOk result (λ t. string_bytes t ≡ word_and_two_numbers word.now n k) }
 {
     format!(in alloc; "{word} {n} {k}")
 }
@@ -42,7 +42,7 @@ fn reply_text(
     alloc: Global,
     number: u32,
     place: usize,
-    answer: &Answer,
+    answer: &CallReply,
 ) -> Result<String, AllocError>
     ensures { IfOk result (λ t. string_bytes t ≡ reply_text number place answer.now) }
 {
@@ -52,21 +52,20 @@ fn reply_text(
 }
 
 /// What a message says.
-fn kind_text(alloc: Global, kind: &Kind) -> Result<String, AllocError>
+#[rattlefmt::skip]
+fn kind_text(alloc: Global, kind: &MessageKind) -> Result<String, AllocError>
     ensures { IfOk result (λ t. string_bytes t ≡ kind_text kind.now) }
 {
     match kind {
-        Kind::Query(map) => with_one(alloc, "Query", map.interval().get()),
-        Kind::Log(interval, list) => with_two(alloc, "Log", interval.get(), list.items().len()),
-        Kind::Install(map, list) => {
-            with_two(alloc, "Install", map.interval().get(), list.items().len())
-        }
-        Kind::Installed(interval) => with_one(alloc, "Installed", interval.get()),
-        Kind::AskActivate(interval) => with_one(alloc, "AskActivate", interval.get()),
-        Kind::Activated(interval) => with_one(alloc, "Activated", interval.get()),
-        Kind::Rep(interval, place, _) => with_two(alloc, "Rep", interval.get(), *place),
-        Kind::Ack(interval, length) => with_two(alloc, "Ack", interval.get(), *length),
-        Kind::Reply(_, number, place, answer) => reply_text(alloc, number.get(), *place, answer),
+        MessageKind::Query(map) => word_and_number(alloc, "Query", map.interval().get()),
+        MessageKind::Log(interval, list) => word_and_two_numbers(alloc, "Log", interval.get(), list.items().len()),
+        MessageKind::Install(map, list) => word_and_two_numbers(alloc, "Install", map.interval().get(), list.items().len()),
+        MessageKind::Installed(interval) => word_and_number(alloc, "Installed", interval.get()),
+        MessageKind::AskActivate(interval) => word_and_number(alloc, "AskActivate", interval.get()),
+        MessageKind::Activated(interval) => word_and_number(alloc, "Activated", interval.get()),
+        MessageKind::Rep(interval, place, _) => word_and_two_numbers(alloc, "Rep", interval.get(), *place),
+        MessageKind::Ack(interval, length) => word_and_two_numbers(alloc, "Ack", interval.get(), *length),
+        MessageKind::Reply(_, number, place, answer) => reply_text(alloc, number.get(), *place, answer),
     }
 }
 
@@ -94,10 +93,10 @@ pub fn carried_text(alloc: Global, carried: &Carried) -> Result<String, AllocErr
 {
     match carried {
         Carried::Plain(event) => event_text(alloc, event),
-        Carried::Query { map, .. } => with_one(alloc, "Query", map.interval().get()),
+        Carried::Query { map, .. } => word_and_number(alloc, "Query", map.interval().get()),
         Carried::Log(short) => {
             let length = length_of(&short.log)?;
-            with_two(alloc, "Log", short.interval.get(), length)
+            word_and_two_numbers(alloc, "Log", short.interval.get(), length)
         }
     }
 }

@@ -1,6 +1,6 @@
 //! Requests as a line's words spell them.
 ghost use Rattle.std.specs.Prelude.{◌≡◌, IfOk, map};
-ghost use Rattle.sim_text.specs.Lines.{ask_at, asks, ids_in, request_of, object_of, client_of};
+ghost use Rattle.sim_text.specs.Lines.{ask_at, asks, ids_in, request_with_method, request_with_object, request_with_client};
 
 use crate::line::Line;
 use file_words::{bytes_in, class_of, id_in, number_in, object_in};
@@ -19,7 +19,7 @@ fn ids_in(client: &str, number: &str) -> Option<(ClientId, RequestNumber)>
 }
 
 /// A request, by its client, number, object and class, and the words that are left: its method and input.
-fn request_of(
+fn request_with_method(
     alloc: Global,
     client: ClientId,
     number: RequestNumber,
@@ -27,7 +27,7 @@ fn request_of(
     class: usize,
     args: &[&str],
 ) -> Result<Option<Request>, AllocError>
-    ensures { IfOk result (λ r. r ≡ request_of client number object class (map (λ w. w.now) args.now)) }
+    ensures { IfOk result (λ r. r ≡ request_with_method client number object class (map (λ w. w.now) args.now)) }
 {
     match args {
         [method, input] => match bytes_in(alloc, *input)? {
@@ -43,20 +43,20 @@ fn request_of(
 }
 
 /// A request, by its client and number, and the words that are left: its object and class, and so on.
-fn object_of(
+fn request_with_object(
     alloc: Global,
     names: &[&str],
     client: ClientId,
     number: RequestNumber,
     args: &[&str],
 ) -> Result<Option<Request>, AllocError>
-    ensures { IfOk result (λ r. r ≡ object_of (map (λ n. n.now) names.now) client number (map (λ w. w.now) args.now)) }
+    ensures { IfOk result (λ r. r ≡ request_with_object (map (λ n. n.now) names.now) client number (map (λ w. w.now) args.now)) }
 {
     match args {
         [object, class, rest @ ..] => match object_in(alloc, *object)? {
             Some(object) => {
                 let class = class_of(names, *class);
-                request_of(alloc, client, number, object, class, rest)
+                request_with_method(alloc, client, number, object, class, rest)
             }
             None => Ok(None),
         },
@@ -65,12 +65,16 @@ fn object_of(
 }
 
 /// A request, by its words.
-fn client_of(alloc: Global, names: &[&str], args: &[&str]) -> Result<Option<Request>, AllocError>
-    ensures { IfOk result (λ r. r ≡ client_of (map (λ n. n.now) names.now) (map (λ w. w.now) args.now)) }
+fn request_with_client(
+    alloc: Global,
+    names: &[&str],
+    args: &[&str],
+) -> Result<Option<Request>, AllocError>
+    ensures { IfOk result (λ r. r ≡ request_with_client (map (λ n. n.now) names.now) (map (λ w. w.now) args.now)) }
 {
     match args {
         [client, number, rest @ ..] => match ids_in(*client, *number) {
-            Some((client, number)) => object_of(alloc, names, client, number, rest),
+            Some((client, number)) => request_with_object(alloc, names, client, number, rest),
             None => Ok(None),
         },
         _ => Ok(None),
@@ -96,7 +100,7 @@ pub(crate) fn asks(alloc: Global, names: &[&str], args: &[&str]) -> Result<Line,
 {
     match args {
         [node, rest @ ..] => {
-            let request = client_of(alloc, names, rest)?;
+            let request = request_with_client(alloc, names, rest)?;
             Ok(ask_at(number_in(*node), request))
         }
         [] => Ok(Line::Bad),

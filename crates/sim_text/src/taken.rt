@@ -39,7 +39,7 @@ pub enum Taken {
     Skipped,
     /// Its node is stopped, and nothing happened.
     Stopped,
-    /// It happened, and so many messages were sent, by the highest numbers.
+    /// It happened, and sent this number of messages, which have the highest numbers.
     Sent(usize),
     /// The node refused it.
     Refused(HandleError),

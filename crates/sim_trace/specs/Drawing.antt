@@ -74,25 +74,25 @@ lost_row columns number None = []
 lost_row columns number (Some l) = message_row columns number (is_client l.to) l ++ string_bytes l.text ++ fate l.to
 
 abbrev pub lost_unless : Bool → List ℕ → List ℕ
-lost_unless comes row = if comes then [] else row
+lost_unless has_arrived row = if has_arrived then [] else row
 
--- of so many messages from one on, those that no step delivers
+-- of `k` messages from one on, those that no step delivers
 abbrev pub lost_rows : List Column → List Message → List Bool → ℕ → ℕ → List ℕ
-lost_rows columns messages come first zero = []
-lost_rows columns messages come first (suc k) =
-    lost_rows columns messages come first k ++ lost_unless (slice_index_or come (first + k) false) (lost_row columns (first + k + 1) (slice_get messages (first + k)))
+lost_rows columns messages arrived first zero = []
+lost_rows columns messages arrived first (suc k) =
+    lost_rows columns messages arrived first k ++ lost_unless (slice_index_or arrived (first + k) false) (lost_row columns (first + k + 1) (slice_get messages (first + k)))
 
 -- the steps, of which the first sent the messages from one on
 abbrev pub sent_by : List Message → ℕ → Step → ℕ
 sent_by messages first s = min s.sent (length messages - first)
 
 abbrev pub rows : List Column → List Message → List Bool → ℕ → List Step → List ℕ
-rows columns messages come first [] = []
-rows columns messages come first (s ∷ ss) =
+rows columns messages arrived first [] = []
+rows columns messages arrived first (s ∷ ss) =
     let count = sent_by messages first s in
-    step_row columns messages first count s ++ lost_rows columns messages come first count ++ rows columns messages come (first + count) ss
+    step_row columns messages first count s ++ lost_rows columns messages arrived first count ++ rows columns messages arrived (first + count) ss
 
--- the names of the columns, each in its cell, and of what stands behind them
+-- the names of the columns, each in its cell, and of what stands after them
 abbrev pub heading : List ℕ → List ℕ
 heading text = text ++ repeated (12 - length text) (codes " ")
 

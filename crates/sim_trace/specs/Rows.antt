@@ -1,7 +1,7 @@
 -- The picture of a line: a cell of 12 characters for each column, which begins with the column's bar.
 use Rattle.std.specs.Prelude.{ℕ, zero, suc, ◌-◌, nat_lt, Bool, List, [], ◌++◌, length, if◌then◌else◌, codes}
 
--- a text so many times
+-- a text, n times
 abbrev pub repeated : ℕ → List ℕ → List ℕ
 repeated zero text = []
 repeated (suc n) text = repeated n text ++ text
@@ -21,15 +21,15 @@ right_head arrives = if arrives then codes ">" else codes "x  "
 abbrev pub left_head : Bool → List ℕ
 left_head arrives = if arrives then codes "<" else codes "  x"
 
--- so many whole cells of an arrow's shaft
+-- whole cells of an arrow's shaft
 abbrev pub shaft : ℕ → List ℕ
 shaft cells = repeated cells (codes "------------")
 
--- what the cell of an arrow's label has left, beside its bar, two dashes, the head and the label
+-- what the cell of an arrow's label has left after its bar, two dashes, the head and the label
 abbrev pub rest : List ℕ → List ℕ → ℕ
 rest head label = 9 - length head - length label
 
--- an arrow over so many cells, to the right, to the left, and from a column to itself
+-- an arrow over a number of cells, to the right, to the left, and from a column to itself
 abbrev pub to_right : List ℕ → ℕ → List ℕ → List ℕ
 to_right head cells label = codes "|--" ++ label ++ repeated (rest head label) (codes "-") ++ shaft (cells - 1) ++ head
 

@@ -48,7 +48,7 @@ impl Column {
         }
     }
 
-    /// Puts its name behind a text.
+    /// Appends its name to a text.
     pub(crate) fn push_name(self, out: &mut String) -> Result<(), AllocError>
         ensures { OnOk result (string_bytes out.new ≡ string_bytes out.old ++ name self) }
     {

@@ -16,37 +16,37 @@ pub(crate) fn delivered(
     ensures value { IfOk result (λ v. v.items ≡ delivered messages.now steps.now) }
     ensures count { IfOk result (λ v. length v.items ≡ length messages.now) }
 {
-    let mut come = vec![in alloc; false; messages.len()]?;
-    note_all(&mut come, steps);
-    Ok(come)
+    let mut arrived = vec![in alloc; false; messages.len()]?;
+    note_all(&mut arrived, steps);
+    Ok(arrived)
 }
 
 /// Notes what steps deliver, where nothing is noted yet.
-fn note_all(come: &mut [bool], steps: &[Step])
-    requires { (k : ℕ) → k < length come.old → slice_index_or come.old k false ≡ false }
-    ensures { (k : ℕ) → k < length come.old → slice_index_or come.new k false ≡ list_any (λ s. names_it (suc k) s.what) steps.now }
+fn note_all(arrived: &mut [bool], steps: &[Step])
+    requires { (k : ℕ) → k < length arrived.old → slice_index_or arrived.old k false ≡ false }
+    ensures { (k : ℕ) → k < length arrived.old → slice_index_or arrived.new k false ≡ list_any (λ s. names_it (suc k) s.what) steps.now }
 {
     for step in steps {
-        note(come, step.what);
+        note(arrived, step.what);
     }
 }
 
 /// Notes what a step delivers.
-fn note(come: &mut [bool], what: What)
-    ensures { (k : ℕ) → k < length come.old → slice_index_or come.new k false ≡ (slice_index_or come.old k false || names_it (suc k) what) }
+fn note(arrived: &mut [bool], what: What)
+    ensures { (k : ℕ) → k < length arrived.old → slice_index_or arrived.new k false ≡ (slice_index_or arrived.old k false || names_it (suc k) what) }
 {
     match what {
         What::At(_) => {}
         What::Asked(_, _) => {}
-        What::Arrived(number) => note_number(come, number),
-        What::Bounced(number) => note_number(come, number),
+        What::Arrived(number) => note_number(arrived, number),
+        What::Bounced(number) => note_number(arrived, number),
     }
 }
 
-fn note_number(come: &mut [bool], number: usize)
-    ensures { (k : ℕ) → k < length come.old → slice_index_or come.new k false ≡ (slice_index_or come.old k false || number == suc k) }
+fn note_number(arrived: &mut [bool], number: usize)
+    ensures { (k : ℕ) → k < length arrived.old → slice_index_or arrived.new k false ≡ (slice_index_or arrived.old k false || number == suc k) }
 {
-    if 0 < number && number <= come.len() {
-        come[number - 1] = true;
+    if 0 < number && number <= arrived.len() {
+        arrived[number - 1] = true;
     }
 }

@@ -7,10 +7,20 @@ use crate::column::Column;
 use crate::columns::{columns_of, place_of};
 use crate::delivered::delivered;
 use crate::message::Message;
-use crate::rows::{push_arrow, push_mark};
+use crate::rows::{Arrow, push_arrow, push_mark};
 use crate::step::{Step, What};
 use crate::text::push_repeated;
 use std::alloc::{AllocError, Global};
+
+/// What a run is drawn by: the columns, the messages, and for each message whether some step delivers it.
+#[derive(Drop)]
+struct Chart<'a> {
+    alloc: Global,
+    columns: &'a [Column],
+    messages: &'a [Message],
+    arrived: &'a [bool],
+    ghost same: { length arrived.now ≡ length messages.now },
+}
 
 /// The run as a message sequence: the names of the columns, then a line for each step. A message is drawn where it
 /// arrives, each time; one that no step delivers below the step that sent it, a reply as it reaches its client, any other
@@ -47,8 +57,14 @@ fn push_steps(
 ) -> Result<(), AllocError>
     ensures { OnOk result (string_bytes out.new ≡ string_bytes out.old ++ rows columns.now messages.now (delivered messages.now steps.now) 0 steps.now) }
 {
-    let come = delivered(alloc, messages, steps)?;
-    push_rows(alloc, out, columns, messages, &come, steps)
+    let arrived = delivered(alloc, messages, steps)?;
+    let chart = Chart {
+        alloc,
+        columns,
+        messages,
+        arrived: &arrived,
+    };
+    chart.push_rows(out, steps)
 }
 
 /// The names of the columns.
@@ -85,25 +101,6 @@ fn name(alloc: Global, column: Column) -> Result<String, AllocError>
     Ok(text)
 }
 
-/// A message from its sender to its receiver.
-fn push_message(
-    alloc: Global,
-    out: &mut String,
-    columns: &[Column],
-    number: usize,
-    arrives: bool,
-    message: &Message,
-) -> Result<(), AllocError>
-    ensures { OnOk result (string_bytes out.new ≡ string_bytes out.old ++ message_row columns.now number arrives message.now) }
-{
-    let label = format!(in alloc; "m{number}")?;
-    let (start, end) = (
-        place_of(columns, message.from),
-        place_of(columns, message.to),
-    );
-    push_arrow(out, columns.len(), start, end, arrives, label.as_str())
-}
-
 /// The message of a number, if there is one.
 fn message_at(messages: &[Message], number: usize) -> Option<&Message>
     ensures { option_copied result ≡ message_at messages.now number }
@@ -114,60 +111,8 @@ fn message_at(messages: &[Message], number: usize) -> Option<&Message>
     messages.get(number - 1)
 }
 
-/// A message that is delivered, and what it says.
-fn push_delivery(
-    alloc: Global,
-    out: &mut String,
-    columns: &[Column],
-    messages: &[Message],
-    number: usize,
-    arrives: bool,
-) -> Result<(), AllocError>
-    ensures { OnOk result (string_bytes out.new ≡ string_bytes out.old ++ delivery columns.now number arrives (message_at messages.now number)) }
-{
-    match message_at(messages, number) {
-        Some(message) => push_said(alloc, out, columns, number, arrives, message),
-        None => Ok(()),
-    }
-}
-
-fn push_said(
-    alloc: Global,
-    out: &mut String,
-    columns: &[Column],
-    number: usize,
-    arrives: bool,
-    message: &Message,
-) -> Result<(), AllocError>
-    ensures { OnOk result (string_bytes out.new ≡ string_bytes out.old ++ delivery columns.now number arrives (Some message.now)) }
-{
-    push_message(alloc, out, columns, number, arrives, message)?;
-    out.push_str(message.text.as_str())
-}
-
-/// What happened.
-fn push_picture(
-    alloc: Global,
-    out: &mut String,
-    columns: &[Column],
-    messages: &[Message],
-    what: What,
-) -> Result<(), AllocError>
-    ensures { OnOk result (string_bytes out.new ≡ string_bytes out.old ++ picture columns.now messages.now what) }
-{
-    match what {
-        What::At(column) => push_mark(out, columns.len(), place_of(columns, column)),
-        What::Asked(client, node) => {
-            let (start, end) = (place_of(columns, client), place_of(columns, node));
-            push_arrow(out, columns.len(), start, end, true, "req")
-        }
-        What::Arrived(number) => push_delivery(alloc, out, columns, messages, number, true),
-        What::Bounced(number) => push_delivery(alloc, out, columns, messages, number, false),
-    }
-}
-
 #[tactic(auto, using(crate::proofs::Counted::numbers_from_more))]
-/// The numbers of the messages that a step sent: so many, from one on.
+/// The numbers of the `count` messages that a step sent, from one on.
 fn push_sends(out: &mut String, first: usize, count: usize) -> Result<(), AllocError>
     requires { first + count ≤ usize.MAX }
     ensures { OnOk result (string_bytes out.new ≡ string_bytes out.old ++ sends first count) }
@@ -182,67 +127,11 @@ fn push_sends(out: &mut String, first: usize, count: usize) -> Result<(), AllocE
     Ok(())
 }
 
-/// A message that no step delivers.
-fn push_lost(
-    alloc: Global,
-    out: &mut String,
-    columns: &[Column],
-    number: usize,
-    message: &Message,
-) -> Result<(), AllocError>
-    ensures { OnOk result (string_bytes out.new ≡ string_bytes out.old ++ lost_row columns.now number (Some message.now)) }
+fn has_arrived(arrived: &[bool], place: usize) -> bool
+    requires { place < length arrived.now }
+    ensures { result ≡ slice_index_or arrived.now place false }
 {
-    let arrives = message.to.is_client();
-    push_message(alloc, out, columns, number, arrives, message)?;
-    out.push_str(message.text.as_str())?;
-    out.push_str(message.to.fate())
-}
-
-fn comes(come: &[bool], place: usize) -> bool
-    requires { place < length come.now }
-    ensures { result ≡ slice_index_or come.now place false }
-{
-    come[place]
-}
-
-/// The message of a place, if no step delivers it.
-fn push_if_lost(
-    alloc: Global,
-    out: &mut String,
-    columns: &[Column],
-    messages: &[Message],
-    come: &[bool],
-    place: usize,
-) -> Result<(), AllocError>
-    requires within { place < length messages.now }
-    requires same { length come.now ≡ length messages.now }
-    ensures { OnOk result (string_bytes out.new ≡ string_bytes out.old ++ lost_unless (slice_index_or come.now place false) (lost_row columns.now (place + 1) (slice_get messages.now place))) }
-{
-    if comes(come, place) {
-        return Ok(());
-    }
-    push_lost(alloc, out, columns, place + 1, &messages[place])
-}
-
-#[tactic(auto, using(crate::proofs::Counted::lost_rows_more))]
-/// Of so many messages from one on, those that no step delivers.
-fn push_all_lost(
-    alloc: Global,
-    out: &mut String,
-    columns: &[Column],
-    messages: &[Message],
-    come: &[bool],
-    first: usize,
-    count: usize,
-) -> Result<(), AllocError>
-    requires within { first + count ≤ length messages.now }
-    requires same { length come.now ≡ length messages.now }
-    ensures { OnOk result (string_bytes out.new ≡ string_bytes out.old ++ lost_rows columns.now messages.now come.now first count) }
-{
-    for k in 0..count {
-        push_if_lost(alloc, out, columns, messages, come, first + k)?;
-    }
-    Ok(())
+    arrived[place]
 }
 
 /// How many messages a step sent, of those from one on.
@@ -254,43 +143,141 @@ fn sent_by(messages: &[Message], first: usize, step: &Step) -> usize
     step.sent.min(messages.len() - first)
 }
 
-/// The line of a step.
-fn push_step(
-    alloc: Global,
-    out: &mut String,
-    columns: &[Column],
-    messages: &[Message],
-    first: usize,
-    count: usize,
-    step: &Step,
-) -> Result<(), AllocError>
-    requires { first + count ≤ length messages.now }
-    ensures { OnOk result (string_bytes out.new ≡ string_bytes out.old ++ step_row columns.now messages.now first count step.now) }
-{
-    push_picture(alloc, out, columns, messages, step.what)?;
-    out.push_str(step.text.as_str())?;
-    push_sends(out, first, count)?;
-    out.push_str("\n")
-}
-
-/// The lines of all steps.
-fn push_rows(
-    alloc: Global,
-    out: &mut String,
-    columns: &[Column],
-    messages: &[Message],
-    come: &[bool],
-    steps: &[Step],
-) -> Result<(), AllocError>
-    requires { length come.now ≡ length messages.now }
-    ensures { OnOk result (string_bytes out.new ≡ string_bytes out.old ++ rows columns.now messages.now come.now 0 steps.now) }
-{
-    let mut first = 0;
-    for step in steps {
-        let count = sent_by(messages, first, step);
-        push_step(alloc, out, columns, messages, first, count, step)?;
-        push_all_lost(alloc, out, columns, messages, come, first, count)?;
-        first += count;
+impl Chart<'_> {
+    /// A message from its sender to its receiver.
+    fn push_message(
+        &self,
+        out: &mut String,
+        number: usize,
+        arrives: bool,
+        message: &Message,
+    ) -> Result<(), AllocError>
+        ensures { OnOk result (string_bytes out.new ≡ string_bytes out.old ++ message_row self.now.columns.now number arrives message.now) }
+    {
+        let label = format!(in self.alloc; "m{number}")?;
+        let arrow = Arrow {
+            start: place_of(self.columns, message.from),
+            end: place_of(self.columns, message.to),
+            arrives,
+        };
+        push_arrow(out, self.columns.len(), arrow, label.as_str())
     }
-    Ok(())
+
+    /// A message that is delivered, and what it says.
+    fn push_delivery(
+        &self,
+        out: &mut String,
+        number: usize,
+        arrives: bool,
+    ) -> Result<(), AllocError>
+        ensures { OnOk result (string_bytes out.new ≡ string_bytes out.old ++ delivery self.now.columns.now number arrives (message_at self.now.messages.now number)) }
+    {
+        match message_at(self.messages, number) {
+            Some(message) => self.push_said(out, number, arrives, message),
+            None => Ok(()),
+        }
+    }
+
+    fn push_said(
+        &self,
+        out: &mut String,
+        number: usize,
+        arrives: bool,
+        message: &Message,
+    ) -> Result<(), AllocError>
+        ensures { OnOk result (string_bytes out.new ≡ string_bytes out.old ++ delivery self.now.columns.now number arrives (Some message.now)) }
+    {
+        self.push_message(out, number, arrives, message)?;
+        out.push_str(message.text.as_str())
+    }
+
+    /// What happened.
+    fn push_picture(&self, out: &mut String, what: What) -> Result<(), AllocError>
+        ensures { OnOk result (string_bytes out.new ≡ string_bytes out.old ++ picture self.now.columns.now self.now.messages.now what) }
+    {
+        let columns = self.columns;
+        match what {
+            What::At(column) => push_mark(out, columns.len(), place_of(columns, column)),
+            What::Asked(client, node) => {
+                let arrow = Arrow {
+                    start: place_of(columns, client),
+                    end: place_of(columns, node),
+                    arrives: true,
+                };
+                push_arrow(out, columns.len(), arrow, "req")
+            }
+            What::Arrived(number) => self.push_delivery(out, number, true),
+            What::Bounced(number) => self.push_delivery(out, number, false),
+        }
+    }
+
+    /// A message that no step delivers.
+    fn push_lost(
+        &self,
+        out: &mut String,
+        number: usize,
+        message: &Message,
+    ) -> Result<(), AllocError>
+        ensures { OnOk result (string_bytes out.new ≡ string_bytes out.old ++ lost_row self.now.columns.now number (Some message.now)) }
+    {
+        let arrives = message.to.is_client();
+        self.push_message(out, number, arrives, message)?;
+        out.push_str(message.text.as_str())?;
+        out.push_str(message.to.fate())
+    }
+
+    /// The message of a place, if no step delivers it.
+    fn push_if_lost(&self, out: &mut String, place: usize) -> Result<(), AllocError>
+        requires within { place < length self.now.messages.now }
+        ensures { OnOk result (string_bytes out.new ≡ string_bytes out.old ++ lost_unless (slice_index_or self.now.arrived.now place false) (lost_row self.now.columns.now (place + 1) (slice_get self.now.messages.now place))) }
+    {
+        if has_arrived(self.arrived, place) {
+            return Ok(());
+        }
+        let messages = self.messages;
+        self.push_lost(out, place + 1, &messages[place])
+    }
+
+    #[tactic(auto, using(crate::proofs::Counted::lost_rows_more))]
+    /// Of `count` messages from one on, those that no step delivers.
+    fn push_all_lost(&self, out: &mut String, first: usize, count: usize) -> Result<(), AllocError>
+        requires within { first + count ≤ length self.now.messages.now }
+        ensures { OnOk result (string_bytes out.new ≡ string_bytes out.old ++ lost_rows self.now.columns.now self.now.messages.now self.now.arrived.now first count) }
+    {
+        for k in 0..count {
+            self.push_if_lost(out, first + k)?;
+        }
+        Ok(())
+    }
+
+    /// The line of a step.
+    fn push_step(
+        &self,
+        out: &mut String,
+        first: usize,
+        count: usize,
+        step: &Step,
+    ) -> Result<(), AllocError>
+        requires { first + count ≤ length self.now.messages.now }
+        ensures { OnOk result (string_bytes out.new ≡ string_bytes out.old ++ step_row self.now.columns.now self.now.messages.now first count step.now) }
+    {
+        self.push_picture(out, step.what)?;
+        out.push_str(step.text.as_str())?;
+        push_sends(out, first, count)?;
+        out.push_str("\n")
+    }
+
+    /// The lines of all steps.
+    fn push_rows(&self, out: &mut String, steps: &[Step]) -> Result<(), AllocError>
+        ensures { OnOk result (string_bytes out.new ≡ string_bytes out.old ++ rows self.now.columns.now self.now.messages.now self.now.arrived.now 0 steps.now) }
+    {
+        let mut first = 0;
+        for step in steps {
+            let count = sent_by(self.messages, first, step);
+            self.push_step(out, first, count, step)?;
+            self.push_all_lost(out, first, count)?;
+            first += count;
+        }
+        Ok(())
+    }
 }

@@ -5,6 +5,14 @@ ghost use Rattle.sim_trace.specs.Rows.{repeated, shaft, rest, mark_row, right_he
 use crate::text::{push_bars, push_repeated};
 use std::alloc::AllocError;
 
+/// From the column of one place to that of another. One that doesn't arrive ends before it is there.
+#[derive(Clone, Copy)]
+pub(crate) struct Arrow {
+    pub start: usize,
+    pub end: usize,
+    pub arrives: bool,
+}
+
 /// Something at the column of a place.
 pub(crate) fn push_mark(out: &mut String, n: usize, place: usize) -> Result<(), AllocError>
     ensures { OnOk result (string_bytes out.new ≡ string_bytes out.old ++ mark_row n place) }
@@ -26,14 +34,14 @@ fn left_head(arrives: bool) -> &'static str
     if arrives { "<" } else { "  x" }
 }
 
-/// So many columns' width of an arrow.
+/// An arrow's shaft, `cells` columns wide.
 fn push_shaft(out: &mut String, cells: usize) -> Result<(), AllocError>
     ensures { OnOk result (string_bytes out.new ≡ string_bytes out.old ++ shaft cells) }
 {
     push_repeated(out, cells, "------------")
 }
 
-/// Fills what a cell has left beside a head and a label.
+/// Fills what a cell has left after a head and a label.
 fn push_rest(out: &mut String, head: &str, label: &str, filler: &str) -> Result<(), AllocError>
     ensures { OnOk result (string_bytes out.new ≡ string_bytes out.old ++ repeated (rest head.now label.now) filler.now) }
 {
@@ -72,17 +80,20 @@ fn push_to_itself(out: &mut String, head: &str, label: &str) -> Result<(), Alloc
     push_rest(out, head, label, " ")
 }
 
-/// An arrow from the column of one place to that of another, of n columns.
+/// An arrow of n columns, over a label.
 pub(crate) fn push_arrow(
     out: &mut String,
     n: usize,
-    start: usize,
-    end: usize,
-    arrives: bool,
+    arrow: Arrow,
     label: &str,
 ) -> Result<(), AllocError>
-    ensures { OnOk result (string_bytes out.new ≡ string_bytes out.old ++ arrow_row n start end arrives label.now) }
+    ensures { OnOk result (string_bytes out.new ≡ string_bytes out.old ++ arrow_row n arrow.start arrow.end arrow.arrives label.now) }
 {
+    let Arrow {
+        start,
+        end,
+        arrives,
+    } = arrow;
     if start < end {
         push_bars(out, start)?;
         push_to_right(out, right_head(arrives), end - start, label)?;

@@ -18,8 +18,8 @@ pub enum What {
 pub struct Step {
     /// What happened.
     pub what: What,
-    /// What is said of it; of a message that arrives, behind what that says.
+    /// What is said of it; of a message that arrives, after what that says.
     pub text: String,
-    /// How many messages it sent: so many of those that no step before it sent.
+    /// How many messages it sent, of those that no step before it sent.
     pub sent: usize,
 }

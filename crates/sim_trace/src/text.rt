@@ -1,11 +1,11 @@
-//! Texts so many times, and filled to a length.
+//! Texts that are repeated, or filled to a length.
 ghost use Rattle.std.specs.Prelude.{◌≡◌, ◌++◌, OnOk, string_bytes};
 ghost use Rattle.sim_trace.specs.Rows.{repeated, bars};
 
 use std::alloc::AllocError;
 
 #[tactic(auto, using(crate::proofs::Counted::repeated_more))]
-/// Puts a text behind another so many times.
+/// Appends a text `n` times.
 pub(crate) fn push_repeated(out: &mut String, n: usize, text: &str) -> Result<(), AllocError>
     ensures { OnOk result (string_bytes out.new ≡ string_bytes out.old ++ repeated n text.now) }
 {

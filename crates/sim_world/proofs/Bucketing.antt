@@ -4,8 +4,8 @@ use Rattle.std.proofs.Math.Dec.{eqb-suc-zero}
 use Rattle.std.proofs.lemmas.Bool.{eq-eqb, eqb-true, and_parts, false≢true}
 use Rattle.std.proofs.lemmas.Grind.{get_or-set_at}
 use Rattle.std.proofs.lemmas.List.{get_or_default, length-set}
-use Rattle.group_world.specs.declared.message.Kind.{Kind}
-use Rattle.group_world.specs.declared.message.Kind.TheVariants.{Query, Log as LogOf, Install, Installed as InstalledIn, AskActivate, Activated, Rep, Ack, Reply as ReplyTo}
+use Rattle.group_world.specs.declared.message.MessageKind.{MessageKind}
+use Rattle.group_world.specs.declared.message.MessageKind.TheVariants.{Query, Log as LogOf, Install, Installed as InstalledIn, AskActivate, Activated, Rep, Ack, Reply as ReplyTo}
 use Rattle.group_world.specs.declared.message.Packet.{Packet}
 use Rattle.group_world.specs.declared.event.Event.TheVariants.{Request as ARequest, Map as AMap, Message as AMessage}
 use Rattle.carried.specs.declared.operation.Carried.{Carried}
@@ -86,7 +86,7 @@ in_buckets_more sent grown buckets next k at number is below more count are put 
     subst (λ (ks : List KeptMessage). AreInBuckets ks next) (sym more) all
 
 -- equal messages have one bucket
-same_kind_bucket : (a b : Kind) → is_same_kind a b ≡ true → bucket b ≡ bucket a
+same_kind_bucket : (a b : MessageKind) → is_same_kind a b ≡ true → bucket b ≡ bucket a
 same_kind_bucket (Query m) (Query n) e =
     ap (λ (i : ℕ). i % 1024) (sym (eqb-true m.interval n.interval (and_parts _ _ (and_parts _ _ e).1).0))
 same_kind_bucket (Query m) _ e = absurd (false≢true e)
@@ -104,11 +104,11 @@ same_kind_bucket (Activated interval) b e = absurd (false≢true e)
 same_kind_bucket (Ack interval n) b e = absurd (false≢true e)
 same_kind_bucket (ReplyTo client number place answer) b e = absurd (false≢true e)
 
-same_carried_bucket : (kind : Kind) (c : Carried) → is_same_carried kind c ≡ true → bucket_of c ≡ bucket kind
+same_carried_bucket : (kind : MessageKind) (c : Carried) → is_same_carried kind c ≡ true → bucket_of c ≡ bucket kind
 same_carried_bucket kind (carried.Plain (ARequest r)) e = absurd (false≢true e)
 same_carried_bucket kind (carried.Plain (AMap m)) e = absurd (false≢true e)
 same_carried_bucket kind (carried.Plain (AMessage m)) e = same_kind_bucket kind m.kind e
-same_carried_bucket kind (carried.Query sender map told) e = same_kind_bucket kind (Query map) e
+same_carried_bucket kind (carried.Query sender map reported) e = same_kind_bucket kind (Query map) e
 same_carried_bucket kind (carried.Log short) e = absurd (false≢true e)
 
 same_bucket : (p : Packet) (k : KeptMessage) → is_kept_as p k ≡ true → bucket_of k.carried ≡ bucket p.message.kind

@@ -8,13 +8,13 @@ use Rattle.carried.specs.Carried.{carried_as}
 use Rattle.group_world.specs.Node.{NodeState}
 use Rattle.group_world.specs.declared.party.Party.{Party}
 use Rattle.group_world.specs.declared.party.Party.TheVariants.{Node as ANode, Monitor as TheMonitor, Client as AClient}
-use Rattle.group_world.specs.declared.message.Kind.{Kind}
-use Rattle.group_world.specs.declared.message.Kind.TheVariants.{Query, Log as LogOf, Install, Installed as InstalledIn, AskActivate, Activated, Rep, Ack, Reply as ReplyTo}
+use Rattle.group_world.specs.declared.message.MessageKind.{MessageKind}
+use Rattle.group_world.specs.declared.message.MessageKind.TheVariants.{Query, Log as LogOf, Install, Installed as InstalledIn, AskActivate, Activated, Rep, Ack, Reply as ReplyTo}
 use Rattle.group_world.specs.declared.message.Packet.{Packet}
 use Rattle.peering.specs.Numbered.{NumberedNode}
 use Rattle.sim_text.specs.Kept.{carried_text, sender_of}
 use Rattle.sim_text.specs.Lines.{numbered}
-use Rattle.sim_text.specs.Texts.{kind_text, with_two, text_between, message_lines, sent_text, last_text, taken_text}
+use Rattle.sim_text.specs.Texts.{kind_text, word_and_two_numbers, text_between, message_lines, sent_text, last_text, taken_text}
 use Rattle.sim_text.specs.declared.taken.Taken.{Taken}
 use Rattle.sim_text.specs.declared.taken.Taken.TheVariants.{Bad, Skipped, Stopped, Sent, Refused, MonitorRefused, Made, Shown, Again}
 use Rattle.sim_world.specs.Holds.{HasCommitted, IsKept, AreKept, MessageShown, kept_as, kept_shown, message_shown}
@@ -31,7 +31,7 @@ new_kept nodes list [] h = tt
 new_kept nodes list (q ∷ qs) h = (
   record {
     committed = committed_of list q.message.sender;
-    told = committed_of list q.receiver;
+    reported = committed_of list q.receiver;
     same = refl;
     enough = h q;
   },
@@ -46,11 +46,11 @@ more_kept nodes list (k ∷ ks) [] qs are h = absurd are
 more_kept nodes list (k ∷ ks) (p ∷ ps) qs are h = (are.0, more_kept nodes list ks ps qs are.1 h)
 
 -- nodes that have committed more
-still_has : (nodes next : ℕ → NodeState) → ((n : ℕ) → (nodes n).committed ≤ (next n).committed) → (receiver : Party) (told : ℕ)
-    → HasCommitted nodes receiver told → HasCommitted next receiver told
-still_has nodes next grown (ANode n) told h = omega (arith, h, grown n)
-still_has nodes next grown TheMonitor told h = tt
-still_has nodes next grown (AClient client) told h = tt
+still_has : (nodes next : ℕ → NodeState) → ((n : ℕ) → (nodes n).committed ≤ (next n).committed) → (receiver : Party) (reported : ℕ)
+    → HasCommitted nodes receiver reported → HasCommitted next receiver reported
+still_has nodes next grown (ANode n) reported h = omega (arith, h, grown n)
+still_has nodes next grown TheMonitor reported h = tt
+still_has nodes next grown (AClient client) reported h = tt
 
 pub still_kept : (nodes next : ℕ → NodeState) → ((n : ℕ) → (nodes n).committed ≤ (next n).committed) → (ks : List KeptMessage) (ps : List Packet)
     → AreKept nodes ks ps → AreKept next ks ps
@@ -60,9 +60,9 @@ still_kept nodes next grown (k ∷ ks) [] are = absurd are
 still_kept nodes next grown (k ∷ ks) (p ∷ ps) are = (
   record {
     committed = are.0.committed;
-    told = are.0.told;
+    reported = are.0.reported;
     same = are.0.same;
-    enough = still_has nodes next grown p.receiver are.0.told are.0.enough;
+    enough = still_has nodes next grown p.receiver are.0.reported are.0.enough;
   },
   still_kept nodes next grown ks ps are.1,
 )
@@ -118,7 +118,7 @@ last_of nodes (suc i) (k ∷ ks) [] are = absurd are
 last_of nodes (suc i) (k ∷ ks) (p ∷ ps) are = last_of nodes i ks ps are.1
 
 -- EQUAL MESSAGES
-never_again : (kind : Kind) (interval : ℕ) (list : List ClientRequest) → false ≡ is_same_kind kind (LogOf interval list)
+never_again : (kind : MessageKind) (interval : ℕ) (list : List ClientRequest) → false ≡ is_same_kind kind (LogOf interval list)
 never_again (Query m) interval list = refl
 never_again (LogOf i l) interval list = refl
 never_again (Install m l) interval list = refl
@@ -129,41 +129,41 @@ never_again (Rep i place r) interval list = refl
 never_again (Ack i k) interval list = refl
 never_again (ReplyTo client number place answer) interval list = refl
 
-same_carried : (kind : Kind) (committed told : ℕ) (sender : Party) (other : Kind) → is_same_carried kind (carried_as committed told sender other) ≡ is_same_kind kind other
-same_carried kind committed told sender (Query m) = refl
-same_carried kind committed told sender (LogOf interval list) = never_again kind interval list
-same_carried kind committed told sender (Install m list) = refl
-same_carried kind committed told sender (InstalledIn interval) = refl
-same_carried kind committed told sender (AskActivate interval) = refl
-same_carried kind committed told sender (Activated interval) = refl
-same_carried kind committed told sender (Rep interval place r) = refl
-same_carried kind committed told sender (Ack interval k) = refl
-same_carried kind committed told sender (ReplyTo client number place answer) = refl
+same_carried : (kind : MessageKind) (committed reported : ℕ) (sender : Party) (other : MessageKind) → is_same_carried kind (carried_as committed reported sender other) ≡ is_same_kind kind other
+same_carried kind committed reported sender (Query m) = refl
+same_carried kind committed reported sender (LogOf interval list) = never_again kind interval list
+same_carried kind committed reported sender (Install m list) = refl
+same_carried kind committed reported sender (InstalledIn interval) = refl
+same_carried kind committed reported sender (AskActivate interval) = refl
+same_carried kind committed reported sender (Activated interval) = refl
+same_carried kind committed reported sender (Rep interval place r) = refl
+same_carried kind committed reported sender (Ack interval k) = refl
+same_carried kind committed reported sender (ReplyTo client number place answer) = refl
 
-pub same_sender : (committed told : ℕ) (sender : Party) (kind : Kind) → sender_of (carried_as committed told sender kind) ≡ sender
-same_sender committed told sender (Query m) = refl
-same_sender committed told sender (LogOf interval list) = refl
-same_sender committed told sender (Install m list) = refl
-same_sender committed told sender (InstalledIn interval) = refl
-same_sender committed told sender (AskActivate interval) = refl
-same_sender committed told sender (Activated interval) = refl
-same_sender committed told sender (Rep interval place r) = refl
-same_sender committed told sender (Ack interval k) = refl
-same_sender committed told sender (ReplyTo client number place answer) = refl
+pub same_sender : (committed reported : ℕ) (sender : Party) (kind : MessageKind) → sender_of (carried_as committed reported sender kind) ≡ sender
+same_sender committed reported sender (Query m) = refl
+same_sender committed reported sender (LogOf interval list) = refl
+same_sender committed reported sender (Install m list) = refl
+same_sender committed reported sender (InstalledIn interval) = refl
+same_sender committed reported sender (AskActivate interval) = refl
+same_sender committed reported sender (Activated interval) = refl
+same_sender committed reported sender (Rep interval place r) = refl
+same_sender committed reported sender (Ack interval k) = refl
+same_sender committed reported sender (ReplyTo client number place answer) = refl
 
-equal_as : (q : Packet) (committed told : ℕ) (p : Packet) → is_kept_as q (kept_as committed told p) ≡ is_same_packet q p
-equal_as q committed told p =
-    ap (λ (s : Party). is_same_party q.receiver p.receiver && (is_same_party q.message.sender s && is_same_carried q.message.kind (carried_as committed told p.message.sender p.message.kind)))
-    (same_sender committed told p.message.sender p.message.kind)
+equal_as : (q : Packet) (committed reported : ℕ) (p : Packet) → is_kept_as q (kept_as committed reported p) ≡ is_same_packet q p
+equal_as q committed reported p =
+    ap (λ (s : Party). is_same_party q.receiver p.receiver && (is_same_party q.message.sender s && is_same_carried q.message.kind (carried_as committed reported p.message.sender p.message.kind)))
+    (same_sender committed reported p.message.sender p.message.kind)
     ∙ ap (λ (b : Bool). is_same_party q.receiver p.receiver && (is_same_party q.message.sender p.message.sender && b))
-    (same_carried q.message.kind committed told p.message.sender p.message.kind)
+    (same_carried q.message.kind committed reported p.message.sender p.message.kind)
 
 number_among : (nodes : ℕ → NodeState) (q : Packet) (n : ℕ) (ks : List KeptMessage) (ps : List Packet) → AreKept nodes ks ps → kept_number_from n q ks ≡ number_from n q ps
 number_among nodes q n [] [] are = refl
 number_among nodes q n [] (p ∷ ps) are = absurd are
 number_among nodes q n (k ∷ ks) [] are = absurd are
 number_among nodes q n (k ∷ ks) (p ∷ ps) are =
-    ap (λ (b : Bool). if b then n else kept_number_from (suc n) q ks) (ap (is_kept_as q) are.0.same ∙ equal_as q are.0.committed are.0.told p)
+    ap (λ (b : Bool). if b then n else kept_number_from (suc n) q ks) (ap (is_kept_as q) are.0.same ∙ equal_as q are.0.committed are.0.reported p)
     ∙ ap (λ (m : ℕ). if is_same_packet q p then n else m) (number_among nodes q (suc n) ks ps are.1)
 
 pub numbers_among : (nodes : ℕ → NodeState) (ks : List KeptMessage) (ps : List Packet) (qs : List Packet) → AreKept nodes ks ps → map (kept_number ks) qs ≡ map (number_of ps) qs
@@ -173,30 +173,30 @@ numbers_among nodes ks ps (q ∷ qs) are =
     ∙ ap (λ (ns : List ℕ). number_of ps q ∷ ns) (numbers_among nodes ks ps qs are)
 
 -- TEXTS
-whole_length : (told n l : ℕ) → n ≡ l - min told l → min told l + n ≡ l
-whole_length told n l e = omega (arith, e)
+whole_length : (reported n l : ℕ) → n ≡ l - min reported l → min reported l + n ≡ l
+whole_length reported n l e = omega (arith, e)
 
-same_text : (committed told : ℕ) (sender : Party) (kind : Kind) → carried_text (carried_as committed told sender kind) ≡ kind_text kind
-same_text committed told sender (Query m) = refl
-same_text committed told sender (LogOf interval list) =
-    ap (λ (n : ℕ). with_two (codes "Log") interval n) (whole_length told _ (length list) (length-drop (min told (length list)) list))
-same_text committed told sender (Install m list) = refl
-same_text committed told sender (InstalledIn interval) = refl
-same_text committed told sender (AskActivate interval) = refl
-same_text committed told sender (Activated interval) = refl
-same_text committed told sender (Rep interval place r) = refl
-same_text committed told sender (Ack interval k) = refl
-same_text committed told sender (ReplyTo client number place answer) = refl
+same_text : (committed reported : ℕ) (sender : Party) (kind : MessageKind) → carried_text (carried_as committed reported sender kind) ≡ kind_text kind
+same_text committed reported sender (Query m) = refl
+same_text committed reported sender (LogOf interval list) =
+    ap (λ (n : ℕ). word_and_two_numbers (codes "Log") interval n) (whole_length reported _ (length list) (length-drop (min reported (length list)) list))
+same_text committed reported sender (Install m list) = refl
+same_text committed reported sender (InstalledIn interval) = refl
+same_text committed reported sender (AskActivate interval) = refl
+same_text committed reported sender (Activated interval) = refl
+same_text committed reported sender (Rep interval place r) = refl
+same_text committed reported sender (Ack interval k) = refl
+same_text committed reported sender (ReplyTo client number place answer) = refl
 
 same_lines : (nodes : ℕ → NodeState) (n : ℕ) (ks : List KeptMessage) (ps : List Packet) → AreKept nodes ks ps → kept_lines n ks ≡ message_lines n ps
 same_lines nodes n [] [] are = refl
 same_lines nodes n [] (p ∷ ps) are = absurd are
 same_lines nodes n (k ∷ ks) [] are = absurd are
 same_lines nodes n (k ∷ ks) (p ∷ ps) are =
-    let c = carried_as are.0.committed are.0.told p.message.sender p.message.kind in
+    let c = carried_as are.0.committed are.0.reported p.message.sender p.message.kind in
     ap (λ (x : KeptMessage). text_between n (sender_of x.carried) x.receiver (carried_text x.carried) ++ kept_lines (suc n) ks) are.0.same
-    ∙ ap (λ (s : Party). text_between n s p.receiver (carried_text c) ++ kept_lines (suc n) ks) (same_sender are.0.committed are.0.told p.message.sender p.message.kind)
-    ∙ ap (λ (t : List ℕ). text_between n p.message.sender p.receiver t ++ kept_lines (suc n) ks) (same_text are.0.committed are.0.told p.message.sender p.message.kind)
+    ∙ ap (λ (s : Party). text_between n s p.receiver (carried_text c) ++ kept_lines (suc n) ks) (same_sender are.0.committed are.0.reported p.message.sender p.message.kind)
+    ∙ ap (λ (t : List ℕ). text_between n p.message.sender p.receiver t ++ kept_lines (suc n) ks) (same_text are.0.committed are.0.reported p.message.sender p.message.kind)
     ∙ ap (λ (t : List ℕ). text_between n p.message.sender p.receiver (kind_text p.message.kind) ++ t) (same_lines nodes (suc n) ks ps are.1)
 
 same_sent : (nodes : ℕ → NodeState) (n : ℕ) (ks : List KeptMessage) (ps : List Packet) → AreKept nodes ks ps → kept_text n ks ≡ sent_text n ps
@@ -227,8 +227,8 @@ same_shown nodes [] [] are = refl
 same_shown nodes [] (p ∷ ps) are = absurd are
 same_shown nodes (k ∷ ks) [] are = absurd are
 same_shown nodes (k ∷ ks) (p ∷ ps) are =
-    let c = carried_as are.0.committed are.0.told p.message.sender p.message.kind in
+    let c = carried_as are.0.committed are.0.reported p.message.sender p.message.kind in
     ap (λ (x : KeptMessage). kept_shown x ∷ map kept_shown ks) are.0.same
-    ∙ ap (λ (s : Party). record { sender = s; receiver = p.receiver; text = carried_text c } ∷ map kept_shown ks) (same_sender are.0.committed are.0.told p.message.sender p.message.kind)
-    ∙ ap (λ (t : List ℕ). record { sender = p.message.sender; receiver = p.receiver; text = t } ∷ map kept_shown ks) (same_text are.0.committed are.0.told p.message.sender p.message.kind)
+    ∙ ap (λ (s : Party). record { sender = s; receiver = p.receiver; text = carried_text c } ∷ map kept_shown ks) (same_sender are.0.committed are.0.reported p.message.sender p.message.kind)
+    ∙ ap (λ (t : List ℕ). record { sender = p.message.sender; receiver = p.receiver; text = t } ∷ map kept_shown ks) (same_text are.0.committed are.0.reported p.message.sender p.message.kind)
     ∙ ap (λ (ms : List MessageShown). message_shown p ∷ ms) (same_shown nodes ks ps are.1)

@@ -10,8 +10,8 @@ use Rattle.group_world.specs.Rules.{local_step}
 use Rattle.group_world.specs.World.{World, WorldEvent, RequestAt, MapMade, MapSeen, Delivered, WithoutMemory, opening, happens, run, at_node, at_monitor, deliver, deliver_to, show_map, StepsCutNothing, AllAgree, KeepsCommitted, IsAgreed}
 use Rattle.group_world.specs.declared.party.Party.{Party}
 use Rattle.group_world.specs.declared.party.Party.TheVariants.{Node as ANode, Monitor as TheMonitor, Client as AClient}
-use Rattle.group_world.specs.declared.message.Kind.{Kind}
-use Rattle.group_world.specs.declared.message.Kind.TheVariants.{Query, Log as LogOf, Install, Installed as InstalledIn, AskActivate, Activated, Rep, Ack, Reply as ReplyTo}
+use Rattle.group_world.specs.declared.message.MessageKind.{MessageKind}
+use Rattle.group_world.specs.declared.message.MessageKind.TheVariants.{Query, Log as LogOf, Install, Installed as InstalledIn, AskActivate, Activated, Rep, Ack, Reply as ReplyTo}
 use Rattle.group_world.specs.declared.message.Message.{Message}
 use Rattle.group_world.specs.declared.message.Packet.{Packet}
 use Rattle.group_world.specs.declared.event.Event.{Event}
@@ -46,7 +46,7 @@ sound_node classes cut w n event h = record {
       (cut w.classes n (w.nodes n) event (h.within n)).0 (h.within m);
 }
 
-sound_asked : (classes : Classes) (w : World) (sender : Party) (kind : Kind) → Sound classes w → Sound classes (at_monitor w sender kind)
+sound_asked : (classes : Classes) (w : World) (sender : Party) (kind : MessageKind) → Sound classes w → Sound classes (at_monitor w sender kind)
 sound_asked classes w sender (AskActivate interval) h =
     either (Sound classes) (is_none (activation_refusal w.monitor interval)) _ w (record { named = h.named; within = h.within }) h
 sound_asked classes w sender (Query m) h = h

@@ -21,8 +21,8 @@ use Rattle.group_world.specs.declared.monitor_error.MonitorError.{MonitorError}
 use Rattle.group_world.specs.declared.handle_error.HandleError.{HandleError}
 use Rattle.group_world.specs.declared.party.Party.{Party}
 use Rattle.group_world.specs.declared.party.Party.TheVariants.{Node as ANode, Monitor as TheMonitor, Client as AClient}
-use Rattle.group_world.specs.declared.message.Kind.{Kind}
-use Rattle.group_world.specs.declared.message.Kind.TheVariants.{Query, Log as LogOf, Install, Installed as InstalledIn, AskActivate, Activated, Rep, Ack, Reply as ReplyTo}
+use Rattle.group_world.specs.declared.message.MessageKind.{MessageKind}
+use Rattle.group_world.specs.declared.message.MessageKind.TheVariants.{Query, Log as LogOf, Install, Installed as InstalledIn, AskActivate, Activated, Rep, Ack, Reply as ReplyTo}
 use Rattle.group_world.specs.declared.message.Message.{Message}
 use Rattle.group_world.specs.declared.message.Packet.{Packet}
 use Rattle.group_world.specs.declared.event.Event.{Event}
@@ -205,10 +205,10 @@ fits_at_node laws classes w p held n event coming is =
     (λ low. fits_handled laws classes w p held n low event coming coming is refl)
 
 -- A LIST ARRIVES WHOLE, where the node would take it
-abbrev whole : Classes → ℕ → NodeState → Party → Kind → Event → Type 0
+abbrev whole : Classes → ℕ → NodeState → Party → MessageKind → Event → Type 0
 whole classes n s sender kind event = local_step classes n s event ≡ local_step classes n s (AMessage (record { sender = sender; kind = kind }))
 
-record Arrives (classes : Classes) (n : ℕ) (s : NodeState) (sender : Party) (kind : Kind) (coming : Option Event) : Type 0 where
+record Arrives (classes : Classes) (n : ℕ) (s : NodeState) (sender : Party) (kind : MessageKind) (coming : Option Event) : Type 0 where
   event : Event
   comes : coming ≡ Some event
   same : whole classes n s sender kind event
@@ -228,44 +228,44 @@ adopts classes n s given list true true same = ap (λ (l : List ClientRequest). 
 adopts classes n s given list true false same = refl
 adopts classes n s given list false c same = refl
 
-list_arrives : Laws → (classes : Classes) (n : ℕ) (s : NodeState) (sender : Party) (interval : ℕ) (list : List ClientRequest) (committed told : ℕ)
-    → s.committed ≤ length s.log → told ≤ s.committed → KeepsCommitted s (LogOf interval list)
-    → Arrives classes n s sender (LogOf interval list) (comes_as s.log (carried_as committed told sender (LogOf interval list)))
-list_arrives laws classes n s sender interval list committed told within enough keeps =
-    let given = spread s.log (packed list told) in
-    let long : nat_lt (length s.log) (min told (length list)) ≡ false = le-ltb (length s.log) (min told (length list)) (omega (arith, within, enough)) in
+list_arrives : Laws → (classes : Classes) (n : ℕ) (s : NodeState) (sender : Party) (interval : ℕ) (list : List ClientRequest) (committed reported : ℕ)
+    → s.committed ≤ length s.log → reported ≤ s.committed → KeepsCommitted s (LogOf interval list)
+    → Arrives classes n s sender (LogOf interval list) (comes_as s.log (carried_as committed reported sender (LogOf interval list)))
+list_arrives laws classes n s sender interval list committed reported within enough keeps =
+    let given = spread s.log (packed list reported) in
+    let long : nat_lt (length s.log) (min reported (length list)) ≡ false = le-ltb (length s.log) (min reported (length list)) (omega (arith, within, enough)) in
     let same : (interval == s.interval) ≡ true → is_asking s.status ≡ true → given ≡ list =
-    λ e f. (laws.packed s.log list s.committed told within enough (keeps (eqb-true interval s.interval e) (asks s.status f))).same in
+    λ e f. (laws.packed s.log list s.committed reported within enough (keeps (eqb-true interval s.interval e) (asks s.status f))).same in
     record {
       event = AMessage (record { sender = sender; kind = LogOf interval given });
       comes = ap (λ (b : Bool). if b then None else Some (AMessage (record { sender = sender; kind = LogOf interval given }))) long;
       same = adopts classes n s given list (interval == s.interval) (is_asking s.status) same;
     }
 
-arrives_whole : Laws → (classes : Classes) (n : ℕ) (s : NodeState) (sender : Party) (kind : Kind) (committed told : ℕ)
-    → s.committed ≤ length s.log → told ≤ s.committed → KeepsCommitted s kind → Arrives classes n s sender kind (comes_as s.log (carried_as committed told sender kind))
-arrives_whole laws classes n s sender (Query m) committed told within enough keeps = record { event = AMessage (record { sender = sender; kind = Query m }); comes = refl; same = refl }
-arrives_whole laws classes n s sender (LogOf interval list) committed told within enough keeps =
-    list_arrives laws classes n s sender interval list committed told within enough keeps
-arrives_whole laws classes n s sender (Install m list) committed told within enough keeps = record { event = AMessage (record { sender = sender; kind = Install m list }); comes = refl; same = refl }
-arrives_whole laws classes n s sender (InstalledIn interval) committed told within enough keeps = record { event = AMessage (record { sender = sender; kind = InstalledIn interval }); comes = refl; same = refl }
-arrives_whole laws classes n s sender (AskActivate interval) committed told within enough keeps = record { event = AMessage (record { sender = sender; kind = AskActivate interval }); comes = refl; same = refl }
-arrives_whole laws classes n s sender (Activated interval) committed told within enough keeps = record { event = AMessage (record { sender = sender; kind = Activated interval }); comes = refl; same = refl }
-arrives_whole laws classes n s sender (Rep interval place r) committed told within enough keeps = record { event = AMessage (record { sender = sender; kind = Rep interval place r }); comes = refl; same = refl }
-arrives_whole laws classes n s sender (Ack interval k) committed told within enough keeps = record { event = AMessage (record { sender = sender; kind = Ack interval k }); comes = refl; same = refl }
-arrives_whole laws classes n s sender (ReplyTo client number place answer) committed told within enough keeps = record { event = AMessage (record { sender = sender; kind = ReplyTo client number place answer }); comes = refl; same = refl }
+arrives_whole : Laws → (classes : Classes) (n : ℕ) (s : NodeState) (sender : Party) (kind : MessageKind) (committed reported : ℕ)
+    → s.committed ≤ length s.log → reported ≤ s.committed → KeepsCommitted s kind → Arrives classes n s sender kind (comes_as s.log (carried_as committed reported sender kind))
+arrives_whole laws classes n s sender (Query m) committed reported within enough keeps = record { event = AMessage (record { sender = sender; kind = Query m }); comes = refl; same = refl }
+arrives_whole laws classes n s sender (LogOf interval list) committed reported within enough keeps =
+    list_arrives laws classes n s sender interval list committed reported within enough keeps
+arrives_whole laws classes n s sender (Install m list) committed reported within enough keeps = record { event = AMessage (record { sender = sender; kind = Install m list }); comes = refl; same = refl }
+arrives_whole laws classes n s sender (InstalledIn interval) committed reported within enough keeps = record { event = AMessage (record { sender = sender; kind = InstalledIn interval }); comes = refl; same = refl }
+arrives_whole laws classes n s sender (AskActivate interval) committed reported within enough keeps = record { event = AMessage (record { sender = sender; kind = AskActivate interval }); comes = refl; same = refl }
+arrives_whole laws classes n s sender (Activated interval) committed reported within enough keeps = record { event = AMessage (record { sender = sender; kind = Activated interval }); comes = refl; same = refl }
+arrives_whole laws classes n s sender (Rep interval place r) committed reported within enough keeps = record { event = AMessage (record { sender = sender; kind = Rep interval place r }); comes = refl; same = refl }
+arrives_whole laws classes n s sender (Ack interval k) committed reported within enough keeps = record { event = AMessage (record { sender = sender; kind = Ack interval k }); comes = refl; same = refl }
+arrives_whole laws classes n s sender (ReplyTo client number place answer) committed reported within enough keeps = record { event = AMessage (record { sender = sender; kind = ReplyTo client number place answer }); comes = refl; same = refl }
 
 -- A DELIVERY TO A NODE
-fits_arrived : Laws → (classes : Classes) (w : Parts) (p : Played) → Holds classes w p → (n : ℕ) → n < 16 → (event : WorldEvent) (m : Message) (committed told : ℕ)
-    → told ≤ (p.world.nodes n).committed → KeepsCommitted (p.world.nodes n) m.kind → happens p.world event ≡ at_node p.world n (AMessage m)
-    → Fits classes (arrived classes w n (comes_as (nth_node w.nodes n).state.log (carried_as committed told m.sender m.kind)))
+fits_arrived : Laws → (classes : Classes) (w : Parts) (p : Played) → Holds classes w p → (n : ℕ) → n < 16 → (event : WorldEvent) (m : Message) (committed reported : ℕ)
+    → reported ≤ (p.world.nodes n).committed → KeepsCommitted (p.world.nodes n) m.kind → happens p.world event ≡ at_node p.world n (AMessage m)
+    → Fits classes (arrived classes w n (comes_as (nth_node w.nodes n).state.log (carried_as committed reported m.sender m.kind)))
     (unless_refused p event (outcome_at p.world n (AMessage m)) (outcome_at p.world n (AMessage m)).refusal)
-fits_arrived laws classes w p held n low event m committed told enough keeps is =
+fits_arrived laws classes w p held n low event m committed reported enough keeps is =
     let s = p.world.nodes n in
     let ok = sound classes laws.uncut p.world held.reached in
-    let all = arrives_whole laws classes n s m.sender m.kind committed told (ok.within n) enough keeps in
+    let all = arrives_whole laws classes n s m.sender m.kind committed reported (ok.within n) enough keeps in
     let h = unless_refused p event (outcome_at p.world n (AMessage m)) (outcome_at p.world n (AMessage m)).refusal in
-    subst (λ (x : NumberedNode). Fits classes (arrived classes w n (comes_as x.state.log (carried_as committed told m.sender m.kind))) h) (sym (held.nodes n low))
+    subst (λ (x : NumberedNode). Fits classes (arrived classes w n (comes_as x.state.log (carried_as committed reported m.sender m.kind))) h) (sym (held.nodes n low))
     (subst (λ (c : Option Event). Fits classes (arrived classes w n c) h) (sym all.comes)
     (fits_handled laws classes w p held n low event all.event (AMessage m) is all.same))
 
@@ -300,29 +300,29 @@ fits_asked classes w p held event asker interval is =
     subst (λ (m : MonitorState). Fits classes (activated w asker interval (activation_refusal m interval)) (activates p event (activation_refusal p.world.monitor interval))) (sym held.monitor)
     (fits_activated classes w p held event asker interval is (activation_refusal p.world.monitor interval) refl)
 
-fits_monitor : (classes : Classes) (w : Parts) (p : Played) → Holds classes w p → (event : WorldEvent) (sender : Party) (kind : Kind) (committed told : ℕ)
+fits_monitor : (classes : Classes) (w : Parts) (p : Played) → Holds classes w p → (event : WorldEvent) (sender : Party) (kind : MessageKind) (committed reported : ℕ)
     → happens p.world event ≡ deliver_to p.world TheMonitor (record { sender = sender; kind = kind })
-    → Fits classes (delivered classes w (delivery_to w.nodes TheMonitor (carried_as committed told sender kind))) (steps.at_monitor p event kind)
-fits_monitor classes w p held event sender (AskActivate interval) committed told is = fits_asked classes w p held event sender interval is
-fits_monitor classes w p held event sender (Query m) committed told is = fits_stays classes w p held (Sent 0)
-fits_monitor classes w p held event sender (LogOf interval list) committed told is = fits_stays classes w p held (Sent 0)
-fits_monitor classes w p held event sender (Install m list) committed told is = fits_stays classes w p held (Sent 0)
-fits_monitor classes w p held event sender (InstalledIn interval) committed told is = fits_stays classes w p held (Sent 0)
-fits_monitor classes w p held event sender (Activated interval) committed told is = fits_stays classes w p held (Sent 0)
-fits_monitor classes w p held event sender (Rep interval place r) committed told is = fits_stays classes w p held (Sent 0)
-fits_monitor classes w p held event sender (Ack interval k) committed told is = fits_stays classes w p held (Sent 0)
-fits_monitor classes w p held event sender (ReplyTo client number place answer) committed told is = fits_stays classes w p held (Sent 0)
+    → Fits classes (delivered classes w (delivery_to w.nodes TheMonitor (carried_as committed reported sender kind))) (steps.at_monitor p event kind)
+fits_monitor classes w p held event sender (AskActivate interval) committed reported is = fits_asked classes w p held event sender interval is
+fits_monitor classes w p held event sender (Query m) committed reported is = fits_stays classes w p held (Sent 0)
+fits_monitor classes w p held event sender (LogOf interval list) committed reported is = fits_stays classes w p held (Sent 0)
+fits_monitor classes w p held event sender (Install m list) committed reported is = fits_stays classes w p held (Sent 0)
+fits_monitor classes w p held event sender (InstalledIn interval) committed reported is = fits_stays classes w p held (Sent 0)
+fits_monitor classes w p held event sender (Activated interval) committed reported is = fits_stays classes w p held (Sent 0)
+fits_monitor classes w p held event sender (Rep interval place r) committed reported is = fits_stays classes w p held (Sent 0)
+fits_monitor classes w p held event sender (Ack interval k) committed reported is = fits_stays classes w p held (Sent 0)
+fits_monitor classes w p held event sender (ReplyTo client number place answer) committed reported is = fits_stays classes w p held (Sent 0)
 
 -- A DELIVERY
-fits_to : Laws → (classes : Classes) (w : Parts) (p : Played) → Holds classes w p → (event : WorldEvent) (receiver : Party) (m : Message) (committed told : ℕ)
-    → HasCommitted p.world.nodes receiver told → ((n : ℕ) → KeepsCommitted (p.world.nodes n) m.kind) → happens p.world event ≡ deliver_to p.world receiver m
-    → Fits classes (delivered classes w (delivery_to w.nodes receiver (carried_as committed told m.sender m.kind))) (steps.deliver_to p event receiver m)
-fits_to laws classes w p held event (ANode n) m committed told enough keeps is =
-    fits_unless classes w p held n (arrived classes w n (comes_as (nth_node w.nodes n).state.log (carried_as committed told m.sender m.kind)))
+fits_to : Laws → (classes : Classes) (w : Parts) (p : Played) → Holds classes w p → (event : WorldEvent) (receiver : Party) (m : Message) (committed reported : ℕ)
+    → HasCommitted p.world.nodes receiver reported → ((n : ℕ) → KeepsCommitted (p.world.nodes n) m.kind) → happens p.world event ≡ deliver_to p.world receiver m
+    → Fits classes (delivered classes w (delivery_to w.nodes receiver (carried_as committed reported m.sender m.kind))) (steps.deliver_to p event receiver m)
+fits_to laws classes w p held event (ANode n) m committed reported enough keeps is =
+    fits_unless classes w p held n (arrived classes w n (comes_as (nth_node w.nodes n).state.log (carried_as committed reported m.sender m.kind)))
     (unless_refused p event (outcome_at p.world n (AMessage m)) (outcome_at p.world n (AMessage m)).refusal)
-    (λ low. fits_arrived laws classes w p held n low event m committed told enough (keeps n) is)
-fits_to laws classes w p held event TheMonitor m committed told enough keeps is = fits_monitor classes w p held event m.sender m.kind committed told is
-fits_to laws classes w p held event (AClient client) m committed told enough keeps is = fits_stays classes w p held (Sent 0)
+    (λ low. fits_arrived laws classes w p held n low event m committed reported enough (keeps n) is)
+fits_to laws classes w p held event TheMonitor m committed reported enough keeps is = fits_monitor classes w p held event m.sender m.kind committed reported is
+fits_to laws classes w p held event (AClient client) m committed reported enough keeps is = fits_stays classes w p held (Sent 0)
 
 fits_kept : Laws → (classes : Classes) (w : Parts) (p : Played) → Holds classes w p → (number : ℕ) (k : KeptMessage) (q : Packet)
     → slice_get p.world.sent (number - 1) ≡ Some q → IsKept p.world.nodes k q
@@ -330,7 +330,7 @@ fits_kept : Laws → (classes : Classes) (w : Parts) (p : Played) → Holds clas
 fits_kept laws classes w p held number k q at is =
     let h = steps.deliver p number (Some q) in
     subst (λ (x : KeptMessage). Fits classes (delivered_at classes w (Some x)) h) (sym is.same)
-    (fits_to laws classes w p held (Delivered (number - 1)) q.receiver q.message is.committed is.told is.enough
+    (fits_to laws classes w p held (Delivered (number - 1)) q.receiver q.message is.committed is.reported is.enough
     (λ n. keeps laws.agreed classes p.world held.reached n q (contains_at p.world.sent (number - 1) q at))
     (ap (deliver p.world) at))
 

@@ -16,20 +16,20 @@ use Rattle.sim_world.specs.Step.{Played, is_node, step}
 use Rattle.sim_world.specs.inner.Parts.{Parts, nth_node}
 use Rattle.sim_world.specs.declared.kept.KeptMessage.{KeptMessage}
 
--- A MESSAGE IS KEPT as it is carried; of a list a node told no more than it has committed now.
+-- A MESSAGE IS KEPT as it is carried; of a list the receiving node reported no more than it has committed now.
 abbrev pub HasCommitted : (ℕ → NodeState) → Party → ℕ → Type 0
-HasCommitted nodes (ANode n) told = told ≤ (nodes n).committed
-HasCommitted nodes TheMonitor told = Unit {0}
-HasCommitted nodes (AClient client) told = Unit {0}
+HasCommitted nodes (ANode n) reported = reported ≤ (nodes n).committed
+HasCommitted nodes TheMonitor reported = Unit {0}
+HasCommitted nodes (AClient client) reported = Unit {0}
 
 abbrev pub kept_as : ℕ → ℕ → Packet → KeptMessage
-kept_as committed told p = record { receiver = p.receiver; carried = carried_as committed told p.message.sender p.message.kind }
+kept_as committed reported p = record { receiver = p.receiver; carried = carried_as committed reported p.message.sender p.message.kind }
 
 pub record IsKept (nodes : ℕ → NodeState) (k : KeptMessage) (p : Packet) : Type 0 where
   pub committed : ℕ
-  pub told : ℕ
-  pub same : k ≡ kept_as committed told p
-  pub enough : HasCommitted nodes p.receiver told
+  pub reported : ℕ
+  pub same : k ≡ kept_as committed reported p
+  pub enough : HasCommitted nodes p.receiver reported
 
 -- each message, at the same number
 abbrev pub AreKept : (ℕ → NodeState) → List KeptMessage → List Packet → Type 0

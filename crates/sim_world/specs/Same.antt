@@ -5,8 +5,8 @@ use Rattle.group_world.specs.Maps.{GroupMap, is_same_list}
 use Rattle.group_world.specs.Rules.{is_same_request}
 use Rattle.group_world.specs.declared.party.Party.{Party}
 use Rattle.group_world.specs.declared.party.Party.TheVariants.{Node as ANode, Monitor as TheMonitor, Client as AClient}
-use Rattle.group_world.specs.declared.message.Kind.{Kind}
-use Rattle.group_world.specs.declared.message.Kind.TheVariants.{Query, Install, AskActivate, Rep}
+use Rattle.group_world.specs.declared.message.MessageKind.{MessageKind}
+use Rattle.group_world.specs.declared.message.MessageKind.TheVariants.{Query, Install, AskActivate, Rep}
 use Rattle.group_world.specs.declared.message.Packet.{Packet}
 
 -- only these four kinds are sent again
@@ -19,23 +19,23 @@ are_same_requests [] (y ∷ ys) = false
 are_same_requests (x ∷ xs) [] = false
 are_same_requests (x ∷ xs) (y ∷ ys) = is_same_request x y && are_same_requests xs ys
 
-abbrev pub is_query : Kind → GroupMap → Bool
+abbrev pub is_query : MessageKind → GroupMap → Bool
 is_query (Query n) m = is_same_map m n
 is_query _ m = false
 
-abbrev pub is_install : Kind → GroupMap → List ClientRequest → Bool
+abbrev pub is_install : MessageKind → GroupMap → List ClientRequest → Bool
 is_install (Install n ys) m xs = is_same_map m n && are_same_requests xs ys
 is_install _ m xs = false
 
-abbrev pub is_ask : Kind → ℕ → Bool
+abbrev pub is_ask : MessageKind → ℕ → Bool
 is_ask (AskActivate other) interval = interval == other
 is_ask _ interval = false
 
-abbrev pub is_rep : Kind → ℕ → ℕ → ClientRequest → Bool
+abbrev pub is_rep : MessageKind → ℕ → ℕ → ClientRequest → Bool
 is_rep (Rep other at q) interval place r = (interval == other) && ((place == at) && is_same_request r q)
 is_rep _ interval place r = false
 
-abbrev pub is_same_kind : Kind → Kind → Bool
+abbrev pub is_same_kind : MessageKind → MessageKind → Bool
 is_same_kind (Query m) other = is_query other m
 is_same_kind (Install m list) other = is_install other m list
 is_same_kind (AskActivate interval) other = is_ask other interval

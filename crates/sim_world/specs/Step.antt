@@ -12,8 +12,8 @@ use Rattle.group_world.specs.declared.monitor_error.MonitorError.{MonitorError}
 use Rattle.group_world.specs.declared.handle_error.HandleError.{HandleError}
 use Rattle.group_world.specs.declared.party.Party.{Party}
 use Rattle.group_world.specs.declared.party.Party.TheVariants.{Node as ANode, Monitor as TheMonitor, Client as AClient}
-use Rattle.group_world.specs.declared.message.Kind.{Kind}
-use Rattle.group_world.specs.declared.message.Kind.TheVariants.{AskActivate}
+use Rattle.group_world.specs.declared.message.MessageKind.{MessageKind}
+use Rattle.group_world.specs.declared.message.MessageKind.TheVariants.{AskActivate}
 use Rattle.group_world.specs.declared.message.Message.{Message}
 use Rattle.group_world.specs.declared.message.Packet.{Packet}
 use Rattle.group_world.specs.declared.event.Event.{Event}
@@ -78,7 +78,7 @@ abbrev pub activates : Played → WorldEvent → Option MonitorError → Happene
 activates p event None = happened p event (Sent 1)
 activates p event (Some why) = stays p (MonitorRefused why)
 
-abbrev pub at_monitor : Played → WorldEvent → Kind → Happened
+abbrev pub at_monitor : Played → WorldEvent → MessageKind → Happened
 at_monitor p event (AskActivate interval) = activates p event (activation_refusal p.world.monitor interval)
 at_monitor p event _ = stays p (Sent 0)
 

@@ -10,7 +10,7 @@ use crate::keeping::keep;
 use crate::kept::KeptMessage;
 use crate::parts::Parts;
 use carried::{Carried, event_of};
-use group_world::{Epoch, Event, Kind, Message, Packet, Party};
+use group_world::{Epoch, Event, Message, MessageKind, Packet, Party};
 use peering::GroupNode;
 use pg_log::{ClassTable, Classes};
 use placement::NodeId;
@@ -36,25 +36,25 @@ fn activated_for(asker: Party, interval: Epoch) -> Packet
         receiver: asker,
         message: Message {
             sender: Party::Monitor,
-            kind: Kind::Activated(interval),
+            kind: MessageKind::Activated(interval),
         },
     }
 }
 
 /// The interval that the monitor is asked to activate, if that is said.
-fn asked_in(kind: &Kind) -> Option<Epoch>
+fn asked_in(kind: &MessageKind) -> Option<Epoch>
     ensures { result ≡ asked_in kind.now }
 {
     match kind {
-        Kind::AskActivate(interval) => Some(*interval),
-        Kind::Query(_) => None,
-        Kind::Log(_, _) => None,
-        Kind::Install(_, _) => None,
-        Kind::Installed(_) => None,
-        Kind::Activated(_) => None,
-        Kind::Rep(_, _, _) => None,
-        Kind::Ack(_, _) => None,
-        Kind::Reply(_, _, _, _) => None,
+        MessageKind::AskActivate(interval) => Some(*interval),
+        MessageKind::Query(_) => None,
+        MessageKind::Log(_, _) => None,
+        MessageKind::Install(_, _) => None,
+        MessageKind::Installed(_) => None,
+        MessageKind::Activated(_) => None,
+        MessageKind::Rep(_, _, _) => None,
+        MessageKind::Ack(_, _) => None,
+        MessageKind::Reply(_, _, _, _) => None,
     }
 }
 
@@ -92,11 +92,11 @@ fn coming_to<C: Classes>(
     let Ok(carried) = carried.copy(alloc) else {
         return Err(AllocError);
     };
-    let own = match nodes.get(node.get() as usize) {
+    let entries = match nodes.get(node.get() as usize) {
         Some(node) => node.group().entries(),
         None => &[],
     };
-    match event_of(alloc, own, carried) {
+    match event_of(alloc, entries, carried) {
         Ok(event) => Ok(event),
         Err(_) => Err(AllocError),
     }

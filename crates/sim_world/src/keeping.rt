@@ -47,14 +47,14 @@ pub(crate) fn keep<C: Classes>(
     ensures { IfOk result (λ k. k ≡ kept nodes.now packet) }
 {
     let committed = sender_has(nodes, &packet);
-    let told = receiver_has(nodes, &packet);
-    match pack(alloc, committed, told, packet) {
+    let reported = receiver_has(nodes, &packet);
+    match pack(alloc, committed, reported, packet) {
         Ok((receiver, carried)) => Ok(KeptMessage { receiver, carried }),
         Err(_) => Err(AllocError),
     }
 }
 
-/// Keeps messages behind those that were sent before.
+/// Keeps messages after those that were sent before.
 fn keep_all<C: Classes>(
     alloc: Global,
     nodes: &[GroupNode<C>],
@@ -70,7 +70,7 @@ fn keep_all<C: Classes>(
     Ok(())
 }
 
-/// Keeps what a node sent behind what was sent before, and says how many messages that is.
+/// Keeps what a node sent after what was sent before, and says how many messages that is.
 pub(crate) fn keep_sent<C: Classes>(
     alloc: Global,
     nodes: &[GroupNode<C>],

@@ -6,7 +6,7 @@ ghost use Rattle.sim_world.specs.inner.Buckets.{is_kept_as, is_same_carried, is_
 use crate::kept::KeptMessage;
 use crate::sent::Sent;
 use carried::Carried;
-use group_world::{Epoch, Event, GroupMap, Kind, Packet, Party, Place, Requests};
+use group_world::{Epoch, Event, GroupMap, MessageKind, Packet, Party, Place, Requests};
 use peering_messages::{are_same, is_same_request};
 use pg_log::{ClientId, Request, are_same_requests};
 use placement::NodeId;
@@ -31,68 +31,68 @@ fn are_equal(list: &[Request], other: &[Request]) -> bool
 }
 
 /// Whether it is a Query of that map.
-fn is_query(kind: &Kind, map: &GroupMap) -> bool
-    ensures { result ≡ is_same_kind (Kind.Query map.now) kind.now }
+fn is_query(kind: &MessageKind, map: &GroupMap) -> bool
+    ensures { result ≡ is_same_kind (MessageKind.Query map.now) kind.now }
 {
-    if let Kind::Query(other) = kind {
+    if let MessageKind::Query(other) = kind {
         return is_same_map(map, other);
     }
     false
 }
 
 /// Whether it is that map's Query.
-fn is_asked(kind: &Kind, map: &GroupMap) -> bool
-    ensures { result ≡ is_same_kind kind.now (Kind.Query map.now) }
+fn is_asked(kind: &MessageKind, map: &GroupMap) -> bool
+    ensures { result ≡ is_same_kind kind.now (MessageKind.Query map.now) }
 {
-    if let Kind::Query(other) = kind {
+    if let MessageKind::Query(other) = kind {
         return is_same_map(other, map);
     }
     false
 }
 
 /// Whether it is an Install of that map and list.
-fn is_install(kind: &Kind, map: &GroupMap, list: &Requests) -> bool
-    ensures { result ≡ is_same_kind (Kind.Install map.now list.now) kind.now }
+fn is_install(kind: &MessageKind, map: &GroupMap, list: &Requests) -> bool
+    ensures { result ≡ is_same_kind (MessageKind.Install map.now list.now) kind.now }
 {
-    if let Kind::Install(other, same) = kind {
+    if let MessageKind::Install(other, same) = kind {
         return is_same_map(map, other) && are_equal(list.items(), same.items());
     }
     false
 }
 
 /// Whether it asks for that interval.
-fn is_ask(kind: &Kind, interval: Epoch) -> bool
-    ensures { result ≡ is_same_kind (Kind.AskActivate interval) kind.now }
+fn is_ask(kind: &MessageKind, interval: Epoch) -> bool
+    ensures { result ≡ is_same_kind (MessageKind.AskActivate interval) kind.now }
 {
-    if let Kind::AskActivate(other) = kind {
+    if let MessageKind::AskActivate(other) = kind {
         return interval == *other;
     }
     false
 }
 
 /// Whether it is a Rep of that interval, place and request.
-fn is_rep(kind: &Kind, interval: Epoch, place: Place, request: &Request) -> bool
-    ensures { result ≡ is_same_kind (Kind.Rep interval place request.now) kind.now }
+fn is_rep(kind: &MessageKind, interval: Epoch, place: Place, request: &Request) -> bool
+    ensures { result ≡ is_same_kind (MessageKind.Rep interval place request.now) kind.now }
 {
-    if let Kind::Rep(other, at, same) = kind {
+    if let MessageKind::Rep(other, at, same) = kind {
         return interval == *other && place == *at && is_same_request(request, same);
     }
     false
 }
 
-fn is_same_kind(kind: &Kind, other: &Kind) -> bool
+fn is_same_kind(kind: &MessageKind, other: &MessageKind) -> bool
     ensures { result ≡ is_same_kind kind.now other.now }
 {
     match kind {
-        Kind::Query(map) => is_query(other, map),
-        Kind::Install(map, list) => is_install(other, map, list),
-        Kind::AskActivate(interval) => is_ask(other, *interval),
-        Kind::Rep(interval, place, request) => is_rep(other, *interval, *place, request),
-        Kind::Log(_, _) => false,
-        Kind::Installed(_) => false,
-        Kind::Activated(_) => false,
-        Kind::Ack(_, _) => false,
-        Kind::Reply(_, _, _, _) => false,
+        MessageKind::Query(map) => is_query(other, map),
+        MessageKind::Install(map, list) => is_install(other, map, list),
+        MessageKind::AskActivate(interval) => is_ask(other, *interval),
+        MessageKind::Rep(interval, place, request) => is_rep(other, *interval, *place, request),
+        MessageKind::Log(_, _) => false,
+        MessageKind::Installed(_) => false,
+        MessageKind::Activated(_) => false,
+        MessageKind::Ack(_, _) => false,
+        MessageKind::Reply(_, _, _, _) => false,
     }
 }
 
@@ -140,7 +140,7 @@ fn is_same_party(party: Party, other: Party) -> bool
 }
 
 /// Whether a message that is kept says the same.
-fn is_same_event(kind: &Kind, event: &Event) -> bool
+fn is_same_event(kind: &MessageKind, event: &Event) -> bool
     ensures { result ≡ is_same_event kind.now event.now }
 {
     match event {
@@ -151,7 +151,7 @@ fn is_same_event(kind: &Kind, event: &Event) -> bool
 }
 
 /// Whether what is kept of a message says the same. A list is never sent again.
-fn is_same_carried(kind: &Kind, carried: &Carried) -> bool
+fn is_same_carried(kind: &MessageKind, carried: &Carried) -> bool
     ensures { result ≡ is_same_carried kind.now carried.now }
 {
     match carried {

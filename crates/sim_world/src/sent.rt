@@ -6,7 +6,7 @@ ghost use Rattle.sim_world.specs.inner.Buckets.{AreInBuckets, bucket, bucket_in,
 use crate::kept::KeptMessage;
 use crate::same::is_kept_as;
 use carried::Carried;
-use group_world::{Event, Kind, Packet};
+use group_world::{Event, MessageKind, Packet};
 use sim_text::{Numbers, numbered};
 use std::alloc::{AllocError, Global};
 use std::marker::Model;
@@ -18,20 +18,20 @@ const SPREAD: usize = 1024;
 const BUCKETS: usize = 1025;
 
 /// The bucket of a message.
-fn bucket(kind: &Kind) -> usize
+fn bucket(kind: &MessageKind) -> usize
     ensures value { result ≡ bucket kind.now }
     ensures below { result ≤ SPREAD }
 {
     match kind {
-        Kind::Query(map) => map.interval().get() as usize % SPREAD,
-        Kind::Install(map, _) => map.interval().get() as usize % SPREAD,
-        Kind::AskActivate(interval) => interval.get() as usize % SPREAD,
-        Kind::Rep(_, place, _) => *place % SPREAD,
-        Kind::Log(_, _) => SPREAD,
-        Kind::Installed(_) => SPREAD,
-        Kind::Activated(_) => SPREAD,
-        Kind::Ack(_, _) => SPREAD,
-        Kind::Reply(_, _, _, _) => SPREAD,
+        MessageKind::Query(map) => map.interval().get() as usize % SPREAD,
+        MessageKind::Install(map, _) => map.interval().get() as usize % SPREAD,
+        MessageKind::AskActivate(interval) => interval.get() as usize % SPREAD,
+        MessageKind::Rep(_, place, _) => *place % SPREAD,
+        MessageKind::Log(_, _) => SPREAD,
+        MessageKind::Installed(_) => SPREAD,
+        MessageKind::Activated(_) => SPREAD,
+        MessageKind::Ack(_, _) => SPREAD,
+        MessageKind::Reply(_, _, _, _) => SPREAD,
     }
 }
 
@@ -77,7 +77,7 @@ fn put(buckets: &mut Vec<Numbers>, at: usize, number: usize) -> Result<(), Alloc
     buckets[at].push(number)
 }
 
-/// The number behind that one. There is no memory for more messages than there are numbers.
+/// The number after that one. There is no memory for more messages than there are numbers.
 pub(crate) fn next_number(number: usize) -> Result<usize, AllocError>
     ensures { IfOk result (λ n. n ≡ suc number) }
 {
@@ -91,7 +91,7 @@ fn last_number(kept: &Vec<KeptMessage>) -> usize
     kept.len()
 }
 
-/// Keeps a message behind the others, and its number in its bucket. Where memory is refused, both are as before.
+/// Keeps a message after the others, and its number in its bucket. Where memory is refused, both are as before.
 fn keep_numbered(
     kept: &mut Vec<KeptMessage>,
     buckets: &mut Vec<Numbers>,
@@ -199,7 +199,7 @@ impl Sent {
         self.kept.len()
     }
 
-    /// Keeps a message behind the others. It fails for want of memory alone; all is then as before.
+    /// Keeps a message after the others. It fails for want of memory alone; all is then as before.
     pub(crate) fn push(&mut self, message: KeptMessage) -> Result<(), AllocError>
         ensures ok { OnOk result (self.new ≡ self.old ++ message ∷ []) }
         ensures err { OnErr result (self.new ≡ self.old) }

@@ -32,7 +32,7 @@ fn kept_text(alloc: Global, number: usize, messages: &[KeptMessage]) -> Result<S
     kept_lines(alloc, number, messages)
 }
 
-/// The last messages, so many.
+/// The last `count` messages.
 fn last_kept(alloc: Global, sent: &[KeptMessage], count: usize) -> Result<String, AllocError>
     ensures { IfOk result (λ t. string_bytes t ≡ last_kept sent.now count) }
 {

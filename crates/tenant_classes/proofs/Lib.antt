@@ -1,1 +1,1 @@
-mod Owning
+mod Tenants

@@ -11,30 +11,30 @@ use Rattle.class_tool.specs.Image.{IsSafeIn, LoadFails}
 use Rattle.class_tool.specs.declared.failure.Failure.{Failure}
 use Rattle.class_tool.specs.declared.failure.Failure.TheVariants.{NoMemory, Text, Verdict}
 use Rattle.pg_log.specs.Log.{Classes}
-use Rattle.tenant_classes.specs.declared.own_class.OwnClass.{OwnClass}
+use Rattle.tenant_classes.specs.declared.tenant_class.TenantClass.{TenantClass}
 
 -- the words that ask the classes, by their ids
-abbrev pub names_of : List OwnClass → List (List ℕ)
-names_of own = codes "lock" ∷ codes "obj" ∷ map (λ o. o.name.now) own
+abbrev pub names_of : List TenantClass → List (List ℕ)
+names_of tenants = codes "lock" ∷ codes "obj" ∷ map (λ o. o.name.now) tenants
 
 -- each class is the one whose image the file holds, and safe, one after the other
-abbrev pub AreIn : Option Disk → List OwnClass → Classes → Type 0
+abbrev pub AreIn : Option Disk → List TenantClass → Classes → Type 0
 AreIn disk [] [] = ⊤
 AreIn disk [] (class ∷ classes) = ⊥
-AreIn disk (o ∷ own) [] = ⊥
-AreIn disk (o ∷ own) (class ∷ classes) = IsSafeIn disk o.image.now class × AreIn disk own classes
+AreIn disk (o ∷ tenants) [] = ⊥
+AreIn disk (o ∷ tenants) (class ∷ classes) = IsSafeIn disk o.image.now class × AreIn disk tenants classes
 
 -- a table grew by those classes
-pub record IsOwn (disk : Option Disk) (own : List OwnClass) (old new : Classes) : Type 0 where
+pub record GrewByTenants (disk : Option Disk) (tenants : List TenantClass) (old new : Classes) : Type 0 where
   pub others : Classes
   pub added : new ≡ old ++ others
-  pub tenants : AreIn disk own others
+  pub loaded : AreIn disk tenants others
 
 -- THE CLASSES: the built-in ones, `lock` 0 and `obj` 1, and from 2 on the tenants' in the order given.
-pub record AreClasses (disk : Option Disk) (own : List OwnClass) (classes : Classes) : Type 0 where
+pub record AreClasses (disk : Option Disk) (tenants : List TenantClass) (classes : Classes) : Type 0 where
   pub ours : Classes
   pub built_in : AreLoaded LOCK.now OBJ.now ours
-  pub tenants : IsOwn disk own ours classes
+  pub loaded : GrewByTenants disk tenants ours classes
 
 -- a built-in class's failure as the program's
 abbrev pub failure_of : BuiltInFailure → Failure
@@ -47,14 +47,14 @@ abbrev pub BuiltInFails : Failure → Type 0
 BuiltInFails failure = (why : BuiltInFailure) × (failure ≡ failure_of why) × (TextFails LOCK.now why ⊎ TextFails OBJ.now why)
 
 -- a file holds the image of a safe class
-abbrev pub HoldsClass : Option Disk → OwnClass → Type 0
+abbrev pub HoldsClass : Option Disk → TenantClass → Type 0
 HoldsClass disk o = (class : List ClassMethod) × IsSafeIn disk o.image.now class
 
 -- The first file from which no safe class was read, and why; each file before it holds one.
-abbrev pub OwnFails : Option Disk → List OwnClass → Failure → Type 0
-OwnFails disk [] failure = ⊥
-OwnFails disk (o ∷ own) failure = LoadFails disk o.image.now failure ⊎ (HoldsClass disk o × OwnFails disk own failure)
+abbrev pub TenantsFail : Option Disk → List TenantClass → Failure → Type 0
+TenantsFail disk [] failure = ⊥
+TenantsFail disk (o ∷ tenants) failure = LoadFails disk o.image.now failure ⊎ (HoldsClass disk o × TenantsFail disk tenants failure)
 
 -- Why the classes can't be had: one of the built-in ones can't, or the first of the tenants' that can't.
-abbrev pub ClassesFail : Option Disk → List OwnClass → Failure → Type 0
-ClassesFail disk own failure = BuiltInFails failure ⊎ OwnFails disk own failure
+abbrev pub ClassesFail : Option Disk → List TenantClass → Failure → Type 0
+ClassesFail disk tenants failure = BuiltInFails failure ⊎ TenantsFail disk tenants failure

@@ -4,7 +4,7 @@
 #![tactic(auto)]
 
 mod loading;
-mod own_class;
+mod tenant_class;
 
 pub use loading::{class_names, classes};
-pub use own_class::{OWN_LIMIT, OwnClass};
+pub use tenant_class::{TENANT_LIMIT, TenantClass};

@@ -4,9 +4,9 @@ ghost use Rattle.builtin_classes.specs.BuiltIn.{AreLoaded};
 ghost use Rattle.builtin_classes.specs.declared.lock.TheConstants.{LOCK};
 ghost use Rattle.builtin_classes.specs.declared.obj.TheConstants.{OBJ};
 ghost use Rattle.interp.specs.declared.limits.TheConstants.{CLASS_LIMIT};
-ghost use Rattle.tenant_classes.specs.Classes.{AreClasses, BuiltInFails, ClassesFail, OwnFails, IsOwn, failure_of, names_of};
+ghost use Rattle.tenant_classes.specs.Classes.{AreClasses, BuiltInFails, ClassesFail, TenantsFail, GrewByTenants, failure_of, names_of};
 
-use crate::own_class::{OWN_LIMIT, OwnClass};
+use crate::tenant_class::{TENANT_LIMIT, TenantClass};
 use builtin_classes::{BuiltInFailure, load_lock, load_obj};
 use class_tool::{Failure, Reads, load};
 use interp::ClassTable;
@@ -55,46 +55,49 @@ fn built_in(alloc: Global) -> Result<ClassTable, Failure>
 }
 
 /// Adds the tenants' classes, in their order. The first that can't be loaded says why.
-fn add_own<F: Reads>(
+fn add_tenants<F: Reads>(
     alloc: Global,
     files: &F,
-    own: &[OwnClass<'_>],
+    tenants: &[TenantClass<'_>],
     table: &mut ClassTable,
 ) -> Result<(), Failure>
-    requires { length table.old + length own.now ≤ CLASS_LIMIT }
-    ensures added { OnOk result (IsOwn (F.disk files.now) own.now table.old table.new) }
-    ensures fails { IfErr result (OwnFails (F.disk files.now) own.now) }
+    requires { length table.old + length tenants.now ≤ CLASS_LIMIT }
+    ensures added { OnOk result (GrewByTenants (F.disk files.now) tenants.now table.old table.new) }
+    ensures fails { IfErr result (TenantsFail (F.disk files.now) tenants.now) }
 {
-    for class in own {
+    for class in tenants {
         let loaded = load(alloc, files, class.image)?;
         add(table, loaded)?;
     }
     Ok(())
 }
 
-/// The built-in classes, `lock` 0 and `obj` 1, and the tenants' behind them in their order. A failure is the first in this
+/// The built-in classes, `lock` 0 and `obj` 1, and the tenants' after them in their order. A failure is the first in this
 /// order: a built-in class can't be had, which memory alone is known to cause; the image of a tenant's class can't be
 /// loaded, the first one in their order.
 pub fn classes<F: Reads>(
     alloc: Global,
     files: &F,
-    own: &[OwnClass<'_>],
+    tenants: &[TenantClass<'_>],
 ) -> Result<ClassTable, Failure>
-    requires { length own.now ≤ OWN_LIMIT }
-    ensures loaded { IfOk result (AreClasses (F.disk files.now) own.now) }
-    ensures fails { IfErr result (ClassesFail (F.disk files.now) own.now) }
+    requires { length tenants.now ≤ TENANT_LIMIT }
+    ensures loaded { IfOk result (AreClasses (F.disk files.now) tenants.now) }
+    ensures fails { IfErr result (ClassesFail (F.disk files.now) tenants.now) }
 {
     let mut table = built_in(alloc)?;
-    add_own(alloc, files, own, &mut table)?;
+    add_tenants(alloc, files, tenants, &mut table)?;
     Ok(table)
 }
 
 /// The words that ask those classes, by their ids. It fails for want of memory alone.
-pub fn class_names<'a>(alloc: Global, own: &[OwnClass<'a>]) -> Result<Vec<&'a str>, AllocError>
-    ensures { IfOk result (λ v. map (λ n. n.now) v.items ≡ names_of own.now) }
+pub fn class_names<'a>(
+    alloc: Global,
+    tenants: &[TenantClass<'a>],
+) -> Result<Vec<&'a str>, AllocError>
+    ensures { IfOk result (λ v. map (λ n. n.now) v.items ≡ names_of tenants.now) }
 {
     let mut names = vec![in alloc; "lock", "obj"]?;
-    for class in own {
+    for class in tenants {
         names.push(class.name)?;
     }
     Ok(names)

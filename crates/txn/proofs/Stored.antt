@@ -44,3 +44,9 @@ stored-stored objects name o =
 pub get-stored_same : (objects : PlainObjects) (name : List ℕ) (o : PlainObject) → fin.get (stored objects name o) name ≡ o
 get-stored_same objects name o =
     get-stored objects name o name ∙ ap (λ b. cond b o (fin.get objects name)) ((eq_by_cmp_equiv nat_list_cmp_total).refl name)
+
+-- to put there what stands there changes nothing
+pub stored-get : (objects : PlainObjects) (name : List ℕ) → stored objects name (fin.get objects name) ≡ objects
+stored-get objects name =
+    fin.same_map nat_list_cmp_total (slice_cmp-IsAntisymmetric nat_cmp-IsAntisymmetric) _ _
+    (λ q. get-stored objects name (fin.get objects name) q ∙ at_ties objects name q)

@@ -6,34 +6,102 @@ ghost use Rattle.std.specs.Option.{option_copied};
 use crate::no_memory::NoMemory;
 use object_store::{Object, ObjectName, Objects};
 use std::alloc::Global;
+use std::marker::Model;
 
-/// What a call did: the object before and after, none where it is absent. Each shares what the call didn't touch.
+/// The object after a call: the one before it, or what a call made.
+#[derive(Drop)]
+enum After {
+    Same,
+    Made(Option<Object>),
+}
+
+/// What a call did: the object before and after, none if it is absent. One that a call made shares what the call didn't
+/// touch; one that no call changed is held once. Contracts see both.
 #[derive(Drop)]
 pub struct Change {
-    pub before: Option<Object>,
-    pub after: Option<Object>,
+    before: Option<Object>,
+    after: After,
+}
+
+impl Model for Change {
+    ghost use Rattle.txn.specs.Versions.{Versions, versions_code};
+
+    ghost Value = { Versions };
+
+    ghost coded = { versions_code };
+
+    ghost use Rattle.txn.specs.Staging.{left};
+
+    ghost view = { λ c. record { before = c.before; after = left c.before c.after } };
 }
 
 impl Change {
+    /// The change of an object that stays as it is. It copies nothing.
+    pub fn none(object: Option<&Object>) -> Result<Change, NoMemory>
+        ensures before { IfOk result (λ c. c.before ≡ option_copied object.entry) }
+        ensures after { IfOk result (λ c. c.after ≡ option_copied object.entry) }
+    {
+        let before = shared(object)?;
+        Ok(Change {
+            before,
+            after: After::Same,
+        })
+    }
+
     /// The change from one object to another. It copies neither.
-    pub fn of(before: Option<&Object>, after: Option<&Object>) -> Result<Change, NoMemory>
+    pub fn of(before: Option<&Object>, after: Option<Object>) -> Result<Change, NoMemory>
         ensures before { IfOk result (λ c. c.before ≡ option_copied before.entry) }
-        ensures after { IfOk result (λ c. c.after ≡ option_copied after.entry) }
+        ensures after { IfOk result (λ c. c.after ≡ after) }
     {
         let before = shared(before)?;
-        let after = shared(after)?;
-        Ok(Change { before, after })
+        Ok(Change {
+            before,
+            after: After::Made(after),
+        })
+    }
+
+    /// The object before the call; none if it was absent.
+    pub fn before(&self) -> Option<&Object>
+        ensures { option_copied result ≡ self.now.before }
+    {
+        self.before.as_ref()
+    }
+
+    /// The object after the call; none if it is absent.
+    pub fn after(&self) -> Option<&Object>
+        ensures { option_copied result ≡ self.now.after }
+    {
+        match &self.after {
+            After::Same => self.before.as_ref(),
+            After::Made(object) => object.as_ref(),
+        }
+    }
+
+    /// The object after the call, which it takes out of the change.
+    pub fn into_after(self) -> Option<Object>
+        ensures { result ≡ self.after }
+    {
+        let Change { before, after } = self;
+        match after {
+            After::Same => before,
+            After::Made(object) => object,
+        }
     }
 
     /// An equal change, of the same objects.
     pub fn copy(&self) -> Result<Change, NoMemory>
         ensures { IfOk result (λ c. c ≡ self.now) }
     {
-        Change::of(self.before.as_ref(), self.after.as_ref())
+        let before = shared(self.before.as_ref())?;
+        let after = match &self.after {
+            After::Same => After::Same,
+            After::Made(object) => After::Made(shared(object.as_ref())?),
+        };
+        Ok(Change { before, after })
     }
 }
 
-/// The same object once more, where there is one.
+/// The same object by one more pointer, if there is one.
 fn shared(object: Option<&Object>) -> Result<Option<Object>, NoMemory>
     ensures { IfOk result (λ o. o ≡ option_copied object.entry) }
 {
@@ -63,7 +131,8 @@ fn put(
     }
 }
 
-/// Does a change to the object of a name, which is as it was before the change: the object is then as it is after it. It costs a put into the objects.
+/// Does a change to the object of a name, which is as it was before the change: the object is then as it is after it. It costs a put into the objects, and nothing
+/// if no call changed the object.
 pub fn apply(
     alloc: Global,
     objects: &mut Objects,
@@ -75,7 +144,10 @@ pub fn apply(
     ensures stands { OnOk result (fin.get objects.new name.now ≡ change.now.after) }
     ensures err { OnErr result (objects.new ≡ objects.old) }
 {
-    put(alloc, objects, name, change.after.as_ref())
+    match &change.after {
+        After::Same => Ok(()),
+        After::Made(object) => put(alloc, objects, name, object.as_ref()),
+    }
 }
 
 /// Undoes a change on the objects that `apply` left: all objects are then as they were before. It costs a put into
@@ -92,5 +164,5 @@ pub fn undo(
     ensures restored { OnOk result ((was : PlainObjects) → fin.get was name.now ≡ change.now.before → objects.old ≡ stored was name.now change.now.after → objects.new ≡ was) }
     ensures err { OnErr result (objects.new ≡ objects.old) }
 {
-    put(alloc, objects, name, change.before.as_ref())
+    put(alloc, objects, name, change.before())
 }

@@ -20,7 +20,7 @@ enum Newest {
 
 /// An object as a call has it so far. Contracts see it as the call found it and as it is now. Reads are reads of
 /// `object`, the newest version. Until the first write it holds a reference and copies nothing; a write costs what it
-/// touches. A write is the one of `object_store::calls` of the same name: where that refuses it, all stays as it was.
+/// touches. A write is the one of `object_store::calls` of the same name: if that refuses it, all stays as it was.
 #[derive(Drop)]
 pub struct Staged<'a> {
     base: Option<&'a Object>,
@@ -41,7 +41,7 @@ impl<'a> Model for Staged<'a> {
 }
 
 impl<'a> Staged<'a> {
-    /// The object as it stands; none where it is absent. It takes no memory.
+    /// The object as it stands; none if it is absent. It takes no memory.
     pub fn over(base: Option<&'a Object>) -> Staged<'a>
         ensures before { result.before ≡ option_copied base.entry }
         ensures after { result.after ≡ option_copied base.entry }
@@ -52,7 +52,7 @@ impl<'a> Staged<'a> {
         }
     }
 
-    /// The object as it is now; none where it is absent.
+    /// The object as it is now; none if it is absent.
     pub fn object(&self) -> Option<&Object>
         ensures { option_copied result ≡ self.entry.now.after }
     {
@@ -124,7 +124,7 @@ impl<'a> Staged<'a> {
         self.renew(object)
     }
 
-    /// Makes the object that a call made the newest version; where the call was refused, all stays as it was.
+    /// Makes the object that a call made the newest version; if the call was refused, all stays as it was.
     fn renew(&mut self, object: Result<Object, StoreError>) -> Result<(), StoreError>
         ensures before { self.new.before ≡ self.old.before }
         ensures answer { (answer : Result Content StoreError) → Gives (λ o. o) object answer → Gives (λ _. self.new.after) result (made answer) }
@@ -134,7 +134,7 @@ impl<'a> Staged<'a> {
         Ok(())
     }
 
-    /// Makes an object with nothing in it where it is absent; one that is there stays as it is. It takes no memory.
+    /// Makes an object with nothing in it if it is absent; one that is there stays as it is. It takes no memory.
     pub fn create(&mut self)
         ensures before { self.new.before ≡ self.old.before }
         ensures after { self.new.after ≡ Some (content_of self.old.after) }
@@ -157,6 +157,10 @@ impl<'a> Staged<'a> {
         ensures before { IfOk result (λ c. c.before ≡ self.entry.before) }
         ensures after { IfOk result (λ c. c.after ≡ self.entry.after) }
     {
-        Change::of(self.base, self.object())
+        let Staged { base, newest } = self;
+        match newest {
+            Newest::Untouched => Change::none(base),
+            Newest::Written(object) => Change::of(base, object),
+        }
     }
 }

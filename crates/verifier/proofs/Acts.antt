@@ -10,7 +10,7 @@ use Rattle.bpf_decode.specs.declared.insn.Insn.{Insn}
 use Rattle.bpf_decode.specs.declared.insn.Insn.TheVariants.{Alu, Neg, Mov, MovSigned, End, LoadWide, Load, LoadSigned, Store, Jump, JumpLong, Branch, Call, CallLocal, Exit}
 use Rattle.bpf_decode.specs.declared.access.SignedWidth.{SignedWidth}
 use Rattle.bpf_decode.specs.declared.access.SignedWidth.TheVariants as signed
-use Rattle.bpf_decode.specs.declared.operation.Bits.{Bits}
+use Rattle.bpf_decode.specs.declared.operation.OpWidth.{OpWidth}
 use Rattle.bpf_decode.specs.declared.operation.Arithmetic.{Arithmetic}
 use Rattle.bpf_decode.specs.declared.operation.SignedMove.{SignedMove}
 use Rattle.bpf_decode.specs.declared.operation.ByteOrder.{ByteOrder}
@@ -106,7 +106,7 @@ module _ (laws : Laws) (caps : Caps) (sizes : AreCapacities caps) (code : List (
   computed_step : (i : Insn) (d : ℕ) (v : Value) (q : ℕ) → typed_act caps i s ≡ Some (go q (record s { regs = slice_set s.regs d (Some v) })) → Moves (room_of i) i s.slot s.regs vs q (slice_set s.regs d (Some v)) vs → Steps known caps i s
   computed_step i d v q e m = record { to = go q (record s { regs = slice_set s.regs d (Some v) }); act = e; moves = m; within = within_regs s q (slice_set s.regs d (Some v)) h.within }
 
-  alu_steps : (bits : Bits) (operation : Arithmetic) (d : ℕ) (x : Operand) → Fits (Alu bits operation d x) → Passed caps code p (Alu bits operation d x) f → Steps known caps (Alu bits operation d x) s
+  alu_steps : (bits : OpWidth) (operation : Arithmetic) (d : ℕ) (x : Operand) → Fits (Alu bits operation d x) → Passed caps code p (Alu bits operation d x) f → Steps known caps (Alu bits operation d x) s
   alu_steps bits operation d x fit ok =
       let unset = neither (is_unset (kind_at f d)) (operand_is_unset f x) ok.unset in
       let y = operand_read f s x h unset.1 in
@@ -116,7 +116,7 @@ module _ (laws : Laws) (caps : Caps) (sizes : AreCapacities caps) (code : List (
       (one_more _ _ _ _ y.1 (one_more _ _ _ _ v.there (ap (typed_after s) (one_more _ _ _ _ w.1 (set_to s d w.0 fit.0 ok.r10)))))
       (v.value, y.0, w.0, value_is s d v.value v.there, operand_is s x y.0 y.1, w.1, refl, refl, refl)
 
-  neg_steps : (bits : Bits) (d : ℕ) → Fits (Neg bits d) → Passed caps code p (Neg bits d) f → Steps known caps (Neg bits d) s
+  neg_steps : (bits : OpWidth) (d : ℕ) → Fits (Neg bits d) → Passed caps code p (Neg bits d) f → Steps known caps (Neg bits d) s
   neg_steps bits d fit ok =
       let v = read f s d h ok.unset in
       let n = number_of (kind_at f d) v.value (form_of (kind_at f d) v.value v.holds) ok.unset ok.computed in
@@ -124,7 +124,7 @@ module _ (laws : Laws) (caps : Caps) (sizes : AreCapacities caps) (code : List (
       (one_more _ _ _ _ v.there (one_more _ _ _ _ n.1 (ap (typed_after s) (set_to s d _ fit ok.r10))))
       (n.0, value_is s d v.value v.there ∙ ap Some n.2, refl, refl, refl)
 
-  mov_steps : (bits : Bits) (d : ℕ) (x : Operand) → Fits (Mov bits d x) → Passed caps code p (Mov bits d x) f → Steps known caps (Mov bits d x) s
+  mov_steps : (bits : OpWidth) (d : ℕ) (x : Operand) → Fits (Mov bits d x) → Passed caps code p (Mov bits d x) f → Steps known caps (Mov bits d x) s
   mov_steps bits d x fit ok =
       let y = operand_read f s x h ok.unset in
       let w = copies bits (operand_kind f x) y.0 y.2 (operand_is_set f x ok.unset) ok.computed in
@@ -233,7 +233,7 @@ module _ (laws : Laws) (caps : Caps) (sizes : AreCapacities caps) (code : List (
         within = record { memory = kept.memory; object = (h.within).object; client = (h.within).client };
       }
 
-  branch_steps : (bits : Bits) (comparison : Comparison) (d : ℕ) (x : Operand) (offset : ℤ) → Passed caps code p (Branch bits comparison d x offset) f → Steps known caps (Branch bits comparison d x offset) s
+  branch_steps : (bits : OpWidth) (comparison : Comparison) (d : ℕ) (x : Operand) (offset : ℤ) → Passed caps code p (Branch bits comparison d x offset) f → Steps known caps (Branch bits comparison d x offset) s
   branch_steps bits comparison d x offset ok =
       let unset = neither (is_unset (kind_at f d)) (operand_is_unset f x) ok.unset in
       let pointers = neither (is_ptr (kind_at f d)) (is_ptr (operand_kind f x)) ok.compared in

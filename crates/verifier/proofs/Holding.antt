@@ -5,8 +5,8 @@ use Rattle.std.specs.Int.{w16}
 use Rattle.std.proofs.lemmas.Bool.{false≢true, cond-true}
 use Rattle.bpf_decode.specs.declared.value.Value.{Value}
 use Rattle.bpf_decode.specs.declared.value.Value.TheVariants as values
-use Rattle.bpf_decode.specs.declared.operation.Bits.{Bits}
-use Rattle.bpf_decode.specs.declared.operation.Bits.TheVariants.{Bits32, Bits64}
+use Rattle.bpf_decode.specs.declared.operation.OpWidth.{OpWidth}
+use Rattle.bpf_decode.specs.declared.operation.OpWidth.TheVariants.{Bits32, Bits64}
 use Rattle.bpf_decode.specs.declared.operation.Arithmetic.{Arithmetic}
 use Rattle.bpf_decode.specs.declared.insn.Operand.{Operand}
 use Rattle.bpf_decode.specs.declared.insn.Operand.TheVariants.{Immediate, Register}
@@ -121,7 +121,7 @@ number_of (Num k) (values.Ptr q at) h e g = absurd h
 number_of (Ptr q k) v h e g = absurd (false≢true (sym g))
 
 -- arithmetic that no rule refuses gives a value
-pub computes : (bits : Bits) (operation : Arithmetic) (x y : PlainKind) (v u : Value) → HasForm x v → HasForm y u → is_unset x ≡ false → is_unset y ≡ false → alu_refused bits operation x y ≡ false → (w : Value) × (alu_values bits operation v u ≡ Some w)
+pub computes : (bits : OpWidth) (operation : Arithmetic) (x y : PlainKind) (v u : Value) → HasForm x v → HasForm y u → is_unset x ≡ false → is_unset y ≡ false → alu_refused bits operation x y ≡ false → (w : Value) × (alu_values bits operation v u ≡ Some w)
 computes bits operation Unset y v u h i e g r = absurd (false≢true (sym e))
 computes bits operation (Num k) Unset v u h i e g r = absurd (false≢true (sym g))
 computes bits operation (Ptr q k) Unset v u h i e g r = absurd (false≢true (sym g))
@@ -139,7 +139,7 @@ computes bits operation (Num k) (Ptr q l) (values.Num m) (values.Num n) h i e g 
 computes bits operation (Ptr q k) (Ptr o l) v u h i e g r = absurd (false≢true (sym r))
 
 -- so does a copy
-pub copies : (bits : Bits) (x : PlainKind) (v : Value) → HasForm x v → is_unset x ≡ false → mov_refused bits x ≡ false → (w : Value) × (mov_values bits v ≡ Some w)
+pub copies : (bits : OpWidth) (x : PlainKind) (v : Value) → HasForm x v → is_unset x ≡ false → mov_refused bits x ≡ false → (w : Value) × (mov_values bits v ≡ Some w)
 copies bits Unset v h e r = absurd (false≢true (sym e))
 copies bits (Num k) (values.Num n) h e r = (values.Num (mov_value bits n), refl)
 copies bits (Num k) (values.Ptr p n) h e r = absurd h

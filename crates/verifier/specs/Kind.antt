@@ -1,7 +1,7 @@
 -- What the rules ask of kinds.
 use Rattle.std.specs.Prelude.{ℕ, Bool, true, false, nat_le, not}
-use Rattle.bpf_decode.specs.declared.operation.Bits.{Bits}
-use Rattle.bpf_decode.specs.declared.operation.Bits.TheVariants.{Bits32, Bits64}
+use Rattle.bpf_decode.specs.declared.operation.OpWidth.{OpWidth}
+use Rattle.bpf_decode.specs.declared.operation.OpWidth.TheVariants.{Bits32, Bits64}
 use Rattle.bpf_decode.specs.declared.operation.Arithmetic.{Arithmetic}
 use Rattle.bpf_decode.specs.Values.{may_store, moves_pointer, is_addition}
 use Rattle.bpf_machine.specs.declared.caps.Caps.{Caps}
@@ -9,7 +9,7 @@ use Rattle.bpf_machine.specs.State.{size}
 use Rattle.abstract_regs.specs.Kind.{PlainKind, Unset, Num, Ptr, is_ptr, access_fits, range_fits}
 
 -- arithmetic with a pointer other than a number added to it or subtracted from it, in 64 bits
-abbrev pub alu_refused : Bits → Arithmetic → PlainKind → PlainKind → Bool
+abbrev pub alu_refused : OpWidth → Arithmetic → PlainKind → PlainKind → Bool
 alu_refused bits operation (Ptr r k) (Num l) = not (moves_pointer bits operation)
 alu_refused bits operation (Num k) (Ptr r l) = not (is_addition bits operation)
 alu_refused bits operation (Ptr r k) (Ptr q l) = true
@@ -19,7 +19,7 @@ alu_refused bits operation (Num k) Unset = false
 alu_refused bits operation (Ptr r k) Unset = false
 
 -- a copy of a pointer in 32 bits
-abbrev pub mov_refused : Bits → PlainKind → Bool
+abbrev pub mov_refused : OpWidth → PlainKind → Bool
 mov_refused Bits64 x = false
 mov_refused Bits32 x = is_ptr x
 

@@ -49,41 +49,28 @@ impl Fault {
     }
 
     /// Whether the argument has it, which is taken from that register on.
+    #[rattlefmt::skip]
     fn is_in(self, caps: &Caps, frame: &Frame, argument: Argument, register: usize) -> bool
         requires { register < 100 }
         ensures { result ≡ has_fault caps.now frame.now self argument register }
     {
         let first = frame.kind(register);
         let second = frame.kind(register + 1);
-        match argument {
-            Argument::Number => match self {
-                Fault::NotSet => first.is_unset(),
-                Fault::OutOfRegion | Fault::ReadOnly | Fault::HasPointer => false,
-                Fault::WrongKind => !first.is_num(),
-            },
-            Argument::OutputLength => match self {
-                Fault::NotSet => first.is_unset(),
-                Fault::OutOfRegion | Fault::ReadOnly | Fault::HasPointer => false,
-                Fault::WrongKind => !is_at_most(caps.out_cap, first),
-            },
-            Argument::Readable => match self {
-                Fault::NotSet => {
-                    first.is_unset()
-                        || second.is_unset()
-                        || range_meets(Content::Nothing, caps, frame, first, second)
-                }
-                Fault::HasPointer => range_meets(Content::Pointer, caps, frame, first, second),
-                Fault::OutOfRegion => range_leaves(caps, first, second),
-                Fault::ReadOnly => false,
-                Fault::WrongKind => !first.is_ptr() || !second.is_num(),
-            },
-            Argument::Writable => match self {
-                Fault::NotSet => first.is_unset() || second.is_unset(),
-                Fault::OutOfRegion => range_leaves(caps, first, second),
-                Fault::ReadOnly => range_is_read_only(first, second),
-                Fault::HasPointer => false,
-                Fault::WrongKind => !first.is_ptr() || !second.is_num(),
-            },
+        match (self, argument) {
+            (Fault::NotSet, Argument::Number | Argument::OutputLength) => first.is_unset(),
+            (Fault::NotSet, Argument::Readable) => {
+                first.is_unset() || second.is_unset() || range_meets(Content::Nothing, caps, frame, first, second)
+            }
+            (Fault::NotSet, Argument::Writable) => first.is_unset() || second.is_unset(),
+            (Fault::OutOfRegion, Argument::Number | Argument::OutputLength) => false,
+            (Fault::OutOfRegion, Argument::Readable | Argument::Writable) => range_leaves(caps, first, second),
+            (Fault::ReadOnly, Argument::Number | Argument::OutputLength | Argument::Readable) => false,
+            (Fault::ReadOnly, Argument::Writable) => range_is_read_only(first, second),
+            (Fault::WrongKind, Argument::Number) => !first.is_num(),
+            (Fault::WrongKind, Argument::OutputLength) => !is_at_most(caps.out_cap, first),
+            (Fault::WrongKind, Argument::Readable | Argument::Writable) => !first.is_ptr() || !second.is_num(),
+            (Fault::HasPointer, Argument::Number | Argument::OutputLength | Argument::Writable) => false,
+            (Fault::HasPointer, Argument::Readable) => range_meets(Content::Pointer, caps, frame, first, second),
         }
     }
 }
@@ -96,6 +83,7 @@ fn range_meets(content: Content, caps: &Caps, frame: &Frame, pointer: Kind, leng
 }
 
 /// The first register of the range that a helper writes.
+#[rattlefmt::skip]
 pub fn room(insn: &Insn) -> Option<u8>
     ensures { result ≡ room_of insn.now }
 {
@@ -104,7 +92,9 @@ pub fn room(insn: &Insn) -> Option<u8>
             None => None,
             Some(takes) => room_in(takes.arguments, 1),
         },
-        _ => None,
+        Insn::Alu { .. } | Insn::Neg { .. } | Insn::Mov { .. } | Insn::MovSigned { .. } | Insn::End { .. } => None,
+        Insn::LoadWide { .. } | Insn::Load { .. } | Insn::LoadSigned { .. } | Insn::Store { .. } => None,
+        Insn::Jump { .. } | Insn::JumpLong { .. } | Insn::Branch { .. } | Insn::CallLocal { .. } | Insn::Exit => None,
     }
 }
 

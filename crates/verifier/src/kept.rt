@@ -9,11 +9,11 @@ use std::marker::Model;
 
 /// The frames that are kept for jumps' targets, each till its slot comes. Contracts see them by slot.
 #[derive(Drop)]
-pub struct Kept {
+pub struct PendingFrames {
     frames: Vec<Option<Box<Frame>>>,
 }
 
-impl Model for Kept {
+impl Model for PendingFrames {
     ghost use Rattle.verifier.specs.Verdict.{Table};
     ghost use Rattle.verifier.specs.Kept.{unboxed};
 
@@ -22,16 +22,16 @@ impl Model for Kept {
     ghost view = { λ k. unboxed k.frames.items };
 }
 
-impl Kept {
+impl PendingFrames {
     /// None, of so many slots.
-    pub fn new(alloc: Global, slots: usize) -> Result<Kept, AllocError>
+    pub fn new(alloc: Global, slots: usize) -> Result<PendingFrames, AllocError>
         ensures { IfOk result (λ k. k ≡ replicate slots None) }
     {
         let mut frames = Vec::new(alloc);
         for _ in 0..slots {
             frames.push(None)?;
         }
-        Ok(Kept { frames })
+        Ok(PendingFrames { frames })
     }
 
     /// Takes the frame that is kept for a slot, if there is one.

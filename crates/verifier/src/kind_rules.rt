@@ -5,11 +5,11 @@ ghost use Rattle.verifier.specs.Kind.{alu_refused, mov_refused, stays, is_read_o
 
 use abstract_num::highest;
 use abstract_regs::{Kind, access_fits, range_fits};
-use bpf_decode::{Arithmetic, Bits};
+use bpf_decode::{Arithmetic, OpWidth};
 use bpf_machine::Caps;
 
 /// Whether it is arithmetic with a pointer other than a number added to it or subtracted from it, in 64 bits.
-pub fn is_alu_refused(bits: Bits, operation: Arithmetic, x: Kind, y: Kind) -> bool
+pub fn is_alu_refused(bits: OpWidth, operation: Arithmetic, x: Kind, y: Kind) -> bool
     ensures { result ≡ alu_refused bits operation (seen x) (seen y) }
 {
     match (x, y) {
@@ -23,12 +23,12 @@ pub fn is_alu_refused(bits: Bits, operation: Arithmetic, x: Kind, y: Kind) -> bo
 }
 
 /// Whether it is a pointer that is copied in 32 bits.
-pub fn is_mov_refused(bits: Bits, kind: Kind) -> bool
+pub fn is_mov_refused(bits: OpWidth, kind: Kind) -> bool
     ensures { result ≡ mov_refused bits (seen kind) }
 {
     match bits {
-        Bits::Bits64 => false,
-        Bits::Bits32 => kind.is_ptr(),
+        OpWidth::Bits64 => false,
+        OpWidth::Bits32 => kind.is_ptr(),
     }
 }
 
@@ -85,26 +85,26 @@ pub fn range_is_read_only(pointer: Kind, length: Kind) -> bool
 }
 
 /// Whether a number may be added to a pointer by it, or subtracted.
-fn moves_pointer(bits: Bits, operation: Arithmetic) -> bool
+fn moves_pointer(bits: OpWidth, operation: Arithmetic) -> bool
     ensures { result ≡ moves_pointer bits operation }
 {
     match bits {
-        Bits::Bits64 => match operation {
+        OpWidth::Bits64 => match operation {
             Arithmetic::Add | Arithmetic::Sub => true,
             _ => false,
         },
-        Bits::Bits32 => false,
+        OpWidth::Bits32 => false,
     }
 }
 
-fn is_addition(bits: Bits, operation: Arithmetic) -> bool
+fn is_addition(bits: OpWidth, operation: Arithmetic) -> bool
     ensures { result ≡ is_addition bits operation }
 {
     match bits {
-        Bits::Bits64 => match operation {
+        OpWidth::Bits64 => match operation {
             Arithmetic::Add => true,
             _ => false,
         },
-        Bits::Bits32 => false,
+        OpWidth::Bits32 => false,
     }
 }

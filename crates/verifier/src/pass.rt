@@ -7,13 +7,13 @@ ghost use Rattle.verifier.specs.Kept.{unbox};
 ghost use Rattle.verifier.specs.Pass.{IsSpaced, awaited, HasLeft, IsSound, AllSound};
 
 use crate::fault::room;
-use crate::kept::Kept;
+use crate::kept::PendingFrames;
 use crate::refused::RefusedSlot;
 use crate::rule::Rule;
 use crate::rules::refusing_rule;
 use abstract_regs::{Edges, Frame};
 use bpf_decode::{Insn, Region, RuleSet, width};
-use bpf_machine::Caps;
+use bpf_machine::{Caps, STACK_SIZE};
 use std::alloc::{AllocError, Global};
 
 /// What the pass over a method has of the flows into the slots to come: one frame, which is changed in place from
@@ -23,7 +23,7 @@ pub struct Pass {
     /// The frame that falls through to the slot `landing`; at a slot, its frame.
     current: Option<Box<Frame>>,
     landing: usize,
-    kept: Kept,
+    kept: PendingFrames,
 }
 
 /// The first refused slot of a method, given what begins at each slot, and the lowest rule that refuses it.
@@ -43,13 +43,17 @@ pub fn first_refusal(
     pass.run(alloc, rules, caps, code)
 }
 
+/// The stack's slots of eight bytes.
+const STACK_SLOTS: usize = STACK_SIZE / 8;
+
 /// Of how many slots of the stack frames speak.
 fn frame_slots(rules: RuleSet) -> usize
     ensures { result ≡ known_slots rules }
 {
     match rules {
+        // Knowing no slots is all that sets rule set 1 apart: so one definition of frames and rules serves both.
         RuleSet::One => 0,
-        RuleSet::Two => 64,
+        RuleSet::Two => STACK_SLOTS,
     }
 }
 
@@ -112,7 +116,7 @@ impl Pass {
         Ok(Pass {
             current: Some(Box::new(alloc, entry)?),
             landing: 0,
-            kept: Kept::new(alloc, slots)?,
+            kept: PendingFrames::new(alloc, slots)?,
         })
     }
 

@@ -1,7 +1,7 @@
 ghost use Rattle.std.specs.Prelude.{◌≡◌};
 
 use anyhow::{Context, Result};
-use group_world::{Epoch, Event, GroupMap, Kind, Message, Packet, Party};
+use group_world::{Epoch, Event, GroupMap, Message, MessageKind, Packet, Party};
 use peering::GroupNode;
 use pg_log::{ClassTable, Classes};
 use placement::NodeId;
@@ -29,8 +29,8 @@ impl Delivery {
         Delivery { place: 0, event }
     }
 
-    /// A packet. What is for the monitor asks it to activate the one interval, which it does; what is for a client isn't
-    /// delivered.
+    /// A packet. What is for the monitor asks it to activate the one interval, which it does; what is for a client
+    /// isn't delivered.
     pub fn of(packet: Packet) -> Option<Delivery> {
         let Packet { receiver, message } = packet;
         match receiver {
@@ -54,7 +54,7 @@ impl Delivery {
 fn activated() -> Event {
     Event::Message(Message {
         sender: Party::Monitor,
-        kind: Kind::Activated(Epoch::new(ONE)),
+        kind: MessageKind::Activated(Epoch::new(ONE)),
     })
 }
 

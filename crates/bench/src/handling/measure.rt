@@ -2,6 +2,7 @@ ghost use Rattle.std.specs.Prelude.{◌≡◌};
 
 use super::asked::Asked;
 use super::group::{Delivery, active, bring_all, settle};
+use crate::timing::{nanos_since, now};
 use anyhow::Result;
 use builtin_classes::{load_lock, load_obj};
 use group_world::{Event, Packet};
@@ -9,7 +10,7 @@ use peering::GroupNode;
 use pg_log::{ClassTable, Classes, Group, GroupWork, with_group};
 use std::alloc::Global;
 use std::fmt;
-use std::time::{Clock, Instant};
+use std::time::Clock;
 
 /// The requests of a run.
 const REQUESTS: u32 = 1_000;
@@ -171,13 +172,9 @@ fn brought<C: Classes, T: Clock>(
 {
     // Room for what they send.
     let room = Vec::with_capacity(with.alloc, deliveries.len().saturating_mul(2))?;
-    let Some(clock) = with.clock else {
-        let sent = bring_all(table, nodes, deliveries, room)?;
-        return Ok(Round { sent, nanos: 0 });
-    };
-    let start = Instant::now(clock)?;
+    let start = now(with.clock)?;
     let sent = bring_all(table, nodes, deliveries, room)?;
-    let nanos = start.elapsed(clock)?.as_nanos();
+    let nanos = nanos_since(with.clock, start)?;
     Ok(Round { sent, nanos })
 }
 

@@ -1,10 +1,10 @@
 ghost use mathlib.Core.List.{IsPrefix};
 
-use crate::timing::Time;
-use anyhow::{Context, Result};
+use crate::timing::{Time, nanos_since, now};
+use anyhow::Result;
+use bench_table::{Least, lock_request};
 use builtin_classes::load_lock;
-use object_store::ObjectName;
-use pg_log::{ClassTable, Classes, ClientId, Group, GroupWork, Request, RequestNumber, with_group};
+use pg_log::{ClassTable, Classes, Group, GroupWork, Request, with_group};
 use std::alloc::Global;
 use std::time::{Clock, Instant};
 
@@ -14,24 +14,20 @@ const REQUESTS: u32 = 65_536;
 /// How often each time is taken, of which the least counts.
 const RUNS: usize = 20;
 
-/// The least times of a replay and of an adoption, where there is a clock, of a full log whose client takes a lock and gives
-/// it back in turn.
+/// The least times of a replay and of an adoption, where there is a clock, of a full log whose client takes a lock and
+/// gives it back in turn; else both are made once.
 pub fn times<C: Clock>(alloc: Global, clock: Option<&C>) -> Result<(Time, Time)> {
-    match clock {
-        None => Ok((Time::None, Time::None)),
-        Some(clock) => with_clock(alloc, clock),
-    }
-}
-
-/// The same, with a clock.
-fn with_clock<C: Clock>(alloc: Global, clock: &C) -> Result<(Time, Time)> {
     let mut table = ClassTable::new(alloc);
     table.add(load_lock(alloc)?)?;
     times_of(alloc, clock, &table)
 }
 
 /// The same, with the table of the class.
-fn times_of<C: Clock>(alloc: Global, clock: &C, table: &ClassTable) -> Result<(Time, Time)> {
+fn times_of<C: Clock>(
+    alloc: Global,
+    clock: Option<&C>,
+    table: &ClassTable,
+) -> Result<(Time, Time)> {
     let one = list(alloc, 1)?;
     let two = list(alloc, 2)?;
     let work = Measures {
@@ -45,78 +41,82 @@ fn times_of<C: Clock>(alloc: Global, clock: &C, table: &ClassTable) -> Result<(T
 
 /// A full list of requests of client 1, the last one of another's.
 fn list(alloc: Global, last: u32) -> Result<Vec<Request>> {
-    let first = ClientId::new(1).context("a client")?;
-    let last = ClientId::new(last).context("a client")?;
     let mut list = Vec::new(alloc);
     for before in 0..REQUESTS {
         let number = before + 1;
-        let client = if number < REQUESTS { first } else { last };
-        list.push(request(alloc, client, number)?)?;
+        let client = if number < REQUESTS { 1 } else { last };
+        list.push(lock_request(alloc, client, number, "object")?)?;
     }
     Ok(list)
 }
 
-fn request(alloc: Global, client: ClientId, number: u32) -> Result<Request> {
-    let method = if number % 2 == 1 { "lock" } else { "unlock" };
-    let number = RequestNumber::new(number).context("a number")?;
-    let object = ObjectName::new(alloc, "object")?;
-    let method = String::from_str(alloc, method)?;
-    Ok(Request::new(client, number, object, 0, method, Vec::new(alloc)))
-}
-
 /// The nanoseconds of one replay of a list, and of one adoption of the other.
 fn once<C: Classes, T: Clock>(
-    clock: &T,
+    clock: Option<&T>,
     alloc: Global,
     table: &ClassTable,
     lists: (&[Request], &[Request]),
 ) -> Result<(u128, u128)>
     requires { IsPrefix table.now C.classes }
 {
-    let start = Instant::now(clock)?;
+    let start = now(clock)?;
     let mut group = Group::<C>::replay(alloc, table, lists.0)?;
     then_adopt(clock, table, &mut group, start, lists.1)
 }
 
 /// The same, of a replay that began at `start` and has just ended.
 fn then_adopt<C: Classes, T: Clock>(
-    clock: &T,
+    clock: Option<&T>,
     table: &ClassTable,
     group: &mut Group<C>,
-    start: Instant,
+    start: Option<Instant>,
     list: &[Request],
 ) -> Result<(u128, u128)>
     requires { IsPrefix table.now C.classes }
 {
-    let replay = start.elapsed(clock)?.as_nanos();
-    let start = Instant::now(clock)?;
+    let replay = nanos_since(clock, start)?;
+    let start = now(clock)?;
     let _ = group.adopt(table, list)?;
-    let adopt = start.elapsed(clock)?.as_nanos();
+    let adopt = nanos_since(clock, start)?;
     Ok((replay, adopt))
 }
 
-/// The least of so many runs.
+/// The least of so many runs; one where there is no clock.
 fn least<C: Classes, T: Clock>(
-    clock: &T,
+    clock: Option<&T>,
     alloc: Global,
     table: &ClassTable,
     lists: (&[Request], &[Request]),
 ) -> Result<(Time, Time)>
     requires { IsPrefix table.now C.classes }
 {
-    let mut least = (u128::MAX, u128::MAX);
-    for _ in 0..RUNS {
-        let (replay, adopt) = once::<C, T>(clock, alloc, table, lists)?;
-        least = (least.0.min(replay), least.1.min(adopt));
+    let (mut replay, mut adopt) = (Least::new(), Least::new());
+    for _ in 0..runs(clock) {
+        let (replayed, adopted) = once::<C, T>(clock, alloc, table, lists)?;
+        replay.note(replayed, 1);
+        adopt.note(adopted, 1);
     }
-    let (replay, adopt) = least;
-    Ok((Time::Micros(replay / 1000), Time::Micros(adopt / 1000)))
+    Ok((time(clock, replay), time(clock, adopt)))
+}
+
+/// How often both are made.
+fn runs<C>(clock: Option<&C>) -> usize {
+    if clock.is_some() { RUNS } else { 1 }
+}
+
+/// The time, where there is a clock.
+fn time<C>(clock: Option<&C>, least: Least) -> Time {
+    Time::Micros(if clock.is_some() {
+        Some(least.picos)
+    } else {
+        None
+    })
 }
 
 /// Replays one list, and adopts the other, again and again.
 #[derive(Drop)]
 struct Measures<'a, T> {
-    clock: &'a T,
+    clock: Option<&'a T>,
     alloc: Global,
     first: &'a [Request],
     second: &'a [Request],

@@ -1,5 +1,6 @@
-use crate::timing::{Time, Work, time_of};
+use crate::timing::{Time, least_of};
 use anyhow::{Error, Result};
+use bench_table::Work;
 use object_store::{Object, StoreError, calls};
 use std::alloc::Global;
 use std::time::Clock;
@@ -7,7 +8,7 @@ use std::time::Clock;
 /// How often a subject is timed, of which the least time counts, and how many calls each time has.
 const RUNS: usize = 50;
 
-const CALLS: u32 = 1024;
+const CALLS: usize = 1024;
 
 const LONGEST_VALUE: [u8; 4096] = [7; 4096];
 
@@ -24,42 +25,33 @@ pub enum Subject {
     Read { len: u64 },
 }
 
-/// The least time that one call took, where there is a clock.
+/// Makes the calls once, and gives the least time that one took of some runs, where there is a clock.
 pub fn time<C: Clock>(alloc: Global, clock: Option<&C>, subject: Subject) -> Result<Time> {
-    if clock.is_none() {
-        return Ok(Time::None);
-    }
     let object = object_of(alloc, subject)?;
-    time_of(
-        clock,
-        &Calls {
-            alloc,
-            object: &object,
-            subject,
-        },
-        RUNS,
-    )
+    let work = Calls {
+        object: &object,
+        subject,
+    };
+    work.run(alloc, CALLS)?;
+    Ok(Time::Picos(least_of(alloc, clock, &work, CALLS, RUNS)?))
 }
 
 /// The calls that a time is taken of.
 #[derive(Clone, Copy)]
 struct Calls<'a> {
-    alloc: Global,
     object: &'a Object,
     subject: Subject,
 }
 
 impl Work for Calls<'_> {
-    fn work(&self) -> Result<()> {
+    fn run(&self, alloc: Global, count: usize) -> Result<()> {
         let mut read = [0; 64];
-        for n in 0..CALLS {
-            call(self.alloc, self.object, self.subject, n, &mut read)?;
+        let mut n: u32 = 0;
+        for _ in 0..count {
+            call(alloc, self.object, self.subject, n, &mut read)?;
+            n = n.wrapping_add(1);
         }
         all_zero(&read)
-    }
-
-    fn time(nanos: u128) -> Time {
-        Time::Picos(picos_each(nanos))
     }
 }
 
@@ -70,12 +62,6 @@ fn all_zero(read: &[u8; 64]) -> Result<()> {
     } else {
         Err(Error::msg("other bytes"))
     }
-}
-
-/// The picoseconds that each call took, where all took so many nanoseconds.
-fn picos_each(nanos: u128) -> u64 {
-    let picos = nanos.saturating_mul(1000) / u128::from(CALLS);
-    picos.min(u128::from(u64::MAX)) as u64
 }
 
 /// A key for each number.

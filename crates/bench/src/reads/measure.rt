@@ -1,13 +1,14 @@
 use super::subject::Reading;
-use crate::timing::{Time, Work};
 use anyhow::Result;
+use bench_table::Work;
 use object_store::Object;
+use std::alloc::Global;
 
 /// How often a time is taken, of which the least counts.
 pub const RUNS: usize = 50;
 
 /// How many calls a time is taken of.
-const CALLS: u32 = 1_000;
+pub const CALLS: usize = 1_000;
 
 /// The calls that a time is taken of.
 #[derive(Clone, Copy)]
@@ -17,14 +18,10 @@ pub struct Reads<'a> {
 }
 
 impl Work for Reads<'_> {
-    fn work(&self) -> Result<()> {
-        for _ in 0..CALLS {
+    fn run(&self, _alloc: Global, count: usize) -> Result<()> {
+        for _ in 0..count {
             let _ = self.reading.call(self.object)?;
         }
         Ok(())
-    }
-
-    fn time(nanos: u128) -> Time {
-        Time::Nanos(nanos / u128::from(CALLS))
     }
 }

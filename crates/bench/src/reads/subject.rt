@@ -61,7 +61,7 @@ const VALUE: [u8; 4096] = [0x5a; 4096];
 pub fn full_object(alloc: Global) -> Result<Object> {
     let mut staged = Staged::over(None);
     fill(alloc, &mut staged)?;
-    staged.finish()?.after.context("an object")
+    staged.finish()?.into_after().context("an object")
 }
 
 /// Gives a staged object all of that.

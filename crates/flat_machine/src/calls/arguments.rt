@@ -4,18 +4,17 @@ ghost use Rattle.object_store.specs.declared.limits.TheConstants.{VALUE_LIMIT};
 ghost use Rattle.bpf_machine.specs.State.{size};
 ghost use Rattle.bpf_machine.specs.Helper.{nothing_given, with_number, with_text, with_room, bytes_in};
 ghost use Rattle.bpf_machine.specs.Flat.{arguments};
-ghost use Rattle.flat_machine.specs.View.{layout_of};
-ghost use Rattle.flat_machine.specs.inner.FlatState.{memory_of, flat_state, range_at, IsSized};
+ghost use Rattle.flat_machine.specs.inner.FlatState.{memory_of, caps_in, layout_in, flat_state, range_at};
 
-use crate::layout::Layout;
-use crate::memory::{Regions, range, region_bytes};
+use crate::memory::{range, region_bytes};
+use crate::regions::Regions;
 use crate::state::{FlatState, get};
 use bpf_decode::Region;
-use bpf_machine::Caps;
 use helpers::Argument;
 use object_store::part;
 
 /// A range that a helper takes: its place, none where its length is 0, and its length.
+// The length is a number of 64 bits, as registers are: none is cut before it is refused.
 #[derive(Clone, Copy)]
 pub struct Range {
     pub place: Option<(Region, usize)>,
@@ -25,7 +24,7 @@ pub struct Range {
 /// The bytes of a range.
 pub fn text_in(memory: &Regions, text: Range) -> &[u8]
     ensures bytes { result.now ≡ bytes_in (memory_of memory.now) text.place text.len }
-    ensures short { (caps : Caps) → IsSized caps memory.now → length result.now ≤ VALUE_LIMIT }
+    ensures short { length result.now ≤ VALUE_LIMIT }
 {
     match text.place {
         None => &[],
@@ -34,64 +33,58 @@ pub fn text_in(memory: &Regions, text: Range) -> &[u8]
 }
 
 /// The range of which two registers have the address and the length; `writes` where it is to be written.
-fn range_at(
-    caps: &Caps,
-    layout: &Layout,
-    s: &FlatState,
-    writes: bool,
-    register: u8,
-) -> Option<Range>
+fn range_at(s: &FlatState, writes: bool, register: u8) -> Option<Range>
     requires { register < 255 }
-    ensures taken { option_map (λ r. (r.place, r.len)) result ≡ range_at caps.now (layout_of layout.now) (flat_state s.now) writes register }
-    ensures inside { IfSome result (λ r. IfSome r.place (λ p. p.1 + r.len ≤ size caps.now p.0)) }
+    ensures taken { option_map (λ r. (r.place, r.len)) result ≡ range_at (caps_in s.now) (layout_in s.now) (flat_state s.now) writes register }
+    ensures inside { IfSome result (λ r. IfSome r.place (λ p. p.1 + r.len ≤ size (caps_in s.now) p.0)) }
 {
     let address = get(s, register)?;
     let len = get(s, register + 1)?;
-    let place = range(caps, layout, writes, address, len)?;
+    let place = range(&s.memory.machine, writes, address, len)?;
     Some(Range { place, len })
 }
 
 /// What `read` takes: a place in the object, and a range for its bytes.
-pub fn number_and_room(caps: &Caps, layout: &Layout, s: &FlatState) -> Option<(u64, Range)>
-    ensures given { option_map (λ r. with_number r.0 (with_room r.1.len r.1.place (nothing_given s.now.caller))) result ≡ arguments caps.now (layout_of layout.now) (flat_state s.now) (Argument.Number ∷ Argument.Writable ∷ []) 1 }
-    ensures inside { IfSome result (λ r. IfSome r.1.place (λ p. p.1 + r.1.len ≤ size caps.now p.0)) }
+pub fn number_and_room(s: &FlatState) -> Option<(u64, Range)>
+    ensures given { option_map (λ r. with_number r.0 (with_room r.1.len r.1.place (nothing_given s.now.caller))) result ≡ arguments (caps_in s.now) (layout_in s.now) (flat_state s.now) (Argument.Number ∷ Argument.Writable ∷ []) 1 }
+    ensures inside { IfSome result (λ r. IfSome r.1.place (λ p. p.1 + r.1.len ≤ size (caps_in s.now) p.0)) }
 {
     let n = get(s, 1)?;
-    let room = range_at(caps, layout, s, true, 2)?;
+    let room = range_at(s, true, 2)?;
     Some((n, room))
 }
 
 /// What `write` takes: a place in the object, and the range of the bytes.
-pub fn number_and_text(caps: &Caps, layout: &Layout, s: &FlatState) -> Option<(u64, Range)>
-    ensures { option_map (λ r. with_number r.0 (with_text (bytes_in (flat_state s.now).memory r.1.place r.1.len) (nothing_given s.now.caller))) result ≡ arguments caps.now (layout_of layout.now) (flat_state s.now) (Argument.Number ∷ Argument.Readable ∷ []) 1 }
+pub fn number_and_text(s: &FlatState) -> Option<(u64, Range)>
+    ensures { option_map (λ r. with_number r.0 (with_text (bytes_in (flat_state s.now).memory r.1.place r.1.len) (nothing_given s.now.caller))) result ≡ arguments (caps_in s.now) (layout_in s.now) (flat_state s.now) (Argument.Number ∷ Argument.Readable ∷ []) 1 }
 {
     let n = get(s, 1)?;
-    let text = range_at(caps, layout, s, false, 2)?;
+    let text = range_at(s, false, 2)?;
     Some((n, text))
 }
 
 /// What `rmxattr` and `map_rm` take: the range of a name.
-pub fn one_text(caps: &Caps, layout: &Layout, s: &FlatState) -> Option<Range>
-    ensures { option_map (λ r. with_text (bytes_in (flat_state s.now).memory r.place r.len) (nothing_given s.now.caller)) result ≡ arguments caps.now (layout_of layout.now) (flat_state s.now) (Argument.Readable ∷ []) 1 }
+pub fn one_text(s: &FlatState) -> Option<Range>
+    ensures { option_map (λ r. with_text (bytes_in (flat_state s.now).memory r.place r.len) (nothing_given s.now.caller)) result ≡ arguments (caps_in s.now) (layout_in s.now) (flat_state s.now) (Argument.Readable ∷ []) 1 }
 {
-    range_at(caps, layout, s, false, 1)
+    range_at(s, false, 1)
 }
 
 /// What `getxattr`, `map_get` and `map_next` take: the range of a name, and one for what is found.
-pub fn text_and_room(caps: &Caps, layout: &Layout, s: &FlatState) -> Option<(Range, Range)>
-    ensures given { option_map (λ r. with_text (bytes_in (flat_state s.now).memory r.0.place r.0.len) (with_room r.1.len r.1.place (nothing_given s.now.caller))) result ≡ arguments caps.now (layout_of layout.now) (flat_state s.now) (Argument.Readable ∷ Argument.Writable ∷ []) 1 }
-    ensures inside { IfSome result (λ r. IfSome r.1.place (λ p. p.1 + r.1.len ≤ size caps.now p.0)) }
+pub fn text_and_room(s: &FlatState) -> Option<(Range, Range)>
+    ensures given { option_map (λ r. with_text (bytes_in (flat_state s.now).memory r.0.place r.0.len) (with_room r.1.len r.1.place (nothing_given s.now.caller))) result ≡ arguments (caps_in s.now) (layout_in s.now) (flat_state s.now) (Argument.Readable ∷ Argument.Writable ∷ []) 1 }
+    ensures inside { IfSome result (λ r. IfSome r.1.place (λ p. p.1 + r.1.len ≤ size (caps_in s.now) p.0)) }
 {
-    let text = range_at(caps, layout, s, false, 1)?;
-    let room = range_at(caps, layout, s, true, 3)?;
+    let text = range_at(s, false, 1)?;
+    let room = range_at(s, true, 3)?;
     Some((text, room))
 }
 
 /// What `setxattr` and `map_set` take: the ranges of a name and of its value.
-pub fn two_texts(caps: &Caps, layout: &Layout, s: &FlatState) -> Option<(Range, Range)>
-    ensures { option_map (λ r. with_text (bytes_in (flat_state s.now).memory r.0.place r.0.len) (with_text (bytes_in (flat_state s.now).memory r.1.place r.1.len) (nothing_given s.now.caller))) result ≡ arguments caps.now (layout_of layout.now) (flat_state s.now) (Argument.Readable ∷ Argument.Readable ∷ []) 1 }
+pub fn two_texts(s: &FlatState) -> Option<(Range, Range)>
+    ensures { option_map (λ r. with_text (bytes_in (flat_state s.now).memory r.0.place r.0.len) (with_text (bytes_in (flat_state s.now).memory r.1.place r.1.len) (nothing_given s.now.caller))) result ≡ arguments (caps_in s.now) (layout_in s.now) (flat_state s.now) (Argument.Readable ∷ Argument.Readable ∷ []) 1 }
 {
-    let name = range_at(caps, layout, s, false, 1)?;
-    let value = range_at(caps, layout, s, false, 3)?;
+    let name = range_at(s, false, 1)?;
+    let value = range_at(s, false, 3)?;
     Some((name, value))
 }

@@ -1,28 +1,19 @@
 ghost use Rattle.std.specs.Prelude.{◌≡◌, IfOk};
-ghost use Rattle.flat_machine.specs.View.{layout_of};
-ghost use Rattle.flat_machine.specs.inner.FlatState.{flat_state, Answers, IsSized, helped};
+ghost use Rattle.flat_machine.specs.inner.FlatState.{caps_in, layout_in, flat_state, Answers, helped};
 
 use crate::calls::arguments::{number_and_text, one_text, text_in, two_texts};
-use crate::layout::Layout;
 use crate::state::{FlatState, get};
-use bpf_machine::Caps;
 use helpers::Helper;
 use std::alloc::Global;
 use txn::NoMemory;
 
 /// Helper 3, `write`: writes a range's bytes into the object at a place.
-pub fn write(
-    alloc: Global,
-    caps: &Caps,
-    layout: &Layout,
-    s: &mut FlatState,
-) -> Result<Option<u64>, NoMemory>
-    requires sized { IsSized caps.now s.old.memory }
-    ensures helped { IfOk result (λ o. Answers o (flat_state s.new) (helped caps.now (layout_of layout.now) Helper.Write (flat_state s.old))) }
+pub fn write(alloc: Global, s: &mut FlatState) -> Result<Option<u64>, NoMemory>
+    ensures helped { IfOk result (λ o. Answers o (flat_state s.new) (helped (caps_in s.old) (layout_in s.old) Helper.Write (flat_state s.old))) }
     ensures slot { s.new.slot ≡ s.old.slot }
-    ensures sized { IsSized caps.now s.new.memory }
+    ensures machine { s.new.memory.machine ≡ s.old.memory.machine }
 {
-    match number_and_text(caps, layout, s) {
+    match number_and_text(s) {
         None => Ok(None),
         Some((at, text)) => {
             let text = text_in(&s.memory, text);
@@ -32,16 +23,10 @@ pub fn write(
 }
 
 /// Helper 4, `truncate`: cuts the object's data or extends it with zeros.
-pub fn truncate(
-    alloc: Global,
-    caps: &Caps,
-    layout: &Layout,
-    s: &mut FlatState,
-) -> Result<Option<u64>, NoMemory>
-    requires sized { IsSized caps.now s.old.memory }
-    ensures helped { IfOk result (λ o. Answers o (flat_state s.new) (helped caps.now (layout_of layout.now) Helper.Truncate (flat_state s.old))) }
+pub fn truncate(alloc: Global, s: &mut FlatState) -> Result<Option<u64>, NoMemory>
+    ensures helped { IfOk result (λ o. Answers o (flat_state s.new) (helped (caps_in s.old) (layout_in s.old) Helper.Truncate (flat_state s.old))) }
     ensures slot { s.new.slot ≡ s.old.slot }
-    ensures sized { IsSized caps.now s.new.memory }
+    ensures machine { s.new.memory.machine ≡ s.old.memory.machine }
 {
     match get(s, 1) {
         None => Ok(None),
@@ -50,18 +35,12 @@ pub fn truncate(
 }
 
 /// Helper 7, `setxattr`: sets an xattr.
-pub fn setxattr(
-    alloc: Global,
-    caps: &Caps,
-    layout: &Layout,
-    s: &mut FlatState,
-) -> Result<Option<u64>, NoMemory>
-    requires sized { IsSized caps.now s.old.memory }
-    ensures helped { IfOk result (λ o. Answers o (flat_state s.new) (helped caps.now (layout_of layout.now) Helper.SetXattr (flat_state s.old))) }
+pub fn setxattr(alloc: Global, s: &mut FlatState) -> Result<Option<u64>, NoMemory>
+    ensures helped { IfOk result (λ o. Answers o (flat_state s.new) (helped (caps_in s.old) (layout_in s.old) Helper.SetXattr (flat_state s.old))) }
     ensures slot { s.new.slot ≡ s.old.slot }
-    ensures sized { IsSized caps.now s.new.memory }
+    ensures machine { s.new.memory.machine ≡ s.old.memory.machine }
 {
-    match two_texts(caps, layout, s) {
+    match two_texts(s) {
         None => Ok(None),
         Some((name, value)) => {
             let (name, value) = (text_in(&s.memory, name), text_in(&s.memory, value));
@@ -71,18 +50,12 @@ pub fn setxattr(
 }
 
 /// Helper 8, `rmxattr`: removes an xattr.
-pub fn rmxattr(
-    alloc: Global,
-    caps: &Caps,
-    layout: &Layout,
-    s: &mut FlatState,
-) -> Result<Option<u64>, NoMemory>
-    requires sized { IsSized caps.now s.old.memory }
-    ensures helped { IfOk result (λ o. Answers o (flat_state s.new) (helped caps.now (layout_of layout.now) Helper.RmXattr (flat_state s.old))) }
+pub fn rmxattr(alloc: Global, s: &mut FlatState) -> Result<Option<u64>, NoMemory>
+    ensures helped { IfOk result (λ o. Answers o (flat_state s.new) (helped (caps_in s.old) (layout_in s.old) Helper.RmXattr (flat_state s.old))) }
     ensures slot { s.new.slot ≡ s.old.slot }
-    ensures sized { IsSized caps.now s.new.memory }
+    ensures machine { s.new.memory.machine ≡ s.old.memory.machine }
 {
-    match one_text(caps, layout, s) {
+    match one_text(s) {
         None => Ok(None),
         Some(name) => {
             let name = text_in(&s.memory, name);
@@ -92,18 +65,12 @@ pub fn rmxattr(
 }
 
 /// Helper 10, `map_set`: sets the value of a key.
-pub fn map_set(
-    alloc: Global,
-    caps: &Caps,
-    layout: &Layout,
-    s: &mut FlatState,
-) -> Result<Option<u64>, NoMemory>
-    requires sized { IsSized caps.now s.old.memory }
-    ensures helped { IfOk result (λ o. Answers o (flat_state s.new) (helped caps.now (layout_of layout.now) Helper.MapSet (flat_state s.old))) }
+pub fn map_set(alloc: Global, s: &mut FlatState) -> Result<Option<u64>, NoMemory>
+    ensures helped { IfOk result (λ o. Answers o (flat_state s.new) (helped (caps_in s.old) (layout_in s.old) Helper.MapSet (flat_state s.old))) }
     ensures slot { s.new.slot ≡ s.old.slot }
-    ensures sized { IsSized caps.now s.new.memory }
+    ensures machine { s.new.memory.machine ≡ s.old.memory.machine }
 {
-    match two_texts(caps, layout, s) {
+    match two_texts(s) {
         None => Ok(None),
         Some((key, value)) => {
             let (key, value) = (text_in(&s.memory, key), text_in(&s.memory, value));
@@ -113,18 +80,12 @@ pub fn map_set(
 }
 
 /// Helper 11, `map_rm`: removes a key.
-pub fn map_rm(
-    alloc: Global,
-    caps: &Caps,
-    layout: &Layout,
-    s: &mut FlatState,
-) -> Result<Option<u64>, NoMemory>
-    requires sized { IsSized caps.now s.old.memory }
-    ensures helped { IfOk result (λ o. Answers o (flat_state s.new) (helped caps.now (layout_of layout.now) Helper.MapRm (flat_state s.old))) }
+pub fn map_rm(alloc: Global, s: &mut FlatState) -> Result<Option<u64>, NoMemory>
+    ensures helped { IfOk result (λ o. Answers o (flat_state s.new) (helped (caps_in s.old) (layout_in s.old) Helper.MapRm (flat_state s.old))) }
     ensures slot { s.new.slot ≡ s.old.slot }
-    ensures sized { IsSized caps.now s.new.memory }
+    ensures machine { s.new.memory.machine ≡ s.old.memory.machine }
 {
-    match one_text(caps, layout, s) {
+    match one_text(s) {
         None => Ok(None),
         Some(key) => {
             let key = text_in(&s.memory, key);
@@ -134,11 +95,10 @@ pub fn map_rm(
 }
 
 /// Helper 14, `create`: creates an absent object.
-pub fn create(caps: &Caps, layout: &Layout, s: &mut FlatState) -> Option<u64>
-    requires sized { IsSized caps.now s.old.memory }
-    ensures helped { Answers result (flat_state s.new) (helped caps.now (layout_of layout.now) Helper.Create (flat_state s.old)) }
+pub fn create(s: &mut FlatState) -> Option<u64>
+    ensures helped { Answers result (flat_state s.new) (helped (caps_in s.old) (layout_in s.old) Helper.Create (flat_state s.old)) }
     ensures slot { s.new.slot ≡ s.old.slot }
-    ensures sized { IsSized caps.now s.new.memory }
+    ensures machine { s.new.memory.machine ≡ s.old.memory.machine }
 {
     let exclusive = get(s, 1)?;
     Some(helpers::create(&mut s.object, exclusive))

@@ -1,15 +1,13 @@
 ghost use Rattle.std.specs.Prelude.{◌≡◌, ◌+◌, ◌≤◌, ◌<◌, length};
 ghost use Rattle.helpers.specs.Table.{read_answer};
 ghost use Rattle.bpf_machine.specs.State.{written, put, size};
-ghost use Rattle.flat_machine.specs.View.{layout_of};
-ghost use Rattle.flat_machine.specs.inner.FlatState.{memory_of, flat_state, Answers, IsSized, helped};
+ghost use Rattle.flat_machine.specs.inner.FlatState.{memory_of, caps_in, layout_in, flat_state, Answers, helped};
 
 use crate::calls::arguments::{Range, number_and_room, text_and_room, text_in};
-use crate::layout::Layout;
-use crate::memory::{Regions, put_room};
+use crate::memory::put_room;
+use crate::regions::Regions;
 use crate::state::{FlatState, get};
 use bpf_decode::Region;
-use bpf_machine::Caps;
 use helpers::{Helper, Span};
 use txn::Staged;
 
@@ -25,20 +23,12 @@ fn read_over(staged: &Staged, at: u64, bytes: &mut Vec<u8>, room: Span) -> u64
 }
 
 /// The object's bytes from a place on, read into a region at a place; and what `read` answers.
-fn read_into(
-    caps: &Caps,
-    memory: &mut Regions,
-    region: Region,
-    room: Span,
-    staged: &Staged,
-    at: u64,
-) -> u64
-    requires sized { IsSized caps.now memory.old }
-    requires inside { room.at + room.len ≤ size caps.now region }
+fn read_into(memory: &mut Regions, region: Region, room: Span, staged: &Staged, at: u64) -> u64
+    requires inside { room.at + room.len ≤ size memory.old.machine.caps region }
     requires some { 0 < room.len }
     ensures answer { result ≡ (read_answer staged.entry.now.after at room.len).number }
     ensures bytes { memory_of memory.new ≡ put (memory_of memory.old) region room.at (read_answer staged.entry.now.after at room.len).bytes }
-    ensures sized { IsSized caps.now memory.new }
+    ensures machine { memory.new.machine ≡ memory.old.machine }
 {
     match region {
         Region::Input => read_over(staged, at, &mut memory.input, room),
@@ -48,13 +38,12 @@ fn read_into(
 }
 
 /// Helper 2, `read`: copies the object's bytes from a place on into a range.
-pub fn read(caps: &Caps, layout: &Layout, s: &mut FlatState) -> Option<u64>
-    requires sized { IsSized caps.now s.old.memory }
-    ensures helped { Answers result (flat_state s.new) (helped caps.now (layout_of layout.now) Helper.Read (flat_state s.old)) }
+pub fn read(s: &mut FlatState) -> Option<u64>
+    ensures helped { Answers result (flat_state s.new) (helped (caps_in s.old) (layout_in s.old) Helper.Read (flat_state s.old)) }
     ensures slot { s.new.slot ≡ s.old.slot }
-    ensures sized { IsSized caps.now s.new.memory }
+    ensures machine { s.new.memory.machine ≡ s.old.memory.machine }
 {
-    let (at, room) = number_and_room(caps, layout, s)?;
+    let (at, room) = number_and_room(s)?;
     match room.place {
         None => Some(helpers::read(&s.object, at, &mut [], Span { at: 0, len: 0 })),
         Some((region, place)) => {
@@ -62,59 +51,55 @@ pub fn read(caps: &Caps, layout: &Layout, s: &mut FlatState) -> Option<u64>
                 at: place as u64,
                 len: room.len,
             };
-            Some(read_into(caps, &mut s.memory, region, span, &s.object, at))
+            Some(read_into(&mut s.memory, region, span, &s.object, at))
         }
     }
 }
 
 /// Helper 6, `getxattr`: copies an xattr's value into a range.
-pub fn getxattr(caps: &Caps, layout: &Layout, s: &mut FlatState) -> Option<u64>
-    requires sized { IsSized caps.now s.old.memory }
-    ensures helped { Answers result (flat_state s.new) (helped caps.now (layout_of layout.now) Helper.GetXattr (flat_state s.old)) }
+pub fn getxattr(s: &mut FlatState) -> Option<u64>
+    ensures helped { Answers result (flat_state s.new) (helped (caps_in s.old) (layout_in s.old) Helper.GetXattr (flat_state s.old)) }
     ensures slot { s.new.slot ≡ s.old.slot }
-    ensures sized { IsSized caps.now s.new.memory }
+    ensures machine { s.new.memory.machine ≡ s.old.memory.machine }
 {
-    let (name, room) = text_and_room(caps, layout, s)?;
+    let (name, room) = text_and_room(s)?;
     let found = helpers::xattr_value(&s.object, text_in(&s.memory, name), room.len);
-    put_room(caps, &mut s.memory, room.place, found.bytes);
+    put_room(&mut s.memory, room.place, found.bytes);
     Some(found.number)
 }
 
 /// Helper 9, `map_get`: copies a key's value into a range.
-pub fn map_get(caps: &Caps, layout: &Layout, s: &mut FlatState) -> Option<u64>
-    requires sized { IsSized caps.now s.old.memory }
-    ensures helped { Answers result (flat_state s.new) (helped caps.now (layout_of layout.now) Helper.MapGet (flat_state s.old)) }
+pub fn map_get(s: &mut FlatState) -> Option<u64>
+    ensures helped { Answers result (flat_state s.new) (helped (caps_in s.old) (layout_in s.old) Helper.MapGet (flat_state s.old)) }
     ensures slot { s.new.slot ≡ s.old.slot }
-    ensures sized { IsSized caps.now s.new.memory }
+    ensures machine { s.new.memory.machine ≡ s.old.memory.machine }
 {
-    let (name, room) = text_and_room(caps, layout, s)?;
+    let (name, room) = text_and_room(s)?;
     let found = helpers::map_value(&s.object, text_in(&s.memory, name), room.len);
-    put_room(caps, &mut s.memory, room.place, found.bytes);
+    put_room(&mut s.memory, room.place, found.bytes);
     Some(found.number)
 }
 
 /// Helper 12, `map_next`: copies the least key above a range's bytes into a range.
-pub fn map_next(caps: &Caps, layout: &Layout, s: &mut FlatState) -> Option<u64>
-    requires sized { IsSized caps.now s.old.memory }
-    ensures helped { Answers result (flat_state s.new) (helped caps.now (layout_of layout.now) Helper.MapNext (flat_state s.old)) }
+pub fn map_next(s: &mut FlatState) -> Option<u64>
+    ensures helped { Answers result (flat_state s.new) (helped (caps_in s.old) (layout_in s.old) Helper.MapNext (flat_state s.old)) }
     ensures slot { s.new.slot ≡ s.old.slot }
-    ensures sized { IsSized caps.now s.new.memory }
+    ensures machine { s.new.memory.machine ≡ s.old.memory.machine }
 {
-    let (name, room) = text_and_room(caps, layout, s)?;
+    let (name, room) = text_and_room(s)?;
     let found = helpers::key_above(&s.object, text_in(&s.memory, name), room.len);
-    put_room(caps, &mut s.memory, room.place, found.bytes);
+    put_room(&mut s.memory, room.place, found.bytes);
     Some(found.number)
 }
 
 /// Helper 13, `out_len`: how much of the output region is output.
-pub fn out_len(caps: &Caps, layout: &Layout, s: &mut FlatState) -> Option<u64>
-    requires sized { IsSized caps.now s.old.memory }
-    ensures helped { Answers result (flat_state s.new) (helped caps.now (layout_of layout.now) Helper.OutLen (flat_state s.old)) }
+pub fn out_len(s: &mut FlatState) -> Option<u64>
+    ensures helped { Answers result (flat_state s.new) (helped (caps_in s.old) (layout_in s.old) Helper.OutLen (flat_state s.old)) }
     ensures slot { s.new.slot ≡ s.old.slot }
-    ensures sized { IsSized caps.now s.new.memory }
+    ensures machine { s.new.memory.machine ≡ s.old.memory.machine }
 {
     let n = get(s, 1)?;
-    if n > u64::from(caps.out_cap) {
+    if n > u64::from(s.memory.machine.caps.out_cap) {
         return None;
     }
     Some(helpers::out_len(&mut s.out_len, n))

@@ -1,5 +1,5 @@
 ghost use Rattle.std.specs.Prelude.{◌<◌};
-ghost use Rattle.osd.specs.Sent.{OnlySent, IsOf, IsOwn};
+ghost use Rattle.osd.specs.Sent.{OnlySent, IsOf, IsInternalTo};
 
 use crate::delivery::Delivery;
 use crate::name::ClusterName;
@@ -7,7 +7,7 @@ use crate::running::Running;
 use crate::sends::Sends;
 use carried::{Carried, Operation};
 use group_cell::{Outgoing, Post};
-use group_world::{Epoch, Event, Kind, Message, Party};
+use group_world::{Epoch, Event, Message, MessageKind, Party};
 use pg_log::ClientId;
 use placement::NodeId;
 use std::sync::Wait;
@@ -40,14 +40,14 @@ impl<N: ClusterName, R: Wait> Running<N, R> {
 
     /// Asks the group's monitor to activate the interval, and tells the node where it did.
     fn activate(&self, sends: &mut Sends<N>, group: usize, node: NodeId, interval: Epoch)
-        ensures { OnlySent sends.old sends.new (IsOwn group) }
+        ensures { OnlySent sends.old sends.new (IsInternalTo group) }
     {
         if group >= self.config.groups as usize || !self.is_activated(group, interval) {
             return;
         }
         let carried = Carried::Plain(Event::Message(Message {
             sender: Party::Monitor,
-            kind: Kind::Activated(interval),
+            kind: MessageKind::Activated(interval),
         }));
         let _ = self.submit(
             sends,

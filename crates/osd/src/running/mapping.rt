@@ -1,5 +1,5 @@
 ghost use Rattle.std.specs.Prelude.{◌<◌, IfOk, IfErr};
-ghost use Rattle.osd.specs.Sent.{OnlySent, IsOwn, IsAny};
+ghost use Rattle.osd.specs.Sent.{OnlySent, IsInternalTo, IsAny};
 ghost use Rattle.osd.specs.Maps.{WasMade, WasRefused};
 
 use crate::name::ClusterName;
@@ -38,7 +38,7 @@ impl<N: ClusterName, R: Wait> Running<N, R> {
     /// Hands a group's newest map to its acting nodes, if its interval is new.
     fn tell_group(&self, sends: &mut Sends<N>, group: usize)
         requires { group < N.config.groups }
-        ensures { OnlySent sends.old sends.new (IsOwn group) }
+        ensures { OnlySent sends.old sends.new (IsInternalTo group) }
     {
         if !self.newest.lock(&self.rt).is_new_interval(group) {
             return;
@@ -51,7 +51,7 @@ impl<N: ClusterName, R: Wait> Running<N, R> {
     /// Hands a group's newest map to the node that acts at that place.
     fn tell_at(&self, sends: &mut Sends<N>, group: usize, place: usize)
         requires { group < N.config.groups }
-        ensures { OnlySent sends.old sends.new (IsOwn group) }
+        ensures { OnlySent sends.old sends.new (IsInternalTo group) }
     {
         let Some(node) = self.acting(group, place) else {
             return;

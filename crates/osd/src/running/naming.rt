@@ -40,6 +40,8 @@ impl<N: ClusterName, R: Wait + Drop> Running<N, R> {
         requires table { table ≡ N.classes }
         ensures { IfOk result (λ r. r ≡ parts.config) }
     {
+        // The call names the cluster, not a constructor of its parts: a call picks the names of values that are there
+        // already. So classes are loaded before the cluster has a name, and none after.
         let Parts {
             config,
             rows,

@@ -1,6 +1,6 @@
 ghost use Rattle.std.specs.Prelude.{◌<◌, All};
 ghost use Rattle.op_shards.specs.Passes.{Grew};
-ghost use Rattle.osd.specs.Sent.{OnlySent, IsOwn, IsOfNodeOrLost};
+ghost use Rattle.osd.specs.Sent.{OnlySent, IsInternalTo, IsOfNodeOrLost};
 
 use crate::delivery::Delivery;
 use crate::name::ClusterName;
@@ -18,7 +18,7 @@ impl<N: ClusterName, R: Wait> Running<N, R> {
     /// and no request of a client.
     pub fn nudge(&self, sends: &mut Sends<N>, group: usize)
         ensures grew { Grew sends.old sends.new }
-        ensures only { OnlySent sends.old sends.new (IsOwn group) }
+        ensures only { OnlySent sends.old sends.new (IsInternalTo group) }
     {
         if group >= self.config.groups as usize {
             return;
@@ -41,7 +41,7 @@ impl<N: ClusterName, R: Wait> Running<N, R> {
     /// Hands the newest map to the node that acts at that place, if its interval is lower.
     fn tell_late(&self, sends: &mut Sends<N>, group: usize, place: usize)
         requires { group < N.config.groups }
-        ensures { OnlySent sends.old sends.new (IsOwn group) }
+        ensures { OnlySent sends.old sends.new (IsInternalTo group) }
     {
         let Some(node) = self.acting(group, place) else {
             return;
@@ -66,7 +66,7 @@ impl<N: ClusterName, R: Wait> Running<N, R> {
     /// Hands the newest map to a node. It is lost where memory is refused.
     pub(crate) fn tell_map(&self, sends: &mut Sends<N>, group: usize, node: NodeId)
         requires { group < N.config.groups }
-        ensures { OnlySent sends.old sends.new (IsOwn group) }
+        ensures { OnlySent sends.old sends.new (IsInternalTo group) }
     {
         let Ok(map) = self.newest.lock(&self.rt).map(self.alloc, group) else {
             return;
@@ -85,7 +85,7 @@ impl<N: ClusterName, R: Wait> Running<N, R> {
     /// Submits what the node that acts at that place sends again.
     fn send_again(&self, sends: &mut Sends<N>, group: usize, place: usize)
         requires { group < N.config.groups }
-        ensures { OnlySent sends.old sends.new (IsOwn group) }
+        ensures { OnlySent sends.old sends.new (IsInternalTo group) }
     {
         let Some(node) = self.acting(group, place) else {
             return;
@@ -96,7 +96,7 @@ impl<N: ClusterName, R: Wait> Running<N, R> {
     /// Submits what a node sends again.
     fn resend(&self, sends: &mut Sends<N>, group: usize, node: NodeId)
         requires { group < N.config.groups }
-        ensures { OnlySent sends.old sends.new (IsOwn group) }
+        ensures { OnlySent sends.old sends.new (IsInternalTo group) }
     {
         for outgoing in self.unanswered(group, node) {
             self.deliver_some(sends, group, node, outgoing);
@@ -127,7 +127,7 @@ impl<N: ClusterName, R: Wait> Running<N, R> {
         outgoing: Option<Outgoing<N>>,
     )
         requires { IsOfNodeOrLost outgoing }
-        ensures { OnlySent sends.old sends.new (IsOwn group) }
+        ensures { OnlySent sends.old sends.new (IsInternalTo group) }
     {
         let Some(outgoing) = outgoing else {
             return;

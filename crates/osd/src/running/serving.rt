@@ -4,7 +4,7 @@ ghost use Rattle.osd.specs.Sent.{OnlySent, IsAny};
 ghost use Rattle.osd.specs.Turned.{WasTurn, IsLostOrTurn};
 
 use crate::delivery::Delivery;
-use crate::fate::{Deal, Fate, PassAll};
+use crate::fate::{DeliveryMode, Fate, PassAll};
 use crate::gate::Gate;
 use crate::name::ClusterName;
 use crate::running::Running;
@@ -103,6 +103,8 @@ impl<N: ClusterName, R: Wait> Running<N, R> {
         requires { shard < length N.queues.names }
         ensures { OnlySent worker.old.sends worker.new.sends IsAny }
     {
+        // Two workers at one shard could bring a member the second of two Reps first. It ignores that one, and only a nudge
+        // mends that.
         if !self.bell.begin(shard) {
             return false;
         }
@@ -236,22 +238,22 @@ impl<N: ClusterName, R: Wait> Running<N, R> {
             self.deliver(&mut worker.sends, delivery);
             return;
         }
-        let deal = fate.of(worker.number, worker.messages);
+        let mode = fate.of(worker.number, worker.messages);
         worker.messages = worker.messages.wrapping_add(1);
         let late = worker.late.take();
-        self.deal(worker, deal, delivery);
+        self.deliver_as(worker, mode, delivery);
         self.deliver_any(&mut worker.sends, late);
     }
 
     /// Does with what a node sends what the fate says.
-    fn deal(&self, worker: &mut Worker<N>, deal: Deal, delivery: Delivery<N>)
+    fn deliver_as(&self, worker: &mut Worker<N>, mode: DeliveryMode, delivery: Delivery<N>)
         ensures { OnlySent worker.old.sends worker.new.sends IsAny }
     {
-        match deal {
-            Deal::Pass => self.deliver_any(&mut worker.sends, Some(delivery)),
-            Deal::Drop => drop(delivery),
-            Deal::Twice => self.deliver_twice(&mut worker.sends, delivery),
-            Deal::Late => worker.late = Some(delivery),
+        match mode {
+            DeliveryMode::Pass => self.deliver_any(&mut worker.sends, Some(delivery)),
+            DeliveryMode::Drop => drop(delivery),
+            DeliveryMode::Twice => self.deliver_twice(&mut worker.sends, delivery),
+            DeliveryMode::Late => worker.late = Some(delivery),
         }
     }
 

@@ -11,7 +11,7 @@ ghost use Rattle.peering.specs.Arriving.{with_log, is_memory};
 
 use crate::node::GroupNode;
 use crate::node::moves::installing;
-use group_world::{Epoch, HandleError, Kind, Packet, Party, Status};
+use group_world::{Epoch, HandleError, MessageKind, Packet, Party, Status};
 use peering_messages::{are_among, is_same_request, packet};
 use pg_log::{ClassTable, Classes, Entry, Group, LogError, Request, adopting, list_refusal};
 use placement::{NodeId, has};
@@ -33,6 +33,7 @@ impl<C: Classes> GroupNode<C> {
         if !self.is_at(interval, Status::Asking) {
             return Ok(Vec::new(self.alloc));
         }
+        // No reachable world sends such a list; the rule says it of all.
         if !self.can_take(table, list)? {
             return Ok(Vec::new(self.alloc));
         }
@@ -55,7 +56,7 @@ impl<C: Classes> GroupNode<C> {
         }
     }
 
-    /// Makes the log a received list, where it is usable. Else, and at an error, nothing changes.
+    /// Makes the log a received list, if it is usable. Else, and at an error, nothing changes.
     pub(crate) fn take_list(
         &mut self,
         table: &ClassTable,
@@ -101,7 +102,7 @@ impl<C: Classes> GroupNode<C> {
         let mut sent = Vec::with_capacity(self.alloc, 1)?;
         self.joined.push(member)?;
         if are_among(self.members.acting(), &self.joined) {
-            let kind = Kind::AskActivate(self.interval);
+            let kind = MessageKind::AskActivate(self.interval);
             sent.push_reserved(packet(self.number, Party::Monitor, kind));
         }
         Ok(sent)
@@ -117,7 +118,7 @@ impl<C: Classes> GroupNode<C> {
             && !has(member, &self.joined)
     }
 
-    /// Becomes active, where the monitor has activated its interval.
+    /// Becomes active, if the monitor has activated its interval.
     pub(crate) fn activate(&mut self, interval: Epoch) -> Result<Vec<Packet>, HandleError>
         ensures done { IfOk result (λ sent. IsDone self.old self.new sent.items (activate self.old.state interval)) }
         ensures err { OnErr result (self.new ≡ self.old) }
@@ -147,7 +148,7 @@ fn each_at(alloc: Global, nodes: &[NodeId], length: usize) -> Result<Vec<usize>,
     Ok(lengths)
 }
 
-/// Makes a log a received list, where the list is legal, and says whether. Else, and at an error, nothing changes. Log and
+/// Makes a log a received list, if the list is legal, and says whether. Else, and at an error, nothing changes. Log and
 /// list are at least as long as the committed list.
 fn become_list<C: Classes>(
     table: &ClassTable,

@@ -9,13 +9,13 @@ ghost use Rattle.peering_messages.specs.Sending.{IsLegalBy, adopted_sent};
 ghost use Rattle.peering.specs.Arriving.{after_move, Makes, log_after, interval_after, install_first, install_again};
 
 use crate::node::GroupNode;
-use group_world::{Epoch, GroupMap, HandleError, Kind, Packet, Party, Requests, Status};
+use group_world::{Epoch, GroupMap, HandleError, MessageKind, Packet, Party, Requests, Status};
 use peering_messages::{adoption, leads, packet, query_to_all, send};
 use pg_log::{ClassTable, Classes, Group, Request, copy_log};
 use placement::{NodeId, has};
 use std::alloc::Global;
 
-/// What a node is to do at a map: its new status, where it moves, who has installed then, and what it sends.
+/// What a node is to do at a map: its new status if it moves, who has installed then, and what it sends.
 pub(crate) struct Arrival {
     pub status: Option<Status>,
     pub joined: Vec<NodeId>,
@@ -104,7 +104,7 @@ impl<C: Classes> GroupNode<C> {
     /// What it is to do at the map of a Query that it doesn't ignore.
     fn answering(&self, asker: Party, map: &GroupMap) -> Result<Arrival, HandleError>
         requires { would_forget self.now.number self.now.state map.now ≡ false }
-        ensures ok { IfOk result (λ a. Makes self.now.state map.now a (and_sends (arrive self.now.number self.now.state map.now) (packet self.now.number asker (Kind.Log (arrive self.now.number self.now.state map.now).node.interval (arrive self.now.number self.now.state map.now).node.log)))) }
+        ensures ok { IfOk result (λ a. Makes self.now.state map.now a (and_sends (arrive self.now.number self.now.state map.now) (packet self.now.number asker (MessageKind.Log (arrive self.now.number self.now.state map.now).node.interval (arrive self.now.number self.now.state map.now).node.log)))) }
         ensures within { IfOk result (λ a. self.now.state.committed ≤ length (log_after self.now.state a.status)) }
         ensures err { IfErr result (λ e. e ≡ HandleError.NoMemory) }
     {
@@ -121,11 +121,11 @@ impl<C: Classes> GroupNode<C> {
         status: Option<Status>,
         sent: &mut Vec<Packet>,
     ) -> Result<(), HandleError>
-        ensures ok { OnOk result (sent.new.items ≡ sent.old.items ++ packet self.now.number receiver (Kind.Log (interval_after self.now.state map.now status) (log_after self.now.state status)) ∷ []) }
+        ensures ok { OnOk result (sent.new.items ≡ sent.old.items ++ packet self.now.number receiver (MessageKind.Log (interval_after self.now.state map.now status) (log_after self.now.state status)) ∷ []) }
         ensures err { IfErr result (λ e. e ≡ HandleError.NoMemory) }
     {
         let list = Requests::new(self.log_after(status)?);
-        let kind = Kind::Log(self.interval_after(map, status), list);
+        let kind = MessageKind::Log(self.interval_after(map, status), list);
         send(sent, packet(self.number, receiver, kind))
     }
 
@@ -137,10 +137,10 @@ impl<C: Classes> GroupNode<C> {
         status: Option<Status>,
         sent: &mut Vec<Packet>,
     ) -> Result<(), HandleError>
-        ensures ok { OnOk result (sent.new.items ≡ sent.old.items ++ packet self.now.number receiver (Kind.Installed (interval_after self.now.state map.now status)) ∷ []) }
+        ensures ok { OnOk result (sent.new.items ≡ sent.old.items ++ packet self.now.number receiver (MessageKind.Installed (interval_after self.now.state map.now status)) ∷ []) }
         ensures err { IfErr result (λ e. e ≡ HandleError.NoMemory) }
     {
-        let kind = Kind::Installed(self.interval_after(map, status));
+        let kind = MessageKind::Installed(self.interval_after(map, status));
         send(sent, packet(self.number, receiver, kind))
     }
 
@@ -164,13 +164,14 @@ impl<C: Classes> GroupNode<C> {
         if is_waiting(self.status_after(arrival.status)) {
             return self.install_first(table, sender, map, list, arrival);
         }
+        // An unusable list is ignored whole, the move to its map too: no reachable world sends one.
         if !self.can_take(table, list)? {
             return Ok(Vec::new(self.alloc));
         }
         self.install_again(sender, map, arrival)
     }
 
-    /// Takes the list of an Install, where it waits once it has moved.
+    /// Takes the list of an Install, if it waits once it has moved.
     fn install_first(
         &mut self,
         table: &ClassTable,
@@ -195,7 +196,7 @@ impl<C: Classes> GroupNode<C> {
         Ok(sent)
     }
 
-    /// Says of an Install that it has installed, where it has once it has moved. It takes nothing of the list.
+    /// Says of an Install that it has installed, if it has once it has moved. It takes nothing of the list.
     fn install_again(
         &mut self,
         sender: Party,

@@ -38,7 +38,7 @@ impl<C: Classes> GroupNode<C> {
         Ok(Messages::new(sent))
     }
 
-    /// Install to the members that haven't installed, and AskActivate where all have.
+    /// Install to the members that haven't installed, and AskActivate if all have.
     fn installs_again(&self) -> Result<Vec<Packet>, HandleError>
         ensures ok { IfOk result (λ v. v.items ≡ unanswered_in self.now.number self.now.state Status.Installing) }
         ensures err { IfErr result (λ e. e ≡ HandleError.NoMemory) }

@@ -10,7 +10,7 @@ ghost use Rattle.peering.specs.Arriving.{acks_if, sent_with, grown};
 
 use crate::node::GroupNode;
 use crate::node::lead::is_memory;
-use group_world::{Epoch, HandleError, Kind, Packet, Party, Place, Status};
+use group_world::{Epoch, HandleError, MessageKind, Packet, Party, Place, Status};
 use peering_messages::{packet, rep_to_others, replies, replies_with, reply_again};
 use pg_log::{ClassTable, Classes, Entry, Request, classes_added, legal_lists, pairs, refusals};
 use placement::NodeId;
@@ -57,7 +57,7 @@ impl<C: Classes> GroupNode<C> {
         }
     }
 
-    /// The answer to a logged request, where it is committed.
+    /// The answer to a logged request, if it is committed.
     fn answer_again(
         &self,
         table: &ClassTable,
@@ -86,6 +86,8 @@ impl<C: Classes> GroupNode<C> {
         ensures err { OnErr result (self.new ≡ self.old) }
         ensures why { IfErr result (λ e. IsRefusal (request_at table.now self.old.number self.old.state request None) e) }
     {
+        // It runs before anything is sent, and each message is built before the entry is kept: so refusals 1 to 7 come
+        // before 8, and a refusal leaves the node as it was.
         let entry = self.next(table, request)?;
         self.keep_next(table, entry)
     }
@@ -205,14 +207,14 @@ impl<C: Classes> GroupNode<C> {
         match self.takes_rep(table, rep)? {
             None => Ok(sent),
             Some(length) => {
-                let kind = Kind::Ack(self.interval, length);
+                let kind = MessageKind::Ack(self.interval, length);
                 sent.push_reserved(packet(self.number, sender, kind));
                 Ok(sent)
             }
         }
     }
 
-    /// Puts the request of a Rep at its place, where it has installed and the request may follow, and gives the length to
+    /// Puts the request of a Rep at its place, if it has installed and the request may follow, and gives the length to
     /// acknowledge, if any.
     fn takes_rep(&mut self, table: &ClassTable, rep: Rep) -> Result<Option<usize>, HandleError>
         requires { IsPrefix table.now C.classes }

@@ -81,6 +81,7 @@ impl<C: Classes> Group<C> {
     }
 
     /// The same, from a place that isn't the first, of a log's entries, objects and index.
+    // Apart from the group: halfway its objects aren't yet those of its entries.
     fn change_end(
         alloc: Global,
         table: &ClassTable,

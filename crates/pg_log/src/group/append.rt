@@ -26,7 +26,7 @@ use txn::apply;
 impl<C: Classes> Group<C> {
     /// Runs a request and logs it: gives its place. A logged pair of client and number gives its old place and changes
     /// nothing, whatever else the request holds, also on a full log. It refuses by, the first that applies: `LogFull`
-    /// at 65,536 entries; `StaleNumber` where a greater number of the client is logged; `NoClass`, `NoMethod` and
+    /// at 65,536 entries; `StaleNumber` if a greater number of the client is logged; `NoClass`, `NoMethod` and
     /// `InputTooLong` by the given table; `NoMemory`. A refusal leaves the group as it was.
     ///
     /// The table is that of the earlier calls, or that one with classes added.
@@ -69,7 +69,7 @@ impl<C: Classes> Group<C> {
     }
 
     /// The entry that a request would be, with its reply and what it would do to its object. It changes nothing, and
-    /// refuses as `append` does where the request's pair isn't logged; a pair that is logged is `StaleNumber`, on a full
+    /// refuses as `append` does if the request's pair isn't logged; a pair that is logged is `StaleNumber`, on a full
     /// log `LogFull`. It costs the call.
     ///
     /// The table is that of the earlier calls, or that one with classes added.
@@ -115,8 +115,7 @@ impl<C: Classes> Group<C> {
     }
 
     /// Adds an entry that may follow the log, as `next_entry` gives it, and gives its place. It refuses by `NoMemory`
-    /// alone, and then leaves the group as it was. All its growths come first: the log's, the index's and that of
-    /// the objects.
+    /// alone, and then leaves the group as it was: what grows comes first, the log, the index and the objects.
     pub fn keep(&mut self, entry: Entry) -> Result<usize, LogError>
         requires { IsNextEntry C.classes self.old entry }
         ensures ok { IfOk result (λ place. (place ≡ length self.old) × (self.new ≡ self.old ++ entry.request ∷ [])) }
@@ -258,7 +257,7 @@ pub(crate) fn entry_of_copy(
     Ok(entry_of(copy, outcome))
 }
 
-/// Runs the method of a request beside its object.
+/// Runs the method of a request on its object.
 fn run_method(
     alloc: Global,
     method: &VerifiedMethod,

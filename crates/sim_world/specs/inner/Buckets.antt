@@ -2,8 +2,8 @@
 use Rattle.std.specs.Prelude.{◌≡◌, ◌&&◌, ℕ, suc, ◌<◌, ◌%◌, ◌==◌, Bool, false, List, [], ◌∷◌, length, Option, Some, None, if◌then◌else◌, slice_index_or}
 use Rattle.group_world.specs.declared.event.Event.{Event}
 use Rattle.group_world.specs.declared.event.Event.TheVariants.{Request as ARequest, Map as AMap, Message as AMessage}
-use Rattle.group_world.specs.declared.message.Kind.{Kind}
-use Rattle.group_world.specs.declared.message.Kind.TheVariants.{Query, Install, AskActivate, Rep}
+use Rattle.group_world.specs.declared.message.MessageKind.{MessageKind}
+use Rattle.group_world.specs.declared.message.MessageKind.TheVariants.{Query, Install, AskActivate, Rep}
 use Rattle.group_world.specs.declared.message.Packet.{Packet}
 use Rattle.carried.specs.declared.operation.Carried.{Carried}
 use Rattle.carried.specs.declared.operation.Carried.TheVariants as carried
@@ -13,14 +13,14 @@ use Rattle.sim_world.specs.Same.{is_same_kind, is_same_party}
 use Rattle.sim_world.specs.declared.kept.KeptMessage.{KeptMessage}
 
 -- a message is equal to one by what is kept of that; a list is never sent again
-abbrev pub is_same_event : Kind → Event → Bool
+abbrev pub is_same_event : MessageKind → Event → Bool
 is_same_event kind (ARequest r) = false
 is_same_event kind (AMap m) = false
 is_same_event kind (AMessage m) = is_same_kind kind m.kind
 
-abbrev pub is_same_carried : Kind → Carried → Bool
+abbrev pub is_same_carried : MessageKind → Carried → Bool
 is_same_carried kind (carried.Plain event) = is_same_event kind event
-is_same_carried kind (carried.Query sender map told) = is_same_kind kind (Query map)
+is_same_carried kind (carried.Query sender map reported) = is_same_kind kind (Query map)
 is_same_carried kind (carried.Log short) = false
 
 abbrev pub is_kept_as : Packet → KeptMessage → Bool
@@ -35,7 +35,7 @@ abbrev pub kept_number : List KeptMessage → Packet → ℕ
 kept_number sent p = kept_number_from 1 p sent
 
 -- the bucket of a message: by its interval or, of a request, by its place; the last is for those that are never sent again
-abbrev pub bucket : Kind → ℕ
+abbrev pub bucket : MessageKind → ℕ
 bucket (Query m) = m.interval % 1024
 bucket (Install m list) = m.interval % 1024
 bucket (AskActivate interval) = interval % 1024
@@ -49,7 +49,7 @@ bucket_in (AMessage m) = bucket m.kind
 
 abbrev pub bucket_of : Carried → ℕ
 bucket_of (carried.Plain event) = bucket_in event
-bucket_of (carried.Query sender map told) = bucket (Query map)
+bucket_of (carried.Query sender map reported) = bucket (Query map)
 bucket_of (carried.Log short) = 1024
 
 -- the numbers of the messages of a bucket, of which the first has that number

@@ -15,8 +15,8 @@ use Rattle.group_world.specs.declared.monitor_error.MonitorError.{MonitorError}
 use Rattle.group_world.specs.declared.handle_error.HandleError.{HandleError}
 use Rattle.group_world.specs.declared.party.Party.{Party}
 use Rattle.group_world.specs.declared.party.Party.TheVariants.{Node as ANode, Monitor as TheMonitor, Client as AClient}
-use Rattle.group_world.specs.declared.message.Kind.{Kind}
-use Rattle.group_world.specs.declared.message.Kind.TheVariants.{AskActivate}
+use Rattle.group_world.specs.declared.message.MessageKind.{MessageKind}
+use Rattle.group_world.specs.declared.message.MessageKind.TheVariants.{AskActivate}
 use Rattle.group_world.specs.declared.message.Packet.{Packet}
 use Rattle.group_world.specs.declared.event.Event.{Event}
 use Rattle.group_world.specs.declared.event.Event.TheVariants.{Request as ARequest, Map as AMap, Message as AMessage}
@@ -122,7 +122,7 @@ activated w asker interval None = record {
 activated w asker interval (Some why) = rests w (MonitorRefused why)
 
 -- DELIVERY
-abbrev pub asked_in : Kind → Option ℕ
+abbrev pub asked_in : MessageKind → Option ℕ
 asked_in (AskActivate interval) = Some interval
 asked_in _ = None
 
@@ -133,7 +133,7 @@ asked_by (AMessage m) = asked_in m.kind
 
 abbrev pub asked_of : Carried → Option ℕ
 asked_of (carried.Plain event) = asked_by event
-asked_of (carried.Query sender map told) = None
+asked_of (carried.Query sender map reported) = None
 asked_of (carried.Log short) = None
 
 abbrev pub delivery_to : List NumberedNode → Party → Carried → Delivery

@@ -11,7 +11,7 @@ returns-then-s-sign c =
     let p : FitsSigned w64 c.args.x.second.first.low = search rules in
     let q : FitsSigned w64 c.args.x.second.first.high = search rules in
     let sign = to_z-of_z w64 c.cast_signed-s.result a ∙ c.cast_signed-s.ensures in
-    one_number (view c.args.x) _ _ _ c.if-n-x.false sign (to_z-of_z w64 c.args.x.second.first.low p) (to_z-of_z w64 c.args.x.second.first.high q) c.if-n-bits.true c.if-sign-s.true c.if-s-sign.true
+    one_number (view c.args.x) _ _ _ c.if-n-range.false sign (to_z-of_z w64 c.args.x.second.first.low p) (to_z-of_z w64 c.args.x.second.first.high q) c.if-n-bits.true c.if-sign-s.true c.if-s-sign.true
 
 pub returns-else-n-bits : goal.returns-else-n-bits
 returns-else-n-bits c =
@@ -23,7 +23,7 @@ returns-else-n-bits c =
     let least = to_z-of_z w64 c.args.x.second.first.low p in
     let greatest = to_z-of_z w64 c.args.x.second.first.high q in
     elim c.else-n-bits.branch [
-      | else-n-bits-via-then-n-bits+then-sign-s+else-s-sign w ↦ denied x c.if-n-x.false (agrees_if x _ _ _ true true false sign least greatest (eq-eqb _ _ w.if-n-bits.true) w.if-sign-s.true w.if-s-sign.false)
-      | else-n-bits-via-then-n-bits+else-sign-s w ↦ denied x c.if-n-x.false (agrees_if x _ _ _ true false _ sign least greatest (eq-eqb _ _ w.if-n-bits.true) w.if-sign-s.false refl)
-      | else-n-bits-via-else-n-bits w ↦ denied_by_bits x c.if-n-x.false w.if-n-bits.false
+      | else-n-bits-via-then-n-bits+then-sign-s+else-s-sign w ↦ denied x c.if-n-range.false (agrees_if x _ _ _ true true false sign least greatest (eq-eqb _ _ w.if-n-bits.true) w.if-sign-s.true w.if-s-sign.false)
+      | else-n-bits-via-then-n-bits+else-sign-s w ↦ denied x c.if-n-range.false (agrees_if x _ _ _ true false _ sign least greatest (eq-eqb _ _ w.if-n-bits.true) w.if-sign-s.false refl)
+      | else-n-bits-via-else-n-bits w ↦ denied_by_bits x c.if-n-range.false w.if-n-bits.false
     ]

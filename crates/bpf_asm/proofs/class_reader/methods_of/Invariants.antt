@@ -2,6 +2,7 @@ use Rattle.std.proofs.Common.{◌≡◌, ◌≤◌, ◌+◌, ◌-◌, [], drop, 
 use Rattle.bpf_decode.specs.ImageReading.{methods_after}
 use Rattle.bpf_asm.specs.Classes.{class_from}
 use Rattle.bpf_asm.proofs.class_reader.methods_of.Given as goal
+use Rattle.bpf_decode.specs.declared.limits.TheConstants.{METHOD_LIMIT}
 
 -- reading goes on behind the methods so far, which are right
 abbrev pub invariant-loop-index : goal.invariant-loop-index
@@ -9,7 +10,7 @@ invariant-loop-index l =
     record {
       inside : l.index ≤ length l.lines;
       right : methods_after 0 [] l.methods.items ≡ Ok l.methods.items;
-      few : length l.methods.items ≤ 32;
+      few : length l.methods.items ≤ METHOD_LIMIT;
       same : class_from l.methods.items (l.index + 1) (drop l.index l.lines) ≡ class_from [] (l.first + 1) (drop l.first l.lines);
     }
 

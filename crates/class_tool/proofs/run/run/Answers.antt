@@ -9,6 +9,6 @@ returns-in-None-clause-ok g c =
 
 pub returns-in-Some-clause-ok : goal.returns-in-Some-clause-ok
 returns-in-Some-clause-ok g c =
-    let told = c.call_beside.ensures.ok in
+    let reply = c.call_beside.ensures.ok in
     reported_beside (g.F.Reads.disk c.args.files.now) c.args.asked.now c.in_ok-class.class c.in_ok-input.input.items c.in_ok-class.ensures.safe c.in_ok-input.ensures.ok
-    c.in-Some.object c.call_beside.result (c.in_ok-object_before.ensures ∙ ap (λ o. Ok o) c.in-Some.is) (rw c.deref.ensures.value at told)
+    c.in-Some.object c.call_beside.result (c.in_ok-object_before.ensures ∙ ap (λ o. Ok o) c.in-Some.is) (rw c.deref.ensures.value at reply)

@@ -1,15 +1,14 @@
 use Rattle.std.proofs.Common.{◌≡◌, Some, true, ap, sym, subst, ◌∙◌, arith}
 use Rattle.std.proofs.lemmas.Grind.{common_steps}
 use Rattle.helpers.specs.Table.{helper_of}
-use Rattle.flat_machine.specs.View.{layout_of}
-use Rattle.flat_machine.specs.inner.FlatState.{flat_state, Answers, may_call, helped}
+use Rattle.flat_machine.specs.inner.FlatState.{caps_in, layout_in, flat_state, Answers, may_call, helped}
 use Rattle.flat_machine.proofs.Table.{help_is}
 use Rattle.flat_machine.proofs.calls.help.Goals as goal
 
 pub returns-in-None-2-clause-helped : goal.returns-in-None-2-clause-helped
 returns-in-None-2-clause-helped c =
-    let caps = c.args.caps.now in
-    let lay = layout_of c.args.layout.now in
+    let caps = caps_in c.args.s.now in
+    let lay = layout_in c.args.s.now in
     let s = flat_state c.args.s.now in
     let h = c.in-Some.helper in
     let leave : may_call caps c.args.id ≡ true = sym c.may_call.ensures ∙ c.if-not-may_call.false in
@@ -18,8 +17,8 @@ returns-in-None-2-clause-helped c =
 
 pub returns-in-Some-2-clause-helped : goal.returns-in-Some-2-clause-helped
 returns-in-Some-2-clause-helped c =
-    let caps = c.args.caps.now in
-    let lay = layout_of c.args.layout.now in
+    let caps = caps_in c.args.s.now in
+    let lay = layout_in c.args.s.now in
     let s = flat_state c.args.s.now in
     let h = c.in-Some.helper in
     let leave : may_call caps c.args.id ≡ true = sym c.may_call.ensures ∙ c.if-not-may_call.false in

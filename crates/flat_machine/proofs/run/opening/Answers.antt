@@ -15,12 +15,3 @@ returns-clause-memory c =
     let input = c.in_ok-input.ensures.items ∙ ap (λ n. c.args.input.now ++ replicate (n - length c.args.input.now) 0) c.from.ensures in
     let output = c.in_ok-output.ensures.items ∙ ap (λ n. replicate n 0) c.from-2.ensures in
     same_memory _ _ _ _ _ _ input output c.in_ok-stack.ensures.items
-
-pub returns-clause-sized : goal.returns-clause-sized
-returns-clause-sized c =
-    record {
-      input = c.in_ok-input.ensures.long ∙ c.from.ensures;
-      output = c.in_ok-output.ensures.long ∙ c.from-2.ensures;
-      stack = c.in_ok-stack.ensures.long;
-      capacities = c.requires.capacities;
-    }

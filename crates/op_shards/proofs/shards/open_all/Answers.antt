@@ -1,7 +1,7 @@
 use Rattle.std.proofs.Common.{◌≡◌, ap, ◌∙◌, map, length, length-append, arith, [], ◌∷◌}
 use Rattle.crossbeam_queue.specs.Passes.{ruled_capacity}
-use Rattle.op_shards.specs.Passes.{dealing}
-use Rattle.op_shards.proofs.Dealt.{more_dealers, all_spots, all_more_of}
+use Rattle.op_shards.specs.Passes.{free_end_state}
+use Rattle.op_shards.proofs.NewEnds.{more_free_ends, all_spots, all_more_of}
 use Rattle.op_shards.proofs.shards.open_all.Goals as goal
 
 pub loop-shard-preserved : goal.loop-shard-preserved
@@ -13,11 +13,11 @@ loop-shard-preserved g c =
     record {
       count = omega (arith, i.count, longer, length-append queues (c.in_ok-queue.queue ∷ []));
       places = all_more_of (λ q. ruled_capacity q ≡ c.args.places) queues _ _ more i.places c.in_ok-queue.ensures.queue;
-      dealers = more_dealers c.args.shards c.args.senders c.args.takers c.loop-shard.shard queues _ c.in_ok-queue.queue c.loop-shard.dealers.items _ _ i.count i.dealers c.in_ok-queue.ensures.dealer more c.in_ok-push.ensures.items;
+      free_ends = more_free_ends c.args.shards c.args.members.senders c.args.members.takers c.loop-shard.shard queues _ c.in_ok-queue.queue c.loop-shard.free_ends.items _ _ i.count i.free_ends c.in_ok-queue.ensures.free_end more c.in_ok-push.ensures.items;
     }
 
-pub returns-clause-dealers : goal.returns-clause-dealers
-returns-clause-dealers g c =
+pub returns-clause-free_ends : goal.returns-clause-free_ends
+returns-clause-free_ends g c =
     let i = c.loop-shard.invariant in
     let long : length c.loop-shard.queues.items ≡ c.args.shards = omega (arith, i.count, c.loop-shard-test.false, c.loop-shard.auto.shard-end) in
-    i.dealers ∙ ap (map (dealing 0 c.args.takers)) (all_spots c.args.shards c.args.senders c.args.takers c.loop-shard.queues.items long)
+    i.free_ends ∙ ap (map (free_end_state 0 c.args.members.takers)) (all_spots c.args.shards c.args.members.senders c.args.members.takers c.loop-shard.queues.items long)

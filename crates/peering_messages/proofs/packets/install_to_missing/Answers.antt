@@ -4,8 +4,8 @@ use Rattle.std.proofs.lemmas.List.{get_or_read, drop_more, drop_all, append-nil}
 use Rattle.group_world.specs.Node.{packet}
 use Rattle.group_world.specs.Unanswered.{to_missing}
 use Rattle.group_world.specs.declared.party.Party.TheVariants.{Node as ANode}
-use Rattle.group_world.specs.declared.message.Kind.{Kind}
-use Rattle.group_world.specs.declared.message.Kind.TheVariants.{Install}
+use Rattle.group_world.specs.declared.message.MessageKind.{MessageKind}
+use Rattle.group_world.specs.declared.message.MessageKind.TheVariants.{Install}
 use Rattle.group_world.specs.declared.message.Packet.{Packet}
 use Rattle.peering_messages.proofs.Messages.{missing_joined, missing_not}
 use Rattle.peering_messages.proofs.packets.install_to_missing.Goals as goal
@@ -17,7 +17,7 @@ loop-node-preserved c =
     let ns : List ℕ = c.args.nodes.now in
     let js : List ℕ = c.args.joined.now in
     let m : ℕ = c.node-item.result in
-    let kind : Kind = Install c.args.map.now c.args.list.now in
+    let kind : MessageKind = Install c.args.map.now c.args.list.now in
     let node : m ≡ get_or ns k 0 = get_or_read ns k m c.loop-node-test.true c.node-item.is 0 in
     let t : List Packet = to_missing n js (drop (k + 1) ns) kind in
     let step : to_missing n js (drop k ns) kind ≡ packet n (ANode m) kind ∷ t =
@@ -33,7 +33,7 @@ loop-node-preserved-then-eq c =
     let ns : List ℕ = c.args.nodes.now in
     let js : List ℕ = c.args.joined.now in
     let m : ℕ = c.node-item.result in
-    let kind : Kind = Install c.args.map.now c.args.list.now in
+    let kind : MessageKind = Install c.args.map.now c.args.list.now in
     let node : m ≡ get_or ns k 0 = get_or_read ns k m c.loop-node-test.true c.node-item.is 0 in
     let step : to_missing n js (drop k ns) kind ≡ to_missing n js (drop (k + 1) ns) kind =
     ap (λ w. to_missing n js w kind) (drop_more ns k 0 c.loop-node-test.true ∙ ap (λ w. w ∷ drop (k + 1) ns) (sym node))
@@ -47,7 +47,7 @@ loop-node-preserved-then-has c =
     let ns : List ℕ = c.args.nodes.now in
     let js : List ℕ = c.args.joined.now in
     let m : ℕ = c.node-item.result in
-    let kind : Kind = Install c.args.map.now c.args.list.now in
+    let kind : MessageKind = Install c.args.map.now c.args.list.now in
     let node : m ≡ get_or ns k 0 = get_or_read ns k m c.loop-node-test.true c.node-item.is 0 in
     let step : to_missing n js (drop k ns) kind ≡ to_missing n js (drop (k + 1) ns) kind =
     ap (λ w. to_missing n js w kind) (drop_more ns k 0 c.loop-node-test.true ∙ ap (λ w. w ∷ drop (k + 1) ns) (sym node))
@@ -60,7 +60,7 @@ returns-clause-ok c =
     let k : ℕ = c.loop-node.node-index in
     let ns : List ℕ = c.args.nodes.now in
     let js : List ℕ = c.args.joined.now in
-    let kind : Kind = Install c.args.map.now c.args.list.now in
+    let kind : MessageKind = Install c.args.map.now c.args.list.now in
     let done : length ns ≤ k = omega arith in
     sym (append-nil c.loop-node.sent.items) ∙ ap (λ w. c.loop-node.sent.items ++ to_missing n js w kind) (sym (drop_all k ns done)) ∙ c.loop-node.invariant
 

@@ -1,6 +1,6 @@
 use Rattle.std.proofs.Common.{◌≡◌, ◌++◌, drop}
 use Rattle.group_world.specs.Unanswered.{to_missing}
-use Rattle.group_world.specs.declared.message.Kind.TheVariants.{Install}
+use Rattle.group_world.specs.declared.message.MessageKind.TheVariants.{Install}
 use Rattle.peering_messages.proofs.packets.install_to_missing.Given as goal
 
 abbrev pub invariant-loop-node : goal.invariant-loop-node

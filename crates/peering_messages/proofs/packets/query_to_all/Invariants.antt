@@ -1,6 +1,6 @@
 use Rattle.std.proofs.Common.{◌≡◌, ◌++◌, drop}
 use Rattle.group_world.specs.Node.{to_all}
-use Rattle.group_world.specs.declared.message.Kind.TheVariants.{Query}
+use Rattle.group_world.specs.declared.message.MessageKind.TheVariants.{Query}
 use Rattle.peering_messages.proofs.packets.query_to_all.Given as goal
 
 abbrev pub invariant-loop-node : goal.invariant-loop-node

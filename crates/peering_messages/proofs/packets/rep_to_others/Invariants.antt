@@ -1,6 +1,6 @@
 use Rattle.std.proofs.Common.{◌≡◌, ◌++◌, drop}
 use Rattle.group_world.specs.Node.{to_others}
-use Rattle.group_world.specs.declared.message.Kind.TheVariants.{Rep}
+use Rattle.group_world.specs.declared.message.MessageKind.TheVariants.{Rep}
 use Rattle.peering_messages.proofs.packets.rep_to_others.Given as goal
 
 abbrev pub invariant-loop-node : goal.invariant-loop-node

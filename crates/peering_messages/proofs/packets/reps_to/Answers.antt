@@ -5,7 +5,7 @@ use Rattle.pg_log.specs.Entries.{requests_of}
 use Rattle.group_world.specs.Node.{packet}
 use Rattle.group_world.specs.Unanswered.{reps_from}
 use Rattle.group_world.specs.declared.party.Party.TheVariants.{Node as ANode}
-use Rattle.group_world.specs.declared.message.Kind.TheVariants.{Rep}
+use Rattle.group_world.specs.declared.message.MessageKind.TheVariants.{Rep}
 use Rattle.group_world.specs.declared.message.Packet.{Packet}
 use Rattle.peering_messages.proofs.packets.reps_to.Goals as goal
 

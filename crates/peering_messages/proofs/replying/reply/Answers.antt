@@ -4,7 +4,7 @@ use Rattle.std.proofs.lemmas.Int.{to_z-of_z}
 use Rattle.pg_log.specs.Log.{Reply}
 use Rattle.group_world.specs.Node.{packet}
 use Rattle.group_world.specs.declared.party.Party.TheVariants.{Client as AClient}
-use Rattle.group_world.specs.declared.message.Kind.TheVariants.{Reply as ReplyTo}
+use Rattle.group_world.specs.declared.message.MessageKind.TheVariants.{Reply as ReplyTo}
 use Rattle.group_world.specs.declared.message.Packet.{Packet}
 use Rattle.peering_messages.specs.Sending.{answer_in}
 use Rattle.peering_messages.proofs.replying.reply.Goals as goal

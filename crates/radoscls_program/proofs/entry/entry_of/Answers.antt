@@ -2,7 +2,7 @@ use Rattle.std.proofs.Common.{arith}
 use Rattle.std.proofs.lemmas.Grind.{common_steps}
 use Rattle.std.proofs.lemmas.Str.Pattern.{split_once_first}
 use Rattle.std.specs.Prelude.{None}
-use Rattle.radoscls_program.specs.Own.{is_equals}
+use Rattle.radoscls_program.specs.Tenants.{is_equals}
 use Rattle.radoscls_program.proofs.Tenants.{none_passes}
 use Rattle.radoscls_program.proofs.entry.entry_of.Goals as goal
 

@@ -21,6 +21,6 @@ load-requires c =
     let tie = ap (λ r. r.board) c.writer.view_is ∙ c.requires.writer ∙ sym c.self.view_is in
     let within : c.writer.inside.row < c.self.inside.table.shared.table_id.words = subst (λ (k : ℕ). c.writer.inside.row < k) (ap (λ t. t.words) tie) c.writer.invariant.0 in
     let below : c.writer.inside.row < c.self.inside.table.shared.key = subst (λ (k : ℕ). c.writer.inside.row < k) (sym c.self.invariant.0) within in
-    let told = c.split_seat-seat.result.me.0.known in
-    let is = c.join_seat.ensures.2 ∙ (λ i. ((λ (v : View). view_of v.first v.end v.own v.known told) (c.writer.invariant.1 i).0, (c.writer.invariant.1 i).1)) in
-    (c.join_seat.ensures.0 ∙ tie, within, compares c.self.inside.table.shared.key _ _ c.writer.inside.row _ c.writer.inside.seat.me.0.own told below is)
+    let received = c.split_seat-seat.result.me.0.known in
+    let is = c.join_seat.ensures.2 ∙ (λ i. ((λ (v : View). view_of v.first v.end v.written v.known received) (c.writer.invariant.1 i).0, (c.writer.invariant.1 i).1)) in
+    (c.join_seat.ensures.0 ∙ tie, within, compares c.self.inside.table.shared.key _ _ c.writer.inside.row _ c.writer.inside.seat.me.0.written received below is)

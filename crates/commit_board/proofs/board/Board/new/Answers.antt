@@ -4,7 +4,7 @@ use Rattle.std.proofs.lemmas.Grind.{common_steps}
 use Rattle.commit_board.specs.Rows.{writes}
 use Rattle.commit_board.specs.Tokens.{writer_of, new_writer}
 use Rattle.commit_board.proofs.Lists.{more_rows}
-use Rattle.commit_board.proofs.Moves.{begins, deals, freshens}
+use Rattle.commit_board.proofs.Moves.{begins, one_row_splits, freshens}
 use Rattle.commit_board.proofs.board.Board.new.Goals as goal
 
 pub of_words-requires : goal.of_words-requires
@@ -16,7 +16,7 @@ split_seat-requires c =
     let key : c.in_ok-table.table.shared.key ≡ c.args.rows = c.in_ok-table.ensures.5 in
     let words : c.in_ok-table.table.shared.table_id.words ≡ c.args.rows = c.in_ok-table.ensures.0 ∙ c.as_slice.ensures.len ∙ c.in_ok-words.ensures.len in
     let below : c.loop-row.row < c.in_ok-table.table.shared.key = omega arith in
-    (i.1, omega arith, deals c.in_ok-table.table.shared.key _ c.loop-row.row _ below (ap (λ m. m.0) i.2 ∙ ap (λ (k : ℕ). writes c.loop-row.row k []) (sym key)))
+    (i.1, omega arith, one_row_splits c.in_ok-table.table.shared.key _ c.loop-row.row _ below (ap (λ m. m.0) i.2 ∙ ap (λ (k : ℕ). writes c.loop-row.row k []) (sym key)))
 
 pub split_seat-requires-2 : goal.split_seat-requires-2
 split_seat-requires-2 c =
@@ -36,8 +36,8 @@ loop-row-preserved c =
     let i = c.loop-row.invariant in
     let e = c.split_seat.ensures in
     let board = e.3 ∙ i.1 in
-    let own = ap (λ m. m.0.own) e.4 ∙ ap (λ m. m.0.own) i.2 in
-    let items = more_rows (new_writer c.in_ok-table.table.shared.table_id) c.loop-row.row c.loop-row.writers.items c.push_reserved.new.self.items _ i.3 (λ k. writer_of (board k) c.loop-row.row (own k)) c.push_reserved.ensures.items in
+    let written = ap (λ m. m.0.written) e.4 ∙ ap (λ m. m.0.written) i.2 in
+    let items = more_rows (new_writer c.in_ok-table.table.shared.table_id) c.loop-row.row c.loop-row.writers.items c.push_reserved.new.self.items _ i.3 (λ k. writer_of (board k) c.loop-row.row (written k)) c.push_reserved.ensures.items in
     (refl, grind (arith, common_steps), grind (arith, common_steps), items, grind (arith, common_steps), grind (arith, common_steps))
 
 pub loop-row-init : goal.loop-row-init

@@ -16,10 +16,10 @@ pub returns-clause-row : goal.returns-clause-row
 returns-clause-row c =
     let e = c.split_seat.ensures in
     let row = ap (λ m. m.0.first) c.writer.invariant.1 ∙ ap (λ r. r.row) c.writer.view_is in
-    ap (λ m. list_at m.0.known c.args.writer.now.row) e.4 ∙ ap (λ (k : ℕ). list_at (put_at [] k c.writer.inside.seat.me.0.own) c.args.writer.now.row) row ∙ list_at-put [] c.args.writer.now.row c.writer.inside.seat.me.0.own ∙ ap (λ r. r.list) c.writer.view_is
+    ap (λ m. list_at m.0.known c.args.writer.now.row) e.4 ∙ ap (λ (k : ℕ). list_at (put_at [] k c.writer.inside.seat.me.0.written) c.args.writer.now.row) row ∙ list_at-put [] c.args.writer.now.row c.writer.inside.seat.me.0.written ∙ ap (λ r. r.list) c.writer.view_is
 
 pub returns-clause-others : goal.returns-clause-others
 returns-clause-others c i apart =
     let e = c.split_seat.ensures in
     let row = ap (λ m. m.0.first) c.writer.invariant.1 ∙ ap (λ r. r.row) c.writer.view_is in
-    ap (λ m. list_at m.0.known i) e.4 ∙ ap (λ (k : ℕ). list_at (put_at [] k c.writer.inside.seat.me.0.own) i) row ∙ list_at-put_else [] c.args.writer.now.row i c.writer.inside.seat.me.0.own apart
+    ap (λ m. list_at m.0.known i) e.4 ∙ ap (λ (k : ℕ). list_at (put_at [] k c.writer.inside.seat.me.0.written) i) row ∙ list_at-put_else [] c.args.writer.now.row i c.writer.inside.seat.me.0.written apart

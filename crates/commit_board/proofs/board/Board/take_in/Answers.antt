@@ -16,7 +16,7 @@ join_seat-requires c =
 pub load-requires : goal.load-requires
 load-requires c =
     let tie = ap (λ r. r.board) c.seen.view_is ∙ c.requires.seen ∙ sym c.self.view_is in
-    let is = c.join_seat.ensures.2 ∙ (λ i. ((λ (v : View). view_of v.first v.end v.own v.known c.note.inside.seat.me.0.known) (c.seen.invariant i).0, (c.seen.invariant i).1)) in
+    let is = c.join_seat.ensures.2 ∙ (λ i. ((λ (v : View). view_of v.first v.end v.written v.known c.note.inside.seat.me.0.known) (c.seen.invariant i).0, (c.seen.invariant i).1)) in
     (c.join_seat.ensures.0 ∙ tie, c.self.invariant.1, unites c.self.inside.table.shared.key _ _ 0 _ _ _ is)
 
 pub returns-clause-known : goal.returns-clause-known
@@ -24,13 +24,13 @@ returns-clause-known c i =
     let was = ap (λ m. list_at m.0.known i) c.join_seat.ensures.2 ∙ ap (λ k. list_at k.lists i) c.seen.view_is in
     subst (λ (x : List ClientRequest). IsPrefix x (list_at c.load.new.seat.me.0.known i)) was (c.load.ensures.2.0 i).0
 
-pub returns-clause-told : goal.returns-clause-told
-returns-clause-told c i =
-    let was = ap (λ m. list_at m.0.told i) c.join_seat.ensures.2 ∙ ap (λ k. list_at k.lists i) c.note.view_is in
+pub returns-clause-received : goal.returns-clause-received
+returns-clause-received c i =
+    let was = ap (λ m. list_at m.0.received i) c.join_seat.ensures.2 ∙ ap (λ k. list_at k.lists i) c.note.view_is in
     subst (λ (x : List ClientRequest). IsPrefix x (list_at c.load.new.seat.me.0.known i)) was (c.load.ensures.2.0 i).1
 
 pub returns-clause-either : goal.returns-clause-either
 returns-clause-either c i =
     let was = ap (λ m. list_at m.0.known i) c.join_seat.ensures.2 ∙ ap (λ k. list_at k.lists i) c.seen.view_is in
-    let told = ap (λ m. list_at m.0.told i) c.join_seat.ensures.2 ∙ ap (λ k. list_at k.lists i) c.note.view_is in
-    subst (λ (p : List ClientRequest × List ClientRequest). (list_at c.load.new.seat.me.0.known i ≡ p.0) ⊎ (list_at c.load.new.seat.me.0.known i ≡ p.1)) (λ j. (was j, told j)) (c.load.ensures.2.0 i).2
+    let received = ap (λ m. list_at m.0.received i) c.join_seat.ensures.2 ∙ ap (λ k. list_at k.lists i) c.note.view_is in
+    subst (λ (p : List ClientRequest × List ClientRequest). (list_at c.load.new.seat.me.0.known i ≡ p.0) ⊎ (list_at c.load.new.seat.me.0.known i ≡ p.1)) (λ j. (was j, received j)) (c.load.ensures.2.0 i).2

@@ -13,41 +13,14 @@ returns-in-Input-clause-bytes c =
     let found = (read_answer c.args.staged.now.after c.args.at c.args.room.len).bytes in
     ap (λ xs. memory xs m.output.items m.stack.items) c.read_over.ensures.bytes ∙ ap (λ r. put (memory_of m) r c.args.room.at found) (sym c.in-Input.is)
 
-pub returns-in-Input-clause-sized : goal.returns-in-Input-clause-sized
-returns-in-Input-clause-sized c =
-    record {
-      input = c.read_over.ensures.long ∙ c.requires.sized.input;
-      output = c.requires.sized.output;
-      stack = c.requires.sized.stack;
-      capacities = c.requires.sized.capacities;
-    }
-
 pub returns-in-Output-clause-bytes : goal.returns-in-Output-clause-bytes
 returns-in-Output-clause-bytes c =
     let m = c.args.memory.now in
     let found = (read_answer c.args.staged.now.after c.args.at c.args.room.len).bytes in
     ap (λ xs. memory m.input.items xs m.stack.items) c.read_over-in-Output.ensures.bytes ∙ ap (λ r. put (memory_of m) r c.args.room.at found) (sym c.in-Output.is)
 
-pub returns-in-Output-clause-sized : goal.returns-in-Output-clause-sized
-returns-in-Output-clause-sized c =
-    record {
-      input = c.requires.sized.input;
-      output = c.read_over-in-Output.ensures.long ∙ c.requires.sized.output;
-      stack = c.requires.sized.stack;
-      capacities = c.requires.sized.capacities;
-    }
-
 pub returns-in-Stack-clause-bytes : goal.returns-in-Stack-clause-bytes
 returns-in-Stack-clause-bytes c =
     let m = c.args.memory.now in
     let found = (read_answer c.args.staged.now.after c.args.at c.args.room.len).bytes in
     ap (λ xs. memory m.input.items m.output.items xs) c.read_over-in-Stack.ensures.bytes ∙ ap (λ r. put (memory_of m) r c.args.room.at found) (sym c.in-Stack.is)
-
-pub returns-in-Stack-clause-sized : goal.returns-in-Stack-clause-sized
-returns-in-Stack-clause-sized c =
-    record {
-      input = c.requires.sized.input;
-      output = c.requires.sized.output;
-      stack = c.read_over-in-Stack.ensures.long ∙ c.requires.sized.stack;
-      capacities = c.requires.sized.capacities;
-    }

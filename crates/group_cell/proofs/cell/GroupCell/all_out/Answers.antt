@@ -31,13 +31,13 @@ loop-packet-preserved g c =
     let short = ap (λ (l : List Packet). length l) steps.0 in
     let o = c.one_out.ensures in
     let p = c.push_reserved.ensures in
-    let one = subst (λ (k : CellState). MayGoOutAs k c.args.told x c.one_out.result) at.same o.out in
-    let more = AllZip-more (MayGoOutAs c.args.self.now c.args.told) gone c.loop-packet.out.items x c.one_out.result at.out one in
+    let one = subst (λ (k : CellState). MayGoOutAs k c.args.reported x c.one_out.result) at.same o.out in
+    let more = AllZip-more (MayGoOutAs c.args.self.now c.args.reported) gone c.loop-packet.out.items x c.one_out.result at.out one in
     record {
       left = append_assoc gone (x ∷ []) rest ∙ whole;
       counted = omega (arith, at.counted, steps.1, short);
       same = o.same ∙ at.same;
-      out = subst (λ items. GoOutAs c.args.self.now c.args.told (gone ++ x ∷ []) items) (sym p.items) more;
+      out = subst (λ items. GoOutAs c.args.self.now c.args.reported (gone ++ x ∷ []) items) (sym p.items) more;
       len = omega (arith, p.len, at.len, length_push gone x);
       room = omega (arith, at.room, p.capacity);
     }
@@ -49,4 +49,4 @@ returns-clause-out g c =
     let left = into_iter_items c.loop-packet.packet-iterator in
     let empty : left ≡ [] = nothing_left left (sym at.counted ∙ c.in-None.ensures.steps.0) in
     let all : gone ≡ c.args.sent = sym (append-nil gone) ∙ ap (λ (l : List Packet). gone ++ l) (sym empty) ∙ at.left in
-    subst (λ (l : List Packet). GoOutAs c.args.self.now c.args.told l c.loop-packet.out.items) all at.out
+    subst (λ (l : List Packet). GoOutAs c.args.self.now c.args.reported l c.loop-packet.out.items) all at.out

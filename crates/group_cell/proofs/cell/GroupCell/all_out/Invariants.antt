@@ -8,7 +8,7 @@ invariant-loop-packet g l = record {
   left : l.yielded ++ into_iter_items l.packet-iterator ≡ l.fn.sent;
   counted : into_iter_len l.packet-iterator ≡ length (into_iter_items l.packet-iterator);
   same : l.self ≡ l.initial.self;
-  out : GoOutAs l.initial.self l.told l.yielded l.out.items;
+  out : GoOutAs l.initial.self l.reported l.yielded l.out.items;
   len : vec_len l.out ≡ length l.yielded;
   room : length l.fn.sent ≤ vec_capacity l.out;
 }

@@ -10,7 +10,7 @@ use Rattle.interp.proofs.registers.Registers.branch.Goals as goal
 pub returns-then-taken : goal.returns-then-taken
 returns-then-taken c = λ bytes run given.
     let registers = c.args.self.now in
-    let fork = c.args.fork in
+    let fork = c.args.fork.now in
     let test = is_taken c.args.bits c.args.comparison in
     let jumped : c.jump.result ≡ branch_to true c.args.slot (extended fork.slots) = search rules in
     let taken =
@@ -21,7 +21,7 @@ returns-then-taken c = λ bytes run given.
 pub returns-else-taken : goal.returns-else-taken
 returns-else-taken c = λ bytes run given.
     let registers = c.args.self.now in
-    let fork = c.args.fork in
+    let fork = c.args.fork.now in
     let test = is_taken c.args.bits c.args.comparison in
     let taken =
     c.taken.ensures ∙ ap (λ x. test x c.operand-number.result) c.get.ensures ∙ ap (test (slice_index registers fork.dst)) c.operand-number.ensures in

@@ -6,8 +6,8 @@ use Rattle.op_shards.proofs.shards.OpShards.take.Goals as goal
 
 pub returns-in-Some-clause-answer : goal.returns-in-Some-clause-answer
 returns-in-Some-clause-answer g c =
-    let told = c.in-Some.ensures in
-    (c.in-Some.ranked, refl, told.0, subst (λ (q : Queues). IsHere g.T.Op.group (shard_of q c.args.shard) c.in-Some.ranked) c.requires.pass told.1, told.2, told.3)
+    let facts = c.in-Some.ensures in
+    (c.in-Some.ranked, refl, facts.0, subst (λ (q : Queues). IsHere g.T.Op.group (shard_of q c.args.shard) c.in-Some.ranked) c.requires.pass facts.1, facts.2, facts.3)
 
 pub pop-requires : goal.pop-requires
 pop-requires g c = grind (arith, elements)

@@ -1,9 +1,9 @@
-use Rattle.osd.specs.Sent.{IsOwn}
+use Rattle.osd.specs.Sent.{IsInternalTo}
 use Rattle.osd.proofs.Sending.{only_none, only_several, only_grew}
 use Rattle.osd.proofs.running.Running.nudge.Goals as goal
 
 pub returns-then-group-self-clause-grew : goal.returns-then-group-self-clause-grew
-returns-then-group-self-clause-grew g c = only_grew (IsOwn c.args.group) _ _ (only_none _ _)
+returns-then-group-self-clause-grew g c = only_grew (IsInternalTo c.args.group) _ _ (only_none _ _)
 
 pub returns-then-group-self-clause-only : goal.returns-then-group-self-clause-only
 returns-then-group-self-clause-only g c = only_none _ _
@@ -21,7 +21,7 @@ pub loop-place-2-preserved : goal.loop-place-2-preserved
 loop-place-2-preserved g c = only_several _ _ _ _ c.loop-place-2.invariant c.send_again.ensures
 
 pub returns-clause-grew : goal.returns-clause-grew
-returns-clause-grew g c = only_grew (IsOwn c.args.group) _ _ (only_several _ _ _ _ c.loop-place.invariant c.loop-place-2.invariant)
+returns-clause-grew g c = only_grew (IsInternalTo c.args.group) _ _ (only_several _ _ _ _ c.loop-place.invariant c.loop-place-2.invariant)
 
 pub returns-clause-only : goal.returns-clause-only
 returns-clause-only g c = only_several _ _ _ _ c.loop-place.invariant c.loop-place-2.invariant

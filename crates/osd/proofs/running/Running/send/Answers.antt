@@ -5,4 +5,4 @@ pub returns-then-is_refusal : goal.returns-then-is_refusal
 returns-then-is_refusal g c = only_any _ _ _ c.deliver.ensures
 
 pub returns : goal.returns
-returns g c = only_several _ _ _ _ c.deal.ensures c.deliver_any.ensures
+returns g c = only_several _ _ _ _ c.deliver_as.ensures c.deliver_any.ensures

@@ -6,7 +6,7 @@ use Rattle.peering_messages.specs.Sending.{IsLegalBy}
 use Rattle.group_world.specs.Node.{Outcome, and_sends, nothing, packet}
 use Rattle.group_world.specs.Rules.{or_empty, reply_packet}
 use Rattle.group_world.specs.declared.party.Party.TheVariants.{Client as AClient}
-use Rattle.group_world.specs.declared.message.Kind.TheVariants.{Reply as ReplyTo}
+use Rattle.group_world.specs.declared.message.MessageKind.TheVariants.{Reply as ReplyTo}
 use Rattle.peering.proofs.Statuses.{below}
 use Rattle.peering.proofs.node.GroupNode.answer_again.Goals as goal
 

@@ -1,7 +1,7 @@
 use Rattle.std.proofs.Common.{◌∙◌, ap, sym, subst, cond, nat_lt, arith}
 use Rattle.std.proofs.lemmas.Grind.{common_steps}
 use Rattle.group_world.specs.Node.{Outcome, nothing, and_sends, packet}
-use Rattle.group_world.specs.declared.message.Kind.TheVariants.{Log as LogOf}
+use Rattle.group_world.specs.declared.message.MessageKind.TheVariants.{Log as LogOf}
 use Rattle.group_world.specs.Rules.{arrive, would_forget}
 use Rattle.peering.specs.Numbered.{IsDone}
 use Rattle.peering.proofs.Installing.{or_false}

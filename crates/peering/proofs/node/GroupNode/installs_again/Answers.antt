@@ -1,7 +1,7 @@
 use Rattle.std.proofs.Common.{◌≡◌, ap, ◌∙◌, ◌++◌}
 use Rattle.group_world.specs.Maps.{all_among}
 use Rattle.group_world.specs.Unanswered.{to_missing}
-use Rattle.group_world.specs.declared.message.Kind.TheVariants.{Install}
+use Rattle.group_world.specs.declared.message.MessageKind.TheVariants.{Install}
 use Rattle.peering_messages.specs.Sending.{asked_if}
 use Rattle.peering.proofs.node.GroupNode.installs_again.Goals as goal
 

@@ -1,7 +1,7 @@
 use Rattle.std.proofs.Common.{◌≡◌, Result, IfOk, Vec, Global, subst, ap, sym, ◌∙◌, ◌++◌, ◌∷◌, []}
 use Rattle.group_world.specs.Node.{Outcome, and_sends, nothing, packet}
 use Rattle.group_world.specs.Rules.{replicate}
-use Rattle.group_world.specs.declared.message.Kind.TheVariants.{Ack}
+use Rattle.group_world.specs.declared.message.MessageKind.TheVariants.{Ack}
 use Rattle.group_world.specs.declared.message.Packet.{Packet}
 use Rattle.group_world.specs.declared.handle_error.HandleError.{HandleError}
 use Rattle.peering.specs.Arriving.{acks_if}

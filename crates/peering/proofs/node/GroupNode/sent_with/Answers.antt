@@ -3,7 +3,7 @@ use Rattle.pg_log.specs.Requests.{ClientRequest}
 use Rattle.peering_messages.specs.Sending.{IsLegalBy, IsNextReply}
 use Rattle.group_world.specs.Node.{to_others}
 use Rattle.group_world.specs.Rules.{replies_from}
-use Rattle.group_world.specs.declared.message.Kind.TheVariants.{Rep}
+use Rattle.group_world.specs.declared.message.MessageKind.TheVariants.{Rep}
 use Rattle.group_world.specs.declared.message.Packet.{Packet}
 use Rattle.peering.specs.Arriving.{sent_with}
 use Rattle.peering.proofs.node.GroupNode.sent_with.Goals as goal

@@ -2,7 +2,7 @@ use Rattle.std.proofs.Common.{◌≡◌, ◌∙◌, ap, sym, subst, refl, ℤ, L
 use Rattle.std.specs.FinMap as fin
 use Rattle.std.specs.List.{slice_get}
 use Rattle.std.proofs.lemmas.Option.{slice_get_read}
-use Rattle.txn.specs.declared.change.Change.{Change}
+use Rattle.txn.specs.Versions.{Versions}
 use Rattle.pg_log.specs.Requests.{ClientRequest}
 use Rattle.pg_log.specs.Log.{Legal, fold}
 use Rattle.pg_log.specs.Entries.{requests_of, IsOutcomeOn, IsSafeRequest}
@@ -36,7 +36,7 @@ keep-requires g c =
     let Q : ClientRequest → Type 0 = λ w. IsOutcomeOn classes (fold classes (take k (requests_of es))) w e.code e.output.items e.change in
     let R : ℤ → Type 0 = λ w. IsOutcomeOn classes (fold classes (take k (requests_of es))) item.request w e.output.items e.change in
     let S : List ℕ → Type 0 = λ w. IsOutcomeOn classes (fold classes (take k (requests_of es))) item.request item.code w e.change in
-    let T : Change → Type 0 = λ w. IsOutcomeOn classes (fold classes (take k (requests_of es))) item.request item.code item.output.items w in
+    let T : Versions → Type 0 = λ w. IsOutcomeOn classes (fold classes (take k (requests_of es))) item.request item.code item.output.items w in
     record {
       legal = subst L (sym group) (subst M (sym same.request) (entry_follows classes es k item c.requires.legal at));
       safe = subst N (sym same.request) (c.requires.safe k item.request (requests_at es k item at));

@@ -2,7 +2,7 @@ use Rattle.std.proofs.Common.{subst}
 use Rattle.op_shards.specs.Passes.{Grew}
 use Rattle.rados_client.specs.Session.{Contact}
 use Rattle.rados_client.specs.Promise.{NotAsked}
-use Rattle.rados_client.proofs.Asking.{own_not_asked}
+use Rattle.rados_client.proofs.Asking.{internal_not_asked}
 use Rattle.rados_client.proofs.connection.Connection.nudge.Goals as goal
 
 pub returns-clause-grew : goal.returns-clause-grew
@@ -11,4 +11,4 @@ returns-clause-grew g c = subst (λ (k : Contact). Grew k.sends c.nudge.new.send
 pub returns-clause-untaken : goal.returns-clause-untaken
 returns-clause-untaken g c =
     let r = c.args.request.now in
-    subst (λ (k : Contact). NotAsked k.sends c.nudge.new.sends r) c.self.view_is (own_not_asked _ _ c.nudge.new.sends r c.nudge.ensures.only)
+    subst (λ (k : Contact). NotAsked k.sends c.nudge.new.sends r) c.self.view_is (internal_not_asked _ _ c.nudge.new.sends r c.nudge.ensures.only)

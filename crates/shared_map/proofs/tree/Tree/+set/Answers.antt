@@ -1,4 +1,4 @@
-use Rattle.std.proofs.Common.{◌≡◌, ◌∷◌, ◌++◌, ap, sym, ◌∙◌}
+use Rattle.std.proofs.Common.{◌≡◌, refl, ◌∷◌, ◌++◌, ap, sym, ◌∙◌}
 use Rattle.std.specs.Arc.{arc_value}
 use Rattle.std.specs.Ordering.{nat_cmp}
 use Rattle.std.specs.Cmp.Lexicographic.{slice_cmp}
@@ -10,7 +10,7 @@ use Rattle.shared_map.specs.Shape.{Shape}
 use Rattle.shared_map.specs.Tree.{pair, listed}
 use Rattle.shared_map.specs.declared.tree.Branch.{Branch}
 use Rattle.shared_map.specs.declared.tree.Entry.{Entry}
-use Rattle.shared_map.proofs.Halves.{put-less, put-equal, put-greater, sorted-put, sorted-along}
+use Rattle.shared_map.proofs.Halves.{put-less, put-equal, put-greater, sorted-put, sorted-along, same_parts}
 use Rattle.shared_map.proofs.tree.Tree.+set.Goals as goal
 
 pub with_left-requires : goal.with_left-requires
@@ -65,8 +65,8 @@ returns-in_ok-set-in-Greater g t c =
     (λ t' is. is ∙ ap (λ r. b.left.entries ++ e ∷ r) c.in_ok-set-in-Greater.ensures ∙ sym (put-greater n.0 n.1 b.left.entries e b.right.entries h o) ∙ sym (ap (put (slice_cmp nat_cmp) n.0 n.1) (sym (ap (λ (s : Shape g.row.V.Denot). s.entries) c.self.view_is) ∙ whole)))
     c.with_right.ensures
 
-pub sharing_sides-requires : goal.sharing_sides-requires
-sharing_sides-requires g t c =
+pub joined-requires-in-Equal : goal.joined-requires-in-Equal
+joined-requires-in-Equal g t c =
     let b = c.deref-b.result.now in
     let e = pair (arc_value b.entry) in
     let n = pair (arc_value c.args.new) in
@@ -75,10 +75,10 @@ sharing_sides-requires g t c =
     let there = c.as_slice-in-Fork.ensures.value ∙ ap (λ (x : Entry g.row.V.Denot). x.key.items) c.deref-entry.ensures in
     let here = c.as_slice.ensures.value ∙ ap (λ (x : Entry g.row.V.Denot). x.key.items) c.deref.ensures in
     let o : slice_cmp nat_cmp n.0 e.0 ≡ Equal = sym (ap (λ q. slice_cmp nat_cmp q e.0) here) ∙ sym (ap (slice_cmp nat_cmp c.as_slice.result.now) there) ∙ sym c.cmp.ensures ∙ c.in-Equal.is in
-    sorted-along _ _ (put-equal n.0 n.1 b.left.entries e b.right.entries h o (exact_bytes _ _ o)) (sorted-put n.0 n.1 (b.left.entries ++ e ∷ b.right.entries) h)
+    sorted-along _ _ (put-equal n.0 n.1 b.left.entries e b.right.entries h o (exact_bytes _ _ o) ∙ sym (same_parts _ _ _ _ _ _ (ap (λ (s : Shape g.row.V.Denot). s.entries) c.in_ok-copy-in-Equal.ensures) refl (ap (λ (s : Shape g.row.V.Denot). s.entries) c.in_ok-copy-in-Equal-2.ensures))) (sorted-put n.0 n.1 (b.left.entries ++ e ∷ b.right.entries) h)
 
-pub returns-in-Equal : goal.returns-in-Equal
-returns-in-Equal g t c =
+pub returns-in_ok-copy-in-Equal-2 : goal.returns-in_ok-copy-in-Equal-2
+returns-in_ok-copy-in-Equal-2 g t c =
     let b = c.deref-b.result.now in
     let e = pair (arc_value b.entry) in
     let n = pair (arc_value c.args.new) in
@@ -87,6 +87,6 @@ returns-in-Equal g t c =
     let there = c.as_slice-in-Fork.ensures.value ∙ ap (λ (x : Entry g.row.V.Denot). x.key.items) c.deref-entry.ensures in
     let here = c.as_slice.ensures.value ∙ ap (λ (x : Entry g.row.V.Denot). x.key.items) c.deref.ensures in
     let o : slice_cmp nat_cmp n.0 e.0 ≡ Equal = sym (ap (λ q. slice_cmp nat_cmp q e.0) here) ∙ sym (ap (slice_cmp nat_cmp c.as_slice.result.now) there) ∙ sym c.cmp.ensures ∙ c.in-Equal.is in
-    IfOk-weaker c.sharing_sides.result _ _
-    (λ t' is. is ∙ sym (put-equal n.0 n.1 b.left.entries e b.right.entries h o (exact_bytes _ _ o)) ∙ sym (ap (put (slice_cmp nat_cmp) n.0 n.1) (sym (ap (λ (s : Shape g.row.V.Denot). s.entries) c.self.view_is) ∙ whole)))
-    c.sharing_sides.ensures
+    IfOk-weaker c.joined-in-Equal-2.result _ _
+    (λ t' is. is ∙ same_parts _ _ _ _ _ _ (ap (λ (s : Shape g.row.V.Denot). s.entries) c.in_ok-copy-in-Equal.ensures) refl (ap (λ (s : Shape g.row.V.Denot). s.entries) c.in_ok-copy-in-Equal-2.ensures) ∙ sym (put-equal n.0 n.1 b.left.entries e b.right.entries h o (exact_bytes _ _ o)) ∙ sym (ap (put (slice_cmp nat_cmp) n.0 n.1) (sym (ap (λ (s : Shape g.row.V.Denot). s.entries) c.self.view_is) ∙ whole)))
+    c.joined-in-Equal-2.ensures

@@ -1,7 +1,0 @@
-//! Tests alone, of reading and writing classes: as images, and as texts.
-#![tactic(auto)]
-
-#[cfg(test)]
-mod assembling;
-#[cfg(test)]
-mod decoding;

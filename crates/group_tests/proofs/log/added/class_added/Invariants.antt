@@ -1,4 +1,0 @@
-use Rattle.group_tests.proofs.log.added.class_added.Given as goal
-
-abbrev pub ghosts-adds : goal.ghosts-adds
-ghosts-adds g a = record { classes = a.table }

@@ -1,0 +1,83 @@
+use Rattle.std.proofs.Common.{◌≡◌, ◌-◌, ◌<◌, ◌≤◌, [], length, ap, ◌∙◌, arith}
+use Rattle.op_shards.specs.Order.{queue_position}
+use Rattle.op_shards.specs.Passes.{name, names, queues_of, spots, spot_of, free_end_state, new_take}
+use Rattle.op_shards.proofs.NewEnds.{spot_here, no_more_spots, length_spots_of, still_long, some_spots, some_names, at_turn, one_more, more_ends, whole, done, new_take_view, new_take_placed, new_take_parts}
+use Rattle.op_shards.proofs.EndSteps.{take_view}
+use Rattle.op_shards.proofs.pass.next_take_pass.Goals as goal
+
+pub index_mut-free_end-requires : goal.index_mut-free_end-requires
+index_mut-free_end-requires g c =
+    let queues = c.args.queues.now.items in
+    let xs = spots (queues_of (names queues) c.args.members.senders c.args.members.takers) in
+    let long = still_long (free_end_state c.args.members.senders (c.args.left - 1)) (free_end_state c.args.members.senders c.args.left) xs c.loop-i.free_ends.items c.loop-i.i c.loop-i.invariant.free_ends in
+    omega (arith, c.loop-i-test.true, c.len-i-end.ensures, long, length_spots_of queues c.args.members.senders c.args.members.takers)
+
+pub next_taker-requires : goal.next_taker-requires
+next_taker-requires g c =
+    let n = c.args.left in
+    let queues = c.args.queues.now.items in
+    let s = c.args.members.senders in
+    let t = c.args.members.takers in
+    let i = c.loop-i.i in
+    let xs = spots (queues_of (names queues) s t) in
+    let q = c.index-queue.result.now in
+    let x = c.index_mut-free_end.result.now in
+    let lt : i < length queues = omega (arith, c.loop-i-test.true, c.len-i-end.ensures) in
+    let here = spot_here queues s t i q lt c.index-queue.ensures in
+    let spot = spot_of (name q) (queue_position i (length (names queues)) s t) in
+    let turn : x ≡ free_end_state s n spot = at_turn (free_end_state s (n - 1)) (free_end_state s n) xs c.loop-i.free_ends.items i spot x here.0 c.loop-i.invariant.free_ends here.1 c.index_mut-free_end.ensures.value in
+    let parts = ap (λ d. d.parts) turn in
+    record { queue = ap (λ d. d.spot.queue) turn; room = omega (arith, parts, c.requires.room) }
+
+pub loop-i-preserved : goal.loop-i-preserved
+loop-i-preserved g c =
+    let n = c.args.left in
+    let queues = c.args.queues.now.items in
+    let s = c.args.members.senders in
+    let t = c.args.members.takers in
+    let i = c.loop-i.i in
+    let xs = spots (queues_of (names queues) s t) in
+    let q = c.index-queue.result.now in
+    let x = c.index_mut-free_end.result.now in
+    let lt : i < length queues = omega (arith, c.loop-i-test.true, c.len-i-end.ensures) in
+    let here = spot_here queues s t i q lt c.index-queue.ensures in
+    let spot = spot_of (name q) (queue_position i (length (names queues)) s t) in
+    let turn : x ≡ free_end_state s n spot = at_turn (free_end_state s (n - 1)) (free_end_state s n) xs c.loop-i.free_ends.items i spot x here.0 c.loop-i.invariant.free_ends here.1 c.index_mut-free_end.ensures.value in
+    let given : c.next_taker.new.self ≡ free_end_state s (n - 1) spot = c.next_taker.ensures.next ∙ (λ k. record { spot = (turn k).spot; next = (turn k).next; parts = (turn k).parts - 1 }) in
+    let queue_end : c.next_taker.result ≡ new_take spot = c.next_taker.ensures.queue_end ∙ (λ k. record { spot = (turn k).spot; parts = 1; taken = [] }) in
+    record {
+      free_ends = one_more (free_end_state s (n - 1)) (free_end_state s n) xs c.loop-i.free_ends.items i spot c.next_taker.new.self here.0 c.loop-i.invariant.free_ends (given ∙ ap (free_end_state s (n - 1)) here.1);
+      ends = more_ends new_take xs c.loop-i.ends.items c.push.new.self.items i spot c.next_taker.result here.0 here.1 c.loop-i.invariant.ends queue_end c.in_ok-push.ensures.items;
+    }
+
+pub invariant_of-result : goal.invariant_of-result
+invariant_of-result g c =
+    let queues = c.args.queues.now.items in
+    let s = c.args.members.senders in
+    let t = c.args.members.takers in
+    let i = c.loop-i.i in
+    let xs = spots (queues_of (names queues) s t) in
+    let le : length queues ≤ i = omega (arith, c.loop-i-test.false, c.len-i-end.ensures) in
+    let parts = new_take_parts _ xs (some_spots queues s t c.requires.some) in
+    rw (whole new_take xs c.loop-i.ends.items i (no_more_spots queues s t i le) c.loop-i.invariant.ends) (new_take_placed _ s t (names queues), parts.0, parts.1)
+
+pub returns-clause-free_ends : goal.returns-clause-free_ends
+returns-clause-free_ends g c =
+    let n = c.args.left in
+    let queues = c.args.queues.now.items in
+    let s = c.args.members.senders in
+    let t = c.args.members.takers in
+    let i = c.loop-i.i in
+    let xs = spots (queues_of (names queues) s t) in
+    let le : length queues ≤ i = omega (arith, c.loop-i-test.false, c.len-i-end.ensures) in
+    done (free_end_state s (n - 1)) (free_end_state s n) xs c.loop-i.free_ends.items i (no_more_spots queues s t i le) c.loop-i.invariant.free_ends
+
+pub returns-clause-pass : goal.returns-clause-pass
+returns-clause-pass g c =
+    let queues = c.args.queues.now.items in
+    let s = c.args.members.senders in
+    let t = c.args.members.takers in
+    let i = c.loop-i.i in
+    let xs = spots (queues_of (names queues) s t) in
+    let le : length queues ≤ i = omega (arith, c.loop-i-test.false, c.len-i-end.ensures) in
+    ap (take_view s t) (whole new_take xs c.loop-i.ends.items i (no_more_spots queues s t i le) c.loop-i.invariant.ends) ∙ new_take_view _ s t (names queues) (some_names queues c.requires.some)

@@ -1,0 +1,2 @@
+-- Proofs that the tree's size cites.
+pub mod TreeFalls

@@ -1,4 +1,0 @@
-use Rattle.sim.proofs.file.run_named.Given as goal
-
-abbrev pub ghosts-run_lines : goal.ghosts-run_lines
-ghosts-run_lines g a = record { classes = a.table.now }

@@ -1,0 +1,11 @@
+/// How many classes of tenants there may be: those of a table but for the built-in ones.
+pub const TENANT_LIMIT: usize = 62;
+
+/// A class of a tenant's.
+#[derive(Clone, Copy)]
+pub struct TenantClass<'a> {
+    /// The word that asks it.
+    pub name: &'a str,
+    /// The file of its image.
+    pub image: &'a str,
+}

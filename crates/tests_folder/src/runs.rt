@@ -1,0 +1,124 @@
+use crate::folder::Folder;
+use class_tool::Printer;
+use radoscls_program::program;
+use std::alloc::{AllocError, Global};
+use std::sync::Wait;
+use std::thread::Threads;
+use std::time::Clock;
+
+/// How a run ended: its status, and what it wrote to standard output and to standard error.
+#[derive(Drop)]
+pub struct Ended {
+    pub status: u8,
+    pub printed: Vec<u8>,
+    pub explained: Vec<u8>,
+}
+
+impl Ended {
+    /// Whether that was printed, nothing was explained, and the status is that.
+    fn shows(&self, printed: &str, status: u8) -> bool {
+        self.status == status
+            && self.printed.as_slice() == printed.as_bytes()
+            && self.explained.is_empty()
+    }
+
+    /// Whether nothing was printed, the use was explained, and the status is 2.
+    pub fn explains(&self) -> bool {
+        self.status == 2 && self.printed.is_empty() && !self.explained.is_empty()
+    }
+}
+
+/// The program's name, and those words after it.
+fn line_of<'a>(alloc: Global, words: &[&'a str]) -> Option<Vec<&'a str>> {
+    let mut line = vec![in alloc; "radoscls"].ok()?;
+    line.extend_from_slice(words).ok()?;
+    Some(line)
+}
+
+/// Runs the program on those words after its name, and on that folder. None where memory lacks.
+pub fn run_on<R: AllocGlobal + Threads + Wait + Clock + Sync>(
+    rt: &R,
+    words: &[&str],
+    folder: &mut Folder,
+) -> Option<Ended> {
+    let line = line_of(rt.alloc(), words)?;
+    let mut printed = Vec::new(rt.alloc());
+    let mut explained = Vec::new(rt.alloc());
+    let mut out = Printer::new(&mut printed);
+    let status = program(
+        rt.alloc(),
+        rt,
+        line.as_slice(),
+        folder,
+        &mut out,
+        &mut explained,
+    );
+    Some(Ended {
+        status,
+        printed,
+        explained,
+    })
+}
+
+/// Whether the program on those words and that folder prints that, explains nothing, and ends with that status.
+pub fn prints_on<R: AllocGlobal + Threads + Wait + Clock + Sync>(
+    rt: &R,
+    words: &[&str],
+    folder: &mut Folder,
+    printed: &str,
+    status: u8,
+) -> bool {
+    match run_on(rt, words, folder) {
+        Some(ended) => ended.shows(printed, status),
+        None => false,
+    }
+}
+
+/// The same on a folder with that image, in hexadecimal, and that text; and no file is written.
+pub fn only_prints<R: AllocGlobal + Threads + Wait + Clock + Sync>(
+    rt: &R,
+    words: &[&str],
+    image: &str,
+    text: &[u8],
+    printed: &str,
+    status: u8,
+) -> bool {
+    let Some(mut folder) = Folder::of(rt.alloc(), image, text) else {
+        return false;
+    };
+    let prints = prints_on(rt, words, &mut folder, printed, status);
+    prints && folder.writes == 0
+}
+
+/// Words after the program's name, on a folder with that image and that text: what they print, and the status.
+pub struct Row {
+    pub words: &'static [&'static str],
+    pub image: &'static str,
+    pub text: &'static str,
+    pub printed: &'static str,
+    pub status: u8,
+}
+
+impl Row {
+    /// Whether it prints what it should, ends so, and writes no file.
+    pub fn holds<R: AllocGlobal + Threads + Wait + Clock + Sync>(&self, rt: &R) -> bool {
+        let text = self.text.as_bytes();
+        only_prints(rt, self.words, self.image, text, self.printed, self.status)
+    }
+}
+
+/// A text that begins with the first part, has the next so many times, and ends with the last.
+pub fn with_repeated(
+    alloc: Global,
+    first: &str,
+    part: &str,
+    count: usize,
+    last: &str,
+) -> Result<String, AllocError> {
+    let mut text = String::from_str(alloc, first)?;
+    for _ in 0..count {
+        text.push_str(part)?;
+    }
+    text.push_str(last)?;
+    Ok(text)
+}

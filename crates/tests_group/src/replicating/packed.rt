@@ -1,0 +1,81 @@
+use super::super::checks::see;
+use super::super::lists::list;
+use super::super::words::{halves, is_number, number_of};
+use pg_log::Request;
+use replication::{PackedLog, UnpackError, pack_log, unpack_log};
+use std::alloc::Global;
+use std::process::Abort;
+
+/// The list that is packed, of three requests.
+const LIST: &str = "1 1 0 f; 2 1 0 f; 1 2 0 f";
+
+/// What the receiver told and has; and how many requests are left out, how many are packed, and whether the list is
+/// unpacked.
+const ROWS: &str = "0 | 0 3 unpacked
+1 1 1 0 f | 1 2 unpacked
+2 1 1 0 f; 2 1 0 f; 3 1 0 f | 2 1 unpacked
+9 1 1 0 f; 2 1 0 f; 1 2 0 f | 3 0 unpacked
+2 1 1 0 f | 2 1 TooShort";
+
+/// Whether the lists are equal.
+fn is_list(found: &[Request], want: &[Request]) -> bool {
+    if found.len() != want.len() {
+        return false;
+    }
+    for k in 0..found.len() {
+        if !found[k].is(&want[k]) {
+            return false;
+        }
+    }
+    true
+}
+
+/// Whether so many requests are left out, and so many packed.
+fn has_lengths(packed: &PackedLog, common: &str, rest: &str) -> bool {
+    is_number(common, packed.common() as u64) && is_number(rest, packed.rest().len() as u64)
+}
+
+/// Whether that is the answer.
+fn is_answer(answer: Result<Vec<Request>, UnpackError>, all: &[Request], wanted: &str) -> bool {
+    match answer {
+        Ok(found) => (wanted == "unpacked") & is_list(&found, all),
+        Err(error) => error.name() == wanted,
+    }
+}
+
+/// Whether a receiver that has those requests unpacks the list, or is refused by that name.
+fn is_unpacked<R: Abort>(
+    rt: &R,
+    alloc: Global,
+    all: &[Request],
+    own: &str,
+    packed: &PackedLog,
+    wanted: &str,
+) -> bool {
+    let own = list(rt, alloc, own);
+    is_answer(unpack_log(alloc, &own, packed), all, wanted)
+}
+
+/// Whether the list is packed and unpacked as a line says.
+fn is_right<R: Abort>(rt: &R, alloc: Global, all: &[Request], line: &str) -> bool {
+    let (receiver, wanted) = halves(line, '|');
+    let (told, own) = halves(receiver, ' ');
+    let (common, wanted) = halves(wanted, ' ');
+    let (rest, wanted) = halves(wanted, ' ');
+    let packed = pack_log(alloc, all, number_of(rt, told) as usize).expect(rt, "memory");
+    has_lengths(&packed, common, rest) & is_unpacked(rt, alloc, all, own, &packed, wanted)
+}
+
+/// The list is packed and unpacked as each line says.
+fn check<R: Abort>(rt: &R, alloc: Global, all: &[Request]) {
+    for line in ROWS.lines() {
+        see(rt, is_right(rt, alloc, all, line), line);
+    }
+}
+
+#[test]
+fn lists_packed_and_unpacked(rt: HostRuntime) {
+    let all = list(&rt, rt.alloc(), LIST);
+    see(&rt, all.len() == 3, LIST);
+    check(&rt, rt.alloc(), &all);
+}

@@ -1,0 +1,326 @@
+//! What the lines of a text do with a group, and what each of them gives.
+ghost use mathlib.Core.List.{IsPrefix};
+
+use super::calls::is_called;
+use super::checks::see;
+use super::contents::is_object;
+use super::lists::list_of;
+use super::requests::{client, number, request_of};
+use super::verb::{Verb, verb_of};
+use super::words::{halves, is_code, is_number, number_of};
+use interp::ClassTable;
+use object_store::ObjectName;
+use pg_log::{
+    Classes, Group, GroupWork, LogError, Request, copy_log, copy_requests, list_refusal, with_group,
+};
+use replication::{Rep, append_at};
+use std::alloc::Global;
+use std::mem::replace;
+use std::process::Abort;
+
+/// The lines of a text, and the list of which they take the first requests. A line is what is done, a bar, and what
+/// that gives:
+///
+/// - `append REQUEST`, `at PLACE REQUEST`, `adopt LIST`, `replay LIST`: the answer, or the refusal's name. A list is
+///   how many are taken of the first requests, and what follows them, or `full` and the client of a full list's last
+///   request.
+/// - `fill LIST`: each of the list is appended; how many the log has then.
+/// - `copy`: the group becomes its copy.
+/// - `length`: the log's.
+/// - `code PLACE`, `reply CLIENT NUMBER`: the code; place and code, and no output.
+/// - `object`: its data and the values of its xattr and of its key `k`, `-` for none, or `absent`.
+/// - `CLIENT OBJECT CLASS METHOD INPUT`: a call of a built-in class, by the line's number; its code and its output.
+#[derive(Drop)]
+pub(super) struct Script<'a, R> {
+    pub(super) rt: &'a R,
+    pub(super) alloc: Global,
+    pub(super) first: &'a str,
+    pub(super) text: &'a str,
+}
+
+impl<R: Abort> GroupWork for Script<'_, R> {
+    type Output = ();
+
+    ghost gives = { λ _ _ _ _. Unit {0} };
+
+    fn work<C: Classes>(self, table: &ClassTable, mut group: Group<C>) {
+        go_on_with(
+            self.rt, self.alloc, table, &mut group, self.first, self.text,
+        );
+        drop(group);
+    }
+}
+
+/// Does the lines of a text with an empty group.
+pub(super) fn go_through<R: Abort>(
+    rt: &R,
+    alloc: Global,
+    table: &ClassTable,
+    first: &str,
+    text: &str,
+) {
+    let script = Script {
+        rt,
+        alloc,
+        first,
+        text,
+    };
+    with_group(alloc, table, script);
+}
+
+/// Does the lines of a text with a group.
+pub(super) fn go_on_with<C: Classes, R: Abort>(
+    rt: &R,
+    alloc: Global,
+    table: &ClassTable,
+    group: &mut Group<C>,
+    first: &str,
+    text: &str,
+)
+    requires { IsPrefix table.now C.classes }
+{
+    let mut number = 0u32;
+    for line in text.lines() {
+        number = number.wrapping_add(1);
+        let is_done = is_done(rt, alloc, table, group, &line_of(line, number, first));
+        see(rt, is_done, line);
+    }
+}
+
+/// A line of a text, by its parts.
+#[derive(Clone, Copy)]
+pub(super) struct Line<'a> {
+    pub(super) number: u32,
+    pub(super) first: &'a str,
+    pub(super) what: &'a str,
+    verb: Verb,
+    pub(super) said: &'a str,
+    pub(super) wanted: &'a str,
+}
+
+fn line_of<'a>(line: &'a str, number: u32, first: &'a str) -> Line<'a> {
+    let (done, wanted) = halves(line, '|');
+    let (what, said) = halves(done, ' ');
+    Line {
+        number,
+        first,
+        what,
+        verb: verb_of(what),
+        said,
+        wanted,
+    }
+}
+
+/// Whether what a line does with a group gives what it wants.
+fn is_done<C: Classes, R: Abort>(
+    rt: &R,
+    alloc: Global,
+    table: &ClassTable,
+    group: &mut Group<C>,
+    line: &Line<'_>,
+) -> bool
+    requires { IsPrefix table.now C.classes }
+{
+    match line.verb {
+        Verb::Append => is_appended(rt, alloc, table, group, line),
+        Verb::At => is_placed(rt, alloc, table, group, line),
+        Verb::Adopt | Verb::Replay | Verb::Fill => is_taken(rt, alloc, table, group, line),
+        Verb::Copy => becomes_copy(alloc, group),
+        Verb::Call => is_called(rt, alloc, table, group, line),
+        _ => is_found(rt, alloc, group, line),
+    }
+}
+
+/// Whether a group has what a line finds in it.
+fn is_found<C: Classes, R: Abort>(
+    rt: &R,
+    alloc: Global,
+    group: &Group<C>,
+    line: &Line<'_>,
+) -> bool {
+    match line.verb {
+        Verb::Length => has_length(rt, alloc, group, line.wanted),
+        Verb::Code => has_code(group, number_of(rt, line.said) as usize, line.wanted),
+        Verb::Reply => is_logged(rt, group, line),
+        _ => has_object(rt, alloc, group, line.wanted),
+    }
+}
+
+/// Whether the log has that length, and so has its copied list.
+fn has_length<C: Classes, R: Abort>(rt: &R, alloc: Global, group: &Group<C>, wanted: &str) -> bool {
+    let list = copy_log(alloc, group.entries()).expect(rt, "memory");
+    is_number(wanted, group.len() as u64) & is_number(wanted, list.len() as u64)
+}
+
+/// Whether an answer is that one: a place or a length, or a refusal's name.
+fn is_answer(answer: Result<usize, LogError>, wanted: &str) -> bool {
+    match answer {
+        Ok(place) => is_number(wanted, place as u64),
+        Err(error) => error.name() == wanted,
+    }
+}
+
+/// Whether a request is appended so.
+fn is_appended<C: Classes, R: Abort>(
+    rt: &R,
+    alloc: Global,
+    table: &ClassTable,
+    group: &mut Group<C>,
+    line: &Line<'_>,
+) -> bool
+    requires { IsPrefix table.now C.classes }
+{
+    let request = request_of(rt, alloc, line.said);
+    is_answer(group.append(table, request), line.wanted)
+}
+
+/// A request that comes for a place.
+fn rep_of<R: Abort>(rt: &R, alloc: Global, text: &str) -> Rep {
+    let (place, request) = halves(text, ' ');
+    Rep {
+        epoch: 1,
+        place: number_of(rt, place) as usize,
+        request: request_of(rt, alloc, request),
+    }
+}
+
+/// Whether a request that comes for a place is answered so.
+fn is_placed<C: Classes, R: Abort>(
+    rt: &R,
+    alloc: Global,
+    table: &ClassTable,
+    group: &mut Group<C>,
+    line: &Line<'_>,
+) -> bool
+    requires { IsPrefix table.now C.classes }
+{
+    let rep = rep_of(rt, alloc, line.said);
+    let answer = append_at(group, table, rep);
+    is_place(answer, line.wanted)
+}
+
+/// Whether that is the answer, `none` to a request that comes too early.
+fn is_place(answer: Result<Option<usize>, LogError>, wanted: &str) -> bool {
+    match answer.transpose() {
+        None => wanted == "none",
+        Some(answer) => is_answer(answer, wanted),
+    }
+}
+
+/// Takes a list, and gives what is answered.
+fn take<C: Classes, R: Abort>(
+    rt: &R,
+    alloc: Global,
+    table: &ClassTable,
+    group: &mut Group<C>,
+    verb: Verb,
+    list: &[Request],
+) -> Result<usize, LogError>
+    requires { IsPrefix table.now C.classes }
+{
+    match verb {
+        Verb::Adopt => group.adopt(table, list),
+        Verb::Replay => becomes(group, Group::<C>::replay(alloc, table, list)),
+        _ => fill(rt, alloc, table, group, list),
+    }
+}
+
+/// Whether a list is taken so.
+fn is_taken<C: Classes, R: Abort>(
+    rt: &R,
+    alloc: Global,
+    table: &ClassTable,
+    group: &mut Group<C>,
+    line: &Line<'_>,
+) -> bool
+    requires { IsPrefix table.now C.classes }
+{
+    let list = list_of(rt, alloc, line.first, line.said);
+    let is_tested = !matches!(line.verb, Verb::Replay)
+        || is_tested(rt, alloc, table, &list, line.wanted);
+    is_tested & is_answer(take(rt, alloc, table, group, line.verb, &list), line.wanted)
+}
+
+/// Whether the test of a list tells the refusal that its replay answers, or none where that answers a length.
+fn is_tested<R: Abort>(
+    rt: &R,
+    alloc: Global,
+    table: &ClassTable,
+    list: &[Request],
+    wanted: &str,
+) -> bool {
+    match list_refusal(alloc, table, list).expect(rt, "memory") {
+        Some(why) => why.name() == wanted,
+        None => is_number(wanted, list.len() as u64),
+    }
+}
+
+/// Appends copies of the requests of a list. It gives the log's length.
+fn fill<C: Classes, R: Abort>(
+    rt: &R,
+    alloc: Global,
+    table: &ClassTable,
+    group: &mut Group<C>,
+    list: &[Request],
+) -> Result<usize, LogError>
+    requires { IsPrefix table.now C.classes }
+{
+    for request in copy_requests(alloc, list).expect(rt, "memory") {
+        let _ = group.append(table, request).expect(rt, "room");
+    }
+    Ok(group.len())
+}
+
+/// The group becomes another, unless there is none. It gives the log's length.
+fn becomes<C: Classes>(
+    group: &mut Group<C>,
+    new: Result<Group<C>, LogError>,
+) -> Result<usize, LogError> {
+    match new {
+        Err(error) => Err(error),
+        Ok(new) => {
+            drop(replace(group, new));
+            Ok(group.len())
+        }
+    }
+}
+
+/// Whether the group becomes its copy.
+fn becomes_copy<C: Classes>(alloc: Global, group: &mut Group<C>) -> bool {
+    let copy = group.copy(alloc);
+    becomes(group, copy).is_ok()
+}
+
+/// Whether the reply at a place has that code.
+fn has_code<C: Classes>(group: &Group<C>, place: usize, wanted: &str) -> bool {
+    match group.reply_at(place) {
+        None => false,
+        Some((code, _)) => is_code(wanted, code),
+    }
+}
+
+/// Whether the request of a client and a number has that place and code, and no output.
+fn is_logged<C: Classes, R: Abort>(rt: &R, group: &Group<C>, line: &Line<'_>) -> bool {
+    let (who, value) = halves(line.said, ' ');
+    let who = client(rt, number_of(rt, who));
+    match group.reply_of(who, number(rt, number_of(rt, value))) {
+        None => false,
+        Some((place, code, output)) => {
+            output.is_empty() & is_reply(group, place, code, line.wanted)
+        }
+    }
+}
+
+/// Whether that is the place and the code, and the reply at the place has the code too.
+fn is_reply<C: Classes>(group: &Group<C>, place: usize, code: i64, wanted: &str) -> bool {
+    let (place_word, code_word) = halves(wanted, ' ');
+    is_number(place_word, place as u64)
+        & is_code(code_word, code)
+        & has_code(group, place, code_word)
+}
+
+/// Whether the object `object` is that one.
+fn has_object<C: Classes, R: Abort>(rt: &R, alloc: Global, group: &Group<C>, wanted: &str) -> bool {
+    let name = ObjectName::new(alloc, "object").expect(rt, "memory");
+    is_object(group.object(&name), wanted)
+}

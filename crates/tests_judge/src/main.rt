@@ -1,0 +1,129 @@
+//! `tests_judge` plays clusters with many clients by the command `cluster` of `radoscls`, and judges what it prints:
+//!
+//! - each call has its line, in the stated order, and is answered;
+//! - the places of each group are 0, 1, 2, .. of one list, in which each client's calls stand in their order, and calls
+//!   before a map above those after it;
+//! - each line says what that list gives, run in the order of its places.
+//!
+//! `tests_judge` plays some small clusters, and judges the first one's lines also with changes that make them wrong.
+//! `tests_judge CLIENTS CALLS GROUPS` plays one, in which each client makes that many calls before, between and after
+//! three maps.
+#![tactic(auto)]
+
+mod judge;
+mod memory;
+mod object;
+mod plan;
+
+use crate::judge::{Verdict, judge};
+use crate::memory::played;
+use crate::plan::{Plan, Size};
+use anyhow::{Context, Error, Result};
+use std::alloc::Global;
+use std::env;
+use std::sync::Wait;
+use std::thread::Threads;
+use std::time::Clock;
+
+/// The clusters that are played where none is asked for.
+const SIZES: [Size; 3] = [
+    Size {
+        clients: 1,
+        calls: 5,
+        groups: 1,
+    },
+    Size {
+        clients: 8,
+        calls: 3,
+        groups: 1,
+    },
+    Size {
+        clients: 6,
+        calls: 3,
+        groups: 4,
+    },
+];
+
+/// What is changed in what the first cluster prints, one at a time: a line is lost, a place is taken, a place is none,
+/// codes are others, and a call is refused.
+const CHANGES: [(&str, &str); 5] = [
+    ("call 0 place 0 code -2 output -\n", ""),
+    ("place 3 ", "place 2 "),
+    ("place 19 ", "place 20 "),
+    ("code 4 ", "code 5 "),
+    ("place 2 code -2 output -", "refused 9 Unanswered"),
+];
+
+fn main(rt: HostRuntime) -> Result<()> {
+    let words: Vec<String> = env::args(&rt)?.collect(rt.alloc())?;
+    match asked(&words)? {
+        Some(size) => tell(&rt, size),
+        None => tell_all(&rt),
+    }
+}
+
+/// The cluster that the words ask for, if they do.
+fn asked(words: &[String]) -> Result<Option<Size>> {
+    match words {
+        [] | [_] => Ok(None),
+        [_, clients, calls, groups] => Ok(Some(Size {
+            clients: number(clients)?,
+            calls: number(calls)?,
+            groups: number(groups)?,
+        })),
+        _ => Err(Error::msg("usage: tests_judge [CLIENTS CALLS GROUPS]")),
+    }
+}
+
+/// The number that a word is.
+fn number(word: &String) -> Result<u32> {
+    word.parse::<u32>().ok().context("a number is wanted")
+}
+
+/// Plays the small clusters.
+fn tell_all<R: Threads + Wait + Clock + Sync + Print + AllocGlobal>(rt: &R) -> Result<()> {
+    for size in SIZES {
+        tell(rt, size)?;
+    }
+    tell_of_changes(rt)
+}
+
+/// Plays the first cluster, and prints how its lines are judged with each change.
+fn tell_of_changes<R: Threads + Wait + Clock + Sync + Print + AllocGlobal>(rt: &R) -> Result<()> {
+    let plan = Plan::new(rt.alloc(), SIZES[0])?;
+    let printed = played(rt.alloc(), rt, plan.text(rt.alloc())?)?;
+    tell_each_change(rt, &plan, &printed)
+}
+
+/// Prints how those lines are judged with each change.
+fn tell_each_change<R: Print + AllocGlobal>(rt: &R, plan: &Plan, printed: &str) -> Result<()> {
+    for (number, (old, new)) in CHANGES.iter().enumerate() {
+        let changed = printed.replace(rt.alloc(), *old, *new)?;
+        let verdict = judge(rt.alloc(), plan, &changed)?;
+        println!(rt; "change {number}: {verdict}")?;
+    }
+    Ok(())
+}
+
+/// Plays a cluster, and prints how it is judged.
+fn tell<R: Threads + Wait + Clock + Sync + Print + AllocGlobal>(rt: &R, size: Size) -> Result<()> {
+    let verdict = verdict_of(rt.alloc(), rt, size)?;
+    let Size {
+        clients,
+        calls,
+        groups,
+    } = size;
+    println!(rt; "clients {clients} calls {calls} groups {groups}: {verdict}").map_err(Error::from)
+}
+
+/// How a cluster is judged.
+fn verdict_of<R: Threads + Wait + Clock + Sync>(
+    alloc: Global,
+    rt: &R,
+    size: Size,
+) -> Result<Verdict> {
+    let plan = Plan::new(alloc, size)?;
+    let text = plan.text(alloc)?;
+    let printed = played(alloc, rt, text)?;
+    Ok(judge(alloc, &plan, &printed)?)
+}

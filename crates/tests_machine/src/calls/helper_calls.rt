@@ -1,0 +1,380 @@
+//! Each helper's answers, and what it leaves.
+
+use crate::answers::{Expected, answers_beside_once};
+use crate::classes::class_of;
+use crate::code::{put, slot};
+use crate::contents::{Contents, NOTHING, Pair, is_change};
+use interp::Outcome;
+use object_store::Object;
+use std::alloc::Global;
+use std::process::Abort;
+use verifier::VerifiedClass;
+
+/// An argument of a helper: none, a number, so many bytes from a place of the input on, or of the output.
+#[derive(Clone, Copy)]
+enum Argument {
+    Nothing,
+    Number(i32),
+    Input(i32, i32),
+    Output(i32),
+}
+
+use Argument::{Input, Nothing, Number, Output};
+
+/// What a call leaves: what it was beside, or nothing, or an object with other data, xattrs or keys. One that it
+/// creates has nothing else.
+#[derive(Clone, Copy)]
+enum After {
+    Same,
+    Removed,
+    Data(&'static [u8]),
+    Xattrs(&'static [Pair]),
+    Keys(&'static [Pair]),
+}
+
+use After::{Data, Keys, Removed, Xattrs};
+
+/// A call of a helper beside the object `THERE` or none, its answer, the output and the object afterwards.
+#[derive(Clone, Copy)]
+struct Row {
+    is_there: bool,
+    id: i32,
+    arguments: [Argument; 2],
+    answer: i64,
+    output: &'static [u8],
+    after: After,
+}
+
+/// What the methods are called on: names are a byte of it, or some.
+const INPUT: [u8; 8] = *b"nmacb123";
+
+static THERE: Contents = Contents {
+    data: b"hello",
+    xattrs: &[(b"n", b"value")],
+    keys: &[(b"a", b"1"), (b"c", b"22")],
+};
+
+/// What is created holds nothing else.
+static CREATED: Contents = NOTHING;
+
+/// A call beside `THERE` that changes nothing and puts nothing out.
+const BESIDE: Row = Row {
+    is_there: true,
+    id: 0,
+    arguments: [Nothing; 2],
+    answer: 0,
+    output: b"",
+    after: After::Same,
+};
+
+/// A call beside no object that changes nothing.
+const ABSENT: Row = Row {
+    is_there: false,
+    ..BESIDE
+};
+
+/// A call beside `THERE`, its answer, and what it puts out.
+macro_rules! there {
+    ($id:literal, $arguments:expr, $answer:literal, $output:literal) => {
+        Row {
+            id: $id,
+            arguments: $arguments,
+            answer: $answer,
+            output: $output,
+            ..BESIDE
+        }
+    };
+}
+
+/// A call beside `THERE`, its answer, and the object that it leaves.
+macro_rules! leaves {
+    ($id:literal, $arguments:expr, $answer:literal, $after:expr) => {
+        Row {
+            id: $id,
+            arguments: $arguments,
+            answer: $answer,
+            after: $after,
+            ..BESIDE
+        }
+    };
+}
+
+/// A call beside no object, and its answer.
+macro_rules! absent {
+    ($id:literal, $arguments:expr, $answer:literal) => {
+        Row {
+            id: $id,
+            arguments: $arguments,
+            answer: $answer,
+            ..ABSENT
+        }
+    };
+}
+
+/// A call beside no object, its answer, and the object that it creates.
+macro_rules! creates {
+    ($id:literal, $arguments:expr, $answer:literal, $after:expr) => {
+        Row {
+            id: $id,
+            arguments: $arguments,
+            answer: $answer,
+            after: $after,
+            ..ABSENT
+        }
+    };
+}
+
+/// Rows of the helpers of an object's data.
+static DATA_ROWS: [Row; 18] = [
+    // stat
+    there!(1, [Nothing; 2], 5, b""),
+    absent!(1, [Nothing; 2], -2),
+    // read
+    there!(2, [Number(1), Output(3)], 3, b"ell"),
+    there!(2, [Number(3), Output(8)], 2, b"lo"),
+    there!(2, [Number(9), Output(8)], 0, b""),
+    absent!(2, [Number(0), Output(8)], -2),
+    // write
+    leaves!(3, [Number(4), Input(5, 3)], 3, Data(b"hell123")),
+    creates!(3, [Number(2), Input(0, 1)], 1, Data(b"\0\0n")),
+    creates!(3, [Number(65_536), Input(0, 0)], 0, Data(b"")),
+    absent!(3, [Number(65_537), Input(0, 0)], -27),
+    absent!(3, [Number(-1), Input(0, 1)], -27),
+    // truncate
+    leaves!(4, [Number(2), Nothing], 0, Data(b"he")),
+    leaves!(4, [Number(7), Nothing], 0, Data(b"hello\0\0")),
+    there!(4, [Number(65_537), Nothing], -27, b""),
+    absent!(4, [Number(65_537), Nothing], -27),
+    absent!(4, [Number(0), Nothing], -2),
+    // remove
+    leaves!(5, [Nothing; 2], 0, Removed),
+    absent!(5, [Nothing; 2], -2),
+];
+
+/// Rows of the helpers of xattrs.
+static XATTR_ROWS: [Row; 13] = [
+    // getxattr
+    there!(6, [Input(0, 1), Output(8)], 5, b"value"),
+    there!(6, [Input(0, 1), Output(4)], -34, b""),
+    there!(6, [Input(1, 1), Output(8)], -61, b""),
+    there!(6, [Input(0, 0), Output(8)], -22, b""),
+    absent!(6, [Input(0, 1), Output(8)], -2),
+    // setxattr
+    leaves!(7, [Input(0, 1), Input(5, 3)], 0, Xattrs(&[(b"n", b"123")])),
+    leaves!(
+        7,
+        [Input(1, 1), Input(7, 0)],
+        0,
+        Xattrs(&[(b"m", b""), (b"n", b"value")])
+    ),
+    creates!(7, [Input(0, 2), Input(7, 1)], 0, Xattrs(&[(b"nm", b"3")])),
+    absent!(7, [Input(0, 0), Input(7, 1)], -22),
+    // rmxattr
+    leaves!(8, [Input(0, 1), Nothing], 0, Xattrs(&[])),
+    there!(8, [Input(2, 1), Nothing], -61, b""),
+    there!(8, [Input(0, 0), Nothing], -22, b""),
+    absent!(8, [Input(0, 1), Nothing], -2),
+];
+
+/// Rows of the helpers of keys.
+static KEY_ROWS: [Row; 16] = [
+    // map_get
+    there!(9, [Input(3, 1), Output(2)], 2, b"22"),
+    there!(9, [Input(3, 1), Output(1)], -34, b""),
+    there!(9, [Input(4, 1), Output(2)], -61, b""),
+    absent!(9, [Input(3, 1), Output(2)], -2),
+    // map_set
+    leaves!(
+        10,
+        [Input(4, 1), Input(6, 2)],
+        0,
+        Keys(&[(b"a", b"1"), (b"b", b"23"), (b"c", b"22")])
+    ),
+    creates!(10, [Input(4, 1), Input(6, 2)], 0, Keys(&[(b"b", b"23")])),
+    there!(10, [Input(4, 0), Input(6, 2)], -22, b""),
+    // map_rm
+    leaves!(11, [Input(2, 1), Nothing], 0, Keys(&[(b"c", b"22")])),
+    there!(11, [Input(4, 1), Nothing], -61, b""),
+    absent!(11, [Input(2, 1), Nothing], -2),
+    // map_next
+    there!(12, [Input(0, 0), Output(1)], 1, b"a"),
+    there!(12, [Input(2, 1), Output(1)], 1, b"c"),
+    there!(12, [Input(4, 1), Output(1)], 1, b"c"),
+    there!(12, [Input(3, 1), Output(8)], -61, b""),
+    there!(12, [Input(2, 1), Output(0)], -34, b""),
+    absent!(12, [Input(0, 0), Output(8)], -2),
+];
+
+/// Rows of the others.
+static OTHER_ROWS: [Row; 5] = [
+    // create
+    there!(14, [Number(0), Nothing], 0, b""),
+    there!(14, [Number(1), Nothing], -17, b""),
+    creates!(14, [Number(1), Nothing], 0, Data(b"")),
+    // caller
+    there!(15, [Nothing; 2], 7, b""),
+    absent!(15, [Nothing; 2], 7),
+];
+
+/// Puts an argument into registers from one on, and gives the next one.
+fn put_argument(rt: &impl Abort, code: &mut Vec<u8>, register: u8, argument: Argument) -> u8 {
+    let next = register.wrapping_add(1);
+    match argument {
+        Nothing => register,
+        Number(number) => {
+            put(rt, code, &[slot(0xb7, register, 0, number)]);
+            next
+        }
+        Input(at, len) => put_range(rt, code, register, 0x60, at, len),
+        Output(len) => put_range(rt, code, register, 0x70, 0, len),
+    }
+}
+
+/// Puts a range into a register and the next, so many bytes from a place of a register's region on. It gives the one
+/// behind them.
+fn put_range(rt: &impl Abort, code: &mut Vec<u8>, register: u8, base: u8, at: i32, len: i32) -> u8 {
+    let next = register.wrapping_add(1);
+    put(
+        rt,
+        code,
+        &[
+            slot(0xbf, base | register, 0, 0),
+            slot(0x07, register, 0, at),
+            slot(0xb7, next, 0, len),
+        ],
+    );
+    next.wrapping_add(1)
+}
+
+/// Puts the row's arguments into registers from 1 on.
+fn put_arguments(rt: &impl Abort, code: &mut Vec<u8>, row: &Row) {
+    let mut register = 1;
+    for argument in &row.arguments {
+        register = put_argument(rt, code, register, *argument);
+    }
+}
+
+/// A method that calls the helper, answers what it answered, and puts out as much as the row says.
+fn code_of(rt: &impl Abort, alloc: Global, row: &Row) -> Vec<u8> {
+    let mut code = Vec::new(alloc);
+    put(
+        rt,
+        &mut code,
+        &[slot(0xbf, 0x16, 0, 0), slot(0xbf, 0x37, 0, 0)],
+    );
+    put_arguments(rt, &mut code, row);
+    put(
+        rt,
+        &mut code,
+        &[
+            slot(0x85, 0, 0, row.id),
+            slot(0xbf, 0x08, 0, 0),
+            slot(0xb7, 1, 0, (row.output.len() % 256) as i32),
+            slot(0x85, 0, 0, 13),
+            slot(0xbf, 0x80, 0, 0),
+            slot(0x95, 0, 0, 0),
+        ],
+    );
+    code
+}
+
+/// What a row's call leaves where it changes nothing of it.
+fn others(row: &Row) -> &'static Contents {
+    if row.is_there { &THERE } else { &CREATED }
+}
+
+/// What a row's call is beside.
+fn object_before(row: &Row) -> Option<Contents> {
+    if row.is_there {
+        Some(*others(row))
+    } else {
+        None
+    }
+}
+
+/// What a row's call leaves.
+fn object_after(row: &Row) -> Option<Contents> {
+    let others = others(row);
+    match row.after {
+        After::Same => object_before(row),
+        Removed => None,
+        Data(data) => Some(Contents { data, ..*others }),
+        Xattrs(xattrs) => Some(Contents { xattrs, ..*others }),
+        Keys(keys) => Some(Contents { keys, ..*others }),
+    }
+}
+
+impl Expected for Row {
+    fn is_so(
+        &self,
+        rt: &impl Abort,
+        alloc: Global,
+        _: Option<&Object>,
+        _: &[u8],
+        outcome: &Outcome,
+    ) -> bool {
+        outcome.code == self.answer
+            && outcome.output.as_slice() == self.output
+            && is_change(
+                rt,
+                alloc,
+                &outcome.change,
+                object_before(self),
+                object_after(self),
+            )
+    }
+}
+
+/// The class of that method.
+fn class_of_row(rt: &impl Abort, alloc: Global, row: &Row) -> VerifiedClass {
+    let code = code_of(rt, alloc, row);
+    class_of(rt, alloc, &code, 3, 8, 8)
+}
+
+/// Whether a call answers so.
+fn answers(rt: &impl Abort, alloc: Global, row: &Row) -> bool {
+    let class = class_of_row(rt, alloc, row);
+    answers_beside_once(rt, alloc, class, object_before(row), &INPUT, row)
+}
+
+/// Whether the calls of those rows answer so.
+fn all_answer(rt: &impl Abort, alloc: Global, rows: &[Row]) -> bool {
+    let mut all = true;
+    for row in rows {
+        all = all && answers(rt, alloc, row);
+    }
+    all
+}
+
+/// Whether the helpers of an object's data answer so.
+fn data_answers(rt: &impl Abort, alloc: Global) -> bool {
+    all_answer(rt, alloc, &DATA_ROWS)
+}
+
+/// Whether the helpers of xattrs answer so.
+fn xattrs_answer(rt: &impl Abort, alloc: Global) -> bool {
+    all_answer(rt, alloc, &XATTR_ROWS)
+}
+
+/// Whether the helpers of keys answer so.
+fn keys_answer(rt: &impl Abort, alloc: Global) -> bool {
+    all_answer(rt, alloc, &KEY_ROWS)
+}
+
+/// Whether the others answer so.
+fn others_answer(rt: &impl Abort, alloc: Global) -> bool {
+    all_answer(rt, alloc, &OTHER_ROWS)
+}
+
+/// Whether every helper answers so.
+fn all_helpers_answer(rt: &impl Abort, alloc: Global) -> bool {
+    data_answers(rt, alloc)
+        && xattrs_answer(rt, alloc)
+        && keys_answer(rt, alloc)
+        && others_answer(rt, alloc)
+}
+
+#[test]
+fn each_helper(rt: HostRuntime) {
+    assert!(rt; all_helpers_answer(&rt, rt.alloc()));
+}

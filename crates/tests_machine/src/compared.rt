@@ -1,0 +1,119 @@
+//! Calls of verified methods beside the plain run of their raw bytes, on programs that loops make.
+
+mod helper_calls;
+mod operands;
+mod random;
+mod rows;
+mod spills;
+
+use crate::answers::Expected;
+use crate::classes::image_of;
+use crate::contents::same;
+use bpf_machine::Caps;
+use flat_machine::{Ending, Layout, Machine, RunStart, flat_run, is_layout};
+use interp::Outcome;
+use object_store::Object;
+use std::alloc::Global;
+use std::process::Abort;
+use txn::Change;
+use verifier::{VerifiedClass, verify};
+
+/// What the programs declare.
+const CAPS: Caps = Caps {
+    in_cap: 24,
+    out_cap: 40,
+    writes: true,
+};
+
+/// The class of that code, where it is safe.
+fn verified(rt: &impl Abort, alloc: Global, code: &[u8]) -> Option<VerifiedClass> {
+    let image = image_of(rt, alloc, code, 3, CAPS.in_cap, CAPS.out_cap);
+    verify(alloc, &image).ok()
+}
+
+/// Names of xattrs that the programs use.
+const NAMES: [&[u8]; 8] = [b"n", b"nm", b"m", b"k", b"a", b"ab", b"\0", b"\0\0"];
+
+/// Whether a call answered that code and output, after so many steps.
+fn has_answered(outcome: &Outcome, code: u64, output: &[u8], steps: usize) -> bool {
+    outcome.code == code.cast_signed()
+        && outcome.steps == steps
+        && outcome.output.as_slice() == output
+}
+
+/// Whether a change is from the first object to the second.
+fn is_change(
+    rt: &impl Abort,
+    alloc: Global,
+    change: &Change,
+    before: Option<&Object>,
+    after: Option<&Object>,
+) -> bool {
+    same(rt, alloc, change.before(), before, &NAMES)
+        && same(rt, alloc, change.after(), after, &NAMES)
+}
+
+/// Whether a call answered as a run of the bytes ended, beside that object.
+fn is_ending(
+    rt: &impl Abort,
+    alloc: Global,
+    object: Option<&Object>,
+    outcome: &Outcome,
+    ending: &Ending,
+) -> bool {
+    match ending {
+        Ending::Ended {
+            code,
+            output,
+            object: after,
+            steps,
+        } => {
+            has_answered(outcome, *code, output, *steps)
+                && is_change(rt, alloc, &outcome.change, object, after.as_ref())
+        }
+        Ending::Stuck | Ending::Unfinished => false,
+    }
+}
+
+/// How the plain run of a code ends in a layout. One that is none is as a run that is stuck.
+fn ending_of(
+    rt: &impl Abort,
+    alloc: Global,
+    code: &[u8],
+    layout: Layout,
+    object: Option<&Object>,
+    input: &[u8],
+) -> Ending {
+    if !is_layout(&CAPS, &layout) || input.len() > usize::from(CAPS.in_cap) {
+        return Ending::Stuck;
+    }
+    let machine = Machine::new(CAPS, layout);
+    let start = RunStart {
+        object,
+        caller: 7,
+        input,
+    };
+    flat_run(alloc, &machine, code, &start, 100).expect(rt, "memory")
+}
+
+/// The plain run of a code in a layout.
+#[derive(Clone, Copy)]
+pub struct PlainRun<'a> {
+    code: &'a [u8],
+    layout: Layout,
+}
+
+impl Expected for PlainRun<'_> {
+    /// Whether a call answered as the plain run ends.
+    fn is_so(
+        &self,
+        rt: &impl Abort,
+        alloc: Global,
+        object: Option<&Object>,
+        input: &[u8],
+        outcome: &Outcome,
+    ) -> bool {
+        let ending = ending_of(rt, alloc, self.code, self.layout, object, input);
+        is_ending(rt, alloc, object, outcome, &ending)
+    }
+}

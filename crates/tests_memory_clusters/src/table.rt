@@ -1,0 +1,56 @@
+//! The table of a cluster's calls that can be refused memory.
+
+use crate::cells::turn;
+use crate::clusters::{load, new};
+use crate::running::{Call, on_running, served};
+use std::alloc::Global;
+use std::sync::Wait;
+use std::thread::Threads;
+use tests_memory_table::Ending;
+
+/// A call that can be refused memory.
+#[derive(Clone, Copy, PartialEq, Eq)]
+pub enum ClusterRow {
+    New,
+    LoadClass,
+    Turn,
+    Serve,
+    Running(Call),
+}
+
+/// Each row with its name.
+#[rattlefmt::skip]
+pub const CLUSTER_ROWS: [(&str, ClusterRow); 8] = [
+    ("cluster_new", ClusterRow::New),
+    ("load_class", ClusterRow::LoadClass),
+    ("turn", ClusterRow::Turn),
+    ("cluster_new_map", ClusterRow::Running(Call::NewMap)),
+    ("exec", ClusterRow::Running(Call::Exec)),
+    ("retry", ClusterRow::Running(Call::Retry)),
+    ("logged", ClusterRow::Running(Call::Logged)),
+    ("serve", ClusterRow::Serve),
+];
+
+impl ClusterRow {
+    /// The row of a name.
+    pub fn of(name: &str) -> Option<ClusterRow> {
+        for (its_name, row) in &CLUSTER_ROWS {
+            if *its_name == name {
+                return Some(*row);
+            }
+        }
+        None
+    }
+
+    /// Makes the call, and once more if it is refused memory.
+    #[rattlefmt::skip]
+    pub fn run<R: Threads + Wait + Sync + Copy + Drop>(self, rt: R, alloc: Global) -> Ending {
+        match self {
+            ClusterRow::New => new(alloc),
+            ClusterRow::LoadClass => load(alloc),
+            ClusterRow::Turn => turn(alloc),
+            ClusterRow::Serve => served(rt, alloc),
+            ClusterRow::Running(call) => on_running(rt, alloc, call),
+        }
+    }
+}

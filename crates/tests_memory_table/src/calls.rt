@@ -1,0 +1,170 @@
+//! Rows of `call`, 3 NoMemory, and of `ClassTable::add`, 2 NoMemory.
+
+use crate::found::{Ending, Found};
+use crate::made::class_of;
+use crate::same::same;
+use crate::store::object_of;
+use interp::{CallError, ClassTable, Outcome, TableError, call};
+use object_store::Object;
+use std::alloc::Global;
+use verifier::VerifiedClass;
+
+/// Calls each helper that takes memory, on the input `abcdefgh`: writes it at 4,092, cuts the data at 4,100, sets the
+/// xattrs `a` and `abcd`, sets the keys `ab` and `abc`, takes `a` and `ab` away, and reads from 4,094 what is there.
+const EVERY: &str = ".method every rw 8 8
+mov r6, r1
+mov r7, r3
+mov r1, 0
+call 14
+mov r1, 4092
+mov r2, r6
+mov r3, 8
+call 3
+mov r1, 4100
+call 4
+mov r1, r6
+mov r2, 1
+mov r3, r6
+mov r4, 8
+call 7
+mov r1, r6
+mov r2, 4
+mov r3, r6
+mov r4, 1
+call 7
+mov r1, r6
+mov r2, 2
+mov r3, r6
+mov r4, 8
+call 10
+mov r1, r6
+mov r2, 3
+mov r3, r6
+mov r4, 4
+call 10
+mov r1, r6
+mov r2, 1
+call 8
+mov r1, r6
+mov r2, 2
+call 11
+mov r1, 4094
+mov r2, r7
+mov r3, 8
+call 2
+mov r8, r0
+mov r1, 8
+call 13
+mov r0, r8
+exit
+";
+
+/// Whether the object after holds what the method makes of that of 4,200 bytes.
+fn is_made(after: &Object) -> bool {
+    let mut bytes = [0u8; 9];
+    after.read(4092, &mut bytes) == 8
+        && &bytes == b"abcdefgh\0"
+        && after.len() == 4100
+        && after.xattr(b"a").is_none()
+        && after.xattr(b"abcd") == Some(b"a".as_slice())
+        && after.key(b"ab").is_none()
+        && after.key(b"abc") == Some(b"abcd".as_slice())
+        && after.xattr_count() == 3
+        && after.key_count() == 4
+}
+
+/// Whether the outcome is 6 bytes read, and that change of the object.
+fn is_outcome(outcome: &Outcome, object: &Object) -> bool {
+    let is_changed = match outcome.change.after() {
+        None => false,
+        Some(after) => is_made(after),
+    };
+    outcome.code == 6
+        && outcome.output.as_slice() == b"cdefgh\0\0".as_slice()
+        && outcome.steps == 45
+        && is_changed
+        && same(outcome.change.before(), Some(object))
+}
+
+fn call_once(alloc: Global, class: &VerifiedClass, object: &Object, before: &Object) -> Found {
+    match call(alloc, class, "every", Some(object), 7, b"abcdefgh") {
+        Ok(outcome) => Found::of(is_outcome(&outcome, before)),
+        Err(error) => {
+            let is_want = error == CallError::NoMemory && error.number() == 3;
+            Found::want(is_want && same(Some(object), Some(before)))
+        }
+    }
+}
+
+fn called_on(alloc: Global, class: &VerifiedClass, object: &Object, before: &Object) -> Ending {
+    match call_once(alloc, class, object, before) {
+        Found::Want => call_once(alloc, class, object, before).again(),
+        found => found.once(),
+    }
+}
+
+/// `call`.
+pub fn called(alloc: Global) -> Ending {
+    match (class_of(alloc, EVERY), object_of(alloc), object_of(alloc)) {
+        (Some(class), Some(object), Some(before)) => called_on(alloc, &class, &object, &before),
+        _ => Ending::Differs,
+    }
+}
+
+/// `mov r0, 0`, `exit`.
+const SHORT: &str = ".method f r 0 0\nmov r0, 0\nexit\n";
+
+/// How many classes stand in the table before, of as many as its first room has.
+const BEFORE: usize = 4;
+
+/// A table of some classes.
+fn table(alloc: Global) -> Option<ClassTable> {
+    let mut table = ClassTable::new(alloc);
+    for _ in 0..BEFORE {
+        let class = class_of(alloc, SHORT)?;
+        if table.add(class).is_err() {
+            let class = class_of(alloc, SHORT)?;
+            table.add(class).ok()?;
+        }
+    }
+    Some(table)
+}
+
+/// Whether there are so many classes, each with that method.
+fn has(table: &ClassTable, count: usize) -> bool {
+    for id in 0..count {
+        let is_there = match table.get(id) {
+            None => false,
+            Some(class) => class.method("f").is_some(),
+        };
+        if !is_there {
+            return false;
+        }
+    }
+    table.len() == count
+}
+
+fn add_once(table: &mut ClassTable, class: VerifiedClass) -> Found {
+    match table.add(class) {
+        Ok(id) => Found::of(id == BEFORE && has(table, BEFORE + 1)),
+        Err(error) => {
+            let is_want = error == TableError::NoMemory && error.number() == 2;
+            Found::want(is_want && has(table, BEFORE))
+        }
+    }
+}
+
+fn added_to(table: &mut ClassTable, first: VerifiedClass, second: VerifiedClass) -> Ending {
+    match add_once(table, first) {
+        Found::Want => add_once(table, second).again(),
+        found => found.once(),
+    }
+}
+
+/// `ClassTable::add`.
+pub fn added(alloc: Global) -> Ending {
+    match (table(alloc), class_of(alloc, SHORT), class_of(alloc, SHORT)) {
+        (Some(mut table), Some(first), Some(second)) => added_to(&mut table, first, second),
+        _ => Ending::Differs,
+    }
+}

@@ -1,0 +1,25 @@
+//! Tests alone, of a cluster in threads. Each ends by itself: it counts its turns, and fails where they are used up.
+#![tactic(auto)]
+
+#[cfg(test)]
+mod asking;
+#[cfg(test)]
+mod ending;
+#[cfg(test)]
+mod fates;
+#[cfg(test)]
+mod gates;
+#[cfg(test)]
+mod groups;
+#[cfg(test)]
+mod mail;
+#[cfg(test)]
+mod maps;
+#[cfg(test)]
+mod modes;
+#[cfg(test)]
+mod stops;
+#[cfg(test)]
+mod turns;
+#[cfg(test)]
+mod workers;

@@ -1,0 +1,73 @@
+//! What `--explain` adds to a failure.
+
+use crate::pages::prints_of;
+use tests_folder::{TWO, only_prints};
+
+/// Methods' texts, and what `verify --explain` prints of the class.
+static REFUSED: [(&str, &str); 8] = [
+    (
+        ".method f r 15 0\nand r2, 15\nadd r1, r2\nldxb r0, [r1+0]\nexit\n",
+        "refused method 0 slot 2: 10 Bounds\n  method f, IN 15, OUT 0\n  ldxb r0, [r1+0]\n  r1 = input + 0..15\n  wanted: a pointer, and all of the bytes within its region\n  see docs/VERIFIER.md, 10 Bounds\n",
+    ),
+    (
+        ".method f r 16 0\nstxdw [r10-4], r2\nmov r0, 0\nexit\n",
+        "refused method 0 slot 0: 10 Bounds\n  method f, IN 16, OUT 0\n  stxdw [r10-4], r2\n  r2 = 0..16\n  r10 = stack + 512\n  wanted: a pointer, and all of the bytes within its region\n  see docs/VERIFIER.md, 10 Bounds\n",
+    ),
+    (
+        ".method f r 0 0\nmov r1, 0\ncall 13\nmov r0, r1\nexit\n",
+        "refused method 0 slot 2: 5 UnsetRead\n  method f, IN 0, OUT 0\n  mov r0, r1\n  r1 = unset\n  wanted: each of these registers set on every way that leads here\n  see docs/VERIFIER.md, 5 UnsetRead\n",
+    ),
+    (
+        ".method f r 0 0\nmov r0, 0\nexit\nmov r0, 1\n",
+        "refused method 0 slot 2: 3 FallsOff\n  method f, IN 0, OUT 0\n  mov r0, 1\n  nothing leads here\n  wanted: exit or a jump as the last instruction\n  see docs/VERIFIER.md, 3 FallsOff\n",
+    ),
+    (
+        ".method f r 0 0\nmov r1, r10\ncall 13\nexit\n",
+        "refused method 0 slot 1: 13 HelperArgument\n  method f, IN 0, OUT 0\n  call 13\n  r1 = stack + 512\n  wanted: the arguments in the order of the helper, and an output length of at most OUT\n  see docs/VERIFIER.md, 13 HelperArgument\n",
+    ),
+    (
+        ".method f r 0 0\nmov r0, 0\nja -2\nexit\n",
+        "refused method 0 slot 1: 1 Backward\n  method f, IN 0, OUT 0\n  ja -2\n  wanted: a jump forward: the distance is at least 0\n  see docs/VERIFIER.md, 1 Backward\n",
+    ),
+    (
+        ".method f r 0 0\njeq r1, 0, +0\nexit\n",
+        "refused method 0 slot 0: 8 PointerCompare\n  method f, IN 0, OUT 0\n  jeq r1, 0, +0\n  r1 = input + 0\n  wanted: numbers on both sides\n  see docs/VERIFIER.md, 8 PointerCompare\n",
+    ),
+    (
+        ".method f r 0 0\nmov r0, r1\nexit\n",
+        "refused method 0 slot 1: 15 ReturnsPointer\n  method f, IN 0, OUT 0\n  exit\n  r0 = input + 0\n  wanted: a number in register 0\n  see docs/VERIFIER.md, 15 ReturnsPointer\n",
+    ),
+];
+
+/// Words behind which nothing is added: the class is safe, the call is refused, and the folder tells no reason.
+static UNTOLD: [(&[&str], &str, u8); 4] = [
+    (&["verify", "image", "--explain"], "f ok 2\n", 0),
+    (
+        &["run", "image", "g", "--explain"],
+        "call refused: 1 NoMethod\n",
+        1,
+    ),
+    (&["dis", "missing", "--explain"], "cannot read\n", 1),
+    (
+        &["pack", "full", "f:r:0:0:raw", "--explain"],
+        "cannot read\n",
+        1,
+    ),
+];
+
+#[test]
+fn a_refusal_is_explained(rt: HostRuntime) {
+    for (text, printed) in &REFUSED {
+        prints_of(&rt, text, &["verify", "image", "--explain"], printed, 1);
+    }
+}
+
+#[test]
+fn nothing_else_is_added(rt: HostRuntime) {
+    for (words, printed, status) in &UNTOLD {
+        assert!(rt;
+            only_prints(&rt, words, TWO, b"", printed, *status),
+            "{printed}"
+        );
+    }
+}

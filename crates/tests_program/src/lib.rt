@@ -1,0 +1,24 @@
+//! Tests alone, of the program on words, files and writers: what it prints of images and texts of classes, and of words
+//! that ask for nothing; and how it ends where standard output fails. And of what is measured, and printed of it.
+#![tactic(auto)]
+
+#[cfg(test)]
+mod bench;
+#[cfg(test)]
+mod examples;
+#[cfg(test)]
+mod explained;
+#[cfg(test)]
+mod images;
+#[cfg(test)]
+mod objects;
+#[cfg(test)]
+mod packs;
+#[cfg(test)]
+mod pages;
+#[cfg(test)]
+mod refusals;
+#[cfg(test)]
+mod streams;
+#[cfg(test)]
+mod texts;

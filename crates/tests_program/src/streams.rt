@@ -1,0 +1,280 @@
+use class_tool::Printer;
+use radoscls_program::program;
+use std::io::{self, ErrorKind, Write};
+use std::process::Abort;
+use std::sync::Wait;
+use std::thread::Threads;
+use std::time::Clock;
+use tests_folder::{Folder, TWO, run_on};
+
+/// Words that ask for nothing that the program does, or for help.
+static USAGES: [&[&str]; 43] = [
+    &[],
+    &["--help"],
+    &["help"],
+    &["verify"],
+    &["verify", "image", "more"],
+    &["erase", "image"],
+    &["asm", "image"],
+    &["asm", "image", "out", "more"],
+    &["dis"],
+    &["--version"],
+    // no method; one that lacks a field; flags and capacities that are none; a good one behind a bad one
+    &["pack", "out"],
+    &["pack", "out", "f:r:0:0"],
+    &["pack", "out", "f"],
+    &["pack", "out", "f:x:0:0:image"],
+    &["pack", "out", "f::0:0:image"],
+    &["pack", "out", "f:r::0:image"],
+    &["pack", "out", "f:r:65536:0:image"],
+    &["pack", "out", "f:r:0:-1:image"],
+    &["pack", "out", "f:r:0:0", "g:r:0:0:image"],
+    &["pack", "out", "--rules", "3", "f:r:0:0:image"],
+    &["pack", "out", "--rules=02", "f:r:0:0:image"],
+    &["run", "image", "f", "--caller", "0"],
+    &["run", "image", "f", "--caller", "4294967296"],
+    &["run", "image", "f", "--caller", "one"],
+    // no file of events, and two
+    &["sim"],
+    &["sim", "--trace"],
+    &["sim", "text", "text"],
+    // a flag with a value, and one that stands twice
+    &["sim", "--trace=yes", "text"],
+    &["sim", "--trace", "--trace", "text"],
+    // the same of a file of calls; a flag of the other command, and one of none
+    &["cluster"],
+    &["cluster", "text", "text"],
+    &["cluster", "--trace", "text"],
+    &["cluster", "--stats=yes", "text"],
+    &["cluster", "--class", "lock=image", "text"],
+    // a class without its image's file, or without a word that asks it
+    &["sim", "text", "--class"],
+    &["sim", "--class", "two", "text"],
+    &["sim", "--class", "=image", "text"],
+    &["sim", "--class", "a b=image", "text"],
+    &["sim", "--class", "two\t=image", "text"],
+    // a word that asks another class
+    &["sim", "--class", "lock=image", "text"],
+    &["sim", "--class", "obj=image", "text"],
+    &[
+        "sim",
+        "--class",
+        "two=image",
+        "--class",
+        "two=image",
+        "text",
+    ],
+    &[
+        "sim",
+        "--class",
+        "two=image",
+        "--class",
+        "hi=out",
+        "--class",
+        "two=text",
+        "text",
+    ],
+];
+
+/// Whether the program prints nothing of those words, explains its use, ends with 2, and writes no file.
+fn explains<R: Abort + AllocGlobal + Threads + Wait + Clock + Sync>(
+    rt: &R,
+    words: &[&str],
+) -> bool {
+    let mut folder = Folder::of(rt.alloc(), TWO, b"").expect(rt, "memory");
+    run_on(rt, words, &mut folder)
+        .expect(rt, "memory")
+        .explains()
+        && folder.writes == 0
+}
+
+#[test]
+fn explains_its_use(rt: HostRuntime) {
+    for words in &USAGES {
+        assert!(rt; explains(&rt, words));
+    }
+}
+
+/// Words, and what stands in the help or the usage that they get: the forms and phrases are clap's, the texts are the
+/// commands' own.
+static TOLD: [(&[&str], &str); 21] = [
+    (
+        &["--help"],
+        "RADOS object classes in verified BPF\n\nUsage: radoscls <COMMAND>\n",
+    ),
+    (
+        &["--help"],
+        "  verify   Tells whether the methods of a class image are safe\n",
+    ),
+    (
+        &["--help"],
+        "  run      Runs a method of a class image beside an object\n",
+    ),
+    (
+        &["--help"],
+        "  asm      Writes the image of a class from its text\n",
+    ),
+    (
+        &["--help"],
+        "  pack     Writes the image of a class from raw code\n",
+    ),
+    (&["--help"], "  dis      Prints the text of a class image\n"),
+    (&["--version"], "radoscls 0.1.0\n"),
+    (
+        &["--help"],
+        "  sim      Plays a group of nodes from a file of events\n",
+    ),
+    (
+        &["--help"],
+        "  cluster  Plays clients' calls on a cluster in threads\n",
+    ),
+    (&[], "Usage: radoscls <COMMAND>\n"),
+    (
+        &["verify", "--help"],
+        "Usage: radoscls verify [OPTIONS] <IN>\n",
+    ),
+    (
+        &["run", "--help"],
+        "Usage: radoscls run [OPTIONS] <IN> <METHOD>\n",
+    ),
+    (
+        &["asm", "--help"],
+        "Usage: radoscls asm [OPTIONS] <IN> <OUT>\n",
+    ),
+    (
+        &["pack", "--help"],
+        "Usage: radoscls pack [OPTIONS] <OUT> <METHOD>...\n",
+    ),
+    (&["dis", "--help"], "Usage: radoscls dis [OPTIONS] <IN>\n"),
+    (&["sim", "--help"], "Usage: radoscls sim [OPTIONS] <FILE>\n"),
+    (
+        &["cluster", "--help"],
+        "Usage: radoscls cluster [OPTIONS] <FILE>\n",
+    ),
+    (&["erase"], "error: unrecognized subcommand 'erase'\n"),
+    (
+        &["verify"],
+        "error: the following required arguments were not provided:\n  <IN>\n",
+    ),
+    (
+        &["run", "image", "f", "--caller", "0"],
+        "error: invalid value '0' for '--caller <N>'",
+    ),
+    (
+        &["sim", "--class", "two", "text"],
+        "error: no such call or class\n",
+    ),
+];
+
+/// Whether that stands in a text.
+fn stands_in(text: &[u8], part: &str) -> bool {
+    match str::from_utf8(text) {
+        Ok(text) => text.contains(part),
+        Err(_) => false,
+    }
+}
+
+/// Whether the program tells that of those words.
+fn tells<R: Abort + AllocGlobal + Threads + Wait + Clock + Sync>(
+    rt: &R,
+    words: &[&str],
+    part: &str,
+) -> bool {
+    let mut folder = Folder::of(rt.alloc(), TWO, b"").expect(rt, "memory");
+    let ended = run_on(rt, words, &mut folder).expect(rt, "memory");
+    let told = stands_in(&ended.explained, part);
+    drop(ended);
+    told
+}
+
+#[test]
+fn tells_its_use(rt: HostRuntime) {
+    for (words, part) in &TOLD {
+        assert!(rt; tells(&rt, words, part), "{part}");
+    }
+}
+
+/// A writer with room for some bytes, which can let them through or can't.
+#[derive(Drop)]
+struct Limited {
+    room: usize,
+    flushes: bool,
+}
+
+impl Write for Limited {
+    fn write(&mut self, buf: &[u8]) -> io::Result<usize> {
+        if buf.len() > self.room {
+            return Err(io::Error::from(ErrorKind::StorageFull));
+        }
+        self.room -= buf.len();
+        Ok(buf.len())
+    }
+
+    fn flush(&mut self) -> io::Result<()> {
+        if self.flushes {
+            Ok(())
+        } else {
+            Err(io::Error::from(ErrorKind::BrokenPipe))
+        }
+    }
+}
+
+/// The program's name and words behind it, the room of standard output, whether it flushes, and the status.
+type Row = (&'static [&'static str], usize, bool, u8);
+
+/// `f ok 2` and the line feed are seven bytes.
+static LIMITS: [Row; 6] = [
+    (&["radoscls", "verify", "image"], 0, true, 1),
+    (&["radoscls", "verify", "image"], 6, true, 1),
+    (&["radoscls", "verify", "image"], 7, true, 0),
+    (&["radoscls", "verify", "image"], 7, false, 1),
+    (&["radoscls", "asm", "text", "out"], 0, false, 1),
+    (&["radoscls"], 0, true, 2),
+];
+
+const SIM: &[&str] = &["radoscls", "sim", "text"];
+
+/// Two events of which each prints 13 bytes.
+static EVENTS: [Row; 5] = [
+    (SIM, 12, true, 1),
+    (SIM, 13, true, 1),
+    (SIM, 25, true, 1),
+    (SIM, 26, true, 0),
+    (SIM, 26, false, 1),
+];
+
+/// Whether the program ends as a row tells on that text, where standard output is so limited, and standard output has
+/// failed where the status is 1.
+fn ends_with<R: Abort + AllocGlobal + Threads + Wait + Clock + Sync>(
+    rt: &R,
+    text: &str,
+    row: Row,
+) -> bool {
+    let (words, room, flushes, want) = row;
+    let mut err = Limited { room: 0, flushes };
+    let mut folder = Folder::of(rt.alloc(), TWO, text.as_bytes()).expect(rt, "memory");
+    let mut out = Printer::new(Limited { room, flushes });
+    let status = program(rt.alloc(), rt, words, &mut folder, &mut out, &mut err);
+    status == want && out.has_failed() == (want == 1)
+}
+
+/// Each row ends as it tells.
+fn all_end<R: Abort + AllocGlobal + Threads + Wait + Clock + Sync>(
+    rt: &R,
+    text: &str,
+    rows: &[Row],
+) {
+    for row in rows {
+        assert!(rt; ends_with(rt, text, *row), "{}", row.1);
+    }
+}
+
+#[test]
+fn an_event_fails_where_standard_output_does(rt: HostRuntime) {
+    all_end(&rt, "map 1\nmap 2\n", &EVENTS);
+}
+
+#[test]
+fn fails_where_standard_output_does(rt: HostRuntime) {
+    all_end(&rt, ".method f r 0 0\nexit\n", &LIMITS);
+}

@@ -1,0 +1,259 @@
+//! Both edges of each comparison, by hand.
+
+use super::{ALL, ANY, MAX, MIN, Six, TOP, gives, number};
+use abstract_num::{Number, between, constant, loaded, refine};
+use bpf_decode::{Comparison, OpWidth, Width};
+use std::process::Abort;
+
+/// A comparison of a number with a constant, whether it holds, and what is left of the number.
+type Row = (Comparison, bool, Six, u64, Option<Six>);
+
+const FIVE_TO_NINE: Six = (5, 9, 5, 9, 0, ALL);
+
+const TO_TWENTY: Six = (0, 20, 0, 20, 0, ALL);
+
+const SEVEN: Six = (7, 7, 7, 7, 7, 0);
+
+const LONG: [Row; 30] = [
+    (
+        Comparison::SignedGreater,
+        false,
+        ANY,
+        0,
+        Some((0, ALL, MIN, 0, 0, ALL)),
+    ),
+    (
+        Comparison::SignedLess,
+        false,
+        ANY,
+        0,
+        Some((0, TOP - 1, 0, MAX, 0, ALL)),
+    ),
+    (
+        Comparison::SignedLessEqual,
+        true,
+        ANY,
+        ALL,
+        Some((TOP, ALL, MIN, -1, 0, ALL)),
+    ),
+    (Comparison::Equal, true, ANY, 7, Some(SEVEN)),
+    (Comparison::Equal, true, FIVE_TO_NINE, 4, None),
+    (
+        Comparison::Equal,
+        true,
+        (1, ALL, MIN, MAX, 1, ALL - 1),
+        6,
+        None,
+    ),
+    (
+        Comparison::Equal,
+        false,
+        FIVE_TO_NINE,
+        5,
+        Some((6, 9, 6, 9, 0, ALL)),
+    ),
+    (Comparison::Equal, false, SEVEN, 7, None),
+    (
+        Comparison::NotEqual,
+        true,
+        FIVE_TO_NINE,
+        9,
+        Some((5, 8, 5, 8, 0, ALL)),
+    ),
+    (
+        Comparison::NotEqual,
+        true,
+        FIVE_TO_NINE,
+        7,
+        Some(FIVE_TO_NINE),
+    ),
+    (
+        Comparison::NotEqual,
+        true,
+        ANY,
+        ALL,
+        Some((0, ALL - 1, MIN, MAX, 0, ALL)),
+    ),
+    (Comparison::NotEqual, false, ANY, 7, Some(SEVEN)),
+    (
+        Comparison::Greater,
+        true,
+        TO_TWENTY,
+        15,
+        Some((16, 20, 16, 20, 0, ALL)),
+    ),
+    (
+        Comparison::Greater,
+        false,
+        TO_TWENTY,
+        15,
+        Some((0, 15, 0, 15, 0, ALL)),
+    ),
+    (Comparison::Greater, true, ANY, ALL, None),
+    (
+        Comparison::GreaterEqual,
+        true,
+        ANY,
+        TOP,
+        Some((TOP, ALL, MIN, -1, 0, ALL)),
+    ),
+    (Comparison::GreaterEqual, false, ANY, 0, None),
+    (Comparison::Less, true, ANY, 8, Some((0, 7, 0, 7, 0, ALL))),
+    (
+        Comparison::Less,
+        false,
+        TO_TWENTY,
+        8,
+        Some((8, 20, 8, 20, 0, ALL)),
+    ),
+    (
+        Comparison::LessEqual,
+        true,
+        ANY,
+        8,
+        Some((0, 8, 0, 8, 0, ALL)),
+    ),
+    (Comparison::LessEqual, false, TO_TWENTY, 20, None),
+    (
+        Comparison::SignedGreater,
+        true,
+        ANY,
+        ALL,
+        Some((0, TOP - 1, 0, MAX, 0, ALL)),
+    ),
+    (Comparison::SignedGreater, true, ANY, TOP - 1, None),
+    (Comparison::SignedGreaterEqual, true, ANY, TOP, Some(ANY)),
+    (
+        Comparison::SignedGreaterEqual,
+        false,
+        ANY,
+        0,
+        Some((TOP, ALL, MIN, -1, 0, ALL)),
+    ),
+    (
+        Comparison::SignedLess,
+        true,
+        ANY,
+        0,
+        Some((TOP, ALL, MIN, -1, 0, ALL)),
+    ),
+    (
+        Comparison::SignedLessEqual,
+        false,
+        ANY,
+        ALL,
+        Some((0, TOP - 1, 0, MAX, 0, ALL)),
+    ),
+    (Comparison::SharesBits, true, TO_TWENTY, 0, None),
+    (
+        Comparison::SharesBits,
+        false,
+        ANY,
+        4,
+        Some((0, ALL - 4, MIN, MAX, 0, ALL - 4)),
+    ),
+    (Comparison::SharesBits, false, (4, 7, 4, 7, 4, 3), 4, None),
+];
+
+const SHORT: [Row; 5] = [
+    (Comparison::Equal, true, ANY, 7, Some(ANY)),
+    (
+        Comparison::Greater,
+        true,
+        TO_TWENTY,
+        15,
+        Some((16, 20, 16, 20, 0, ALL)),
+    ),
+    (
+        Comparison::SignedGreater,
+        true,
+        (0, 0x8000_0000, 0, 0x8000_0000, 0, ALL),
+        5,
+        Some((0, 0x8000_0000, 0, 0x8000_0000, 0, ALL)),
+    ),
+    (
+        Comparison::SignedGreater,
+        true,
+        (0, 0x7fff_ffff, 0, 0x7fff_ffff, 0, ALL),
+        5,
+        Some((6, 0x7fff_ffff, 6, 0x7fff_ffff, 0, ALL)),
+    ),
+    (
+        Comparison::SharesBits,
+        false,
+        TO_TWENTY,
+        16,
+        Some((0, 20, 0, 20, 0, ALL - 16)),
+    ),
+];
+
+fn first(both: Option<(Number, Number)>) -> Option<Number> {
+    match both {
+        Some(both) => Some(both.0),
+        None => None,
+    }
+}
+
+fn second(both: Option<(Number, Number)>) -> Option<Number> {
+    match both {
+        Some(both) => Some(both.1),
+        None => None,
+    }
+}
+
+/// Whether the row is what the edge leaves of the number.
+fn holds(bits: OpWidth, row: Row) -> bool {
+    let (comparison, taken, six, by, want) = row;
+    match number(six) {
+        Some(x) => gives(
+            first(refine(bits, comparison, taken, x, constant(by))),
+            want,
+        ),
+        None => false,
+    }
+}
+
+/// Each row is what the edge leaves of the number.
+fn all_hold(rt: &impl Abort, bits: OpWidth, rows: &[Row]) {
+    for (i, row) in rows.iter().enumerate() {
+        assert!(rt; holds(bits, *row), "row {i}");
+    }
+}
+
+#[test]
+fn of_64_bits(rt: HostRuntime) {
+    all_hold(&rt, OpWidth::Bits64, &LONG);
+}
+
+#[test]
+fn of_32_bits(rt: HostRuntime) {
+    all_hold(&rt, OpWidth::Bits32, &SHORT);
+}
+
+/// Of a loaded byte no bit is known, so that it may share bit 8.
+#[test]
+fn bits_of_a_loaded_byte(rt: HostRuntime) {
+    let both = refine(
+        OpWidth::Bits64,
+        Comparison::SharesBits,
+        true,
+        loaded(Width::Byte),
+        constant(256),
+    );
+    assert!(rt; gives(first(both), Some((0, 255, 0, 255, 0, ALL))));
+}
+
+/// Both numbers are refined: the second one by the first, and by a constant first one.
+#[test]
+fn second_numbers(rt: HostRuntime) {
+    let (x, y) = (between(0, 20), between(5, 30));
+    let above = refine(OpWidth::Bits64, Comparison::Greater, true, x, y);
+    let apart = refine(OpWidth::Bits64, Comparison::NotEqual, true, constant(5), y);
+    let same = refine(OpWidth::Bits32, Comparison::Equal, true, x, y);
+    assert!(rt;
+        gives(first(above), Some((6, 20, 6, 20, 0, ALL)))
+            && gives(second(above), Some((5, 19, 5, 19, 0, ALL)))
+            && gives(second(apart), Some((6, 30, 6, 30, 0, ALL)))
+            && gives(second(same), Some((5, 20, 5, 20, 0, ALL)))
+    );
+}

@@ -1,0 +1,255 @@
+//! Whole classes: which method is refused, what a verified one keeps, and every byte of an image.
+
+use super::{class, is_judged, method_of, put};
+use bpf_decode::{ClassImage, Method, RuleSet, encode, read_image};
+use bpf_machine::Caps;
+use bpf_ops::{Op, SlotOp};
+use flat_machine::{Ending, Layout, Machine, RunStart, flat_run, is_layout};
+use std::alloc::Global;
+use verifier::{Refusal, Rule, VerifiedClass, VerifiedMethod, first_rule_set, one_table, verify};
+
+/// A safe method, and two that aren't.
+const SAFE: &str = "1 0 0: b700000000000000 9500000000000000 | mov r0, 0; exit";
+
+const JUMP_AND_EXIT: &str = "1 0 0: 0500000000000000 9500000000000000 | ja +0; exit";
+
+const EXIT_ALONE: &str = "1 0 0: 9500000000000000 | exit";
+
+/// A method of flags 2, in_cap 3 and out_cap 4.
+const WRITER: &str =
+    "2 3 4: 0500000000000000 1800000007000000 0000000000000000 9500000000000000 | ja +0; lddw r0, 7; exit";
+
+/// A method `f` of flags 1 and no input and output: `mov r0, 0`, `exit`.
+const IMAGE: [u8; 33] = [
+    0x52, 0x43, 0x4c, 0x31, 1, 0, 0, 0, 1, 0x66, 1, 0, 0, 0, 0, 2, 0, 0xb7, 0, 0, 0, 0, 0, 0, 0,
+    0x95, 0, 0, 0, 0, 0, 0, 0,
+];
+
+static RULES: [(Rule, &str); 17] = [
+    (Rule::Backward, "1 Backward"),
+    (Rule::Target, "2 Target"),
+    (Rule::FallsOff, "3 FallsOff"),
+    (Rule::LocalCall, "4 LocalCall"),
+    (Rule::UnsetRead, "5 UnsetRead"),
+    (Rule::WritesR10, "6 WritesR10"),
+    (Rule::PointerArithmetic, "7 PointerArithmetic"),
+    (Rule::PointerCompare, "8 PointerCompare"),
+    (Rule::PointerStored, "9 PointerStored"),
+    (Rule::Bounds, "10 Bounds"),
+    (Rule::ReadOnlyRegion, "11 ReadOnlyRegion"),
+    (Rule::UnknownHelper, "12 UnknownHelper"),
+    (Rule::HelperArgument, "13 HelperArgument"),
+    (Rule::WriteHelperInReader, "14 WriteHelperInReader"),
+    (Rule::ReturnsPointer, "15 ReturnsPointer"),
+    (Rule::NoMemory, "16 NoMemory"),
+    (Rule::PointerBytes, "17 PointerBytes"),
+];
+
+/// Whether a rule prints so.
+fn is_named(alloc: Global, rule: Rule, text: &str) -> bool {
+    match rule.to_string(alloc) {
+        Ok(printed) => printed.as_str() == text,
+        Err(_) => false,
+    }
+}
+
+#[test]
+fn names_rules(rt: HostRuntime) {
+    for (rule, text) in &RULES {
+        assert!(rt; is_named(rt.alloc(), *rule, text), "{text}");
+    }
+}
+
+/// Whether a refusal prints so.
+fn is_printed(alloc: Global, refusal: &Refusal, text: &str) -> bool {
+    match refusal.to_string(alloc) {
+        Ok(printed) => printed.as_str() == text,
+        Err(_) => false,
+    }
+}
+
+#[test]
+fn prints_refusals(rt: HostRuntime) {
+    let refusal = Refusal {
+        method: 0,
+        slot: 12,
+        rule: Rule::UnsetRead,
+    };
+    assert!(rt;
+        is_printed(
+            rt.alloc(),
+            &refusal,
+            "refused method 0 slot 12: 5 UnsetRead"
+        )
+    );
+}
+
+/// Puts three methods, of which the first is safe; whether all could be.
+fn put_three(alloc: Global, methods: &mut Vec<Method>) -> bool {
+    put(methods, method_of(alloc, "f", SAFE))
+        && put(methods, method_of(alloc, "g", JUMP_AND_EXIT))
+        && put(methods, method_of(alloc, "h", EXIT_ALONE))
+}
+
+/// A class of three methods, of which the first is safe.
+fn three(alloc: Global) -> Option<ClassImage> {
+    let mut methods = Vec::new(alloc);
+    if !put_three(alloc, &mut methods) {
+        return None;
+    }
+    ClassImage::new(methods, RuleSet::One).ok()
+}
+
+#[test]
+fn finds_the_first_method(rt: HostRuntime) {
+    let found = match three(rt.alloc()) {
+        Some(class) => is_judged(rt.alloc(), &class, 1, "1:5"),
+        None => false,
+    };
+    assert!(rt; found);
+}
+
+/// Whether a method has the writer's name, caps and number of instructions.
+fn is_declared(found: &VerifiedMethod) -> bool {
+    let caps = Caps {
+        in_cap: 3,
+        out_cap: 4,
+        writes: true,
+    };
+    found.name() == "f" && found.count() == 3 && found.caps() == caps
+}
+
+/// Which of the method's four slots holds that operation, from 1 on.
+fn place_of(op: &Op) -> usize {
+    match op {
+        Op::Jump(_) => 1,
+        Op::LoadWide(_, 7) => 2,
+        Op::Nothing => 3,
+        Op::Exit => 4,
+        _ => 0,
+    }
+}
+
+/// Whether operations are those of the writer's four slots.
+fn are_writers(ops: &[SlotOp]) -> bool {
+    match ops {
+        [jump, wide, half, exit] => {
+            place_of(jump.op()) == 1
+                && place_of(wide.op()) == 2
+                && place_of(half.op()) == 3
+                && place_of(exit.op()) == 4
+        }
+        _ => false,
+    }
+}
+
+/// Whether a class has one method, which is found by its name and is the writer.
+fn keeps(class: &VerifiedClass) -> bool {
+    match (class.methods(), class.method("f"), class.method("g")) {
+        ([first], Some(found), None) => is_declared(found) && are_writers(first.ops()),
+        _ => false,
+    }
+}
+
+/// Whether a class is accepted with the writer as its method.
+fn keeps_writer(alloc: Global, class: &ClassImage) -> bool {
+    match verify(alloc, class) {
+        Ok(class) => keeps(&class),
+        Err(_) => false,
+    }
+}
+
+#[test]
+fn keeps_what_is_declared(rt: HostRuntime) {
+    one_table();
+    first_rule_set();
+    let kept = match class(rt.alloc(), RuleSet::One, WRITER) {
+        Some(class) => keeps_writer(rt.alloc(), &class),
+        None => false,
+    };
+    assert!(rt; kept);
+}
+
+/// Whether a run on the flat machine with that input comes to its exit within so many steps.
+fn ends(alloc: Global, caps: &Caps, code: &[u8], input: &[u8], limit: usize) -> bool {
+    let layout = Layout {
+        input: 0x1000,
+        output: 0x4000,
+        stack: 0x8000,
+    };
+    if caps.in_cap > 4096 || caps.out_cap > 4096 || input.len() > usize::from(caps.in_cap) {
+        return false;
+    }
+    if !is_layout(caps, &layout) {
+        return false;
+    }
+    let machine = Machine::new(*caps, layout);
+    let start = RunStart {
+        object: None,
+        caller: 1,
+        input,
+    };
+    match flat_run(alloc, &machine, code, &start, limit) {
+        Ok(ending) => matches!(ending, Ending::Ended { .. }),
+        Err(_) => false,
+    }
+}
+
+/// Whether a method with that input comes to its exit.
+fn exits(alloc: Global, method: &Method, caps: &Caps, input: &[u8]) -> bool {
+    let instructions = method.instructions();
+    match encode(alloc, instructions) {
+        Ok(code) => ends(alloc, caps, &code, input, instructions.len()),
+        Err(_) => false,
+    }
+}
+
+/// Whether a method comes to its exit on no input, and on the longest.
+fn exits_on_inputs(alloc: Global, method: &Method, caps: &Caps) -> bool {
+    let most = [0xffu8; 4096];
+    match most.get(..usize::from(caps.in_cap)) {
+        Some(input) => exits(alloc, method, caps, &[]) && exits(alloc, method, caps, input),
+        None => false,
+    }
+}
+
+/// Whether a class that was accepted has one method, which comes to its exit.
+fn its_method_exits(alloc: Global, class: &VerifiedClass, image: &ClassImage) -> bool {
+    match (class.methods(), image.methods()) {
+        ([verified], [method]) => exits_on_inputs(alloc, method, &verified.caps()),
+        _ => false,
+    }
+}
+
+/// Whether the one method of a class comes to its exit; None of a class that isn't accepted.
+fn exits_if_verified(alloc: Global, image: &ClassImage) -> Option<bool> {
+    match verify(alloc, image) {
+        Ok(class) => Some(its_method_exits(alloc, &class, image)),
+        Err(_) => None,
+    }
+}
+
+/// Whether the one method of an image comes to its exit; None of bytes that are no image of a class that is accepted.
+fn exits_if_accepted(alloc: Global, bytes: &[u8]) -> Option<bool> {
+    match read_image(alloc, bytes) {
+        Ok(image) => exits_if_verified(alloc, &image),
+        Err(_) => None,
+    }
+}
+
+#[test]
+fn runs_what_it_accepts(rt: HostRuntime) {
+    let mut accepted = 0usize;
+    for place in 0..IMAGE.len() {
+        for byte in 0..=255u8 {
+            let mut bytes = IMAGE;
+            bytes[place] = byte;
+            if let Some(exits) = exits_if_accepted(rt.alloc(), &bytes) {
+                assert!(rt; exits);
+                accepted = accepted.wrapping_add(1);
+            }
+        }
+    }
+    // the image as it stands, 33 times, and others
+    assert!(rt; accepted > 33);
+}

@@ -1,9 +1,0 @@
-use Rattle.std.proofs.Common.{◌≡◌, length}
-use Rattle.thread_tests.proofs.boards.commit_many.Given as goal
-
-abbrev pub invariant-loop : goal.invariant-loop
-invariant-loop g l = record {
-  board : l.writer.board ≡ l.board;
-  row : l.writer.row ≡ l.initial.writer.row;
-  length : length l.writer.list ≡ l.counter;
-}

@@ -1,4 +1,0 @@
-use Rattle.thread_tests.proofs.locks.eight_threads_append_under_a_lock.Given as goal
-
-abbrev pub ghosts-appended : goal.ghosts-appended
-ghosts-appended g a = record { classes = a.table.now }
