@@ -22,7 +22,7 @@ use Rattle.abstract_num.specs.proved.BitsFacts.{BitsRefine, bits_fact_keeps}
 use Rattle.abstract_num.specs.Plain.{Plain, Number, Holds, GivesBoth, view}
 use Rattle.abstract_num.specs.Tighten.{tighten}
 use Rattle.abstract_num.specs.Transfer.{is_constant}
-use Rattle.abstract_num.specs.Edges.{Pair, told, leaves_nothing, left_of, by_fact, turned, first_of, other_than, both, by_edge, short_end, tells, refined, tightened, along}
+use Rattle.abstract_num.specs.Edges.{Pair, edge_of, leaves_nothing, left_of, by_fact, turned, first_of, other_than, both, by_edge, short_end, tells, refined, tightened, along}
 use Rattle.abstract_num.specs.declared.fact.Fact.{Fact}
 use Rattle.abstract_num.specs.declared.fact.Fact.TheVariants.{Not, NoneOf}
 use Rattle.abstract_num.specs.declared.fact.Edge.{Edge}
@@ -118,29 +118,29 @@ by_edge_keeps Disjoint x y m n h k i =
     (λ _. (h, k))
 
 -- what the comparison's edge tells holds
-told_holds : (c : Comparison) (taken : Bool) (m n : ℕ) → compared c w64 m n ≡ taken → IsEdge (told c taken) m n
-told_holds is.Equal true m n e = grind arith
-told_holds is.Equal false m n e = λ h. grind arith
-told_holds is.NotEqual true m n e = λ h. grind arith
-told_holds is.NotEqual false m n e = grind arith
-told_holds is.Greater true m n e = grind arith
-told_holds is.Greater false m n e = grind arith
-told_holds is.GreaterEqual true m n e = grind arith
-told_holds is.GreaterEqual false m n e = grind arith
-told_holds is.Less true m n e = grind arith
-told_holds is.Less false m n e = grind arith
-told_holds is.LessEqual true m n e = grind arith
-told_holds is.LessEqual false m n e = grind arith
-told_holds is.SignedGreater true m n e = grind (arith, ints)
-told_holds is.SignedGreater false m n e = grind (arith, ints)
-told_holds is.SignedGreaterEqual true m n e = grind (arith, ints)
-told_holds is.SignedGreaterEqual false m n e = grind (arith, ints)
-told_holds is.SignedLess true m n e = grind (arith, ints)
-told_holds is.SignedLess false m n e = grind (arith, ints)
-told_holds is.SignedLessEqual true m n e = grind (arith, ints)
-told_holds is.SignedLessEqual false m n e = grind (arith, ints)
-told_holds is.SharesBits true m n e = λ h. grind arith
-told_holds is.SharesBits false m n e = grind arith
+edge_of_holds : (c : Comparison) (taken : Bool) (m n : ℕ) → compared c w64 m n ≡ taken → IsEdge (edge_of c taken) m n
+edge_of_holds is.Equal true m n e = grind arith
+edge_of_holds is.Equal false m n e = λ h. grind arith
+edge_of_holds is.NotEqual true m n e = λ h. grind arith
+edge_of_holds is.NotEqual false m n e = grind arith
+edge_of_holds is.Greater true m n e = grind arith
+edge_of_holds is.Greater false m n e = grind arith
+edge_of_holds is.GreaterEqual true m n e = grind arith
+edge_of_holds is.GreaterEqual false m n e = grind arith
+edge_of_holds is.Less true m n e = grind arith
+edge_of_holds is.Less false m n e = grind arith
+edge_of_holds is.LessEqual true m n e = grind arith
+edge_of_holds is.LessEqual false m n e = grind arith
+edge_of_holds is.SignedGreater true m n e = grind (arith, ints)
+edge_of_holds is.SignedGreater false m n e = grind (arith, ints)
+edge_of_holds is.SignedGreaterEqual true m n e = grind (arith, ints)
+edge_of_holds is.SignedGreaterEqual false m n e = grind (arith, ints)
+edge_of_holds is.SignedLess true m n e = grind (arith, ints)
+edge_of_holds is.SignedLess false m n e = grind (arith, ints)
+edge_of_holds is.SignedLessEqual true m n e = grind (arith, ints)
+edge_of_holds is.SignedLessEqual false m n e = grind (arith, ints)
+edge_of_holds is.SharesBits true m n e = λ h. grind arith
+edge_of_holds is.SharesBits false m n e = grind arith
 
 -- of short numbers the low halves compare as the whole ones do
 low_half : (m : ℕ) → m < 2 ^ 32 → m % 2 ^ 32 ≡ m
@@ -167,15 +167,15 @@ short_same is.SignedLessEqual m n p q = ap₂ (λ u v. le_z u v) (low_signed m p
 below_end : (b n e : ℕ) → n ≤ b → nat_lt b e ≡ true → n < e
 below_end b n e p t = grind arith
 
-told_along : (bits : OpWidth) (c : Comparison) (x y : Plain) (m n : ℕ) → Holds x m → Holds y n → tells bits c x y ≡ true → is_taken bits c m n ≡ compared c w64 m n
-told_along Bits64 c x y m n h k e = refl
-told_along Bits32 c x y m n h k e =
+edge_of_along : (bits : OpWidth) (c : Comparison) (x y : Plain) (m n : ℕ) → Holds x m → Holds y n → tells bits c x y ≡ true → is_taken bits c m n ≡ compared c w64 m n
+edge_of_along Bits64 c x y m n h k e = refl
+edge_of_along Bits32 c x y m n h k e =
     short_same c m n (below_end x.high m (short_end c) h.below (and_first _ _ e)) (below_end y.high n (short_end c) k.below (and_second _ _ e))
 
 refined_keeps : (bits : OpWidth) (c : Comparison) (taken : Bool) (x y : Plain) (m n : ℕ) → Holds x m → Holds y n → is_taken bits c m n ≡ taken → KeptBoth (refined bits c taken x y) m n
 refined_keeps bits c taken x y m n h k t =
-    cond_both (λ o. KeptBoth o m n) (tells bits c x y) (by_edge (told c taken) x y) (Some (x, y))
-    (λ e. by_edge_keeps (told c taken) x y m n h k (told_holds c taken m n (sym (told_along bits c x y m n h k e) ∙ t)))
+    cond_both (λ o. KeptBoth o m n) (tells bits c x y) (by_edge (edge_of c taken) x y) (Some (x, y))
+    (λ e. by_edge_keeps (edge_of c taken) x y m n h k (edge_of_holds c taken m n (sym (edge_of_along bits c x y m n h k e) ∙ t)))
     (λ _. (h, k))
 
 tightened_keeps : (o : Option Pair) (m n : ℕ) → KeptBoth o m n → KeptBoth (option_and_then tightened o) m n

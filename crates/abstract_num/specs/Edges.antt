@@ -16,29 +16,29 @@ use Rattle.abstract_num.specs.declared.fact.Edge.{Edge}
 use Rattle.abstract_num.specs.declared.fact.Edge.TheVariants.{Ahead, Turned, Apart, Disjoint}
 
 -- How the first and the second number stand to one another where a comparison holds, and where it doesn't.
-abbrev pub told : Comparison → Bool → Edge
-told is.Equal true = Ahead Same
-told is.Equal false = Apart
-told is.NotEqual true = Apart
-told is.NotEqual false = Ahead Same
-told is.Greater true = Ahead Above
-told is.Greater false = Turned AtLeast
-told is.GreaterEqual true = Ahead AtLeast
-told is.GreaterEqual false = Turned Above
-told is.Less true = Turned Above
-told is.Less false = Ahead AtLeast
-told is.LessEqual true = Turned AtLeast
-told is.LessEqual false = Ahead Above
-told is.SignedGreater true = Ahead SignedAbove
-told is.SignedGreater false = Turned SignedAtLeast
-told is.SignedGreaterEqual true = Ahead SignedAtLeast
-told is.SignedGreaterEqual false = Turned SignedAbove
-told is.SignedLess true = Turned SignedAbove
-told is.SignedLess false = Ahead SignedAtLeast
-told is.SignedLessEqual true = Turned SignedAtLeast
-told is.SignedLessEqual false = Ahead SignedAbove
-told is.SharesBits true = Ahead Meets
-told is.SharesBits false = Disjoint
+abbrev pub edge_of : Comparison → Bool → Edge
+edge_of is.Equal true = Ahead Same
+edge_of is.Equal false = Apart
+edge_of is.NotEqual true = Apart
+edge_of is.NotEqual false = Ahead Same
+edge_of is.Greater true = Ahead Above
+edge_of is.Greater false = Turned AtLeast
+edge_of is.GreaterEqual true = Ahead AtLeast
+edge_of is.GreaterEqual false = Turned Above
+edge_of is.Less true = Turned Above
+edge_of is.Less false = Ahead AtLeast
+edge_of is.LessEqual true = Turned AtLeast
+edge_of is.LessEqual false = Ahead Above
+edge_of is.SignedGreater true = Ahead SignedAbove
+edge_of is.SignedGreater false = Turned SignedAtLeast
+edge_of is.SignedGreaterEqual true = Ahead SignedAtLeast
+edge_of is.SignedGreaterEqual false = Turned SignedAbove
+edge_of is.SignedLess true = Turned SignedAbove
+edge_of is.SignedLess false = Ahead SignedAtLeast
+edge_of is.SignedLessEqual true = Turned SignedAtLeast
+edge_of is.SignedLessEqual false = Ahead SignedAbove
+edge_of is.SharesBits true = Ahead Meets
+edge_of is.SharesBits false = Disjoint
 
 abbrev pub Pair : Type 0
 Pair = Plain × Plain
@@ -99,7 +99,7 @@ tells Bits32 comparison x y = nat_lt x.high (short_end comparison) && nat_lt y.h
 
 abbrev pub refined : OpWidth → Comparison → Bool → Plain → Plain → Option Pair
 refined bits comparison taken x y =
-    (if tells bits comparison x y then by_edge (told comparison taken) x y else Some (x, y))
+    (if tells bits comparison x y then by_edge (edge_of comparison taken) x y else Some (x, y))
 
 -- both tightened once
 abbrev pub tightened : Pair → Option Pair

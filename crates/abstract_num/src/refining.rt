@@ -1,7 +1,7 @@
 ghost use Rattle.std.specs.Prelude.{◌≡◌, ℕ, IsSomeAnd, MatchOption, Some, None};
 ghost use Rattle.bpf_decode.specs.Arithmetic.{is_taken};
 ghost use Rattle.abstract_num.specs.Plain.{Gives, GivesBoth, Holds, view};
-ghost use Rattle.abstract_num.specs.Edges.{along, by_edge, by_fact, is_signed, other_than, refined, short_end, tells, told};
+ghost use Rattle.abstract_num.specs.Edges.{along, by_edge, by_fact, edge_of, is_signed, other_than, refined, short_end, tells};
 
 use crate::domain::Domain;
 use crate::fact::{Edge, Fact};
@@ -11,8 +11,8 @@ use crate::transfer::is_constant;
 use bpf_decode::{Comparison, OpWidth};
 
 /// How the two numbers stand to one another where a comparison holds, and where it doesn't.
-fn told(comparison: Comparison, taken: bool) -> Edge
-    ensures { result ≡ told comparison taken }
+fn edge_of(comparison: Comparison, taken: bool) -> Edge
+    ensures { result ≡ edge_of comparison taken }
 {
     match comparison {
         Comparison::Equal if taken => Edge::Ahead(Fact::Same),
@@ -144,7 +144,7 @@ fn refined(
     ensures { GivesBoth (refined bits comparison taken (view x) (view y)) result }
 {
     if tells(bits, comparison, x, y) {
-        by_edge(told(comparison, taken), x, y)
+        by_edge(edge_of(comparison, taken), x, y)
     } else {
         Some((x, y))
     }

@@ -11,7 +11,7 @@ use Rattle.abstract_regs.specs.Seen.{seen_both}
 abbrev pub refined : PlainFrame → Refined → PlainFrame
 refined g r = with_both g r.dst r.source (seen_both r.kinds)
 
--- where the slot behind the instruction is next, and the frame that flowed is g
+-- where the slot after the instruction is next, and the frame that flowed is g
 abbrev pub with_edges : Edges → ℕ → PlainFrame → List (ℕ × PlainFrame)
 with_edges Leaves next g = []
 with_edges Falls next g = (next, g) ∷ []

@@ -67,7 +67,7 @@ after_answer f = record { registers = Num any ∷ Unset ∷ Unset ∷ Unset ∷ 
 abbrev pub after_call : Option ℕ → PlainFrame → PlainFrame
 after_call room f = after_answer (with_slots f (spoiled (room_span f room) 0 f.slots))
 
--- the kind of what an instruction reads beside its destination
+-- the kind of what an instruction reads besides its destination
 abbrev pub operand_kind : PlainFrame → Operand → PlainKind
 operand_kind f (Immediate imm) = Num (constant (extended imm))
 operand_kind f (Register r) = kind_at f r

@@ -77,7 +77,7 @@ pub record Overwrites (vs : List (Option Value)) (r : Region) (at n : ℕ) (ws :
   pub others : (j : ℕ) → ¬ ((1 ≤ n) × Reached r at n j) → value_at ws j ≡ value_at vs j
   pub numbers : (j : ℕ) → IsNumber (value_at vs j) → IsNumber (value_at ws j)
 
--- The range begins at the register that is given: a pointer, and a length behind it.
+-- The range begins at the register that is given: a pointer, and a length after it.
 abbrev pub Overwritten : Option ℕ → List (Option Value) → List (Option Value) → List (Option Value) → Type 0
 Overwritten None cs vs ws = ws ≡ vs
 Overwritten (Some k) cs vs ws =

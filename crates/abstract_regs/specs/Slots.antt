@@ -7,7 +7,7 @@ use Rattle.abstract_regs.specs.declared.content.Content.TheVariants as contents
 use Rattle.abstract_regs.specs.Kind.{PlainKind, Unset, Num, Ptr, is_unset, is_ptr, last_place}
 use Rattle.bpf_decode.specs.declared.region.Region.TheVariants.{Input, Output, Stack}
 
--- bytes of the stack: the lowest place of the first, and the one behind the highest place of the last
+-- bytes of the stack: the lowest place of the first, and the one after the highest place of the last
 pub record Span : Type 0 where
   pub low : ℕ
   pub high : ℕ
@@ -44,7 +44,7 @@ slot_kind slots (Some j) = slice_get slots j
 
 -- ---- a helper's ranges
 
--- the bytes from an offset on, so many; none, where the length can only be 0
+-- the bytes from an offset on, that many; none, where the length can only be 0
 abbrev pub range_span : Plain → Plain → Option Span
 range_span at len = if len.high == 0 then None else Some (record { low = at.low; high = at.high + len.high })
 

@@ -6,11 +6,11 @@ use bpf_decode::{Operand, Register};
 pub enum Edges {
     /// Nowhere.
     Leaves,
-    /// To the instruction behind it.
+    /// To the instruction after it.
     Falls,
     /// To a jump's target.
     Jumps(usize),
-    /// To a jump's target; else to the instruction behind it, with other kinds of what was compared.
+    /// To a jump's target; else to the instruction after it, with other kinds of what was compared.
     Branches(usize, Refined),
 }
 

@@ -77,7 +77,7 @@ impl Frame {
         }
     }
 
-    /// What a load gives: what is known of the slot that it is, or else a number of so many bytes.
+    /// What a load gives: what is known of the slot that it is, or else a number of that many bytes.
     fn loaded(&self, width: Width, base: Register, offset: i16) -> Kind
         ensures { Some (seen result) ≡ loaded_kind (kept_kind self.now (kind_at self.now base) (extended offset) (byte_count width)) (option_map plain.Num (tighten (ranged 0 (load_high width)))) }
     {

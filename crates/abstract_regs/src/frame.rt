@@ -190,7 +190,7 @@ impl Frame {
         }
     }
 
-    /// The kind of what an instruction reads beside its destination.
+    /// The kind of what an instruction reads besides its destination.
     pub fn operand(&self, source: Operand) -> Kind
         ensures { seen result ≡ operand_kind self.now source }
     {

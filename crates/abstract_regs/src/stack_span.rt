@@ -35,7 +35,7 @@ impl StackSpan {
         (self.low / 8) as usize
     }
 
-    /// The slot behind the last that may have one of them, of so many slots.
+    /// The slot after the last that may have one of them, of that many slots.
     pub fn end(&self, count: usize) -> usize
         ensures { result ≡ min count ((self.now.high + 7) / 8) }
     {

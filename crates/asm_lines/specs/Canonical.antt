@@ -85,7 +85,7 @@ directive_line m = codes ".method " ++ m.name ++ codes " " ++ flags_text m.flags
 abbrev pub method_text : ClassMethod → List ℕ
 method_text m = directive_line m ++ codes "\n" ++ canonical_text m.instructions
 
--- methods, one behind the other
+-- methods, one after the other
 abbrev pub methods_text : List ClassMethod → List ℕ
 methods_text ms = flat_map method_text ms
 

@@ -14,7 +14,7 @@ decimal_number ds = if is_decimal ds then Some (digits_value 10 ds) else None
 unfoldable pub hex_number : List ℕ → Option ℕ
 hex_number ds = if all_digits 16 ds && nat_le (length ds) 16 then Some (digits_value 16 ds) else None
 
--- a number without a sign: decimal, or to base 16 behind `0x`
+-- a number without a sign: decimal, or to base 16 after `0x`
 unfoldable pub natural : List ℕ → Option ℕ
 natural text = if slice_index text 0 == 48 && slice_index text 1 == 120 then hex_number (drop 2 text) else decimal_number text
 
@@ -31,11 +31,11 @@ abbrev pub as_nonnegative : Result ℕ AsmFault → Result Number AsmFault
 as_nonnegative (Ok n) = Ok (record { negative = false; magnitude = n })
 as_nonnegative (Err fault) = Err fault
 
--- the number behind a `-`, down to minus `below`: -0 isn't read
+-- the number after a `-`, down to minus `below`: -0 isn't read
 unfoldable pub minus_within : ℕ → List ℕ → Result Number AsmFault
 minus_within below text = as_negative (natural_within below (natural text))
 
--- the number behind a `+` or no sign, up to `above`
+-- the number after a `+` or no sign, up to `above`
 unfoldable pub plus_within : ℕ → List ℕ → Result Number AsmFault
 plus_within above text = as_nonnegative (natural_within above (natural text))
 

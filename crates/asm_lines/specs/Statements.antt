@@ -27,12 +27,12 @@ header_with named name (Some flags) caps =
     filled (λ p. record { name = name; flags = flags; in_cap = p.0; out_cap = p.1 }) (both (unsigned_of CAPACITY_LIMIT (first_word caps)) (unsigned_of CAPACITY_LIMIT (after_word caps)))
     else Err faults.Operand
 
--- what stands behind `.method`: a name, flags, and the capacities of input and output
+-- what stands after `.method`: a name, flags, and the capacities of input and output
 unfoldable pub header_of : List ℕ → Result MethodHeader AsmFault
 header_of text =
     header_with (is_method_name (first_word text)) (first_word text) (flags_of (first_word (after_word text))) (after_word (after_word text))
 
--- what stands behind `.rules`: 2, since a class of rule set 1 has no such line
+-- what stands after `.rules`: 2, since a class of rule set 1 has no such line
 abbrev pub rules_of : List ℕ → Result RuleSet AsmFault
 rules_of text = if bytes_eq text (codes "2") then Ok Two else Err faults.Operand
 

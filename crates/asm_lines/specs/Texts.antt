@@ -30,14 +30,14 @@ trim text = trim_end (trim_start text)
 unfoldable pub content : List ℕ → List ℕ
 content line = trim (before_first (λ c. c == 59) line)
 
--- the first word, and what stands behind it and its blanks
+-- the first word, and what stands after it and its blanks
 unfoldable pub first_word : List ℕ → List ℕ
 first_word text = before_first is_blank text
 
 unfoldable pub after_word : List ℕ → List ℕ
 after_word text = trim_start (drop (length (before_first is_blank text)) text)
 
--- the text before and behind the first comma, if there is one
+-- the text before and after the first comma, if there is one
 unfoldable pub cut : List ℕ → Option (List ℕ × List ℕ)
 cut text =
     if nat_lt (position_or_len (λ c. c == 44) text) (length text) then Some (before_first (λ c. c == 44) text, after_first (λ c. c == 44) text) else None

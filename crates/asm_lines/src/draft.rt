@@ -217,7 +217,7 @@ fn with_operands(form: Form, rest: &[u8]) -> Result<Draft, AsmFault>
         Form::JumpLong => match one_far(rest) { Ok(target) => Ok(Draft::JumpLong(target)), Err(fault) => Err(fault) },
         Form::Branch(bits, comparison) => match branch_operands(rest) { Ok((dst, (source, target))) => Ok(Draft::Branch(bits, comparison, dst, source, target)), Err(fault) => Err(fault) },
         Form::Call => match lone(rest) { Some(a) => call(a), None => Err(AsmFault::Operand) },
-        _ => match plain(form, rest) { Ok(insn) => Ok(Draft::Plain(insn)), Err(fault) => Err(fault) },
+        Form::Alu(_, _) | Form::Neg(_) | Form::Mov(_) | Form::MovSigned(_) | Form::End(_, _) | Form::LoadWide | Form::Load(_) | Form::LoadSigned(_) | Form::StoreNumber(_) | Form::StoreRegister(_) | Form::Exit => match plain(form, rest) { Ok(insn) => Ok(Draft::Plain(insn)), Err(fault) => Err(fault) },
     }
 }
 

@@ -66,7 +66,7 @@ impl GroupWork for Filling<'_> {
     }
 }
 
-/// The request after so many: every object is locked and unlocked by client 1, and then the next one.
+/// The request after that many: every object is locked and unlocked by client 1, and then the next one.
 fn request(alloc: Global, before: u32) -> Result<Request> {
     let place = before / 2 % OBJECTS;
     let object = format!(in alloc; "object {place}")?;

@@ -37,7 +37,7 @@ fn line<C: Clock, O: io::Write>(
     print(alloc, clock, &Assembly { text: &text }, labels, out)
 }
 
-/// Prints the line of a text with so many labels.
+/// Prints the line of a text with that many labels.
 fn print<C: Clock, O: io::Write>(
     alloc: Global,
     clock: Option<&C>,

@@ -6,7 +6,7 @@ use std::alloc::Global;
 use std::fmt;
 use std::time::{Clock, Instant};
 
-/// What stands after a line: a time of so many picoseconds, where one was taken.
+/// What stands after a line: a time of that many picoseconds, where one was taken.
 #[derive(Clone, Copy)]
 pub enum Time {
     /// Prints as microseconds.
@@ -37,7 +37,7 @@ impl fmt::Display for Time {
     }
 }
 
-/// The least picoseconds that each of so many took, of so many runs, where there is a clock.
+/// The least picoseconds that each of that many took, of that many runs, where there is a clock.
 pub fn least_of<C: Clock, W: Work>(
     alloc: Global,
     clock: Option<&C>,

@@ -20,7 +20,7 @@ use Rattle.bench_table.specs.declared.workload.Workload.{Workload}
 
 -- ---- what it prints
 
--- a number of so many characters at least, with spaces before it
+-- a number of that many characters at least, with spaces before it
 abbrev pub right : ℕ → ℕ → List ℕ
 right width n = styled_decimal (format_spec 32 3 0 width (2 ^ 64 - 1)) n
 
@@ -28,7 +28,7 @@ right width n = styled_decimal (format_spec 32 3 0 width (2 ^ 64 - 1)) n
 abbrev pub zeros : ℕ → ℕ → List ℕ
 zeros width n = styled_decimal (format_spec 32 0 4 width (2 ^ 64 - 1)) n
 
--- a text of so many characters at least, with spaces behind it
+-- a text of that many characters at least, with spaces after it
 abbrev pub left : ℕ → List ℕ → List ℕ
 left width text = styled_text (format_spec 32 1 0 width (2 ^ 64 - 1)) text
 
@@ -94,7 +94,7 @@ AreLines mode (w ∷ ws) (line ∷ lines) = IsLine mode w line × AreLines mode 
 AreLines mode [] (line ∷ lines) = ⊥
 AreLines mode (w ∷ ws) [] = ⊥
 
--- `append` is measured behind 100 entries and behind 60,000, where times are taken
+-- `append` is measured after 100 entries and after 60,000, where times are taken
 abbrev pub AreAppends : Mode → Option AppendLines → Type 0
 AreAppends Dry lines = lines ≡ None
 AreAppends Timed lines = (l : AppendLines) × (lines ≡ Some l) × (l.short.behind ≡ 100) × (l.long.behind ≡ 60000)

@@ -13,7 +13,7 @@ use Rattle.bench_table.specs.declared.workload.Ready.{Ready}
 abbrev pub exit : List ℕ
 exit = 0x95 ∷ 0 ∷ 0 ∷ 0 ∷ 0 ∷ 0 ∷ 0 ∷ 0 ∷ []
 
--- the head, the cycle so many times, and `exit`
+-- the head, the cycle that many times, and `exit`
 abbrev pub code_bytes : Workload → List ℕ
 code_bytes w = flat_map (λ x. x) w.head ++ repeat w.rounds (flat_map (λ x. x) w.cycle) ++ exit
 
@@ -33,7 +33,7 @@ abbrev pub first_length : List ClassMethod → ℕ
 first_length [] = 0
 first_length (m ∷ ms) = length m.instructions
 
--- the run of the method `f` beside no object, for client 1 and on no input has so many steps on the flat machine
+-- the run of the method `f` beside no object, for client 1 and on no input has that many steps on the flat machine
 pub record RunsIn (class : List ClassMethod) (steps : ℕ) : Type 0 where
   pub method : ClassMethod
   pub named : method_named class (codes "f") ≡ Some method

@@ -25,7 +25,7 @@ const CALLS: usize = 1_000;
 /// The requests of a measurement of `append`.
 const REQUESTS: u32 = 4_096;
 
-/// The picoseconds that each of `count` took, where all took so many nanoseconds; at most 2^64 - 1.
+/// The picoseconds that each of `count` took, where all took that many nanoseconds; at most 2^64 - 1.
 pub fn picos_each(nanos: u128, count: usize) -> u64
     requires { 1 ≤ count }
     ensures { result ≡ picos_each nanos count }
@@ -48,7 +48,7 @@ impl Least {
         Least { picos: u64::MAX }
     }
 
-    /// Notes a measurement, in which so many took so many nanoseconds.
+    /// Notes a measurement, in which that many took that many nanoseconds.
     pub fn note(&mut self, nanos: u128, count: usize)
         requires { 1 ≤ count }
         ensures { self.new.picos ≡ min self.old.picos (picos_each nanos count) }
@@ -93,7 +93,7 @@ impl Work for Beside {
     }
 }
 
-/// The least picoseconds that each of so many took, of so many runs.
+/// The least picoseconds that each of that many took, of that many runs.
 pub fn least_picos<C: Clock, W: Work>(
     alloc: Global,
     clock: &C,
@@ -112,13 +112,13 @@ pub fn least_picos<C: Clock, W: Work>(
     Ok(least.picos)
 }
 
-/// The least picoseconds that a call of a method took, of so many runs.
+/// The least picoseconds that a call of a method took, of that many runs.
 pub fn time_call<C: Clock>(alloc: Global, clock: &C, ready: &Ready, runs: usize) -> Result<u64> {
     let calls = UNITS / ready.steps.max(1) + 1;
     least_picos(alloc, clock, &ready.class, calls, runs)
 }
 
-/// The least picoseconds that a call beside an object took, of so many runs.
+/// The least picoseconds that a call beside an object took, of that many runs.
 pub fn time_beside<C: Clock>(
     alloc: Global,
     clock: &C,
@@ -129,13 +129,13 @@ pub fn time_beside<C: Clock>(
     least_picos(alloc, clock, &beside, CALLS, runs)
 }
 
-/// The least picoseconds that `verify` took of a method's class, of so many runs.
+/// The least picoseconds that `verify` took of a method's class, of that many runs.
 pub fn time_verify<C: Clock>(alloc: Global, clock: &C, ready: &Ready, runs: usize) -> Result<u64> {
     let passes = UNITS / ready.instructions.max(1) / 10 + 1;
     least_picos(alloc, clock, &ready.image, passes, runs)
 }
 
-/// The least picoseconds that an `append` to a group took that has so many entries, of so many runs: of requests of one
+/// The least picoseconds that an `append` to a group took that has that many entries, of that many runs: of requests of one
 /// client for the method `f` of a class.
 pub fn time_append<C: Clock>(
     alloc: Global,
@@ -176,7 +176,7 @@ fn requests(alloc: Global, class: usize, count: u32) -> Result<Vec<Request>> {
     Ok(requests)
 }
 
-/// Appends requests to a group, and gives the nanoseconds that those took which came behind the first ones.
+/// Appends requests to a group, and gives the nanoseconds that those took which came after the first ones.
 #[derive(Drop)]
 struct Appends<'a, C> {
     clock: &'a C,
@@ -195,7 +195,7 @@ impl<T: Clock> GroupWork for Appends<'_, T> {
     }
 }
 
-/// Appends so many requests, and gives the nanoseconds that those behind them took.
+/// Appends that many requests, and gives the nanoseconds that those after them took.
 fn timed<C: Classes, T: Clock>(
     clock: &T,
     table: &ClassTable,
@@ -211,7 +211,7 @@ fn timed<C: Classes, T: Clock>(
     Ok(start.elapsed(clock)?.as_nanos())
 }
 
-/// Appends so many requests, from the end of a list.
+/// Appends that many requests, from the end of a list.
 fn append<C: Classes>(
     table: &ClassTable,
     group: &mut Group<C>,

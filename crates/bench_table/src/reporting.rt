@@ -14,7 +14,7 @@ use std::io;
 use std::time::Clock;
 
 /// Prints the table: a line for each method and, where it is timed, one for each call beside an object, and one for
-/// `append` at each length, of the method of four steps. Each time is the least of so many.
+/// `append` at each length, of the method of four steps. Each time is the least of that many.
 pub fn report<C: Clock, O: io::Write>(
     alloc: Global,
     clock: &C,
@@ -170,7 +170,7 @@ fn appends<C: Clock>(
     }
 }
 
-/// The time of an `append` behind so many entries.
+/// The time of an `append` after that many entries.
 fn append_line<C: Clock>(alloc: Global, clock: &C, runs: usize, behind: u32) -> Result<AppendLine>
     ensures { IfOk result (λ line. line.behind ≡ behind) }
 {

@@ -118,13 +118,13 @@ impl Beside {
     }
 }
 
-/// An object of so many bytes of data.
+/// An object of that many bytes of data.
 fn of_length(alloc: Global, len: usize) -> Result<Object, StoreError> {
     let data = vec![in alloc; 0x5au8; len]?;
     calls::write(alloc, None, 0, &data)
 }
 
-/// An object of so many bytes of data, with so many keys of two bytes with values of 4,096.
+/// An object of that many bytes of data, with that many keys of two bytes with values of 4,096.
 fn with_keys(alloc: Global, len: usize, count: u16) -> Result<Object, StoreError> {
     let mut object = of_length(alloc, len)?;
     for n in 0..count {

@@ -7,7 +7,7 @@ use crate::mode::Mode;
 use crate::subject::Subject;
 use std::fmt;
 
-/// A time of so many picoseconds, which prints as nanoseconds with two digits.
+/// A time of that many picoseconds, which prints as nanoseconds with two digits.
 #[derive(Clone, Copy)]
 pub struct Nanos {
     pub picos: u64,
@@ -30,7 +30,7 @@ pub struct Line {
     pub times: Option<Times>,
 }
 
-/// What an `append` takes behind so many entries.
+/// What an `append` takes after that many entries.
 #[derive(Clone, Copy)]
 pub struct AppendLine {
     pub behind: u32,

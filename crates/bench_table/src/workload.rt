@@ -10,7 +10,7 @@ use verifier::{VerifiedClass, verify};
 /// A slot's bytes (RFC 9669 section 3).
 type Slot = [u8; 8];
 
-/// A method that is measured: three slots, four more so many times, and `exit`. It reads no object, and takes no input.
+/// A method that is measured: three slots, four more that many times, and `exit`. It reads no object, and takes no input.
 #[derive(Drop)]
 pub struct Workload {
     /// What the table calls it.

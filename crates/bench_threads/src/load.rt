@@ -58,7 +58,7 @@ impl Load {
         }
     }
 
-    /// Makes so many calls by a new session at that place. Answers how many were replied to.
+    /// Makes that many calls by a new session at that place. Answers how many were replied to.
     pub fn replied<N: ClusterName, R: Wait>(
         self,
         alloc: Global,

@@ -26,7 +26,7 @@ pub split_line : (xs ys : List ℕ) → Free (λ c. c == 10) xs → slice_split 
 split_line [] ys f = refl
 split_line (x ∷ xs) ys f = rw (f.0, split_line xs ys f.1) refl
 
--- what the lines of instructions say, and the empty line behind the last line feed
+-- what the lines of instructions say, and the empty line after the last line feed
 abbrev pub stated : List Insn → List Statement
 stated [] = Empty ∷ []
 stated (i ∷ is) = Instruction (Ok (unresolved i)) ∷ stated is

@@ -28,7 +28,7 @@ use Rattle.bpf_asm.proofs.ClassTexts.{class_texts_give_back}
 use Rattle.bpf_asm.proofs.GrammarLemmas.{lines_read, read_lines, lines_have}
 use Rattle.bpf_decode.specs.declared.limits.TheConstants.{METHOD_LIMIT}
 
--- behind a method anything may stand, before the first nothing
+-- after a method anything may stand, before the first nothing
 abbrev Begun : List ClassMethod → List Statement → Type 0
 Begun [] ss = BeginsWithMethod ss
 Begun (d ∷ ds) ss = Unit {0}
@@ -196,7 +196,7 @@ read_with rules (Ok ms) c h =
     let same : class_with rules ms ≡ c = cc in
     (ap (λ (x : Class). Ok x.methods) same, ap (λ (x : Class). x.rules) same)
 
--- what class_from reads behind the rule set
+-- what class_from reads after the rule set
 behind : (c : Class) (line : ℕ) (ss all : List Statement) → class_from [] line ss ≡ Ok c.methods → (SayMethods ss c.methods → SayMethods all c.methods) → (BeginsWithMethod ss → BeginsWith c.rules all) → AreClassLines all c
 behind c line ss all h says begins =
     let w = was_class [] line ss c.methods (omega arith) h in

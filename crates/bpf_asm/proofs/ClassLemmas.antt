@@ -44,7 +44,7 @@ names_ascii (b ∷ bs) h = IsAscii-cons b bs (name_byte_small b (and_left (is_na
 pub names_text : (name : List ℕ) → IsTrue (are_name_bytes name) → IsUtf8 name
 names_text name h = IsUtf8-from_ascii name (names_ascii name h)
 
--- a method whose fields pass each test is right behind that name
+-- a method whose fields pass each test is right after that name
 pub passes : (before : List ℕ) (m : ClassMethod) → between 1 NAME_LIMIT (length m.name) ≡ true → are_name_bytes m.name ≡ true → is_above before m.name ≡ true → between 1 3 m.flags ≡ true → between 0 CAPACITY_LIMIT m.in_cap ≡ true → between 0 CAPACITY_LIMIT m.out_cap ≡ true → between 1 SLOT_LIMIT (slot_total m.instructions) ≡ true → method_after before m ≡ Ok m
 passes before m a b c d e f g = rw (a, b, c, d, e, f, g) refl
 
@@ -56,14 +56,14 @@ onto (Ok f) (Ok others) t x xs ys h g =
     let rest : others ≡ xs = cc in
     rw (g (ap (λ v. Ok v) rest), first) refl
 
--- one method more behind right ones
+-- one method more after right ones
 pub one_more : (done : ℕ) (before : List ℕ) (ms : List ClassMethod) (m : ClassMethod) → methods_after done before ms ≡ Ok ms → method_after (last_name before ms) m ≡ Ok m → methods_after done before (ms ++ (m ∷ [])) ≡ Ok (ms ++ (m ∷ []))
 unfolding methods_after
 one_more done before [] m h k = rw k refl
 one_more done before (x ∷ xs) m h k =
     onto (after done (method_after before x)) (methods_after (done + 1) x.name xs) (methods_after (done + 1) x.name (xs ++ (m ∷ []))) x xs (xs ++ (m ∷ [])) h (λ e. one_more (done + 1) x.name xs m e k)
 
--- a method of a header within the limits, whose slots are within theirs, is right behind the name of the last one
+-- a method of a header within the limits, whose slots are within theirs, is right after the name of the last one
 pub header_passes : (before : List ℕ) (h : MethodHeader) (m : ClassMethod) → IsTrue (is_header h) → is_above before h.name ≡ true → m.name ≡ h.name → m.flags ≡ h.flags → m.in_cap ≡ h.in_cap → m.out_cap ≡ h.out_cap → 1 ≤ slot_total m.instructions → slot_total m.instructions ≤ SLOT_LIMIT → method_after before m ≡ Ok m
 header_passes before h m valid above a b c d some few =
     let in_all = and_left (is_method_name h.name && between 1 3 h.flags && between 0 CAPACITY_LIMIT h.in_cap) (between 0 CAPACITY_LIMIT h.out_cap) valid in
@@ -108,7 +108,7 @@ class_stops ms e line i header lines x inside at is (inl h) = inl h
 class_stops ms e line i header lines x inside at is (inr h) =
     inr (ap (class_from ms line) (line_parts lines i x (Directive header) inside at is) ∙ stopped ms e line header (drop (i + 1) lines) h)
 
--- reading goes on behind a method that was read
+-- reading goes on after a method that was read
 pub class_goes_on : (ms : List ClassMethod) (m : ClassMethod) (line i : ℕ) (header : Result MethodHeader AsmFault) (lines : List Statement) (x : Statement) → i < length lines → x ≡ get_or lines i x → x ≡ Directive header → method_at ms line header (before_first is_directive (drop (i + 1) lines)) ≡ Ok m → class_from ms line (drop i lines) ≡ class_from (ms ++ (m ∷ [])) (line + 1) (drop (i + 1) lines)
 class_goes_on ms m line i header lines x inside at is read =
     ap (class_from ms line) (line_parts lines i x (Directive header) inside at is) ∙ class_step ms m line header (drop (i + 1) lines) read

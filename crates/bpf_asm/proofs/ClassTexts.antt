@@ -59,7 +59,7 @@ method_name m h =
 
 -- ---- the line that begins a method
 
--- the first word of words, and what stands behind it
+-- the first word of words, and what stands after it
 word_first : (w : List ℕ) (rest : List ℕ) → list_all is_plain w ≡ true → first_word (w ++ (32 ∷ rest)) ≡ w
 unfolding first_word
 word_first w rest p = before_at is_blank w 32 rest (blanks_free w p) refl
@@ -69,7 +69,7 @@ unfolding after_word
 word_after w x xs p s =
     rw (before_at is_blank w 32 (x ∷ xs) (blanks_free w p) refl, drop_seam w (32 ∷ x ∷ xs)) (trim_start_space (x ∷ xs) ∙ trim_start_stays x xs s)
 
--- the same where what stands behind is not empty and begins with no blank
+-- the same where what stands after is not empty and begins with no blank
 none_more : 1 ≤ length {A = ℕ} [] → ⊥
 none_more h = omega arith
 
@@ -112,7 +112,7 @@ cap_reads n h = rw (plain_decimal 0 CAPACITY_LIMIT n (omega arith) (omega arith)
 abbrev header : ClassMethod → MethodHeader
 header m = record { name = m.name; flags = m.flags; in_cap = m.in_cap; out_cap = m.out_cap }
 
--- the words behind `.method`
+-- the words after `.method`
 abbrev words : ClassMethod → List ℕ
 words m = m.name ++ (32 ∷ (flags_text m.flags ++ (32 ∷ (decimal m.in_cap ++ (32 ∷ decimal m.out_cap)))))
 

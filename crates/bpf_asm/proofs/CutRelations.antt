@@ -128,7 +128,7 @@ is_padded text inner h = ap trim h.whole ∙ cut_pads h.before inner h.after h.b
 
 -- ---- a text at its first byte that passes
 
--- nothing, or a byte that passes and all behind it
+-- nothing, or a byte that passes and all after it
 abbrev pub Stops : (ℕ → Bool) → List ℕ → Type 0
 Stops p [] = Unit {0}
 Stops p (x ∷ xs) = p x ≡ true

@@ -222,7 +222,7 @@ early_instruction : (p : Place) (line : ℕ) (d : Result Draft AsmFault) (ss : L
 unfolding class_from
 early_instruction p line d ss k = stops p line (Instruction d) ss faults.Word (inl (k.count, refl)) (λ g h. some_number g)
 
--- and behind a `.rules`
+-- and after a `.rules`
 early : (p : Place) (line : ℕ) (ss : List Statement) → Knows p [] → p.ruled ≡ true → has_instruction ss ≡ true → Judged (ClassLinesHaveFault p line ss) (class_from [] line ss)
 unfolding class_from
 early p line [] k ruled some = absurd cc

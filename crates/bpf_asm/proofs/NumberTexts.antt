@@ -28,7 +28,7 @@ digits_plain : (ds : List ℕ) → AllDigits 10 ds → list_all is_plain ds ≡ 
 digits_plain [] h = refl
 digits_plain (c ∷ cs) h = rw (digit_plain c h.0, digits_plain cs h.1) refl
 
--- a byte of digits, or the 0 behind them
+-- a byte of digits, or the 0 after them
 pub at_range : (ds : List ℕ) → AllDigits 10 ds → (k : ℕ) → (slice_index ds k ≡ 0) ⊎ ((48 ≤ slice_index ds k) × (slice_index ds k ≤ 57))
 at_range [] a k = inl refl
 at_range (c ∷ cs) a zero = inr (digit_range c a.0)

@@ -90,7 +90,7 @@ onto_behind : (x : ℕ) (xs : List ℕ) (y : ℕ) (ys : List ℕ) → onto_trimm
 onto_behind x [] y ys = refl
 onto_behind x (z ∷ zs) y ys = refl
 
--- a text whose end is solid keeps it behind others
+-- a text whose end is solid keeps it after others
 pub trim_end_behind : (xs : List ℕ) (y : ℕ) (ys : List ℕ) → trim_end (y ∷ ys) ≡ y ∷ ys → trim_end (xs ++ (y ∷ ys)) ≡ xs ++ (y ∷ ys)
 unfolding trim_end
 trim_end_behind [] y ys h = h

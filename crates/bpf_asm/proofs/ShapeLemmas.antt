@@ -95,7 +95,7 @@ minus : (below : ℕ) (text : List ℕ) → Judged (Positive text) (minus_within
 unfolding minus_within
 minus below text = minus_at below text (natural text) refl
 
--- a number behind one byte
+-- a number after one byte
 numbers_behind : (text : List ℕ) (k : ℕ) → (slice_index text 0 == 45) ≡ true → IsNatural (drop 1 text) (suc k) → AnyNumber text
 numbers_behind text k e n = (negsuc k, record { number = drop 1 text; whole = behind 45 text (lit< tt) e; natural = n })
 

@@ -53,7 +53,7 @@ free_append p (x ∷ xs) ys f g = (f.0, free_append p xs ys f.1 g)
 
 -- ---- lines
 
--- what stands behind an instruction's line
+-- what stands after an instruction's line
 abbrev comment : ℕ → List ℕ
 comment slot = codes " ; slot " ++ decimal slot
 

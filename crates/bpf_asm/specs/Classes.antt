@@ -1,4 +1,4 @@
--- Classes: the rule set, and methods read one behind the other, up to the first line that is refused.
+-- Classes: the rule set, and methods read one after the other, up to the first line that is refused.
 use Rattle.std.specs.Prelude.{ℕ, ◌+◌, ◌==◌, ◌||◌, not, nat_le, Bool, true, false, List, [], ◌∷◌, ◌++◌, length, if◌then◌else◌, Option, Some, None, Result, Ok, Err}
 use Rattle.std.specs.List.{before_first}
 use Rattle.bpf_decode.specs.declared.insn.Insn.{Insn}
@@ -29,7 +29,7 @@ abbrev pub last_name : List ℕ → List ClassMethod → List ℕ
 last_name before [] = before
 last_name before (m ∷ ms) = last_name m.name ms
 
--- the fault of a method's first line behind other methods: 3 Range for a 33rd or one without instruction, 4 Label for a
+-- the fault of a method's first line after other methods: 3 Range for a 33rd or one without instruction, 4 Label for a
 -- name that isn't above the one before
 abbrev pub opening_fault : List ClassMethod → Bool → MethodHeader → Option AsmFault
 opening_fault done bare h = if nat_le METHOD_LIMIT (length done) || bare then Some faults.Range else (if is_above (last_name [] done) h.name then None else Some faults.Label)
@@ -70,7 +70,7 @@ abbrev pub with_rules : RuleSet → Result (List ClassMethod) AsmError → Resul
 with_rules rules (Ok ms) = Ok (record { rules = rules; methods = ms })
 with_rules rules (Err e) = Err e
 
--- The class of lines in order: its rule set is 1, or what the first line that isn't empty says by `.rules`. Behind it
+-- The class of lines in order: its rule set is 1, or what the first line that isn't empty says by `.rules`. After it
 -- stand the methods, with no `.rules` among them.
 unfoldable pub ruled_from : ℕ → List Statement → Result Class AsmError
 ruled_from line [] = with_rules One (class_from [] line [])

@@ -1,4 +1,4 @@
--- Why a text is refused, beside its grammar: "line n has fault f" as a relation, and the first fault of a text. A line's
+-- Why a text is refused, apart from its grammar: "line n has fault f" as a relation, and the first fault of a text. A line's
 -- faults are those of its place, whatever is wrong elsewhere; a line that is none of its form has its own (Shapes).
 use Rattle.std.specs.Prelude.{◌≡◌, ◌⊎◌, ℕ, ℤ, pos, ◌+◌, ◌-ℤ◌, ◌<◌, ◌≤◌, Bool, true, false, List, [], ◌∷◌, ◌++◌, Option, Some, None, IsSome, Result, Ok, Err, FitsSigned}
 use Rattle.std.specs.Int.{w16, w32}
@@ -40,7 +40,7 @@ DraftFault all slot (drafts.JumpLong target) f = TargetFault (FitsSigned w32) al
 DraftFault all slot (drafts.Branch bits comparison dst source target) f = TargetFault (FitsSigned w16) all slot target f
 DraftFault all slot (drafts.CallLocal target) f = TargetFault (FitsSigned w32) all slot target f
 
--- a line at a slot, among all lines of its method and behind those above it: its own fault where it isn't of the form, a
+-- a line at a slot, among all lines of its method and after those above it: its own fault where it isn't of the form, a
 -- label that stands above, a `.rules` or `.method` inside, an instruction that passes the limit of slots, or one that goes nowhere
 abbrev pub LineFault : List Statement → List Statement → ℕ → Statement → AsmFault → Type 0
 LineFault all above slot Empty f = ⊥
@@ -50,7 +50,7 @@ LineFault all above slot (Directive header) f = f ≡ faults.Word
 LineFault all above slot (Instruction (Err g)) f = f ≡ g
 LineFault all above slot (Instruction (Ok d)) f = ((SLOT_LIMIT < slot + draft_slots (Ok d)) × (f ≡ faults.Range)) ⊎ DraftFault all slot d f
 
--- the slot behind a line
+-- the slot after a line
 abbrev pub slot_behind : ℕ → Statement → ℕ
 slot_behind slot Empty = slot
 slot_behind slot (Label name) = slot
@@ -110,7 +110,7 @@ abbrev pub RulesOperand : Result RuleSet AsmFault → AsmFault → Type 0
 RulesOperand (Ok rules) f = ⊥
 RulesOperand (Err g) f = f ≡ g
 
--- a `.rules` line: one behind another or behind a `.method`; one before the first `.method` that is of the wrong form
+-- a `.rules` line: one after another or after a `.method`; one before the first `.method` that is of the wrong form
 abbrev pub RulesFault : Place → Result RuleSet AsmFault → AsmFault → Type 0
 RulesFault p rules f = (((p.ruled ≡ true) ⊎ (1 ≤ p.methods)) × (f ≡ faults.Word)) ⊎ ((p.methods ≡ 0) × RulesOperand rules f)
 

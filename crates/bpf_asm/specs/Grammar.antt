@@ -36,7 +36,7 @@ abbrev pub LabelsOnce : List Statement → List Statement → Type 0
 LabelsOnce before [] = Unit {0}
 LabelsOnce before (s ∷ ss) = IsFirst before s × LabelsOnce (before ++ (s ∷ [])) ss
 
--- how far a jump at a slot goes: as it is written, or from the slot behind it to its label
+-- how far a jump at a slot goes: as it is written, or from the slot after it to its label
 pub record ReachesLabel (all : List Statement) (slot : ℕ) (name : List ℕ) (distance : ℤ) : Type 0 where
   pub at : ℕ
   pub stands : slot_of_label name 0 all ≡ Some at

@@ -27,6 +27,6 @@ abbrev pub or_else : Option (ℕ × ℕ) → Option (ℕ × ℕ) → Option (ℕ
 or_else (Some p) o = Some p
 or_else None o = o
 
--- new has a name's place beside what old has
+-- new has a name's place besides what old has
 abbrev pub IsNoted : BTreeMap (Bor (List ℕ)) (ℕ × ℕ) → BTreeMap (Bor (List ℕ)) (ℕ × ℕ) → List ℕ → ℕ × ℕ → Type 0
 IsNoted old new name place = (q : List ℕ) → place_in new q ≡ or_else (place_in old q) (if bytes_eq name q then Some place else None)

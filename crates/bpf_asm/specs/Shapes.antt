@@ -119,7 +119,7 @@ pub record IsFaultyInstruction (text : List ℕ) (fault : AsmFault) : Type 0 whe
   pub no_method : ¬ (word ≡ codes ".method")
   pub faulty : InstructionFault word rest fault
 
--- 2 Operand: what stands behind `.rules` is no 2
+-- 2 Operand: what stands after `.rules` is no 2
 pub record IsFaultyRules (text : List ℕ) (fault : AsmFault) : Type 0 where
   pub rest : List ℕ
   pub word : HasWord text (codes ".rules") rest
@@ -143,7 +143,7 @@ pub record AnyDirective (text : List ℕ) : Type 0 where
   pub is_in_cap : AnyNumber in_cap
   pub is_out_cap : AnyNumber out_cap
 
--- 2 Operand: what stands behind `.method` is not of its form; 3 Range: a number is out of its range
+-- 2 Operand: what stands after `.method` is not of its form; 3 Range: a number is out of its range
 abbrev pub DirectiveFault : List ℕ → List ℕ → AsmFault → Type 0
 DirectiveFault text rest faults.Word = ⊥
 DirectiveFault text rest faults.Operand = ¬ AnyDirective rest

@@ -46,7 +46,7 @@ pub record IsPadded (text inner : List ℕ) : Type 0 where
   pub blank_after : AreBlanks after
   pub solid : IsSolid inner
 
--- nothing, or a `;` and all behind it
+-- nothing, or a `;` and all after it
 abbrev pub IsComment : List ℕ → Type 0
 IsComment [] = Unit {0}
 IsComment (c ∷ cs) = c ≡ 59
@@ -60,7 +60,7 @@ pub record HasContent (line inner : List ℕ) : Type 0 where
   pub without : Without 59 text
   pub padded : IsPadded text inner
 
--- a word, blanks, and what stands behind them: nothing, or what the blanks part from the word
+-- a word, blanks, and what stands after them: nothing, or what the blanks part from the word
 pub record HasWord (text word rest : List ℕ) : Type 0 where
   pub gap : List ℕ
   pub whole : text ≡ word ++ (gap ++ rest)
@@ -88,7 +88,7 @@ pub record IsHexadecimal (text : List ℕ) (n : ℕ) : Type 0 where
 abbrev pub IsNatural : List ℕ → ℕ → Type 0
 IsNatural text n = IsDecimal text n ⊎ IsHexadecimal text n
 
--- one byte and a number behind it
+-- one byte and a number after it
 pub record IsBehind (byte : ℕ) (text : List ℕ) (n : ℕ) : Type 0 where
   pub number : List ℕ
   pub whole : text ≡ byte ∷ number
@@ -186,7 +186,7 @@ pub record Three {A B C : Type 0} (IsA : List ℕ → A → Type 0) (IsB : List 
 
 -- ---- lines
 
--- an instruction that goes nowhere else by a distance: its word, and its operands behind it
+-- an instruction that goes nowhere else by a distance: its word, and its operands after it
 abbrev pub IsPlainText : Insn → List ℕ → List ℕ → Type 0
 IsPlainText (insns.Alu bits operation dst source) word rest = (word ≡ word_of (forms.Alu bits operation)) × Two IsRegister IsSource rest dst source
 IsPlainText (insns.Neg bits dst) word rest = (word ≡ word_of (forms.Neg bits)) × One IsRegister rest dst

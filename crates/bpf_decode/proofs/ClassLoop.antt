@@ -55,7 +55,7 @@ one_more : (done : ℕ) (before : List ℕ) (m : ClassMethod) (ms : List ClassMe
 unfolding methods_after
 one_more done before m ms read h = ap (first_tested done m.name ms) h
 
--- the method at that place and those behind it
+-- the method at that place and those after it
 here : (ms : List ClassMethod) (done : ℕ) (m : ClassMethod) → done < length ms → m ≡ get_or ms done m → drop done ms ≡ m ∷ drop (done + 1) ms
 here ms done m lt is = drop_more ms done m lt ∙ ap (λ (x : ClassMethod). x ∷ drop (done + 1) ms) (sym is)
 

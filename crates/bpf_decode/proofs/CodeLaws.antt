@@ -51,7 +51,7 @@ read_code is = Ok is
 pub ok_code : (is js : List Insn) → read_code is ≡ read_code js → is ≡ js
 ok_code is js e = cc
 
--- the instruction at the front, with those behind it
+-- the instruction at the front, with those after it
 abbrev front_read : ℕ → ℕ → List ℕ → Result Insn DecodeError → Result (List Insn) DecodeError
 front_read n slot bytes read = read >>= λ i. insns_at n (slot + slot_count i) (drop (8 * slot_count i) bytes) >>= λ js. Ok (i ∷ js)
 

@@ -33,7 +33,7 @@ pub record Takes (bytes text rest : List ℕ) : Type 0 where
 pub Takes-then : (a x b y c : List ℕ) → Takes a x b → Takes b y c → Takes a (x ++ y) c
 Takes-then a x b y c p q = record { parts = p.parts ∙ ap (λ (t : List ℕ). x ++ t) q.parts ∙ sym (append_assoc x y c); rest_fits = q.rest_fits }
 
--- a value and the bytes behind it, as read
+-- a value and the bytes after it, as read
 abbrev pub read_to : {A : Type 0} → A → List ℕ → Result (A × List ℕ) DecodeError
 read_to x rest = Ok (x, rest)
 
@@ -216,7 +216,7 @@ capacity_again n rest h =
     ap (λ (r : Result (ℕ × List ℕ) DecodeError). r >>= λ n. checked (between 0 CAPACITY_LIMIT n.0) Limit n) (number_again n rest (omega arith))
     ∙ ap (λ (b : Bool). checked b Limit (n, rest)) (between-is 0 CAPACITY_LIMIT n (omega arith) h)
 
--- code behind its number of slots
+-- code after its number of slots
 pub record IsCodeField (is : List Insn) : Type 0 where
   pub some : 1 ≤ slot_total is
   pub few : slot_total is ≤ SLOT_LIMIT

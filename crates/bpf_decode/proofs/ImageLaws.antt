@@ -70,7 +70,7 @@ method_takes before bytes m rest fits e =
     } in
     same_method before bytes (made a.0.0 b.0.0 c.0.0 d.0.0 f.0.0) m f.0.1 rest last.0 last.1 whole known t0.1.above
 
--- the fields behind a method's name
+-- the fields after a method's name
 abbrev behind_name : ClassMethod → List ℕ
 behind_name m = m.flags ∷ little_bytes 2 m.in_cap ++ little_bytes 2 m.out_cap ++ little_bytes 2 (slot_total m.instructions) ++ spelling m.instructions
 

@@ -19,7 +19,7 @@ Methods = Result (List ClassMethod × List ℕ) ImageError
 abbrev pub with_front : List ClassMethod → Methods → Methods
 with_front front read = read >>= λ x. Ok (front ++ x.0, x.1)
 
--- the methods so far, the name of the last one and the bytes behind it
+-- the methods so far, the name of the last one and the bytes after it
 pub record Progress (count : ℕ) (bytes : List ℕ) (front : List ClassMethod) (done : ℕ) (before rest : List ℕ) : Type 0 where
   pub so_far : with_front front (methods_at (count - done) done before rest) ≡ methods_at count 0 [] bytes
 

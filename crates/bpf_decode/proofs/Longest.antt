@@ -1,4 +1,4 @@
--- Bytes behind the longest image change nothing of what is read.
+-- Bytes after the longest image change nothing of what is read.
 use Rattle.std.proofs.Common.{◌≡◌, ℕ, zero, suc, ◌+◌, ◌*◌, ◌≤◌, Bool, true, false, List, [], ◌∷◌, ◌++◌, length, take, drop, Result, Ok, Err, refl, sym, ap, subst, ◌∙◌, arith, inl, inr}
 use Rattle.std.specs.Prelude.{⊤, nat_le, ◌==◌}
 use Rattle.byteorder.specs.Endian.{little_number}
@@ -19,7 +19,7 @@ use Rattle.bpf_decode.proofs.ImageFields.{between-true, ok_is}
 use Rattle.bpf_decode.proofs.ImageLaws.{image_is}
 use Rattle.bpf_decode.specs.declared.limits.TheConstants.{METHOD_LIMIT, NAME_LIMIT, SLOT_LIMIT, IMAGE_LIMIT}
 
--- what was read, with more bytes behind what is left
+-- what was read, with more bytes after what is left
 abbrev longer : {A E : Type 0} → List ℕ → Result (A × List ℕ) E → Result (A × List ℕ) E
 longer more (Ok x) = Ok (x.0, x.1 ++ more)
 longer more (Err e) = Err e

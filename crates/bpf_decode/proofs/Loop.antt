@@ -15,7 +15,7 @@ use Rattle.bpf_decode.proofs.Insns.{some_slot, fits_in}
 abbrev pub with_front : List Insn → Result (List Insn) DecodeError → Result (List Insn) DecodeError
 with_front front read = read >>= λ is. Ok (front ++ is)
 
--- the instructions so far and the slot behind them
+-- the instructions so far and the slot after them
 pub record Progress (bytes : List ℕ) (front : List Insn) (slot : ℕ) : Type 0 where
   pub within : 8 * slot ≤ length bytes
   pub few : length front ≤ slot

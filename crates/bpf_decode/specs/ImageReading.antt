@@ -31,7 +31,7 @@ number_at bytes = checked (nat_le 2 (length bytes)) Truncated (little_number 2 b
 abbrev pub bytes_at : ℕ → List ℕ → Result (List ℕ × List ℕ) DecodeError
 bytes_at n bytes = checked (nat_le n (length bytes)) Truncated (take n bytes, drop n bytes)
 
--- a name behind its length
+-- a name after its length
 unfoldable pub name_at : List ℕ → List ℕ → Result (List ℕ × List ℕ) DecodeError
 name_at before bytes = do
   n ← byte_at bytes
@@ -50,7 +50,7 @@ capacity_at bytes = do
   n ← number_at bytes
   checked (is_capacity n.0) Limit n
 
--- code behind its number of slots
+-- code after its number of slots
 unfoldable pub code_at : List ℕ → Result (List Insn × List ℕ) DecodeError
 code_at bytes = do
   n ← number_at bytes
@@ -59,7 +59,7 @@ code_at bytes = do
   is ← code_of code.0
   Ok (is, code.1)
 
--- a method behind the name of the one before it
+-- a method after the name of the one before it
 unfoldable pub method_at : List ℕ → List ℕ → Result (ClassMethod × List ℕ) DecodeError
 method_at before bytes = do
   name ← name_at before bytes
@@ -91,12 +91,12 @@ header_at bytes = do
 
 -- ---- the image
 
--- what is read when so many methods were read whole before
+-- what is read when that many methods were read whole before
 abbrev pub after : {A : Type 0} → ℕ → Result A DecodeError → Result A ImageError
 after methods (Ok x) = Ok x
 after methods (Err e) = Err (record { methods = methods; error = e })
 
--- n methods, when so many were read before, the last of that name
+-- n methods, when that many were read before, the last of that name
 unfoldable pub methods_at : ℕ → ℕ → List ℕ → List ℕ → Result (List ClassMethod × List ℕ) ImageError
 methods_at zero done before bytes = Ok ([], bytes)
 methods_at (suc n) done before bytes = after done (method_at before bytes) >>= λ first. methods_at n (done + 1) first.0.name first.1 >>= λ others. Ok (first.0 ∷ others.0, others.1)
@@ -127,13 +127,13 @@ pub record ReadsMethods (bytes : List ℕ) (n : ℕ) : Type 0 where
   pub read : header_at bytes ≡ Ok (header, rest)
   pub so_far : ReadsSoFar header.count rest n
 
--- A refusal is the one that reading gives, or want of memory behind as many methods as it says.
+-- A refusal is the one that reading gives, or want of memory after as many methods as it says.
 abbrev pub RefusesImage : List ℕ → ImageError → Type 0
 RefusesImage bytes e = ((e.error ≡ NoMemory) × ReadsMethods bytes e.methods) ⊎ (image_of bytes ≡ Err e)
 
 -- ---- methods that are given
 
--- a method behind the name of the one before it
+-- a method after the name of the one before it
 abbrev pub method_after : List ℕ → ClassMethod → Result ClassMethod DecodeError
 method_after before m = do
   sized ← checked (is_name_length (length m.name)) Name m

@@ -94,7 +94,7 @@ fields_allowed Exit f = (f.dst == 0) && (f.src == 0) && (f.offset == 0) && (f.im
 abbrev pub second_half : Fields → Option ℕ
 second_half f = if (f.opcode == 0) && (f.dst == 0) && (f.src == 0) && (f.offset == 0) then Some f.imm else None
 
--- the high half of a row's number, from the bytes behind its first slot
+-- the high half of a row's number, from the bytes after its first slot
 abbrev pub high_half : OpcodeRow → List ℕ → Option ℕ
 high_half Wide bytes = option_and_then second_half (fields_of bytes)
 high_half row bytes = Some 0

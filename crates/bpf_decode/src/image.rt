@@ -231,7 +231,7 @@ fn class(alloc: Global, bytes: &[u8]) -> Result<ClassImage, ImageError>
 /// `NoMemory` may come in place of any answer, with the number of methods that were read whole before it, too.
 pub fn read_image(alloc: Global, bytes: &[u8]) -> Result<ClassImage, ImageError>
     ensures exact { GivesImage (λ c. c) result (image_of bytes.now) }
-    // Where memory runs out, so many methods were read whole.
+    // Where memory runs out, that many methods were read whole.
     ensures refused { IfErr result (RefusesImage bytes.now) }
     // What is read is the class's spelling.
     ensures found { IfOk result (λ c. IsImage bytes.now c) }

@@ -13,7 +13,7 @@ pub struct ImageError {
 }
 
 impl ImageError {
-    /// That refusal after so many methods.
+    /// That refusal after that many methods.
     pub(crate) fn after(methods: usize, error: DecodeError) -> ImageError
         ensures { result ≡ record { methods = methods; error = error } }
     {

@@ -19,14 +19,14 @@ pub const SLOT_LIMIT: usize = 4096;
 /// The bytes of the longest image: the header's 8, and for each method 8, its name and its slots.
 pub const IMAGE_LIMIT: usize = 8 + METHOD_LIMIT * (8 + NAME_LIMIT + 8 * SLOT_LIMIT);
 
-/// Whether a class may have so many methods.
+/// Whether a class may have that many methods.
 pub(crate) fn is_method_count(count: usize) -> bool
     ensures { result ≡ is_method_count count }
 {
     1 <= count && count <= METHOD_LIMIT
 }
 
-/// Whether a name may have so many bytes.
+/// Whether a name may have that many bytes.
 pub(crate) fn is_name_length(length: usize) -> bool
     ensures { result ≡ is_name_length length }
 {
@@ -72,14 +72,14 @@ pub(crate) fn are_flags(flags: u8) -> bool
     1 <= flags && flags <= 3
 }
 
-/// Whether input and output may have so many bytes.
+/// Whether input and output may have that many bytes.
 pub(crate) fn is_capacity(capacity: u16) -> bool
     ensures { result ≡ is_capacity capacity }
 {
     capacity <= CAPACITY_LIMIT
 }
 
-/// Whether a method may have so many slots.
+/// Whether a method may have that many slots.
 pub(crate) fn is_slot_count(slots: usize) -> bool
     ensures { result ≡ is_slot_count slots }
 {

@@ -187,7 +187,11 @@ impl OpcodeRow {
                 Some(Slot { opcode: 0, dst: 0, src: 0, offset: 0, imm }) => Some(imm),
                 _ => None,
             },
-            _ => Some(0),
+            OpcodeRow::AluImmediate(_, _) | OpcodeRow::AluRegister(_, _) | OpcodeRow::Neg(_) => Some(0),
+            OpcodeRow::MovImmediate(_) | OpcodeRow::MovRegister(_) | OpcodeRow::End(_) => Some(0),
+            OpcodeRow::Load(_) | OpcodeRow::LoadSigned(_) | OpcodeRow::StoreImmediate(_) | OpcodeRow::StoreRegister(_) => Some(0),
+            OpcodeRow::Jump | OpcodeRow::JumpLong | OpcodeRow::BranchImmediate(_, _) | OpcodeRow::BranchRegister(_, _) => Some(0),
+            OpcodeRow::Call | OpcodeRow::Exit => Some(0),
         }
     }
 

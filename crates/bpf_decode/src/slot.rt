@@ -17,7 +17,7 @@ impl Slot {
     ghost use Rattle.bpf_decode.specs.Fields.{fields_of};
     ghost use Rattle.bpf_decode.specs.Instruction.{slot};
 
-    /// The slot of the first eight bytes, if there are so many.
+    /// The slot of the first eight bytes, if there are that many.
     pub fn of(bytes: &[u8]) -> Option<Slot>
         ensures fields { result ≡ fields_of bytes.now }
         ensures long { IfSome result (λ _. 8 ≤ length bytes.now) }

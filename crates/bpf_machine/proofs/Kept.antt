@@ -56,7 +56,7 @@ module _ {A : Type 0} (P : A → Type 0) where
   where_bind None f h = where_none
   where_bind (Some x) f h = h x refl
 
--- the regions hold so many bytes, and the object is within its limits
+-- the regions hold that many bytes, and the object is within its limits
 pub record IsGood (caps : Caps) (s : State ℕ) : Type 0 where
   pub sized : IsMemory caps s.memory
   pub bytes : (r : Region) → AreBytes (cells s.memory r)

@@ -18,11 +18,11 @@ byte_at caps lay m at = find caps lay at 1 >>= λ p. slice_get (cells m p.0) p.1
 pub record IsMemory (caps : Caps) (m : Memory) : Type 0 where
   pub lengths : (r : Region) → length (cells m r) ≡ size caps r
 
--- these bytes stand at an address and behind it
+-- these bytes stand at an address and after it
 pub record StandsAt (caps : Caps) (lay : Layout) (m : Memory) (at : ℕ) (bytes : List ℕ) : Type 0 where
   pub each : (k : ℕ) → k < length bytes → byte_at caps lay m (at + k) ≡ slice_get bytes k
 
--- what a load reads: so many bytes, which stand at its address
+-- what a load reads: that many bytes, which stand at its address
 pub record Reads (caps : Caps) (lay : Layout) (m : Memory) (at w : ℕ) (bytes : List ℕ) : Type 0 where
   pub count : length bytes ≡ w
   pub stand : StandsAt caps lay m at bytes

@@ -15,7 +15,7 @@ slot_of cs = number_or (plain_bytes cs) (place_of cs)
 abbrev pub slot_value : List Cell → ℕ → Option Value
 slot_value cs j = slot_of (take 8 (drop (8 * j) cs))
 
--- of the first slots, so many
+-- of the first slots, that many
 abbrev pub slot_values : ℕ → List Cell → List (Option Value)
 slot_values zero cs = []
 slot_values (suc n) cs = slot_of (take 8 cs) ∷ slot_values n (drop 8 cs)
@@ -26,7 +26,7 @@ AreCells [] = Unit {0}
 AreCells (Byte b ∷ cs) = (b < 256) × AreCells cs
 AreCells (PartOf r at k ∷ cs) = AreCells cs
 
--- a stack of so many slots
+-- a stack of that many slots
 pub record IsStack (count : ℕ) (cs : List Cell) : Type 0 where
   pub long : length cs ≡ 8 * count
   pub cells : AreCells cs

@@ -12,16 +12,16 @@ use Rattle.carried.specs.declared.operation.Carried.{Carried}
 use Rattle.carried.specs.declared.operation.Carried.TheVariants.{Plain, Query, Log}
 use Rattle.carried.specs.declared.operation.ShortLog.{ShortLog}
 
--- PACKING. A sender that has committed so many entries says so in a question for a list. A list goes without its first
--- requests, as many as its receiver told.
+-- PACKING. A sender that has committed that many entries says so in a question for a list. A list goes without its first
+-- requests, as many as its receiver reported.
 abbrev pub carried_as : ℕ → ℕ → Party → MessageKind → Carried
-carried_as committed told sender (QueryOf map) = Query sender map committed
-carried_as committed told sender (LogOf interval list) = Log (record { sender = sender; interval = interval; log = packed list told })
-carried_as committed told sender kind = Plain (AMessage (record { sender = sender; kind = kind }))
+carried_as committed reported sender (QueryOf map) = Query sender map committed
+carried_as committed reported sender (LogOf interval list) = Log (record { sender = sender; interval = interval; log = packed list reported })
+carried_as committed reported sender kind = Plain (AMessage (record { sender = sender; kind = kind }))
 
 -- a message of a node, and its receiver
 abbrev pub packed_as : ℕ → ℕ → Packet → Party × Carried
-packed_as committed told p = (p.receiver, carried_as committed told p.message.sender p.message.kind)
+packed_as committed reported p = (p.receiver, carried_as committed reported p.message.sender p.message.kind)
 
 -- only a list takes memory
 abbrev pub IsLog : MessageKind → Type 0
@@ -29,18 +29,18 @@ IsLog (LogOf interval list) = Unit {0}
 IsLog _ = ⊥
 
 -- how many entries the sender of a question has committed
-abbrev pub told_of : Carried → ℕ
-told_of (Query sender map told) = told
-told_of (Plain event) = 0
-told_of (Log short) = 0
+abbrev pub reported_of : Carried → ℕ
+reported_of (Query sender map reported) = reported
+reported_of (Plain event) = 0
+reported_of (Log short) = 0
 
--- COMING. A list has its beginning from the receiver's own log; where that is too short, it is lost.
+-- UNPACKING. A list has its beginning from the receiver's own log; where that is too short, it is lost.
 abbrev pub whole_list : List ClientRequest → ShortLog → Option Event
-whole_list own m = if nat_lt (length own) m.log.common then None
-    else Some (AMessage (record { sender = m.sender; kind = LogOf m.interval (spread own m.log) }))
+whole_list local m = if nat_lt (length local) m.log.common then None
+    else Some (AMessage (record { sender = m.sender; kind = LogOf m.interval (spread local m.log) }))
 
 -- the event that comes to a node with that log
-abbrev pub comes_as : List ClientRequest → Carried → Option Event
-comes_as own (Plain event) = Some event
-comes_as own (Query sender map told) = Some (AMessage (record { sender = sender; kind = QueryOf map }))
-comes_as own (Log short) = whole_list own short
+abbrev pub unpacked_as : List ClientRequest → Carried → Option Event
+unpacked_as local (Plain event) = Some event
+unpacked_as local (Query sender map reported) = Some (AMessage (record { sender = sender; kind = QueryOf map }))
+unpacked_as local (Log short) = whole_list local short

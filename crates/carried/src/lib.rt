@@ -4,12 +4,12 @@
 //! What they give is `specs/Carried.antt`. `operation_crosses` says that an operation may go to another thread.
 #![tactic(auto)]
 
-mod coming;
 mod crossing;
 mod operation;
 mod packing;
+mod unpacking;
 
-pub use coming::event_of;
 pub use crossing::operation_crosses;
 pub use operation::{Carried, Operation, ShortLog};
 pub use packing::pack;
+pub use unpacking::event_of;

@@ -1,5 +1,5 @@
 ghost use Rattle.std.specs.Prelude.{◌≡◌, IfOk};
-ghost use Rattle.carried.specs.Carried.{told_of};
+ghost use Rattle.carried.specs.Carried.{reported_of};
 
 use group_world::{Epoch, Event, GroupMap, Party};
 use pg_log::NoMemory;
@@ -41,7 +41,7 @@ pub enum Carried {
         /// The map.
         map: GroupMap,
         /// How many entries the sender has committed: they are left out of the list that answers.
-        told: usize,
+        reported: usize,
     },
     /// A list, for the primary that asked for it.
     Log(ShortLog),
@@ -49,11 +49,11 @@ pub enum Carried {
 
 impl Carried {
     /// How many entries a question says that its sender has committed; 0 of anything else.
-    pub fn told(&self) -> usize
-        ensures { result ≡ told_of self.now }
+    pub fn reported(&self) -> usize
+        ensures { result ≡ reported_of self.now }
     {
         match self {
-            Carried::Query { told, .. } => *told,
+            Carried::Query { reported, .. } => *reported,
             Carried::Plain(_) => 0,
             Carried::Log(_) => 0,
         }
@@ -65,7 +65,11 @@ impl Carried {
     {
         match self {
             Carried::Plain(event) => copy_plain(alloc, event),
-            Carried::Query { sender, map, told } => copy_query(alloc, *sender, map, *told),
+            Carried::Query {
+                sender,
+                map,
+                reported,
+            } => copy_query(alloc, *sender, map, *reported),
             Carried::Log(short) => copy_short(alloc, short),
         }
     }
@@ -98,12 +102,16 @@ fn copy_query(
     alloc: Global,
     sender: Party,
     map: &GroupMap,
-    told: usize,
+    reported: usize,
 ) -> Result<Carried, NoMemory>
-    ensures { IfOk result (λ c. c ≡ Carried.Query sender map.now told) }
+    ensures { IfOk result (λ c. c ≡ Carried.Query sender map.now reported) }
 {
     let map = map.copy(alloc)?;
-    Ok(Carried::Query { sender, map, told })
+    Ok(Carried::Query {
+        sender,
+        map,
+        reported,
+    })
 }
 
 /// An equal list.

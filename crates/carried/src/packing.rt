@@ -10,14 +10,14 @@ use std::alloc::Global;
 /// A list without its first requests, as many as its receiver has committed, or without all if that is more.
 fn pack_list(
     alloc: Global,
-    told: usize,
+    reported: usize,
     sender: Party,
     interval: Epoch,
     list: Requests,
 ) -> Result<Carried, NoMemory>
-    ensures { (committed : ℕ) → IfOk result (λ c. c ≡ carried_as committed told sender (MessageKind.Log interval list)) }
+    ensures { (committed : ℕ) → IfOk result (λ c. c ≡ carried_as committed reported sender (MessageKind.Log interval list)) }
 {
-    let log = pack_log(alloc, list.items(), told)?;
+    let log = pack_log(alloc, list.items(), reported)?;
     Ok(Carried::Log(ShortLog {
         sender,
         interval,
@@ -37,16 +37,16 @@ fn plain(sender: Party, kind: MessageKind) -> Carried
 fn carry(
     alloc: Global,
     committed: usize,
-    told: usize,
+    reported: usize,
     sender: Party,
     kind: MessageKind,
 ) -> Result<Carried, NoMemory>
-    ensures ok { IfOk result (λ c. c ≡ carried_as committed told sender kind) }
+    ensures ok { IfOk result (λ c. c ≡ carried_as committed reported sender kind) }
     ensures err { IfErr result (λ _. IsLog kind) }
 {
     match kind {
-        MessageKind::Query(map)                           => Ok(Carried::Query { sender, map, told: committed }),
-        MessageKind::Log(interval, list)                  => pack_list(alloc, told, sender, interval, list),
+        MessageKind::Query(map)                           => Ok(Carried::Query { sender, map, reported: committed }),
+        MessageKind::Log(interval, list)                  => pack_list(alloc, reported, sender, interval, list),
         MessageKind::Install(map, list)                   => Ok(plain(sender, MessageKind::Install(map, list))),
         MessageKind::Installed(interval)                  => Ok(plain(sender, MessageKind::Installed(interval))),
         MessageKind::AskActivate(interval)                => Ok(plain(sender, MessageKind::AskActivate(interval))),
@@ -58,20 +58,20 @@ fn carry(
 }
 
 /// A message of a node as it is carried, and its receiver. A question for a list says how much the sender has committed; a
-/// list goes without its first `told` requests, which its receiver has. It fails for want of memory, and that for a list
+/// list goes without its first `reported` requests, which its receiver has. It fails for want of memory, and that for a list
 /// alone, of which it copies what isn't left out; anything else costs nothing.
 pub fn pack(
     alloc: Global,
     committed: usize,
-    told: usize,
+    reported: usize,
     packet: Packet,
 ) -> Result<(Party, Carried), NoMemory>
-    ensures ok { IfOk result (λ p. p ≡ packed_as committed told packet) }
+    ensures ok { IfOk result (λ p. p ≡ packed_as committed reported packet) }
     ensures err { IfErr result (λ _. IsLog packet.message.kind) }
 {
     let Packet { receiver, message } = packet;
     let Message { sender, kind } = message;
-    match carry(alloc, committed, told, sender, kind) {
+    match carry(alloc, committed, reported, sender, kind) {
         Ok(carried) => Ok((receiver, carried)),
         Err(error) => Err(error),
     }

@@ -40,28 +40,7 @@ fn first_request(
     Ok(Request::new(caller, number, object, 0, method, input))
 }
 
-/// Appends a request to a group that has none, and gives what its log then has of it.
-fn append_to<C: Classes>(
-    alloc: Global,
-    group: &mut Group<C>,
-    table: &ClassTable,
-    request: Request,
-) -> Result<Logged, LogError>
-    requires { (group.now ≡ []) × (table.now ≡ C.classes) }
-    ensures ok { IfOk result (λ l. reply_at table.now (request ∷ []) 0 ≡ Some (record { code = cast_unsigned w64 l.code; output = l.output.items })) }
-    ensures err { IfErr result (λ e. (append_answer table.now [] request ≡ Err e) ⊎ (e ≡ LogError.NoMemory)) }
-{
-    let place = group.append(table, request)?;
-    match group.reply_at(place) {
-        Some((code, output)) => Ok(Logged {
-            code,
-            output: Vec::from_slice(alloc, output)?,
-        }),
-        None => unreachable!(),
-    }
-}
-
-/// The same of an empty group of those classes.
+/// Appends a request to an empty group of those classes, and gives what its log then has of it.
 fn append_first<C: Classes>(
     alloc: Global,
     table: &ClassTable,
@@ -72,7 +51,14 @@ fn append_first<C: Classes>(
     ensures err { IfErr result (λ e. (append_answer table.now [] request ≡ Err e) ⊎ (e ≡ LogError.NoMemory)) }
 {
     let mut group: Group<C> = Group::new(alloc);
-    append_to(alloc, &mut group, table, request)
+    let place = group.append(table, request)?;
+    match group.reply_at(place) {
+        Some((code, output)) => Ok(Logged {
+            code,
+            output: Vec::from_slice(alloc, output)?,
+        }),
+        None => unreachable!(),
+    }
 }
 
 /// The refusal of a call that has the name of the log's.

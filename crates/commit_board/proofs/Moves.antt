@@ -8,6 +8,7 @@ use mathlib.Core.Option.{some, none, some-ne-none, some-injective}
 use lib.ListN.{get_elem?}
 use Rattle.atomic_table.specs.Table.{State, Me, keeps, step, opening, Allows, Splits, Joins}
 use Rattle.atomic_table.proofs.Lists.{at_last, at_longer, at_set, set_again, set_else, set_here}
+use Rattle.pg_log.specs.declared.group.TheConstants.{LOG_LIMIT}
 use Rattle.pg_log.specs.Requests.{ClientRequest}
 use Rattle.commit_board.specs.declared.view.View.{View}
 use Rattle.commit_board.specs.Lists.{list_at, put_at, longer, merged}
@@ -105,11 +106,11 @@ index_set_else (x ∷ xs) zero (suc j) a n = refl
 index_set_else (x ∷ xs) (suc i) zero a n = refl
 index_set_else (x ∷ xs) (suc i) (suc j) a n = index_set_else xs i j a (λ e. n (ap suc e))
 
-next : (n : ℕ) → n < 65536 → (n + 1) % 2 ^ 64 ≡ n + 1
+next : (n : ℕ) → n < LOG_LIMIT → (n + 1) % 2 ^ 64 ≡ n + 1
 next n h = omega arith
 
 -- a row's list grows by a request, at the seat that may write it
-grown : (rows id row : ℕ) (written : List ClientRequest) (request : ClientRequest) (s : State ℕ View) → row < rows → length written < 65536 → Kept rows s → get_elem? s.views id ≡ some (writes row (suc row) written)
+grown : (rows id row : ℕ) (written : List ClientRequest) (request : ClientRequest) (s : State ℕ View) → row < rows → length written < LOG_LIMIT → Kept rows s → get_elem? s.views id ≡ some (writes row (suc row) written)
     → Kept rows record { words = set s.words row ((slice_index s.words row + 1) % 2 ^ 64); homes = s.homes; views = set s.views id (writes row (suc row) (written ++ request ∷ [])) }
 grown rows id row written request s lt room kept at =
     let mine = kept.views id (writes row (suc row) written) at in
@@ -163,7 +164,7 @@ set_index (x ∷ xs) zero = refl
 set_index (x ∷ xs) (suc i) = ap (λ (l : List ℕ). x ∷ l) (set_index xs i)
 
 module _ (rows slots id : ℕ) where
-  pub adds : (row k : ℕ) (me : Me ℕ View) (written : List ClientRequest) (request : ClientRequest) → row < rows → length written < 65536 → k ≡ 1 → me ≡ (writes row (suc row) written, [])
+  pub adds : (row k : ℕ) (me : Me ℕ View) (written : List ClientRequest) (request : ClientRequest) → row < rows → length written < LOG_LIMIT → k ≡ 1 → me ≡ (writes row (suc row) written, [])
       → Allows (Kept rows) slots id me row (λ n. (n + k) % 2 ^ 64) (Adds request (step slots row k 0 none) me)
   adds row k me written request lt room one is =
       let here : Allows (Kept rows) slots id (writes row (suc row) written, []) row (λ n. (n + 1) % 2 ^ 64) (Adds request (step slots row 1 0 none) (writes row (suc row) written, [])) =

@@ -5,7 +5,7 @@ use Rattle.object_store.specs.Object.{PlainObject}
 use Rattle.bpf_machine.specs.State.{State, outcome_of, Ending, Ended, Stuck, Unfinished, one_more, goes_on, ends}
 use Rattle.bpf_machine.specs.Flat.{Layout, step, exit_code, run}
 
--- an ending with so many steps more
+-- an ending with that many steps more
 abbrev pub steps_more : ℕ → Ending → Ending
 steps_more n (Ended o k) = Ended o (n + k)
 steps_more n Stuck = Stuck

@@ -12,7 +12,7 @@ use bpf_decode::{Arithmetic, ByteOrder, Comparison, EndWidth, OpWidth, SignedMov
 use std::alloc::Global;
 use txn::NoMemory;
 
-/// What an instruction reads beside its destination: the immediate, or a register.
+/// What an instruction reads besides its destination: the immediate, or a register.
 fn operand(f: Slot, s: &FlatState) -> Option<u64>
     ensures { result ≡ operand f (flat_state s.now) }
 {

@@ -17,7 +17,7 @@ use txn::{NoMemory, Staged};
 /// What a run begins with.
 #[derive(Clone, Copy)]
 pub struct RunStart<'a> {
-    /// The object beside which the method runs.
+    /// The object on which the method runs.
     pub object: Option<&'a Object>,
     /// The client for whom it runs.
     pub caller: u32,
@@ -58,7 +58,7 @@ fn zeros(alloc: Global, count: usize) -> Result<Vec<u8>, AllocError>
     vec![in alloc; 0u8; count]
 }
 
-/// Bytes and then zeros, so many in all.
+/// Bytes and then zeros, that many in all.
 fn padded_with_zeros(alloc: Global, bytes: &[u8], len: usize) -> Result<Vec<u8>, AllocError>
     requires { length bytes.now ≤ len }
     ensures items { IfOk result (λ v. v.items ≡ bytes.now ++ replicate (len - length bytes.now) 0) }
@@ -133,7 +133,7 @@ fn enter<'a>(
     })
 }
 
-/// At most so many steps, from a state to where the run stops.
+/// At most that many steps, from a state to where the run stops.
 fn run_on(alloc: Global, code: &[u8], s: &mut FlatState, limit: usize) -> Result<Stop, NoMemory>
     ensures { IfOk result (λ stop. stopped (flat_state s.old).object stop (flat_state s.new) ≡ run (caps_in s.old) (layout_in s.old) code.now (flat_state s.old).object limit (flat_state s.old)) }
 {
@@ -195,7 +195,7 @@ fn ended(
     }
 }
 
-/// How a run from a state ends that is beside that object.
+/// How a run on that object ends, from a state.
 fn run_from(
     alloc: Global,
     code: &[u8],
@@ -210,7 +210,7 @@ fn run_from(
     ended(alloc, before, stop, s)
 }
 
-/// Runs a method's bytes on plain addresses, in at most so many steps. It is the definition of the machine as a
+/// Runs a method's bytes on plain addresses, in at most that many steps. It is the definition of the machine as a
 /// program, and slow. Refused: NoMemory.
 pub fn flat_run(
     alloc: Global,

@@ -4,7 +4,7 @@ ghost use Rattle.std.specs.List.{Contains};
 ghost use Rattle.group_world.specs.World.{IsTrueOf};
 ghost use Rattle.group_world.specs.Unanswered.{unanswered};
 ghost use Rattle.group_world.specs.declared.message.Packet.{Packet};
-ghost use Rattle.carried.specs.Carried.{comes_as, told_of};
+ghost use Rattle.carried.specs.Carried.{unpacked_as, reported_of};
 ghost use Rattle.group_cell.specs.Cell.{CellState};
 ghost use Rattle.group_cell.specs.Turns.{GoOutAs, MayGoOutAs, IsTurn, IsCutShort, IsQuiet};
 
@@ -39,12 +39,12 @@ impl<N: BoardName> GroupCell<N> {
     ) -> Result<Vec<Option<Outgoing<N>>>, NoMemory>
         requires board { board.now ≡ N.board }
         requires table { table.now ≡ N.classes }
-        ensures turn { IfOk result (λ v. IsTurn N.classes self.old self.new (told_of carried) (comes_as self.old.node.state.log carried) v.items) }
-        ensures lost { OnErr result (IsCutShort N.classes self.old self.new (comes_as self.old.node.state.log carried)) }
+        ensures turn { IfOk result (λ v. IsTurn N.classes self.old self.new (reported_of carried) (unpacked_as self.old.node.state.log carried) v.items) }
+        ensures lost { OnErr result (IsCutShort N.classes self.old self.new (unpacked_as self.old.node.state.log carried)) }
     {
         // An item for each message, also for one that memory was refused to: then a proof refuses a worker that drops
         // another, and no test has to.
-        let reported = carried.told();
+        let reported = carried.reported();
         match event_of(alloc, self.node().group().entries(), carried)? {
             None => Ok(Vec::new(alloc)),
             Some(Event::Request(request)) => self.ask(alloc, board, table, reported, request),

@@ -5,7 +5,7 @@ use Rattle.object_store.specs.Object.{PlainObject, AreBytes, IsValue, IsObject}
 use Rattle.helpers.specs.Effect.{Given, Effect}
 use Rattle.helpers.specs.Table.{effect}
 
--- an object within the limits, and at most so many bytes to copy as there is room for
+-- an object within the limits, and at most that many bytes to copy as there is room for
 pub record IsWithinLimits (room : ℕ) (e : Effect) : Type 0 where
   pub object : IsObject e.object
   pub bytes : AreBytes e.bytes

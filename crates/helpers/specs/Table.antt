@@ -92,7 +92,7 @@ map_next_answer object key room =
     if nat_lt NAME_LIMIT (length key) then refuses EINVAL else
     where_present object (λ o. found_answer (key_above o.omap key) room)
 
--- out_len: so many bytes of the output region are output
+-- out_len: that many bytes of the output region are output
 abbrev pub out_len_effect : PlainObject → ℕ → Effect
 out_len_effect object n = record { answer = 0; bytes = []; object = object; out_len = Some n }
 

@@ -134,7 +134,7 @@ written s at text from to low high =
 pub length-flat-drop : (xs : List (List ℕ)) (i : ℕ) → length (flat (drop i xs)) ≤ length (flat xs)
 length-flat-drop xs i = omega (arith, sym (ap length (flat-halves xs i)), length-append (flat (take i xs)) (flat (drop i xs)))
 
--- a range is one of the extents behind those before it
+-- a range is one of the extents after those before it
 pub cut-after : (xs : List (List ℕ)) (k from to start : ℕ) → start ≡ length (flat (take k xs)) → start ≤ from → from ≤ to →
     cut (from - start) (to - start) (flat (drop k xs)) ≡ cut from to (flat xs)
 cut-after xs k from to start e low h =

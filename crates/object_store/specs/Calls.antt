@@ -51,7 +51,7 @@ abbrev pub truncate : PlainObject → ℕ → Result Content StoreError
 truncate object len =
     if nat_lt DATA_LIMIT len then Err TooBig else if_there object (λ c. Ok (record c { bytes = resized c.bytes len }))
 
--- names with one set, where they are at most so many
+-- names with one set, where they are at most that many
 abbrev pub set_in : ℕ → Attributes → List ℕ → List ℕ → Result Attributes StoreError
 set_in most m name value =
     if is_some (fin.get m name) then Ok (fin.insert m name value) else

@@ -39,7 +39,7 @@ IsName name = (1 ≤ length name) × (length name ≤ NAME_LIMIT) × AreBytes na
 abbrev pub IsValue : List ℕ → Type 0
 IsValue value = (length value ≤ VALUE_LIMIT) × AreBytes value
 
--- at most so many names, each with a value
+-- at most that many names, each with a value
 pub record AreWithin (most : ℕ) (m : Attributes) : Type 0 where
   pub number : fin.len m ≤ most
   pub each : (name value : List ℕ) → fin.get m name ≡ Some value → IsName name × IsValue value

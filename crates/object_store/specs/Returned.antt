@@ -1,4 +1,4 @@
--- What a call returned, beside what it has to answer.
+-- What a call returned, besides what it has to answer.
 use Rattle.std.specs.Prelude.{◌≡◌, ◌⊎◌, Result, Ok, Err}
 use Rattle.std.specs.Borrow.{Bor}
 use Rattle.object_store.specs.declared.store_error.StoreError.{StoreError}

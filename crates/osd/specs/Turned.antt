@@ -1,7 +1,7 @@
 -- What a worker makes of what it takes.
 use Rattle.std.specs.Prelude.{◌≡◌, ◌⊎◌, List, [], Option}
 use Rattle.pg_log.specs.Log.{Classes}
-use Rattle.carried.specs.Carried.{comes_as, told_of}
+use Rattle.carried.specs.Carried.{unpacked_as, reported_of}
 use Rattle.carried.specs.declared.operation.Carried.{Carried}
 use Rattle.group_cell.specs.Cell.{CellState}
 use Rattle.group_cell.specs.Turns.{IsTurn}
@@ -11,7 +11,7 @@ use Rattle.group_cell.specs.declared.outgoing.Outgoing.{Outgoing}
 pub record WasTurn {N : Type 0} (classes : Classes) (carried : Carried) (out : List (Option (Outgoing N))) : Type 0 where
   pub old : CellState
   pub new : CellState
-  pub turn : IsTurn classes old new (told_of carried) (comes_as old.node.state.log carried) out
+  pub turn : IsTurn classes old new (reported_of carried) (unpacked_as old.node.state.log carried) out
 
 -- or nothing, where it was lost
 abbrev pub IsLostOrTurn : {N : Type 0} → Classes → Carried → List (Option (Outgoing N)) → Type 0

@@ -10,6 +10,7 @@ use Rattle.bpf_decode.specs.Class.{ClassMethod}
 use Rattle.bpf_machine.specs.State.{Outcome}
 use Rattle.bpf_machine.specs.Safe.{IsSafe}
 use Rattle.pg_log.specs.declared.entry.Entry.{Entry}
+use Rattle.pg_log.specs.declared.group.log.Log.{Log}
 use Rattle.pg_log.specs.declared.places.Places.{Places}
 use Rattle.pg_log.specs.Requests.{ClientRequest}
 use Rattle.pg_log.specs.Log.{Classes, Reply, Legal, method_of, outcome_of_method, after, fold}
@@ -19,7 +20,7 @@ use Rattle.pg_log.specs.Places.{ArePlaces}
 abbrev pub outcome_made : ℤ → List ℕ → Versions → Outcome
 outcome_made code output change = record { code = cast_unsigned w64 code; output = output; object = change.after }
 
--- Code, output and the object after are the machine's outcome of a method beside an object, which is the one before.
+-- Code, output and the object after are the machine's outcome of a method on an object, which is the one before.
 pub record IsOutcome (method : Option ClassMethod) (object : PlainObject) (r : ClientRequest) (code : ℤ) (output : List ℕ) (change : Versions) : Type 0 where
   pub made : outcome_made code output change ≡ outcome_of_method method object r
   pub from_before : change.before ≡ object
@@ -67,3 +68,7 @@ pub record Keeps (classes : Classes) (entries : List Entry) (objects : PlainObje
   pub kept : AreEntries classes fin.empty entries
   pub folded : objects ≡ fold classes (requests_of entries)
   pub indexed : ArePlaces places (requests_of entries)
+
+-- so does a log
+abbrev pub KeepsLog : Classes → Log → Type 0
+KeepsLog classes log = Keeps classes log.entries.items log.objects log.places

@@ -46,12 +46,12 @@ method_in (Some class) name = method_named class name
 abbrev pub method_of : Classes → ClientRequest → Option ClassMethod
 method_of classes r = method_in (slice_get classes r.class) r.method
 
--- the machine's outcome of a request's method beside an object; where there is no such method nothing happens
+-- the machine's outcome of a request's method on an object; where there is no such method nothing happens
 unfoldable pub outcome_of_method : Option ClassMethod → PlainObject → ClientRequest → Outcome
 outcome_of_method None object r = record { code = 0; output = []; object = object }
 outcome_of_method (Some m) object r = call_outcome m object r.client r.input
 
--- the outcome of a request beside the object that it names
+-- the outcome of a request on the object that it names
 abbrev pub outcome : Classes → PlainObjects → ClientRequest → Outcome
 outcome classes objects r = outcome_of_method (method_of classes r) (map.get objects r.object) r
 

@@ -10,11 +10,13 @@ ghost use Rattle.pg_log.specs.Entries.{AreEntries, AreSafe, requests_of, given_r
 
 mod adopt;
 mod append;
+mod log;
 mod replay;
 
 use crate::classes::Classes;
 use crate::client_id::ClientId;
 use crate::entry::Entry;
+use crate::group::log::Log;
 use crate::places::Places;
 use crate::request_number::RequestNumber;
 use object_store::{Object, ObjectName, Objects};
@@ -25,38 +27,27 @@ use std::marker::{Model, PhantomData};
 /// requests, which is legal: objects, replies and the index by client are always that list's.
 pub struct Group<C: Classes> {
     of: PhantomData<C>,
-    alloc: Global,
-    entries: Vec<Entry>,
-    objects: Objects,
-    places: Places,
+    log: Log,
 }
 
 // Written out, so that a crate that drops a group calls this and needn't prove again how its parts are dropped.
 impl<C: Classes> Drop for Group<C> {
     fn drop(self) {
-        let Group {
-            of: _,
-            alloc: _,
-            entries,
-            objects,
-            places,
-        } = self;
-        drop(entries);
-        drop(objects);
-        drop(places);
+        let Group { of: _, log } = self;
+        drop(log);
     }
 }
 
 impl<C: Classes> Model for Group<C> {
     ghost use Rattle.std.specs.Prelude.{List};
     ghost use Rattle.pg_log.specs.Requests.{ClientRequest};
-    ghost use Rattle.pg_log.specs.Entries.{Keeps, requests_of};
+    ghost use Rattle.pg_log.specs.Entries.{KeepsLog, requests_of};
 
     ghost Value = { List ClientRequest };
 
-    ghost view = { λ g. requests_of g.entries.items };
+    ghost view = { λ g. requests_of g.log.entries.items };
 
-    ghost invariant = { λ g. Keeps C.classes g.entries.items g.objects g.places };
+    ghost invariant = { λ g. KeepsLog C.classes g.log };
 }
 
 /// The most entries that a log has.
@@ -69,10 +60,12 @@ impl<C: Classes> Group<C> {
     {
         Group {
             of: PhantomData,
-            alloc,
-            entries: Vec::new(alloc),
-            objects: Objects::new(),
-            places: Places::new(alloc),
+            log: Log {
+                alloc,
+                entries: Vec::new(alloc),
+                objects: Objects::new(),
+                places: Places::new(alloc),
+            },
         }
     }
 
@@ -81,19 +74,10 @@ impl<C: Classes> Group<C> {
         requires { IsPrefix C.classes D.classes }
         ensures { result ≡ self }
     {
-        let Group {
-            of: _,
-            alloc,
-            entries,
-            objects,
-            places,
-        } = self;
+        let Group { of: _, log } = self;
         Group {
             of: PhantomData,
-            alloc,
-            entries,
-            objects,
-            places,
+            log,
         }
     }
 
@@ -104,7 +88,7 @@ impl<C: Classes> Group<C> {
         ensures legal { Legal C.classes self.now }
         ensures safe { AreSafe C.classes self.now }
     {
-        &self.entries
+        &self.log.entries
     }
 
     /// How many entries the log has, at most 65,536.
@@ -112,21 +96,21 @@ impl<C: Classes> Group<C> {
         ensures value { result ≡ length self.now }
         ensures limit { length self.now ≤ LOG_LIMIT }
     {
-        self.entries.len()
+        self.log.entries.len()
     }
 
     /// Whether the log has no entry.
     pub fn is_empty(&self) -> bool
         ensures { result ≡ (length self.now == 0) }
     {
-        self.entries.is_empty()
+        self.log.entries.is_empty()
     }
 
     /// The code and output of the request at a place. It is kept, and costs the same at each place.
     pub fn reply_at(&self, place: usize) -> Option<(i64, &[u8])>
         ensures { given_reply result ≡ reply_at C.classes self.now place }
     {
-        match self.entries.get(place) {
+        match self.log.entries.get(place) {
             Some(entry) => {
                 let code = entry.code;
                 Some((code, entry.output.as_slice()))
@@ -142,7 +126,7 @@ impl<C: Classes> Group<C> {
             (place_of client number self.now ≡ None)
             (λ r. (place_of client number self.now ≡ Some r.0) × (reply_at C.classes self.now r.0 ≡ Some (record { code = cast_unsigned w64 r.1; output = r.2.now }))) }
     {
-        let place = self.places.place(client, number)?;
+        let place = self.log.places.place(client, number)?;
         let (code, output) = self.reply_at(place)?;
         Some((place, code, output))
     }
@@ -152,7 +136,7 @@ impl<C: Classes> Group<C> {
         ensures value { option_copied result ≡ fin.get (fold C.classes self.now) name.now }
         ensures within { IsObject (option_copied result) }
     {
-        let object = self.objects.get(name)?;
+        let object = self.log.objects.get(name)?;
         object.within();
         Some(object)
     }

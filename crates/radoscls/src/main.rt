@@ -3,7 +3,7 @@
 //!
 //! - `radoscls verify IN`: whether each method of the class image in the file IN is safe, or which rule it breaks.
 //! - `radoscls run IN METHOD [--input HEX] [--caller N] [--object HEX] [--xattr NAME=HEX ..] [--key KEY=HEX ..] [--show]`: a
-//!   call of that method beside that object, or none, by client N (1 to 4294967295; else client 1): its code, its output, the
+//!   call of that method on that object, or on none, by client N (1 to 4294967295; else client 1): its code, its output, the
 //!   object that it leaves, and its steps.
 //! - `radoscls asm IN OUT`: the image of the class text in the file IN, written to the file OUT.
 //! - `radoscls pack OUT NAME:FLAGS:IN:OUT:FILE ..`: the image of a class of those methods, each with the raw code in its

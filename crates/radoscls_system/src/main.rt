@@ -103,7 +103,7 @@ fn keeps<F: Files>(alloc: Global, files: &mut F, bytes: &[u8]) -> io::Result<boo
     Ok(all && first)
 }
 
-/// The same of so many bytes.
+/// The same of that many bytes.
 fn keeps_count<F: Files>(alloc: Global, files: &mut F, count: usize) -> io::Result<bool> {
     let bytes = bytes_of(alloc, count)?;
     keeps(alloc, files, &bytes)

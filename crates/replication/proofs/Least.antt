@@ -7,35 +7,35 @@ use Rattle.replication.specs.Places.{IsLeast, least_from}
 min_assoc : (a b c : ℕ) → min a (min b c) ≡ min (min a b) c
 min_assoc a b c = omega arith
 
-min-least_from : (own a : ℕ) (xs : List ℕ) → min own (least_from a xs) ≡ least_from (min own a) xs
-min-least_from own a [] = refl
-min-least_from own a (x ∷ xs) = min-least_from own (min a x) xs ∙ ap (λ n. least_from n xs) (min_assoc own a x)
+min-least_from : (local a : ℕ) (xs : List ℕ) → min local (least_from a xs) ≡ least_from (min local a) xs
+min-least_from local a [] = refl
+min-least_from local a (x ∷ xs) = min-least_from local (min a x) xs ∙ ap (λ n. least_from n xs) (min_assoc local a x)
 
 min_same : (a : ℕ) → min a a ≡ a
 min_same a = omega arith
 
 -- the least of a list from its first element on is the least beside any other
-pub own_least : (own d : ℕ) (xs : List ℕ) → 0 < length xs → min own (least_from (get_or xs 0 d) xs) ≡ least_from own xs
-own_least own d [] h = absurd (omega (arith, h))
-own_least own d (x ∷ xs) h = min-least_from own (min x x) xs ∙ ap (λ n. least_from (min own n) xs) (min_same x)
+pub own_least : (local d : ℕ) (xs : List ℕ) → 0 < length xs → min local (least_from (get_or xs 0 d) xs) ≡ least_from local xs
+own_least local d [] h = absurd (omega (arith, h))
+own_least local d (x ∷ xs) h = min-least_from local (min x x) xs ∙ ap (λ n. least_from (min local n) xs) (min_same x)
 
 min_cases : (a b : ℕ) → (min a b ≡ a) ⊎ (min a b ≡ b)
 min_cases zero b = inl (omega arith)
 min_cases (suc a) zero = inr (omega arith)
 min_cases (suc a) (suc b) = ⊎_elim (λ h. inl (omega (arith, h))) (λ h. inr (omega (arith, h))) (min_cases a b)
 
-one_of : (own : ℕ) (xs : List ℕ) → (least_from own xs ≡ own) ⊎ Contains xs (least_from own xs)
-one_of own [] = inl refl
-one_of own (x ∷ xs) =
+one_of : (local : ℕ) (xs : List ℕ) → (least_from local xs ≡ local) ⊎ Contains xs (least_from local xs)
+one_of local [] = inl refl
+one_of local (x ∷ xs) =
     ⊎_elim
-    (λ e. ⊎_elim (λ m. inl (e ∙ m)) (λ m. inr (0, omega arith, sym (e ∙ m))) (min_cases own x))
-    (λ c. inr (Contains-append_right (x ∷ []) xs (least_from (min own x) xs) c))
-    (one_of (min own x) xs)
+    (λ e. ⊎_elim (λ m. inl (e ∙ m)) (λ m. inr (0, omega arith, sym (e ∙ m))) (min_cases local x))
+    (λ c. inr (Contains-append_right (x ∷ []) xs (least_from (min local x) xs) c))
+    (one_of (min local x) xs)
 
-lower : (own : ℕ) (xs : List ℕ) → (least_from own xs ≤ own) × AllByRecursion (λ n. least_from own xs ≤ n) xs
-lower own [] = (omega arith, tt)
-lower own (x ∷ xs) =
-    let rest = lower (min own x) xs in
+lower : (local : ℕ) (xs : List ℕ) → (least_from local xs ≤ local) × AllByRecursion (λ n. least_from local xs ≤ n) xs
+lower local [] = (omega arith, tt)
+lower local (x ∷ xs) =
+    let rest = lower (min local x) xs in
     let low = rest.0 in
     (omega (arith, low), (omega (arith, low), rest.1))
 
@@ -55,5 +55,5 @@ least_first xs r d h e =
     subst P (sym e) (least_is xs (get_or xs 0 d) (Contains-get_or xs 0 d h))
 
 -- and beside another one the least of both
-pub least_beside_own : (own : ℕ) (xs : List ℕ) (r d : ℕ) → 0 < length xs → r ≡ least_from (get_or xs 0 d) xs → min own r ≡ least_from own xs
-least_beside_own own xs r d h e = ap (min own) e ∙ own_least own d xs h
+pub least_beside_own : (local : ℕ) (xs : List ℕ) (r d : ℕ) → 0 < length xs → r ≡ least_from (get_or xs 0 d) xs → min local r ≡ least_from local xs
+least_beside_own local xs r d h e = ap (min local) e ∙ own_least local d xs h

@@ -16,16 +16,16 @@ module _ {X : Type 0} where
 min_below : (a b : ℕ) → min a b ≤ a
 min_below a b = omega arith
 
-pub unpacked : (own list : List ClientRequest) (told : ℕ) → (packed list told).common ≤ length own →
-    take (packed list told).common own ≡ take (packed list told).common list → IsUnpacked own list told
-unpacked own list told h e = record {
+pub unpacked : (local list : List ClientRequest) (reported : ℕ) → (packed list reported).common ≤ length local →
+    take (packed list reported).common local ≡ take (packed list reported).common list → IsUnpacked local list reported
+unpacked local list reported h e = record {
   enough = h;
-  same = ap (λ w. w ++ (packed list told).rest) e ∙ take-append-drop (min told (length list)) list;
+  same = ap (λ w. w ++ (packed list reported).rest) e ∙ take-append-drop (min reported (length list)) list;
 }
 
-pub committed_enough : (own list : List ClientRequest) (committed told : ℕ) → committed ≤ length own → told ≤ committed →
-    IsPrefix (take committed own) list → IsUnpacked own list told
-committed_enough own list committed told h t p =
-    let less = min_below told (length list) in
-    unpacked own list told (omega (arith, h, t, less))
-    (fewer own p.0 (min told (length list)) committed (omega (arith, t, less)) h ∙ ap (take (min told (length list))) p.1)
+pub committed_enough : (local list : List ClientRequest) (committed reported : ℕ) → committed ≤ length local → reported ≤ committed →
+    IsPrefix (take committed local) list → IsUnpacked local list reported
+committed_enough local list committed reported h t p =
+    let less = min_below reported (length list) in
+    unpacked local list reported (omega (arith, h, t, less))
+    (fewer local p.0 (min reported (length list)) committed (omega (arith, t, less)) h ∙ ap (take (min reported (length list))) p.1)

@@ -11,30 +11,30 @@ pub record Packed : Type 0 where
   pub common : ℕ
   pub rest : List ClientRequest
 
--- A list without what the receiver told that it has, or without all where that is more.
+-- A list without what the receiver reported that it has, or without all where that is more.
 abbrev pub packed : List ClientRequest → ℕ → Packed
-packed list told = record { common = min told (length list); rest = drop (min told (length list)) list }
+packed list reported = record { common = min reported (length list); rest = drop (min reported (length list)) list }
 
--- What was left out taken from the own list, and the others.
+-- What was left out taken from the local list, and the others.
 abbrev pub spread : List ClientRequest → Packed → List ClientRequest
-spread own p = take p.common own ++ p.rest
+spread local p = take p.common local ++ p.rest
 
--- the own list is long enough, and what is unpacked is the list
-pub record IsUnpacked (own list : List ClientRequest) (told : ℕ) : Type 0 where
-  pub enough : (packed list told).common ≤ length own
-  pub same : spread own (packed list told) ≡ list
+-- the local list is long enough, and what is unpacked is the list
+pub record IsUnpacked (local list : List ClientRequest) (reported : ℕ) : Type 0 where
+  pub enough : (packed list reported).common ≤ length local
+  pub same : spread local (packed list reported) ≡ list
 
--- where the own list has the first requests of the list, as many as were left out
+-- where the local list has the first requests of the list, as many as were left out
 abbrev pub UnpackingGivesTheList : Type 0
 UnpackingGivesTheList =
-    (own list : List ClientRequest) (told : ℕ) → (packed list told).common ≤ length own →
-    take (packed list told).common own ≡ take (packed list told).common list → IsUnpacked own list told
+    (local list : List ClientRequest) (reported : ℕ) → (packed list reported).common ≤ length local →
+    take (packed list reported).common local ≡ take (packed list reported).common list → IsUnpacked local list reported
 
--- so also where no more was told than is committed, and the list begins with the committed one
+-- so also where no more was reported than is committed, and the list begins with the committed one
 abbrev pub CommittedIsEnough : Type 0
 CommittedIsEnough =
-    (own list : List ClientRequest) (committed told : ℕ) → committed ≤ length own → told ≤ committed →
-    IsPrefix (take committed own) list → IsUnpacked own list told
+    (local list : List ClientRequest) (committed reported : ℕ) → committed ≤ length local → reported ≤ committed →
+    IsPrefix (take committed local) list → IsUnpacked local list reported
 
 -- the table of refusals: number and name
 abbrev pub number_of : UnpackError → ℕ

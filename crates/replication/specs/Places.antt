@@ -28,5 +28,5 @@ pub record IsLeast (least : ℕ) (lengths : List ℕ) : Type 0 where
 
 -- the least of these and of one more
 abbrev pub least_from : ℕ → List ℕ → ℕ
-least_from own [] = own
-least_from own (n ∷ ns) = least_from (min own n) ns
+least_from local [] = local
+least_from local (n ∷ ns) = least_from (min local n) ns

@@ -6,17 +6,17 @@ ghost use Rattle.replication.specs.Places.{IsLeast, least_from};
 pub fn commit_point(acked: &[usize]) -> usize
     requires { 0 < length acked.now }
     ensures least { IsLeast result acked.now }
-    ensures from { (own : ℕ) → min own result ≡ least_from own acked.now }
+    ensures from { (local : ℕ) → min local result ≡ least_from local acked.now }
 {
     let first = acked[0];
     least_beside(first, acked)
 }
 
 /// The least of these and of one more.
-fn least_beside(own: usize, acked: &[usize]) -> usize
-    ensures { result ≡ least_from own acked.now }
+fn least_beside(local: usize, acked: &[usize]) -> usize
+    ensures { result ≡ least_from local acked.now }
 {
-    let mut point = own;
+    let mut point = local;
     for come in acked {
         point = point.min(*come);
     }

@@ -61,24 +61,24 @@ impl PackedLog {
     }
 }
 
-/// Leaves out of a list the first `told` requests, which the receiver says that it has, or all of them if the list is no
+/// Leaves out of a list the first `reported` requests, which the receiver says that it has, or all of them if the list is no
 /// longer. It costs a copy of the rest.
-pub fn pack_log(alloc: Global, list: &[Request], told: usize) -> Result<PackedLog, NoMemory>
-    ensures { IfOk result (λ p. p ≡ packed list.now told) }
+pub fn pack_log(alloc: Global, list: &[Request], reported: usize) -> Result<PackedLog, NoMemory>
+    ensures { IfOk result (λ p. p ≡ packed list.now reported) }
 {
-    let common = told.min(list.len());
+    let common = reported.min(list.len());
     let Ok(rest) = copy_requests(alloc, &list[common..]) else {
         return Err(NoMemory);
     };
     Ok(PackedLog { common, rest })
 }
 
-/// The beginning of the own list that was left out, and what was packed.
-fn unpacked(alloc: Global, own: &[Request], log: &PackedLog) -> Result<Vec<Request>, NoMemory>
-    requires { log.now.common ≤ length own.now }
-    ensures { IfOk result (λ list. list.items ≡ spread own.now log.now) }
+/// The beginning of the local list that was left out, and what was packed.
+fn unpacked(alloc: Global, local: &[Request], log: &PackedLog) -> Result<Vec<Request>, NoMemory>
+    requires { log.now.common ≤ length local.now }
+    ensures { IfOk result (λ list. list.items ≡ spread local.now log.now) }
 {
-    let Ok(mut list) = copy_requests(alloc, &own[..log.common]) else {
+    let Ok(mut list) = copy_requests(alloc, &local[..log.common]) else {
         return Err(NoMemory);
     };
     let Ok(mut rest) = copy_requests(alloc, &log.rest) else {
@@ -90,21 +90,21 @@ fn unpacked(alloc: Global, own: &[Request], log: &PackedLog) -> Result<Vec<Reque
     }
 }
 
-/// The list that was packed, if the own list begins with what was left out. It costs a copy of the list. It refuses by
-/// `TooShort` exactly if the own list is shorter than what was left out, and else by `NoMemory`.
+/// The list that was packed, if the local list begins with what was left out. It costs a copy of the list. It refuses by
+/// `TooShort` exactly if the local list is shorter than what was left out, and else by `NoMemory`.
 pub fn unpack_log(
     alloc: Global,
-    own: &[Request],
+    local: &[Request],
     log: &PackedLog,
 ) -> Result<Vec<Request>, UnpackError>
-    ensures ok { IfOk result (λ list. list.items ≡ spread own.now log.now) }
-    ensures too_short { (result ≡ Err TooShort) ↔ (length own.now < log.now.common) }
+    ensures ok { IfOk result (λ list. list.items ≡ spread local.now log.now) }
+    ensures too_short { (result ≡ Err TooShort) ↔ (length local.now < log.now.common) }
     ensures err { IfErr result (λ e. (e ≡ TooShort) ⊎ (e ≡ NoRoom)) }
 {
-    if own.len() < log.common {
+    if local.len() < log.common {
         return Err(UnpackError::TooShort);
     }
-    match unpacked(alloc, own, log) {
+    match unpacked(alloc, local, log) {
         Ok(list) => Ok(list),
         Err(_) => Err(UnpackError::NoMemory),
     }

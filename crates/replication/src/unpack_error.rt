@@ -7,7 +7,7 @@ use std::fmt;
 /// Why a packed list isn't unpacked. It prints as number and name, as `1 TooShort`.
 #[derive(Clone, Copy, Debug, PartialEq, Eq)]
 pub enum UnpackError {
-    /// The own list is shorter than the beginning that was left out.
+    /// The local list is shorter than the beginning that was left out.
     TooShort,
     /// Memory was refused.
     NoMemory,

@@ -8,7 +8,7 @@ use mathlib.Core.List.{IsPrefix}
 use Rattle.pg_log.specs.Requests.{ClientRequest}
 use Rattle.pg_log.specs.Log.{Classes}
 use Rattle.replication.specs.Packed.{packed, spread, CommittedIsEnough}
-use Rattle.carried.specs.Carried.{carried_as, comes_as}
+use Rattle.carried.specs.Carried.{carried_as, unpacked_as}
 use Rattle.group_world.specs.Maps.{GroupMap}
 use Rattle.group_world.specs.Node.{NodeState, Outcome, committed_list, nothing, is_asking, fresh}
 use Rattle.group_world.specs.Monitor.{MonitorState, map_refusal, next_map, activation_refusal, with_activated, with_map}
@@ -230,7 +230,7 @@ adopts classes n s given list false c same = refl
 
 list_arrives : Laws → (classes : Classes) (n : ℕ) (s : NodeState) (sender : Party) (interval : ℕ) (list : List ClientRequest) (committed reported : ℕ)
     → s.committed ≤ length s.log → reported ≤ s.committed → KeepsCommitted s (LogOf interval list)
-    → Arrives classes n s sender (LogOf interval list) (comes_as s.log (carried_as committed reported sender (LogOf interval list)))
+    → Arrives classes n s sender (LogOf interval list) (unpacked_as s.log (carried_as committed reported sender (LogOf interval list)))
 list_arrives laws classes n s sender interval list committed reported within enough keeps =
     let given = spread s.log (packed list reported) in
     let long : nat_lt (length s.log) (min reported (length list)) ≡ false = le-ltb (length s.log) (min reported (length list)) (omega (arith, within, enough)) in
@@ -243,7 +243,7 @@ list_arrives laws classes n s sender interval list committed reported within eno
     }
 
 arrives_whole : Laws → (classes : Classes) (n : ℕ) (s : NodeState) (sender : Party) (kind : MessageKind) (committed reported : ℕ)
-    → s.committed ≤ length s.log → reported ≤ s.committed → KeepsCommitted s kind → Arrives classes n s sender kind (comes_as s.log (carried_as committed reported sender kind))
+    → s.committed ≤ length s.log → reported ≤ s.committed → KeepsCommitted s kind → Arrives classes n s sender kind (unpacked_as s.log (carried_as committed reported sender kind))
 arrives_whole laws classes n s sender (Query m) committed reported within enough keeps = record { event = AMessage (record { sender = sender; kind = Query m }); comes = refl; same = refl }
 arrives_whole laws classes n s sender (LogOf interval list) committed reported within enough keeps =
     list_arrives laws classes n s sender interval list committed reported within enough keeps
@@ -258,14 +258,14 @@ arrives_whole laws classes n s sender (ReplyTo client number place answer) commi
 -- A DELIVERY TO A NODE
 fits_arrived : Laws → (classes : Classes) (w : Parts) (p : Played) → Holds classes w p → (n : ℕ) → n < 16 → (event : WorldEvent) (m : Message) (committed reported : ℕ)
     → reported ≤ (p.world.nodes n).committed → KeepsCommitted (p.world.nodes n) m.kind → happens p.world event ≡ at_node p.world n (AMessage m)
-    → Fits classes (arrived classes w n (comes_as (nth_node w.nodes n).state.log (carried_as committed reported m.sender m.kind)))
+    → Fits classes (arrived classes w n (unpacked_as (nth_node w.nodes n).state.log (carried_as committed reported m.sender m.kind)))
     (unless_refused p event (outcome_at p.world n (AMessage m)) (outcome_at p.world n (AMessage m)).refusal)
 fits_arrived laws classes w p held n low event m committed reported enough keeps is =
     let s = p.world.nodes n in
     let ok = sound classes laws.uncut p.world held.reached in
     let all = arrives_whole laws classes n s m.sender m.kind committed reported (ok.within n) enough keeps in
     let h = unless_refused p event (outcome_at p.world n (AMessage m)) (outcome_at p.world n (AMessage m)).refusal in
-    subst (λ (x : NumberedNode). Fits classes (arrived classes w n (comes_as x.state.log (carried_as committed reported m.sender m.kind))) h) (sym (held.nodes n low))
+    subst (λ (x : NumberedNode). Fits classes (arrived classes w n (unpacked_as x.state.log (carried_as committed reported m.sender m.kind))) h) (sym (held.nodes n low))
     (subst (λ (c : Option Event). Fits classes (arrived classes w n c) h) (sym all.comes)
     (fits_handled laws classes w p held n low event all.event (AMessage m) is all.same))
 
@@ -318,7 +318,7 @@ fits_to : Laws → (classes : Classes) (w : Parts) (p : Played) → Holds classe
     → HasCommitted p.world.nodes receiver reported → ((n : ℕ) → KeepsCommitted (p.world.nodes n) m.kind) → happens p.world event ≡ deliver_to p.world receiver m
     → Fits classes (delivered classes w (delivery_to w.nodes receiver (carried_as committed reported m.sender m.kind))) (steps.deliver_to p event receiver m)
 fits_to laws classes w p held event (ANode n) m committed reported enough keeps is =
-    fits_unless classes w p held n (arrived classes w n (comes_as (nth_node w.nodes n).state.log (carried_as committed reported m.sender m.kind)))
+    fits_unless classes w p held n (arrived classes w n (unpacked_as (nth_node w.nodes n).state.log (carried_as committed reported m.sender m.kind)))
     (unless_refused p event (outcome_at p.world n (AMessage m)) (outcome_at p.world n (AMessage m)).refusal)
     (λ low. fits_arrived laws classes w p held n low event m committed reported enough (keeps n) is)
 fits_to laws classes w p held event TheMonitor m committed reported enough keeps is = fits_monitor classes w p held event m.sender m.kind committed reported is

@@ -1,6 +1,6 @@
 //! Messages come to their receivers.
 ghost use Rattle.std.specs.Prelude.{◌≡◌, IfOk};
-ghost use Rattle.carried.specs.Carried.{comes_as};
+ghost use Rattle.carried.specs.Carried.{unpacked_as};
 ghost use Rattle.group_world.specs.Monitor.{activation_refusal};
 ghost use Rattle.group_world.specs.World.{activated_for};
 ghost use Rattle.sim_text.specs.Lines.{numbered};
@@ -87,7 +87,7 @@ fn coming_to<C: Classes>(
     node: NodeId,
     carried: &Carried,
 ) -> Result<Option<Event>, AllocError>
-    ensures { IfOk result (λ e. e ≡ comes_as (nth_node nodes.now node).state.log carried.now) }
+    ensures { IfOk result (λ e. e ≡ unpacked_as (nth_node nodes.now node).state.log carried.now) }
 {
     let Ok(carried) = carried.copy(alloc) else {
         return Err(AllocError);

@@ -123,22 +123,16 @@ fn answers_it_alone<N: BoardName, R: Abort>(
     post.answers(&same) && !post.answers(&other)
 }
 
-/// Whether the row's call is answered as the row says, with one message and one place more.
+/// Whether the row's call, which was taken, is answered as the row says, with one place more.
 fn is_answered<N: BoardName, R: Abort>(
     rt: &R,
     alloc: Global,
     board: &Board,
-    table: &ClassTable,
     cell: &mut GroupCell<N>,
     row: &Row,
 ) -> bool
     requires board { board.now ≡ N.board }
-    requires table { table.now ≡ N.classes }
 {
-    let call = request(rt, alloc, row.client, row.number, row.method);
-    if take(board, table, cell, Event::Request(call)) != Ok(1) {
-        return false;
-    }
     let Some(reply) = cell.reply(alloc, board, row.place).expect(rt, "memory") else {
         return false;
     };
@@ -167,10 +161,19 @@ fn locks<N: BoardName, R: Abort>(
                 .reply(alloc, board, row.place)
                 .expect(rt, "memory")
                 .is_none();
-        right = right && is_answered(rt, alloc, board, table, cell, row);
+        let call = request(rt, alloc, row.client, row.number, row.method);
+        right = right && take(board, table, cell, Event::Request(call)) == Ok(1);
+        right = right && is_answered(rt, alloc, board, cell, row);
     }
     let unknown = request(rt, alloc, 3, 1, "unknown");
     right && take(board, table, cell, Event::Request(unknown)) == Err(HandleError::NoMethod)
+}
+
+/// The tokens of a board of one row: its writer's, and one that looks.
+#[derive(Drop)]
+struct Tokens {
+    writer: Writer,
+    seen: Seen,
 }
 
 /// How many requests a token sees once it heard of the cell, if all went as it should.
@@ -179,15 +182,15 @@ fn seen_after<N: BoardName, R: Abort>(
     alloc: Global,
     board: &Board,
     table: &ClassTable,
-    writer: Writer,
-    mut seen: Seen,
+    tokens: Tokens,
 ) -> Option<u64>
     requires board { board.now ≡ N.board }
     requires table { table.now ≡ N.classes }
-    requires writer { (writer.board ≡ board.now) × (writer.list ≡ []) }
-    requires seen { seen.board ≡ board.now }
+    requires writer { (tokens.writer.board ≡ board.now) × (tokens.writer.list ≡ []) }
+    requires seen { tokens.seen.board ≡ board.now }
     requires rows { 0 < board.now.words }
 {
+    let Tokens { writer, mut seen } = tokens;
     let node = GroupNode::<N>::new(alloc, NodeId::new(0));
     let mut cell = GroupCell::new(node, writer);
     if !locks(rt, alloc, board, table, &mut cell) || cell.node().len() != 4 {
@@ -212,6 +215,7 @@ fn two_clients_share_a_lock(rt: HostRuntime) {
     let table = table(&rt, alloc);
     let (board, mut writers, seen) = Board::new(alloc, 1).expect(&rt, "memory");
     let writer = writers.pop().expect(&rt, "a writer");
-    let seen = seen_after::<Brand, HostRuntime>(&rt, alloc, &board, &table, writer, seen);
+    let tokens = Tokens { writer, seen };
+    let seen = seen_after::<Brand, HostRuntime>(&rt, alloc, &board, &table, tokens);
     assert!(rt; seen == Some(4));
 }

@@ -47,23 +47,29 @@ fn are<N: BoardName>(items: &[Option<Outgoing<N>>], wanted: &[Out]) -> bool {
             .all(|(item, out)| out_of(item) == *out)
 }
 
-/// Whether a turn with this event sends that.
-fn sends<N: BoardName, R: Abort>(
-    rt: &R,
+/// A turn's event, and what is to go out by it.
+#[derive(Drop)]
+struct Turn<'a> {
+    event: Event,
+    wanted: &'a [Out],
+}
+
+/// Whether a turn sends what it is to. It doesn't where memory is refused.
+fn sends<N: BoardName>(
     alloc: Global,
     board: &Board,
     table: &ClassTable,
     cell: &mut GroupCell<N>,
-    event: Event,
-    wanted: &[Out],
+    turn: Turn<'_>,
 ) -> bool
     requires board { board.now ≡ N.board }
     requires table { table.now ≡ N.classes }
 {
-    let items = cell
-        .turn(alloc, board, table, Carried::Plain(event))
-        .expect(rt, "memory");
-    are(&items, wanted)
+    let Turn { event, wanted } = turn;
+    match cell.turn(alloc, board, table, Carried::Plain(event)) {
+        Ok(items) => are(&items, wanted),
+        Err(_) => false,
+    }
 }
 
 /// The map of epoch 1 with these acting nodes.
@@ -89,25 +95,28 @@ fn works_alone<N: BoardName, R: Abort>(
     requires writer { (writer.board ≡ board.now) × (writer.list ≡ []) }
 {
     let mut cell = GroupCell::new(GroupNode::<N>::new(alloc, NodeId::new(0)), writer);
-    let map = first_map(rt, alloc, &[0]);
     let asked = [Out::Monitor(1)];
-    let mut right = sends(rt, alloc, board, table, &mut cell, map, &asked);
+    let map = Turn {
+        event: first_map(rt, alloc, &[0]),
+        wanted: &asked,
+    };
+    let mut right = sends(alloc, board, table, &mut cell, map);
     right = right && are(&cell.resend(alloc, board).expect(rt, "memory"), &asked);
-    right = right && sends(rt, alloc, board, table, &mut cell, activated(), &[]);
-    let lock = Event::Request(request(rt, alloc, 7, 1, "lock"));
-    right = right
-        && sends(
-            rt,
-            alloc,
-            board,
-            table,
-            &mut cell,
-            lock,
-            &[Out::Answered(7, 0)],
-        );
-    let unknown = Event::Request(request(rt, alloc, 7, 2, "unknown"));
-    let refused = [Out::Refused(7, HandleError::NoMethod)];
-    right && sends(rt, alloc, board, table, &mut cell, unknown, &refused)
+    let activation = Turn {
+        event: activated(),
+        wanted: &[],
+    };
+    right = right && sends(alloc, board, table, &mut cell, activation);
+    let lock = Turn {
+        event: Event::Request(request(rt, alloc, 7, 1, "lock")),
+        wanted: &[Out::Answered(7, 0)],
+    };
+    right = right && sends(alloc, board, table, &mut cell, lock);
+    let unknown = Turn {
+        event: Event::Request(request(rt, alloc, 7, 2, "unknown")),
+        wanted: &[Out::Refused(7, HandleError::NoMethod)],
+    };
+    right && sends(alloc, board, table, &mut cell, unknown)
 }
 
 /// Whether the first of three acting nodes sends its empty list to the others, and refuses a client until they have it.
@@ -123,12 +132,16 @@ fn leads_three<N: BoardName, R: Abort>(
     requires writer { (writer.board ≡ board.now) × (writer.list ≡ []) }
 {
     let mut cell = GroupCell::new(GroupNode::<N>::new(alloc, NodeId::new(1)), writer);
-    let map = first_map(rt, alloc, &[1, 2, 3]);
-    let installs = [Out::Node(2), Out::Node(3)];
-    let right = sends(rt, alloc, board, table, &mut cell, map, &installs);
-    let early = Event::Request(request(rt, alloc, 7, 1, "lock"));
-    let refused = [Out::Refused(7, HandleError::Peering)];
-    right && sends(rt, alloc, board, table, &mut cell, early, &refused)
+    let installs = Turn {
+        event: first_map(rt, alloc, &[1, 2, 3]),
+        wanted: &[Out::Node(2), Out::Node(3)],
+    };
+    let right = sends(alloc, board, table, &mut cell, installs);
+    let early = Turn {
+        event: Event::Request(request(rt, alloc, 7, 1, "lock")),
+        wanted: &[Out::Refused(7, HandleError::Peering)],
+    };
+    right && sends(alloc, board, table, &mut cell, early)
 }
 
 #[test]

@@ -14,16 +14,30 @@ const LOCK: usize = 0;
 
 const OBJ: usize = 1;
 
-/// The place and the code of a reply, or the number of the refusal and 0.
+/// A call: the class's id, the method and the input.
+#[derive(Clone, Copy)]
+struct Call {
+    class: usize,
+    method: &'static str,
+    input: &'static [u8],
+}
+
+/// The call that takes the lock.
+const TAKES_LOCK: Call = Call {
+    class: LOCK,
+    method: "lock",
+    input: b"",
+};
+
+/// The place and the code of the reply to a call of an object, or the number of the refusal and 1,000.
 fn outcome<N: ClusterName, R: Wait>(
     session: &mut Session<'_, N, R>,
     alloc: Global,
     object: &ObjectName,
-    class: usize,
-    method: &str,
-    input: &[u8],
+    call: Call,
 ) -> (usize, i64) {
-    match session.exec(alloc, object, ClassId::new(class), method, input) {
+    let class = ClassId::new(call.class);
+    match session.exec(alloc, object, class, call.method, call.input) {
         Ok(reply) => (reply.place(), reply.code()),
         Err(error) => (usize::from(error.number()), 1_000),
     }
@@ -196,6 +210,24 @@ fn the_six_calls_of_obj(rt: HostRuntime) {
     );
 }
 
+/// A call of a class that isn't loaded.
+const NO_CLASS: Call = Call {
+    class: 64,
+    ..TAKES_LOCK
+};
+
+/// A call of a method that isn't there.
+const NO_METHOD: Call = Call {
+    method: "look",
+    ..TAKES_LOCK
+};
+
+/// A call with an input that is too long.
+const LONG_INPUT: Call = Call {
+    input: b"1",
+    ..TAKES_LOCK
+};
+
 /// Refusals: a class that isn't loaded, a method that isn't there, an input that is too long; and the answer again by
 /// `retry`.
 #[derive(Drop)]
@@ -210,11 +242,11 @@ impl Calls for Refusals {
         object: &ObjectName,
     ) -> bool {
         let nothing = session.retry().is_err_and(|e| e == ExecError::NothingSent);
-        let class = outcome(session, alloc, object, 64, "lock", b"");
-        let method = outcome(session, alloc, object, LOCK, "look", b"");
-        let input = outcome(session, alloc, object, LOCK, "lock", b"1");
+        let class = outcome(session, alloc, object, NO_CLASS);
+        let method = outcome(session, alloc, object, NO_METHOD);
+        let input = outcome(session, alloc, object, LONG_INPUT);
         let again = session.retry().is_err_and(|e| e == ExecError::InputTooLong);
-        let first = outcome(session, alloc, object, LOCK, "lock", b"");
+        let first = outcome(session, alloc, object, TAKES_LOCK);
         let same = session
             .retry()
             .is_ok_and(|r| r.place() == 0 && r.code() == 0);
@@ -281,7 +313,7 @@ impl Calls for OneTry {
         session: &mut Session<'_, N, R>,
         object: &ObjectName,
     ) -> bool {
-        let first = outcome(session, alloc, object, LOCK, "lock", b"");
+        let first = outcome(session, alloc, object, TAKES_LOCK);
         let stands = comes_to_stand(running, session);
         first == (9, 1_000) && stands && !is_answered(session)
     }
@@ -333,9 +365,9 @@ impl Calls for Stale {
         session: &mut Session<'_, N, R>,
         object: &ObjectName,
     ) -> bool {
-        let first = outcome(session, alloc, object, LOCK, "lock", b"");
+        let first = outcome(session, alloc, object, TAKES_LOCK);
         let asked = asks(running, alloc, session.client(), object);
-        let second = outcome(session, alloc, object, LOCK, "lock", b"");
+        let second = outcome(session, alloc, object, TAKES_LOCK);
         first == (0, 0) && asked && second == (4, 1_000)
     }
 }
@@ -352,20 +384,20 @@ fn a_number_below_a_logged_one_is_stale(rt: HostRuntime) {
     );
 }
 
-/// The second session hears what the first has seen, and its next call stands behind it.
+/// The second session hears what the first has seen, and its next call stands after it.
 #[derive(Drop)]
 struct Telling;
 
-/// Whether the second session, which heard what the first has seen, calls behind it.
+/// Whether the second session, which heard what the first has seen, calls after it.
 fn tells<N: ClusterName, R: Wait>(
     alloc: Global,
     first: &mut Session<'_, N, R>,
     second: &mut Session<'_, N, R>,
     object: &ObjectName,
 ) -> bool {
-    let one = outcome(first, alloc, object, LOCK, "lock", b"");
+    let one = outcome(first, alloc, object, TAKES_LOCK);
     second.hear(first.tell());
-    let two = outcome(second, alloc, object, LOCK, "lock", b"");
+    let two = outcome(second, alloc, object, TAKES_LOCK);
     first.client().get() == 1
         && second.client().get() == 2
         && one == (0, 0)
@@ -412,7 +444,7 @@ fn unanswered<N: ClusterName, R: Wait>(
     object: &ObjectName,
 ) -> usize {
     for made in 0..1_100 {
-        if outcome(session, alloc, object, LOCK, "lock", b"") != (9, 1_000) {
+        if outcome(session, alloc, object, TAKES_LOCK) != (9, 1_000) {
             return made;
         }
     }
@@ -427,7 +459,7 @@ impl Calls for Unserved {
         session: &mut Session<'_, N, R>,
         object: &ObjectName,
     ) -> bool {
-        let first = outcome(session, alloc, object, LOCK, "lock", b"");
+        let first = outcome(session, alloc, object, TAKES_LOCK);
         let again = session.retry().is_err_and(|e| e == ExecError::Unanswered);
         let made = unanswered(session, alloc, object);
         let still = session.retry().is_err_and(|e| e == ExecError::NotTaken);

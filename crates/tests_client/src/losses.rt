@@ -51,7 +51,7 @@ fn lock<N: ClusterName, R: Wait>(
 }
 
 /// After the first client's lock the primary is stopped and left out of a new map. The second client's lock stands
-/// behind the first.
+/// after the first.
 #[derive(Drop)]
 struct StoppedPrimary(Global);
 
@@ -63,7 +63,7 @@ fn lose_primary<N: ClusterName, R: Wait>(alloc: Global, running: &Running<N, R>)
     running.new_map(&up).ok()
 }
 
-/// Whether the second session's lock stands behind the first's, with the primary lost between them.
+/// Whether the second session's lock stands after the first's, with the primary lost between them.
 fn outlives<N: ClusterName, R: Wait>(
     alloc: Global,
     running: &Running<N, R>,
@@ -131,6 +131,13 @@ struct Answered {
 /// How many milliseconds the nodes are given after a nudge.
 const PAUSE_MILLISECONDS: u64 = 1;
 
+/// An object of a cluster, which clients lock.
+#[derive(Drop)]
+struct Locked<'a, N: ClusterName, R> {
+    running: &'a Running<N, R>,
+    object: &'a ObjectName,
+}
+
 /// Four clients with ten locks each on one object, under losses. A call has few tries, so that a lost message doesn't
 /// cost the thousand looks after which a session nudges: a sender of its own nudges after each call that is unanswered.
 #[derive(Drop)]
@@ -143,15 +150,14 @@ impl<C: Clock> Lossy<C> {
     /// What is answered of ten locks of each of these clients, who take turns.
     fn ten_locks<N: ClusterName, R: Wait>(
         &self,
-        running: &Running<N, R>,
+        locked: &Locked<'_, N, R>,
         sends: &mut Sends<N>,
         sessions: &mut Vec<Session<'_, N, R>>,
-        object: &ObjectName,
     ) -> Vec<Answered> {
         let mut answers = Vec::new(self.alloc);
         for number in 1..=10 {
             for session in sessions.iter_mut() {
-                let answer = self.lock(running, sends, session, object, number);
+                let answer = self.lock(locked, sends, session, number);
                 keep(&mut answers, answer);
             }
         }
@@ -168,10 +174,14 @@ impl<C: Clock> Lossy<C> {
         let Ok(object) = ObjectName::new(self.alloc, "a") else {
             return false;
         };
-        let Some(first) = self.first_lock(running, sends, &object) else {
+        let locked = Locked {
+            running,
+            object: &object,
+        };
+        let Some(first) = self.first_lock(&locked, sends) else {
             return false;
         };
-        let mut answers = self.ten_locks(running, sends, sessions, &object);
+        let mut answers = self.ten_locks(&locked, sends, sessions);
         keep(&mut answers, Some(first));
         are_logged(self.alloc, running, &answers)
     }
@@ -179,15 +189,12 @@ impl<C: Clock> Lossy<C> {
     /// A lock of a session of its own, which goes on until it is answered.
     fn first_lock<N: ClusterName, R: Wait>(
         &self,
-        running: &Running<N, R>,
+        locked: &Locked<'_, N, R>,
         sends: &mut Sends<N>,
-        object: &ObjectName,
     ) -> Option<Answered> {
-        let mut session = Session::open(running).ok()?;
+        let mut session = Session::open(locked.running).ok()?;
         let client = session.client().get();
-        let reply = self
-            .insist(running, sends, &mut session, object, 10_000)
-            .ok()?;
+        let reply = self.insist(locked, sends, &mut session, 10_000).ok()?;
         Some(Answered {
             client,
             number: 1,
@@ -199,14 +206,13 @@ impl<C: Clock> Lossy<C> {
     /// What is answered of a lock, the session's call of that number.
     fn lock<N: ClusterName, R: Wait>(
         &self,
-        running: &Running<N, R>,
+        locked: &Locked<'_, N, R>,
         sends: &mut Sends<N>,
         session: &mut Session<'_, N, R>,
-        object: &ObjectName,
         number: u32,
     ) -> Option<Answered> {
         let client = session.client().get();
-        let reply = self.insist(running, sends, session, object, 5).ok()?;
+        let reply = self.insist(locked, sends, session, 5).ok()?;
         Some(Answered {
             client,
             number,
@@ -215,21 +221,21 @@ impl<C: Clock> Lossy<C> {
         })
     }
 
-    /// A lock, with so many repeats at most where it is unanswered.
+    /// A lock, with that many repeats at most where it is unanswered.
     fn insist<N: ClusterName, R: Wait>(
         &self,
-        running: &Running<N, R>,
+        locked: &Locked<'_, N, R>,
         sends: &mut Sends<N>,
         session: &mut Session<'_, N, R>,
-        object: &ObjectName,
         repeats: u32,
     ) -> Result<Reply, ExecError> {
-        let mut answer = session.exec(self.alloc, object, ClassId::new(LOCK), "lock", b"");
+        let class = ClassId::new(LOCK);
+        let mut answer = session.exec(self.alloc, locked.object, class, "lock", b"");
         for _ in 0..repeats {
             if !is_unanswered(&answer) {
                 break;
             }
-            running.nudge(sends, 0);
+            locked.running.nudge(sends, 0);
             sleep(&self.clock, Duration::from_millis(PAUSE_MILLISECONDS));
             answer = session.retry();
         }

@@ -2,7 +2,7 @@
 //! and where none is refused.
 
 use crate::limits::IMAGE;
-use crate::served::{Alone, Part, config, play};
+use crate::served::{Alone, Part, UnderFate, config, play};
 use object_store::ObjectName;
 use osd::{LoggedEntry, LoggedError, PassAll};
 use placement::NodeId;
@@ -119,7 +119,12 @@ fn what_a_refused_allocation_leaves(rt: HostRuntime) {
     let loaded = loads(&mut cluster);
     let (parts, table) = cluster.start().expect(&rt, "its parts");
     drop(cluster);
-    let played = play(rt.alloc(), rt, parts, table, &PassAll, &Kept(rt.alloc()));
+    let kept = Kept(rt.alloc());
+    let under_none = UnderFate {
+        part: &kept,
+        fate: &PassAll,
+    };
+    let played = play(rt.alloc(), rt, parts, table, &under_none);
     assert!(rt; loaded && played != Some(false));
 }
 

@@ -10,7 +10,7 @@ use std::process::Abort;
 use std::sync::Wait;
 use std::thread::{Threads, join};
 
-/// A cluster of one group, with so many nodes that all act for it.
+/// A cluster of one group, with that many nodes that all act for it.
 pub fn config(nodes: u64, tries: u32) -> Config {
     Config {
         nodes,
@@ -76,7 +76,15 @@ pub fn is_so_under<P: Part + Sync, F: Fate + Sync, R: Threads + Wait + Sync + Ab
 ) -> bool {
     let mut cluster = Cluster::new(alloc, config).expect(rt, "a cluster");
     let (parts, table) = cluster.start().expect(rt, "a start");
-    play(alloc, rt, parts, table, fate, part) == Some(true)
+    let played = UnderFate { part, fate };
+    play(alloc, rt, parts, table, &played) == Some(true)
+}
+
+/// A part, and the fate under which it is played.
+#[derive(Drop)]
+pub struct UnderFate<'a, P, F> {
+    pub part: &'a P,
+    pub fate: &'a F,
 }
 
 /// Plays a part on the cluster of these parts and classes beside one worker. None where memory for its nodes is
@@ -86,10 +94,9 @@ pub fn play<P: Part + Sync, F: Fate + Sync, R: Threads + Wait + Sync + Drop>(
     rt: R,
     parts: Parts,
     table: ClassTable,
-    fate: &F,
-    part: &P,
+    played: &UnderFate<'_, P, F>,
 ) -> Option<bool> {
-    play_named::<Brand, P, F, R>(alloc, rt, parts, table, fate, part)
+    play_named::<Brand, P, F, R>(alloc, rt, parts, table, played)
 }
 
 fn play_named<
@@ -97,14 +104,20 @@ fn play_named<
     P: Part + Sync,
     F: Fate + Sync,
     R: Threads + Wait + Sync + Drop,
->(alloc: Global, rt: R, parts: Parts, table: ClassTable, fate: &F, part: &P) -> Option<bool>
+>(
+    alloc: Global,
+    rt: R,
+    parts: Parts,
+    table: ClassTable,
+    played: &UnderFate<'_, P, F>,
+) -> Option<bool>
     requires board { parts.board ≡ N.board }
     requires queues { parts.queues ≡ N.queues }
     requires config { parts.config ≡ N.config }
     requires table { table ≡ N.classes }
 {
     let running = Running::<N, R>::named(alloc, rt, parts, table).ok()?;
-    Some(act_served(&running, fate, part))
+    Some(act_served(&running, played.fate, played.part))
 }
 
 fn act_served<

@@ -83,7 +83,7 @@ fn bytes_of_lines(rt: HostRuntime) {
     assert!(rt; has_bytes(rt.alloc(), "ldxw r0, [r1+4]\njgt r2, 15, +3\n", &TWO));
 }
 
-/// Writes a text behind a text.
+/// Writes a text after a text.
 fn put(rt: &impl Abort, text: &mut String, behind: &str) {
     text.push_str(behind).expect(rt, "memory");
 }
@@ -269,7 +269,7 @@ fn fault_of(name: &str) -> AsmFault {
     AsmFault::NoMemory
 }
 
-/// What stands in the row before and behind its first space.
+/// What stands in the row before and after its first space.
 fn cut<'a>(rt: &impl Abort, row: &'a str) -> (&'a str, &'a str) {
     row.split_once(" ").expect(rt, "a space")
 }
@@ -289,7 +289,7 @@ fn is_row_refused(rt: &impl Abort, alloc: Global, row: &str, of_class: bool) -> 
     refusal(alloc, text, of_class) == Some(error)
 }
 
-/// Whether the row's text is read as what stands behind ` => `, or else refused as stands before it.
+/// Whether the row's text is read as what stands after ` => `, or else refused as stands before it.
 fn is_row_right(rt: &impl Abort, alloc: Global, row: &str, of_class: bool) -> bool {
     match row.split_once(" => ") {
         Some((text, canonical)) => is_read(alloc, text, canonical),
@@ -318,7 +318,7 @@ fn refused(rt: HostRuntime) {
     are_right(&rt, rt.alloc(), REFUSED, false, 46);
 }
 
-/// A line so many times, and the lines behind it.
+/// A line that many times, and the lines after it.
 fn repeated(rt: &impl Abort, alloc: Global, line: &str, count: usize, behind: &str) -> String {
     let mut text = line.repeat(alloc, count).expect(rt, "memory");
     put(rt, &mut text, behind);

@@ -295,7 +295,7 @@ fn refuses_images(rt: HostRuntime) {
     assert!(rt; is_refused(rt.alloc(), &[], 0, DecodeError::Truncated));
 }
 
-/// The bytes, and others behind them.
+/// The bytes, and others after them.
 fn joined(rt: &impl Abort, alloc: Global, bytes: &[u8], behind: &[u8]) -> Vec<u8> {
     let mut joined = Vec::from_slice(alloc, bytes).expect(rt, "memory");
     joined.extend_from_slice(behind).expect(rt, "memory");
@@ -403,7 +403,7 @@ fn builds_classes(rt: HostRuntime) {
 /// 65 bytes.
 const LONG_NAME: &str = "b2345678901234567890123456789012345678901234567890123456789012345";
 
-/// Name, flags and in_cap of a second method behind `a`, and its refusal.
+/// Name, flags and in_cap of a second method after `a`, and its refusal.
 const SECOND: [(&str, u8, u16, DecodeError); 7] = [
     ("", 1, 0, DecodeError::Name),
     (LONG_NAME, 1, 0, DecodeError::Name),

@@ -50,7 +50,7 @@ impl Folder {
         }
     }
 
-    /// The first bytes of a file, so many at most.
+    /// The first bytes of a file, that many at most.
     fn first_of(&self, alloc: Global, name: &str, most: usize) -> io::Result<Vec<u8>> {
         match self.file(name) {
             None => Err(io::Error::from(ErrorKind::NotFound)),

@@ -107,7 +107,7 @@ impl Row {
     }
 }
 
-/// A text that begins with the first part, has the next so many times, and ends with the last.
+/// A text that begins with the first part, has the next that many times, and ends with the last.
 pub fn with_repeated(
     alloc: Global,
     first: &str,

@@ -12,7 +12,7 @@ use std::str::SplitWhitespace;
 use verifier::{VerifiedClass, VerifiedMethod};
 
 /// An owner, another, and nobody. A row is a request (client, object, class, method and input), a bar, and its reply
-/// (code and output). Bytes are hexadecimal, `-` for none, and `*N` behind them stands for N zero bytes.
+/// (code and output). Bytes are hexadecimal, `-` for none, and `*N` after them stands for N zero bytes.
 const LOCKS: &str = "1 a lock unlock - | -2 -
 1 a lock lock - | 0 -
 2 a lock lock - | -16 -
@@ -92,7 +92,7 @@ const XATTRS: &str = "1 a obj getxattr 61 | -2 -
 1 a obj remove - | 0 -
 1 a obj getxattr 61 | -2 -";
 
-/// 32 xattrs of an object `a`, and behind them no further one, and no lock.
+/// 32 xattrs of an object `a`, and after them no further one, and no lock.
 const FULL: &str = "1 a obj setxattr 0110 | 0 -
 1 a obj setxattr 0111 | 0 -
 1 a obj setxattr 0112 | 0 -
@@ -169,7 +169,7 @@ fn fills_an_object(rt: HostRuntime) {
 /// The owner's second lock and its unlock in between.
 const OLD: &str = "1 1 0 lock; 1 2 0 unlock; 1 3 0 lock";
 
-/// A list without them is adopted behind the first entry, and the lock stays its owner's.
+/// A list without them is adopted after the first entry, and the lock stays its owner's.
 const ADOPTED: &str = "replay 3 | 3
 adopt 1; 2 1 0 lock | 1
 length | 2
@@ -210,20 +210,18 @@ fn takes_lock(outcome: &Outcome) -> bool {
         && has_one_xattr(outcome.change.after())
 }
 
-/// Whether a client's call of `lock` is answered with that code, after so many steps.
-fn answers<R: Abort>(
+/// The code that a client's call of `lock` is answered, and its steps.
+fn answer_of<R: Abort>(
     rt: &R,
     alloc: Global,
     class: &VerifiedClass,
     object: Option<&Object>,
     client: u32,
-    code: i64,
-    steps: usize,
-) -> bool {
+) -> (i64, usize) {
     let outcome = locked(rt, alloc, class, object, client);
-    let is_answer = (outcome.code == code) & (outcome.steps == steps);
+    let answer = (outcome.code, outcome.steps);
     drop(outcome);
-    is_answer
+    answer
 }
 
 /// Whether another is refused the lock in 16 steps, and the owner has it still in 15.
@@ -233,7 +231,8 @@ fn is_kept<R: Abort>(
     class: &VerifiedClass,
     object: Option<&Object>,
 ) -> bool {
-    answers(rt, alloc, class, object, 2, -16, 16) && answers(rt, alloc, class, object, 1, 0, 15)
+    answer_of(rt, alloc, class, object, 2) == (-16, 16)
+        && answer_of(rt, alloc, class, object, 1) == (0, 15)
 }
 
 /// Whether the lock is taken, and then refused and kept.

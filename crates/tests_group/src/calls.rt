@@ -1,7 +1,7 @@
 //! Calls of the built-in classes through a group.
 ghost use mathlib.Core.List.{IsPrefix};
 
-use super::requests::request;
+use super::requests::{RequestParts, request};
 use super::script::Line;
 use super::words::{halves, is_code, next, number_of};
 use interp::ClassTable;
@@ -18,7 +18,7 @@ fn part_of<R: Abort>(rt: &R, alloc: Global, part: &str) -> Vec<u8> {
     bytes
 }
 
-/// The bytes of a word: hexadecimal digits, `*N` for N zero bytes, and digits behind a comma; or `-`.
+/// The bytes of a word: hexadecimal digits, `*N` for N zero bytes, and digits after a comma; or `-`.
 fn bytes_of<R: Abort>(rt: &R, alloc: Global, word: &str) -> Vec<u8> {
     let (part, digits) = halves(word.trim_matches('-'), ',');
     let mut bytes = part_of(rt, alloc, part);
@@ -34,8 +34,15 @@ fn call_of<R: Abort>(rt: &R, alloc: Global, line: &Line<'_>) -> Request {
     let class = usize::from(next(&mut words) == "obj");
     let method = next(&mut words);
     let input = bytes_of(rt, alloc, next(&mut words));
-    let pair = (number_of(rt, line.what), line.number);
-    request(rt, alloc, object, pair, class, method, &input)
+    let parts = RequestParts {
+        object,
+        client: number_of(rt, line.what),
+        number: line.number,
+        class,
+        method,
+        input: &input,
+    };
+    request(rt, alloc, &parts)
 }
 
 /// Whether the reply at a place has that code and that output.

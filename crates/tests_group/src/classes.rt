@@ -5,15 +5,9 @@ use std::alloc::Global;
 use std::process::Abort;
 use verifier::{VerifiedClass, verify};
 
-fn method<R: Abort>(
-    rt: &R,
-    alloc: Global,
-    name: &str,
-    flags: u8,
-    in_cap: u16,
-    code: &[u8],
-) -> Method {
-    let name = String::from_str(alloc, name).expect(rt, "memory");
+/// A method `f`.
+fn method<R: Abort>(rt: &R, alloc: Global, flags: u8, in_cap: u16, code: &[u8]) -> Method {
+    let name = String::from_str(alloc, "f").expect(rt, "memory");
     let insns = decode(alloc, code).expect(rt, "instructions");
     Method::new(name, flags, in_cap, 0, insns)
 }
@@ -27,7 +21,7 @@ pub(super) fn class<R: Abort>(
     code: &[u8],
 ) -> VerifiedClass {
     let mut methods = Vec::new(alloc);
-    let method = method(rt, alloc, "f", flags, in_cap, code);
+    let method = method(rt, alloc, flags, in_cap, code);
     methods.push(method).expect(rt, "memory");
     let image = ClassImage::new(methods, RuleSet::One).expect(rt, "a class");
     verify(alloc, &image).expect(rt, "a safe class")

@@ -1,5 +1,5 @@
 //! Lists of requests from a text.
-use super::requests::{request, request_of};
+use super::requests::{RequestParts, request, request_of};
 use super::words::{halves, number_of};
 use pg_log::Request;
 use std::alloc::Global;
@@ -15,7 +15,15 @@ fn one_of_many<R: Abort>(rt: &R, alloc: Global, who: u32, value: u32) -> Request
     } else {
         b"".as_slice()
     };
-    request(rt, alloc, "object", (who, value), 0, "f", input)
+    let parts = RequestParts {
+        object: "object",
+        client: who,
+        number: value,
+        class: 0,
+        method: "f",
+        input,
+    };
+    request(rt, alloc, &parts)
 }
 
 /// As many requests as a log holds, of client 1 but the last, from number 1 on.
@@ -30,7 +38,7 @@ fn full_list<R: Abort>(rt: &R, alloc: Global, last: u32) -> Vec<Request> {
     list
 }
 
-/// Puts the first requests of a text behind those that there are. A semicolon stands between two.
+/// Puts the first requests of a text after those that there are. A semicolon stands between two.
 fn add<R: Abort>(rt: &R, alloc: Global, list: &mut Vec<Request>, text: &str, most: usize) {
     for part in text.split_terminator(';').take(most) {
         list.push(request_of(rt, alloc, part)).expect(rt, "memory");

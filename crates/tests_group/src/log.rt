@@ -10,7 +10,7 @@ mod undone;
 use super::checks::see;
 use super::classes::class;
 use super::printed::prints;
-use super::requests::{client, number, request};
+use super::requests::{RequestParts, client, number, request};
 use super::script::go_through;
 use interp::ClassTable;
 use pg_log::{
@@ -36,7 +36,7 @@ const WRITE: [u8; 40] = [
     0, 0, 0, 3, 0, 0, 0, 0x95, 0, 0, 0, 0, 0, 0, 0,
 ];
 
-/// Puts a class of one method behind those that there are.
+/// Puts a class of one method after those that there are.
 fn add<R: Abort>(rt: &R, alloc: Global, table: &mut ClassTable, flags: u8, code: &[u8]) {
     let class = class(rt, alloc, flags, 3, code);
     let _ = table.add(class).expect(rt, "room");
@@ -65,7 +65,15 @@ fn numbers_begin_at_one(rt: HostRuntime) {
 
 /// A request with that input.
 fn request_with<R: Abort>(rt: &R, alloc: Global, input: &[u8]) -> Request {
-    request(rt, alloc, "object", (3, 4), 5, "f", input)
+    let parts = RequestParts {
+        object: "object",
+        client: 3,
+        number: 4,
+        class: 5,
+        method: "f",
+        input,
+    };
+    request(rt, alloc, &parts)
 }
 
 /// Whether its parts are those that it was made of.

@@ -67,7 +67,7 @@ fn scores(rt: HostRuntime) {
     }
 }
 
-/// The map of a line, whose words are behind the group.
+/// The map of a line, whose words are after the group.
 fn map_of<R: Abort>(
     rt: &R,
     alloc: Global,

@@ -5,8 +5,16 @@ use pg_log::{ClientId, Request, RequestNumber};
 use std::alloc::Global;
 use std::process::Abort;
 
-/// Client and number of a request.
-pub(super) type Pair = (u32, u32);
+/// The parts of a request, by their numbers and texts. The class is an id in the table of classes.
+#[derive(Clone, Copy)]
+pub(super) struct RequestParts<'a> {
+    pub(super) object: &'a str,
+    pub(super) client: u32,
+    pub(super) number: u32,
+    pub(super) class: usize,
+    pub(super) method: &'a str,
+    pub(super) input: &'a [u8],
+}
 
 pub(super) fn client<R: Abort>(rt: &R, number: u32) -> ClientId {
     ClientId::new(number).expect(rt, "a client")
@@ -16,32 +24,28 @@ pub(super) fn number<R: Abort>(rt: &R, value: u32) -> RequestNumber {
     RequestNumber::new(value).expect(rt, "a number")
 }
 
-/// A request for the object of that name.
-pub(super) fn request<R: Abort>(
-    rt: &R,
-    alloc: Global,
-    object: &str,
-    (who, value): Pair,
-    class: usize,
-    method: &str,
-    input: &[u8],
-) -> Request {
+/// The request of those parts.
+pub(super) fn request<R: Abort>(rt: &R, alloc: Global, parts: &RequestParts<'_>) -> Request {
     Request::new(
-        client(rt, who),
-        number(rt, value),
-        ObjectName::new(alloc, object).expect(rt, "memory"),
-        class,
-        String::from_str(alloc, method).expect(rt, "memory"),
-        Vec::from_slice(alloc, input).expect(rt, "memory"),
+        client(rt, parts.client),
+        number(rt, parts.number),
+        ObjectName::new(alloc, parts.object).expect(rt, "memory"),
+        parts.class,
+        String::from_str(alloc, parts.method).expect(rt, "memory"),
+        Vec::from_slice(alloc, parts.input).expect(rt, "memory"),
     )
 }
 
 /// The request of a text for the object `object`: client, number, class, method, and its input if that isn't empty.
 pub(super) fn request_of<R: Abort>(rt: &R, alloc: Global, text: &str) -> Request {
     let mut words = text.split_whitespace();
-    let pair = (next_number(rt, &mut words), next_number(rt, &mut words));
-    let class = next_number(rt, &mut words) as usize;
-    let method = next(&mut words);
-    let input = next(&mut words).as_bytes();
-    request(rt, alloc, "object", pair, class, method, input)
+    let parts = RequestParts {
+        object: "object",
+        client: next_number(rt, &mut words),
+        number: next_number(rt, &mut words),
+        class: next_number(rt, &mut words) as usize,
+        method: next(&mut words),
+        input: next(&mut words).as_bytes(),
+    };
+    request(rt, alloc, &parts)
 }

@@ -44,9 +44,7 @@ impl<R: Abort> GroupWork for Script<'_, R> {
     ghost gives = { λ _ _ _ _. Unit {0} };
 
     fn work<C: Classes>(self, table: &ClassTable, mut group: Group<C>) {
-        go_on_with(
-            self.rt, self.alloc, table, &mut group, self.first, self.text,
-        );
+        go_on_with(&self, table, &mut group);
         drop(group);
     }
 }
@@ -70,19 +68,18 @@ pub(super) fn go_through<R: Abort>(
 
 /// Does the lines of a text with a group.
 pub(super) fn go_on_with<C: Classes, R: Abort>(
-    rt: &R,
-    alloc: Global,
+    script: &Script<'_, R>,
     table: &ClassTable,
     group: &mut Group<C>,
-    first: &str,
-    text: &str,
 )
     requires { IsPrefix table.now C.classes }
 {
+    let (rt, alloc) = (script.rt, script.alloc);
     let mut number = 0u32;
-    for line in text.lines() {
+    for line in script.text.lines() {
         number = number.wrapping_add(1);
-        let is_done = is_done(rt, alloc, table, group, &line_of(line, number, first));
+        let parts = line_of(line, number, script.first);
+        let is_done = is_done(rt, alloc, table, group, &parts);
         see(rt, is_done, line);
     }
 }
@@ -207,18 +204,25 @@ fn is_place(answer: Result<Option<usize>, LogError>, wanted: &str) -> bool {
     }
 }
 
+/// A list, and how a group takes it.
+#[derive(Clone, Copy)]
+struct Taking<'a> {
+    verb: Verb,
+    list: &'a [Request],
+}
+
 /// Takes a list, and gives what is answered.
 fn take<C: Classes, R: Abort>(
     rt: &R,
     alloc: Global,
     table: &ClassTable,
     group: &mut Group<C>,
-    verb: Verb,
-    list: &[Request],
+    taking: Taking<'_>,
 ) -> Result<usize, LogError>
     requires { IsPrefix table.now C.classes }
 {
-    match verb {
+    let list = taking.list;
+    match taking.verb {
         Verb::Adopt => group.adopt(table, list),
         Verb::Replay => becomes(group, Group::<C>::replay(alloc, table, list)),
         _ => fill(rt, alloc, table, group, list),
@@ -238,7 +242,11 @@ fn is_taken<C: Classes, R: Abort>(
     let list = list_of(rt, alloc, line.first, line.said);
     let is_tested = !matches!(line.verb, Verb::Replay)
         || is_tested(rt, alloc, table, &list, line.wanted);
-    is_tested & is_answer(take(rt, alloc, table, group, line.verb, &list), line.wanted)
+    let taking = Taking {
+        verb: line.verb,
+        list: &list,
+    };
+    is_tested & is_answer(take(rt, alloc, table, group, taking), line.wanted)
 }
 
 /// Whether the test of a list tells the refusal that its replay answers, or none where that answers a length.

@@ -2,7 +2,7 @@
 use std::process::Abort;
 use std::str::SplitWhitespace;
 
-/// The next word, or an empty one behind the last.
+/// The next word, or an empty one after the last.
 pub(super) fn next<'a>(words: &mut SplitWhitespace<'a>) -> &'a str {
     words.next().unwrap_or("")
 }
@@ -32,7 +32,7 @@ pub(super) fn is_code(word: &str, code: i64) -> bool {
     word.parse::<i64>().ok() == Some(code)
 }
 
-/// What stands before a mark, and what stands behind it.
+/// What stands before a mark, and what stands after it.
 pub(super) fn halves(text: &str, mark: char) -> (&str, &str) {
     let (before, behind) = text.split_once(mark).unwrap_or((text, ""));
     (before.trim(), behind.trim())

@@ -7,17 +7,30 @@ use std::alloc::Global;
 use std::process::Abort;
 use verifier::VerifiedClass;
 
+/// What a call is given: the object on which it runs, or none, and its input.
+#[derive(Clone, Copy)]
+pub struct Given<'a> {
+    pub object: Option<&'a Object>,
+    pub input: &'a [u8],
+}
+
+impl<'a> Given<'a> {
+    fn new(object: Option<&'a Object>, input: &'a [u8]) -> Given<'a> {
+        Given { object, input }
+    }
+}
+
+/// What a call is given, where what the object holds stands for the object.
+#[derive(Clone, Copy)]
+pub struct GivenContents<'a> {
+    pub contents: Option<Contents>,
+    pub input: &'a [u8],
+}
+
 /// What a call answers.
 pub trait Expected {
-    /// Whether the outcome of a call beside that object and on that input is so.
-    fn is_so(
-        &self,
-        rt: &impl Abort,
-        alloc: Global,
-        object: Option<&Object>,
-        input: &[u8],
-        outcome: &Outcome,
-    ) -> bool;
+    /// Whether the outcome of a call that is given those is so.
+    fn is_so(&self, rt: &impl Abort, alloc: Global, given: &Given<'_>, outcome: &Outcome) -> bool;
 }
 
 /// Whether a call answers so.
@@ -25,12 +38,11 @@ pub fn answers<E: Expected>(
     rt: &impl Abort,
     alloc: Global,
     class: &VerifiedClass,
-    object: Option<&Object>,
-    input: &[u8],
+    given: &Given<'_>,
     expected: &E,
 ) -> bool {
-    let outcome = call(alloc, class, "f", object, 7, input).expect(rt, "an answer");
-    expected.is_so(rt, alloc, object, input, &outcome)
+    let outcome = call(alloc, class, "f", given.object, 7, given.input).expect(rt, "an answer");
+    expected.is_so(rt, alloc, given, &outcome)
 }
 
 /// The same of a class that is used once.
@@ -38,24 +50,23 @@ pub fn answers_once<E: Expected>(
     rt: &impl Abort,
     alloc: Global,
     class: VerifiedClass,
-    object: Option<&Object>,
-    input: &[u8],
+    given: &Given<'_>,
     expected: &E,
 ) -> bool {
-    answers(rt, alloc, &class, object, input, expected)
+    answers(rt, alloc, &class, given, expected)
 }
 
-/// Whether a call beside an object that holds those, or none, answers so.
+/// Whether a call on an object that holds those, or on none, answers so.
 pub fn answers_beside<E: Expected>(
     rt: &impl Abort,
     alloc: Global,
     class: &VerifiedClass,
-    contents: Option<Contents>,
-    input: &[u8],
+    given: GivenContents<'_>,
     expected: &E,
 ) -> bool {
-    let object = made(rt, alloc, contents);
-    answers(rt, alloc, class, object.as_ref(), input, expected)
+    let object = made(rt, alloc, given.contents);
+    let given = Given::new(object.as_ref(), given.input);
+    answers(rt, alloc, class, &given, expected)
 }
 
 /// The same of a class that is used once.
@@ -63,9 +74,8 @@ pub fn answers_beside_once<E: Expected>(
     rt: &impl Abort,
     alloc: Global,
     class: VerifiedClass,
-    contents: Option<Contents>,
-    input: &[u8],
+    given: GivenContents<'_>,
     expected: &E,
 ) -> bool {
-    answers_beside(rt, alloc, &class, contents, input, expected)
+    answers_beside(rt, alloc, &class, given, expected)
 }

@@ -6,8 +6,8 @@ mod random;
 mod rows;
 mod spills;
 
-use crate::answers::Expected;
-use crate::classes::image_of;
+use crate::answers::{Expected, Given};
+use crate::classes::{Declared, image_of};
 use crate::contents::same;
 use bpf_machine::Caps;
 use flat_machine::{Ending, Layout, Machine, RunStart, flat_run, is_layout};
@@ -25,16 +25,23 @@ const CAPS: Caps = Caps {
     writes: true,
 };
 
+/// Those, as their method declares them.
+const DECLARED: Declared = Declared {
+    flags: 3,
+    in_cap: CAPS.in_cap,
+    out_cap: CAPS.out_cap,
+};
+
 /// The class of that code, where it is safe.
 fn verified(rt: &impl Abort, alloc: Global, code: &[u8]) -> Option<VerifiedClass> {
-    let image = image_of(rt, alloc, code, 3, CAPS.in_cap, CAPS.out_cap);
+    let image = image_of(rt, alloc, code, DECLARED);
     verify(alloc, &image).ok()
 }
 
 /// Names of xattrs that the programs use.
 const NAMES: [&[u8]; 8] = [b"n", b"nm", b"m", b"k", b"a", b"ab", b"\0", b"\0\0"];
 
-/// Whether a call answered that code and output, after so many steps.
+/// Whether a call answered that code and output, after that many steps.
 fn has_answered(outcome: &Outcome, code: u64, output: &[u8], steps: usize) -> bool {
     outcome.code == code.cast_signed()
         && outcome.steps == steps
@@ -81,17 +88,16 @@ fn ending_of(
     alloc: Global,
     code: &[u8],
     layout: Layout,
-    object: Option<&Object>,
-    input: &[u8],
+    given: &Given<'_>,
 ) -> Ending {
-    if !is_layout(&CAPS, &layout) || input.len() > usize::from(CAPS.in_cap) {
+    if !is_layout(&CAPS, &layout) || given.input.len() > usize::from(CAPS.in_cap) {
         return Ending::Stuck;
     }
     let machine = Machine::new(CAPS, layout);
     let start = RunStart {
-        object,
+        object: given.object,
         caller: 7,
-        input,
+        input: given.input,
     };
     flat_run(alloc, &machine, code, &start, 100).expect(rt, "memory")
 }
@@ -105,15 +111,8 @@ pub struct PlainRun<'a> {
 
 impl Expected for PlainRun<'_> {
     /// Whether a call answered as the plain run ends.
-    fn is_so(
-        &self,
-        rt: &impl Abort,
-        alloc: Global,
-        object: Option<&Object>,
-        input: &[u8],
-        outcome: &Outcome,
-    ) -> bool {
-        let ending = ending_of(rt, alloc, self.code, self.layout, object, input);
-        is_ending(rt, alloc, object, outcome, &ending)
+    fn is_so(&self, rt: &impl Abort, alloc: Global, given: &Given<'_>, outcome: &Outcome) -> bool {
+        let ending = ending_of(rt, alloc, self.code, self.layout, given);
+        is_ending(rt, alloc, given.object, outcome, &ending)
     }
 }

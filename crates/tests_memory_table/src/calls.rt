@@ -130,7 +130,7 @@ fn table(alloc: Global) -> Option<ClassTable> {
     Some(table)
 }
 
-/// Whether there are so many classes, each with that method.
+/// Whether there are that many classes, each with that method.
 fn has(table: &ClassTable, count: usize) -> bool {
     for id in 0..count {
         let is_there = match table.get(id) {

@@ -18,7 +18,7 @@ pub enum Verb {
     Replay,
 }
 
-/// Puts its input behind the object's data and answers their length; sets the xattr and the key of its input's first
+/// Puts its input after the object's data and answers their length; sets the xattr and the key of its input's first
 /// byte.
 const KEEP: &str = ".method keep rw 4 0
 mov r6, r1
@@ -94,7 +94,7 @@ fn same_objects<C: Classes>(one: &Group<C>, other: &Group<C>, names: &[ObjectNam
     true
 }
 
-/// Whether the log has so many entries, and the last one has that code.
+/// Whether the log has that many entries, and the last one has that code.
 fn ends<C: Classes>(group: &Group<C>, len: usize, code: i64) -> bool {
     match group.entries().last() {
         None => false,

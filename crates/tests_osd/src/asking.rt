@@ -112,7 +112,7 @@ pub fn accepted<N: ClusterName, R: Wait>(running: &Running<N, R>, alloc: Global)
     None
 }
 
-/// A cluster of so many nodes, all of which act, with one group a shard.
+/// A cluster of that many nodes, all of which act, with one group a shard.
 pub fn config(nodes: u64, replicas: usize, shards: usize, workers: usize) -> Config {
     Config {
         nodes,

@@ -21,7 +21,7 @@ pub fn entries<N: ClusterName, R: Wait>(running: &Running<N, R>, node: u64) -> u
     }
 }
 
-/// How many nodes have so many entries.
+/// How many nodes have that many entries.
 pub fn nodes_with<N: ClusterName, R: Wait>(running: &Running<N, R>, count: usize) -> u32 {
     let mut nodes = 0u32;
     for node in 0..NODES {

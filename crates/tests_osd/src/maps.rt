@@ -246,7 +246,7 @@ fn entries<N: ClusterName, R: Wait>(running: &Running<N, R>, node: u64) -> Optio
 }
 
 impl Paused {
-    /// Waits until the node has so many entries.
+    /// Waits until the node has that many entries.
     fn has<N: ClusterName, R: Wait>(
         &self,
         running: &Running<N, R>,

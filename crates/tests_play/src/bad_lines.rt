@@ -50,7 +50,7 @@ static BAD: [&str; 34] = [
     ">stop 1\nnothing\n>req 1 1 4294967296 a lock lock -\nline 2: bad\n",
     // a line feed of another system is a part of its word
     ">show 1\r \nline 1: bad\n",
-    // comments and empty lines are counted, and nothing is done behind a bad line
+    // comments and empty lines are counted, and nothing is done after a bad line
     ">#\n>\n>map 1\nmap 1 prev 0\n>bad\nline 4: bad\n>map 1\n",
 ];
 
@@ -61,7 +61,7 @@ fn a_bad_line_is_the_last(rt: HostRuntime) {
     }
 }
 
-/// How the request is answered whose object's name has so many bytes, and how the run ends.
+/// How the request is answered whose object's name has that many bytes, and how the run ends.
 fn asks_beside<R: Abort + AllocGlobal + Threads + Wait + Clock + Sync>(
     rt: &R,
     length: usize,

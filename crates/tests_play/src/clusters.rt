@@ -159,7 +159,7 @@ fn malformed_lines_are_found(rt: HostRuntime) {
     }
 }
 
-/// A file in which a call's object has a name of so many bytes.
+/// A file in which a call's object has a name of that many bytes.
 fn names<R: Abort + AllocGlobal + Threads + Wait + Clock + Sync>(
     rt: &R,
     length: usize,

@@ -35,7 +35,7 @@ m6 mon->1 Activated 1
 nothing
 ";
 
-/// Behind that: both members log a request and acknowledge it.
+/// After that: both members log a request and acknowledge it.
 const LOGGED: &str = "> req 1 1 7 a lock lock -
 m7 1->2 Rep 1 0
 m8 1->3 Rep 1 0
@@ -325,7 +325,7 @@ static RUNS: [[&str; 3]; 12] = [
 /// The requests of a long run.
 const LONG: u32 = 1_200;
 
-/// Behind that: one client's requests, of which nobody acknowledges any; the primary sends all of them again, to one
+/// After that: one client's requests, of which nobody acknowledges any; the primary sends all of them again, to one
 /// member and then to the other.
 fn never_acknowledged<R: Abort + AllocGlobal>(rt: &R) -> String {
     let mut text = String::new(rt.alloc());

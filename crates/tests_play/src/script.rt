@@ -1,4 +1,4 @@
-//! Files of events with what they print, as one text: an event stands behind `>`, and below it the lines that it comes
+//! Files of events with what they print, as one text: an event stands after `>`, and below it the lines that it comes
 //! to.
 
 use std::process::Abort;

@@ -39,7 +39,7 @@ struct Stats {
     nudges: u64,
 }
 
-/// The numbers behind the names, if the text is those seven lines.
+/// The numbers after the names, if the text is those seven lines.
 fn stats_of(text: &str) -> Option<Stats> {
     let mut lines = text.lines();
     let mut numbers = [0; 7];

@@ -35,7 +35,7 @@ static ROWS: [Row; 14] = [
         m6 1->c1 Reply 4 3 0 -\nrefused 5 NoClass\nrefused 6 NoMethod\n",
         status: 0,
     },
-    // the words may stand behind the file, and a name may have any other character
+    // the words may stand after the file, and a name may have any other character
     Row {
         words: &["sim", "text", "--class", "#\u{e4}-=image"],
         image: HELLO,
@@ -160,7 +160,7 @@ fn a_file_of_events_is_utf8(rt: HostRuntime) {
     assert!(rt; only_prints(&rt, &["sim", "text"], TWO, events, "cannot read\n", 1));
 }
 
-/// The words of `sim` with so many classes of one image.
+/// The words of `sim` with that many classes of one image.
 fn line_of_classes<R: Abort + AllocGlobal>(rt: &R, count: usize) -> String {
     let mut line = String::from_str(rt.alloc(), "sim").expect(rt, "memory");
     for number in 0..count {
@@ -170,7 +170,7 @@ fn line_of_classes<R: Abort + AllocGlobal>(rt: &R, count: usize) -> String {
     line
 }
 
-/// `sim` with so many classes of one image, of which the last is asked.
+/// `sim` with that many classes of one image, of which the last is asked.
 fn with_classes<R: Abort + AllocGlobal + Threads + Wait + Clock + Sync>(
     rt: &R,
     count: usize,

@@ -249,7 +249,7 @@ static RUNS: [Row; 15] = [
         printed: "code 0\noutput -\nsteps 20\nobject 0 1 0\n",
         status: 0,
     },
-    // four bytes behind the first, an xattr, and three keys
+    // four bytes after the first, an xattr, and three keys
     Row {
         words: &["run", "image", "f", "--input", "61626364"],
         image: "52434c31 0100 0000 01 66 02 0400 0000 1a00 bf16000000000000 bf12000000000000 \
@@ -377,7 +377,7 @@ fn disassembles_a_long_text(rt: HostRuntime) {
     );
 }
 
-/// How many bytes are asked for of an image that has bytes behind its end.
+/// How many bytes are asked for of an image that has bytes after its end.
 fn most_read<R: Abort + AllocGlobal + Threads + Wait + Clock + Sync>(rt: &R, image: &str) -> usize {
     let mut folder = Folder::of(rt.alloc(), image, b"").expect(rt, "memory");
     let printed = "image refused after 1 methods: 11 Trailing\n";
@@ -388,7 +388,7 @@ fn most_read<R: Abort + AllocGlobal + Threads + Wait + Clock + Sync>(rt: &R, ima
     folder.most_read.get()
 }
 
-/// Bytes behind an image, more of them than an image has.
+/// Bytes after an image, more of them than an image has.
 #[test]
 fn reads_no_more_than_an_image_has(rt: HostRuntime) {
     let image = with_repeated(rt.alloc(), TWO, "00", 1_100_000, "").expect(&rt, "memory");

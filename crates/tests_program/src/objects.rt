@@ -129,7 +129,7 @@ static LEFT: [(&[&str], &str, u8); 18] = [
         "object is not hex\n",
         1,
     ),
-    // before the object the image and the input, behind it the call
+    // before the object the image and the input, after it the call
     (
         &["run", "text", "f", "--object", "g"],
         "image refused after 0 methods: 1 Truncated\n",

@@ -19,7 +19,7 @@ static USAGES: [&[&str]; 43] = [
     &["asm", "image", "out", "more"],
     &["dis"],
     &["--version"],
-    // no method; one that lacks a field; flags and capacities that are none; a good one behind a bad one
+    // no method; one that lacks a field; flags and capacities that are none; a good one after a bad one
     &["pack", "out"],
     &["pack", "out", "f:r:0:0"],
     &["pack", "out", "f"],
@@ -219,7 +219,7 @@ impl Write for Limited {
     }
 }
 
-/// The program's name and words behind it, the room of standard output, whether it flushes, and the status.
+/// The program's name and words after it, the room of standard output, whether it flushes, and the status.
 type Row = (&'static [&'static str], usize, bool, u8);
 
 /// `f ok 2` and the line feed are seven bytes.

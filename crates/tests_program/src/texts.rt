@@ -100,7 +100,7 @@ static REFUSED: [Row; 8] = [
     },
 ];
 
-/// Words behind the program's name for which a file is not there, or takes no bytes.
+/// Words after the program's name for which a file is not there, or takes no bytes.
 static FAILURES: [Row; 2] = [
     Row {
         words: &["asm", "other", "out"],

@@ -25,7 +25,7 @@ fn few<R: Abort>(rt: &R, alloc: Global) -> SharedMap<u8> {
     map
 }
 
-/// Whether the key `ab` has that value, and the map so many keys.
+/// Whether the key `ab` has that value, and the map that many keys.
 fn is(map: &SharedMap<u8>, value: Option<u8>, len: usize) -> bool {
     map.get(b"ab").copied() == value && map.len() == len
 }
@@ -119,7 +119,7 @@ fn a_copy_stays_as_it_is(rt: HostRuntime) {
 /// How many keys the high maps have.
 const MANY: u16 = 1024;
 
-/// The most nodes on a way down that a map of so many keys may have.
+/// The most nodes on a way down that a map of that many keys may have.
 const LOW: u8 = 15;
 
 /// A map of the numbers below `MANY`, set in the order of the numbers xor that mask.
@@ -132,7 +132,7 @@ fn many<R: Abort>(rt: &R, alloc: Global, mask: u16) -> SharedMap<u16> {
     map
 }
 
-/// The fewest nodes on the longest way down of any tree of so many keys: one of ten nodes has at most 1,023.
+/// The fewest nodes on the longest way down of any tree of that many keys: one of ten nodes has at most 1,023.
 const LEAST: u8 = 11;
 
 /// Whether a map has all numbers, that key the last one set, and the tree is low.

@@ -10,7 +10,7 @@ use std::thread::{Threads, join};
 /// How many requests each thread commits.
 const MANY: u64 = 1000;
 
-/// Commits a request so many times: which one makes no difference to the board.
+/// Commits a request that many times: which one makes no difference to the board.
 fn commit_many<R: Abort>(rt: &R, alloc: Global, board: &Board, writer: &mut Writer, times: u64)
     requires board { writer.old.board ≡ board.now }
     requires new { writer.old.list ≡ [] }
@@ -53,22 +53,20 @@ fn watch(board: &Board, mut seen: Seen) -> (Seen, bool)
     (seen, rising)
 }
 
-/// What a token that knows nothing finds in the first row, once it was committed so often.
+/// What a token that knows nothing finds in the first row, once it was committed three times.
 fn found_late<R: Abort>(
     rt: &R,
     alloc: Global,
     board: &Board,
     mut writer: Writer,
     mut seen: Seen,
-    times: u64,
 ) -> u64
     requires writer { writer.board ≡ board.now }
     requires new { writer.list ≡ [] }
-    requires times { times ≤ 1000 }
     requires seen { seen.board ≡ board.now }
     requires rows { 0 < board.now.words }
 {
-    commit_many(rt, alloc, board, &mut writer, times);
+    commit_many(rt, alloc, board, &mut writer, 3);
     let mut late = board.fresh(&mut seen);
     board.look(&mut late, 0)
 }
@@ -77,7 +75,7 @@ fn found_late<R: Abort>(
 fn a_fresh_token_sees_three_commits(rt: HostRuntime) {
     let (board, mut writers, seen) = Board::new(rt.alloc(), 1).expect(&rt, "memory");
     let writer = writers.pop().expect(&rt, "a writer");
-    assert!(rt; found_late(&rt, rt.alloc(), &board, writer, seen, 3) == 3);
+    assert!(rt; found_late(&rt, rt.alloc(), &board, writer, seen) == 3);
 }
 
 #[test]
@@ -92,21 +90,31 @@ fn the_refusal_prints_its_name(rt: HostRuntime) {
     assert!(rt; name.as_str() == "NoMemory");
 }
 
+/// The writers of two rows.
+#[derive(Drop)]
+struct TwoWriters {
+    first: Writer,
+    second: Writer,
+}
+
 /// Whether two rows have counts of their own, once the second was committed five times and the first twice.
 fn are_apart<R: Abort>(
     rt: &R,
     alloc: Global,
     board: &Board,
-    mut first: Writer,
-    mut second: Writer,
+    writers: TwoWriters,
     mut seen: Seen,
 ) -> bool
-    requires first { first.board ≡ board.now }
-    requires second { second.board ≡ board.now }
-    requires new { first.list ≡ [] × second.list ≡ [] }
+    requires first { writers.first.board ≡ board.now }
+    requires second { writers.second.board ≡ board.now }
+    requires new { writers.first.list ≡ [] × writers.second.list ≡ [] }
     requires seen { seen.board ≡ board.now }
     requires rows { 1 < board.now.words }
 {
+    let TwoWriters {
+        mut first,
+        mut second,
+    } = writers;
     commit_many(rt, alloc, board, &mut second, 5);
     commit_many(rt, alloc, board, &mut first, 2);
     let in_first = board.look(&mut seen, 0);
@@ -117,9 +125,11 @@ fn are_apart<R: Abort>(
 #[test]
 fn neighbouring_rows_have_counts_of_their_own(rt: HostRuntime) {
     let (board, mut writers, seen) = Board::new(rt.alloc(), 2).expect(&rt, "memory");
-    let second = writers.pop().expect(&rt, "a writer");
-    let first = writers.pop().expect(&rt, "a writer");
-    assert!(rt; are_apart(&rt, rt.alloc(), &board, first, second, seen));
+    let two = TwoWriters {
+        second: writers.pop().expect(&rt, "a writer"),
+        first: writers.pop().expect(&rt, "a writer"),
+    };
+    assert!(rt; are_apart(&rt, rt.alloc(), &board, two, seen));
 }
 
 /// What is found in the first row by a token that heard of it over another one's note.

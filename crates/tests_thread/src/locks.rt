@@ -35,19 +35,17 @@ pub fn request<R: Abort>(rt: &R, alloc: Global, client: u32, number: u32) -> Req
     )
 }
 
-/// A thread, of client 1, 2 and so on: once all are there, it appends its requests, each under the lock.
+/// A thread, of client 1, 2 and so on, appends its requests, each under the lock.
 fn append_each<C: Classes, R: Wait + Abort>(
     rt: &R,
     alloc: Global,
     table: &ClassTable,
     group: &Mutex<Group<C>>,
-    start: &Barrier,
     index: usize,
 )
     requires { IsPrefix table.now C.classes }
 {
     let client = u32::try_from(index).unwrap_or(0).wrapping_add(1);
-    start.wait(rt);
     for number in 1..=EACH {
         let request = request(rt, alloc, client, number);
         let place = group.lock(rt).append(table, request);
@@ -55,7 +53,7 @@ fn append_each<C: Classes, R: Wait + Abort>(
     }
 }
 
-/// Whether the group that all threads together make is right.
+/// Whether the group that all threads together make, which begin once all are there, is right.
 fn appended<C: Classes + Send + Sync, R: Threads + Wait + Abort + Sync>(
     rt: &R,
     alloc: Global,
@@ -69,7 +67,10 @@ fn appended<C: Classes + Send + Sync, R: Threads + Wait + Abort + Sync>(
     let start = Barrier::new(THREADS as usize);
     let thread = |index: usize|
         requires { IsPrefix table.now C.classes }
-    { append_each(rt, alloc, table, &group, &start, index) };
+    {
+        start.wait(rt);
+        append_each(rt, alloc, table, &group, index)
+    };
     map_indices(rt, alloc, THREADS as usize, &thread).expect(rt, "memory");
     are_right(group.into_inner().entries())
 }

@@ -78,7 +78,7 @@ fn take_all<R: Wait + Abort>(
     jobs
 }
 
-/// Puts what it takes behind the operations that there are.
+/// Puts what it takes after the operations that there are.
 fn take_into<R: Wait + Abort>(
     rt: &R,
     shards: &OpShards<Job>,
@@ -162,22 +162,29 @@ fn run_crew<R: Threads + Wait + Abort + Sync>(
     jobs
 }
 
-/// Runs two crews, four senders and two takers, beside a third taker.
+/// Two crews, four senders and two takers.
+#[derive(Drop)]
+struct TwoCrews {
+    one: Crew,
+    two: Crew,
+}
+
+/// Runs two crews beside a third taker.
 fn run_crews<R: Threads + Wait + Abort + Sync>(
     rt: &R,
     alloc: Global,
     shards: &OpShards<Job>,
-    one: Crew,
-    two: Crew,
+    crews: TwoCrews,
     taken: &AtomicU64,
 ) -> (Vec<Job>, Vec<Job>)
-    requires first_one { one.first.queues ≡ shards.now.queues }
-    requires second_one { one.second.queues ≡ shards.now.queues }
-    requires take_one { one.take.queues ≡ shards.now.queues }
-    requires first_two { two.first.queues ≡ shards.now.queues }
-    requires second_two { two.second.queues ≡ shards.now.queues }
-    requires take_two { two.take.queues ≡ shards.now.queues }
+    requires first_one { crews.one.first.queues ≡ shards.now.queues }
+    requires second_one { crews.one.second.queues ≡ shards.now.queues }
+    requires take_one { crews.one.take.queues ≡ shards.now.queues }
+    requires first_two { crews.two.first.queues ≡ shards.now.queues }
+    requires second_two { crews.two.second.queues ≡ shards.now.queues }
+    requires take_two { crews.two.take.queues ≡ shards.now.queues }
 {
+    let TwoCrews { one, two } = crews;
     join(
         rt,
         || -> Vec<Job>
@@ -193,7 +200,7 @@ fn run_crews<R: Threads + Wait + Abort + Sync>(
     )
 }
 
-/// Whether an operation is no earlier than what is due of its sender and shard; the one behind it is due then.
+/// Whether an operation is no earlier than what is due of its sender and shard; the one after it is due then.
 fn is_due(next: &mut [usize], job: &Job) -> bool {
     let place = job
         .sender
@@ -283,17 +290,18 @@ fn each_once_and_in_order(rt: HostRuntime) {
         sender: 0,
         take: takes.pop().expect(&rt, "a taker"),
     };
+    let crews = TwoCrews { one, two };
     let taken = AtomicU64::new(0);
     let ((first, second), third) = join(
         &rt,
         || -> (Vec<Job>, Vec<Job>)
-            requires first_one { one.first.queues ≡ shards.queues }
-            requires second_one { one.second.queues ≡ shards.queues }
-            requires take_one { one.take.queues ≡ shards.queues }
-            requires first_two { two.first.queues ≡ shards.queues }
-            requires second_two { two.second.queues ≡ shards.queues }
-            requires take_two { two.take.queues ≡ shards.queues }
-        { run_crews(&rt, alloc, &shards, one, two, &taken) },
+            requires first_one { crews.one.first.queues ≡ shards.queues }
+            requires second_one { crews.one.second.queues ≡ shards.queues }
+            requires take_one { crews.one.take.queues ≡ shards.queues }
+            requires first_two { crews.two.first.queues ≡ shards.queues }
+            requires second_two { crews.two.second.queues ≡ shards.queues }
+            requires take_two { crews.two.take.queues ≡ shards.queues }
+        { run_crews(&rt, alloc, &shards, crews, &taken) },
         || take_all(&rt, alloc, &shards, third, &taken),
     );
     assert!(rt; is_complete(&rt, alloc, &first, &second, &third));

@@ -48,31 +48,42 @@ fn number(text: &str) -> u16 {
     }
 }
 
-/// A method of that name, by its code's bytes. None where they are no code, or memory ran out.
-fn method(
-    alloc: Global,
-    name: &str,
-    code: &[u8],
+/// What a method declares.
+#[derive(Clone, Copy)]
+struct Declared {
     flags: u8,
     in_cap: u16,
     out_cap: u16,
-) -> Option<Method> {
+}
+
+/// A method of that name, by its code's bytes. None where they are no code, or memory ran out.
+fn method(alloc: Global, name: &str, code: &[u8], declared: Declared) -> Option<Method> {
     let Ok(instructions) = decode(alloc, code) else {
         return None;
     };
     let Ok(name) = String::from_str(alloc, name) else {
         return None;
     };
-    Some(Method::new(name, flags, in_cap, out_cap, instructions))
+    Some(Method::new(
+        name,
+        declared.flags,
+        declared.in_cap,
+        declared.out_cap,
+        instructions,
+    ))
 }
 
-/// Flags, in_cap and out_cap.
-fn declared(text: &str) -> (u8, u16, u16) {
+/// What a method declares by three words: flags, in_cap and out_cap.
+fn told_declared(text: &str) -> Declared {
     let mut words = text.split_whitespace();
     let flags = number(words.next().unwrap_or(""));
     let in_cap = number(words.next().unwrap_or(""));
     let out_cap = number(words.next().unwrap_or(""));
-    ((flags % 256) as u8, in_cap, out_cap)
+    Declared {
+        flags: (flags % 256) as u8,
+        in_cap,
+        out_cap,
+    }
 }
 
 /// The method of a row: flags, in_cap, out_cap and a colon, the slots, a bar, and the method in words.
@@ -83,13 +94,12 @@ fn method_of(alloc: Global, name: &str, row: &str) -> Option<Method> {
     let Some((numbers, slots)) = told.split_once(':') else {
         return None;
     };
-    let (flags, in_cap, out_cap) = declared(numbers);
     let mut buffer = [0u8; CODE_ROOM];
     let code = bytes(slots, &mut buffer);
-    method(alloc, name, code, flags, in_cap, out_cap)
+    method(alloc, name, code, told_declared(numbers))
 }
 
-/// Puts a method behind others; whether it could be.
+/// Puts a method after others; whether it could be.
 fn put(methods: &mut Vec<Method>, method: Option<Method>) -> bool {
     match method {
         None => false,
@@ -135,7 +145,7 @@ fn is_row_judged(alloc: Global, rules: RuleSet, row: &str, told: &str) -> bool {
 }
 
 /// Checks rows, one a line: a verdict (`ok`, or the slot and the rule's number), a method, a bar, and the method in
-/// words. A line whose first character is `#` says of what the rows behind it are. There are so many rows.
+/// words. A line whose first character is `#` says of what the rows after it are. There are that many rows.
 fn check<R: Abort>(rt: &R, alloc: Global, rows: &str, wanted: usize) {
     let mut count = 0usize;
     for row in rows.lines() {

@@ -52,7 +52,7 @@ value_in w xs a =
     let le : 256 ^ length (take w xs) ≤ 256 ^ w = pow-le-pow_right {n = 256} (omega arith) short in
     omega (arith, small, le)
 
--- what is written within so many bytes leaves no more
+-- what is written within that many bytes leaves no more
 written_short : (xs : List ℕ) (at : ℕ) (bytes : List ℕ) (most : ℕ) → length xs ≤ most → at + length bytes ≤ most → length (written xs at bytes) ≤ most
 written_short xs at bytes most h i =
     omega (arith, h, i, length-append (take at xs) (bytes ++ drop (at + length bytes) xs), length-append bytes (drop (at + length bytes) xs), length-take at xs, length-drop (at + length bytes) xs)

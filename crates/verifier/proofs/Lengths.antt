@@ -17,7 +17,7 @@ use Rattle.verifier.specs.Rules.{rule_at, room_of}
 use Rattle.verifier.specs.Verdict.{Table, frame_at, joined, met, along, unless_refused, flow_from, start, incoming, whole_table}
 use Rattle.verifier.proofs.Tables.{whole_at}
 
--- a frame, if there is one, speaks of so many slots
+-- a frame, if there is one, speaks of that many slots
 abbrev IsLong : ℕ → Option PlainFrame → Type 0
 IsLong known o = (g : PlainFrame) → o ≡ Some g → length g.slots ≡ known
 

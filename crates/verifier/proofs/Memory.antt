@@ -1,4 +1,4 @@
--- What loads, stores and helpers' ranges do to memory, by the values of the stack's slots: of the first slots, so many, a
+-- What loads, stores and helpers' ranges do to memory, by the values of the stack's slots: of the first slots, that many, a
 -- frame may know something; the others are numbers.
 use Rattle.std.proofs.Common.{◌≡◌, ◌⊎◌, inl, inr, ℕ, zero, suc, ◌+◌, ◌*◌, ◌/◌, ◌%◌, ◌^◌, ◌<◌, ◌≤◌, List, Option, Some, None, Bool, true, refl, ap, ◌∙◌, sym, subst, arith, length, take, drop, length-take, drop-drop, replicate, ◌∷◌}
 use Rattle.std.specs.Prelude.{slice_get}

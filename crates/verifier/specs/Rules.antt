@@ -49,7 +49,7 @@ misses code p (JumpLong distance) = not (begins_at code (target p distance))
 misses code p (Branch bits comparison dst source offset) = not (begins_at code (target p offset))
 misses code p i = false
 
--- the last instruction, which nothing begins behind, goes on to the slot behind it
+-- the last instruction, which nothing begins after, goes on to the slot after it
 abbrev pub falls_off : List (Option Insn) → ℕ → Insn → Bool
 falls_off code p (Jump offset) = false
 falls_off code p (JumpLong distance) = false

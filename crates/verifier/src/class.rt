@@ -29,7 +29,7 @@ pub fn verify(alloc: Global, image: &ClassImage) -> Result<VerifiedClass, Refusa
     Ok(VerifiedClass::new(methods))
 }
 
-/// Verifies the method of a number, and puts it behind those before it.
+/// Verifies the method of a number, and puts it after those before it.
 fn push_verified(
     alloc: Global,
     rules: RuleSet,

@@ -23,7 +23,7 @@ impl Model for PendingFrames {
 }
 
 impl PendingFrames {
-    /// None, of so many slots.
+    /// None, of that many slots.
     pub fn new(alloc: Global, slots: usize) -> Result<PendingFrames, AllocError>
         ensures { IfOk result (λ k. k ≡ replicate slots None) }
     {

@@ -81,7 +81,7 @@ fn then_adopt<C: Classes, T: Clock>(
     Ok((replay, adopt))
 }
 
-/// The least of so many runs; one where there is no clock.
+/// The least of that many runs; one where there is no clock.
 fn least<C: Classes, T: Clock>(
     clock: Option<&T>,
     alloc: Global,

@@ -17,11 +17,11 @@ const LONGEST_VALUE: [u8; 4096] = [7; 4096];
 pub enum Subject {
     /// A copy of the largest object.
     Copy,
-    /// A write of one byte to an object of so many bytes.
+    /// A write of one byte to an object of that many bytes.
     Write { len: u64 },
-    /// A set of a new key to 8 bytes, beside so many others of 4,096 bytes each.
+    /// A set of a new key to 8 bytes, beside that many others of 4,096 bytes each.
     Set { others: u32 },
-    /// A read of 64 bytes of an object of so many.
+    /// A read of 64 bytes of an object of that many.
     Read { len: u64 },
 }
 
@@ -69,13 +69,13 @@ fn key(n: u32) -> [u8; 4] {
     n.wrapping_mul(2_654_435_761).to_be_bytes()
 }
 
-/// An object of so many bytes.
+/// An object of that many bytes.
 fn of_length(alloc: Global, len: u64) -> Result<Object, StoreError> {
     let empty = calls::create(None, true)?;
     calls::truncate(alloc, Some(&empty), len)
 }
 
-/// An object of so many bytes, and so many keys.
+/// An object of that many bytes, and that many keys.
 fn filled(alloc: Global, len: u64, keys: u32) -> Result<Object, StoreError> {
     let mut object = of_length(alloc, len)?;
     for n in 0..keys {
@@ -119,7 +119,7 @@ fn call(
     Ok(())
 }
 
-/// A place in so many bytes, another for each number.
+/// A place in that many bytes, another for each number.
 fn place(n: u32, len: u64) -> u64 {
     u64::from(n).wrapping_mul(977) % len.max(1)
 }

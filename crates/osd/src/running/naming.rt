@@ -28,6 +28,7 @@ impl<N: ClusterName, R: Wait + Drop> Running<N, R> {
     /// names most clusters; this is for who brings threads that start threads, which a `Scenario` can't.
     ///
     /// The names are those of the parts and of the table.
+    #[rattlefmt::skip]
     pub fn named(
         alloc: Global,
         rt: R,
@@ -42,22 +43,9 @@ impl<N: ClusterName, R: Wait + Drop> Running<N, R> {
     {
         // The call names the cluster, not a constructor of its parts: a call picks the names of values that are there
         // already. So classes are loaded before the cluster has a name, and none after.
-        let Parts {
-            config,
-            rows,
-            queues,
-            maps,
-        } = parts;
-        let Rows {
-            board,
-            mut writers,
-            seen,
-        } = rows;
-        let AllQueues {
-            shards,
-            sends,
-            takes,
-        } = queues;
+        let Parts { config, rows, queues, maps } = parts;
+        let Rows { board, mut writers, seen } = rows;
+        let AllQueues { shards, sends, takes } = queues;
         let Maps { book, newest } = maps;
         let nodes = nodes_of::<N>(alloc, &config, &mut writers)?;
         let mail = mailboxes::<N>(alloc)?;

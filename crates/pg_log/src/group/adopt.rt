@@ -5,14 +5,14 @@ ghost use Rattle.pg_log.specs.Log.{fold};
 ghost use Rattle.pg_log.specs.Refusals.{refusal, first_refusal, SomeCanRun, Refuses};
 ghost use Rattle.pg_log.specs.Adopting.{IsCommonBeginning, rest_refusal, RestRefuses, AdoptRefuses};
 ghost use Rattle.pg_log.specs.Places.{ArePlaces, HasRoom, RoomStays};
-ghost use Rattle.pg_log.specs.Entries.{AreEntries, Keeps, requests_of};
+ghost use Rattle.pg_log.specs.Entries.{AreEntries, KeepsLog, requests_of};
 
 use crate::classes::Classes;
 use crate::entry::Entry;
 use crate::group::Group;
 use crate::group::append::{entry_of_copy, run_after};
+use crate::group::log::Log;
 use crate::log_error::LogError;
-use crate::places::Places;
 use crate::request::Request;
 use interp::ClassTable;
 use object_store::Objects;
@@ -48,7 +48,7 @@ impl<C: Classes> Group<C> {
         ensures refused { OnErr result (self.new ≡ self.old) }
         ensures err { IfErr result (λ e. (first_refusal table.now list.now ≡ Some e) ⊎ ((e ≡ LogError.NoMemory) × SomeCanRun table.now list.now)) }
     {
-        *self = Self::replay(self.alloc, table, list)?;
+        *self = Self::replay(self.log.alloc, table, list)?;
         Ok(())
     }
 
@@ -69,83 +69,39 @@ impl<C: Classes> Group<C> {
         if at == 0 {
             return self.start_over(table, list);
         }
-        Self::change_end(
-            self.alloc,
-            table,
-            list,
-            at,
-            &mut self.entries,
-            &mut self.objects,
-            &mut self.places,
-        )
+        Self::change_end(&mut self.log, table, list, at)
     }
 
-    /// The same, from a place that isn't the first, of a log's entries, objects and index.
+    /// The same, from a place that isn't the first, of a log.
     // Apart from the group: halfway its objects aren't yet those of its entries.
     fn change_end(
-        alloc: Global,
+        log: &mut Log,
         table: &ClassTable,
         list: &[Request],
         at: usize,
-        entries: &mut Vec<Entry>,
-        objects: &mut Objects,
-        places: &mut Places,
     ) -> Result<(), LogError>
         requires table { IsPrefix table.now C.classes }
-        requires kept { Keeps C.classes entries.old.items objects.old places.old }
-        requires common { take at (requests_of entries.old.items) ≡ take at list.now }
-        requires within { (0 < at) × (at ≤ length entries.old.items) × (at ≤ length list.now) }
-        ensures ok { OnOk result ((requests_of entries.new.items ≡ list.now) × (rest_refusal table.now list.now at ≡ None)) }
-        ensures refused { OnErr result (entries.new.items ≡ entries.old.items) }
+        requires kept { KeepsLog C.classes log.old }
+        requires common { take at (requests_of log.old.entries.items) ≡ take at list.now }
+        requires within { (0 < at) × (at ≤ length log.old.entries.items) × (at ≤ length list.now) }
+        ensures ok { OnOk result ((requests_of log.new.entries.items ≡ list.now) × (rest_refusal table.now list.now at ≡ None)) }
+        ensures refused { OnErr result (log.new.entries.items ≡ log.old.entries.items) }
         ensures err { IfErr result (λ e. RestRefuses table.now list.now at e) }
-        ensures kept { Keeps C.classes entries.new.items objects.new places.new }
+        ensures kept { KeepsLog C.classes log.new }
     {
-        let Ok(mut before) = objects.copy() else {
+        let Ok(mut objects) = log.objects.copy() else {
             return Err(LogError::NoMemory);
         };
-        Self::change_with(
-            alloc,
-            table,
-            list,
-            at,
-            &mut before,
-            entries,
-            objects,
-            places,
-        )
-    }
-
-    /// The same, with a copy of the objects.
-    fn change_with(
-        alloc: Global,
-        table: &ClassTable,
-        list: &[Request],
-        at: usize,
-        before: &mut Objects,
-        entries: &mut Vec<Entry>,
-        objects: &mut Objects,
-        places: &mut Places,
-    ) -> Result<(), LogError>
-        requires table { IsPrefix table.now C.classes }
-        requires kept { Keeps C.classes entries.old.items objects.old places.old }
-        requires common { take at (requests_of entries.old.items) ≡ take at list.now }
-        requires within { (0 < at) × (at ≤ length entries.old.items) × (at ≤ length list.now) }
-        requires copied { before.old ≡ objects.old }
-        ensures ok { OnOk result ((requests_of entries.new.items ≡ list.now) × (rest_refusal table.now list.now at ≡ None)) }
-        ensures refused { OnErr result (entries.new.items ≡ entries.old.items) }
-        ensures err { IfErr result (λ e. RestRefuses table.now list.now at e) }
-        ensures kept { Keeps C.classes entries.new.items objects.new places.new }
-    {
-        Self::undo_from(alloc, entries, at, before)?;
-        let mut tail = entries.split_off(at)?;
-        places.take_back(&tail);
-        match Self::extend(alloc, table, list, at, entries, before, places) {
-            Ok(()) => {
-                mem::swap(objects, before);
-                Ok(())
-            }
+        Self::undo_from(log.alloc, &log.entries, at, &mut objects)?;
+        let mut tail = log.entries.split_off(at)?;
+        log.places.take_back(&tail);
+        // The old objects stay aside, for a refusal.
+        mem::swap(&mut log.objects, &mut objects);
+        match Self::extend(log, table, list, at) {
+            Ok(()) => Ok(()),
             Err(error) => {
-                put_back(alloc, at, &mut tail, entries, places);
+                mem::swap(&mut log.objects, &mut objects);
+                put_back(log, at, &mut tail);
                 Err(error)
             }
         }
@@ -173,76 +129,61 @@ impl<C: Classes> Group<C> {
 
     /// Runs the requests of a list from a place on, after those before it. At a refusal those run stay.
     fn extend(
-        alloc: Global,
+        log: &mut Log,
         table: &ClassTable,
         list: &[Request],
         at: usize,
-        entries: &mut Vec<Entry>,
-        objects: &mut Objects,
-        places: &mut Places,
     ) -> Result<(), LogError>
         requires table { IsPrefix table.now C.classes }
-        requires kept { Keeps C.classes entries.old.items objects.old places.old }
-        requires begun { requests_of entries.old.items ≡ take at list.now }
+        requires kept { KeepsLog C.classes log.old }
+        requires begun { requests_of log.old.entries.items ≡ take at list.now }
         requires within { (0 < at) × (at ≤ length list.now) }
-        ensures ok { OnOk result ((requests_of entries.new.items ≡ list.now) × (rest_refusal table.now list.now at ≡ None)) }
+        ensures ok { OnOk result ((requests_of log.new.entries.items ≡ list.now) × (rest_refusal table.now list.now at ≡ None)) }
         ensures err { IfErr result (λ e. RestRefuses table.now list.now at e) }
-        ensures kept { Keeps C.classes entries.new.items objects.new places.new }
-        ensures begun { IsPrefix entries.old.items entries.new.items }
-        ensures entries_room { vec_capacity entries.old ≤ vec_capacity entries.new }
-        ensures room { RoomStays places.old places.new }
+        ensures kept { KeepsLog C.classes log.new }
+        ensures begun { IsPrefix log.old.entries.items log.new.entries.items }
+        ensures entries_room { vec_capacity log.old.entries ≤ vec_capacity log.new.entries }
+        ensures room { RoomStays log.old.places log.new.places }
     {
         for k in at..list.len() {
-            Self::extend_by(alloc, table, &list[k], entries, objects, places)?;
+            Self::extend_by(log, table, &list[k])?;
         }
         Ok(())
     }
 
-    /// Runs a request that may follow a log, and adds a copy of it to the log's entries, objects and index.
-    fn extend_by(
-        alloc: Global,
-        table: &ClassTable,
-        request: &Request,
-        entries: &mut Vec<Entry>,
-        objects: &mut Objects,
-        places: &mut Places,
-    ) -> Result<(), LogError>
+    /// Runs a request that may follow a log, and adds a copy of it to the log.
+    fn extend_by(log: &mut Log, table: &ClassTable, request: &Request) -> Result<(), LogError>
         requires table { IsPrefix table.now C.classes }
-        requires kept { Keeps C.classes entries.old.items objects.old places.old }
-        ensures ok { OnOk result ((requests_of entries.new.items ≡ requests_of entries.old.items ++ request.now ∷ []) × (refusal table.now (requests_of entries.old.items) request.now ≡ None)) }
-        ensures err { IfErr result (λ e. Refuses (refusal table.now (requests_of entries.old.items) request.now) e) }
-        ensures kept { Keeps C.classes entries.new.items objects.new places.new }
-        ensures begun { IsPrefix entries.old.items entries.new.items }
-        ensures entries_room { vec_capacity entries.old ≤ vec_capacity entries.new }
-        ensures room { RoomStays places.old places.new }
+        requires kept { KeepsLog C.classes log.old }
+        ensures ok { OnOk result ((requests_of log.new.entries.items ≡ requests_of log.old.entries.items ++ request.now ∷ []) × (refusal table.now (requests_of log.old.entries.items) request.now ≡ None)) }
+        ensures err { IfErr result (λ e. Refuses (refusal table.now (requests_of log.old.entries.items) request.now) e) }
+        ensures kept { KeepsLog C.classes log.new }
+        ensures begun { IsPrefix log.old.entries.items log.new.entries.items }
+        ensures entries_room { vec_capacity log.old.entries ≤ vec_capacity log.new.entries }
+        ensures room { RoomStays log.old.places log.new.places }
     {
-        let outcome = run_after(alloc, table, entries.len(), places, objects, request)?;
-        let entry = entry_of_copy(alloc, request, outcome)?;
-        Self::add(alloc, entry, entries, objects, places)
+        let outcome = run_after(log, table, request)?;
+        let entry = entry_of_copy(log.alloc, request, outcome)?;
+        Self::add(log, entry)
     }
 }
 
-/// Cuts the log back to a place, and puts these entries there again.
-fn put_back(
-    alloc: Global,
-    at: usize,
-    tail: &mut Vec<Entry>,
-    entries: &mut Vec<Entry>,
-    places: &mut Places,
-)
-    requires fits { at ≤ length entries.old.items }
-    requires places { ArePlaces places.old (requests_of entries.old.items) }
-    requires entries_room { at + length tail.old.items ≤ vec_capacity entries.old }
-    requires room { HasRoom places.old (take at (requests_of entries.old.items) ++ requests_of tail.old.items) }
-    ensures entries { entries.new.items ≡ take at entries.old.items ++ tail.old.items }
-    ensures places { ArePlaces places.new (take at (requests_of entries.old.items) ++ requests_of tail.old.items) }
+/// Cuts a log's entries and index back to a place, and puts these entries there again.
+fn put_back(log: &mut Log, at: usize, tail: &mut Vec<Entry>)
+    requires fits { at ≤ length log.old.entries.items }
+    requires places { ArePlaces log.old.places (requests_of log.old.entries.items) }
+    requires entries_room { at + length tail.old.items ≤ vec_capacity log.old.entries }
+    requires room { HasRoom log.old.places (take at (requests_of log.old.entries.items) ++ requests_of tail.old.items) }
+    ensures entries { log.new.entries.items ≡ take at log.old.entries.items ++ tail.old.items }
+    ensures places { ArePlaces log.new.places (take at (requests_of log.old.entries.items) ++ requests_of tail.old.items) }
+    ensures objects { log.new.objects ≡ log.old.objects }
 {
-    places.take_back(&entries[at..]);
-    entries.truncate(at);
-    if entries.append(tail).is_err() {
+    log.places.take_back(&log.entries[at..]);
+    log.entries.truncate(at);
+    if log.entries.append(tail).is_err() {
         unreachable!();
     }
-    places.give_back(alloc, entries, at);
+    log.places.give_back(log.alloc, &log.entries, at);
 }
 
 /// The length of the beginning that a log and a list have in common.

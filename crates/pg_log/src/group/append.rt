@@ -8,18 +8,18 @@ ghost use Rattle.pg_log.specs.Requests.{ClientRequest};
 ghost use Rattle.pg_log.specs.Log.{Legal, NumbersRise, fold, reply_at};
 ghost use Rattle.pg_log.specs.Places.{ArePlaces, RoomStays};
 ghost use Rattle.pg_log.specs.Refusals.{place_of, refusal, Refuses, append_answer, list_after};
-ghost use Rattle.pg_log.specs.Entries.{IsOutcome, IsOutcomeOn, IsSafeRequest, IsNextEntry, Keeps, requests_of};
+ghost use Rattle.pg_log.specs.Entries.{IsOutcome, IsOutcomeOn, IsSafeRequest, IsNextEntry, Keeps, KeepsLog, requests_of};
 
 use crate::class_test::method_of;
 use crate::classes::Classes;
 use crate::entry::Entry;
+use crate::group::log::Log;
 use crate::group::{Group, LOG_LIMIT};
 use crate::log_error::LogError;
-use crate::places::Places;
 use crate::request::Request;
 use bpf_machine::outcomes;
 use interp::{ClassTable, Outcome, VerifiedMethod, call_method};
-use object_store::{Object, Objects};
+use object_store::Object;
 use std::alloc::Global;
 use txn::apply;
 
@@ -52,7 +52,7 @@ impl<C: Classes> Group<C> {
     fn place(&self, request: &Request) -> Option<usize>
         ensures { result ≡ place_of request.now.client request.now.number self.now }
     {
-        self.places.place(request.client(), request.number())
+        self.log.places.place(request.client(), request.number())
     }
 
     /// Runs a request whose pair isn't logged, and logs it.
@@ -94,7 +94,7 @@ impl<C: Classes> Group<C> {
         ensures err { IfErr result (λ e. Refuses (refusal table.now self.now request.now) e) }
     {
         let outcome = self.run(table, request)?;
-        entry_of_copy(self.alloc, request, outcome)
+        entry_of_copy(self.log.alloc, request, outcome)
     }
 
     /// What a request that may follow the log makes of its object. It changes nothing.
@@ -104,14 +104,7 @@ impl<C: Classes> Group<C> {
         ensures safe { IfOk result (λ _. IsSafeRequest table.now request.now) }
         ensures legal { Legal C.classes self.now }
     {
-        run_after(
-            self.alloc,
-            table,
-            self.entries.len(),
-            &self.places,
-            &self.objects,
-            request,
-        )
+        run_after(&self.log, table, request)
     }
 
     /// Adds an entry that may follow the log, as `next_entry` gives it, and gives its place. It refuses by `NoMemory`
@@ -121,109 +114,88 @@ impl<C: Classes> Group<C> {
         ensures ok { IfOk result (λ place. (place ≡ length self.old) × (self.new ≡ self.old ++ entry.request ∷ [])) }
         ensures err { IfErr result (λ e. (e ≡ LogError.NoMemory) × (self.new ≡ self.old)) }
     {
-        let place = self.entries.len();
-        Self::add(
-            self.alloc,
-            entry,
-            &mut self.entries,
-            &mut self.objects,
-            &mut self.places,
-        )?;
+        let place = self.log.entries.len();
+        Self::add(&mut self.log, entry)?;
         Ok(place)
     }
 
-    /// Adds an entry that may follow a log to its entries, objects and index.
-    pub(crate) fn add(
-        alloc: Global,
-        entry: Entry,
-        entries: &mut Vec<Entry>,
-        objects: &mut Objects,
-        places: &mut Places,
-    ) -> Result<(), LogError>
-        requires kept { Keeps C.classes entries.old.items objects.old places.old }
-        requires next { IsNextEntry C.classes (requests_of entries.old.items) entry }
-        ensures ok { OnOk result (entries.new.items ≡ entries.old.items ++ entry ∷ []) }
-        ensures err { IfErr result (λ e. (e ≡ LogError.NoMemory) × (entries.new.items ≡ entries.old.items)) }
-        ensures kept { Keeps C.classes entries.new.items objects.new places.new }
-        ensures entries_room { vec_capacity entries.old ≤ vec_capacity entries.new }
-        ensures room { RoomStays places.old places.new }
+    /// Adds an entry that may follow a log to it.
+    pub(crate) fn add(log: &mut Log, entry: Entry) -> Result<(), LogError>
+        requires kept { KeepsLog C.classes log.old }
+        requires next { IsNextEntry C.classes (requests_of log.old.entries.items) entry }
+        ensures ok { OnOk result (log.new.entries.items ≡ log.old.entries.items ++ entry ∷ []) }
+        ensures err { IfErr result (λ e. (e ≡ LogError.NoMemory) × (log.new.entries.items ≡ log.old.entries.items)) }
+        ensures kept { KeepsLog C.classes log.new }
+        ensures entries_room { vec_capacity log.old.entries ≤ vec_capacity log.new.entries }
+        ensures room { RoomStays log.old.places log.new.places }
     {
-        Self::admit(alloc, &entry, entries, objects, places)?;
-        entries.push_reserved(entry);
+        Self::admit(log, &entry)?;
+        log.entries.push_reserved(entry);
         Ok(())
     }
 
     /// Makes room for an entry that may follow a log, and changes the log's objects and index to those with it.
-    fn admit(
-        alloc: Global,
-        entry: &Entry,
-        entries: &mut Vec<Entry>,
-        objects: &mut Objects,
-        places: &mut Places,
-    ) -> Result<(), LogError>
-        requires kept { Keeps C.classes entries.old.items objects.old places.old }
-        requires next { IsNextEntry C.classes (requests_of entries.old.items) entry.now }
-        ensures ok { OnOk result (Keeps C.classes (entries.old.items ++ entry.now ∷ []) objects.new places.new) }
-        ensures reserved { OnOk result (vec_len entries.new < vec_capacity entries.new) }
+    fn admit(log: &mut Log, entry: &Entry) -> Result<(), LogError>
+        requires kept { KeepsLog C.classes log.old }
+        requires next { IsNextEntry C.classes (requests_of log.old.entries.items) entry.now }
+        ensures ok { OnOk result (Keeps C.classes (log.old.entries.items ++ entry.now ∷ []) log.new.objects log.new.places) }
+        ensures reserved { OnOk result (vec_len log.new.entries < vec_capacity log.new.entries) }
         ensures err { IfErr result (λ e. e ≡ LogError.NoMemory) }
-        ensures stays { OnErr result (Keeps C.classes entries.old.items objects.new places.new) }
-        ensures entries { entries.new.items ≡ entries.old.items }
-        ensures entries_room { vec_capacity entries.old ≤ vec_capacity entries.new }
-        ensures room { RoomStays places.old places.new }
+        ensures stays { OnErr result (KeepsLog C.classes log.new) }
+        ensures entries { log.new.entries.items ≡ log.old.entries.items }
+        ensures entries_room { vec_capacity log.old.entries ≤ vec_capacity log.new.entries }
+        ensures room { RoomStays log.old.places log.new.places }
     {
-        entries.reserve(1)?;
-        Self::put(alloc, entries, entry, objects, places)
+        log.entries.reserve(1)?;
+        Self::put(log, entry)
     }
 
     /// Changes a log's objects and index to those with one entry more, which may follow it.
-    fn put(
-        alloc: Global,
-        entries: &[Entry],
-        entry: &Entry,
-        objects: &mut Objects,
-        places: &mut Places,
-    ) -> Result<(), LogError>
-        requires kept { Keeps C.classes entries.now objects.old places.old }
-        requires next { IsNextEntry C.classes (requests_of entries.now) entry.now }
-        ensures ok { OnOk result (Keeps C.classes (entries.now ++ entry.now ∷ []) objects.new places.new) }
+    fn put(log: &mut Log, entry: &Entry) -> Result<(), LogError>
+        requires kept { KeepsLog C.classes log.old }
+        requires next { IsNextEntry C.classes (requests_of log.old.entries.items) entry.now }
+        ensures ok { OnOk result (Keeps C.classes (log.old.entries.items ++ entry.now ∷ []) log.new.objects log.new.places) }
         ensures err { IfErr result (λ e. e ≡ LogError.NoMemory) }
-        ensures stays { OnErr result (Keeps C.classes entries.now objects.new places.new) }
-        ensures room { RoomStays places.old places.new }
+        ensures stays { OnErr result (KeepsLog C.classes log.new) }
+        ensures entries { log.new.entries ≡ log.old.entries }
+        ensures room { RoomStays log.old.places log.new.places }
     {
         let client = entry.request.client();
-        places.add(alloc, client, entry.request.number(), entries.len())?;
-        if apply(alloc, objects, entry.request.object(), &entry.change).is_err() {
-            places.remove(client);
+        let number = entry.request.number();
+        let place = log.entries.len();
+        log.places.add(log.alloc, client, number, place)?;
+        let name = entry.request.object();
+        let applied = apply(log.alloc, &mut log.objects, name, &entry.change);
+        if applied.is_err() {
+            log.places.remove(client);
             return Err(LogError::NoMemory);
         }
         Ok(())
     }
 }
 
-/// What a request that may follow a list makes of its object, by the list's length, index and objects.
+/// What a request that may follow a log makes of its object. The list is any one of the log's length and index.
 pub(crate) fn run_after(
-    alloc: Global,
+    log: &Log,
     table: &ClassTable,
-    place: usize,
-    places: &Places,
-    objects: &Objects,
     request: &Request,
 ) -> Result<Outcome, LogError>
-    ensures ok { (list : List ClientRequest) → length list ≡ place → ArePlaces places.now list → NumbersRise list
-        → IfOk result (λ o. (refusal table.now list request.now ≡ None) × IsOutcomeOn table.now objects.now request.now o.code o.output.items o.change) }
-    ensures err { (list : List ClientRequest) → length list ≡ place → ArePlaces places.now list → NumbersRise list
+    ensures ok { (list : List ClientRequest) → length list ≡ length log.now.entries.items → ArePlaces log.now.places list → NumbersRise list
+        → IfOk result (λ o. (refusal table.now list request.now ≡ None) × IsOutcomeOn table.now log.now.objects request.now o.code o.output.items o.change) }
+    ensures err { (list : List ClientRequest) → length list ≡ length log.now.entries.items → ArePlaces log.now.places list → NumbersRise list
         → IfErr result (λ e. Refuses (refusal table.now list request.now) e) }
     ensures safe { IfOk result (λ _. IsSafeRequest table.now request.now) }
 {
-    let full = place >= LOG_LIMIT;
+    let full = log.entries.len() >= LOG_LIMIT;
     if full {
         return Err(LogError::LogFull);
     }
-    if places.is_reached(request.client(), request.number()) {
+    if log.places.is_reached(request.client(), request.number()) {
         return Err(LogError::StaleNumber);
     }
     let method = method_of(table, request)?;
-    run_method(alloc, method, objects.get(request.object()), request)
+    let object = log.objects.get(request.object());
+    run_method(log.alloc, method, object, request)
 }
 
 /// A request with what it made.

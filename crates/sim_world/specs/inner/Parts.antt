@@ -2,7 +2,7 @@
 -- makes of the group's world.
 use Rattle.std.specs.Prelude.{◌≡◌, Result, Ok, Err, ℕ, zero, suc, ◌-◌, nat_lt, Bool, List, [], ◌∷◌, ◌++◌, length, drop, map, Option, Some, None, if◌then◌else◌, slice_get, slice_set, slice_index_or, replicate, true, false, codes}
 use Rattle.pg_log.specs.Log.{Classes}
-use Rattle.carried.specs.Carried.{carried_as, comes_as}
+use Rattle.carried.specs.Carried.{carried_as, unpacked_as}
 use Rattle.carried.specs.declared.operation.Carried.{Carried}
 use Rattle.carried.specs.declared.operation.Carried.TheVariants as carried
 use Rattle.group_world.specs.Maps.{GroupMap}
@@ -137,7 +137,7 @@ asked_of (carried.Query sender map reported) = None
 asked_of (carried.Log short) = None
 
 abbrev pub delivery_to : List NumberedNode → Party → Carried → Delivery
-delivery_to nodes (ANode n) carried = ToNode n (comes_as (nth_node nodes n).state.log carried)
+delivery_to nodes (ANode n) carried = ToNode n (unpacked_as (nth_node nodes n).state.log carried)
 delivery_to nodes TheMonitor carried = ToMonitor (sender_of carried) (asked_of carried)
 delivery_to nodes (AClient client) carried = ToClient
 

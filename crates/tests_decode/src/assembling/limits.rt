@@ -19,7 +19,7 @@ fn put_methods(rt: &impl Abort, text: &mut String, body: &str) {
     }
 }
 
-/// The canonical text of 32 methods of 4,096 slots, and the lines behind it.
+/// The canonical text of 32 methods of 4,096 slots, and the lines after it.
 fn largest(rt: &impl Abort, alloc: Global, behind: &str) -> String {
     let body = repeated(rt, alloc, "mov r0, 0\n", 4095, "exit\n");
     let mut text = String::new(alloc);

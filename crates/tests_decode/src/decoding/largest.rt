@@ -3,7 +3,7 @@ use bpf_decode::{IMAGE_LIMIT, Insn, encode};
 use std::alloc::Global;
 use std::process::Abort;
 
-/// Writes bytes behind bytes.
+/// Writes bytes after bytes.
 fn put(rt: &impl Abort, bytes: &mut Vec<u8>, behind: &[u8]) {
     bytes.extend_from_slice(behind).expect(rt, "memory");
 }

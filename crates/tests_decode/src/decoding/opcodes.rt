@@ -386,7 +386,7 @@ const USES: [(&[u8], Fields); 8] = [
     (&[0x95], (false, false, false, false)),
 ];
 
-/// A slot, and behind it an empty one where it is a wide load's.
+/// A slot, and after it an empty one where it is a wide load's.
 fn read(opcode: u8, registers: u8, offset: u16, imm: u8) -> Result<usize, DecodeError> {
     let [low, high] = offset.to_le_bytes();
     let bytes = [

@@ -114,7 +114,7 @@ pub const fn layout(input: u64, output: u64, stack: u64) -> Layout {
     }
 }
 
-/// Whether a run ends in three layouts as a line says behind its first six words.
+/// Whether a run ends in three layouts as a line says after its first six words.
 fn runs_so_everywhere(
     alloc: Global,
     start: &Start<'_>,
@@ -163,7 +163,7 @@ fn code_and_steps(ending: &Ending) -> Option<(u64, usize)> {
     }
 }
 
-/// Whether the run of code without an object ends with a number in register 0, after so many steps.
+/// Whether the run of code without an object ends with a number in register 0, after that many steps.
 pub fn ends_with(alloc: Global, code: &[u8], value: u64, counted: usize) -> bool {
     match run_in(alloc, &plain(&INPUT), None, &apart(), code) {
         None => false,
@@ -187,7 +187,7 @@ fn shortened(ending: &Ending) -> Short {
     }
 }
 
-/// What at most so many steps come to, without an object and without input.
+/// What at most that many steps come to, without an object and without input.
 pub fn short_run(
     alloc: Global,
     caps: &Caps,

@@ -17,8 +17,21 @@ const VALUES: [u64; 7] = [
 /// The immediates: 0, 1, -1, the least and the greatest.
 const IMMEDIATES: [u64; 5] = [0, 1, 0xffff_ffff, 0x8000_0000, 0x7fff_ffff];
 
+/// An operation by its instruction's opcode and offset, and its destination.
+#[derive(Clone, Copy)]
+struct Operation {
+    opcode: u8,
+    offset: u8,
+    dst: u64,
+}
+
 /// A program: the destination and the operand in registers, the operation, and an exit.
-fn with_register(opcode: u8, offset: u8, dst: u64, operand: u64) -> [u8; 48] {
+fn with_register(operation: Operation, operand: u64) -> [u8; 48] {
+    let Operation {
+        opcode,
+        offset,
+        dst,
+    } = operation;
     let [a, b, c, d, e, f, g, h] = dst.to_le_bytes();
     let [i, j, k, l, m, n, o, p] = operand.to_le_bytes();
     [
@@ -30,7 +43,12 @@ fn with_register(opcode: u8, offset: u8, dst: u64, operand: u64) -> [u8; 48] {
 }
 
 /// A program: the destination in a register, the operation with an immediate, and an exit.
-fn with_immediate(opcode: u8, offset: u8, dst: u64, imm: u32) -> [u8; 32] {
+fn with_immediate(operation: Operation, imm: u32) -> [u8; 32] {
+    let Operation {
+        opcode,
+        offset,
+        dst,
+    } = operation;
     let [a, b, c, d, e, f, g, h] = dst.to_le_bytes();
     let [i, j, k, l] = imm.to_le_bytes();
     [
@@ -41,12 +59,12 @@ fn with_immediate(opcode: u8, offset: u8, dst: u64, imm: u32) -> [u8; 32] {
 }
 
 /// Whether an operation ends with that result.
-fn computes(alloc: Global, opcode: u8, offset: u8, dst: u64, operand: u64, value: u64) -> bool {
-    if opcode / 8 % 2 == 1 {
-        let code = with_register(opcode, offset, dst, operand);
+fn computes(alloc: Global, operation: Operation, operand: u64, value: u64) -> bool {
+    if operation.opcode / 8 % 2 == 1 {
+        let code = with_register(operation, operand);
         ends_with(alloc, &code, value, 4)
     } else {
-        let code = with_immediate(opcode, offset, dst, (operand % 0x1_0000_0000) as u32);
+        let code = with_immediate(operation, (operand % 0x1_0000_0000) as u32);
         ends_with(alloc, &code, value, 3)
     }
 }
@@ -55,17 +73,19 @@ fn computes(alloc: Global, opcode: u8, offset: u8, dst: u64, operand: u64, value
 fn compute(alloc: Global, line: &str) -> usize {
     let mut words = line.split_whitespace();
     let _name = word(&mut words);
-    let opcode = byte(word(&mut words));
-    let offset = byte(word(&mut words));
-    let dst = number(word(&mut words));
-    let operands = if opcode / 8 % 2 == 1 {
+    let operation = Operation {
+        opcode: byte(word(&mut words)),
+        offset: byte(word(&mut words)),
+        dst: number(word(&mut words)),
+    };
+    let operands = if operation.opcode / 8 % 2 == 1 {
         VALUES.as_slice()
     } else {
         IMMEDIATES.as_slice()
     };
     let mut count = 0usize;
     for (operand, result) in operands.iter().zip(words) {
-        if computes(alloc, opcode, offset, dst, *operand, number(result)) {
+        if computes(alloc, operation, *operand, number(result)) {
             count = count.wrapping_add(1);
         }
     }

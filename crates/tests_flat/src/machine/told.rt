@@ -47,7 +47,7 @@ fn attribute(text: &str) -> (&str, &str) {
     text.split_once('=').unwrap_or((text, ""))
 }
 
-/// The three parts of an object's word: the data, and behind `/` the xattrs, and behind `/` the keys.
+/// The three parts of an object's word: the data, and after `/` the xattrs, and after `/` the keys.
 fn three_parts(text: &str) -> (&str, &str, &str) {
     match text.split_once('/') {
         None => (text, "", ""),

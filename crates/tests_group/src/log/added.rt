@@ -36,8 +36,14 @@ fn go_on_after<C: Classes, R: Abort>(rt: &R, alloc: Global, table: &ClassTable, 
 fn adds<C: Classes, R: Abort>(rt: &R, alloc: Global, mut table: ClassTable, class: VerifiedClass)
     requires { table ≡ C.classes }
 {
+    let script = Script {
+        rt,
+        alloc,
+        first: "",
+        text: BEFORE,
+    };
     let mut group = Group::<C>::new(alloc);
-    go_on_with(rt, alloc, &table, &mut group, "", BEFORE);
+    go_on_with(&script, &table, &mut group);
     let _ = table.add(class).expect(rt, "memory");
     go_on_after(rt, alloc, &table, group);
 }

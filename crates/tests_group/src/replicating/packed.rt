@@ -30,7 +30,7 @@ fn is_list(found: &[Request], want: &[Request]) -> bool {
     true
 }
 
-/// Whether so many requests are left out, and so many packed.
+/// Whether that many requests are left out, and that many packed.
 fn has_lengths(packed: &PackedLog, common: &str, rest: &str) -> bool {
     is_number(common, packed.common() as u64) && is_number(rest, packed.rest().len() as u64)
 }
@@ -44,16 +44,14 @@ fn is_answer(answer: Result<Vec<Request>, UnpackError>, all: &[Request], wanted:
 }
 
 /// Whether a receiver that has those requests unpacks the list, or is refused by that name.
-fn is_unpacked<R: Abort>(
-    rt: &R,
+fn is_unpacked(
     alloc: Global,
     all: &[Request],
-    own: &str,
+    own: &[Request],
     packed: &PackedLog,
     wanted: &str,
 ) -> bool {
-    let own = list(rt, alloc, own);
-    is_answer(unpack_log(alloc, &own, packed), all, wanted)
+    is_answer(unpack_log(alloc, own, packed), all, wanted)
 }
 
 /// Whether the list is packed and unpacked as a line says.
@@ -63,7 +61,8 @@ fn is_right<R: Abort>(rt: &R, alloc: Global, all: &[Request], line: &str) -> boo
     let (common, wanted) = halves(wanted, ' ');
     let (rest, wanted) = halves(wanted, ' ');
     let packed = pack_log(alloc, all, number_of(rt, told) as usize).expect(rt, "memory");
-    has_lengths(&packed, common, rest) & is_unpacked(rt, alloc, all, own, &packed, wanted)
+    let own = list(rt, alloc, own);
+    has_lengths(&packed, common, rest) & is_unpacked(alloc, all, &own, &packed, wanted)
 }
 
 /// The list is packed and unpacked as each line says.

@@ -1,16 +1,15 @@
 //! Each helper's answers, and what it leaves.
 
-use crate::answers::{Expected, answers_beside_once};
-use crate::classes::class_of;
+use crate::answers::{Expected, Given, GivenContents, answers_beside_once};
+use crate::classes::{Declared, class_of};
 use crate::code::{put, slot};
 use crate::contents::{Contents, NOTHING, Pair, is_change};
 use interp::Outcome;
-use object_store::Object;
 use std::alloc::Global;
 use std::process::Abort;
 use verifier::VerifiedClass;
 
-/// An argument of a helper: none, a number, so many bytes from a place of the input on, or of the output.
+/// An argument of a helper: none, a number, that many bytes from a place of the input on, or of the output.
 #[derive(Clone, Copy)]
 enum Argument {
     Nothing,
@@ -216,6 +215,14 @@ static OTHER_ROWS: [Row; 5] = [
     absent!(15, [Nothing; 2], 7),
 ];
 
+/// That many bytes from a place of a region on, to which the register in the upper half of `base` points.
+#[derive(Clone, Copy)]
+struct Range {
+    base: u8,
+    at: i32,
+    len: i32,
+}
+
 /// Puts an argument into registers from one on, and gives the next one.
 fn put_argument(rt: &impl Abort, code: &mut Vec<u8>, register: u8, argument: Argument) -> u8 {
     let next = register.wrapping_add(1);
@@ -225,22 +232,35 @@ fn put_argument(rt: &impl Abort, code: &mut Vec<u8>, register: u8, argument: Arg
             put(rt, code, &[slot(0xb7, register, 0, number)]);
             next
         }
-        Input(at, len) => put_range(rt, code, register, 0x60, at, len),
-        Output(len) => put_range(rt, code, register, 0x70, 0, len),
+        Input(at, len) => {
+            let range = Range {
+                base: 0x60,
+                at,
+                len,
+            };
+            put_range(rt, code, register, range)
+        }
+        Output(len) => {
+            let range = Range {
+                base: 0x70,
+                at: 0,
+                len,
+            };
+            put_range(rt, code, register, range)
+        }
     }
 }
 
-/// Puts a range into a register and the next, so many bytes from a place of a register's region on. It gives the one
-/// behind them.
-fn put_range(rt: &impl Abort, code: &mut Vec<u8>, register: u8, base: u8, at: i32, len: i32) -> u8 {
+/// Puts a range into a register and the next, and gives the one after them.
+fn put_range(rt: &impl Abort, code: &mut Vec<u8>, register: u8, range: Range) -> u8 {
     let next = register.wrapping_add(1);
     put(
         rt,
         code,
         &[
-            slot(0xbf, base | register, 0, 0),
-            slot(0x07, register, 0, at),
-            slot(0xb7, next, 0, len),
+            slot(0xbf, range.base | register, 0, 0),
+            slot(0x07, register, 0, range.at),
+            slot(0xb7, next, 0, range.len),
         ],
     );
     next.wrapping_add(1)
@@ -305,14 +325,7 @@ fn object_after(row: &Row) -> Option<Contents> {
 }
 
 impl Expected for Row {
-    fn is_so(
-        &self,
-        rt: &impl Abort,
-        alloc: Global,
-        _: Option<&Object>,
-        _: &[u8],
-        outcome: &Outcome,
-    ) -> bool {
+    fn is_so(&self, rt: &impl Abort, alloc: Global, _: &Given<'_>, outcome: &Outcome) -> bool {
         outcome.code == self.answer
             && outcome.output.as_slice() == self.output
             && is_change(
@@ -325,16 +338,27 @@ impl Expected for Row {
     }
 }
 
+/// What each method declares.
+const DECLARED: Declared = Declared {
+    flags: 3,
+    in_cap: 8,
+    out_cap: 8,
+};
+
 /// The class of that method.
 fn class_of_row(rt: &impl Abort, alloc: Global, row: &Row) -> VerifiedClass {
     let code = code_of(rt, alloc, row);
-    class_of(rt, alloc, &code, 3, 8, 8)
+    class_of(rt, alloc, &code, DECLARED)
 }
 
 /// Whether a call answers so.
 fn answers(rt: &impl Abort, alloc: Global, row: &Row) -> bool {
     let class = class_of_row(rt, alloc, row);
-    answers_beside_once(rt, alloc, class, object_before(row), &INPUT, row)
+    let given = GivenContents {
+        contents: object_before(row),
+        input: &INPUT,
+    };
+    answers_beside_once(rt, alloc, class, given, row)
 }
 
 /// Whether the calls of those rows answer so.

@@ -1,7 +1,7 @@
 //! A call at all limits at once: input and output of 4,096 bytes, and an object that is written to 65,536 bytes.
 
-use crate::answers::{Expected, answers_once};
-use crate::classes::class_of;
+use crate::answers::{Expected, Given, answers_once};
+use crate::classes::{Declared, class_of};
 use interp::Outcome;
 use object_store::{DATA_LIMIT, Object, calls};
 use std::alloc::Global;
@@ -35,14 +35,7 @@ enum Longest {
 }
 
 impl Expected for Longest {
-    fn is_so(
-        &self,
-        rt: &impl Abort,
-        alloc: Global,
-        _: Option<&Object>,
-        _: &[u8],
-        outcome: &Outcome,
-    ) -> bool {
+    fn is_so(&self, rt: &impl Abort, alloc: Global, _: &Given<'_>, outcome: &Outcome) -> bool {
         match self {
             Longest::Output => has_all_output(outcome),
             Longest::Grown => has_grown(rt, alloc, outcome),
@@ -51,25 +44,30 @@ impl Expected for Longest {
     }
 }
 
-/// Whether `LONGEST` answers so on that input.
-fn answers_on(
-    rt: &impl Abort,
-    alloc: Global,
-    object: Option<&Object>,
-    input: &[u8],
-    expected: Longest,
-) -> bool {
-    let class = class_of(rt, alloc, &LONGEST, 2, 4096, 4096);
-    answers_once(rt, alloc, class, object, input, &expected)
+/// What `LONGEST` declares.
+const DECLARED: Declared = Declared {
+    flags: 2,
+    in_cap: 4096,
+    out_cap: 4096,
+};
+
+/// Whether `LONGEST` answers so on those.
+fn answers_on(rt: &impl Abort, alloc: Global, given: &Given<'_>, expected: Longest) -> bool {
+    let class = class_of(rt, alloc, &LONGEST, DECLARED);
+    answers_once(rt, alloc, class, given, &expected)
 }
 
 /// Whether `LONGEST` answers so on 4,096 bytes of 0x5a.
 fn answers(rt: &impl Abort, alloc: Global, object: Option<&Object>, expected: Longest) -> bool {
     let input = [0x5a].repeat(alloc, 4096).expect(rt, "memory");
-    answers_on(rt, alloc, object, &input, expected)
+    let given = Given {
+        object,
+        input: &input,
+    };
+    answers_on(rt, alloc, &given, expected)
 }
 
-/// Whether those bytes begin by so many of the one byte, and the rest are of the other.
+/// Whether those bytes begin by that many of the one byte, and the rest are of the other.
 fn begins(bytes: &[u8], first: u8, count: usize, then: u8) -> bool {
     let mut all = true;
     for (k, byte) in bytes.iter().enumerate() {
@@ -91,7 +89,7 @@ fn a_call_has_all_output(rt: HostRuntime) {
     assert!(rt; answers(&rt, rt.alloc(), None, Longest::Output));
 }
 
-/// Whether an object has 65,536 bytes, which begin by so many of the one byte, and the rest are of the other.
+/// Whether an object has 65,536 bytes, which begin by that many of the one byte, and the rest are of the other.
 fn is_full(
     rt: &impl Abort,
     alloc: Global,

@@ -1,10 +1,9 @@
 //! What single operations answer by RFC 9669.
 
-use crate::answers::{Expected, answers_once};
-use crate::classes::class_of;
+use crate::answers::{Expected, Given, answers_once};
+use crate::classes::{Declared, class_of};
 use crate::code::put;
 use interp::Outcome;
-use object_store::Object;
 use std::alloc::Global;
 use std::process::Abort;
 use verifier::VerifiedClass;
@@ -95,11 +94,18 @@ static ROWS: [Row; 10] = [
     ),
 ];
 
+/// A method that may not write, with no input and no output.
+const NO_BYTES: Declared = Declared {
+    flags: 1,
+    in_cap: 0,
+    out_cap: 0,
+};
+
 /// The class of a method of those slots and an `exit`.
 fn class_of_slots(rt: &impl Abort, alloc: Global, slots: &[u8]) -> VerifiedClass {
     let mut code = Vec::from_slice(alloc, slots).expect(rt, "memory");
     put(rt, &mut code, &[EXIT]);
-    class_of(rt, alloc, &code, 1, 0, 0)
+    class_of(rt, alloc, &code, NO_BYTES)
 }
 
 /// A code and steps.
@@ -110,14 +116,7 @@ struct Answer {
 }
 
 impl Expected for Answer {
-    fn is_so(
-        &self,
-        _: &impl Abort,
-        _: Global,
-        _: Option<&Object>,
-        _: &[u8],
-        outcome: &Outcome,
-    ) -> bool {
+    fn is_so(&self, _: &impl Abort, _: Global, _: &Given<'_>, outcome: &Outcome) -> bool {
         outcome.code == self.code && outcome.steps == self.steps
     }
 }
@@ -125,7 +124,11 @@ impl Expected for Answer {
 /// Whether a method of those slots and an `exit` answers so.
 fn computes(rt: &impl Abort, alloc: Global, slots: &[u8], answer: Answer) -> bool {
     let class = class_of_slots(rt, alloc, slots);
-    answers_once(rt, alloc, class, None, &[], &answer)
+    let given = Given {
+        object: None,
+        input: b"",
+    };
+    answers_once(rt, alloc, class, &given, &answer)
 }
 
 #[test]

@@ -1,10 +1,9 @@
 //! Calls by their bytes, with answers computed by hand.
 
-use crate::answers::{Expected, answers_beside_once};
-use crate::classes::class_of;
+use crate::answers::{Expected, Given, GivenContents, answers_beside_once};
+use crate::classes::{Declared, class_of};
 use crate::contents::{Contents, NOTHING, is_change};
 use interp::{CallError, Outcome, call};
-use object_store::Object;
 use std::alloc::Global;
 use std::process::Abort;
 use verifier::VerifiedClass;
@@ -265,14 +264,7 @@ fn of_data(data: Option<&'static [u8]>) -> Option<Contents> {
 }
 
 impl Expected for Row {
-    fn is_so(
-        &self,
-        rt: &impl Abort,
-        alloc: Global,
-        _: Option<&Object>,
-        _: &[u8],
-        outcome: &Outcome,
-    ) -> bool {
+    fn is_so(&self, rt: &impl Abort, alloc: Global, _: &Given<'_>, outcome: &Outcome) -> bool {
         outcome.code == self.answer
             && outcome.steps == self.steps
             && outcome.output.as_slice() == self.output
@@ -288,8 +280,17 @@ impl Expected for Row {
 
 /// Whether a call answers so.
 fn answers_row(rt: &impl Abort, alloc: Global, row: &Row) -> bool {
-    let class = class_of(rt, alloc, row.code, row.flags, row.in_cap, row.out_cap);
-    answers_beside_once(rt, alloc, class, of_data(row.object), row.input, row)
+    let declared = Declared {
+        flags: row.flags,
+        in_cap: row.in_cap,
+        out_cap: row.out_cap,
+    };
+    let given = GivenContents {
+        contents: of_data(row.object),
+        input: row.input,
+    };
+    let class = class_of(rt, alloc, row.code, declared);
+    answers_beside_once(rt, alloc, class, given, row)
 }
 
 /// Asserts that the calls of those rows answer so.
@@ -338,6 +339,11 @@ fn refuses_those(alloc: Global, class: &VerifiedClass) -> bool {
 
 #[test]
 fn refuses(rt: HostRuntime) {
-    let class = class_of(&rt, rt.alloc(), &WRITES_CODE, 2, 3, 0);
+    let declared = Declared {
+        flags: 2,
+        in_cap: 3,
+        out_cap: 0,
+    };
+    let class = class_of(&rt, rt.alloc(), &WRITES_CODE, declared);
     assert!(rt; refuses_those(rt.alloc(), &class));
 }

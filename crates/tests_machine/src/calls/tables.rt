@@ -1,6 +1,6 @@
 //! The table of classes, and what refusals print.
 
-use crate::classes::class_of;
+use crate::classes::{Declared, class_of};
 use interp::{CallError, ClassTable, TableError};
 use std::alloc::Global;
 use std::fmt;
@@ -11,7 +11,12 @@ const RETURNS_ZERO: [u8; 16] = [0xb7, 0, 0, 0, 0, 0, 0, 0, 0x95, 0, 0, 0, 0, 0, 
 
 /// A class of one method, of that in_cap.
 fn class(rt: &impl Abort, alloc: Global, in_cap: u16) -> VerifiedClass {
-    class_of(rt, alloc, &RETURNS_ZERO, 1, in_cap, 0)
+    let declared = Declared {
+        flags: 1,
+        in_cap,
+        out_cap: 0,
+    };
+    class_of(rt, alloc, &RETURNS_ZERO, declared)
 }
 
 /// Adds a class to a table; whether it has that id.

@@ -2,7 +2,7 @@
 
 use super::random::Random;
 use super::{PlainRun, verified};
-use crate::answers::answers;
+use crate::answers::{Given, answers};
 use crate::code::{put, slot};
 use crate::contents::{Contents, NOTHING, Pair, object_of, with_key, with_xattr};
 use flat_machine::Layout;
@@ -88,7 +88,7 @@ fn full(rt: &impl Abort, alloc: Global) -> Object {
     extended(rt, alloc, object)
 }
 
-/// Puts an object behind others.
+/// Puts an object after others.
 fn put_object(rt: &impl Abort, objects: &mut Vec<Object>, object: Object) {
     objects.reserve(1).expect(rt, "memory");
     objects.push_reserved(object);
@@ -250,9 +250,17 @@ fn agrees_beside_all(
         code,
         layout: LAYOUT,
     };
-    let mut all = answers(rt, alloc, class, None, &INPUT, &expected);
+    let alone = Given {
+        object: None,
+        input: &INPUT,
+    };
+    let mut all = answers(rt, alloc, class, &alone, &expected);
     for object in objects {
-        all = all && answers(rt, alloc, class, Some(object), &INPUT, &expected);
+        let given = Given {
+            object: Some(object),
+            input: &INPUT,
+        };
+        all = all && answers(rt, alloc, class, &given, &expected);
     }
     all
 }

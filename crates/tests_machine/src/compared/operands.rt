@@ -1,7 +1,7 @@
 //! Every width at offsets, numbers and places of the object.
 
 use super::{PlainRun, verified};
-use crate::answers::answers_beside;
+use crate::answers::{GivenContents, answers_beside};
 use crate::code::slot;
 use crate::contents::{Contents, NOTHING};
 use flat_machine::Layout;
@@ -101,7 +101,11 @@ fn agrees_beside_all(rt: &impl Abort, alloc: Global, class: &VerifiedClass, code
     let expected = PlainRun { code, layout: HIGH };
     let mut all = true;
     for contents in &OBJECTS {
-        all = all && answers_beside(rt, alloc, class, *contents, &INPUT, &expected);
+        let given = GivenContents {
+            contents: *contents,
+            input: &INPUT,
+        };
+        all = all && answers_beside(rt, alloc, class, given, &expected);
     }
     all
 }

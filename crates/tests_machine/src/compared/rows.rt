@@ -2,7 +2,7 @@
 
 use super::random::Random;
 use super::{PlainRun, verified};
-use crate::answers::answers_once;
+use crate::answers::{Given, answers_once};
 use crate::code::{put, slot};
 use flat_machine::Layout;
 use std::alloc::Global;
@@ -176,7 +176,7 @@ fn place(random: &mut Random, read: bool) -> (u8, u16, u16) {
     }
 }
 
-/// An offset at which so many bytes lie in a region, often at one of its ends.
+/// An offset at which that many bytes lie in a region, often at one of its ends.
 fn within(random: &mut Random, before: u16, len: u16, bytes: i16) -> i16 {
     let last = len.wrapping_sub(bytes.cast_unsigned());
     let at = match random.next() % 4 {
@@ -188,7 +188,7 @@ fn within(random: &mut Random, before: u16, len: u16, bytes: i16) -> i16 {
     at.wrapping_sub(before).cast_signed()
 }
 
-/// A comparison of that number, over so many slots.
+/// A comparison of that number, over that many slots.
 fn branch(random: &mut Random, n: usize, over: i16) -> [u8; 8] {
     let dst = random.register();
     let src = random.register();
@@ -217,7 +217,7 @@ fn begin(rt: &impl Abort, random: &mut Random, code: &mut Vec<u8>) {
     }
 }
 
-/// A jump over so many slots, most often the comparison of that number.
+/// A jump over that many slots, most often the comparison of that number.
 fn jump(random: &mut Random, n: usize, over: u16) -> [u8; 8] {
     match random.next() % 8 {
         0 => slot(0x05, 0, over.cast_signed(), 0),
@@ -300,7 +300,11 @@ fn agrees_on(rt: &impl Abort, alloc: Global, seed: u64) -> bool {
                 code: &code,
                 layout: LOW,
             };
-            answers_once(rt, alloc, class, None, &INPUT, &expected)
+            let given = Given {
+                object: None,
+                input: &INPUT,
+            };
+            answers_once(rt, alloc, class, &given, &expected)
         }
     }
 }

@@ -1,8 +1,8 @@
 //! Methods that keep numbers and pointers in the stack, overwrite parts of them, and load them again.
 
 use super::random::Random;
-use super::{CAPS, PlainRun};
-use crate::answers::answers_once;
+use super::{DECLARED, PlainRun};
+use crate::answers::{Given, answers_once};
 use crate::classes::image_by;
 use crate::code::{put, slot};
 use bpf_decode::RuleSet;
@@ -190,7 +190,7 @@ const INPUT: [u8; 9] = [1, 0x80, 3, 0xff, 5, 0x96, 7, 8, 9];
 
 /// The class of rule set 2 of a code, where it is safe.
 fn verified(rt: &impl Abort, alloc: Global, code: &[u8]) -> Option<VerifiedClass> {
-    let image = image_by(rt, alloc, RuleSet::Two, code, 3, CAPS.in_cap, CAPS.out_cap);
+    let image = image_by(rt, alloc, RuleSet::Two, code, DECLARED);
     verify(alloc, &image).ok()
 }
 
@@ -204,7 +204,11 @@ fn agrees_on(rt: &impl Abort, alloc: Global, seed: u64, layout: Layout) -> bool 
                 code: &code,
                 layout,
             };
-            answers_once(rt, alloc, class, None, &INPUT, &expected)
+            let given = Given {
+                object: None,
+                input: &INPUT,
+            };
+            answers_once(rt, alloc, class, &given, &expected)
         }
     }
 }

@@ -39,7 +39,7 @@ impl<C: Classes> Story<C> {
         }
     }
 
-    /// Makes so many events, which a witness sees, and says what they reached.
+    /// Makes that many events, which a witness sees, and says what they reached.
     fn be_seen<R: Abort>(
         &mut self,
         rt: &R,
@@ -73,7 +73,7 @@ impl<C: Classes> Story<C> {
         }
     }
 
-    /// The primary of the newest map, or, once in so many times, any node.
+    /// The primary of the newest map, or, once in that many times, any node.
     fn likely_primary(&mut self, times: usize) -> usize {
         let primary = self.network.primary();
         mostly(&mut self.dice, times, self.network.count(), primary)
@@ -178,7 +178,7 @@ fn next(dice: &mut Dice, stopped: bool) -> usize {
     }
 }
 
-/// A place, or, once in so many times, any of all.
+/// A place, or, once in that many times, any of all.
 fn mostly(dice: &mut Dice, times: usize, all: usize, place: usize) -> usize {
     if dice.roll(times) == 0 {
         dice.roll(all)
@@ -187,12 +187,12 @@ fn mostly(dice: &mut Dice, times: usize, all: usize, place: usize) -> usize {
     }
 }
 
-/// Which of so many messages comes: mostly the first, and at a small chance any.
+/// Which of that many messages comes: mostly the first, and at a small chance any.
 fn place(dice: &mut Dice, chance: usize, messages: usize) -> usize {
     if chance < 5 { dice.roll(messages) } else { 0 }
 }
 
-/// Any of so many messages, or one of the last.
+/// Any of that many messages, or one of the last.
 fn earlier(dice: &mut Dice, sent: usize, any: bool) -> usize {
     let back = if any { sent } else { sent.min(LAST) };
     sent.saturating_sub(dice.roll(back)).saturating_sub(1)
@@ -274,7 +274,7 @@ impl<R: Abort> GroupWork for History<'_, R> {
     }
 }
 
-/// Makes the history of a seed, on so many nodes and of so many events, and says what it reached.
+/// Makes the history of a seed, on that many nodes and of that many events, and says what it reached.
 pub(super) fn go_through<R: Abort>(
     rt: &R,
     alloc: Global,

@@ -33,7 +33,7 @@ pub(super) struct Witness {
     cut: usize,
 }
 
-/// The logs of so many nodes, before any event.
+/// The logs of that many nodes, before any event.
 fn no_logs<R: Abort>(rt: &R, alloc: Global, nodes: usize) -> Vec<Vec<Asked>> {
     let mut logs = Vec::new(alloc);
     for _node in 0..nodes {
@@ -153,7 +153,7 @@ impl Agreed {
 }
 
 impl Witness {
-    /// Of so many nodes, before any event.
+    /// Of that many nodes, before any event.
     pub(super) fn new<R: Abort>(rt: &R, alloc: Global, nodes: usize) -> Witness {
         let committed = vec![in alloc; 0; nodes].expect(rt, "memory");
         Witness {

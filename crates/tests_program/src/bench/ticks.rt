@@ -2,7 +2,7 @@ use std::cell::Cell;
 use std::io;
 use std::time::{Clock, Duration};
 
-/// A clock of which every other reading is 3 and 1 milliseconds behind the one before, in turn, and each other 7. So
+/// A clock of which every other reading is 3 and 1 milliseconds after the one before, in turn, and each other 7. So
 /// what is measured takes 3 milliseconds and 1, in turn.
 #[derive(Drop)]
 pub struct Ticks {

@@ -125,7 +125,7 @@ static TEXTS: [(&str, usize, bool); 4] = [
     (OMAP, 23, false),
 ];
 
-/// Whether so many calls beside an absent object answer so, and whether the object is there then.
+/// Whether that many calls beside an absent object answer so, and whether the object is there then.
 fn passes(alloc: Global, text: &str, count: usize, there: bool) -> bool {
     let mut staged = Staged::over(None);
     let right = right_answers(alloc, &mut staged, text);

@@ -4,7 +4,7 @@ use helpers::{map_set, setxattr};
 use std::alloc::Global;
 use txn::Staged;
 
-/// Whether so many keys, or else xattrs, with values of 4,096 bytes may be set.
+/// Whether that many keys, or else xattrs, with values of 4,096 bytes may be set.
 fn fills(alloc: Global, staged: &mut Staged, keys: bool, count: u16) -> bool {
     for n in 0..count {
         let name = numbered(n);
@@ -48,7 +48,7 @@ static LIMITS: [(bool, u16, &str, usize); 2] = [
     (true, 1024, FULL_OMAP, 8),
 ];
 
-/// Whether so many may be set, and so many of the lines answer so then.
+/// Whether that many may be set, and that many of the lines answer so then.
 fn passes(alloc: Global, keys: bool, count: u16, text: &str, right: usize) -> bool {
     let mut staged = Staged::over(None);
     let filled = fills(alloc, &mut staged, keys, count);

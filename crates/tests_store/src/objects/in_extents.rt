@@ -4,7 +4,7 @@ use object_store::{Data, ExtentData};
 use std::alloc::Global;
 use std::process::Abort;
 
-/// Data of so many bytes, each 7.
+/// Data of that many bytes, each 7.
 fn sevens<R: Abort>(rt: &R, alloc: Global, len: usize) -> ExtentData {
     let mut data = ExtentData::new();
     let bytes = [7].repeat(alloc, len).expect(rt, "memory");

@@ -6,7 +6,7 @@ use object_store::{Object, StoreError, calls};
 use std::alloc::Global;
 use std::process::Abort;
 
-/// The object with so many xattrs and keys, each with the longest name and value.
+/// The object with that many xattrs and keys, each with the longest name and value.
 fn with_names<R: Abort>(rt: &R, alloc: Global, object: Object, xattrs: u16, keys: u16) -> Object {
     let value = [7; 4096];
     let mut object = object;

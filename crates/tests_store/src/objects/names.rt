@@ -15,7 +15,7 @@ static REFUSALS: [(StoreError, u8, &str); 7] = [
     (StoreError::NoMemory, 7, "7 NoMemory"),
 ];
 
-/// The length of a name of so many letters, where it isn't refused by its length.
+/// The length of a name of that many letters, where it isn't refused by its length.
 fn length_of<R: Abort>(rt: &R, alloc: Global, len: usize) -> Option<usize> {
     let text = "x".repeat(alloc, len).expect(rt, "memory");
     match ObjectName::new(alloc, &text) {

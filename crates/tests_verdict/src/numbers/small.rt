@@ -94,13 +94,23 @@ fn member(set: u64, k: u64) -> u64 {
     }
 }
 
+/// A set, and what is known of its members.
+#[derive(Clone, Copy)]
+struct KnownSet {
+    set: u64,
+    number: Number,
+}
+
 /// The least that holds the set, tightened.
-fn known(set: u64) -> Option<Number> {
+fn known(set: u64) -> Option<KnownSet> {
     let mut x = constant(member(set, 0));
     for k in 1..8 {
         x = join(x, constant(member(set, k)));
     }
-    tighten(x)
+    match tighten(x) {
+        None => None,
+        Some(number) => Some(KnownSet { set, number }),
+    }
 }
 
 /// What is computed of `m` and each member of the set `j` is held.
@@ -114,19 +124,12 @@ fn row_held(z: &Number, bits: OpWidth, operation: Arithmetic, m: u64, j: u64) ->
 }
 
 /// What is computed of the members of two sets is held.
-fn operation_held(
-    bits: OpWidth,
-    operation: Arithmetic,
-    x: Number,
-    y: Number,
-    i: u64,
-    j: u64,
-) -> bool {
-    let Some(z) = arithmetic(bits, operation, x, y) else {
+fn operation_held(bits: OpWidth, operation: Arithmetic, x: &KnownSet, y: &KnownSet) -> bool {
+    let Some(z) = arithmetic(bits, operation, x.number, y.number) else {
         return false;
     };
     for k in 0..8 {
-        if !row_held(&z, bits, operation, member(i, k), j) {
+        if !row_held(&z, bits, operation, member(x.set, k), y.set) {
             return false;
         }
     }
@@ -142,18 +145,11 @@ fn edge_held(edge: Option<(Number, Number)>, m: u64, n: u64) -> bool {
 }
 
 /// The edges that the members of two sets take hold them.
-fn comparison_held(
-    bits: OpWidth,
-    comparison: Comparison,
-    x: Number,
-    y: Number,
-    i: u64,
-    j: u64,
-) -> bool {
-    let yes = refine(bits, comparison, true, x, y);
-    let no = refine(bits, comparison, false, x, y);
+fn comparison_held(bits: OpWidth, comparison: Comparison, x: &KnownSet, y: &KnownSet) -> bool {
+    let yes = refine(bits, comparison, true, x.number, y.number);
+    let no = refine(bits, comparison, false, x.number, y.number);
     for k in 0..64 {
-        let (m, n) = (member(i, k / 8), member(j, k % 8));
+        let (m, n) = (member(x.set, k / 8), member(y.set, k % 8));
         let edge = if taken(bits, comparison, m, n) {
             yes
         } else {
@@ -172,8 +168,8 @@ fn operations_held(i: u64, j: u64) -> bool {
         return false;
     };
     for operation in OPERATIONS {
-        if !operation_held(OpWidth::Bits64, operation, x, y, i, j)
-            || !operation_held(OpWidth::Bits32, operation, x, y, i, j)
+        if !operation_held(OpWidth::Bits64, operation, &x, &y)
+            || !operation_held(OpWidth::Bits32, operation, &x, &y)
         {
             return false;
         }
@@ -187,8 +183,8 @@ fn comparisons_held(i: u64, j: u64) -> bool {
         return false;
     };
     for comparison in COMPARISONS {
-        if !comparison_held(OpWidth::Bits64, comparison, x, y, i, j)
-            || !comparison_held(OpWidth::Bits32, comparison, x, y, i, j)
+        if !comparison_held(OpWidth::Bits64, comparison, &x, &y)
+            || !comparison_held(OpWidth::Bits32, comparison, &x, &y)
         {
             return false;
         }

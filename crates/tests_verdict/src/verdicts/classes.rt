@@ -170,7 +170,7 @@ fn keeps_what_is_declared(rt: HostRuntime) {
     assert!(rt; kept);
 }
 
-/// Whether a run on the flat machine with that input comes to its exit within so many steps.
+/// Whether a run on the flat machine with that input comes to its exit within that many steps.
 fn ends(alloc: Global, caps: &Caps, code: &[u8], input: &[u8], limit: usize) -> bool {
     let layout = Layout {
         input: 0x1000,

@@ -1,6 +1,6 @@
 //! The longest methods and the largest class.
 
-use super::{is_judged, method, put};
+use super::{Declared, is_judged, method, put};
 use bpf_decode::{ClassImage, Method, RuleSet};
 use std::alloc::{AllocError, Global};
 use verifier::verify;
@@ -21,6 +21,13 @@ const EMPTY_ARMS: u128 = 0x1502000000000000_1502000000000000;
 const NAMES: &str = "m10 m11 m12 m13 m14 m15 m16 m17 m18 m19 m20 m21 m22 m23 m24 m25 \
 m26 m27 m28 m29 m30 m31 m32 m33 m34 m35 m36 m37 m38 m39 m40 m41";
 
+/// What each method declares: the greatest caps.
+const GREATEST: Declared = Declared {
+    flags: 1,
+    in_cap: 4096,
+    out_cap: 4096,
+};
+
 /// Writes 4,096 slots: a first one, those two 2,047 times, and `exit`.
 fn put_slots(code: &mut Vec<u8>, first: u64, pair: u128) -> Result<(), AllocError> {
     code.extend_from_slice(&first.to_be_bytes())?;
@@ -36,10 +43,10 @@ fn longest(alloc: Global, name: &str, first: u64, pair: u128) -> Option<Method> 
     if put_slots(&mut code, first, pair).is_err() {
         return None;
     }
-    method(alloc, name, &code, 1, 4096, 4096)
+    method(alloc, name, &code, GREATEST)
 }
 
-/// Puts such a method for each name behind others; whether all could be.
+/// Puts such a method for each name after others; whether all could be.
 fn put_longest(
     alloc: Global,
     methods: &mut Vec<Method>,

@@ -4,7 +4,7 @@ use Rattle.bpf_decode.specs.Instruction.{slot_total}
 use Rattle.bpf_asm.proofs.body.push_body.Given as goal
 use Rattle.bpf_decode.specs.declared.limits.TheConstants.{SLOT_LIMIT}
 
--- reading goes on behind the lines so far
+-- reading goes on after the lines so far
 abbrev pub invariant-loop-index : goal.invariant-loop-index
 invariant-loop-index l =
     record {

@@ -4,7 +4,7 @@ use Rattle.bpf_asm.specs.Classes.{class_from}
 use Rattle.bpf_asm.proofs.class_reader.methods_of.Given as goal
 use Rattle.bpf_decode.specs.declared.limits.TheConstants.{METHOD_LIMIT}
 
--- reading goes on behind the methods so far, which are right
+-- reading goes on after the methods so far, which are right
 abbrev pub invariant-loop-index : goal.invariant-loop-index
 invariant-loop-index l =
     record {

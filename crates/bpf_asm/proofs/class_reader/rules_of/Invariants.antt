@@ -2,7 +2,7 @@ use Rattle.std.proofs.Common.{◌≡◌, ◌≤◌, ◌+◌, ◌-◌, drop, leng
 use Rattle.bpf_asm.specs.Classes.{ruled_from}
 use Rattle.bpf_asm.proofs.class_reader.rules_of.Given as goal
 
--- reading goes on behind empty lines
+-- reading goes on after empty lines
 abbrev pub invariant-loop-index : goal.invariant-loop-index
 invariant-loop-index l =
     record {

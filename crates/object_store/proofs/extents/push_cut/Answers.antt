@@ -1,5 +1,6 @@
 use Rattle.std.proofs.Common.{◌++◌, take, ap, ◌∙◌, append_assoc, arith}
 use Rattle.std.proofs.lemmas.List.{take-append-drop}
+use Rattle.object_store.specs.declared.extent.TheConstants.{EXTENT_LIMIT}
 use Rattle.object_store.specs.Extents.{flat}
 use Rattle.object_store.proofs.Packs.{full-packed}
 use Rattle.object_store.proofs.extents.push_cut.Goals as goal
@@ -12,7 +13,7 @@ loop-rest-preserved c =
       bytes =
           ap (λ b. b ++ r) c.in_ok-push_copy.ensures.bytes
           ∙ append_assoc l c.split_at.result.0.now r
-          ∙ ap (λ b. l ++ b) (ap (λ b. b ++ r) c.split_at.ensures.front ∙ ap (λ b. take 4096 c.loop-rest.rest.now ++ b) c.split_at.ensures.back ∙ take-append-drop 4096 c.loop-rest.rest.now)
+          ∙ ap (λ b. l ++ b) (ap (λ b. b ++ r) c.split_at.ensures.front ∙ ap (λ b. take EXTENT_LIMIT c.loop-rest.rest.now ++ b) c.split_at.ensures.back ∙ take-append-drop 4096 c.loop-rest.rest.now)
           ∙ c.loop-rest.invariant.bytes;
       full = c.in_ok-push_copy.ensures.full c.split_at.ensures.front_len;
       left = omega (arith, c.split_at.ensures.back_len, c.loop-rest.invariant.left);

@@ -5,4 +5,4 @@ pub returns-clause-least : goal.returns-clause-least
 returns-clause-least c = least_first c.args.acked.now c.least_beside.result _ c.requires c.least_beside.ensures
 
 pub returns-clause-from : goal.returns-clause-from
-returns-clause-from c = λ own. least_beside_own own c.args.acked.now c.least_beside.result _ c.requires c.least_beside.ensures
+returns-clause-from c = λ local. least_beside_own local c.args.acked.now c.least_beside.result _ c.requires c.least_beside.ensures

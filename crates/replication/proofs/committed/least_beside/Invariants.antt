@@ -3,4 +3,4 @@ use Rattle.replication.specs.Places.{least_from}
 use Rattle.replication.proofs.committed.least_beside.Given as goal
 
 abbrev pub invariant-loop-come : goal.invariant-loop-come
-invariant-loop-come l = least_from l.point (drop l.come-index l.acked) ≡ least_from l.own l.acked
+invariant-loop-come l = least_from l.point (drop l.come-index l.acked) ≡ least_from l.local l.acked

@@ -21,17 +21,17 @@ returns-in_err-extend_by-clause-err g c =
     (rw (sym c.loop-k.invariant.done) c.in_err-extend_by.ensures.err))
 
 pub returns-in_err-extend_by-clause-begun : goal.returns-in_err-extend_by-clause-begun
-returns-in_err-extend_by-clause-begun g c = prefix_on c.args.entries.now.items c.loop-k.entries.items c.extend_by.new.entries.items c.loop-k.invariant.begun c.extend_by.ensures.begun
+returns-in_err-extend_by-clause-begun g c = prefix_on c.args.log.now.entries.items c.loop-k.log.entries.items c.extend_by.new.log.entries.items c.loop-k.invariant.begun c.extend_by.ensures.begun
 
 pub returns-in_err-extend_by-clause-room : goal.returns-in_err-extend_by-clause-room
-returns-in_err-extend_by-clause-room g c = room_twice c.args.places.now c.loop-k.places c.extend_by.new.places c.loop-k.invariant.room c.extend_by.ensures.room
+returns-in_err-extend_by-clause-room g c = room_twice c.args.log.now.places c.loop-k.log.places c.extend_by.new.log.places c.loop-k.invariant.room c.extend_by.ensures.room
 
 pub loop-k-preserved : goal.loop-k-preserved
 loop-k-preserved g c =
     let table = c.args.table.now in
     let list = c.args.list.now in
     let k = c.loop-k.k in
-    let es = c.loop-k.entries.items in
+    let es = c.loop-k.log.entries.items in
     let r = c.index-list-k.result in
     let next = c.in_ok-extend_by.ensures.ok in
     let at : slice_get list k ≡ Some r = slice_get_read list _ k r refl c.loop-k-test.true c.index-list-k.is in
@@ -41,9 +41,9 @@ loop-k-preserved g c =
       kept = c.extend_by.ensures.kept;
       done = next.0 ∙ ap (λ w. w ++ r ∷ []) c.loop-k.invariant.done ∙ sym (take_get list k r at);
       left = c.loop-k.invariant.left ∙ rest_more table list k r at why;
-      begun = prefix_on c.args.entries.now.items es c.extend_by.new.entries.items c.loop-k.invariant.begun c.extend_by.ensures.begun;
+      begun = prefix_on c.args.log.now.entries.items es c.extend_by.new.log.entries.items c.loop-k.invariant.begun c.extend_by.ensures.begun;
       entries_room = omega (arith, c.loop-k.invariant.entries_room, room);
-      room = room_twice c.args.places.now c.loop-k.places c.extend_by.new.places c.loop-k.invariant.room c.extend_by.ensures.room;
+      room = room_twice c.args.log.now.places c.loop-k.log.places c.extend_by.new.log.places c.loop-k.invariant.room c.extend_by.ensures.room;
     }
 
 pub returns-clause-ok : goal.returns-clause-ok

@@ -1,4 +1,4 @@
-use Rattle.std.proofs.Common.{◌∙◌, ap, subst, refl, arith, [], ◌∷◌, ◌++◌, inr}
+use Rattle.std.proofs.Common.{◌∙◌, ap, sym, subst, refl, arith, [], ◌∷◌, ◌++◌, inr}
 use Rattle.std.proofs.lemmas.Grind.{common_steps}
 use Rattle.std.proofs.lemmas.Result.{on_ok_weaker, IfErr-weaker, err_from_is_err_and}
 use Rattle.object_store.specs.Names.{PlainObjects}
@@ -12,19 +12,19 @@ use Rattle.pg_log.proofs.group.Group.extend_by.Goals as goal
 
 pub returns-in_err-outcome-clause-err : goal.returns-in_err-outcome-clause-err
 returns-in_err-outcome-clause-err g c =
-    let es = c.args.entries.now.items in
+    let es = c.args.log.now.entries.items in
     let kept = c.requires.kept in
     let n = length-requests es (requests_of es) refl in
-    let fact : Refuses (refusal c.args.table.now (requests_of es) c.args.request.now) c.in_err-outcome.field-0.0 = c.in_err-outcome.ensures.err (requests_of es) (omega arith) kept.indexed kept.legal.rise in
+    let fact : Refuses (refusal c.args.table.now (requests_of es) c.args.request.now) c.in_err-outcome.field-0.0 = c.in_err-outcome.ensures.err (requests_of es) (sym n) kept.indexed kept.legal.rise in
     let p = err_from_is_err_and c.from_residual.result c.from_residual.ensures.1 in
     rw (p.1, p.2) fact
 
 pub returns-in_err-entry-clause-err : goal.returns-in_err-entry-clause-err
 returns-in_err-entry-clause-err g c =
-    let es = c.args.entries.now.items in
+    let es = c.args.log.now.entries.items in
     let kept = c.requires.kept in
     let n = length-requests es (requests_of es) refl in
-    let ran = c.in_ok-outcome.ensures.ok (requests_of es) (omega arith) kept.indexed kept.legal.rise in
+    let ran = c.in_ok-outcome.ensures.ok (requests_of es) (sym n) kept.indexed kept.legal.rise in
     let fact : Refuses (refusal c.args.table.now (requests_of es) c.args.request.now) c.in_err-entry.field-0.0 = inr (c.in_err-entry.ensures.err, ran.0) in
     let p = err_from_is_err_and c.from_residual-in_err-entry.result c.from_residual-in_err-entry.ensures.1 in
     rw (p.1, p.2) fact
@@ -33,13 +33,13 @@ pub add-requires-clause-next : goal.add-requires-clause-next
 add-requires-clause-next g c =
     let classes = g.C.Classes.classes in
     let table = c.args.table.now in
-    let es = c.args.entries.now.items in
+    let es = c.args.log.now.entries.items in
     let xs = requests_of es in
     let r = c.args.request.now in
     let o = c.in_ok-outcome.outcome in
     let kept = c.requires.kept in
     let n = length-requests es xs refl in
-    let ran = c.in_ok-outcome.ensures.ok xs (omega arith) kept.indexed kept.legal.rise in
+    let ran = c.in_ok-outcome.ensures.ok xs (sym n) kept.indexed kept.legal.rise in
     let made = c.in_ok-entry.ensures in
     let O : PlainObjects → Type 0 = λ w. IsOutcomeOn table w r o.code o.output.items o.change in
     entry_made classes xs r o c.in_ok-entry.entry made.request made.code made.output made.change
@@ -49,25 +49,25 @@ add-requires-clause-next g c =
 
 pub returns-clause-ok : goal.returns-clause-ok
 returns-clause-ok g c =
-    let es = c.args.entries.now.items in
+    let es = c.args.log.now.entries.items in
     let xs = requests_of es in
     let kept = c.requires.kept in
     let n = length-requests es xs refl in
-    let ran = c.in_ok-outcome.ensures.ok xs (omega arith) kept.indexed kept.legal.rise in
+    let ran = c.in_ok-outcome.ensures.ok xs (sym n) kept.indexed kept.legal.rise in
     on_ok_weaker c.add.result
     (λ h. (ap requests_of h ∙ requests_of-push es c.in_ok-entry.entry ∙ ap (λ q. xs ++ q ∷ []) c.in_ok-entry.ensures.request, ran.0)) c.add.ensures.ok
 
 pub returns-clause-err : goal.returns-clause-err
 returns-clause-err g c =
-    let es = c.args.entries.now.items in
+    let es = c.args.log.now.entries.items in
     let xs = requests_of es in
     let kept = c.requires.kept in
     let n = length-requests es xs refl in
-    let ran = c.in_ok-outcome.ensures.ok xs (omega arith) kept.indexed kept.legal.rise in
+    let ran = c.in_ok-outcome.ensures.ok xs (sym n) kept.indexed kept.legal.rise in
     IfErr-weaker c.add.result _ (Refuses (refusal c.args.table.now xs c.args.request.now)) (λ e h. inr (h.0, ran.0)) c.add.ensures.err
 
 pub returns-clause-begun : goal.returns-clause-begun
-returns-clause-begun g c = prefix_added c.add.result c.args.entries.now.items c.add.new.entries.items c.in_ok-entry.entry c.add.ensures.ok c.add.ensures.err
+returns-clause-begun g c = prefix_added c.add.result c.args.log.now.entries.items c.add.new.log.entries.items c.in_ok-entry.entry c.add.ensures.ok c.add.ensures.err
 
 pub returns-clause-room : goal.returns-clause-room
 returns-clause-room g c = grind (arith, common_steps)

@@ -10,7 +10,7 @@ use Rattle.pg_log.proofs.group.Group.reply_at.Goals as goal
 pub returns-in-Some : goal.returns-in-Some
 returns-in-Some g c =
     let classes = g.C.Classes.classes in
-    let es = c.self.inside.entries.items in
+    let es = c.self.inside.log.entries.items in
     let l = c.in-Some.ensures.lookup in
     let at : slice_get es c.args.place ≡ Some c.in-Some.entry.now =
     ap (λ xs. slice_get xs c.args.place) (sym c.deref.ensures.value) ∙ slice_get_read c.deref.result.now _ c.args.place c.in-Some.entry.now refl l.3.0 l.1 in
@@ -24,6 +24,6 @@ returns-in-Some g c =
 pub returns-in-None : goal.returns-in-None
 returns-in-None g c =
     let classes = g.C.Classes.classes in
-    let es = c.self.inside.entries.items in
+    let es = c.self.inside.log.entries.items in
     let past = ap (λ xs. slice_get xs c.args.place) (sym c.deref.ensures.value) ∙ slice_get_past c.deref.result.now c.args.place c.in-None.ensures.lookup.3 in
     no_entry classes es c.args.place past ∙ ap (λ xs. reply_at classes xs c.args.place) c.self.view_is

@@ -11,7 +11,7 @@ pub returns-in_err-code : goal.returns-in_err-code
 returns-in_err-code g c =
     let xs = c.args.self.now in
     let place = c.in_ok-place.place in
-    let P : List ClientRequest → Type 0 = ArePlaces c.self.inside.places in
+    let P : List ClientRequest → Type 0 = ArePlaces c.self.inside.log.places in
     let R : List ClientRequest → Type 0 = NumbersRise in
     let at = c.in_ok-place.ensures xs (subst P c.self.view_is c.self.invariant.indexed) (subst R c.self.view_is c.self.invariant.legal.rise) in
     absurd (pair_replied g.C.Classes.classes xs c.args.client c.args.number place at (sym c.in_err-code.ensures))
@@ -19,7 +19,7 @@ returns-in_err-code g c =
 pub returns : goal.returns
 returns g c =
     let xs = c.args.self.now in
-    let P : List ClientRequest → Type 0 = ArePlaces c.self.inside.places in
+    let P : List ClientRequest → Type 0 = ArePlaces c.self.inside.log.places in
     let R : List ClientRequest → Type 0 = NumbersRise in
     let at = c.in_ok-place.ensures xs (subst P c.self.view_is c.self.invariant.indexed) (subst R c.self.view_is c.self.invariant.legal.rise) in
     let code = c.in_ok-code.code in

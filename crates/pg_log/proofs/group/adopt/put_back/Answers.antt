@@ -11,13 +11,13 @@ use Rattle.pg_log.proofs.group.adopt.put_back.Goals as goal
 
 pub give_back-requires-clause-places : goal.give_back-requires-clause-places
 give_back-requires-clause-places c =
-    let es = c.args.entries.now.items in
+    let es = c.args.log.now.entries.items in
     let k = c.args.at in
     let all : c.deref-2.result.now ≡ take k es ++ c.args.tail.now.items =
     c.deref-2.ensures.value ∙ c.append.ensures.items ∙ ap (λ b. cond b (c.truncate.new.self.items ++ c.args.tail.now.items) c.truncate.new.self.items) c.if-is_err.ensures.negation
     ∙ ap (λ (w : List Entry). w ++ c.args.tail.now.items) c.truncate.ensures.items in
     let P : List ClientRequest → Type 0 = ArePlaces c.take_back.new.self in
-    let Q : List ClientRequest → Type 0 = ArePlaces c.args.places.now in
+    let Q : List ClientRequest → Type 0 = ArePlaces c.args.log.now.places in
     let whole = sym (take-append-drop k (requests_of es)) ∙ ap (λ (w : List ClientRequest). take k (requests_of es) ++ w)
     (sym (requests_of-drop es k) ∙ sym (ap (λ (w : List Entry). requests_of (drop k w)) c.deref.ensures.value) ∙ ap requests_of (sym (rest_of c.deref.result.now k))) in
     let cut = c.take_back.ensures.places (take k (requests_of es)) (subst Q whole c.requires.places) in
@@ -25,18 +25,18 @@ give_back-requires-clause-places c =
 
 pub give_back-requires-clause-room : goal.give_back-requires-clause-room
 give_back-requires-clause-room c =
-    let es = c.args.entries.now.items in
+    let es = c.args.log.now.entries.items in
     let k = c.args.at in
     let all : c.deref-2.result.now ≡ take k es ++ c.args.tail.now.items =
     c.deref-2.ensures.value ∙ c.append.ensures.items ∙ ap (λ b. cond b (c.truncate.new.self.items ++ c.args.tail.now.items) c.truncate.new.self.items) c.if-is_err.ensures.negation
     ∙ ap (λ (w : List Entry). w ++ c.args.tail.now.items) c.truncate.ensures.items in
     let P : List ClientRequest → Type 0 = HasRoom c.take_back.new.self in
     subst P (sym (ap requests_of all ∙ requests_of-append (take k es) c.args.tail.now.items ∙ ap (λ (w : List ClientRequest). w ++ requests_of c.args.tail.now.items) (requests_of-take es k)))
-    (room_later c.args.places.now c.take_back.new.self _ c.requires.room c.take_back.ensures.room)
+    (room_later c.args.log.now.places c.take_back.new.self _ c.requires.room c.take_back.ensures.room)
 
 pub returns-clause-places : goal.returns-clause-places
 returns-clause-places c =
-    let es = c.args.entries.now.items in
+    let es = c.args.log.now.entries.items in
     let k = c.args.at in
     let all : c.deref-2.result.now ≡ take k es ++ c.args.tail.now.items =
     c.deref-2.ensures.value ∙ c.append.ensures.items ∙ ap (λ b. cond b (c.truncate.new.self.items ++ c.args.tail.now.items) c.truncate.new.self.items) c.if-is_err.ensures.negation

@@ -44,10 +44,10 @@ returns-clause-ok c = λ xs n at rise.
     ∙ sym (c.is_reached.ensures xs at rise) ∙ c.if-is_reached.false in
     let why : refusal table xs r ≡ None = refusal-class table xs r (omega arith) reached ∙ c.in_ok-method.ensures.unrefused in
     let found : method_of table r ≡ Some method = c.in_ok-method.ensures.found in
-    let object : option_copied c.get.result ≡ fin.get c.args.objects.now r.object = c.get.ensures ∙ ap (fin.get c.args.objects.now) c.object.ensures in
-    let R : Outcome → Type 0 = λ o. IsOutcome (Some method) (option_copied c.get.result) r o.code o.output.items o.change in
-    let S : Outcome → Type 0 = λ o. (refusal table xs r ≡ None) × IsOutcome (Some method) (option_copied c.get.result) r o.code o.output.items o.change in
-    let B : Option ClassMethod → Type 0 = λ w. IfOk c.run_method.result (λ o. (refusal table xs r ≡ None) × IsOutcome w (option_copied c.get.result) r o.code o.output.items o.change) in
+    let object : option_copied c.get-object.result ≡ fin.get c.args.log.now.objects r.object = c.get-object.ensures ∙ ap (fin.get c.args.log.now.objects) c.object.ensures in
+    let R : Outcome → Type 0 = λ o. IsOutcome (Some method) (option_copied c.get-object.result) r o.code o.output.items o.change in
+    let S : Outcome → Type 0 = λ o. (refusal table xs r ≡ None) × IsOutcome (Some method) (option_copied c.get-object.result) r o.code o.output.items o.change in
+    let B : Option ClassMethod → Type 0 = λ w. IfOk c.run_method.result (λ o. (refusal table xs r ≡ None) × IsOutcome w (option_copied c.get-object.result) r o.code o.output.items o.change) in
     let D : PlainObject → Type 0 = λ w. IfOk c.run_method.result (λ o. (refusal table xs r ≡ None) × IsOutcome (method_of table r) w r o.code o.output.items o.change) in
     subst D object (subst B (sym found) (IfOk-weaker c.run_method.result R S (λ o h. (why, h)) c.run_method.ensures.ok))
 
