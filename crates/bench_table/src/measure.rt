@@ -8,7 +8,9 @@ use anyhow::{Context, Result};
 use bpf_decode::ClassImage;
 use interp::ClassTable;
 use object_store::ObjectName;
-use pg_log::{Classes, ClientId, Group, GroupWork, LogError, Request, RequestNumber, with_group};
+use pg_log::{
+    Classes, ClientId, Group, GroupWork, LogError, Request, RequestNumber, RequestParts, with_group,
+};
 use std::alloc::Global;
 use std::time::{Clock, Instant};
 use verifier::{VerifiedClass, verify};
@@ -164,14 +166,15 @@ fn requests(alloc: Global, class: usize, count: u32) -> Result<Vec<Request>> {
     let client = ClientId::new(1).context("a client")?;
     let mut requests = Vec::new(alloc);
     for number in 0..count {
-        requests.push(Request::new(
+        let parts = RequestParts {
             client,
-            RequestNumber::new(count - number).context("a number")?,
-            ObjectName::new(alloc, "o")?,
+            number: RequestNumber::new(count - number).context("a number")?,
+            object: ObjectName::new(alloc, "o")?,
             class,
-            String::from_str(alloc, "f")?,
-            Vec::new(alloc),
-        ))?;
+            method: String::from_str(alloc, "f")?,
+            input: Vec::new(alloc),
+        };
+        requests.push(Request::new(alloc, parts)?)?;
     }
     Ok(requests)
 }

@@ -1,6 +1,6 @@
 use anyhow::{Context, Result};
 use object_store::ObjectName;
-use pg_log::{ClientId, Request, RequestNumber};
+use pg_log::{ClientId, Request, RequestNumber, RequestParts};
 use std::alloc::Global;
 
 /// A client's request of that number, each 1 to 2^32 - 1, of class 0: `lock` of an object if the number is odd, and else
@@ -11,5 +11,13 @@ pub fn lock_request(alloc: Global, client: u32, number: u32, object: &str) -> Re
     let number = RequestNumber::new(number).context("a number")?;
     let object = ObjectName::new(alloc, object)?;
     let method = String::from_str(alloc, method)?;
-    Ok(Request::new(client, number, object, 0, method, Vec::new(alloc)))
+    let parts = RequestParts {
+        client,
+        number,
+        object,
+        class: 0,
+        method,
+        input: Vec::new(alloc),
+    };
+    Ok(Request::new(alloc, parts)?)
 }

@@ -23,11 +23,6 @@ carried_as committed reported sender kind = Plain (AMessage (record { sender = s
 abbrev pub packed_as : ℕ → ℕ → Packet → Party × Carried
 packed_as committed reported p = (p.receiver, carried_as committed reported p.message.sender p.message.kind)
 
--- only a list takes memory
-abbrev pub IsLog : MessageKind → Type 0
-IsLog (LogOf interval list) = Unit {0}
-IsLog _ = ⊥
-
 -- how many entries the sender of a question has committed
 abbrev pub reported_of : Carried → ℕ
 reported_of (Query sender map reported) = reported

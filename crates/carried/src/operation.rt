@@ -59,7 +59,7 @@ impl Carried {
         }
     }
 
-    /// An equal one. It costs a copy of what is carried.
+    /// An equal one. It shares what is carried of requests and lists.
     pub fn copy(&self, alloc: Global) -> Result<Carried, NoMemory>
         ensures { IfOk result (λ c. c ≡ self.now) }
     {
@@ -70,7 +70,7 @@ impl Carried {
                 map,
                 reported,
             } => copy_query(alloc, *sender, map, *reported),
-            Carried::Log(short) => copy_short(alloc, short),
+            Carried::Log(short) => copy_short(short),
         }
     }
 }
@@ -81,7 +81,7 @@ fn copy_plain(alloc: Global, event: &Event) -> Result<Carried, NoMemory>
 {
     match event {
         Event::Request(request) => {
-            let Ok(request) = request.copy(alloc) else {
+            let Ok(request) = request.copy() else {
                 return Err(NoMemory);
             };
             Ok(Carried::Plain(Event::Request(request)))
@@ -115,10 +115,10 @@ fn copy_query(
 }
 
 /// An equal list.
-fn copy_short(alloc: Global, short: &ShortLog) -> Result<Carried, NoMemory>
+fn copy_short(short: &ShortLog) -> Result<Carried, NoMemory>
     ensures { IfOk result (λ c. c ≡ Carried.Log short.now) }
 {
-    let log = short.log.copy(alloc)?;
+    let log = short.log.copy()?;
     Ok(Carried::Log(ShortLog {
         sender: short.sender,
         interval: short.interval,

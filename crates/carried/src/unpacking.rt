@@ -5,7 +5,7 @@ ghost use Rattle.carried.specs.Carried.{unpacked_as, whole_list};
 
 use crate::operation::{Carried, ShortLog};
 use group_world::{Event, Message, MessageKind, Requests};
-use pg_log::{Entry, NoMemory, Request, copy_log};
+use pg_log::{Entry, NoMemory, Request, copy_log, copy_requests};
 use replication::PackedLog;
 use std::alloc::Global;
 
@@ -20,13 +20,15 @@ fn beginning(alloc: Global, local: &[Entry], count: usize) -> Result<Vec<Request
     }
 }
 
-/// The list that was packed, by the local log. It copies of that what was left out, and nothing else.
-fn spread(alloc: Global, local: &[Entry], log: PackedLog) -> Result<Vec<Request>, NoMemory>
-    requires { log.common ≤ length local.now }
-    ensures { IfOk result (λ v. v.items ≡ spread (requests_of local.now) log) }
+/// The list that was packed, by the local log. It costs a count and a pointer for each request.
+fn spread(alloc: Global, local: &[Entry], log: &PackedLog) -> Result<Vec<Request>, NoMemory>
+    requires { log.now.common ≤ length local.now }
+    ensures { IfOk result (λ v. v.items ≡ spread (requests_of local.now) log.now) }
 {
     let mut list = beginning(alloc, local, log.common())?;
-    let mut rest = log.into_rest();
+    let Ok(mut rest) = copy_requests(alloc, log.rest()) else {
+        return Err(NoMemory);
+    };
     match list.append(&mut rest) {
         Ok(()) => Ok(list),
         Err(_) => Err(NoMemory),
@@ -45,13 +47,13 @@ fn whole_list(alloc: Global, local: &[Entry], short: ShortLog) -> Result<Option<
     if local.len() < log.common() {
         return Ok(None);
     }
-    let list = Requests::new(spread(alloc, local, log)?);
+    let list = Requests::new(alloc, spread(alloc, local, &log)?)?;
     let kind = MessageKind::Log(interval, list);
     Ok(Some(Event::Message(Message { sender, kind })))
 }
 
 /// The event that comes to a node whose log is `local`. A list gets its beginning from there; if that is too short it is
-/// lost, and nothing comes. It fails for want of memory alone, and that for a list alone, of which it copies the beginning.
+/// lost, and nothing comes. It fails for want of memory alone, and that for a list alone.
 pub fn event_of(alloc: Global, local: &[Entry], carried: Carried) -> Result<Option<Event>, NoMemory>
     ensures { IfOk result (λ e. e ≡ unpacked_as (requests_of local.now) carried) }
 {

@@ -7,7 +7,7 @@ ghost use Rattle.class_tool.specs.Log.{IsCallRefusal, IsLogged, LogFails, first_
 use crate::failure::Failure;
 use interp::{CallError, ClassTable, TableError};
 use object_store::ObjectName;
-use pg_log::{Classes, ClientId, Group, LogError, Request, RequestNumber};
+use pg_log::{Classes, ClientId, Group, LogError, Request, RequestNumber, RequestParts};
 use std::alloc::{AllocError, Global};
 use std::marker::Brand;
 use verifier::VerifiedClass;
@@ -37,7 +37,18 @@ fn first_request(
     };
     let number = RequestNumber::new(1).unwrap();
     let method = String::from_str(alloc, method)?;
-    Ok(Request::new(caller, number, object, 0, method, input))
+    let parts = RequestParts {
+        client: caller,
+        number,
+        object,
+        class: 0,
+        method,
+        input,
+    };
+    match Request::new(alloc, parts) {
+        Ok(request) => Ok(request),
+        Err(_) => Err(AllocError),
+    }
 }
 
 /// Appends a request to an empty group of those classes, and gives what its log then has of it.

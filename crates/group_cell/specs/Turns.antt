@@ -46,18 +46,14 @@ GoesOutAs cell reported p (ToMonitor interval) = (p.receiver ≡ TheMonitor) × 
 GoesOutAs cell reported p (ToClient client (post.Reply r)) = (p.receiver ≡ AClient client) × GivesReply cell p.message.kind r
 GoesOutAs cell reported p (ToClient client (post.Refused r)) = ⊥
 
-abbrev pub is_log : MessageKind → Bool
-is_log (LogOf interval list) = true
-is_log _ = false
-
 abbrev pub asks_activation : MessageKind → Bool
 asks_activation (AskActivate interval) = true
 asks_activation _ = false
 
--- A message may be left out where it takes memory, as a Log and a reply do, or where it means nothing to its receiver: the
--- monitor takes AskActivate alone, and a client replies alone. Any other goes out.
+-- A message may be left out where its receiver is a client, since a reply takes memory, or where it means nothing to its
+-- receiver: the monitor takes AskActivate alone, and a client replies alone. Any other goes out.
 abbrev pub may_be_left_out : Party → MessageKind → Bool
-may_be_left_out (ANode n) kind = is_log kind
+may_be_left_out (ANode n) kind = false
 may_be_left_out TheMonitor kind = not (asks_activation kind)
 may_be_left_out (AClient client) kind = true
 

@@ -112,7 +112,7 @@ impl<N: BoardName> GroupCell<N> {
     }
 
     /// The answer to the request at a committed place, with a note of the row's list; none exactly where the place isn't
-    /// committed. It costs a copy of the request and of the answer. Only memory may be refused.
+    /// committed. It costs a copy of the answer. Only memory may be refused.
     ///
     /// The board is the named one.
     pub fn reply(
@@ -133,13 +133,12 @@ impl<N: BoardName> GroupCell<N> {
             return Ok(None);
         };
         let answer = CallReply::new(code, Vec::from_slice(alloc, output)?);
-        self.reply_with(alloc, board, place, answer).map(Some)
+        self.reply_with(board, place, answer).map(Some)
     }
 
-    /// The reply of a committed place, of which the answer is known. It costs a copy of the request.
+    /// The reply of a committed place, of which the answer is known. It shares the request.
     pub(crate) fn reply_with(
         &mut self,
-        alloc: Global,
         board: &Board,
         place: Place,
         answer: CallReply,
@@ -155,7 +154,7 @@ impl<N: BoardName> GroupCell<N> {
         legal_lists();
         pairs();
         let _ = self.node.committed();
-        let Ok(request) = self.node.group().entries()[place].request.copy(alloc) else {
+        let Ok(request) = self.node.group().entries()[place].request.copy() else {
             return Err(NoMemory);
         };
         Ok(Reply {

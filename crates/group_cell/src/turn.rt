@@ -26,7 +26,7 @@ impl<N: BoardName> GroupCell<N> {
     /// client. A refused request goes out as a `Refused`. A list whose beginning the node doesn't have is lost, and then
     /// nothing happens.
     ///
-    /// `None` stands for a message that memory was refused to, which is a list or a reply. Where there was no memory for
+    /// `None` stands for a message that memory was refused to, which is a reply. Where there was no memory for
     /// the event itself it never came; where there was none for the list of what goes out, all of it is lost.
     ///
     /// The board and the table are the named ones.
@@ -87,7 +87,7 @@ impl<N: BoardName> GroupCell<N> {
     {
         refusals_are_deserved();
         // A refusal bears the request, which `handle` takes.
-        let Ok(copy) = request.copy(alloc) else {
+        let Ok(copy) = request.copy() else {
             return Err(NoMemory);
         };
         let mut out = Vec::new(alloc);
@@ -141,19 +141,13 @@ impl<N: BoardName> GroupCell<N> {
         let mut out = Vec::new(alloc);
         out.reserve(packets.len())?;
         for packet in packets {
-            out.push_reserved(self.one_out(alloc, board, reported, packet));
+            out.push_reserved(self.one_out(board, reported, packet));
         }
         Ok(out)
     }
 
     /// What goes out for a message.
-    fn one_out(
-        &mut self,
-        alloc: Global,
-        board: &Board,
-        reported: usize,
-        packet: Packet,
-    ) -> Option<Outgoing<N>>
+    fn one_out(&mut self, board: &Board, reported: usize, packet: Packet) -> Option<Outgoing<N>>
         requires board { board.now ≡ N.board }
         requires reply { IsTrueOf N.classes self.old.written packet.message.kind }
         ensures same { self.new ≡ self.old }
@@ -161,40 +155,25 @@ impl<N: BoardName> GroupCell<N> {
     {
         let receiver = packet.receiver;
         match receiver {
-            Party::Node(node) => self.to_node(alloc, reported, node, packet),
+            Party::Node(node) => Some(self.to_node(reported, node, packet)),
             Party::Monitor => to_monitor(packet),
-            Party::Client(client) => self.to_client(alloc, board, client, packet),
+            Party::Client(client) => self.to_client(board, client, packet),
         }
     }
 }
 
 impl<N: BoardName> GroupCell<N> {
     /// A message to a node of the group.
-    fn to_node(
-        &self,
-        alloc: Global,
-        reported: usize,
-        node: NodeId,
-        packet: Packet,
-    ) -> Option<Outgoing<N>>
+    fn to_node(&self, reported: usize, node: NodeId, packet: Packet) -> Outgoing<N>
         requires { packet.receiver ≡ Party.Node node }
-        ensures { MayGoOutAs self.now reported packet result }
+        ensures { MayGoOutAs self.now reported packet (Some result) }
     {
-        let committed = self.node().committed();
-        match pack(alloc, committed, reported, packet) {
-            Ok((_, carried)) => Some(Outgoing::ToNode(node, carried)),
-            Err(_) => None,
-        }
+        let (_, carried) = pack(self.node().committed(), reported, packet);
+        Outgoing::ToNode(node, carried)
     }
 
     /// A message to a client.
-    fn to_client(
-        &mut self,
-        alloc: Global,
-        board: &Board,
-        client: ClientId,
-        packet: Packet,
-    ) -> Option<Outgoing<N>>
+    fn to_client(&mut self, board: &Board, client: ClientId, packet: Packet) -> Option<Outgoing<N>>
         requires board { board.now ≡ N.board }
         requires receiver { packet.receiver ≡ Party.Client client }
         requires reply { IsTrueOf N.classes self.old.written packet.message.kind }
@@ -209,7 +188,7 @@ impl<N: BoardName> GroupCell<N> {
         let MessageKind::Reply(_, _, place, answer) = kind else {
             return None;
         };
-        match self.reply_with(alloc, board, place, answer) {
+        match self.reply_with(board, place, answer) {
             Ok(reply) => Some(Outgoing::ToClient(client, Post::Reply(reply))),
             Err(_) => None,
         }

@@ -5,26 +5,15 @@ use crate::answer::CallReply;
 use crate::epoch::Epoch;
 use crate::group_map::GroupMap;
 use crate::message::{MessageKind, Place};
-use crate::requests::Requests;
-use pg_log::{ClientId, Request, RequestNumber};
+use pg_log::{ClientId, Request, RequestNumber, Requests};
 use std::alloc::{AllocError, Global};
 
-/// An equal request.
-fn copy_request(alloc: Global, request: &Request) -> Result<Request, AllocError>
+/// The same request.
+fn copy_request(request: &Request) -> Result<Request, AllocError>
     ensures { IfOk result (λ r. r ≡ request.now) }
 {
-    match request.copy(alloc) {
+    match request.copy() {
         Ok(request) => Ok(request),
-        Err(_) => Err(AllocError),
-    }
-}
-
-/// Equal requests.
-fn copy_requests(alloc: Global, list: &[Request]) -> Result<Requests, AllocError>
-    ensures { IfOk result (λ l. l ≡ list.now) }
-{
-    match pg_log::copy_requests(alloc, list) {
-        Ok(items) => Ok(Requests::new(items)),
         Err(_) => Err(AllocError),
     }
 }
@@ -45,10 +34,10 @@ fn copy_query(alloc: Global, map: &GroupMap) -> Result<MessageKind, AllocError>
 }
 
 /// An equal Log.
-fn copy_log(alloc: Global, interval: Epoch, list: &Requests) -> Result<MessageKind, AllocError>
+fn copy_log(interval: Epoch, list: &Requests) -> Result<MessageKind, AllocError>
     ensures { IfOk result (λ k. k ≡ MessageKind.Log interval list.now) }
 {
-    Ok(MessageKind::Log(interval, copy_requests(alloc, list.items())?))
+    Ok(MessageKind::Log(interval, list.copy()?))
 }
 
 /// An equal Install.
@@ -56,19 +45,14 @@ fn copy_install(alloc: Global, map: &GroupMap, list: &Requests) -> Result<Messag
     ensures { IfOk result (λ k. k ≡ MessageKind.Install map.now list.now) }
 {
     let map = map.copy(alloc)?;
-    Ok(MessageKind::Install(map, copy_requests(alloc, list.items())?))
+    Ok(MessageKind::Install(map, list.copy()?))
 }
 
 /// An equal Rep.
-fn copy_rep(
-    alloc: Global,
-    interval: Epoch,
-    place: Place,
-    request: &Request,
-) -> Result<MessageKind, AllocError>
+fn copy_rep(interval: Epoch, place: Place, request: &Request) -> Result<MessageKind, AllocError>
     ensures { IfOk result (λ k. k ≡ MessageKind.Rep interval place request.now) }
 {
-    Ok(MessageKind::Rep(interval, place, copy_request(alloc, request)?))
+    Ok(MessageKind::Rep(interval, place, copy_request(request)?))
 }
 
 /// An equal Reply.
@@ -91,12 +75,12 @@ pub(crate) fn copy_kind(alloc: Global, kind: &MessageKind) -> Result<MessageKind
 {
     match kind {
         MessageKind::Query(map)                           => copy_query(alloc, map),
-        MessageKind::Log(interval, list)                  => copy_log(alloc, *interval, list),
+        MessageKind::Log(interval, list)                  => copy_log(*interval, list),
         MessageKind::Install(map, list)                   => copy_install(alloc, map, list),
         MessageKind::Installed(interval)                  => Ok(MessageKind::Installed(*interval)),
         MessageKind::AskActivate(interval)                => Ok(MessageKind::AskActivate(*interval)),
         MessageKind::Activated(interval)                  => Ok(MessageKind::Activated(*interval)),
-        MessageKind::Rep(interval, place, request)        => copy_rep(alloc, *interval, *place, request),
+        MessageKind::Rep(interval, place, request)        => copy_rep(*interval, *place, request),
         MessageKind::Ack(interval, length)                => Ok(MessageKind::Ack(*interval, *length)),
         MessageKind::Reply(client, number, place, answer) => copy_reply(alloc, *client, *number, *place, answer),
     }

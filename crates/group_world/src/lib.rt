@@ -16,7 +16,6 @@ mod message;
 mod messages;
 mod monitor_error;
 mod party;
-mod requests;
 mod runs;
 mod status;
 
@@ -33,6 +32,6 @@ pub use message::{Message, MessageKind, Packet, Place};
 pub use messages::Messages;
 pub use monitor_error::MonitorError;
 pub use party::Party;
-pub use requests::Requests;
+pub use pg_log::Requests;
 pub use runs::worked_runs;
 pub use status::Status;

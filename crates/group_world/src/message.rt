@@ -5,8 +5,7 @@ use crate::copies::copy_kind;
 use crate::epoch::Epoch;
 use crate::group_map::GroupMap;
 use crate::party::Party;
-use crate::requests::Requests;
-use pg_log::{ClientId, Request, RequestNumber};
+use pg_log::{ClientId, Request, RequestNumber, Requests};
 use std::alloc::{AllocError, Global};
 
 /// A place in a log, from 0 on, as `pg_log` counts them.

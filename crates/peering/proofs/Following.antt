@@ -5,14 +5,19 @@ use mathlib.Core.List.{IsPrefix}
 use Rattle.pg_log.specs.declared.entry.Entry.{Entry}
 use Rattle.pg_log.specs.Requests.{ClientRequest}
 use Rattle.pg_log.specs.Log.{Classes, Reply, Legal, reply_at}
-use Rattle.pg_log.specs.Refusals.{refusal}
-use Rattle.pg_log.specs.Laws.{AppendIsAStep, RefusalsAreExact, ClassesAdded}
+use Rattle.pg_log.specs.Refusals.{refusal, first_refusal}
+use Rattle.pg_log.specs.Laws.{BeginningsAreLegal, ListsAreExact, AppendIsAStep, RefusalsAreExact, ClassesAdded}
 use Rattle.group_world.specs.Node.{NodeState, nothing, and_sends}
 use Rattle.group_world.specs.Rules.{append_new, append_unless, request_at, reply_packet}
 use Rattle.peering_messages.specs.Sending.{IsNextReply}
 
 pub next_legal : AppendIsAStep → RefusalsAreExact → (classes : Classes) (log : List ClientRequest) (r : ClientRequest) → Legal classes log → refusal classes log r ≡ None → Legal classes (log ++ r ∷ [])
 next_legal append exact classes log r l u = (append classes log r).1 (l, (exact classes log r).0 u)
+
+-- a beginning of a legal list can be run
+pub beginning_runs : BeginningsAreLegal → ListsAreExact → (classes : Classes) (list log : List ClientRequest) → IsPrefix list log → Legal classes log → first_refusal classes list ≡ None
+beginning_runs beginnings exact classes list log p l =
+    (exact classes list).1 (beginnings classes list p.0 (subst (λ xs. Legal classes xs) (sym p.1) l))
 
 -- the replies of a list that is legal by the table are the same by all classes
 same_reply : ClassesAdded → (classes all : Classes) (log : List ClientRequest) (k : ℕ) → IsPrefix classes all → Legal classes log → reply_at all log k ≡ reply_at classes log k

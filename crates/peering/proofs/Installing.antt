@@ -180,10 +180,3 @@ answer_is n s asker m a sent o h q =
 pub and_true : (a b : Bool) → b ≡ true → a ≡ (a && b)
 and_true true b h = sym h
 and_true false b h = refl
-
--- a node whose log has become a list, or hasn't
-pub with_taken : (r : Result Bool HandleError) (v n : NumberedNode) (list log : List ClientRequest) → v ≡ n →
-    IfOk r (λ b. log ≡ cond b list v.state.log) → IfOk r (λ b. with_log v log ≡ cond b (with_log n list) n)
-with_taken (Err e) v n list log p h = h
-with_taken (Ok true) v n list log p h = λ i. with_log (p i) (h i)
-with_taken (Ok false) v n list log p h = ap (with_log v) h ∙ p

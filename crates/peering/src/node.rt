@@ -14,7 +14,7 @@ mod serve;
 use group_world::{
     Epoch, Event, GroupMap, HandleError, MessageKind, Messages, Packet, Party, Status,
 };
-use pg_log::{ClassTable, Classes, Group, legal_lists, refusals};
+use pg_log::{ClassTable, Classes, Group, Requests, legal_lists, refusals};
 use placement::NodeId;
 use replication::{Ack, Rep};
 use std::alloc::Global;
@@ -28,6 +28,8 @@ pub struct GroupNode<C: Classes> {
     members: GroupMap,
     status: Status,
     group: Group<C>,
+    /// The log as the list that messages share, if one was made and the log is still that list; else none.
+    listed: Requests,
     committed: usize,
     joined: Vec<NodeId>,
     acked: Vec<usize>,
@@ -42,19 +44,21 @@ impl<C: Classes> Drop for GroupNode<C> {
             members,
             status: _,
             group,
+            listed,
             committed: _,
             joined,
             acked,
         } = self;
         drop(members);
         drop(group);
+        drop(listed);
         drop(joined);
         drop(acked);
     }
 }
 
 impl<C: Classes> Model for GroupNode<C> {
-    ghost use Rattle.std.specs.Prelude.{◌≤◌, length};
+    ghost use Rattle.std.specs.Prelude.{◌≡◌, ◌<◌, ◌≤◌, length};
     ghost use Rattle.peering.specs.Numbered.{NumberedNode};
 
     ghost Value = { NumberedNode };
@@ -72,7 +76,7 @@ impl<C: Classes> Model for GroupNode<C> {
       };
     } };
 
-    ghost invariant = { λ g. g.committed ≤ length g.group };
+    ghost invariant = { λ g. (g.committed ≤ length g.group) × (0 < length g.listed → g.listed ≡ g.group) };
 }
 
 impl<C: Classes> GroupNode<C> {
@@ -88,6 +92,7 @@ impl<C: Classes> GroupNode<C> {
             members: GroupMap::new(none, none, Vec::new(alloc), none, Vec::new(alloc)),
             status: Status::Out,
             group: Group::new(alloc),
+            listed: Requests::none(),
             committed: 0,
             joined: Vec::new(alloc),
             acked: Vec::new(alloc),
@@ -148,6 +153,7 @@ impl<C: Classes> GroupNode<C> {
             members,
             status: self.status,
             group,
+            listed: Requests::none(),
             committed: self.committed,
             joined,
             acked,
@@ -214,8 +220,8 @@ impl<C: Classes> GroupNode<C> {
     {
         match kind {
             MessageKind::Query(map)                    => self.answer_query(sender, map),
-            MessageKind::Log(interval, list)           => self.adopt_log(table, interval, list.items()),
-            MessageKind::Install(map, list)            => self.install(table, sender, map, list.items()),
+            MessageKind::Log(interval, list)           => self.adopt_log(table, interval, list),
+            MessageKind::Install(map, list)            => self.install(table, sender, map, list),
             MessageKind::Installed(interval)           => self.note_installed(sender, interval),
             MessageKind::Activated(interval)           => self.activate(interval),
             MessageKind::Rep(interval, place, request) => { let epoch = interval.get(); self.replicate(table, sender, Rep { epoch, place, request }) }

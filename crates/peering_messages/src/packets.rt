@@ -9,7 +9,7 @@ use crate::compare::are_among;
 use group_world::{
     Epoch, GroupMap, HandleError, Message, MessageKind, Packet, Party, Place, Requests,
 };
-use pg_log::{Entry, Request, copy_requests};
+use pg_log::{Entry, Request};
 use placement::{NodeId, has};
 use std::alloc::Global;
 
@@ -68,14 +68,14 @@ fn send_query(
     send(sent, packet(number, Party::Node(node), kind))
 }
 
-/// An Install to each of these nodes that isn't the sender and hasn't joined.
+/// An Install to each of these nodes that isn't the sender and hasn't joined. They share the list.
 pub fn install_to_missing(
     alloc: Global,
     number: NodeId,
     joined: &[NodeId],
     nodes: &[NodeId],
     map: &GroupMap,
-    list: &[Request],
+    list: &Requests,
 ) -> Result<Vec<Packet>, HandleError>
     ensures ok { IfOk result (λ v. v.items ≡ to_missing number joined.now nodes.now (MessageKind.Install map.now list.now)) }
     ensures err { IfErr result (λ e. e ≡ HandleError.NoMemory) }
@@ -99,14 +99,13 @@ fn send_install(
     number: NodeId,
     node: NodeId,
     map: &GroupMap,
-    list: &[Request],
+    list: &Requests,
     sent: &mut Vec<Packet>,
 ) -> Result<(), HandleError>
     ensures ok { OnOk result (sent.new.items ≡ sent.old.items ++ packet number (Party.Node node) (MessageKind.Install map.now list.now) ∷ []) }
     ensures err { IfErr result (λ e. e ≡ HandleError.NoMemory) }
 {
-    let list = Requests::new(copy_requests(alloc, list)?);
-    let kind = MessageKind::Install(map.copy(alloc)?, list);
+    let kind = MessageKind::Install(map.copy(alloc)?, list.copy()?);
     send(sent, packet(number, Party::Node(node), kind))
 }
 
@@ -145,7 +144,7 @@ fn send_rep(
     ensures ok { OnOk result (sent.new.items ≡ sent.old.items ++ packet number (Party.Node node) (MessageKind.Rep interval place request.now) ∷ []) }
     ensures err { IfErr result (λ e. e ≡ HandleError.NoMemory) }
 {
-    let kind = MessageKind::Rep(interval, place, request.copy(alloc)?);
+    let kind = MessageKind::Rep(interval, place, request.copy()?);
     send(sent, packet(number, Party::Node(node), kind))
 }
 
@@ -176,7 +175,7 @@ pub fn adoption(
     number: NodeId,
     interval: Epoch,
     members: &GroupMap,
-    list: &[Request],
+    list: &Requests,
 ) -> Result<Vec<Packet>, HandleError>
     ensures ok { IfOk result (λ v. v.items ≡ adopted_sent number interval members.now list.now) }
     ensures err { IfErr result (λ e. e ≡ HandleError.NoMemory) }

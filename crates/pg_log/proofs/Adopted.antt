@@ -3,7 +3,7 @@ use Rattle.std.proofs.Common.{◌≡◌, ℕ, zero, suc, ◌+◌, ◌-◌, ◌<�
 use Rattle.std.specs.List.{slice_get}
 use Rattle.std.specs.FinMap as fin
 use Rattle.std.proofs.lemmas.Option.{same_Some, slice_get_within}
-use Rattle.std.proofs.lemmas.List.{take-append-drop, take_all, length-drop}
+use Rattle.std.proofs.lemmas.List.{take-append-drop, take-append-le, take_all, length-drop}
 use mathlib.Core.List.{IsPrefix}
 use Rattle.object_store.specs.Names.{PlainObjects}
 use Rattle.pg_log.specs.declared.entry.Entry.{Entry}
@@ -48,6 +48,21 @@ entries_beginning classes objects (e ∷ es) (suc k) h = (h.0, entries_beginning
 
 safe_beginning : (classes : Classes) (xs : List ClientRequest) (k : ℕ) → AreSafe classes xs → AreSafe classes (take k xs)
 safe_beginning classes xs k h i r e = h i r (get_take xs k i r e)
+
+-- a log begins with a list exactly where that is the beginning that they have in common
+pub begins_whole : (own list : List ClientRequest) (k : ℕ) → IsCommonBeginning own list k → k ≡ length list → IsPrefix list own
+begins_whole own list k h e =
+    let same : take k own ≡ list = h.same ∙ take_all k list (omega arith) in
+    (drop k own, ap (λ l. l ++ drop k own) (sym same) ∙ take-append-drop k own)
+
+pub whole_begins : (own list : List ClientRequest) (k : ℕ) → IsCommonBeginning own list k → IsPrefix list own → k ≡ length list
+whole_begins own list k h p =
+    let long : length list + length p.0 ≡ length own = sym (length-append list p.0) ∙ ap length p.1 in
+    let n = length list in
+    let same : take n own ≡ take n list = ap (take n) (sym p.1) ∙ take-append-le n list p.0 (omega arith) in
+    let least : n ≤ k = h.longest n (omega arith) (omega arith) same in
+    let most : k ≤ n = h.in_list in
+    omega arith
 
 -- what is kept of a beginning
 pub keeps_beginning : (classes : Classes) (es fs : List Entry) (objects before : PlainObjects) (places cut : Places) (k : ℕ) → Keeps classes es objects places →

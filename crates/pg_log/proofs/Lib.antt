@@ -10,6 +10,7 @@ pub mod Kept
 pub mod Ran
 pub mod Carried
 pub mod Within
+pub mod Running
 pub mod Room
 pub mod Adopted
 pub mod Crosses

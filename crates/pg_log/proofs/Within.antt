@@ -53,12 +53,12 @@ loaded_class (c ∷ cs) zero class all e =
     subst P (same_Some c class e) all.0
 loaded_class (c ∷ cs) (suc id) class all e = loaded_class cs id class all.1 e
 
-takes_input : (classes : Classes) (r : ClientRequest) → CanRun classes r → (m : ClassMethod) → method_of classes r ≡ Some m → length r.input ≤ m.in_cap
+pub takes_input : (classes : Classes) (r : ClientRequest) → CanRun classes r → (m : ClassMethod) → method_of classes r ≡ Some m → length r.input ≤ m.in_cap
 takes_input classes r can m e =
     subst (λ n. length r.input ≤ n) (same_method (sym can.named ∙ ap (λ c. method_in c r.method) (sym can.loaded) ∙ e)) can.short
 
 -- and is within its class's limits
-is_method : (classes : Classes) (r : ClientRequest) → AllByRecursion IsClass classes → CanRun classes r → (m : ClassMethod) → method_of classes r ≡ Some m → IsMethod m
+pub is_method : (classes : Classes) (r : ClientRequest) → AllByRecursion IsClass classes → CanRun classes r → (m : ClassMethod) → method_of classes r ≡ Some m → IsMethod m
 is_method classes r all can m e =
     method_named-is can.class r.method m (loaded_class classes r.class can.class all can.loaded).methods (ap (λ c. method_in c r.method) (sym can.loaded) ∙ e)
 

@@ -1,4 +1,4 @@
--- A reader of the contracts must believe Requests, Log, Refusals, Entries, Same, Laws and Within. Places is what the code keeps.
+-- A reader of the contracts must believe Requests, Log, Refusals, Entries, Same, Laws, Within and Runs. Places is what the code keeps.
 pub mod Requests
 pub mod Log
 pub mod Refusals
@@ -7,4 +7,5 @@ pub mod Adopting
 pub mod Same
 pub mod Laws
 pub mod Within
+pub mod Runs
 pub mod Places

@@ -1,5 +1,9 @@
 -- What a request asks for, as contracts see it.
-use Rattle.std.specs.Prelude.{ℕ, List}
+use Rattle.std.specs.Prelude.{ℕ, List, [], Option, Some, None, string_bytes}
+use Rattle.std.specs.Arc.{arc_value}
+use Rattle.std.specs.declared.sync.Arc.{Arc}
+use Rattle.std.specs.declared.vec.Vec.{Vec}
+use Rattle.pg_log.specs.declared.request_parts.RequestParts.{RequestParts}
 
 -- Client and number tell requests apart. The object goes by its name's bytes, the class by its id in the table,
 -- the method by its name's bytes.
@@ -10,3 +14,19 @@ pub record ClientRequest : Type 0 where
   pub class : ℕ
   pub method : List ℕ
   pub input : List ℕ
+
+-- the request of what the code keeps
+abbrev pub said_by : RequestParts → ClientRequest
+said_by p = record {
+  client = p.client;
+  number = p.number;
+  object = p.object;
+  class = p.class;
+  method = string_bytes p.method;
+  input = p.input.items;
+}
+
+-- the list behind a pointer that messages share: none where there is no pointer
+abbrev pub listed : {Y Z : Type 0} → Option (Arc (Vec ClientRequest Y) Z) → List ClientRequest
+listed None = []
+listed (Some all) = (arc_value all).items

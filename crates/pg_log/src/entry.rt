@@ -26,7 +26,7 @@ impl Entry {
         ensures err { IfErr result (λ e. e ≡ LogError.NoMemory) }
     {
         let output = Vec::from_slice(alloc, &self.output)?;
-        let request = self.request.copy(alloc)?;
+        let request = self.request.copy()?;
         let change = self.change.copy()?;
         Ok(Entry {
             request,

@@ -21,6 +21,8 @@ mod places;
 mod request;
 mod request_list;
 mod request_number;
+mod request_parts;
+mod requests;
 
 pub use class_test::class_refusal;
 pub use classes::Classes;
@@ -36,8 +38,10 @@ pub use laws::{
 };
 pub use list_test::list_refusal;
 pub use log_error::LogError;
-pub use object_limits::objects_within_limits;
+pub use object_limits::{objects_within_limits, replies_run};
 pub use request::Request;
 pub use request_list::{are_same_requests, copy_log, copy_requests};
 pub use request_number::RequestNumber;
+pub use request_parts::RequestParts;
+pub use requests::Requests;
 pub use txn::NoMemory;

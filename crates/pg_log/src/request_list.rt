@@ -7,36 +7,36 @@ use crate::log_error::LogError;
 use crate::request::Request;
 use std::alloc::Global;
 
-/// Adds an equal request.
-fn add_copy(alloc: Global, request: &Request, copies: &mut Vec<Request>) -> Result<(), LogError>
+/// Adds the same request.
+fn add_copy(request: &Request, copies: &mut Vec<Request>) -> Result<(), LogError>
     ensures ok { OnOk result (copies.new.items ≡ copies.old.items ++ request.now ∷ []) }
     ensures err { IfErr result (λ e. e ≡ LogError.NoMemory) }
 {
-    let copy = request.copy(alloc)?;
+    let copy = request.copy()?;
     copies.push(copy)?;
     Ok(())
 }
 
-/// Equal requests. It refuses by `NoMemory` alone, and costs their bytes.
+/// The same requests. It refuses by `NoMemory` alone, and costs a count and a pointer each.
 pub fn copy_requests(alloc: Global, list: &[Request]) -> Result<Vec<Request>, LogError>
     ensures ok { IfOk result (λ v. v.items ≡ list.now) }
     ensures err { IfErr result (λ e. e ≡ LogError.NoMemory) }
 {
-    let mut copies = Vec::new(alloc);
+    let mut copies = Vec::with_capacity(alloc, list.len())?;
     for request in list {
-        add_copy(alloc, request, &mut copies)?;
+        add_copy(request, &mut copies)?;
     }
     Ok(copies)
 }
 
-/// The requests of these entries. It refuses by `NoMemory` alone, and costs their bytes.
+/// The requests of these entries. It refuses by `NoMemory` alone, and costs a count and a pointer each.
 pub fn copy_log(alloc: Global, entries: &[Entry]) -> Result<Vec<Request>, LogError>
     ensures ok { IfOk result (λ v. v.items ≡ requests_of entries.now) }
     ensures err { IfErr result (λ e. e ≡ LogError.NoMemory) }
 {
-    let mut copies = Vec::new(alloc);
+    let mut copies = Vec::with_capacity(alloc, entries.len())?;
     for entry in entries {
-        add_copy(alloc, &entry.request, &mut copies)?;
+        add_copy(&entry.request, &mut copies)?;
     }
     Ok(copies)
 }

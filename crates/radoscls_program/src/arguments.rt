@@ -315,7 +315,7 @@ fn plain_command<'a>(alloc: Global) -> Command<'a>
 {
     Command::new(alloc, "radoscls")
         .about("RADOS object classes in verified BPF")
-        .version("0.1.0")
+        .version("0.4.0")
         .subcommand_required(true)
         .arg_required_else_help(true)
 }

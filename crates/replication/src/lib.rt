@@ -15,7 +15,7 @@ mod unpack_error;
 pub use ack::Ack;
 pub use committed::commit_point;
 pub use laws::packed_lists;
-pub use packed_log::{PackedLog, pack_log, unpack_log};
+pub use packed_log::{PackedLog, pack_list, pack_log, unpack_log};
 pub use placed::append_at;
 pub use rep::Rep;
 pub use unpack_error::UnpackError;

@@ -3,7 +3,7 @@ ghost use Rattle.replication.specs.Packed.{packed, spread};
 ghost use Rattle.replication.specs.declared.unpack_error.UnpackError.TheVariants.{TooShort, NoMemory as NoRoom};
 
 use crate::unpack_error::UnpackError;
-use pg_log::{NoMemory, Request, copy_requests};
+use pg_log::{NoMemory, Request, Requests, copy_requests};
 use std::alloc::Global;
 use std::marker::Model;
 
@@ -11,7 +11,7 @@ use std::marker::Model;
 #[derive(Drop)]
 pub struct PackedLog {
     common: usize,
-    rest: Vec<Request>,
+    rest: Requests,
 }
 
 impl Model for PackedLog {
@@ -21,7 +21,7 @@ impl Model for PackedLog {
 
     ghost view = { λ p. record {
       common = p.common;
-      rest = p.rest.items;
+      rest = p.rest;
     } };
 }
 
@@ -37,32 +37,33 @@ impl PackedLog {
     pub fn rest(&self) -> &[Request]
         ensures { result.now ≡ self.now.rest }
     {
-        &self.rest
+        self.rest.items()
     }
 
-    /// Those that follow, of which nothing is kept here. It takes no memory.
-    pub fn into_rest(self) -> Vec<Request>
-        ensures { result.items ≡ self.rest }
-    {
-        self.rest
-    }
-
-    /// An equal one. It costs a copy of the rest.
-    pub fn copy(&self, alloc: Global) -> Result<PackedLog, NoMemory>
+    /// An equal one. It shares the rest, and costs a count.
+    pub fn copy(&self) -> Result<PackedLog, NoMemory>
         ensures { IfOk result (λ p. p ≡ self.now) }
     {
-        let Ok(rest) = copy_requests(alloc, &self.rest) else {
-            return Err(NoMemory);
-        };
         Ok(PackedLog {
             common: self.common,
-            rest,
+            rest: self.rest.copy()?,
         })
     }
 }
 
-/// Leaves out of a list the first `reported` requests, which the receiver says that it has, or all of them if the list is no
-/// longer. It costs a copy of the rest.
+/// Leaves out of a list, which it takes, the first `reported` requests, which the receiver says that it has, or all of them
+/// if the list is no longer. What follows is shared. It takes no memory.
+pub fn pack_list(list: Requests, reported: usize) -> PackedLog
+    ensures { result ≡ packed list reported }
+{
+    let common = reported.min(list.len());
+    PackedLog {
+        common,
+        rest: list.rest(common),
+    }
+}
+
+/// The same of a list that isn't shared. It costs a count and a pointer for each request of the rest.
 pub fn pack_log(alloc: Global, list: &[Request], reported: usize) -> Result<PackedLog, NoMemory>
     ensures { IfOk result (λ p. p ≡ packed list.now reported) }
 {
@@ -70,7 +71,10 @@ pub fn pack_log(alloc: Global, list: &[Request], reported: usize) -> Result<Pack
     let Ok(rest) = copy_requests(alloc, &list[common..]) else {
         return Err(NoMemory);
     };
-    Ok(PackedLog { common, rest })
+    Ok(PackedLog {
+        common,
+        rest: Requests::new(alloc, rest)?,
+    })
 }
 
 /// The beginning of the local list that was left out, and what was packed.
@@ -81,7 +85,7 @@ fn unpacked(alloc: Global, local: &[Request], log: &PackedLog) -> Result<Vec<Req
     let Ok(mut list) = copy_requests(alloc, &local[..log.common]) else {
         return Err(NoMemory);
     };
-    let Ok(mut rest) = copy_requests(alloc, &log.rest) else {
+    let Ok(mut rest) = copy_requests(alloc, log.rest()) else {
         return Err(NoMemory);
     };
     match list.append(&mut rest) {
@@ -90,7 +94,7 @@ fn unpacked(alloc: Global, local: &[Request], log: &PackedLog) -> Result<Vec<Req
     }
 }
 
-/// The list that was packed, if the local list begins with what was left out. It costs a copy of the list. It refuses by
+/// The list that was packed, if the local list begins with what was left out. It costs a count and a pointer for each request. It refuses by
 /// `TooShort` exactly if the local list is shorter than what was left out, and else by `NoMemory`.
 pub fn unpack_log(
     alloc: Global,

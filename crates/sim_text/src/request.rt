@@ -5,7 +5,7 @@ ghost use Rattle.sim_text.specs.Lines.{ask_at, asks, ids_in, request_with_method
 use crate::line::Line;
 use file_words::{bytes_in, class_of, id_in, number_in, object_in};
 use object_store::ObjectName;
-use pg_log::{ClientId, Request, RequestNumber};
+use pg_log::{ClientId, Request, RequestNumber, RequestParts};
 use placement::NodeId;
 use std::alloc::{AllocError, Global};
 
@@ -33,8 +33,18 @@ fn request_with_method(
         [method, input] => match bytes_in(alloc, *input)? {
             Some(input) => {
                 let method = String::from_str(alloc, *method)?;
-                let bytes = input.into_items();
-                Ok(Some(Request::new(client, number, object, class, method, bytes)))
+                let parts = RequestParts {
+                    client,
+                    number,
+                    object,
+                    class,
+                    method,
+                    input: input.into_items(),
+                };
+                match Request::new(alloc, parts) {
+                    Ok(request) => Ok(Some(request)),
+                    Err(_) => Err(AllocError),
+                }
             }
             None => Ok(None),
         },

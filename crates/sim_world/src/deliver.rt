@@ -131,7 +131,7 @@ impl<C: Classes> Parts<C> {
         match self.monitor.activate(interval) {
             Ok(()) => {
                 let packet = activated_for(asker, interval);
-                let kept = keep(self.alloc, &self.nodes, packet)?;
+                let kept = keep(&self.nodes, packet);
                 self.sent.push(kept)?;
                 Ok(Taken::Sent(1))
             }

@@ -8,7 +8,7 @@ use carried::pack;
 use group_world::{Messages, Packet, Party};
 use peering::GroupNode;
 use pg_log::Classes;
-use std::alloc::{AllocError, Global};
+use std::alloc::AllocError;
 
 /// How many requests a party has committed; one that is no node here has none.
 fn committed_of<C: Classes>(nodes: &[GroupNode<C>], party: Party) -> usize
@@ -39,24 +39,17 @@ fn receiver_has<C: Classes>(nodes: &[GroupNode<C>], packet: &Packet) -> usize
 }
 
 /// A message as it is kept.
-pub(crate) fn keep<C: Classes>(
-    alloc: Global,
-    nodes: &[GroupNode<C>],
-    packet: Packet,
-) -> Result<KeptMessage, AllocError>
-    ensures { IfOk result (λ k. k ≡ kept nodes.now packet) }
+pub(crate) fn keep<C: Classes>(nodes: &[GroupNode<C>], packet: Packet) -> KeptMessage
+    ensures { result ≡ kept nodes.now packet }
 {
     let committed = sender_has(nodes, &packet);
     let reported = receiver_has(nodes, &packet);
-    match pack(alloc, committed, reported, packet) {
-        Ok((receiver, carried)) => Ok(KeptMessage { receiver, carried }),
-        Err(_) => Err(AllocError),
-    }
+    let (receiver, carried) = pack(committed, reported, packet);
+    KeptMessage { receiver, carried }
 }
 
 /// Keeps messages after those that were sent before.
 fn keep_all<C: Classes>(
-    alloc: Global,
     nodes: &[GroupNode<C>],
     packets: Vec<Packet>,
     sent: &mut Sent,
@@ -65,14 +58,13 @@ fn keep_all<C: Classes>(
 {
     let mut rest = packets.into_iter();
     while let Some(packet) = rest.next() {
-        sent.push(keep(alloc, nodes, packet)?)?;
+        sent.push(keep(nodes, packet))?;
     }
     Ok(())
 }
 
 /// Keeps what a node sent after what was sent before, and says how many messages that is.
 pub(crate) fn keep_sent<C: Classes>(
-    alloc: Global,
     nodes: &[GroupNode<C>],
     packets: Messages,
     sent: &mut Sent,
@@ -81,6 +73,6 @@ pub(crate) fn keep_sent<C: Classes>(
     ensures count { IfOk result (λ n. n ≡ length packets) }
 {
     let count = packets.items().len();
-    keep_all(alloc, nodes, packets.into_items(), sent)?;
+    keep_all(nodes, packets.into_items(), sent)?;
     Ok(count)
 }

@@ -189,7 +189,7 @@ impl<C: Classes> Parts<C> {
         ensures { IfOk result (λ t. record { parts = self.new; taken = t } ≡ handled table.now self.old node event) }
     {
         match take_event(table, &mut self.nodes[node.get() as usize], event)? {
-            Ok(sent) => keep_sent(self.alloc, &self.nodes, sent, &mut self.sent).map(Taken::Sent),
+            Ok(sent) => keep_sent(&self.nodes, sent, &mut self.sent).map(Taken::Sent),
             Err(error) => Ok(Taken::Refused(error)),
         }
     }

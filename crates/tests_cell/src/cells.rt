@@ -7,7 +7,7 @@ use group_cell::{BoardName, GroupCell, Post, Refused, Reply};
 use group_world::{Epoch, Event, GroupMap, HandleError, Message, MessageKind, Messages, Party};
 use object_store::ObjectName;
 use peering::GroupNode;
-use pg_log::{ClassTable, ClientId, Request, RequestNumber};
+use pg_log::{ClassTable, ClientId, Request, RequestNumber, RequestParts};
 use placement::NodeId;
 use std::alloc::Global;
 use std::marker::Brand;
@@ -62,14 +62,15 @@ pub(crate) fn request<R: Abort>(
     number: u32,
     method: &str,
 ) -> Request {
-    Request::new(
-        ClientId::new(client).expect(rt, "a client"),
-        RequestNumber::new(number).expect(rt, "a number"),
-        ObjectName::new(alloc, "a").expect(rt, "memory"),
-        0,
-        String::from_str(alloc, method).expect(rt, "memory"),
-        Vec::new(alloc),
-    )
+    let parts = RequestParts {
+        client: ClientId::new(client).expect(rt, "a client"),
+        number: RequestNumber::new(number).expect(rt, "a number"),
+        object: ObjectName::new(alloc, "a").expect(rt, "memory"),
+        class: 0,
+        method: String::from_str(alloc, method).expect(rt, "memory"),
+        input: Vec::new(alloc),
+    };
+    Request::new(alloc, parts).expect(rt, "memory")
 }
 
 /// The map of epoch 1, by which node 0 acts alone.

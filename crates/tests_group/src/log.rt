@@ -95,7 +95,7 @@ fn parts_of_a_request(rt: HostRuntime) {
 
 /// Whether a request is its copy.
 fn is_copied<R: Abort>(rt: &R, alloc: Global, one: &Request) -> bool {
-    let copy = one.copy(alloc).expect(rt, "memory");
+    let copy = one.copy().expect(rt, "memory");
     let is_copied = one.is(&copy);
     drop(copy);
     is_copied

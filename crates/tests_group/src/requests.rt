@@ -26,14 +26,15 @@ pub(super) fn number<R: Abort>(rt: &R, value: u32) -> RequestNumber {
 
 /// The request of those parts.
 pub(super) fn request<R: Abort>(rt: &R, alloc: Global, parts: &RequestParts<'_>) -> Request {
-    Request::new(
-        client(rt, parts.client),
-        number(rt, parts.number),
-        ObjectName::new(alloc, parts.object).expect(rt, "memory"),
-        parts.class,
-        String::from_str(alloc, parts.method).expect(rt, "memory"),
-        Vec::from_slice(alloc, parts.input).expect(rt, "memory"),
-    )
+    let said = pg_log::RequestParts {
+        client: client(rt, parts.client),
+        number: number(rt, parts.number),
+        object: ObjectName::new(alloc, parts.object).expect(rt, "memory"),
+        class: parts.class,
+        method: String::from_str(alloc, parts.method).expect(rt, "memory"),
+        input: Vec::from_slice(alloc, parts.input).expect(rt, "memory"),
+    };
+    Request::new(alloc, said).expect(rt, "memory")
 }
 
 /// The request of a text for the object `object`: client, number, class, method, and its input if that isn't empty.

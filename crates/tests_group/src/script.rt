@@ -143,10 +143,12 @@ fn is_found<C: Classes, R: Abort>(
     }
 }
 
-/// Whether the log has that length, and so has its copied list.
+/// Whether the log has that length, and so has its copied list, with which it begins.
 fn has_length<C: Classes, R: Abort>(rt: &R, alloc: Global, group: &Group<C>, wanted: &str) -> bool {
     let list = copy_log(alloc, group.entries()).expect(rt, "memory");
-    is_number(wanted, group.len() as u64) & is_number(wanted, list.len() as u64)
+    is_number(wanted, group.len() as u64)
+        & is_number(wanted, list.len() as u64)
+        & group.begins_with(&list)
 }
 
 /// Whether an answer is that one: a place or a length, or a refusal's name.

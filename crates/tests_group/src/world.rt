@@ -82,10 +82,17 @@ fn is_seventh(items: &[Request]) -> bool {
 
 #[test]
 fn lists_of_requests(rt: HostRuntime) {
-    let list = Requests::new(list(&rt, rt.alloc(), "1 7 0 lock"));
-    let is_one = list.items().len() == 1;
-    let items = list.into_items();
-    see(&rt, is_one & is_seventh(&items), "one request");
+    let list = list(&rt, rt.alloc(), "1 7 0 lock");
+    let list = Requests::new(rt.alloc(), list).expect(&rt, "memory");
+    let copy = list.copy().expect(&rt, "a count");
+    let is_shared = is_seventh(list.items()) & is_seventh(copy.items());
+    let rest = if copy.is_empty() { copy } else { copy.rest(1) };
+    see(
+        &rt,
+        is_shared & !list.is_empty() & rest.is_empty(),
+        "one request, and none past it",
+    );
+    see(&rt, Requests::none().is_empty(), "no request");
 }
 
 /// A message to the monitor.

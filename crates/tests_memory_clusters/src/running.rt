@@ -6,7 +6,7 @@ use crate::clusters::{cluster_of, config};
 use map_book::MapError;
 use object_store::ObjectName;
 use osd::{Gate, LoggedEntry, LoggedError, Sends};
-use pg_log::{ClientId, Request, RequestNumber};
+use pg_log::{ClientId, Request, RequestNumber, RequestParts};
 use placement::NodeId;
 use rados_client::{ClassId, ClusterName, ExecError, Reply, Running, Scenario, Session};
 use std::alloc::Global;
@@ -177,14 +177,15 @@ fn lock_of(alloc: Global, client: ClientId) -> Option<Request> {
 }
 
 fn lock_once(alloc: Global, client: ClientId) -> Option<Request> {
-    Some(Request::new(
+    let parts = RequestParts {
         client,
-        RequestNumber::new(1)?,
-        ObjectName::new(alloc, "a").ok()?,
-        0,
-        String::from_str(alloc, "lock").ok()?,
-        Vec::new(alloc),
-    ))
+        number: RequestNumber::new(1)?,
+        object: ObjectName::new(alloc, "a").ok()?,
+        class: 0,
+        method: String::from_str(alloc, "lock").ok()?,
+        input: Vec::new(alloc),
+    };
+    Request::new(alloc, parts).ok()
 }
 
 /// Serves until the request is logged: how many operations that takes.

@@ -4,7 +4,7 @@ use bpf_asm::assemble_class;
 use bpf_decode::ClassImage;
 use interp::ClassTable;
 use object_store::ObjectName;
-use pg_log::{ClientId, Request, RequestNumber, copy_requests};
+use pg_log::{ClientId, Request, RequestNumber, RequestParts, copy_requests};
 use placement::NodeId;
 use std::alloc::Global;
 use verifier::{VerifiedClass, verify};
@@ -79,7 +79,15 @@ fn request_once(alloc: Global, asked: &Asked) -> Option<Request> {
     let object = ObjectName::new(alloc, object).ok()?;
     let method = String::from_str(alloc, method).ok()?;
     let input = Vec::from_slice(alloc, input).ok()?;
-    Some(Request::new(client, number, object, 0, method, input))
+    let parts = RequestParts {
+        client,
+        number,
+        object,
+        class: 0,
+        method,
+        input,
+    };
+    Request::new(alloc, parts).ok()
 }
 
 /// A list of requests.

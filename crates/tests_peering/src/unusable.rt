@@ -5,7 +5,10 @@ use super::nodes::nodes;
 use group_world::{Epoch, Event, GroupMap, Message, MessageKind, Party, Requests};
 use object_store::ObjectName;
 use peering::GroupNode;
-use pg_log::{ClassTable, Classes, ClientId, Group, GroupWork, Request, RequestNumber, with_group};
+use pg_log::{
+    ClassTable, Classes, ClientId, Group, GroupWork, Request, RequestNumber, RequestParts,
+    with_group,
+};
 use placement::NodeId;
 use std::alloc::Global;
 use std::process::Abort;
@@ -78,7 +81,15 @@ fn request<R: Abort>(rt: &R, alloc: Global) -> Request {
     let number = RequestNumber::new(1).expect(rt, "a number");
     let object = ObjectName::new(alloc, "a").expect(rt, "memory");
     let method = String::from_str(alloc, "lock").expect(rt, "memory");
-    Request::new(client, number, object, 64, method, Vec::new(alloc))
+    let parts = RequestParts {
+        client,
+        number,
+        object,
+        class: 64,
+        method,
+        input: Vec::new(alloc),
+    };
+    Request::new(alloc, parts).expect(rt, "memory")
 }
 
 /// The Install.
@@ -87,11 +98,12 @@ fn install<R: Abort>(rt: &R, alloc: Global, is_unusable: bool) -> Event {
     if is_unusable {
         list.push(request(rt, alloc)).expect(rt, "memory");
     }
+    let list = Requests::new(alloc, list).expect(rt, "memory");
     let (none, first) = (Epoch::new(0), Epoch::new(1));
     let map = GroupMap::new(first, first, nodes(rt, alloc, "1 2"), none, Vec::new(alloc));
     Event::Message(Message {
         sender: Party::Node(NodeId::new(1)),
-        kind: MessageKind::Install(map, Requests::new(list)),
+        kind: MessageKind::Install(map, list),
     })
 }
 

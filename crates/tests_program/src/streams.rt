@@ -119,7 +119,7 @@ static TOLD: [(&[&str], &str); 21] = [
         "  pack     Writes the image of a class from raw code\n",
     ),
     (&["--help"], "  dis      Prints the text of a class image\n"),
-    (&["--version"], "radoscls 0.1.0\n"),
+    (&["--version"], "radoscls 0.4.0\n"),
     (
         &["--help"],
         "  sim      Plays a group of nodes from a file of events\n",

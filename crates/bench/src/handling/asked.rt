@@ -1,6 +1,6 @@
 use anyhow::{Context, Result};
 use object_store::ObjectName;
-use pg_log::{ClientId, Request, RequestNumber};
+use pg_log::{ClientId, Request, RequestNumber, RequestParts};
 use std::alloc::Global;
 
 /// What a client asks again and again, of one object.
@@ -71,5 +71,13 @@ fn request(
     let object = ObjectName::new(alloc, "object")?;
     let method = String::from_str(alloc, method)?;
     let input = Vec::from_slice(alloc, input)?;
-    Ok(Request::new(client, number, object, class, method, input))
+    let parts = RequestParts {
+        client,
+        number,
+        object,
+        class,
+        method,
+        input,
+    };
+    Ok(Request::new(alloc, parts)?)
 }

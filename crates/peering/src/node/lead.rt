@@ -1,7 +1,8 @@
 //! A primary before it is active: it adopts a list, notes who has installed it, and becomes active.
-ghost use Rattle.std.specs.Prelude.{◌≡◌, length, IfOk, IfErr, OnErr, if◌then◌else◌, ◌&&◌, ◌==◌, not, is_none, true, ◌≤◌};
+ghost use Rattle.std.specs.Prelude.{◌≡◌, length, IfOk, IfErr, OnErr, if◌then◌else◌, ◌&&◌, ◌==◌, not, is_none, None, true, ◌≤◌};
 ghost use Rattle.placement.specs.Placement.{has};
 ghost use Rattle.pg_log.specs.Entries.{requests_of};
+ghost use Rattle.pg_log.specs.Log.{Classes as Table, Legal};
 ghost use Rattle.pg_log.specs.Refusals.{first_refusal};
 ghost use Rattle.group_world.specs.Node.{committed_list, is_installing};
 ghost use Rattle.group_world.specs.Rules.{adopt_log, note_installed, activate, each_at, is_usable, begins};
@@ -13,7 +14,10 @@ use crate::node::GroupNode;
 use crate::node::moves::installing;
 use group_world::{Epoch, HandleError, MessageKind, Packet, Party, Status};
 use peering_messages::{are_among, is_same_request, packet};
-use pg_log::{ClassTable, Classes, Entry, Group, LogError, Request, adopting, list_refusal};
+use pg_log::{
+    ClassTable, Classes, Entry, Group, LogError, Request, Requests, adopting, copy_log,
+    legal_lists, list_refusal, refusals,
+};
 use placement::{NodeId, has};
 use std::alloc::Global;
 
@@ -23,32 +27,36 @@ impl<C: Classes> GroupNode<C> {
         &mut self,
         table: &ClassTable,
         interval: Epoch,
-        list: &[Request],
+        list: Requests,
     ) -> Result<Vec<Packet>, HandleError>
         requires { IsLegalBy table.now C.classes self.old.state.log }
-        ensures done { IfOk result (λ sent. IsDone self.old self.new sent.items (adopt_log table.now self.old.number self.old.state interval list.now)) }
+        ensures done { IfOk result (λ sent. IsDone self.old self.new sent.items (adopt_log table.now self.old.number self.old.state interval list)) }
         ensures err { OnErr result (self.new ≡ self.old) }
         ensures why { IfErr result (λ e. e ≡ HandleError.NoMemory) }
     {
         if !self.is_at(interval, Status::Asking) {
             return Ok(Vec::new(self.alloc));
         }
-        // No reachable world sends such a list; the rule says it of all.
-        if !self.can_take(table, list)? {
+        // What is sent is made first, since a refusal is to leave the node as it was. It shares the list.
+        let adopted = installing(self.alloc, self.number, self.interval, &self.members, &list)?;
+        if !self.take_list(table, &list)? {
             return Ok(Vec::new(self.alloc));
         }
-        let adopted = installing(self.alloc, self.number, self.interval, &self.members, list)?;
-        let _ = self.take_list(table, list)?;
         Ok(adopted.installs(self))
     }
 
-    /// Whether it can take a list: the list can be run, and begins with what is committed. It runs and changes nothing.
+    /// Whether it can take a list: the list can be run, and begins with what is committed. It runs and changes nothing. A
+    /// beginning of the own log can be run, since the log can: that costs a comparison, and no index of the list.
     pub(crate) fn can_take(&self, table: &ClassTable, list: &[Request]) -> Result<bool, HandleError>
+        requires { IsLegalBy table.now C.classes self.now.state.log }
         ensures ok { IfOk result (λ can. can ≡ is_usable table.now self.now.state list.now) }
         ensures err { IfErr result (λ e. e ≡ HandleError.NoMemory) }
     {
         if !self.keeps_committed(list) {
             return Ok(false);
+        }
+        if self.has_run(list) {
+            return Ok(true);
         }
         match list_refusal(self.alloc, table, list) {
             Ok(why) => Ok(why.is_none()),
@@ -56,11 +64,32 @@ impl<C: Classes> GroupNode<C> {
         }
     }
 
+    /// Whether a list is a beginning of the log, and so can be run.
+    fn has_run(&self, list: &[Request]) -> bool
+        ensures { (classes : Table) → Legal classes self.now.state.log → result ≡ true → first_refusal classes list.now ≡ None }
+    {
+        legal_lists();
+        refusals();
+        self.group().begins_with(list)
+    }
+
+    /// The log as a list for a message: the one that is kept, or a new one.
+    pub(crate) fn list(&self) -> Result<Requests, HandleError>
+        ensures ok { IfOk result (λ l. l ≡ self.now.state.log) }
+        ensures err { IfErr result (λ e. e ≡ HandleError.NoMemory) }
+    {
+        if !self.listed.is_empty() {
+            return Ok(self.listed.copy()?);
+        }
+        let items = copy_log(self.alloc, self.group.entries())?;
+        Ok(Requests::new(self.alloc, items)?)
+    }
+
     /// Makes the log a received list, if it is usable. Else, and at an error, nothing changes.
     pub(crate) fn take_list(
         &mut self,
         table: &ClassTable,
-        list: &[Request],
+        list: &Requests,
     ) -> Result<bool, HandleError>
         requires { IsLegalBy table.now C.classes self.old.state.log }
         ensures usable { IfOk result (λ taken. taken ≡ is_usable table.now self.old.state list.now) }
@@ -69,10 +98,15 @@ impl<C: Classes> GroupNode<C> {
         ensures err { OnErr result (self.new ≡ self.old) }
         ensures why { IfErr result (λ e. e ≡ HandleError.NoMemory) }
     {
-        if !self.keeps_committed(list) {
+        if !self.keeps_committed(list.items()) {
             return Ok(false);
         }
-        become_list(table, &mut self.group, self.committed, list)
+        let listed = list.copy()?;
+        if !become_list(table, &mut self.group, self.committed, list.items())? {
+            return Ok(false);
+        }
+        self.listed = listed;
+        Ok(true)
     }
 
     /// Whether a list begins with the committed list.
@@ -130,6 +164,7 @@ impl<C: Classes> GroupNode<C> {
         let length = self.group.len();
         let acked = each_at(self.alloc, self.members.acting(), length)?;
         self.status = Status::Active;
+        self.listed = Requests::none();
         self.committed = length;
         self.acked = acked;
         Ok(Vec::new(self.alloc))

@@ -9,9 +9,9 @@ ghost use Rattle.peering_messages.specs.Sending.{IsLegalBy, adopted_sent};
 ghost use Rattle.peering.specs.Arriving.{after_move, Makes, log_after, interval_after, install_first, install_again};
 
 use crate::node::GroupNode;
-use group_world::{Epoch, GroupMap, HandleError, MessageKind, Packet, Party, Requests, Status};
+use group_world::{Epoch, GroupMap, HandleError, MessageKind, Packet, Party, Status};
 use peering_messages::{adoption, leads, packet, query_to_all, send};
-use pg_log::{ClassTable, Classes, Group, Request, copy_log};
+use pg_log::{ClassTable, Classes, Group, Requests};
 use placement::{NodeId, has};
 use std::alloc::Global;
 
@@ -124,7 +124,7 @@ impl<C: Classes> GroupNode<C> {
         ensures ok { OnOk result (sent.new.items ≡ sent.old.items ++ packet self.now.number receiver (MessageKind.Log (interval_after self.now.state map.now status) (log_after self.now.state status)) ∷ []) }
         ensures err { IfErr result (λ e. e ≡ HandleError.NoMemory) }
     {
-        let list = Requests::new(self.log_after(status)?);
+        let list = self.log_after(status)?;
         let kind = MessageKind::Log(self.interval_after(map, status), list);
         send(sent, packet(self.number, receiver, kind))
     }
@@ -150,10 +150,10 @@ impl<C: Classes> GroupNode<C> {
         table: &ClassTable,
         sender: Party,
         map: GroupMap,
-        list: &[Request],
+        list: Requests,
     ) -> Result<Vec<Packet>, HandleError>
         requires { IsLegalBy table.now C.classes self.old.state.log }
-        ensures done { IfOk result (λ sent. IsDone self.old self.new sent.items (install table.now self.old.number self.old.state sender map list.now)) }
+        ensures done { IfOk result (λ sent. IsDone self.old self.new sent.items (install table.now self.old.number self.old.state sender map list)) }
         ensures err { OnErr result (self.new ≡ self.old) }
         ensures why { IfErr result (λ e. e ≡ HandleError.NoMemory) }
     {
@@ -162,10 +162,10 @@ impl<C: Classes> GroupNode<C> {
         }
         let arrival = self.arrival(&map)?;
         if is_waiting(self.status_after(arrival.status)) {
-            return self.install_first(table, sender, map, list, arrival);
+            return self.install_first(table, sender, map, &list, arrival);
         }
         // An unusable list is ignored whole, the move to its map too: no reachable world sends one.
-        if !self.can_take(table, list)? {
+        if !self.can_take(table, list.items())? {
             return Ok(Vec::new(self.alloc));
         }
         self.install_again(sender, map, arrival)
@@ -177,7 +177,7 @@ impl<C: Classes> GroupNode<C> {
         table: &ClassTable,
         sender: Party,
         map: GroupMap,
-        list: &[Request],
+        list: &Requests,
         mut arrival: Arrival,
     ) -> Result<Vec<Packet>, HandleError>
         requires legal { IsLegalBy table.now C.classes self.old.state.log }
@@ -275,7 +275,13 @@ impl<C: Classes> GroupNode<C> {
         ensures err { IfErr result (λ e. e ≡ HandleError.NoMemory) }
     {
         if map.prev().get() == 0 {
-            return installing(self.alloc, self.number, map.interval(), map, &[]);
+            return installing(
+                self.alloc,
+                self.number,
+                map.interval(),
+                map,
+                &Requests::none(),
+            );
         }
         Ok(Arrival {
             status: Some(Status::Asking),
@@ -304,14 +310,14 @@ impl<C: Classes> GroupNode<C> {
         }
     }
 
-    /// A copy of its list after a move.
-    fn log_after(&self, status: Option<Status>) -> Result<Vec<Request>, HandleError>
-        ensures ok { IfOk result (λ v. v.items ≡ log_after self.now.state status) }
+    /// Its list after a move.
+    fn log_after(&self, status: Option<Status>) -> Result<Requests, HandleError>
+        ensures ok { IfOk result (λ l. l ≡ log_after self.now.state status) }
         ensures err { IfErr result (λ e. e ≡ HandleError.NoMemory) }
     {
         match status {
-            Some(Status::Installing) => Ok(Vec::new(self.alloc)),
-            _ => Ok(copy_log(self.alloc, self.group.entries())?),
+            Some(Status::Installing) => Ok(Requests::none()),
+            _ => self.list(),
         }
     }
 
@@ -329,6 +335,7 @@ impl<C: Classes> GroupNode<C> {
         self.status = status;
         self.joined = joined;
         self.acked.clear();
+        self.listed = Requests::none();
         if let Status::Installing = status {
             self.group = Group::new(self.alloc);
         }
@@ -341,7 +348,7 @@ pub(crate) fn installing(
     number: NodeId,
     interval: Epoch,
     members: &GroupMap,
-    list: &[Request],
+    list: &Requests,
 ) -> Result<Arrival, HandleError>
     ensures status { IfOk result (λ a. a.status ≡ Some Status.Installing) }
     ensures joined { IfOk result (λ a. a.joined.items ≡ number ∷ []) }

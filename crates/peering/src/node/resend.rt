@@ -7,7 +7,7 @@ ghost use Rattle.peering.specs.Arriving.{at_interval, reps_for};
 use crate::node::GroupNode;
 use group_world::{Epoch, HandleError, Messages, Packet, Place, Status};
 use peering_messages::{are_among, ask_if, install_to_missing, query_to_all, reps_to};
-use pg_log::{Classes, Entry, copy_log};
+use pg_log::{Classes, Entry};
 use placement::NodeId;
 use std::alloc::Global;
 
@@ -38,13 +38,13 @@ impl<C: Classes> GroupNode<C> {
         Ok(Messages::new(sent))
     }
 
-    /// Install to the members that haven't installed, and AskActivate if all have.
+    /// Install to the members that haven't installed, which share the list that was adopted, and AskActivate if all have.
     fn installs_again(&self) -> Result<Vec<Packet>, HandleError>
         ensures ok { IfOk result (λ v. v.items ≡ unanswered_in self.now.number self.now.state Status.Installing) }
         ensures err { IfErr result (λ e. e ≡ HandleError.NoMemory) }
     {
         let acting = self.members.acting();
-        let list = copy_log(self.alloc, self.group.entries())?;
+        let list = self.list()?;
         let mut sent = install_to_missing(
             self.alloc,
             self.number,

@@ -12,7 +12,9 @@ use crate::node::GroupNode;
 use crate::node::lead::is_memory;
 use group_world::{Epoch, HandleError, MessageKind, Packet, Party, Place, Status};
 use peering_messages::{packet, rep_to_others, replies, replies_with, reply_again};
-use pg_log::{ClassTable, Classes, Entry, Request, classes_added, legal_lists, pairs, refusals};
+use pg_log::{
+    ClassTable, Classes, Entry, Request, Requests, classes_added, legal_lists, pairs, refusals,
+};
 use placement::NodeId;
 use replication::{Ack, Rep, append_at, commit_point};
 use std::alloc::Global;
@@ -166,6 +168,7 @@ impl<C: Classes> GroupNode<C> {
         if self.group.keep(entry).is_err() {
             return Err(HandleError::NoMemory);
         }
+        self.listed = Requests::none();
         self.acked = commit.acked;
         self.committed = commit.point;
         Ok(commit.sent)
@@ -226,6 +229,7 @@ impl<C: Classes> GroupNode<C> {
         if !self.is_at(Epoch::new(rep.epoch), Status::Installed) {
             return Ok(None);
         }
+        self.listed = Requests::none();
         match append_at(&mut self.group, table, rep) {
             Ok(length) => Ok(length),
             Err(error) => {

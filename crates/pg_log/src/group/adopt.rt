@@ -1,4 +1,4 @@
-ghost use Rattle.std.specs.Prelude.{◌≡◌, ◌<◌, ◌≤◌, ◌+◌, ◌∷◌, ◌++◌, ◌⊎◌, [], Some, None, IfOk, IfErr, OnOk, OnErr, Ok, Err, length, take, vec_capacity};
+ghost use Rattle.std.specs.Prelude.{◌≡◌, ◌<◌, ◌≤◌, ◌+◌, ◌∷◌, ◌++◌, ◌⊎◌, ◌↔◌, [], Some, None, IsTrue, IfOk, IfErr, OnOk, OnErr, Ok, Err, length, take, vec_capacity};
 ghost use Rattle.std.specs.FinMap as fin;
 ghost use mathlib.Core.List.{IsPrefix};
 ghost use Rattle.pg_log.specs.Log.{fold};
@@ -39,6 +39,13 @@ impl<C: Classes> Group<C> {
         let common = common_beginning(self.entries(), list);
         self.change_from(table, list, common)?;
         Ok(common)
+    }
+
+    /// Whether the log begins with these requests. It costs a comparison of as many.
+    pub fn begins_with(&self, list: &[Request]) -> bool
+        ensures { IsTrue result ↔ IsPrefix list.now self.now }
+    {
+        common_beginning(self.entries(), list) == list.len()
     }
 
     /// Replays a list in place of the log.
@@ -163,7 +170,7 @@ impl<C: Classes> Group<C> {
         ensures room { RoomStays log.old.places log.new.places }
     {
         let outcome = run_after(log, table, request)?;
-        let entry = entry_of_copy(log.alloc, request, outcome)?;
+        let entry = entry_of_copy(request, outcome)?;
         Self::add(log, entry)
     }
 }

@@ -94,7 +94,7 @@ impl<C: Classes> Group<C> {
         ensures err { IfErr result (λ e. Refuses (refusal table.now self.now request.now) e) }
     {
         let outcome = self.run(table, request)?;
-        entry_of_copy(self.log.alloc, request, outcome)
+        entry_of_copy(request, outcome)
     }
 
     /// What a request that may follow the log makes of its object. It changes nothing.
@@ -214,18 +214,14 @@ pub(crate) fn entry_of(request: Request, outcome: Outcome) -> Entry
 }
 
 /// A copy of a request with what it made. It refuses by `NoMemory` alone.
-pub(crate) fn entry_of_copy(
-    alloc: Global,
-    request: &Request,
-    outcome: Outcome,
-) -> Result<Entry, LogError>
+pub(crate) fn entry_of_copy(request: &Request, outcome: Outcome) -> Result<Entry, LogError>
     ensures request { IfOk result (λ e. e.request ≡ request.now) }
     ensures code { IfOk result (λ e. e.code ≡ outcome.code) }
     ensures output { IfOk result (λ e. e.output.items ≡ outcome.output.items) }
     ensures change { IfOk result (λ e. e.change ≡ outcome.change) }
     ensures err { IfErr result (λ e. e ≡ LogError.NoMemory) }
 {
-    let copy = request.copy(alloc)?;
+    let copy = request.copy()?;
     Ok(entry_of(copy, outcome))
 }
 

@@ -1,8 +1,8 @@
 use super::super::checks::see;
 use super::super::lists::list;
 use super::super::words::{halves, is_number, number_of};
-use pg_log::Request;
-use replication::{PackedLog, UnpackError, pack_log, unpack_log};
+use pg_log::{Request, Requests, copy_requests};
+use replication::{PackedLog, UnpackError, pack_list, pack_log, unpack_log};
 use std::alloc::Global;
 use std::process::Abort;
 
@@ -54,15 +54,26 @@ fn is_unpacked(
     is_answer(unpack_log(alloc, own, packed), all, wanted)
 }
 
-/// Whether the list is packed and unpacked as a line says.
+/// The same list, shared and packed.
+fn packed_shared<R: Abort>(rt: &R, alloc: Global, all: &[Request], told: usize) -> PackedLog {
+    let items = copy_requests(alloc, all).expect(rt, "memory");
+    pack_list(Requests::new(alloc, items).expect(rt, "memory"), told)
+}
+
+/// Whether the list is packed and unpacked as a line says, whether it is shared or not.
 fn is_right<R: Abort>(rt: &R, alloc: Global, all: &[Request], line: &str) -> bool {
     let (receiver, wanted) = halves(line, '|');
     let (told, own) = halves(receiver, ' ');
     let (common, wanted) = halves(wanted, ' ');
     let (rest, wanted) = halves(wanted, ' ');
-    let packed = pack_log(alloc, all, number_of(rt, told) as usize).expect(rt, "memory");
+    let told = number_of(rt, told) as usize;
     let own = list(rt, alloc, own);
-    has_lengths(&packed, common, rest) & is_unpacked(alloc, all, &own, &packed, wanted)
+    let packed = pack_log(alloc, all, told).expect(rt, "memory");
+    let shared = packed_shared(rt, alloc, all, told);
+    has_lengths(&packed, common, rest)
+        & has_lengths(&shared, common, rest)
+        & is_unpacked(alloc, all, &own, &packed, wanted)
+        & is_unpacked(alloc, all, &own, &shared, wanted)
 }
 
 /// The list is packed and unpacked as each line says.

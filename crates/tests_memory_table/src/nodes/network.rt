@@ -317,9 +317,9 @@ fn copy_map(alloc: Global, map: &GroupMap) -> Option<GroupMap> {
 /// An equal event.
 fn copy_event(alloc: Global, event: &Event) -> Option<Event> {
     match event {
-        Event::Request(request) => match request.copy(alloc) {
+        Event::Request(request) => match request.copy() {
             Ok(copy) => Some(Event::Request(copy)),
-            Err(_) => Some(Event::Request(request.copy(alloc).ok()?)),
+            Err(_) => Some(Event::Request(request.copy().ok()?)),
         },
         Event::Map(map) => Some(Event::Map(copy_map(alloc, map)?)),
         Event::Message(message) => Some(Event::Message(copy_message(alloc, message)?)),

@@ -1,7 +1,7 @@
 //! A class whose answers are worked out by hand: an object is an account, its first eight bytes are the balance.
 use bpf_asm::assemble_class;
 use object_store::ObjectName;
-use pg_log::{ClassTable, ClientId, Request, RequestNumber};
+use pg_log::{ClassTable, ClientId, Request, RequestNumber, RequestParts};
 use std::alloc::Global;
 use std::process::Abort;
 use verifier::{VerifiedClass, verify};
@@ -101,7 +101,15 @@ pub(super) fn request<R: Abort>(rt: &R, alloc: Global, plain: Asked) -> Request 
     let object = object(rt, alloc, plain.account);
     let method = String::from_str(alloc, method).expect(rt, "memory");
     let input = input(rt, alloc, plain.amount);
-    Request::new(client, number, object, 0, method, input)
+    let parts = RequestParts {
+        client,
+        number,
+        object,
+        class: 0,
+        method,
+        input,
+    };
+    Request::new(alloc, parts).expect(rt, "memory")
 }
 
 /// The object of an account.

@@ -12,12 +12,12 @@ use Rattle.peering.proofs.node.GroupNode.adopt_log.Goals as goal
 pub returns-clause-done : goal.returns-clause-done
 returns-clause-done g c =
     let n = c.args.self.now in
-    let list = c.args.list.now in
+    let list = c.args.list in
     let v = c.self.view_is in
     let at = and_parts _ _ (sym c.is_at.ensures ∙ c.if-not-is_at.false) in
     let interval : eqb c.args.interval n.state.interval ≡ true = at.0 in
     let asks : is_asking n.state.status ≡ true = sym (asking_is n.state.status) ∙ at.1 in
-    let usable : is_usable c.args.table.now n.state list ≡ true = sym c.in_ok-can_take.ensures.ok ∙ c.if-not-branch.false in
+    let usable : is_usable c.args.table.now n.state list ≡ true = sym c.in_ok-take_list.ensures.usable ∙ c.if-not-branch.false in
     let h = adopts c.args.table.now n.number n.state c.args.interval list interval asks usable in
     let w = c.in_ok-take_list.ensures.taken ∙ ap (λ b. cond b (with_log n list) n) (c.in_ok-take_list.ensures.usable ∙ usable) in
     let joined = c.in_ok-adopted.ensures.joined ∙ ap (λ z. z.number ∷ []) v in
@@ -32,12 +32,13 @@ returns-clause-done g c =
 pub returns-then-not-branch-clause-done : goal.returns-then-not-branch-clause-done
 returns-then-not-branch-clause-done g c =
     let n = c.args.self.now in
-    let list = c.args.list.now in
-    let unusable : is_usable c.args.table.now n.state list ≡ false = sym c.in_ok-can_take.ensures.ok ∙ c.if-not-branch.true in
+    let list = c.args.list in
+    let unusable : is_usable c.args.table.now n.state list ≡ false = sym c.in_ok-take_list.ensures.usable ∙ c.if-not-branch.true in
     let h = adopts_not c.args.table.now n.number n.state c.args.interval list unusable in
+    let w = c.in_ok-take_list.ensures.taken ∙ ap (λ b. cond b (with_log n list) n) c.if-not-branch.true in
     record {
-      number = refl;
-      state = ap (λ o. o.node) h;
+      number = ap (λ z. z.number) w;
+      state = ap (λ z. z.state) w ∙ ap (λ o. o.node) h;
       sent = c.new-then-not-branch.ensures.items ∙ ap (λ o. o.sent) h;
       unrefused = ap (λ o. o.refusal) (sym h);
     }

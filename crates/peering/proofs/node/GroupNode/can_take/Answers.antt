@@ -14,6 +14,13 @@ none_where None false h = absurd (false≢true h)
 none_where (Some why) true h = absurd (false≢true (sym h))
 none_where (Some why) false h = refl
 
+pub returns-then-has_run-clause-ok : goal.returns-then-has_run-clause-ok
+returns-then-has_run-clause-ok g c =
+    let n = c.args.self.now in
+    let run = c.has_run.ensures c.args.table.now c.requires.legal c.if-has_run.true in
+    ap is_none (sym run)
+    ∙ and_true (is_none (first_refusal c.args.table.now c.args.list.now)) (begins (committed_list n.state) c.args.list.now) (sym c.keeps_committed.ensures.value ∙ c.if-not-keeps_committed.false)
+
 pub returns-in-Ok-clause-ok : goal.returns-in-Ok-clause-ok
 returns-in-Ok-clause-ok g c =
     let n = c.args.self.now in
