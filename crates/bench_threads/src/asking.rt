@@ -2,7 +2,7 @@ use anyhow::{Error, Result};
 use bench_table::{Figure, Mode, picos_each};
 use object_store::ObjectName;
 use osd::{ClusterName, Config, Opened, Running, Scenario};
-use pg_log::{Request, RequestNumber};
+use pg_log::{Request, RequestNumber, RequestParts};
 use rados_client::Cluster;
 use std::alloc::Global;
 use std::sync::Wait;
@@ -10,7 +10,7 @@ use std::thread::Threads;
 use std::time::{Clock, Instant};
 
 /// The requests of a run, which a queue has room for.
-const ASKS: usize = 900;
+const ASKS: usize = 700;
 
 /// The looks of a run.
 const LOOKS: usize = 100_000;
@@ -105,14 +105,15 @@ fn run<R: Threads + Wait + Clock + Sync>(rt: &R, alloc: Global, step: Step) -> R
 
 /// A request of a session's.
 fn request<N: ClusterName>(alloc: Global, opened: &Opened<N>) -> Option<Request> {
-    Some(Request::new(
-        opened.client,
-        RequestNumber::new(1)?,
-        ObjectName::new(alloc, "object").ok()?,
-        0,
-        String::from_str(alloc, "lock").ok()?,
-        Vec::new(alloc),
-    ))
+    let parts = RequestParts {
+        client: opened.client,
+        number: RequestNumber::new(1)?,
+        object: ObjectName::new(alloc, "object").ok()?,
+        class: 0,
+        method: String::from_str(alloc, "lock").ok()?,
+        input: Vec::new(alloc),
+    };
+    Request::new(alloc, parts).ok()
 }
 
 /// How many requests are taken.

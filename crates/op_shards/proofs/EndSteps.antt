@@ -170,6 +170,23 @@ module _ {T : Type 0} (group : T → ℕ) where
         subst (WasKept group) (λ i. taker ((place ∙ ap (λ q. shard_of q k) (sym queues)) i) ((mine ∙ sym parts) i) (at_new acc ends k x lt at y i)) a.3,
       )))
 
+  -- what the queue held when an end looked, it held when the end's pass looked
+  pub sender_held : (s t p : ℕ) (ends : List (Sent T)) (k : ℕ) (x : Sent T) (n : ℕ) → k < length ends → x ≡ get_or ends k x → SendInPlace s t ends → All (λ (l : Sent T). l.sender ≡ p) ends
+      → Held n (KeptWith group (sender x.spot.place x.sender x.accepted)) → (v : Sender T) → send_view s t p ends ≡ v → SenderWasKeptAt group n v k
+  sender_held s t p ends k x n lt at placed all held v is =
+      let mine = one_of_all (λ (l : Sent T). l.sender) p ends k x lt at all in
+      let old : x.accepted ≡ at_shard (map (λ (l : Sent T). l.accepted) ends) k = at_old (λ (l : Sent T). l.accepted) ends k x lt at in
+      let place = send_place s t ends k x lt at placed in
+      subst (λ (w : Sender T). SenderWasKeptAt group n w k) is (subst (λ w. Held n (KeptWith group w)) (λ i. sender (place i) (mine i) (old i)) held)
+
+  pub taker_held : (s t : ℕ) (ends : List (Got T)) (k : ℕ) (x : Got T) (n : ℕ) → k < length ends → x ≡ get_or ends k x → TakeInPlace s t ends → All (λ (l : Got T). l.parts ≡ parts_of ends) ends
+      → Held n (KeptWith group (taker x.spot.place x.parts x.taken)) → (v : Taker T) → take_view s t ends ≡ v → TakerWasKeptAt group n v k
+  taker_held s t ends k x n lt at placed all held v is =
+      let mine = one_of_all (λ (l : Got T). l.parts) (parts_of ends) ends k x lt at all in
+      let old : x.taken ≡ at_shard (map (λ (l : Got T). l.taken) ends) k = at_old (λ (l : Got T). l.taken) ends k x lt at in
+      let place = take_place s t ends k x lt at placed in
+      subst (λ (w : Taker T). TakerWasKeptAt group n w k) is (subst (λ w. Held n (KeptWith group w)) (λ i. taker (place i) (mine i) (old i)) held)
+
 -- an element that the loop changes keeps what a list of all says of it
 pub same_map : {A B : Type 0} (f : A → B) (xs : List A) (ys : List B) (i : ℕ) (x y : A) → x ≡ get_or xs i x → f y ≡ f x → map f xs ≡ ys → map f (set xs i y) ≡ ys
 same_map f xs ys i x y at e is = map-set_same f xs i y x (e ∙ ap f at) ∙ is

@@ -1,5 +1,5 @@
 // What one sender or one taker has: an end of each queue.
-ghost use Rattle.std.specs.Prelude.{◌≡◌, ◌<◌, ◌+◌, ◌-◌, ◌%◌, length, map, slice_get, Some, MatchOption, MatchResult, IfOk, OnOk};
+ghost use Rattle.std.specs.Prelude.{◌≡◌, ◌<◌, ◌≤◌, ◌+◌, ◌-◌, ◌%◌, length, map, slice_get, Some, IsTrue, MatchOption, MatchResult, IfOk, OnOk};
 ghost use Rattle.std.specs.List.{range_with_len};
 ghost use Rattle.crossbeam_queue.specs.Passes.{ruled_capacity};
 ghost use Rattle.op_shards.specs.Order.{of, IsPartOf, AreFirstOf, IsHere, IsNextAfter};
@@ -73,6 +73,17 @@ impl<T: Op> SendPass<T> {
         queue_end.push(rt, queue, sender, op)
     }
 
+    /// How many operations the queue of this shard holds at one moment.
+    pub(crate) fn len<R: Wait>(&mut self, rt: &R, queue: &Queue<T>, shard: usize) -> usize
+        requires { slice_get self.old.queues.names shard ≡ Some (name queue.now) }
+        ensures same { self.new ≡ self.old }
+        ensures most { result ≤ ruled_capacity queue.now }
+        ensures held { SenderWasKeptAt T.group result self.old shard }
+    {
+        let queue_end = &mut self.ends[shard];
+        queue_end.len(rt, queue)
+    }
+
     /// What the taker took of this sender was accepted, each operation at least as often. Of all takers together it is what was accepted first.
     pub(crate) fn compare(&mut self, queue: &Queue<T>, other: &mut TakePass<T>, shard: usize)
         requires queue { slice_get self.old.queues.names shard ≡ Some (name queue.now) }
@@ -102,6 +113,16 @@ impl<T: Op> TakePass<T> {
     {
         let queue_end = &mut self.ends[shard];
         queue_end.pop(rt, queue)
+    }
+
+    /// Whether the queue of this shard is empty. True only if it was at one moment.
+    pub(crate) fn is_empty(&mut self, queue: &Queue<T>, shard: usize) -> bool
+        requires { slice_get self.old.queues.names shard ≡ Some (name queue.now) }
+        ensures same { self.new ≡ self.old }
+        ensures held { IsTrue result → TakerWasKeptAt T.group 0 self.old shard }
+    {
+        let queue_end = &mut self.ends[shard];
+        queue_end.is_empty(queue)
     }
 
     /// Takes over what the other took of each shard, and its takers.

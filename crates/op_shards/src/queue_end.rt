@@ -1,5 +1,5 @@
 // The ends of one queue.
-ghost use Rattle.std.specs.Prelude.{◌≡◌, ◌<◌, ◌+◌, ◌-◌, ◌%◌, [], ◌∷◌, ◌++◌, length, MatchOption, MatchResult};
+ghost use Rattle.std.specs.Prelude.{◌≡◌, ◌<◌, ◌≤◌, ◌+◌, ◌-◌, ◌%◌, [], ◌∷◌, ◌++◌, length, IsTrue, MatchOption, MatchResult};
 ghost use Rattle.crossbeam_queue.specs.Fifo.{Held};
 ghost use Rattle.crossbeam_queue.specs.Passes.{view, IsPassOf, ruled_capacity};
 ghost use Rattle.op_shards.specs.Order.{sender, taker, free_end, unopened, of, IsPartOf, AreFirstOf, IsHere, IsNextAfter, KeptWith, WasKept};
@@ -137,6 +137,16 @@ impl<T: Op> SendEnd<T> {
         }
     }
 
+    /// How many operations the queue holds at one moment.
+    pub fn len<R: Wait>(&mut self, rt: &R, queue: &Queue<T>) -> usize
+        requires { self.old.spot.queue ≡ name queue.now }
+        ensures same { self.new ≡ self.old }
+        ensures most { result ≤ ruled_capacity queue.now }
+        ensures held { Held result (KeptWith T.group (sender self.old.spot.place self.old.sender self.old.accepted)) }
+    {
+        queue.len_as::<Put, R>(rt, &mut self.pass)
+    }
+
     /// What the taker took of this sender was accepted, each operation at least as often. If the taker has all parts, it is what was accepted first.
     pub fn compare(&mut self, queue: &Queue<T>, other: &mut TakeEnd<T>)
         requires queue { self.old.spot.queue ≡ name queue.now }
@@ -163,6 +173,15 @@ impl<T: Op> TakeEnd<T> {
             (λ x. (self.new.taken ≡ self.old.taken ++ x ∷ []) × IsHere T.group self.old.spot.place x × IsNextAfter self.old.taken x × WasKept T.group (taker self.old.spot.place self.old.parts self.new.taken)) }
     {
         queue.pop_as::<Take, R>(rt, &mut self.pass)
+    }
+
+    /// Whether the queue is empty. True only if it was at one moment.
+    pub fn is_empty(&mut self, queue: &Queue<T>) -> bool
+        requires { self.old.spot.queue ≡ name queue.now }
+        ensures same { self.new ≡ self.old }
+        ensures held { IsTrue result → Held 0 (KeptWith T.group (taker self.old.spot.place self.old.parts self.old.taken)) }
+    {
+        queue.is_empty_as::<Take>(&mut self.pass)
     }
 
     /// Takes over what the other took, and its parts.

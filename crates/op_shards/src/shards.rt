@@ -1,5 +1,5 @@
 // All queues.
-ghost use Rattle.std.specs.Prelude.{◌≡◌, ◌<◌, ◌%◌, length, map, All, IfOk, OnOk, MatchOption, MatchResult};
+ghost use Rattle.std.specs.Prelude.{◌≡◌, ◌<◌, ◌≤◌, ◌-◌, ◌%◌, length, map, All, IfOk, OnOk, IsTrue, MatchOption, MatchResult};
 ghost use Rattle.crossbeam_queue.specs.Passes.{ruled_capacity};
 ghost use Rattle.std.specs.List.{range_with_len};
 ghost use Rattle.op_shards.specs.declared.rule.Ranked.{Ranked};
@@ -112,6 +112,32 @@ impl<T: Op> OpShards<T> {
             Some(ranked) => Some(ranked.op),
             None => None,
         }
+    }
+
+    /// Whether the shard's queue is empty: true only if it was at one moment, of the call, which the contract can't say.
+    /// Of false nothing is said, since another taker may have taken the last operation meanwhile. Nothing changes, and
+    /// nobody is waited for.
+    pub fn is_empty(&self, pass: &mut TakePass<T>, shard: usize) -> bool
+        requires pass { pass.old.queues ≡ self.now.queues }
+        requires shard { shard < length self.now.queues.names }
+        ensures same { pass.new ≡ pass.old }
+        ensures held { IsTrue result → TakerWasKeptAt T.group 0 pass.old shard }
+    {
+        let queue = &self.queues[shard];
+        pass.is_empty(queue, shard)
+    }
+
+    /// How many places of the shard's queue are free at one moment, of the call, which the contract can't say. Nothing
+    /// changes.
+    pub fn free_places<R: Wait>(&self, rt: &R, pass: &mut SendPass<T>, shard: usize) -> usize
+        requires pass { pass.old.queues ≡ self.now.queues }
+        requires shard { shard < length self.now.queues.names }
+        ensures same { pass.new ≡ pass.old }
+        ensures most { result ≤ self.now.places }
+        ensures held { SenderWasKeptAt T.group (self.now.places - result) pass.old shard }
+    {
+        let queue = &self.queues[shard];
+        self.places - pass.len(rt, queue, shard)
     }
 
     /// Puts the other taker's pass together with this one: what it took, to be compared whole.

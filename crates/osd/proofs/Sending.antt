@@ -60,6 +60,10 @@ only_same P s t e = subst (λ (u : Sender Operation). OnlySent s u P) (sym e) (o
 pub sent_so : (P : Operation → Type 0) (s t : Sender Operation) (op : Operation) → P op → WasSent s t (λ x. x ≡ op) → WasSent s t P
 sent_so P s t op p w = record { shard = w.shard; rank = w.rank; x = w.x; new = w.new; there = w.there; so = subst P (sym w.so) p }
 
+-- what was sent from a state of the pass that is the same
+pub only_from : (P : Operation → Type 0) (s r t : Sender Operation) → r ≡ s → OnlySent r t P → OnlySent s t P
+only_from P s r t e g = subst (λ (u : Sender Operation). OnlySent u t P) e g
+
 -- what a submit says, accepted or not
 pub only_submitted : (P : Operation → Type 0) (s t : Sender Operation) (shard : ℕ) (op : Operation) (X : Type 0) (Y : Operation → Type 0) {U : Type 0} (r : Result U Operation) → P op
     → MatchResult r (λ _. (t ≡ after_submit s shard op) × X) (λ x. (x ≡ op) × (t ≡ s) × Y x) → OnlySent s t P

@@ -9,6 +9,7 @@
 
 mod ask_error;
 mod bell;
+mod cause;
 mod config;
 mod crossing;
 mod delivery;
@@ -22,10 +23,12 @@ mod name;
 mod newest;
 mod no_node;
 mod node;
+mod nudges;
 mod parts;
 mod queued;
 mod running;
 mod scenario;
+mod schedule;
 mod sends;
 mod worker;
 

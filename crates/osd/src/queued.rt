@@ -1,13 +1,16 @@
 ghost use Rattle.std.specs.Prelude.{◌≡◌};
 
+use crate::cause::Cause;
 use carried::Operation;
 use op_shards::Op;
 use std::marker::Model;
 
-/// An operation in a queue. A place of a queue holds its box, so that queues are small. Contracts see the operation.
+/// An operation in a queue. A place of a queue holds its box, so that queues are small. Contracts see the operation; by what
+/// it came is for the count of nudges alone.
 #[derive(Drop)]
 pub struct Queued {
     operation: Box<Operation>,
+    cause: Cause,
 }
 
 impl Model for Queued {
@@ -28,10 +31,15 @@ impl Op for Queued {
 
 impl Queued {
     /// An operation in its box.
-    pub fn new(operation: Box<Operation>) -> Queued
+    pub fn new(operation: Box<Operation>, cause: Cause) -> Queued
         ensures { result ≡ operation.value }
     {
-        Queued { operation }
+        Queued { operation, cause }
+    }
+
+    /// By what it came into the queue.
+    pub fn cause(&self) -> Cause {
+        self.cause
     }
 
     /// The operation, out of its box.

@@ -19,7 +19,9 @@ use crate::monitors::Monitors;
 use crate::name::ClusterName;
 use crate::newest::Newest;
 use crate::node::Node;
+use crate::nudges::Nudges;
 use crate::queued::Queued;
+use crate::schedule::Schedule;
 use crate::worker::WorkerPlace;
 use commit_board::Board;
 use group_cell::{GroupCell, Post};
@@ -29,7 +31,7 @@ use pg_log::{ClassTable, ClientId};
 use placement::{NodeId, group_of};
 use std::alloc::Global;
 use std::marker::Model;
-use std::sync::{Mutex, Wait};
+use std::sync::{Mutex, MutexGuard, Wait};
 
 /// A cluster that any number of threads play on, by shared references to it. Contracts see what it is made of.
 ///
@@ -48,7 +50,9 @@ pub struct Running<N: ClusterName, R> {
     monitors: Mutex<Monitors<N>>,
     newest: Mutex<Newest<N>>,
     workers: Vec<WorkerPlace<N>>,
+    schedule: Schedule,
     bell: Bell,
+    nudges: Nudges,
 }
 
 impl<N: ClusterName, R> Model for Running<N, R> {
@@ -116,14 +120,16 @@ impl<N: ClusterName, R: Wait> Running<N, R> {
         self.mail.get(place)?.take(&self.rt)
     }
 
-    /// A node's part in a group, if there is one and the node isn't stopped. What a node takes and sends goes through here,
-    /// so what reaches a stopped node is lost, and it sends nothing again.
-    fn awake(&self, node: NodeId, group: usize) -> Option<&Mutex<GroupCell<N>>> {
+    /// A node's part in a group, locked, if there is one and the node isn't stopped. What a node takes and sends goes through
+    /// here, so what reaches a stopped node is lost, and it sends nothing again.
+    fn awake(&self, node: NodeId, group: usize) -> Option<MutexGuard<'_, GroupCell<N>>> {
         let node = self.nodes.get(node.get() as usize)?;
+        let cell = node.cell(group)?.lock(&self.rt);
+        // Under the lock, since the node may be stopped while a worker waits for it.
         if node.is_stopped() {
             return None;
         }
-        node.cell(group)
+        Some(cell)
     }
 
     /// A node's part in a group, if there is one.

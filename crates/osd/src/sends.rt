@@ -4,7 +4,6 @@ ghost use Rattle.osd.specs.Sent.{OnlySent, IsThat};
 
 use crate::name::ClusterName;
 use crate::queued::Queued;
-use carried::Operation;
 use op_shards::{OpShards, SendPass, TakePass};
 use std::marker::{Model, PhantomData};
 use std::sync::Wait;
@@ -54,6 +53,20 @@ impl<N: ClusterName> Sends<N> {
     {
         shards.submit(rt, &mut self.pass, queued)
     }
+
+    /// How many places of the shard's queue are free at one moment.
+    pub(crate) fn free_places<R: Wait>(
+        &mut self,
+        rt: &R,
+        shards: &OpShards<Queued>,
+        shard: usize,
+    ) -> usize
+        requires queues { shards.now.queues ≡ N.queues }
+        requires shard { shard < length shards.now.queues.names }
+        ensures { self.new ≡ self.old }
+    {
+        shards.free_places(rt, &mut self.pass, shard)
+    }
 }
 
 /// What a worker takes by: a pass of the cluster's queues.
@@ -92,11 +105,18 @@ impl<N: ClusterName> Takes<N> {
         rt: &R,
         shards: &OpShards<Queued>,
         shard: usize,
-    ) -> Option<Operation>
+    ) -> Option<Queued>
         requires queues { shards.now.queues ≡ N.queues }
         requires shard { shard < length shards.now.queues.names }
     {
-        let queued = shards.take(rt, &mut self.pass, shard)?;
-        Some(queued.into_operation())
+        shards.take(rt, &mut self.pass, shard)
+    }
+
+    /// Whether the shard's queue is empty at one moment. False says nothing.
+    pub fn is_empty(&mut self, shards: &OpShards<Queued>, shard: usize) -> bool
+        requires queues { shards.now.queues ≡ N.queues }
+        requires shard { shard < length shards.now.queues.names }
+    {
+        shards.is_empty(&mut self.pass, shard)
     }
 }

@@ -2,7 +2,7 @@ ghost use Rattle.std.specs.Prelude.{◌≡◌, ◌++◌, IfOk};
 
 use crate::class_id::ClassId;
 use object_store::ObjectName;
-use pg_log::{ClientId, Request, RequestNumber};
+use pg_log::{ClientId, Request, RequestNumber, RequestParts};
 use std::alloc::{AllocError, Global};
 
 /// What a call asks for. Its input is head, body and tail, one after another.
@@ -36,10 +36,18 @@ impl Call<'_> {
         let Ok(object) = self.object.copy(alloc) else {
             return Err(AllocError);
         };
-        let method = String::from_str(alloc, self.method)?;
-        let input = self.input(alloc)?;
-        let class = self.class.get();
-        Ok(Request::new(client, number, object, class, method, input))
+        let parts = RequestParts {
+            client,
+            number,
+            object,
+            class: self.class.get(),
+            method: String::from_str(alloc, self.method)?,
+            input: self.input(alloc)?,
+        };
+        match Request::new(alloc, parts) {
+            Ok(request) => Ok(request),
+            Err(_) => Err(AllocError),
+        }
     }
 
     /// The input in one piece.

@@ -1,5 +1,7 @@
 ghost use Rattle.std.specs.Prelude.{◌≡◌, ◌⊎◌, ◌+◌, ◌-◌, ◌^◌, min, IsTrue, IsFalse, IfSome, IfNone, IfOk, OnOk, OnErr};
 ghost use Rattle.op_shards.specs.Passes.{Grew};
+ghost use Rattle.placement.specs.Placement.{group_of};
+ghost use Rattle.osd.specs.Sent.{OnlySent, IsInternalTo};
 ghost use Rattle.rados_client.specs.Found.{IsAnswer, IsFound};
 ghost use Rattle.rados_client.specs.Session.{KnowsMore};
 ghost use Rattle.rados_client.specs.Promise.{IsAnswered, IsAsked, NotAsked, Says, WasAsked};
@@ -133,7 +135,8 @@ impl<'a, N: ClusterName, R: Wait> Connection<'a, N, R> {
             Found::Reply(reply) => Some(Ok(reply)),
             Found::Refused(error) => Some(Err(error)),
             Found::Later => {
-                patience.give_up();
+                patience.wait_when_refused();
+                thread::yield_now();
                 None
             }
             Found::Nothing => {
@@ -165,16 +168,20 @@ impl<'a, N: ClusterName, R: Wait> Connection<'a, N, R> {
         self.nudge(request);
         match self.submit(request) {
             Ok(()) => patience.begin(),
-            Err(AskError::Full) => pause(),
+            Err(AskError::Full) => {
+                patience.wait_when_full();
+                pause();
+            }
             Err(AskError::NoMemory) => patience.go_on(),
         }
     }
 
-    /// Nudges the request's group.
+    /// Nudges the request's group. What that submits is for this group.
     fn nudge(&mut self, request: &Request)
         ensures seen { self.new.seen ≡ self.old.seen }
         ensures grew { Grew self.old.sends self.new.sends }
         ensures untaken { NotAsked self.old.sends self.new.sends request.now }
+        ensures placed { OnlySent self.old.sends self.new.sends (IsInternalTo (group_of request.now.object N.config.groups)) }
         ensures counted { self.new.nudges ≡ min (self.old.nudges + 1) (2 ^ 64 - 1) }
     {
         let group = self.running.group_of(request.object());

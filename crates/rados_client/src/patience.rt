@@ -5,10 +5,14 @@ use crate::exec_error::ExecError;
 /// After how many looks in a row without an answer a request is submitted again.
 const LOOKS: u32 = 1_000;
 
-/// How long a session goes on looking before it submits the request again, and whether a queue has taken the request.
+/// How long a session goes on looking before it submits the request again, and whether a queue has taken the request. At
+/// least one look comes before each repeat, so that a session sees its answer also while its queue is full.
 #[derive(Clone, Copy)]
 pub(crate) struct Patience {
     looks_left: u32,
+    /// How many looks follow the call's next refusal: 1 after the first, and twice as many after each further one, up to
+    /// `LOOKS`. A group that is in peering refuses at once, and would be nudged by each session all the time.
+    looks_when_refused: u32,
     pub taken: bool,
 }
 
@@ -19,6 +23,7 @@ impl Patience {
     {
         Patience {
             looks_left: LOOKS,
+            looks_when_refused: 1,
             taken: true,
         }
     }
@@ -28,7 +33,8 @@ impl Patience {
         ensures { result.taken ≡ false }
     {
         Patience {
-            looks_left: 0,
+            looks_left: 1,
+            looks_when_refused: 1,
             taken: false,
         }
     }
@@ -45,11 +51,12 @@ impl Patience {
         self.looks_left = self.looks_left.saturating_sub(1);
     }
 
-    /// The request is to be submitted again at once.
-    pub fn give_up(&mut self)
+    /// A look found that the request is refused for now.
+    pub fn wait_when_refused(&mut self)
         ensures { self.new.taken ≡ self.old.taken }
     {
-        self.looks_left = 0;
+        self.looks_left = self.looks_when_refused;
+        self.looks_when_refused = self.looks_when_refused.saturating_mul(2).min(LOOKS);
     }
 
     /// A queue has taken the request.
@@ -58,6 +65,13 @@ impl Patience {
     {
         self.looks_left = LOOKS;
         self.taken = true;
+    }
+
+    /// The queue gave the request back: it is submitted again after one look.
+    pub fn wait_when_full(&mut self)
+        ensures { self.new.taken ≡ self.old.taken }
+    {
+        self.looks_left = 1;
     }
 
     /// Memory was refused to a submit, which counts as a try: the session looks on.

@@ -2,7 +2,7 @@
 
 use crate::served::{Part, config, is_so, is_so_alone};
 use object_store::ObjectName;
-use pg_log::{ClientId, Request, RequestNumber};
+use pg_log::{ClientId, Request, RequestNumber, RequestParts};
 use placement::NodeId;
 use rados_client::{ClassId, ClusterName, ExecError, Running, Session};
 use std::alloc::Global;
@@ -341,7 +341,15 @@ fn third(alloc: Global, client: ClientId, object: &ObjectName) -> Option<Request
     let object = object.copy(alloc).ok()?;
     let method = String::from_str(alloc, "lock").ok()?;
     let input = Vec::new(alloc);
-    Some(Request::new(client, number, object, LOCK, method, input))
+    let parts = RequestParts {
+        client,
+        number,
+        object,
+        class: LOCK,
+        method,
+        input,
+    };
+    Request::new(alloc, parts).ok()
 }
 
 /// Whether the client's third request is submitted.
@@ -432,8 +440,8 @@ fn a_session_that_heard_of_a_call_finds_its_own_behind_it(rt: HostRuntime) {
     );
 }
 
-/// With one try and no worker a call is unanswered, until the queue of 1,024 places is full; then none is taken any
-/// more. One place has the first map.
+/// With one try and no worker a call is unanswered, until fewer than 256 of the queue's 1,024 places are free; then none is
+/// taken any more. One place has the first map, so 768 requests are taken, the first two of them before the calls are counted.
 #[derive(Drop)]
 struct Unserved;
 
@@ -463,7 +471,7 @@ impl Calls for Unserved {
         let again = session.retry().is_err_and(|e| e == ExecError::Unanswered);
         let made = unanswered(session, alloc, object);
         let still = session.retry().is_err_and(|e| e == ExecError::NotTaken);
-        first == (9, 1_000) && again && made == 1_021 && still
+        first == (9, 1_000) && again && made == 766 && still
     }
 }
 

@@ -4,7 +4,7 @@
 use crate::served::{Part, config, is_so};
 use object_store::ObjectName;
 use osd::{LoggedEntry, Sends};
-use pg_log::{ClientId, Request, RequestNumber};
+use pg_log::{ClientId, Request, RequestNumber, RequestParts};
 use placement::NodeId;
 use rados_client::{ClassId, ClusterName, ExecError, Running, Session};
 use std::alloc::Global;
@@ -70,7 +70,15 @@ fn lock(alloc: Global, client: ClientId, number: u32) -> Option<Request> {
     let object = ObjectName::new(alloc, "a").ok()?;
     let method = String::from_str(alloc, "lock").ok()?;
     let input = Vec::new(alloc);
-    Some(Request::new(client, number, object, LOCK, method, input))
+    let parts = RequestParts {
+        client,
+        number,
+        object,
+        class: LOCK,
+        method,
+        input,
+    };
+    Request::new(alloc, parts).ok()
 }
 
 /// Whether a queue takes the request, some time.

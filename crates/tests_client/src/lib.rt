@@ -16,3 +16,5 @@ mod losses;
 mod memory;
 #[cfg(test)]
 mod served;
+#[cfg(test)]
+mod tries;

@@ -529,7 +529,7 @@ fn a_session_is_dropped_with_its_call_unanswered(rt: HostRuntime) {
 
 /// No message between nodes passes, so the primary stays in peering, and refuses each request by that.
 #[derive(Drop)]
-struct Silent;
+pub struct Silent;
 
 impl Fate for Silent {
     fn of(&self, _worker: usize, _n: u64) -> DeliveryMode {

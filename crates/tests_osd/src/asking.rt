@@ -9,7 +9,7 @@ use osd::{
     AskError, ClusterName, Config, Fate, Gate, Open, Opened, Parts, Running, Scenario, play,
     running_crosses,
 };
-use pg_log::{ClientId, Request, RequestNumber};
+use pg_log::{ClientId, Request, RequestNumber, RequestParts};
 use std::alloc::Global;
 use std::marker::Brand;
 use std::process::Abort;
@@ -41,14 +41,15 @@ fn request(
     object: &str,
     class: usize,
 ) -> Option<Request> {
-    Some(Request::new(
+    let parts = RequestParts {
         client,
-        RequestNumber::new(number)?,
-        ObjectName::new(alloc, object).ok()?,
+        number: RequestNumber::new(number)?,
+        object: ObjectName::new(alloc, object).ok()?,
         class,
-        String::from_str(alloc, "lock").ok()?,
-        Vec::new(alloc),
-    ))
+        method: String::from_str(alloc, "lock").ok()?,
+        input: Vec::new(alloc),
+    };
+    Request::new(alloc, parts).ok()
 }
 
 /// The place and the code by which the newest answer answers the request, if it does.

@@ -18,6 +18,10 @@ mod maps;
 #[cfg(test)]
 mod modes;
 #[cfg(test)]
+mod nudges;
+#[cfg(test)]
+mod pairs;
+#[cfg(test)]
 mod stops;
 #[cfg(test)]
 mod turns;

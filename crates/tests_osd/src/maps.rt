@@ -96,8 +96,9 @@ impl Scenario for Told {
     }
 }
 
-// The first map takes one of 1,024 places. The next ones keep its interval, so that nothing is told. Each nudge hands
-// on the newest map, since the node has none yet; there is no group 1.
+// The first map takes one of the 769 places that are there until requests are given back. The next ones keep its interval, so
+// that nothing is told. A nudge hands on the newest map, since the node has none yet; the four nudges that come while that map
+// waits add nothing. There is no group 1.
 #[test]
 fn a_nudge_tells_a_late_node_and_a_kept_interval_is_not_told(rt: HostRuntime) {
     let alloc = rt.alloc();
@@ -122,10 +123,10 @@ fn a_nudge_tells_a_late_node_and_a_kept_interval_is_not_told(rt: HostRuntime) {
             nudges: 5,
         },
     );
-    assert!(rt; told == Some(Some(1023)) && nudged == Some(Some(1018)));
+    assert!(rt; told == Some(Some(768)) && nudged == Some(Some(767)));
 }
 
-// Two of three nodes act, and each nudge hands the map to both; by the second map one acts, and gets it alone.
+// Two of three nodes act, and a nudge hands the map to both; by the second map one acts, and gets it alone.
 #[test]
 fn a_nudge_tells_each_acting_node(rt: HostRuntime) {
     let alloc = rt.alloc();
@@ -149,7 +150,7 @@ fn a_nudge_tells_each_acting_node(rt: HostRuntime) {
             nudges: 5,
         },
     );
-    assert!(rt; both == Some(Some(1012)) && one == Some(Some(1016)));
+    assert!(rt; both == Some(Some(765)) && one == Some(Some(765)));
 }
 
 // By the second and the third map another node acts than by the map before.
@@ -179,8 +180,8 @@ fn a_new_interval_is_told(rt: HostRuntime) {
         },
     );
     // By the first map one of the two acts, and then the other.
-    let are = even == Some(Some(1021)) && odd == Some(Some(1020));
-    assert!(rt; are || even == Some(Some(1020)) && odd == Some(Some(1021)));
+    let are = even == Some(Some(766)) && odd == Some(Some(765));
+    assert!(rt; are || even == Some(Some(765)) && odd == Some(Some(766)));
 }
 
 /// After a call, its primary is stopped and left out of the next map. Another client calls.

@@ -86,7 +86,8 @@ impl SentAgain {
             && nodes_with(running, 1) == 2
     }
 
-    /// Whether it sends the request again to both others once it goes on, and has kept its log.
+    /// Whether it sends the request again to both others once it goes on, and has kept its log. Their acknowledgements are lost,
+    /// so that the next nudge sends it once more.
     fn is_heard<N: ClusterName, R: Wait>(
         &self,
         running: &Running<N, R>,
@@ -97,6 +98,7 @@ impl SentAgain {
         running.go(primary) == Ok(())
             && self.nudged(running, fence, opened) == Some(2)
             && nodes_with(running, 2) == 3
+            && self.nudged(running, fence, opened) == Some(2)
     }
 }
 

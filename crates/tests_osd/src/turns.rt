@@ -38,7 +38,7 @@ impl Gate for Digits {
     }
 }
 
-/// Four requests, one of each group and numbered as its group, are queued before a worker serves.
+/// Eight requests are queued before a worker serves: two of each group, numbered 1 and 5 of group 1, and so on.
 #[derive(Drop)]
 struct Rotation {
     alloc: Global,
@@ -46,7 +46,7 @@ struct Rotation {
 }
 
 /// An object of that group.
-fn name_in<N: ClusterName, R: Wait>(
+pub fn name_in<N: ClusterName, R: Wait>(
     running: &Running<N, R>,
     alloc: Global,
     group: usize,
@@ -67,22 +67,22 @@ impl Rotation {
         &self,
         running: &Running<N, R>,
         opened: &mut Opened<N>,
-        group: u32,
+        number: u32,
     ) -> bool {
-        let Some(name) = name_in(running, self.alloc, group as usize % 4) else {
+        let Some(name) = name_in(running, self.alloc, number as usize % 4) else {
             return false;
         };
-        match lock(self.alloc, opened.client, group, name) {
+        match lock(self.alloc, opened.client, number, name) {
             Some(request) => running.ask(&mut opened.sends, &request).is_ok(),
             None => false,
         }
     }
 
-    /// Whether the worker takes the four in that order.
+    /// Whether the worker takes the eight in that order.
     fn are_taken(&self, order: u64) -> bool {
         self.gate.is_free.store(true, Ordering::SeqCst);
         for _ in 0..TURNS {
-            if self.gate.digits.load(Ordering::SeqCst) >= 1000 {
+            if self.gate.digits.load(Ordering::SeqCst) >= 10_000_000 {
                 break;
             }
             yield_now();
@@ -98,15 +98,16 @@ impl Calls for Rotation {
             return false;
         };
         let mut done = true;
-        for group in 1..5 {
-            done = done && self.is_queued(running, &mut opened, group);
+        for number in 1..9 {
+            done = done && self.is_queued(running, &mut opened, number);
         }
-        // The last one is number 4 of client 2.
-        self.are_taken(1234) && done && self.gate.last.load(Ordering::SeqCst) == 8_589_934_596
+        // The last one is number 8 of client 2.
+        self.are_taken(12_345_678) && done && self.gate.last.load(Ordering::SeqCst) == 8_589_934_600
     }
 }
 
-// Group 4 stands for group 0. Worker 1 begins at queue 1; each queue has the group's first map before the request.
+// Group 4 stands for group 0. Worker 1 begins at queue 1; each queue has the group's first map before its requests. A queue that
+// has another request waits until the others had their turn.
 #[test]
 fn a_worker_takes_from_all_queues_in_rotation(rt: HostRuntime) {
     let alloc = rt.alloc();

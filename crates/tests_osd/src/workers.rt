@@ -280,10 +280,11 @@ impl Scenario for Alone {
     }
 }
 
-// A queue has 1,024 places, one of which the group's first map takes.
+// A queue has 1,024 places, one of which the group's first map takes. Requests are taken while 256 places are free: with the
+// last one there are 769 operations.
 #[test]
 fn a_queue_and_the_sessions_are_used_up(rt: HostRuntime) {
     let alloc = rt.alloc();
     let done = played(rt, alloc, config(1, 1, 1, 1), &Alone { alloc });
-    assert!(rt; done == Some((Some(1023), 63)));
+    assert!(rt; done == Some((Some(768), 63)));
 }

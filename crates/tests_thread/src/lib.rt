@@ -7,3 +7,9 @@ mod boards;
 mod locks;
 #[cfg(test)]
 mod queues;
+#[cfg(test)]
+mod schedule_steps;
+#[cfg(test)]
+mod schedules;
+#[cfg(test)]
+mod searches;

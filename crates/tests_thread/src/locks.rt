@@ -5,8 +5,8 @@ ghost use mathlib.Core.List.{IsPrefix};
 use builtin_classes::load_lock;
 use object_store::ObjectName;
 use pg_log::{
-    ClassTable, Classes, ClientId, Entry, Group, Request, RequestNumber, group_crosses,
-    table_crosses,
+    ClassTable, Classes, ClientId, Entry, Group, Request, RequestNumber, RequestParts,
+    group_crosses, table_crosses,
 };
 use std::alloc::Global;
 use std::marker::Brand;
@@ -25,14 +25,15 @@ const EBUSY: i64 = -16;
 
 /// A client's request for the lock of the one object.
 pub fn request<R: Abort>(rt: &R, alloc: Global, client: u32, number: u32) -> Request {
-    Request::new(
-        ClientId::new(client).expect(rt, "a client"),
-        RequestNumber::new(number).expect(rt, "a number"),
-        ObjectName::new(alloc, "object").expect(rt, "memory"),
-        0,
-        String::from_str(alloc, "lock").expect(rt, "memory"),
-        Vec::new(alloc),
-    )
+    let parts = RequestParts {
+        client: ClientId::new(client).expect(rt, "a client"),
+        number: RequestNumber::new(number).expect(rt, "a number"),
+        object: ObjectName::new(alloc, "object").expect(rt, "memory"),
+        class: 0,
+        method: String::from_str(alloc, "lock").expect(rt, "memory"),
+        input: Vec::new(alloc),
+    };
+    Request::new(alloc, parts).expect(rt, "memory")
 }
 
 /// A thread, of client 1, 2 and so on, appends its requests, each under the lock.

@@ -6,6 +6,7 @@ ghost use Rattle.placement.specs.Placement.{group_of};
 ghost use Rattle.osd.specs.Sent.{OnlySent, IsThat};
 
 use crate::ask_error::AskError;
+use crate::cause::Cause;
 use crate::name::ClusterName;
 use crate::queued::Queued;
 use crate::running::Running;
@@ -15,23 +16,31 @@ use group_world::Event;
 use pg_log::Request;
 use std::sync::Wait;
 
+/// The places of a queue that clients and nudges leave to what nodes send to one another: above all to what ends a peering,
+/// which nobody sends again before the next nudge.
+const KEPT_PLACES: usize = 256;
+
 impl<N: ClusterName, R: Wait> Running<N, R> {
-    /// Submits a copy of the request to the newest map's primary of its object's group. Full: the queue gave it back.
-    /// NoMemory: nothing was submitted.
+    /// Submits a copy of the request to the newest map's primary of its object's group. Full: fewer than 256 places of the
+    /// queue were free, and the request is given back. NoMemory: nothing was submitted.
     pub fn ask(&self, sends: &mut Sends<N>, request: &Request) -> Result<(), AskError>
         ensures grew { Grew sends.old sends.new }
         ensures sent { OnOk result (WasSent sends.old sends.new (λ op. op.carried ≡ Plain (ARequest request.now))) }
         ensures placed { OnOk result (WasSent sends.old sends.new (λ op. (op.group ≡ group_of request.now.object N.config.groups) × (op.carried ≡ Plain (ARequest request.now)))) }
         ensures kept { OnErr result (sends.new ≡ sends.old) }
     {
-        let Ok(copy) = request.copy(self.alloc) else {
+        let group = self.group_of(request.object());
+        if !self.has_room(sends, group) {
+            return Err(AskError::Full);
+        }
+        let Ok(copy) = request.copy() else {
             return Err(AskError::NoMemory);
         };
-        let group = self.group_of(request.object());
         let node = self.newest.lock(&self.rt).primary(group);
         let carried = Carried::Plain(Event::Request(copy));
         self.submit(
             sends,
+            Cause::Event,
             Operation {
                 group,
                 node,
@@ -40,24 +49,38 @@ impl<N: ClusterName, R: Wait> Running<N, R> {
         )
     }
 
+    /// Whether the queue of the group has more places free than clients and nudges leave to the nodes.
+    pub(crate) fn has_room(&self, sends: &mut Sends<N>, group: usize) -> bool
+        ensures { sends.new ≡ sends.old }
+    {
+        let shard = group % self.shards.count();
+        sends.free_places(&self.rt, &self.shards, shard) >= KEPT_PLACES
+    }
+
     /// Submits an operation, and wakes the workers where its queue took it.
-    pub(crate) fn submit(&self, sends: &mut Sends<N>, operation: Operation) -> Result<(), AskError>
+    pub(crate) fn submit(
+        &self,
+        sends: &mut Sends<N>,
+        cause: Cause,
+        operation: Operation,
+    ) -> Result<(), AskError>
         ensures only { OnlySent sends.old sends.new (IsThat operation) }
         ensures sent { OnOk result (WasSent sends.old sends.new (λ op. op ≡ operation)) }
         ensures kept { OnErr result (sends.new ≡ sends.old) }
     {
-        let shard = operation.group % self.shards.count();
+        let group = operation.group;
         let Ok(boxed) = Box::new(self.alloc, operation) else {
             return Err(AskError::NoMemory);
         };
-        match sends.submit(&self.rt, &self.shards, Queued::new(boxed)) {
+        self.nudges.add(group, cause);
+        match sends.submit(&self.rt, &self.shards, Queued::new(boxed, cause)) {
             Ok(()) => {
-                self.bell.fill(shard);
                 self.bell.ring(&self.rt);
                 Ok(())
             }
             Err(queued) => {
                 drop(queued);
+                self.nudges.remove(group, cause);
                 Err(AskError::Full)
             }
         }

@@ -1,6 +1,7 @@
 ghost use Rattle.std.specs.Prelude.{◌<◌};
 ghost use Rattle.osd.specs.Sent.{OnlySent, IsOf, IsInternalTo};
 
+use crate::cause::Cause;
 use crate::delivery::Delivery;
 use crate::name::ClusterName;
 use crate::running::Running;
@@ -14,7 +15,7 @@ use std::sync::Wait;
 
 impl<N: ClusterName, R: Wait> Running<N, R> {
     /// Brings what a node sends to whom it is for. It is lost where a queue is full, or memory is refused.
-    pub(crate) fn deliver(&self, sends: &mut Sends<N>, delivery: Delivery<N>)
+    pub(crate) fn deliver(&self, sends: &mut Sends<N>, cause: Cause, delivery: Delivery<N>)
         ensures { OnlySent sends.old sends.new (IsOf delivery.group delivery.outgoing) }
     {
         let Delivery {
@@ -26,6 +27,7 @@ impl<N: ClusterName, R: Wait> Running<N, R> {
             Outgoing::ToNode(node, carried) => {
                 let _ = self.submit(
                     sends,
+                    cause,
                     Operation {
                         group,
                         node,
@@ -33,16 +35,25 @@ impl<N: ClusterName, R: Wait> Running<N, R> {
                     },
                 );
             }
-            Outgoing::ToMonitor(interval) => self.activate(sends, group, sender, interval),
+            Outgoing::ToMonitor(interval) => {
+                self.ask_monitor(sends, cause, group, sender, interval);
+            }
             Outgoing::ToClient(client, post) => self.post(client, post),
         }
     }
 
     /// Asks the group's monitor to activate the interval, and tells the node where it did.
-    fn activate(&self, sends: &mut Sends<N>, group: usize, node: NodeId, interval: Epoch)
+    fn ask_monitor(
+        &self,
+        sends: &mut Sends<N>,
+        cause: Cause,
+        group: usize,
+        node: NodeId,
+        interval: Epoch,
+    )
         ensures { OnlySent sends.old sends.new (IsInternalTo group) }
     {
-        if group >= self.config.groups as usize || !self.is_activated(group, interval) {
+        if group >= self.config.groups as usize || !self.activates(group, interval) {
             return;
         }
         let carried = Carried::Plain(Event::Message(Message {
@@ -51,6 +62,7 @@ impl<N: ClusterName, R: Wait> Running<N, R> {
         }));
         let _ = self.submit(
             sends,
+            cause,
             Operation {
                 group,
                 node,
@@ -60,7 +72,7 @@ impl<N: ClusterName, R: Wait> Running<N, R> {
     }
 
     /// Has the group's monitor activate the interval. Answers whether it did.
-    fn is_activated(&self, group: usize, interval: Epoch) -> bool
+    fn activates(&self, group: usize, interval: Epoch) -> bool
         requires { group < N.config.groups }
     {
         let mut monitors = self.monitors.lock(&self.rt);

@@ -2,6 +2,7 @@ ghost use Rattle.std.specs.Prelude.{◌<◌, IfOk, IfErr};
 ghost use Rattle.osd.specs.Sent.{OnlySent, IsInternalTo, IsAny};
 ghost use Rattle.osd.specs.Maps.{WasMade, WasRefused};
 
+use crate::cause::Cause;
 use crate::name::ClusterName;
 use crate::newest::Newest;
 use crate::running::Running;
@@ -56,6 +57,6 @@ impl<N: ClusterName, R: Wait> Running<N, R> {
         let Some(node) = self.acting(group, place) else {
             return;
         };
-        self.tell_map(sends, group, node);
+        self.tell_map(sends, Cause::Event, group, node);
     }
 }

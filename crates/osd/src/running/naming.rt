@@ -9,9 +9,11 @@ use crate::monitors::Monitors;
 use crate::name::ClusterName;
 use crate::newest::Newest;
 use crate::node::Node;
+use crate::nudges::Nudges;
 use crate::parts::{AllQueues, Maps, Parts, Rows};
 use crate::queued::Queued;
 use crate::running::Running;
+use crate::schedule::Schedule;
 use crate::sends::{Sends, Takes};
 use crate::worker::{Worker, WorkerPlace};
 use commit_board::{NoMemory, Writer};
@@ -52,6 +54,7 @@ impl<N: ClusterName, R: Wait + Drop> Running<N, R> {
         let mut senders = senders_of::<N>(alloc, sends)?;
         let monitors = Monitors::new(book, senders.pop().unwrap());
         let workers = workers_of::<N>(alloc, &mut senders, takes)?;
+        let nudges = Nudges::new(alloc, config.groups as usize)?;
         let running = Running {
             alloc,
             rt,
@@ -65,7 +68,9 @@ impl<N: ClusterName, R: Wait + Drop> Running<N, R> {
             monitors: Mutex::new(monitors),
             newest: Mutex::new(Newest::new(newest)),
             workers,
+            schedule: Schedule::new(),
             bell: Bell::new(),
+            nudges,
         };
         running.tell_first();
         Ok(running)

@@ -1,7 +1,8 @@
-ghost use Rattle.std.specs.Prelude.{◌<◌, All};
+ghost use Rattle.std.specs.Prelude.{◌≡◌, ◌<◌, All};
 ghost use Rattle.op_shards.specs.Passes.{Grew};
 ghost use Rattle.osd.specs.Sent.{OnlySent, IsInternalTo, IsOfNodeOrLost};
 
+use crate::cause::Cause;
 use crate::delivery::Delivery;
 use crate::name::ClusterName;
 use crate::running::Running;
@@ -14,8 +15,11 @@ use std::sync::Wait;
 
 impl<N: ClusterName, R: Wait> Running<N, R> {
     /// Hands the newest map of the group to each acting node of a lower interval, then submits what each acting node sends
-    /// again. A stopped node sends nothing. It does nothing where there is no such group. What it submits is of that group,
-    /// and no request of a client.
+    /// again. A stopped node sends nothing. What it submits is of that group, and no request of a client.
+    ///
+    /// It does nothing where there is no such group, where another nudge of the group is under way, and where an operation
+    /// that the last one submitted isn't served yet. What goes to a node isn't submitted where fewer than 256 places of
+    /// the queue are free.
     pub fn nudge(&self, sends: &mut Sends<N>, group: usize)
         ensures grew { Grew sends.old sends.new }
         ensures only { OnlySent sends.old sends.new (IsInternalTo group) }
@@ -23,12 +27,16 @@ impl<N: ClusterName, R: Wait> Running<N, R> {
         if group >= self.config.groups as usize {
             return;
         }
+        if !self.nudges.begin(group) {
+            return;
+        }
         for place in 0..REPLICA_LIMIT {
-            self.tell_late(sends, group, place);
+            self.tell_if_behind(sends, group, place);
         }
         for place in 0..REPLICA_LIMIT {
             self.send_again(sends, group, place);
         }
+        self.nudges.end(group);
     }
 
     /// The node that acts at that place of the group's newest map.
@@ -39,21 +47,24 @@ impl<N: ClusterName, R: Wait> Running<N, R> {
     }
 
     /// Hands the newest map to the node that acts at that place, if its interval is lower.
-    fn tell_late(&self, sends: &mut Sends<N>, group: usize, place: usize)
+    fn tell_if_behind(&self, sends: &mut Sends<N>, group: usize, place: usize)
         requires { group < N.config.groups }
         ensures { OnlySent sends.old sends.new (IsInternalTo group) }
     {
         let Some(node) = self.acting(group, place) else {
             return;
         };
-        if !self.is_late(group, node) {
+        if !self.is_behind(group, node) {
             return;
         }
-        self.tell_map(sends, group, node);
+        if !self.has_room(sends, group) {
+            return;
+        }
+        self.tell_map(sends, Cause::Nudge, group, node);
     }
 
     /// Whether a node's interval is lower than the newest map's.
-    fn is_late(&self, group: usize, node: NodeId) -> bool
+    fn is_behind(&self, group: usize, node: NodeId) -> bool
         requires { group < N.config.groups }
     {
         let Some(cell) = self.cell(node, group) else {
@@ -64,7 +75,7 @@ impl<N: ClusterName, R: Wait> Running<N, R> {
     }
 
     /// Hands the newest map to a node. It is lost where memory is refused.
-    pub(crate) fn tell_map(&self, sends: &mut Sends<N>, group: usize, node: NodeId)
+    pub(crate) fn tell_map(&self, sends: &mut Sends<N>, cause: Cause, group: usize, node: NodeId)
         requires { group < N.config.groups }
         ensures { OnlySent sends.old sends.new (IsInternalTo group) }
     {
@@ -74,6 +85,7 @@ impl<N: ClusterName, R: Wait> Running<N, R> {
         let carried = Carried::Plain(Event::Map(map));
         let _ = self.submit(
             sends,
+            cause,
             Operation {
                 group,
                 node,
@@ -108,17 +120,27 @@ impl<N: ClusterName, R: Wait> Running<N, R> {
         ensures { All IsOfNodeOrLost result.items }
     {
         let nothing = Vec::new(self.alloc);
-        let Some(cell) = self.awake(node, group) else {
+        let Some(mut cell) = self.awake(node, group) else {
             return nothing;
         };
-        let sent = cell.lock(&self.rt).resend(self.alloc, &self.board);
-        match sent {
+        match cell.resend(self.alloc, &self.board) {
             Ok(sent) => sent,
             Err(_) => nothing,
         }
     }
 
-    /// Brings what a node sends to whom it is for, if memory for it was there.
+    /// Whether it takes none of the places that a nudge leaves to the nodes. What goes to the monitors may end a peering.
+    fn may_go_out(&self, sends: &mut Sends<N>, group: usize, outgoing: &Outgoing<N>) -> bool
+        ensures { sends.new ≡ sends.old }
+    {
+        match outgoing {
+            Outgoing::ToNode(_, _) => self.has_room(sends, group),
+            Outgoing::ToMonitor(_) | Outgoing::ToClient(_, _) => true,
+        }
+    }
+
+    /// Brings what a node sends to whom it is for, if memory for it was there. What goes to a node leaves the last places of
+    /// the queue free.
     fn deliver_some(
         &self,
         sends: &mut Sends<N>,
@@ -132,11 +154,14 @@ impl<N: ClusterName, R: Wait> Running<N, R> {
         let Some(outgoing) = outgoing else {
             return;
         };
+        if !self.may_go_out(sends, group, &outgoing) {
+            return;
+        }
         let delivery = Delivery {
             group,
             sender,
             outgoing,
         };
-        self.deliver(sends, delivery);
+        self.deliver(sends, Cause::Nudge, delivery);
     }
 }

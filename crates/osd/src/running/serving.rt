@@ -3,19 +3,24 @@ ghost use Rattle.osd.specs.Gates.{gate_number};
 ghost use Rattle.osd.specs.Sent.{OnlySent, IsAny};
 ghost use Rattle.osd.specs.Turned.{WasTurn, IsLostOrTurn};
 
+use crate::cause::Cause;
 use crate::delivery::Delivery;
 use crate::fate::{DeliveryMode, Fate, PassAll};
 use crate::gate::Gate;
 use crate::name::ClusterName;
 use crate::running::Running;
-use crate::sends::{Sends, Takes};
+use crate::sends::Sends;
 use crate::worker::Worker;
 use carried::{Carried, Operation};
-use commit_board::NoMemory;
-use group_cell::{GroupCell, Outgoing};
+use group_cell::Outgoing;
 use group_world::Event;
 use placement::NodeId;
-use std::sync::{Mutex, Wait};
+use std::hint::spin_loop;
+use std::sync::Wait;
+
+/// How many shards a worker that found nothing looks at again before it waits. That takes about as long as to wait and to be
+/// woken, and the next operation of a client that calls again and again comes meanwhile.
+const SPINS: usize = 128;
 
 /// What a gate gets of an operation: for a client's request the client's number times 2^32 and the request's number, else
 /// 0.
@@ -59,7 +64,7 @@ impl<N: ClusterName, R: Wait> Running<N, R> {
             if self.bell.is_finished() {
                 break;
             }
-            if !self.round(&mut worker, gate, fate) {
+            if !self.round(&mut worker, gate, fate) && !self.finds_work(&mut worker) {
                 self.bell.wait(&self.rt, count);
             }
         }
@@ -91,8 +96,23 @@ impl<N: ClusterName, R: Wait> Running<N, R> {
         found
     }
 
+    /// Looks at the shards again for a while. Answers whether one that nobody serves may have an operation, or the workers are
+    /// to end.
+    fn finds_work(&self, worker: &mut Worker<N>) -> bool {
+        let shards = self.shards.count();
+        for look in 0..SPINS {
+            let shard = look % shards;
+            let is_claimed = self.schedule.is_claimed(shard);
+            if !is_claimed && !worker.takes.is_empty(&self.shards, shard) {
+                return true;
+            }
+            spin_loop();
+        }
+        self.bell.is_finished()
+    }
+
     /// Takes an operation of a shard and serves it. Answers whether there was one. A shard is served by one worker at a time,
-    /// so that what nodes send arrives in its order; one that another worker serves is passed over.
+    /// so that what nodes send arrives in its order; one that another worker serves is skipped.
     fn take_turn<G: Gate, F: Fate>(
         &self,
         worker: &mut Worker<N>,
@@ -103,13 +123,16 @@ impl<N: ClusterName, R: Wait> Running<N, R> {
         requires { shard < length N.queues.names }
         ensures { OnlySent worker.old.sends worker.new.sends IsAny }
     {
+        if worker.takes.is_empty(&self.shards, shard) {
+            return false;
+        }
         // Two workers at one shard could bring a member the second of two Reps first. It ignores that one, and only a nudge
         // mends that.
-        if !self.bell.begin(shard) {
+        if !self.schedule.claim(shard) {
             return false;
         }
         let taken = self.serve_one(worker, gate, fate, shard);
-        self.bell.end(shard);
+        self.schedule.release(shard);
         taken
     }
 
@@ -124,38 +147,30 @@ impl<N: ClusterName, R: Wait> Running<N, R> {
         requires { shard < length N.queues.names }
         ensures { OnlySent worker.old.sends worker.new.sends IsAny }
     {
-        match self.take(&mut worker.takes, shard) {
-            Some(operation) => {
-                self.pass(gate, shard, gate_number(&operation.carried));
-                self.turn(worker, fate, operation);
-                true
-            }
-            None => false,
-        }
-    }
-
-    /// Takes the oldest operation of a shard. Where there is none, the shard is passed over until one comes.
-    fn take(&self, takes: &mut Takes<N>, shard: usize) -> Option<Operation>
-        requires { shard < length N.queues.names }
-    {
-        if let Some(operation) = takes.take(&self.rt, &self.shards, shard) {
-            return Some(operation);
-        }
-        self.bell.empty(shard);
-        let operation = takes.take(&self.rt, &self.shards, shard)?;
-        self.bell.fill(shard);
-        Some(operation)
+        let Some(queued) = worker.takes.take(&self.rt, &self.shards, shard) else {
+            return false;
+        };
+        let cause = queued.cause();
+        let operation = queued.into_operation();
+        let group = operation.group;
+        self.ask_gate(gate, shard, gate_number(&operation.carried));
+        self.turn(worker, fate, operation);
+        self.nudges.remove(group, cause);
+        true
     }
 
     /// Asks the gate. The other workers have the shard while it keeps a client's request.
-    fn pass<G: Gate>(&self, gate: &G, shard: usize, number: u64) {
+    fn ask_gate<G: Gate>(&self, gate: &G, shard: usize, number: u64) {
         if number == 0 {
             gate.before(0);
             return;
         }
-        self.bell.leave(&self.rt, shard);
+        self.schedule.release(shard);
+        if self.schedule.has_skipped() {
+            self.bell.ring(&self.rt);
+        }
         gate.before(number);
-        self.bell.enter(&self.rt, shard);
+        self.schedule.reclaim(&self.rt, shard);
     }
 
     /// Serves one operation.
@@ -200,25 +215,13 @@ impl<N: ClusterName, R: Wait> Running<N, R> {
         ensures { IsLostOrTurn N.classes carried result.items }
     {
         let nothing = Vec::new(self.alloc);
-        let Some(cell) = self.awake(node, group) else {
+        let Some(mut cell) = self.awake(node, group) else {
             return nothing;
         };
-        match self.turn_of(cell, carried) {
+        match cell.turn(self.alloc, &self.board, &self.table, carried) {
             Ok(out) => out,
             Err(_) => nothing,
         }
-    }
-
-    /// What goes out by a turn of that cell.
-    fn turn_of(
-        &self,
-        cell: &Mutex<GroupCell<N>>,
-        carried: Carried,
-    ) -> Result<Vec<Option<Outgoing<N>>>, NoMemory>
-        ensures { IfOk result (λ v. WasTurn N.classes carried v.items) }
-    {
-        cell.lock(&self.rt)
-            .turn(self.alloc, &self.board, &self.table, carried)
     }
 
     /// Sends it once more, if memory for the copy is there.
@@ -235,7 +238,7 @@ impl<N: ClusterName, R: Wait> Running<N, R> {
         ensures { OnlySent worker.old.sends worker.new.sends IsAny }
     {
         if delivery.is_refusal() {
-            self.deliver(&mut worker.sends, delivery);
+            self.deliver(&mut worker.sends, Cause::Event, delivery);
             return;
         }
         let mode = fate.of(worker.number, worker.messages);
@@ -262,7 +265,7 @@ impl<N: ClusterName, R: Wait> Running<N, R> {
         ensures { OnlySent sends.old sends.new IsAny }
     {
         if let Some(delivery) = delivery {
-            self.deliver(sends, delivery);
+            self.deliver(sends, Cause::Event, delivery);
         }
     }
 }

@@ -45,8 +45,14 @@ returns-clause-shared g c =
                           (
                             crossing.Vec-sync _ places.worker,
                             (
-                              search (crossing.crosses, sendable) depth 20,
-                              tt,
+                              search (crossing.crosses, sendable) depth 12,
+                              (
+                                search (crossing.crosses, sendable) depth 20,
+                                (
+                                  search (crossing.crosses, sendable) depth 20,
+                                  tt,
+                                ),
+                              ),
                             ),
                           ),
                         ),

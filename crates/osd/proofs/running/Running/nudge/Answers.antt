@@ -8,11 +8,17 @@ returns-then-group-self-clause-grew g c = only_grew (IsInternalTo c.args.group) 
 pub returns-then-group-self-clause-only : goal.returns-then-group-self-clause-only
 returns-then-group-self-clause-only g c = only_none _ _
 
+pub returns-then-not-begin-clause-grew : goal.returns-then-not-begin-clause-grew
+returns-then-not-begin-clause-grew g c = only_grew (IsInternalTo c.args.group) _ _ (only_none _ _)
+
+pub returns-then-not-begin-clause-only : goal.returns-then-not-begin-clause-only
+returns-then-not-begin-clause-only g c = only_none _ _
+
 pub loop-place-init : goal.loop-place-init
 loop-place-init g c = only_none _ _
 
 pub loop-place-preserved : goal.loop-place-preserved
-loop-place-preserved g c = only_several _ _ _ _ c.loop-place.invariant c.tell_late.ensures
+loop-place-preserved g c = only_several _ _ _ _ c.loop-place.invariant c.tell_if_behind.ensures
 
 pub loop-place-2-init : goal.loop-place-2-init
 loop-place-2-init g c = only_none _ _

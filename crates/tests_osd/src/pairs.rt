@@ -1,0 +1,446 @@
+//! Two workers side by side: what one has doesn't keep the other from the rest.
+ghost use Rattle.std.specs.Prelude.{◌≡◌};
+
+use crate::asking::{Calls, TURNS, config, lock, made};
+use crate::turns::name_in;
+use group_cell::{Post, Reply};
+use interp::ClassTable;
+use osd::{
+    ClusterName, Config, DeliveryMode, Fate, Gate, Open, Opened, Parts, PassAll, Running,
+    running_crosses,
+};
+use pg_log::Request;
+use placement::NodeId;
+use std::alloc::Global;
+use std::marker::Brand;
+use std::sync::Wait;
+use std::sync::atomic::{AtomicBool, AtomicU64, Ordering};
+use std::thread::{Threads, join, yield_now};
+
+/// The turns for which something is held at most.
+const HELD: u32 = 1_000_000;
+
+/// What both workers serve by.
+#[derive(Drop)]
+struct Pair<'a, G, F> {
+    gate: &'a G,
+    fate: &'a F,
+}
+
+/// Calls on a new cluster that has the class `lock`, while its two workers serve.
+fn served_by_two<C: Calls + Sync, G: Gate + Sync, F: Fate + Sync, R: Threads + Wait + Sync + Drop>(
+    rt: R,
+    alloc: Global,
+    config: Config,
+    calls: &C,
+    pair: &Pair<'_, G, F>,
+) -> Option<bool> {
+    let (parts, table) = made(alloc, config)?;
+    served_by_two_on::<Brand, C, G, F, R>(rt, alloc, parts, table, calls, pair)
+}
+
+fn served_by_two_on<
+    N: ClusterName + Send + Sync,
+    C: Calls + Sync,
+    G: Gate + Sync,
+    F: Fate + Sync,
+    R: Threads + Wait + Sync + Drop,
+>(
+    rt: R,
+    alloc: Global,
+    parts: Parts,
+    table: ClassTable,
+    calls: &C,
+    pair: &Pair<'_, G, F>,
+) -> Option<bool>
+    requires board { parts.board ≡ N.board }
+    requires queues { parts.queues ≡ N.queues }
+    requires config { parts.config ≡ N.config }
+    requires table { table ≡ N.classes }
+{
+    let running = Running::<N, R>::named(alloc, rt, parts, table).ok()?;
+    if !calls.begins(&running) {
+        return Some(false);
+    }
+    Some(while_both_serve(&running, calls, pair))
+}
+
+fn while_both_serve<
+    N: ClusterName + Send + Sync,
+    C: Calls + Sync,
+    G: Gate + Sync,
+    F: Fate + Sync,
+    R: Threads + Wait + Sync,
+>(running: &Running<N, R>, calls: &C, pair: &Pair<'_, G, F>) -> bool {
+    running_crosses::<N, R>();
+    let (_, done) = join(
+        running.runtime(),
+        || running.serve_with(0, pair.gate, pair.fate),
+        || while_second_serves(running, calls, pair),
+    );
+    done
+}
+
+fn while_second_serves<
+    N: ClusterName + Send + Sync,
+    C: Calls + Sync,
+    G: Gate + Sync,
+    F: Fate + Sync,
+    R: Threads + Wait + Sync,
+>(running: &Running<N, R>, calls: &C, pair: &Pair<'_, G, F>) -> bool {
+    running_crosses::<N, R>();
+    let (_, done) = join(
+        running.runtime(),
+        || running.serve_with(1, pair.gate, pair.fate),
+        || {
+            let done = calls.calls(running);
+            running.finish();
+            done
+        },
+    );
+    done
+}
+
+/// Whether that comes true.
+fn comes(flag: &AtomicBool) -> bool {
+    for _ in 0..TURNS {
+        if flag.load(Ordering::SeqCst) {
+            return true;
+        }
+        yield_now();
+    }
+    false
+}
+
+/// Something that is held once, until it is let go.
+#[derive(Drop)]
+struct Hold {
+    is_wanted: AtomicBool,
+    came: AtomicBool,
+    is_free: AtomicBool,
+    /// It was let go by the end of its turns.
+    ran_out: AtomicBool,
+}
+
+impl Hold {
+    fn new() -> Hold {
+        Hold {
+            is_wanted: AtomicBool::new(false),
+            came: AtomicBool::new(false),
+            is_free: AtomicBool::new(false),
+            ran_out: AtomicBool::new(false),
+        }
+    }
+
+    fn want(&self) {
+        self.is_wanted.store(true, Ordering::SeqCst);
+    }
+
+    fn free(&self) {
+        self.is_free.store(true, Ordering::SeqCst);
+    }
+
+    /// Who comes first once it is wanted is held here.
+    fn pass(&self) {
+        if !self.is_wanted.swap(false, Ordering::SeqCst) {
+            return;
+        }
+        self.came.store(true, Ordering::SeqCst);
+        for _ in 0..HELD {
+            if self.is_free.load(Ordering::SeqCst) {
+                return;
+            }
+            yield_now();
+        }
+        self.ran_out.store(true, Ordering::SeqCst);
+    }
+
+    /// Somebody was held, and let go by who was to.
+    fn was_in_time(&self) -> bool {
+        self.came.load(Ordering::SeqCst) && !self.ran_out.load(Ordering::SeqCst)
+    }
+}
+
+/// Whether a request that was sent once is answered by a reply: its place and its code. `Some(None)` where it is refused.
+fn reply_to<N: ClusterName, R: Wait>(
+    running: &Running<N, R>,
+    opened: &Opened<N>,
+    request: &Request,
+) -> Option<Option<(usize, i64)>> {
+    for _ in 0..TURNS {
+        match running.mail(opened.client) {
+            Some(post) if post.answers(request) => return Some(found(post)),
+            _ => yield_now(),
+        }
+    }
+    None
+}
+
+/// The place and the code of a reply.
+fn found<N: ClusterName>(post: Post<N>) -> Option<(usize, i64)> {
+    match post {
+        Post::Reply(reply) => Some(place_and_code(&reply)),
+        Post::Refused(refused) => {
+            drop(refused);
+            None
+        }
+    }
+}
+
+fn place_and_code<N: ClusterName>(reply: &Reply<N>) -> (usize, i64) {
+    (reply.place(), reply.code())
+}
+
+/// The place and the code of a request that is sent again only once it is refused. So nothing of it is under way afterwards.
+fn quiet_answer<N: ClusterName, R: Wait>(
+    running: &Running<N, R>,
+    opened: &mut Opened<N>,
+    request: &Request,
+) -> Option<(usize, i64)> {
+    for _ in 0..TURNS {
+        running.ask(&mut opened.sends, request).ok()?;
+        if let Some(answer) = reply_to(running, opened, request)? {
+            return Some(answer);
+        }
+    }
+    None
+}
+
+/// Holds a message of the nodes.
+impl Fate for Hold {
+    fn of(&self, _worker: usize, _n: u64) -> DeliveryMode {
+        self.pass();
+        DeliveryMode::Pass
+    }
+}
+
+/// A worker is held with the answer to a request of group 0, until a request of group 1 is answered.
+#[derive(Drop)]
+struct HeldAnswer {
+    alloc: Global,
+    fate: Hold,
+}
+
+/// A client, and two requests of an object.
+#[derive(Drop)]
+struct Client<N: ClusterName> {
+    opened: Opened<N>,
+    first: Request,
+    second: Request,
+}
+
+fn client_in<N: ClusterName, R: Wait>(
+    running: &Running<N, R>,
+    alloc: Global,
+    group: usize,
+) -> Option<Client<N>> {
+    let opened = running.open()?;
+    let name = name_in(running, alloc, group)?;
+    let first = lock(alloc, opened.client, 1, name)?;
+    let second = lock(alloc, opened.client, 2, name)?;
+    Some(Client {
+        opened,
+        first,
+        second,
+    })
+}
+
+impl<N: ClusterName> Client<N> {
+    fn calls_first<R: Wait>(&mut self, running: &Running<N, R>) -> bool {
+        quiet_answer(running, &mut self.opened, &self.first) == Some((0, 0))
+    }
+
+    fn calls_second<R: Wait>(&mut self, running: &Running<N, R>) -> bool {
+        quiet_answer(running, &mut self.opened, &self.second) == Some((1, 0))
+    }
+
+    fn asks_second<R: Wait>(&mut self, running: &Running<N, R>) -> bool {
+        running.ask(&mut self.opened.sends, &self.second).is_ok()
+    }
+
+    fn has_second<R: Wait>(&self, running: &Running<N, R>) -> bool {
+        reply_to(running, &self.opened, &self.second) == Some(Some((1, 0)))
+    }
+}
+
+impl Calls for HeldAnswer {
+    fn calls<N: ClusterName, R: Wait>(&self, running: &Running<N, R>) -> bool {
+        let Some(mut held) = client_in(running, self.alloc, 0) else {
+            return false;
+        };
+        let Some(mut other) = client_in(running, self.alloc, 1) else {
+            return false;
+        };
+        if !held.calls_first(running) || !other.calls_first(running) {
+            return false;
+        }
+        self.fate.want();
+        let has_come = held.asks_second(running) && comes(&self.fate.came);
+        let is_answered = other.calls_second(running);
+        self.fate.free();
+        has_come && is_answered && held.has_second(running) && self.fate.was_in_time()
+    }
+}
+
+// No lock is held while messages go out, nor one round all turns.
+#[test]
+fn a_message_of_one_shard_keeps_no_other_waiting(rt: HostRuntime) {
+    let alloc = rt.alloc();
+    let calls = HeldAnswer {
+        alloc,
+        fate: Hold::new(),
+    };
+    let pair = Pair {
+        gate: &Open,
+        fate: &calls.fate,
+    };
+    let done = served_by_two(rt, alloc, config(1, 1, 2, 2), &calls, &pair);
+    assert!(rt; done == Some(true));
+}
+
+/// Holds a map, and then the first request, and tells when the second request comes.
+#[derive(Drop)]
+struct Skipped {
+    alloc: Global,
+    map: Hold,
+    first: Hold,
+    second: AtomicBool,
+}
+
+impl Gate for Skipped {
+    fn before(&self, number: u64) {
+        match number % (1 << 32) {
+            0 => self.map.pass(),
+            1 => self.first.pass(),
+            _ => self.second.store(true, Ordering::SeqCst),
+        }
+    }
+}
+
+/// How long a worker is given to skip a shard and to wait.
+const PAUSE: u32 = 2_000;
+
+fn pause() {
+    for _ in 0..PAUSE {
+        yield_now();
+    }
+}
+
+impl Skipped {
+    /// Whether both requests are queued while a worker is held with a map, which has nothing go out since its node is stopped.
+    fn are_queued<N: ClusterName, R: Wait>(
+        &self,
+        running: &Running<N, R>,
+        client: &mut Client<N>,
+    ) -> bool {
+        self.map.want();
+        running.nudge(&mut client.opened.sends, 0);
+        comes(&self.map.came)
+            && running.ask(&mut client.opened.sends, &client.first).is_ok()
+            && running
+                .ask(&mut client.opened.sends, &client.second)
+                .is_ok()
+    }
+}
+
+impl Calls for Skipped {
+    fn begins<N: ClusterName, R: Wait>(&self, running: &Running<N, R>) -> bool {
+        running.stop(NodeId::new(0)).is_ok()
+    }
+
+    /// Whether the second request comes while the first is held.
+    fn calls<N: ClusterName, R: Wait>(&self, running: &Running<N, R>) -> bool {
+        let Some(mut client) = client_in(running, self.alloc, 0) else {
+            return false;
+        };
+        // The workers lose the first map.
+        pause();
+        self.first.want();
+        let are_queued = self.are_queued(running, &mut client);
+        // The other worker skips the shard, finds nothing else, and waits.
+        pause();
+        self.map.free();
+        let has_come = comes(&self.first.came) && comes(&self.second);
+        self.first.free();
+        are_queued && has_come && self.map.was_in_time() && self.first.was_in_time()
+    }
+}
+
+#[test]
+fn a_worker_that_skipped_a_shard_is_woken_for_it(rt: HostRuntime) {
+    let alloc = rt.alloc();
+    let calls = Skipped {
+        alloc,
+        map: Hold::new(),
+        first: Hold::new(),
+        second: AtomicBool::new(false),
+    };
+    let pair = Pair {
+        gate: &calls,
+        fate: &PassAll,
+    };
+    let done = served_by_two(rt, alloc, config(1, 1, 1, 2), &calls, &pair);
+    assert!(rt; done == Some(true));
+}
+
+/// Counts who is at the gate with a map.
+#[derive(Drop)]
+struct Inside {
+    alloc: Global,
+    inside: AtomicU64,
+    came: AtomicU64,
+    are_two: AtomicBool,
+}
+
+impl Gate for Inside {
+    fn before(&self, number: u64) {
+        if number != 0 {
+            return;
+        }
+        self.came.fetch_add(1, Ordering::SeqCst);
+        if self.inside.fetch_add(1, Ordering::SeqCst) != 0 {
+            self.are_two.store(true, Ordering::SeqCst);
+        }
+        pause();
+        self.inside.fetch_sub(1, Ordering::SeqCst);
+    }
+}
+
+impl Calls for Inside {
+    fn begins<N: ClusterName, R: Wait>(&self, running: &Running<N, R>) -> bool {
+        running.stop(NodeId::new(0)).is_ok() && running.stop(NodeId::new(1)).is_ok()
+    }
+
+    /// Whether the maps of the two nodes come one after the other, the first ones and those that a nudge hands on.
+    fn calls<N: ClusterName, R: Wait>(&self, running: &Running<N, R>) -> bool {
+        let Some(mut client) = client_in(running, self.alloc, 0) else {
+            return false;
+        };
+        for _ in 0..TURNS {
+            if self.came.load(Ordering::SeqCst) >= 4 {
+                break;
+            }
+            running.nudge(&mut client.opened.sends, 0);
+            yield_now();
+        }
+        pause();
+        self.came.load(Ordering::SeqCst) >= 4 && !self.are_two.load(Ordering::SeqCst)
+    }
+}
+
+#[test]
+fn a_shard_is_served_by_one_worker_at_a_time(rt: HostRuntime) {
+    let alloc = rt.alloc();
+    let calls = Inside {
+        alloc,
+        inside: AtomicU64::new(0),
+        came: AtomicU64::new(0),
+        are_two: AtomicBool::new(false),
+    };
+    let pair = Pair {
+        gate: &calls,
+        fate: &PassAll,
+    };
+    let done = served_by_two(rt, alloc, config(2, 2, 1, 2), &calls, &pair);
+    assert!(rt; done == Some(true));
+}
