@@ -380,6 +380,29 @@ try_refusals() {
     for page in README.md docs/PROVED.md; do knows 'tools/refuse.sh'; done
 }
 
+# The library and its hosts: tools/embed.sh has their commands, with its own folders.
+try_library() {
+    local command
+    on docs/EMBED.md "$top"
+    for command in 'tools/library.sh' 'tools/library.sh lib' 'tools/embed.sh' 'cc -I lib host.c lib/libsillarnica.a -o host' 'cc -shared -Wl,--whole-archive libsillarnica.a -Wl,--no-whole-archive -o libsillarnica.so'; do
+        by tools/embed.sh "$command"
+    done
+    on docs/CONTRIBUTING.md "$top"
+    by tools/embed.sh 'tools/library.sh'
+    for page in docs/CONTRIBUTING.md docs/GATE.md; do by "the gate" 'tools/embed.sh'; done
+}
+
+# The plug-in: ceph/test.sh has its commands, with its own folder and pool.
+try_plugin() {
+    local command
+    on docs/CEPH.md "$top"
+    for command in 'ceph/package.sh /tmp/bpf' 'dpkg -i /tmp/bpf/sillarnica-ceph_*.deb' 'ceph/demo.sh' \
+        'radosbpf -p POOL load account lock lock.img' 'radosbpf -p POOL call account lock lock'; do
+        by ceph/test.sh "$command"
+    done
+    for page in docs/CEPH.md docs/GATE.md; do by "the gate" 'ceph/test.sh'; done
+}
+
 # The commands that pages have: lines of blocks that begin with a command's name, and words in backticks.
 commands() {
     local names='(radoscls|rt|clang|llvm-[a-z]*|sh|cc|python3|bash|cat|cd|rm|find|for|tools/[a-z.]*|\./[a-z/]*) '
@@ -426,6 +449,8 @@ try_docs
 try_all_c
 try_tools
 try_refusals
+try_library
+try_plugin
 know_forms
 find_others
 echo "$ok ok, $differ differ, $left not run, $elsewhere run elsewhere"

@@ -1,0 +1,2 @@
+-- A reader must believe Answers: what the calls on bytes give.
+pub mod Answers

@@ -1,0 +1,15 @@
+//! A law of the answers, proved as the contract of a function that does nothing.
+
+ghost use Rattle.std.specs.Prelude.{◌≡◌, ◌⊎◌, ℕ, List};
+ghost use Rattle.class_calls.specs.Answers.{IsAnswered, IsWant, RefusesCall};
+ghost use Rattle.class_calls.specs.declared.answer.Answer.{Answer};
+ghost use Rattle.class_calls.specs.declared.answer.AnswerError.{AnswerError};
+
+/// But for want of memory a call is refused for one reason alone, or answered and not refused.
+pub fn one_answer()
+    ensures refusal { (image name object input : List ℕ) (e f : AnswerError) → RefusesCall image name object input e → RefusesCall image name object input f → IsWant e ⊎ (IsWant f ⊎ (e ≡ f)) }
+    ensures answer { (image name object input : List ℕ) (caller : ℕ) (answer : Answer) (e : AnswerError) → IsAnswered image name object caller input answer → RefusesCall image name object input e → IsWant e }
+{
+    bpf_decode::one_class();
+    bpf_decode::round_trip();
+}

@@ -1,0 +1,10 @@
+pub mod Lines
+pub mod Entries
+pub mod Maps
+pub mod Fields
+pub mod Turns
+pub mod Bytes
+pub mod Again
+pub mod DataMade
+pub mod NamesMade
+pub mod Made

@@ -1,0 +1,36 @@
+-- What is written of the first entries of a list, one after the other.
+use Rattle.std.proofs.Common.{◌≡◌, ◌∙◌, ◌+◌, ℕ, zero, suc, List, [], ◌∷◌, ◌++◌, Some, None, refl, ap, sym, arith, take}
+use Rattle.std.specs.Prelude.{slice_get}
+use Rattle.std.specs.List.{flat_map}
+use Rattle.std.proofs.lemmas.List.{append-nil, append_assoc}
+use Rattle.std.proofs.lemmas.Option.{none-some, same_Some}
+use Rattle.object_bytes.specs.Edits.{Edit, edit_bytes, spelled}
+
+module _ {A : Type 0} (f : A → List ℕ) where
+  one_more : (es : List A) (n : ℕ) (e : A) → slice_get es n ≡ Some e → flat_map f (take (suc n) es) ≡ flat_map f (take n es) ++ f e
+  one_more [] n e at = absurd (none-some e at)
+  one_more (x ∷ es) zero e at = append-nil (f x) ∙ ap f (same_Some x e at)
+  one_more (x ∷ es) (suc n) e at = ap (λ more. f x ++ more) (one_more es n e at) ∙ sym (append_assoc (f x) (flat_map f (take n es)) (f e))
+
+  none_more : (es : List A) (n : ℕ) → slice_get es n ≡ None → flat_map f (take (suc n) es) ≡ flat_map f (take n es)
+  none_more [] zero at = refl
+  none_more [] (suc n) at = refl
+  none_more (x ∷ es) zero at = absurd (none-some x (sym at))
+  none_more (x ∷ es) (suc n) at = ap (λ more. f x ++ more) (none_more es n at)
+
+  -- the next entry
+  pub lines_more : (es : List A) (n : ℕ) (e : A) → slice_get es n ≡ Some e → flat_map f (take (n + 1) es) ≡ flat_map f (take n es) ++ f e
+  lines_more es n e at = let one : n + 1 ≡ suc n = omega arith in ap (λ k. flat_map f (take k es)) one ∙ one_more es n e at
+
+  -- past the last
+  pub lines_over : (es : List A) (n : ℕ) → slice_get es n ≡ None → flat_map f (take (n + 1) es) ≡ flat_map f (take n es)
+  lines_over es n at = let one : n + 1 ≡ suc n = omega arith in ap (λ k. flat_map f (take k es)) one ∙ none_more es n at
+
+append_flat : {B : Type 0} (g : B → List ℕ) (xs ys : List B) → flat_map g (xs ++ ys) ≡ flat_map g xs ++ flat_map g ys
+append_flat g [] ys = refl
+append_flat g (x ∷ xs) ys = ap (λ more. g x ++ more) (append_flat g xs ys) ∙ sym (append_assoc (g x) (flat_map g xs) (flat_map g ys))
+
+-- the edits of all entries, written
+pub spelled_all : {A : Type 0} (g : A → List Edit) (es : List A) → spelled (flat_map g es) ≡ flat_map (λ e. spelled (g e)) es
+spelled_all g [] = refl
+spelled_all g (e ∷ es) = append_flat edit_bytes (g e) (flat_map g es) ∙ ap (λ more. spelled (g e) ++ more) (spelled_all g es)

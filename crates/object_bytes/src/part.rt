@@ -1,0 +1,49 @@
+//! The two parts of an object that have names: its xattrs, and its keys.
+
+ghost use Rattle.std.specs.Prelude.{◌≡◌, ◌<◌, IfSome, length};
+ghost use Rattle.std.specs.Option.{option_copied};
+ghost use Rattle.std.specs.FinMap as fin;
+ghost use Rattle.shared_map.specs.Entries.{nth, entry_behind};
+ghost use Rattle.object_bytes.specs.Part.{names, IsShort};
+
+use object_store::Object;
+
+/// Which part.
+#[derive(Clone, Copy)]
+pub(crate) enum Part {
+    Xattrs,
+    Keys,
+}
+
+/// How many names it has.
+pub(crate) fn count_of(part: Part, object: &Object) -> usize
+    ensures value { result ≡ fin.len (names part object.now) }
+    ensures fits { result < 65536 }
+{
+    match part {
+        Part::Xattrs => object.xattr_count(),
+        Part::Keys => object.key_count(),
+    }
+}
+
+/// The entry at a place in the order of the names, from 0 on.
+pub(crate) fn entry_of<'a>(part: Part, object: &'a Object, n: usize) -> Option<(&'a [u8], &'a [u8])>
+    ensures entry { entry_behind result ≡ nth (names part object.now) n }
+    ensures short { IfSome result (λ e. IsShort (e.0.now, e.1.now)) }
+{
+    object.within();
+    match part {
+        Part::Xattrs => object.xattr_at(n),
+        Part::Keys => object.key_at(n),
+    }
+}
+
+/// The value of a name.
+pub(crate) fn value_of<'a>(part: Part, object: &'a Object, name: &[u8]) -> Option<&'a [u8]>
+    ensures { option_copied result ≡ fin.get (names part object.now) name.now }
+{
+    match part {
+        Part::Xattrs => object.xattr(name),
+        Part::Keys => object.key(name),
+    }
+}

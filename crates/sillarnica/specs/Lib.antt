@@ -1,0 +1,2 @@
+-- A reader must believe Told: what each answer says.
+pub mod Told

@@ -1,0 +1,192 @@
+-- What C is told: each answer with its condition, what is written then, and what stays as it was.
+use Rattle.std.specs.Prelude.{◌≡◌, ◌⊎◌, Bool, true, false, ℕ, ℤ, pos, negsuc, ◌≤◌, ◌<◌, ◌++◌, List, Option, Some, None, Err, if◌then◌else◌, nat_lt, length, take}
+use Rattle.std.specs.Borrow.{Bor}
+use Rattle.bpf_decode.specs.Class.{ClassMethod, Class, IsImage}
+use Rattle.bpf_decode.specs.ImageReading.{image_of}
+use Rattle.bpf_decode.specs.Refusal.{number_of, slot_of, image_text_of}
+use Rattle.bpf_decode.specs.declared.image_error.ImageError.{ImageError}
+use Rattle.verifier.specs.Verified.{method_named}
+use Rattle.verifier.specs.RuleNumber.{rule_number, refusal_text}
+use Rattle.verifier.specs.declared.refusal.Refusal.{Refusal}
+use Rattle.object_store.specs.Edits.{overlaid}
+use Rattle.class_calls.specs.Answers.{IsLoaded, RefusesClass, IsAnswered, HasNoMethod, TakesNoInput, HasNoObject}
+use Rattle.class_calls.specs.declared.answer.Answer.{Answer}
+use Rattle.sillarnica.specs.declared.told.ToldRefusal.{ToldRefusal}
+use Rattle.sillarnica.specs.declared.told.ToldAnswer.{ToldAnswer}
+
+-- a slot as C sees it, -1 where there is none (or one that no method has room for)
+abbrev pub slot_number : Option ℕ → ℤ
+slot_number None = negsuc 0
+slot_number (Some slot) = if nat_lt slot 9223372036854775808 then pos slot else negsuc 0
+
+-- the image is refused, after as many methods, and the reason says so
+pub record TellsImage (image : List ℕ) (why : ToldRefusal) : Type 0 where
+  pub error : ImageError
+  pub refused : image_of image ≡ Err error
+  pub kind : why.kind ≡ 1
+  pub number : why.number ≡ number_of error.error
+  pub method : why.method ≡ error.methods
+  pub slot : why.slot ≡ slot_number (slot_of error.error)
+
+-- a rule refuses the class, and the reason says which and where
+pub record TellsVerdict (image : List ℕ) (why : ToldRefusal) : Type 0 where
+  pub refusal : Refusal
+  pub refused : RefusesClass image refusal
+  pub kind : why.kind ≡ 2
+  pub number : why.number ≡ rule_number refusal.rule
+  pub method : why.method ≡ refusal.method
+  pub slot : why.slot ≡ slot_number (Some refusal.slot)
+
+-- no rule refuses the image's class, and each method of it is safe
+pub record IsAccepted (image : List ℕ) : Type 0 where
+  pub class : List ClassMethod
+  pub loaded : IsLoaded image class
+
+-- why there is no class: 1 the image, 2 the verdict, -12 memory
+abbrev pub TellsClass : List ℕ → ToldRefusal → ToldRefusal → ℤ → Type 0
+TellsClass image old new result =
+    ((result ≡ pos 1) × TellsImage image new)
+    ⊎ (((result ≡ pos 2) × TellsVerdict image new)
+    ⊎ ((result ≡ negsuc 11) × (new ≡ old)))
+
+-- ---- the verdict
+abbrev pub TellsVerify : List ℕ → ToldRefusal → ToldRefusal → ℤ → Type 0
+TellsVerify image old new result = ((result ≡ pos 0) × IsAccepted image × (new ≡ old)) ⊎ TellsClass image old new result
+
+-- ---- its line: as many bytes as fit, and how many it has
+abbrev pub Writes : List ℕ → List ℕ → List ℕ → ℤ → Type 0
+Writes line old new result = (result ≡ pos (length line)) × (new ≡ overlaid (take (length old) line) old)
+
+-- the same, or -12 and nothing
+abbrev pub WritesOrNot : List ℕ → List ℕ → List ℕ → ℤ → Type 0
+WritesOrNot line old new result = Writes line old new result ⊎ ((result ≡ negsuc 11) × (new ≡ old))
+
+pub record ExplainsImage (image old new : List ℕ) (result : ℤ) : Type 0 where
+  pub error : ImageError
+  pub refused : image_of image ≡ Err error
+  pub written : Writes (image_text_of error) old new result
+
+pub record ExplainsVerdict (image old new : List ℕ) (result : ℤ) : Type 0 where
+  pub refusal : Refusal
+  pub refused : RefusesClass image refusal
+  pub written : Writes (refusal_text refusal) old new result
+
+abbrev pub ExplainsClass : List ℕ → List ℕ → List ℕ → ℤ → Type 0
+ExplainsClass image old new result =
+    ExplainsImage image old new result
+    ⊎ (ExplainsVerdict image old new result
+    ⊎ ((result ≡ negsuc 11) × (new ≡ old)))
+
+abbrev pub TellsExplain : List ℕ → List ℕ → List ℕ → ℤ → Type 0
+TellsExplain image old new result = ((result ≡ pos 0) × IsAccepted image × (new ≡ old)) ⊎ ExplainsClass image old new result
+
+-- ---- what a method declares
+pub record Declared : Type 0 where
+  pub flags : ℕ
+  pub in_cap : ℕ
+  pub out_cap : ℕ
+
+pub record Declares (image name : List ℕ) (told : Declared) : Type 0 where
+  pub written : Class
+  pub spelled : IsImage image written
+  pub method : ClassMethod
+  pub named : method_named written.methods name ≡ Some method
+  pub flags : told.flags ≡ method.flags
+  pub in_cap : told.in_cap ≡ method.in_cap
+  pub out_cap : told.out_cap ≡ method.out_cap
+
+pub record SpellsNoMethod (image name : List ℕ) : Type 0 where
+  pub written : Class
+  pub spelled : IsImage image written
+  pub none : method_named written.methods name ≡ None
+
+pub record SpellsNoClass (image : List ℕ) : Type 0 where
+  pub error : ImageError
+  pub refused : image_of image ≡ Err error
+
+abbrev pub TellsMethod : List ℕ → List ℕ → Declared → Declared → ℤ → Type 0
+TellsMethod image name old new result =
+    ((result ≡ pos 0) × Declares image name new)
+    ⊎ (((result ≡ pos 1) × SpellsNoClass image × (new ≡ old))
+    ⊎ (((result ≡ negsuc 94) × SpellsNoMethod image name × (new ≡ old))
+    ⊎ ((result ≡ negsuc 11) × (new ≡ old))))
+
+-- what the code finds
+abbrev pub given : Option (Bor ClassMethod) → Option ClassMethod
+given None = None
+given (Some m) = Some m.now
+
+-- ---- which parts of an object a method needs: all
+pub record SpellsMethod (image name : List ℕ) : Type 0 where
+  pub written : Class
+  pub spelled : IsImage image written
+  pub method : ClassMethod
+  pub named : method_named written.methods name ≡ Some method
+
+abbrev pub TellsNeeds : List ℕ → List ℕ → ℤ → Type 0
+TellsNeeds image name result =
+    ((result ≡ pos 7) × SpellsMethod image name)
+    ⊎ (((result ≡ negsuc 94) × (SpellsNoClass image ⊎ SpellsNoMethod image name))
+    ⊎ (result ≡ negsuc 11))
+
+-- ---- a call
+
+-- what is behind the three pointers
+pub record Memory : Type 0 where
+  pub refusal : ToldRefusal
+  pub answer : ToldAnswer
+  pub out : List ℕ
+
+-- the output, and then the edits
+abbrev pub written : Answer → List ℕ
+written answer = answer.output.items ++ answer.edits.items
+
+-- the numbers are the answer's
+pub record TellsAnswer (answer : Answer) (told : ToldAnswer) : Type 0 where
+  pub code : told.code ≡ answer.code
+  pub steps : told.steps ≡ answer.steps
+  pub output_len : told.output_len ≡ length answer.output.items
+  pub edits_len : told.edits_len ≡ length answer.edits.items
+
+-- whether the buffer has room, and what it is then
+abbrev pub HasRoom : Answer → List ℕ → List ℕ → Bool → Type 0
+HasRoom answer old new true = (length (written answer) ≤ length old) × (new ≡ overlaid (written answer) old)
+HasRoom answer old new false = (length old < length (written answer)) × (new ≡ old)
+
+-- 0: the answer, and the buffer begins with what it has to say
+pub record IsCalled (image name object : List ℕ) (caller : ℕ) (input : List ℕ) (old new : Memory) : Type 0 where
+  pub answer : Answer
+  pub answered : IsAnswered image name object caller input answer
+  pub told : TellsAnswer answer new.answer
+  pub room : length (written answer) ≤ length old.out
+  pub out : new.out ≡ overlaid (written answer) old.out
+  pub refusal : new.refusal ≡ old.refusal
+
+-- -34: the answer, which the buffer has no room for
+pub record HasNoRoom (image name object : List ℕ) (caller : ℕ) (input : List ℕ) (old new : Memory) : Type 0 where
+  pub answer : Answer
+  pub answered : IsAnswered image name object caller input answer
+  pub told : TellsAnswer answer new.answer
+  pub small : length old.out < length (written answer)
+  pub out : new.out ≡ old.out
+  pub refusal : new.refusal ≡ old.refusal
+
+-- why there is no answer: 1, 2, -95, -7, -22 or -12
+abbrev pub TellsRefused : List ℕ → List ℕ → List ℕ → List ℕ → ToldRefusal → ToldRefusal → ℤ → Type 0
+TellsRefused image name object input old new result =
+    TellsClass image old new result
+    ⊎ (((result ≡ negsuc 94) × HasNoMethod image name × (new ≡ old))
+    ⊎ (((result ≡ negsuc 6) × TakesNoInput image name input × (new ≡ old))
+    ⊎ ((result ≡ negsuc 21) × HasNoObject image name object input × (new ≡ old))))
+
+-- such an answer, and nothing else is written
+pub record IsRefused (image name object input : List ℕ) (old new : Memory) (result : ℤ) : Type 0 where
+  pub told : TellsRefused image name object input old.refusal new.refusal result
+  pub answer : new.answer ≡ old.answer
+  pub out : new.out ≡ old.out
+
+abbrev pub TellsCall : List ℕ → List ℕ → List ℕ → ℕ → List ℕ → Memory → Memory → ℤ → Type 0
+TellsCall image name object caller input old new result =
+    ((result ≡ pos 0) × IsCalled image name object caller input old new)
+    ⊎ (((result ≡ negsuc 33) × HasNoRoom image name object caller input old new)
+    ⊎ IsRefused image name object input old new result)

@@ -1,0 +1,85 @@
+//! The calls of verified classes for C; `include/sillarnica.h` declares them. Each is a function of its arguments: the caller
+//! owns all memory before and after, nothing is kept, and there is no state, so any number of calls may run at once.
+#![tactic(auto)]
+
+ghost use Rattle.std.specs.Prelude.{◌≡◌, pos};
+ghost use Rattle.sillarnica.specs.Told.{TellsVerify, TellsExplain, TellsMethod, TellsNeeds, TellsCall};
+
+mod call;
+mod method;
+mod told;
+mod verify;
+
+use std::alloc::Global;
+pub use told::{ToldAnswer, ToldRefusal};
+
+/// The version of these calls, of the flat form, of the edits and of the structs: 1.
+#[unsafe(no_mangle)]
+pub extern "C" fn sillarnica_version() -> u32
+    ensures { result ≡ 1 }
+{
+    1
+}
+
+/// Whether the image spells a class that no rule refuses: 0; 1 or 2 with the reason; or -12.
+#[unsafe(no_mangle)]
+pub extern "C" fn sillarnica_verify(alloc: Global, image: &[u8], refusal: &mut ToldRefusal) -> i32
+    ensures { TellsVerify image.now refusal.old refusal.new result }
+{
+    verify::verify(alloc, image, refusal)
+}
+
+/// The line that says why the image or the class is refused: how many bytes it has, and into the buffer as many as fit;
+/// 0 if the class is accepted; or -12.
+#[unsafe(no_mangle)]
+pub extern "C" fn sillarnica_explain(alloc: Global, image: &[u8], text: &mut [u8]) -> i64
+    ensures { TellsExplain image.now text.old text.new result }
+{
+    verify::explain(alloc, image, text)
+}
+
+/// What a method declares: its flags (1 reads, 2 writes, 3 both) and the most bytes of its input and output: 0; 1 if the bytes
+/// are no image; -95 if it has no method of that name; or -12. No rule is asked.
+#[unsafe(no_mangle)]
+pub extern "C" fn sillarnica_method(
+    alloc: Global,
+    image: &[u8],
+    method: &[u8],
+    flags: &mut u32,
+    in_cap: &mut u32,
+    out_cap: &mut u32,
+) -> i32
+    ensures { TellsMethod image.now method.now (record { flags = flags.old; in_cap = in_cap.old; out_cap = out_cap.old }) (record { flags = flags.new; in_cap = in_cap.new; out_cap = out_cap.new }) result }
+{
+    method::declared(alloc, image, method, flags, in_cap, out_cap)
+}
+
+/// Which parts of an object a method can see or change: 1 data, 2 xattrs, 4 keys, added. It answers 7 of every method.
+#[unsafe(no_mangle)]
+pub extern "C" fn sillarnica_needs(alloc: Global, image: &[u8], method: &[u8]) -> i32
+    ensures { TellsNeeds image.now method.now result }
+{
+    method::needs(alloc, image, method)
+}
+
+/// Calls a method of the image's class on an object in its flat form: 0, and the buffer begins with the output and then the
+/// edits; 1 or 2 with the reason; -95 no such method; -7 the input is too long; -22 the bytes are no object's flat form;
+/// -12; or -34, if the buffer is too small for what `answer` says. Of several refusals it is the first in this order.
+#[unsafe(no_mangle)]
+pub extern "C" fn sillarnica_call(
+    alloc: Global,
+    image: &[u8],
+    method: &[u8],
+    object: &[u8],
+    caller: u32,
+    input: &[u8],
+    refusal: &mut ToldRefusal,
+    answer: &mut ToldAnswer,
+    out: &mut [u8],
+) -> i32
+    ensures { TellsCall image.now method.now object.now caller input.now (record { refusal = refusal.old; answer = answer.old; out = out.old }) (record { refusal = refusal.new; answer = answer.new; out = out.new }) result }
+{
+    call::call(
+        alloc, image, method, object, caller, input, refusal, answer, out,
+    )
+}

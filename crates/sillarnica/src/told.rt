@@ -1,0 +1,118 @@
+//! What C is told, and what the refusals are there.
+
+ghost use Rattle.std.specs.Prelude.{◌≡◌, Err};
+ghost use Rattle.bpf_decode.specs.ImageReading.{image_of};
+ghost use Rattle.class_calls.specs.Answers.{RefusesClass, RefusesImage};
+ghost use Rattle.sillarnica.specs.Told.{slot_number, TellsAnswer, TellsImage, TellsVerdict, TellsClass};
+
+use bpf_decode::ImageError;
+use class_calls::{Answer, ClassError};
+use verifier::Refusal;
+
+/// Why a class is refused. Kind 1: the image, after `method` methods, by the refusal `number`; `slot` is -1 where it names
+/// none. Kind 2: the verdict, by the rule `number` at that method and slot.
+#[repr(C)]
+#[derive(Drop)]
+pub struct ToldRefusal {
+    pub kind: u32,
+    pub number: u32,
+    pub method: u64,
+    pub slot: i64,
+}
+
+/// What a call answers: the method's code, the instructions executed, and how many bytes of output and of edits there are.
+#[repr(C)]
+#[derive(Drop)]
+pub struct ToldAnswer {
+    pub code: i64,
+    pub steps: u64,
+    pub output_len: u64,
+    pub edits_len: u64,
+}
+
+/// The image is refused.
+pub(crate) const IMAGE: i32 = 1;
+
+/// A rule refuses the class.
+pub(crate) const VERDICT: i32 = 2;
+
+/// Memory was refused.
+pub(crate) const NO_MEMORY: i32 = -12;
+
+/// The class has no method of that name.
+pub(crate) const NO_METHOD: i32 = -95;
+
+/// The input is longer than the method takes.
+pub(crate) const INPUT_TOO_LONG: i32 = -7;
+
+/// The bytes spell no object.
+pub(crate) const MALFORMED: i32 = -22;
+
+/// The buffer is too small.
+pub(crate) const NO_ROOM: i32 = -34;
+
+/// A slot as C sees it, -1 where there is none. No slot is past what fits: a method has far fewer.
+fn slot_number(slot: Option<usize>) -> i64
+    ensures { result ≡ slot_number slot }
+{
+    match slot {
+        Some(slot) => {
+            if slot < 9_223_372_036_854_775_808 {
+                slot as i64
+            } else {
+                -1
+            }
+        }
+        None => -1,
+    }
+}
+
+/// Says that the image is refused.
+fn tell_image(image: &[u8], why: &mut ToldRefusal, error: ImageError)
+    requires { image_of image.now ≡ Err error }
+    ensures { TellsImage image.now why.new }
+{
+    why.kind = 1;
+    why.number = u32::from(error.error.number());
+    why.method = error.methods as u64;
+    why.slot = slot_number(error.error.slot());
+}
+
+/// Says that a rule refuses the class.
+fn tell_verdict(image: &[u8], why: &mut ToldRefusal, refusal: Refusal)
+    requires { RefusesClass image.now refusal }
+    ensures { TellsVerdict image.now why.new }
+{
+    why.kind = 2;
+    why.number = u32::from(refusal.rule.number());
+    why.method = refusal.method as u64;
+    why.slot = slot_number(Some(refusal.slot));
+}
+
+/// Says why an image gives no class: 1, 2 or -12.
+pub(crate) fn tell_class(image: &[u8], why: &mut ToldRefusal, error: ClassError) -> i32
+    requires { RefusesImage image.now error }
+    ensures { TellsClass image.now why.old why.new result }
+{
+    match error {
+        ClassError::Image(error) => {
+            tell_image(image, why, error);
+            IMAGE
+        }
+        ClassError::Verdict(refusal) => {
+            tell_verdict(image, why, refusal);
+            VERDICT
+        }
+        ClassError::NoMemory => NO_MEMORY,
+    }
+}
+
+/// Says what a call answers.
+pub(crate) fn tell_answer(told: &mut ToldAnswer, answer: &Answer)
+    ensures { TellsAnswer answer.now told.new }
+{
+    told.code = answer.code;
+    told.steps = answer.steps as u64;
+    told.output_len = answer.output.len() as u64;
+    told.edits_len = answer.edits.len() as u64;
+}

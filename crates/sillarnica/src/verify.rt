@@ -1,0 +1,79 @@
+//! The verdict, and its line.
+
+ghost use Rattle.std.specs.Prelude.{◌<◌, ◌^◌, length};
+ghost use Rattle.bpf_decode.specs.Refusal.{image_text_of};
+ghost use Rattle.verifier.specs.RuleNumber.{refusal_text};
+ghost use Rattle.class_calls.specs.Answers.{RefusesImage};
+ghost use Rattle.sillarnica.specs.Told.{TellsVerify, TellsExplain, ExplainsClass, Writes, WritesOrNot};
+
+use crate::told::{NO_MEMORY, ToldRefusal, tell_class};
+use bpf_decode::ImageError;
+use class_calls::{ClassError, load};
+use std::alloc::Global;
+use verifier::Refusal;
+
+pub(crate) fn verify(alloc: Global, image: &[u8], why: &mut ToldRefusal) -> i32
+    ensures { TellsVerify image.now why.old why.new result }
+{
+    match load(alloc, image) {
+        Ok(_class) => 0,
+        Err(error) => tell_class(image, why, error),
+    }
+}
+
+/// Copies as many bytes as fit, and answers how many there are.
+fn write_line(line: &[u8], text: &mut [u8]) -> i64
+    requires { length line.now < 2 ^ 63 }
+    ensures { Writes line.now text.old text.new result }
+{
+    let fits = if line.len() < text.len() {
+        line.len()
+    } else {
+        text.len()
+    };
+    let (front, _) = line.split_at(fits);
+    let (begin, _) = text.split_at_mut(fits);
+    begin.copy_from_slice(front);
+    line.len() as i64
+}
+
+/// The line of a refused image; -12 where memory is refused.
+fn explain_image(alloc: Global, error: ImageError, text: &mut [u8]) -> i64
+    ensures { WritesOrNot (image_text_of error) text.old text.new result }
+{
+    match format!(in alloc; "{error}") {
+        Ok(line) => write_line(line.as_bytes(), text),
+        Err(_) => i64::from(NO_MEMORY),
+    }
+}
+
+/// The line of a verdict; -12 where memory is refused.
+fn explain_verdict(alloc: Global, refusal: Refusal, text: &mut [u8]) -> i64
+    ensures { WritesOrNot (refusal_text refusal) text.old text.new result }
+{
+    match format!(in alloc; "{refusal}") {
+        Ok(line) => write_line(line.as_bytes(), text),
+        Err(_) => i64::from(NO_MEMORY),
+    }
+}
+
+/// The line of a refusal.
+fn explain_class(alloc: Global, image: &[u8], error: ClassError, text: &mut [u8]) -> i64
+    requires { RefusesImage image.now error }
+    ensures { ExplainsClass image.now text.old text.new result }
+{
+    match error {
+        ClassError::Image(error) => explain_image(alloc, error, text),
+        ClassError::Verdict(refusal) => explain_verdict(alloc, refusal, text),
+        ClassError::NoMemory => i64::from(NO_MEMORY),
+    }
+}
+
+pub(crate) fn explain(alloc: Global, image: &[u8], text: &mut [u8]) -> i64
+    ensures { TellsExplain image.now text.old text.new result }
+{
+    match load(alloc, image) {
+        Ok(_class) => 0,
+        Err(error) => explain_class(alloc, image, error, text),
+    }
+}

@@ -1,0 +1,86 @@
+//! Each answer of a call on bytes.
+
+use crate::images::{LEAST, UNSET, WRITE};
+use class_calls::{AnswerError, ClassError, answer_on, load};
+use std::alloc::Global;
+
+/// An answer's number as C has it; of an answer whether it is 0, has those steps and those edits.
+fn number(alloc: Global, call: &Call) -> i32 {
+    match answer_on(alloc, call.0, call.1, call.2, 7, call.3) {
+        Ok(answer) => {
+            let is_same = answer.code == call.5
+                && answer.steps == call.6
+                && answer.output.is_empty()
+                && answer.edits.as_slice() == call.7;
+            if is_same { 0 } else { 99 }
+        }
+        Err(AnswerError::Class(ClassError::Image(_))) => 1,
+        Err(AnswerError::Class(ClassError::Verdict(_))) => 2,
+        Err(AnswerError::Class(ClassError::NoMemory)) => -12,
+        Err(AnswerError::NoMethod) => -95,
+        Err(AnswerError::InputTooLong) => -7,
+        Err(AnswerError::Malformed) => -22,
+        Err(AnswerError::NoMemory) => -12,
+    }
+}
+
+/// Image, method, object, input; the number, and of an answer its code, steps and edits.
+type Call = (
+    &'static [u8],
+    &'static [u8],
+    &'static [u8],
+    &'static [u8],
+    i32,
+    i64,
+    usize,
+    &'static [u8],
+);
+
+/// An object of the byte `x` alone.
+const ONE: [u8; 10] = [1, 1, 0, 0, 0, 0x78, 0, 0, 0, 0];
+
+#[rattlefmt::skip]
+const CALLS: [Call; 13] = [
+    (&LEAST, b"f", &[0], b"", 0, 0, 2, &[]),
+    (&LEAST, b"f", &ONE, b"", 0, 0, 2, &[]),
+    (&WRITE, b"w", &[0], b"y", 0, 1, 5, &[1, 7, 1, 0, 0, 0, 8, 0, 0, 0, 0, 1, 0, 0, 0, 0x79]),
+    (&WRITE, b"w", &ONE, b"y", 0, 1, 5, &[8, 0, 0, 0, 0, 1, 0, 0, 0, 0x79]),
+    (&WRITE, b"w", &ONE, b"x", 0, 1, 5, &[]),
+    (b"", b"f", &[0], b"", 1, 0, 0, &[]),
+    (&UNSET, b"f", &[0], b"", 2, 0, 0, &[]),
+    (&LEAST, b"g", &[0], b"", -95, 0, 0, &[]),
+    (&LEAST, b"\xff", &[0], b"", -95, 0, 0, &[]),
+    (&LEAST, b"f", &[0], b"a", -7, 0, 0, &[]),
+    (&LEAST, b"f", &[2], b"", -22, 0, 0, &[]),
+    (&LEAST, b"g", &[2], b"a", -95, 0, 0, &[]),
+    (&LEAST, b"f", &[2], b"a", -7, 0, 0, &[]),
+];
+
+#[test]
+fn each_answer(rt: HostRuntime) {
+    for call in &CALLS {
+        assert!(rt; number(rt.alloc(), call) == call.4);
+    }
+}
+
+/// Whether the class of an image with a byte changed is loaded, or refused by its own number.
+fn is_judged(alloc: Global, image: &[u8]) -> bool {
+    match load(alloc, image) {
+        Ok(class) => class.methods().len() == 1,
+        Err(ClassError::Image(error)) => error.methods <= 1,
+        Err(ClassError::Verdict(refusal)) => refusal.method == 0 && refusal.slot < 5,
+        Err(ClassError::NoMemory) => false,
+    }
+}
+
+/// An image with each byte changed to several values: each is loaded or refused.
+#[test]
+fn hostile_images(rt: HostRuntime) {
+    for at in 0..WRITE.len() {
+        for by in [1, 2, 16, 128, 255] {
+            let mut image = WRITE;
+            image[at] ^= by;
+            assert!(rt; is_judged(rt.alloc(), &image));
+        }
+    }
+}

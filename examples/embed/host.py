@@ -1,0 +1,106 @@
+"""A host in Python: `host.py LIBRARY IMAGE [OBJECT METHOD HEX|-] ..` makes the calls in order. LIBRARY is a shared object made of
+libsillarnica.a. An object is None, or its data and two dicts of names, all bytes."""
+import ctypes, struct, sys
+
+
+class Refusal(ctypes.Structure):
+    _fields_ = [("kind", ctypes.c_uint32), ("number", ctypes.c_uint32), ("method", ctypes.c_uint64), ("slot", ctypes.c_int64)]
+
+
+class Answer(ctypes.Structure):
+    _fields_ = [("code", ctypes.c_int64), ("steps", ctypes.c_uint64), ("output_len", ctypes.c_uint64), ("edits_len", ctypes.c_uint64)]
+
+
+def flatten(object):
+    """The flat form of an object."""
+    if object is None:
+        return b"\0"
+    data, *parts = object
+    form = b"\1" + struct.pack("<I", len(data)) + data
+    for part in parts:
+        form += struct.pack("<H", len(part))
+        for name in sorted(part):
+            form += struct.pack("<B", len(name)) + name + struct.pack("<H", len(part[name])) + part[name]
+    return form
+
+
+def edited(object, edits):
+    """The object after edits."""
+    if object is not None:
+        object = (object[0], dict(object[1]), dict(object[2]))
+    at = 0
+
+    def take(n):
+        nonlocal at
+        at += n
+        return edits[at - n:at]
+
+    while at < len(edits):
+        kind = take(1)[0]
+        if kind <= 2:
+            object = (b"", {}, {}) if kind == 1 else None
+        elif kind == 7:
+            (n,) = struct.unpack("<I", take(4))
+            object = (object[0][:n].ljust(n, b"\0"), *object[1:])
+        elif kind == 8:
+            where, n = struct.unpack("<II", take(8))
+            object = (object[0][:where] + take(n) + object[0][where + n:], *object[1:])
+        else:
+            part, name = object[1 if kind <= 4 else 2], take(take(1)[0])
+            if kind % 2:
+                part[name] = take(struct.unpack("<H", take(2))[0])
+            else:
+                del part[name]
+    return object
+
+
+class Library:
+    def __init__(self, path):
+        self.calls = ctypes.CDLL(path)
+        self.calls.sillarnica_explain.restype = ctypes.c_int64
+
+    @staticmethod
+    def slices(*texts):
+        return [word for text in texts for word in (text, ctypes.c_size_t(len(text)))]
+
+    def verify(self, image):
+        refusal = Refusal()
+        return self.calls.sillarnica_verify(*self.slices(image), ctypes.byref(refusal)), refusal
+
+    def explain(self, image):
+        text = ctypes.create_string_buffer(256)
+        length = self.calls.sillarnica_explain(*self.slices(image), text, ctypes.c_size_t(256))
+        return text.raw[:max(0, length)].decode()
+
+    def call(self, image, method, form, caller, text, room=1 << 16):
+        """The result, the answer, the output and the edits; with a larger buffer where the first is too small."""
+        refusal, answer, out = Refusal(), Answer(), ctypes.create_string_buffer(room)
+        result = self.calls.sillarnica_call(*self.slices(image, method, form), ctypes.c_uint32(caller), *self.slices(text),
+                                            ctypes.byref(refusal), ctypes.byref(answer), out, ctypes.c_size_t(room))
+        if result == -34:
+            return self.call(image, method, form, caller, text, answer.output_len + answer.edits_len)
+        end = answer.output_len + answer.edits_len
+        return result, answer, out.raw[:answer.output_len], out.raw[answer.output_len:end]
+
+
+def main(path, image, *words):
+    library, objects = Library(path), {}
+    image = open(image, "rb").read()
+    if library.verify(image)[0]:
+        print(library.explain(image) or "no memory")
+        return 1
+    for name, method, text in zip(*[iter(words)] * 3):
+        before = objects.get(name)
+        text = b"" if text == "-" else bytes.fromhex(text)
+        result, answer, output, edits = library.call(image, method.encode(), flatten(before), 1, text)
+        if result:
+            print(f"refused {result}")
+            continue
+        after = objects[name] = edited(before, edits)
+        shown = "absent" if after is None else " ".join(str(len(part)) for part in after)
+        print(f"code {answer.code} output {output.hex() or '-'} steps {answer.steps} object {shown}")
+    return 0
+
+
+if __name__ == "__main__":
+    sys.exit(main(*sys.argv[1:]))

@@ -1,0 +1,113 @@
+/*
+ * Sillarnica's verified classes for a host that keeps the objects itself. Calls 1, library 0.4.0.
+ *
+ * Memory: the caller owns all of it, before and after. Nothing is kept, and no pointer comes back. `malloc` and `free` are
+ * used within a call alone. What is written (refusal, answer, numbers, text, out) is apart from all else that is handed in.
+ * A null pointer is allowed for a slice of length 0, and for nothing else.
+ * Threads: there is no state and nothing to initialise. Any number of calls may run at once, on one image too.
+ *
+ * An object's flat form has one spelling. Numbers are little-endian:
+ *
+ *     object  = 0                                       absent
+ *             | 1 u32:n byte*n entries entries          data (n <= 65536), xattrs (at most 32), keys of the omap (at most 1024)
+ *     entries = u16:count entry*count                   their names strictly rise by their bytes
+ *     entry   = name value
+ *     name    = u8:k byte*k                             1 <= k <= 64
+ *     value   = u16:m byte*m                            m <= 4096
+ *
+ * Edits make of the object before the object after. They come in the order in which the host makes them, and there are
+ * none if nothing changed:
+ *
+ *     1                     create, without data, xattrs and keys
+ *     2                     remove
+ *     3 name value          set an xattr           4 name    remove an xattr
+ *     5 name value          set a key              6 name    remove a key
+ *     7 u32:n               cut the data to n bytes, or extend it with zeros
+ *     8 u32:at u32:n byte*n write n bytes at a place within the data
+ */
+#ifndef SILLARNICA_H
+#define SILLARNICA_H
+
+#include <stddef.h>
+#include <stdint.h>
+
+#define SILLARNICA_VERSION "0.4.0"
+
+#ifdef __cplusplus
+extern "C" {
+#endif
+
+/* Each answer says one thing. */
+enum {
+	SILLARNICA_OK = 0,
+	SILLARNICA_IMAGE = 1,            /* the bytes are no image; the refusal says why */
+	SILLARNICA_VERDICT = 2,          /* a rule refuses the class; the refusal says which and where */
+	SILLARNICA_NO_METHOD = -95,      /* the class has no method of that name */
+	SILLARNICA_INPUT_TOO_LONG = -7,  /* the input is longer than the method takes */
+	SILLARNICA_MALFORMED = -22,      /* the bytes are no object's flat form */
+	SILLARNICA_NO_MEMORY = -12,      /* memory was refused; the call may be made again */
+	SILLARNICA_NO_ROOM = -34         /* the buffer is too small; the answer says what is needed */
+};
+
+/*
+ * Why a class is refused. kind 1: the image, after `method` methods that were read whole, by the refusal `number` (1 to 11);
+ * slot is -1 where it names none. kind 2: the rule `number` (1 to 17) at that method and slot, both from 0 on.
+ */
+struct sillarnica_refusal {
+	uint32_t kind, number;
+	uint64_t method;
+	int64_t slot;
+};
+
+/* The method's code, the instructions executed (exit included), and how many bytes of output and of edits there are. */
+struct sillarnica_answer {
+	int64_t code;
+	uint64_t steps, output_len, edits_len;
+};
+
+/* 1. The calls, structs, flat form and edits change only with this number. */
+uint32_t sillarnica_version(void);
+
+/*
+ * 0: the image spells a class and no rule refuses it. Then every method of it runs on every object and input to its exit,
+ * never stuck, in no more instructions than it has. 1 or 2: why it is refused, in *refusal. -12.
+ * *refusal is written at 1 and 2 alone.
+ */
+int32_t sillarnica_verify(const uint8_t *image, size_t image_len, struct sillarnica_refusal *refusal);
+
+/*
+ * The line that says why the image or the class is refused, as `radoscls verify` prints it: the answer is its length, and as
+ * many bytes as fit are written; no zero byte follows. 0: the class is accepted. -12. At 0 and -12 nothing is written.
+ */
+int64_t sillarnica_explain(const uint8_t *image, size_t image_len, uint8_t *text, size_t text_len);
+
+/*
+ * 0: what the method declares: flags 1 reads, 2 writes, 3 both, and the most bytes of its input and its output.
+ * 1 (the bytes are no image), -95 or -12: nothing is written. No rule is asked.
+ */
+int32_t sillarnica_method(const uint8_t *image, size_t image_len, const uint8_t *method, size_t method_len,
+	uint32_t *flags, uint32_t *in_cap, uint32_t *out_cap);
+
+/*
+ * Which parts of an object the method can see or change: 1 data, 2 xattrs, 4 keys, added. Today 7 for every method.
+ * -95: the image has no such method, or is none. -12.
+ */
+int32_t sillarnica_needs(const uint8_t *image, size_t image_len, const uint8_t *method, size_t method_len);
+
+/*
+ * Calls a method on an object for a client (`caller`). It is a function of its arguments.
+ *
+ * 0: *answer is the method's code, its instructions and the lengths, and out begins with the output and then the edits; the
+ *    rest of out is as it was. A negative code is the method's own error, which changed nothing.
+ * -34: out is shorter than output and edits: *answer says as much as at 0, and out is as it was. Make the call again.
+ * 1, 2: *refusal says why there is no class. -95, -7, -22, -12: nothing is written.
+ * Of several refusals it is the first in the order 1, 2, -95, -7, -22, -34; -12 may come in place of any answer.
+ */
+int32_t sillarnica_call(const uint8_t *image, size_t image_len, const uint8_t *method, size_t method_len,
+	const uint8_t *object, size_t object_len, uint32_t caller, const uint8_t *input, size_t input_len,
+	struct sillarnica_refusal *refusal, struct sillarnica_answer *answer, uint8_t *out, size_t out_len);
+
+#ifdef __cplusplus
+}
+#endif
+#endif

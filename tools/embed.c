@@ -1,0 +1,168 @@
+/* Makes the calls of a file on the library, and prints what each gives: `embed FILE THREADS`. tools/embed.sh compiles it.
+ * A call is five fields, each four bytes of length and its bytes: image, method, object, caller (four bytes), input.
+ * Each call is also made with too little room, and every sixteenth with memory refused at each growth in turn, and its answer
+ * compared with what the header says. Then so many threads make all calls at once, and each answer is compared again.
+ * `malloc` and `realloc` of the library go through here (-Wl,--wrap), where REFUSE is asked for at link time. */
+#include "sillarnica.h"
+#include <pthread.h>
+#include <stdio.h>
+#include <stdlib.h>
+#include <string.h>
+
+struct slice { const uint8_t *at; size_t len; };
+struct call { struct slice image, method, object, input; uint32_t caller; };
+struct found { int32_t result; struct sillarnica_refusal why; struct sillarnica_answer said; uint8_t *out; };
+
+static struct call *calls;
+static struct found *founds;
+static size_t count, most;
+static long wrong;
+
+#ifdef REFUSE
+static __thread long growths = -1; /* how many are still granted; below 0 all are */
+#ifdef __cplusplus
+extern "C" {
+#endif
+void *__real_malloc(size_t);
+void *__real_realloc(void *, size_t);
+void *__wrap_malloc(size_t n) { return growths == 0 ? NULL : (growths -= growths > 0, __real_malloc(n)); }
+void *__wrap_realloc(void *p, size_t n) { return growths == 0 ? NULL : (growths -= growths > 0, __real_realloc(p, n)); }
+#ifdef __cplusplus
+}
+#endif
+#endif
+
+static void want(int is, size_t n, const char *what) {
+	if (is) return;
+	__atomic_add_fetch(&wrong, 1, __ATOMIC_SEQ_CST);
+	fprintf(stderr, "call %zu: %s\n", n, what);
+}
+
+static int32_t make(const struct call *c, struct found *f, size_t room) {
+	return sillarnica_call(c->image.at, c->image.len, c->method.at, c->method.len, c->object.at, c->object.len, c->caller,
+		c->input.at, c->input.len, &f->why, &f->said, f->out, room);
+}
+
+static void fill(struct found *f, uint8_t *out, size_t room) {
+	memset(f, 0xa5, sizeof *f);
+	f->out = (uint8_t *)memset(out, 0x5a, room);
+}
+
+static int is_filled(const void *at, uint8_t with, size_t n) {
+	const uint8_t *p = (const uint8_t *)at;
+	while (n && p[n - 1] == with) n--;
+	return n == 0;
+}
+
+/* Whether the call wrote what its answer lets it write, and no more. */
+static void check(const struct found *f, size_t room, size_t n) {
+	size_t used = f->result == 0 ? f->said.output_len + f->said.edits_len : 0;
+	want(used <= room && is_filled(f->out + used, 0x5a, room - used), n, "the rest of the buffer changed");
+	if (f->result != 1 && f->result != 2) want(is_filled(&f->why, 0xa5, sizeof f->why), n, "the refusal changed");
+	if (f->result != 0 && f->result != -34) want(is_filled(&f->said, 0xa5, sizeof f->said), n, "the answer changed");
+}
+
+static int is_same(const struct found *a, const struct found *b) {
+	size_t used = a->result == 0 ? a->said.output_len + a->said.edits_len : 0;
+	if (a->result != b->result || memcmp(&a->why, &b->why, sizeof a->why)) return 0;
+	return !memcmp(&a->said, &b->said, sizeof a->said) && !memcmp(a->out, b->out, used);
+}
+
+/* With too little room, and with memory refused. */
+static void again(size_t n, uint8_t *out) {
+	const struct found *first = &founds[n];
+	struct found f;
+	size_t used = first->result == 0 ? first->said.output_len + first->said.edits_len : 0;
+	/* each size below of small answers, and of others the least and the largest */
+	for (size_t room = 0; room < used; room += used <= 64 || !room ? 1 : used - 1 > room ? used - 1 - room : 1) {
+		fill(&f, out, most);
+		f.result = make(&calls[n], &f, room);
+		want(f.result == -34 && !memcmp(&f.said, &first->said, sizeof f.said), n, "-34 says something else");
+		check(&f, most, n);
+	}
+#ifdef REFUSE
+	for (long k = 0; n % 16 == 0; k++) {
+		fill(&f, out, most);
+		growths = k;
+		f.result = make(&calls[n], &f, most);
+		int met = growths == 0;
+		growths = -1;
+		check(&f, most, n);
+		if (f.result != -12) {
+			want(is_same(first, &f), n, "another answer after a refusal of memory");
+			if (!met) break;
+		}
+	}
+#endif
+}
+
+static void *all(void *nothing) {
+	uint8_t *out = (uint8_t *)malloc(most);
+	for (size_t n = 0; out && n < count; n++) {
+		struct found f;
+		fill(&f, out, most);
+		f.result = make(&calls[n], &f, most);
+		want(is_same(&founds[n], &f), n, "another answer in a thread");
+	}
+	free(out);
+	return nothing;
+}
+
+static struct slice field(const uint8_t **p) {
+	size_t n = (*p)[0] | (size_t)(*p)[1] << 8 | (size_t)(*p)[2] << 16 | (size_t)(*p)[3] << 24;
+	struct slice s = { n ? *p + 4 : NULL, n };
+	*p += 4 + n;
+	return s;
+}
+
+static void print(const struct found *f) {
+	printf("%d", f->result);
+	if (f->result == 1 || f->result == 2) printf(" %u %u %llu %lld", f->why.kind, f->why.number, (unsigned long long)f->why.method, (long long)f->why.slot);
+	if (f->result == 0) {
+		printf(" %lld %llu ", (long long)f->said.code, (unsigned long long)f->said.steps);
+		for (uint64_t i = 0; i < f->said.output_len; i++) printf("%02x", f->out[i]);
+		printf(" ");
+		for (uint64_t i = 0; i < f->said.edits_len; i++) printf("%02x", f->out[f->said.output_len + i]);
+	}
+	printf("\n");
+}
+
+int main(int argc, char **argv) {
+	if (argc < 3 || sillarnica_version() != 1) return 2;
+	FILE *file = fopen(argv[1], "rb");
+	if (!file || fseek(file, 0, SEEK_END)) return 2;
+	size_t len = (size_t)ftell(file);
+	uint8_t *text = (uint8_t *)malloc(len + 1);
+	rewind(file);
+	if (fread(text, 1, len, file) != len) return 2;
+	fclose(file);
+	most = 1 << 16;
+	uint8_t *out = (uint8_t *)malloc(most);
+	for (const uint8_t *p = text; p < text + len; count++) {
+		calls = (struct call *)realloc(calls, (count + 1) * sizeof *calls);
+		founds = (struct found *)realloc(founds, (count + 1) * sizeof *founds);
+		struct call *c = &calls[count];
+		struct found *f = &founds[count];
+		c->image = field(&p), c->method = field(&p), c->object = field(&p);
+		struct slice caller = field(&p);
+		c->caller = caller.at[0] | (uint32_t)caller.at[1] << 8 | (uint32_t)caller.at[2] << 16 | (uint32_t)caller.at[3] << 24;
+		c->input = field(&p);
+		fill(f, out, most);
+		f->result = make(c, f, most);
+		check(f, most, count);
+		print(f);
+		f->out = (uint8_t *)memcpy(malloc(most), out, most);
+		uint8_t *other = (uint8_t *)malloc(most);
+		again(count, other);
+		free(other);
+		size_t used = f->result == 0 ? f->said.output_len + f->said.edits_len : 0;
+		f->out = (uint8_t *)realloc(f->out, used + 1);
+	}
+	int threads = atoi(argv[2]);
+	pthread_t ids[64];
+	for (int i = 0; i < threads; i++) pthread_create(&ids[i], NULL, all, NULL);
+	for (int i = 0; i < threads; i++) pthread_join(ids[i], NULL);
+	for (size_t n = 0; n < count; n++) free(founds[n].out);
+	free(out), free(text), free(calls), free(founds);
+	return wrong != 0;
+}

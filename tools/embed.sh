@@ -1,0 +1,70 @@
+#!/usr/bin/env bash
+# Builds hosts over the static library, and compares what they get with `radoscls run`.
+#
+#     tools/embed.sh [CALLS [ARCHIVE [RADOSCLS]]]
+#
+# CALLS is 10,000 if it isn't given; ARCHIVE and RADOSCLS are what `rt lib` and `rt run` leave, and tools/library.sh takes ARCHIVE. It prints a line for each step,
+# and the status is 0 if nothing differs:
+#
+# - cc and c++ build examples/embed/host.c, and it prints what the page says; so does examples/embed/host.py by a shared object;
+# - random calls, some of hostile images and flat forms, give the program's code, output, steps and refusals, and their edits
+#   make of the object before the program's object after;
+# - each is made with too little room, and with memory refused at each growth; eight threads make all of them at once;
+# - the same under the address and undefined-behavior sanitizers.
+set -u
+top=$(cd "$(dirname "$0")/.." && pwd)
+calls=${1:-10000}
+radoscls=$(realpath "${3:-$top/crates/radoscls/out/radoscls}")
+work=$(mktemp -d)
+trap 'rm -rf "$work"' EXIT
+bad=0
+"$top/tools/library.sh" "$work/library" "${2:-$top/crates/sillarnica/out/libsillarnica.a}" || exit 1
+archive=$work/library/libsillarnica.a
+here=$top/examples/embed
+
+# Prints a line of a step: NAME and whether it went well.
+step() {
+    if [ "$2" = 0 ]; then echo "ok $1"; else echo "DIFFERS $1"; bad=1; fi
+}
+
+# The host's lines, against what they should be.
+plays() {
+    local name=$1
+    shift
+    "$@" "$here/parts.img" a write 0000000068656c6c6f a putx 016176 a write 05000000 a stat - b stat - a rmx 61 a none - a remove - > "$work/lines"
+    diff "$work/lines" - <<'LINES'
+code 5 output - steps 9 object 5 0 0
+code 0 output - steps 14 object 5 1 0
+code 0 output - steps 9 object 5 1 0
+code 5 output - steps 2 object 5 1 0
+code -2 output - steps 2 object absent
+code 0 output - steps 2 object 5 0 0
+refused -95
+code 0 output - steps 2 object absent
+LINES
+    step "$name" $?
+    "$@" <(printf RCL1) > "$work/lines"
+    [ "$(cat "$work/lines")" = "image refused after 0 methods: 1 Truncated" ]
+    step "$name refuses" $?
+}
+
+flags=(-I "$work/library" -Wall -Wextra)
+wrap=(-DREFUSE -Wl,--wrap=malloc -Wl,--wrap=realloc -pthread)
+clean=(-fsanitize=address,undefined -fno-sanitize-recover=all -g)
+cc -std=c99 "${flags[@]}" "$here/host.c" "$archive" -o "$work/host" && plays "host by cc" "$work/host" || step "host by cc" 1
+c++ -x c++ "${flags[@]}" "$here/host.c" -x none "$archive" -o "$work/host" && plays "host by c++" "$work/host" || step "host by c++" 1
+cc "${flags[@]}" "${clean[@]}" "$here/host.c" "$archive" -o "$work/host" && plays "host under sanitizers" "$work/host" || step "host under sanitizers" 1
+cc -shared -Wl,--whole-archive "$archive" -Wl,--no-whole-archive -o "$work/libsillarnica.so" && plays "host in Python" python3 "$here/host.py" "$work/libsillarnica.so" || step "host in Python" 1
+
+python3 "$top/tools/embed.py" make "$calls" 1 "$work/calls" "$here/parts.img" "$top"/examples/{keep,count,hello,two}.img
+cc -std=gnu11 -O2 "${flags[@]}" "${wrap[@]}" "$top/tools/embed.c" "$archive" -o "$work/embed" && "$work/embed" "$work/calls" 8 > "$work/printed"
+step "calls, and eight threads" $?
+c++ -x c++ -O2 "${flags[@]}" -pthread "$top/tools/embed.c" -x none "$archive" -o "$work/embed" && "$work/embed" "$work/calls" 1 | cmp - "$work/printed"
+step "calls by c++" $?
+cc -std=gnu11 "${flags[@]}" "${clean[@]}" -pthread "$top/tools/embed.c" "$archive" -o "$work/embed" && "$work/embed" "$work/calls" 8 | cmp - "$work/printed"
+step "calls under sanitizers" $?
+python3 "$top/tools/embed.py" python "$work/calls" "$work/printed" "$work/libsillarnica.so"
+step "calls in Python" $?
+python3 "$top/tools/embed.py" judge "$work/calls" "$work/printed" "$radoscls"
+step "calls beside the program" $?
+exit $bad
