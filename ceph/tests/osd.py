@@ -1,0 +1,228 @@
+"""Where the tests' calls go: to the OSDs of a cluster, or to the plug-in's functions over the stand-in of an
+OSD's calls.
+"""
+
+import importlib.machinery
+import importlib.util
+import os
+import random
+import struct
+import subprocess
+import sys
+
+sys.dont_write_bytecode = True
+here = os.path.dirname(os.path.abspath(__file__))
+sys.path.insert(0, here)
+
+import model  # noqa: E402
+
+REPLY_LIMIT = 64  # osd_max_write_op_reply_len, as it is shipped
+
+
+def load_command():
+    """The command radosbpf as a module: the installed one, or the one beside this folder."""
+    path = os.environ.get("RADOSBPF", os.path.join(here, "..", "radosbpf"))
+    loader = importlib.machinery.SourceFileLoader("radosbpf", path)
+    module = importlib.util.module_from_spec(importlib.util.spec_from_loader("radosbpf", loader))
+    loader.exec_module(module)
+    return module
+
+
+radosbpf = load_command()
+request, load_request = radosbpf.request, radosbpf.load_request
+
+
+class StandIn:
+    """The plug-in over the stand-in: objects are kept here, and each call carries its own."""
+
+    def __init__(self, program):
+        self.process = subprocess.Popen(program, stdin=subprocess.PIPE, stdout=subprocess.PIPE)
+        self.objects = {}  # by name: an Object, its loaded classes, its omap header
+        self.client = 4711
+        self.calls = 0
+
+    def number(self):
+        return self.client
+
+    def close(self):
+        self.process.stdin.close()
+        if self.process.wait(60) != 0:
+            raise AssertionError(f"the stand-in ended with {self.process.returncode}")
+
+    def put(self, oid, whole, classes=(), header=b""):
+        self.objects.pop(oid, None)
+        if whole is not None:
+            self.objects[oid] = (whole.copy(), dict(classes), header)
+
+    def get(self, oid):
+        return self.objects[oid][0] if oid in self.objects else None
+
+    def whole(self, oid):
+        """Object, loaded classes and omap header."""
+        return self.objects.get(oid)
+
+    def call(self, oid, method, data=b"", step=0, limit=REPLY_LIMIT, kind=8, number=None, failing=0, growth=0):
+        out = self._bytes(method.encode()) + self._bytes(data)
+        caller = self.client if number is None else number
+        out += struct.pack("<BQIIII", kind, caller, step, limit, failing, growth) + self._object(self.whole(oid))
+        self.process.stdin.write(out)
+        self.process.stdin.flush()
+        result = struct.unpack("<i", self._read(4))[0]
+        output, after = self._read_bytes(), self._read_object()
+        self.osd_calls, self.growths = struct.unpack("<II", self._read(8))
+        self.calls += 1
+        misuse = self._read_bytes().decode()
+        assert not misuse, f"{misuse} at {method} of {data[:80].hex()}"
+        if after is None:
+            self.objects.pop(oid, None)
+        else:
+            self.objects[oid] = after
+        return result, output
+
+    @staticmethod
+    def _bytes(data):
+        return struct.pack("<I", len(data)) + data
+
+    def _object(self, held):
+        if held is None:
+            return b"\0"
+        whole, classes, header = held
+        out = b"\1" + self._bytes(whole.data) + self._bytes(header)
+        for part in ({**whole.xattrs, **{b"bpf." + name: image for name, image in classes.items()}}, whole.keys):
+            out += struct.pack("<I", len(part)) + b"".join(
+                self._bytes(name) + self._bytes(value) for name, value in part.items()
+            )
+        return out
+
+    def _read(self, length):
+        data = self.process.stdout.read(length)
+        assert len(data) == length, "the stand-in ended in a call"
+        return data
+
+    def _read_bytes(self):
+        return self._read(struct.unpack("<I", self._read(4))[0])
+
+    def _read_object(self):
+        if self._read(1) == b"\0":
+            return None
+        whole, classes = model.Object(self._read_bytes()), {}
+        header = self._read_bytes()
+        for part in (whole.xattrs, whole.keys):
+            for _ in range(struct.unpack("<I", self._read(4))[0]):
+                name = self._read_bytes()
+                part[name] = self._read_bytes()
+        for name in [name for name in whole.xattrs if name.startswith(b"bpf.")]:
+            classes[name[4:]] = whole.xattrs.pop(name)
+        return whole, classes, header
+
+
+class Cluster:
+    """The same of a pool in a cluster, by a session of its own."""
+
+    def __init__(self, conf, pool="bpf", name="client.admin", timeout=120):
+        self.pool = radosbpf.Pool(pool, conf, name, timeout=timeout)
+        self.c, self.io = self.pool.c, self.pool.io
+
+    def number(self):
+        return self.pool.number()
+
+    def close(self):
+        self.pool.close()
+
+    def _must(self, result):
+        assert result >= 0, os.strerror(-result)
+
+    def put(self, oid, whole, classes=(), header=b""):
+        import ctypes as ct
+
+        name = oid.encode()
+        self.c.rados_remove(self.io, name)
+        if whole is None:
+            return
+        op = ct.c_void_p(self.c.rados_create_write_op())
+        self.c.rados_write_op_create(op, 0, None)
+        self.c.rados_write_op_write_full(op, whole.data, ct.c_size_t(len(whole.data)))
+        for key, value in [*whole.xattrs.items(), *((b"bpf." + key, value) for key, value in dict(classes).items())]:
+            self.c.rados_write_op_setxattr(op, key, value, ct.c_size_t(len(value)))
+        if whole.keys:
+            count = len(whole.keys)
+            keys, values = (ct.c_char_p * count)(*whole.keys), (ct.c_char_p * count)(*whole.keys.values())
+            key_lengths = (ct.c_size_t * count)(*map(len, whole.keys))
+            lengths = (ct.c_size_t * count)(*map(len, whole.keys.values()))
+            self.c.rados_write_op_omap_set2(op, keys, values, key_lengths, lengths, ct.c_size_t(count))
+        self._must(self.c.rados_write_op_operate2(op, self.io, name, None, 0))
+        self.c.rados_release_write_op(op)
+
+    def get(self, oid):
+        found = self.pool.read(oid.encode())
+        return None if found is None else model.Object(found.data, found.xattrs, found.keys)
+
+    def call(self, oid, method, data=b""):
+        done, [(result, output)] = self.pool.steps(oid.encode(), [(method, data)])
+        return (done, b"") if done < 0 else (result, output)
+
+    def steps(self, oid, steps):
+        return self.pool.steps(oid.encode(), steps)
+
+    def plain(self, oid, method, data=b""):
+        """As `rados_exec` does it, without RETURNVEC."""
+        import ctypes as ct
+
+        out = ct.create_string_buffer(65536)
+        result = self.c.rados_exec(
+            self.io, oid.encode(), b"bpf", method.encode(), data, ct.c_size_t(len(data)), out, ct.c_size_t(65536)
+        )
+        return result, out.raw[: max(result, 0)]
+
+
+def open_from(words):
+    """`cluster CONF`, or `stand-in PROGRAM ..`."""
+    return Cluster(words[1]) if words[0] == "cluster" else StandIn(words[1:])
+
+
+class Tally:
+    """Counts what was as it should be, and tells what wasn't."""
+
+    def __init__(self, title):
+        self.title, self.right, self.wrong = title, 0, 0
+
+    def want(self, what, found, wanted):
+        if found == wanted:
+            self.right += 1
+        else:
+            self.wrong += 1
+            if self.wrong <= 20:
+                print(f"BAD  {self.title}: {what}: {found!r:.600}, not {wanted!r:.600}", flush=True)
+
+    def end(self):
+        is_good = self.right and not self.wrong
+        print(f"{'ok  ' if is_good else 'BAD '} {self.title}: {self.right} right, {self.wrong} wrong", flush=True)
+        sys.exit(0 if is_good else 1)
+
+
+def images_in(folder):
+    """The class images of a folder, by the files' names."""
+    found = {}
+    for file in sorted(os.listdir(folder)):
+        if file.endswith(".img"):
+            with open(os.path.join(folder, file), "rb") as opened:
+                found[file[:-4].encode()] = opened.read()
+    return found
+
+
+def some_object(chance):
+    """An object to begin with, or none."""
+    if chance.random() < 0.15:
+        return None
+    pairs = lambda most, size: {
+        random_name(chance): chance.randbytes(chance.randrange(size)) for _ in range(chance.randrange(most))
+    }
+    return model.Object(chance.randbytes(chance.choice([0, 7, 64, 500, 4000])), pairs(5, 40), pairs(8, 40))
+
+
+def random_name(chance):
+    return bytes([chance.choice(b"abcdefgh")]) * chance.choice([1, 1, 1, 2, 64])
+
+
+def seeded(seed):
+    return random.Random(seed)
