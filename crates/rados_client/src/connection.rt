@@ -136,12 +136,12 @@ impl<'a, N: ClusterName, R: Wait> Connection<'a, N, R> {
             Found::Refused(error) => Some(Err(error)),
             Found::Later => {
                 patience.wait_when_refused();
-                thread::yield_now();
+                pause(patience.turns());
                 None
             }
             Found::Nothing => {
                 patience.wait();
-                thread::yield_now();
+                pause(patience.turns());
                 None
             }
         }
@@ -170,7 +170,7 @@ impl<'a, N: ClusterName, R: Wait> Connection<'a, N, R> {
             Ok(()) => patience.begin(),
             Err(AskError::Full) => {
                 patience.wait_when_full();
-                pause();
+                pause(TURNS_WHEN_FULL);
             }
             Err(AskError::NoMemory) => patience.go_on(),
         }
@@ -219,9 +219,9 @@ impl<'a, N: ClusterName, R: Wait> Connection<'a, N, R> {
     }
 }
 
-/// Gives the other threads some turns, after a queue was full.
-fn pause() {
-    for _ in 0..TURNS_WHEN_FULL {
+/// Gives the other threads so many turns.
+fn pause(turns: u32) {
+    for _ in 0..turns {
         thread::yield_now();
     }
 }

@@ -5,6 +5,9 @@ use crate::exec_error::ExecError;
 /// After how many looks in a row without an answer a request is submitted again.
 const LOOKS: u32 = 1_000;
 
+/// How many turns a look gives the other threads at most.
+const TURNS: u32 = 64;
+
 /// How long a session goes on looking before it submits the request again, and whether a queue has taken the request. At
 /// least one look comes before each repeat, so that a session sees its answer also while its queue is full.
 #[derive(Clone, Copy)]
@@ -13,6 +16,9 @@ pub(crate) struct Patience {
     /// How many looks follow the call's next refusal: 1 after the first, and twice as many after each further one, up to
     /// `LOOKS`. A group that is in peering refuses at once, and would be nudged by each session all the time.
     looks_when_refused: u32,
+    /// How many turns each look gives the other threads: 1, and twice as many after each repeat of the request, up to
+    /// `TURNS`. Who waits for the end of a long peering would nudge thousands of times else.
+    turns: u32,
     pub taken: bool,
 }
 
@@ -24,6 +30,7 @@ impl Patience {
         Patience {
             looks_left: LOOKS,
             looks_when_refused: 1,
+            turns: 1,
             taken: true,
         }
     }
@@ -35,6 +42,7 @@ impl Patience {
         Patience {
             looks_left: 1,
             looks_when_refused: 1,
+            turns: 1,
             taken: false,
         }
     }
@@ -42,6 +50,11 @@ impl Patience {
     /// Whether the request is to be submitted again.
     pub fn is_over(&self) -> bool {
         self.looks_left == 0
+    }
+
+    /// How many turns a look gives the other threads.
+    pub fn turns(&self) -> u32 {
+        self.turns
     }
 
     /// A look found no answer.
@@ -64,6 +77,7 @@ impl Patience {
         ensures { self.new.taken ≡ true }
     {
         self.looks_left = LOOKS;
+        self.turns = self.turns.saturating_mul(2).min(TURNS);
         self.taken = true;
     }
 
@@ -79,6 +93,7 @@ impl Patience {
         ensures { self.new.taken ≡ self.old.taken }
     {
         self.looks_left = LOOKS;
+        self.turns = self.turns.saturating_mul(2).min(TURNS);
     }
 
     /// What a call is refused by where its tries are used up.
