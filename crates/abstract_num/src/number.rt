@@ -17,7 +17,8 @@ use crate::urange::URange;
 use bpf_decode::{SignedWidth, Width};
 use std::mem::size_of;
 
-/// What is known of a number below `2^64`: the numbers that lie in both ranges and agree with the known bits.
+/// What is known of a number below `2^64`: the numbers that lie in both ranges and agree with the
+/// known bits.
 pub type Number = Product<URange, Product<SRange, Bits>>;
 
 /// A value takes six words.
@@ -104,7 +105,8 @@ fn tightened(low: u64, high: u64) -> Number
     requires { low ≤ high }
     ensures { tighten (ranged low high) ≡ Some (view result) }
 {
-    // A named range says nothing of the other parts: what they know of it comes from the one tightening.
+    // A named range says nothing of the other parts: what they know of it comes from the one
+    // tightening.
     let wide = Number::of(URange { low, high }, any().signed(), any().bits());
     match tighten(wide) {
         Some(x) => x,

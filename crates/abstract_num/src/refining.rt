@@ -120,7 +120,8 @@ fn short_end(comparison: Comparison) -> u64
     }
 }
 
-/// Whether a comparison tells something: one of 32 bits tells nothing of a number that may be longer.
+/// Whether a comparison tells something: one of 32 bits tells nothing of a number that may be
+/// longer.
 fn tells(bits: OpWidth, comparison: Comparison, x: Number, y: Number) -> bool
     ensures { result ≡ tells bits comparison (view x) (view y) }
 {
@@ -172,9 +173,10 @@ fn along(
     Some((a, b))
 }
 
-/// What is left of both numbers of a comparison along the edge where it holds (`taken`) or doesn't: by the table, each
-/// tightened once, and so that every pair of numbers held before for which the comparison goes this way is held after.
-/// None where there is no such pair. The number of a register that is compared with itself isn't refined but tightened.
+/// What is left of both numbers of a comparison along the edge where it holds (`taken`) or doesn't:
+/// by the table, each tightened once, and so that every pair of numbers held before for which the
+/// comparison goes this way is held after. None where there is no such pair. The number of a
+/// register that is compared with itself isn't refined but tightened.
 pub fn refine(
     bits: OpWidth,
     comparison: Comparison,

@@ -117,8 +117,9 @@ fn stepped(x: Number) -> Option<Number>
     by_constant(w)
 }
 
-/// Passes once what each part knows to the others, in the order of the table: bits to the unsigned range, that to the
-/// signed one and back, and a single number to all parts. A second time may tighten further. None where no number is left.
+/// Passes once what each part knows to the others, in the order of the table: bits to the unsigned
+/// range, that to the signed one and back, and a single number to all parts. A second time may
+/// tighten further. None where no number is left.
 pub fn tighten(x: Number) -> Option<Number>
     ensures table { Gives (tighten (view x)) result }
     ensures keeps { (n : ℕ) → Holds (view x) n → Kept result n }

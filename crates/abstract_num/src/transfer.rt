@@ -53,7 +53,8 @@ fn row_of(operation: Arithmetic, count: Option<u32>) -> RowAnswer
     }
 }
 
-/// The row of 32 bits: an arithmetic shift is a logical one where the sign is 0, and else any number.
+/// The row of 32 bits: an arithmetic shift is a logical one where the sign is 0, and else any
+/// number.
 fn row_of_32(operation: Arithmetic, x: Number, y: Number) -> RowAnswer
     ensures { result ≡ row_of_32 operation (view x) (view y) }
 {
@@ -160,8 +161,8 @@ fn transferred(bits: OpWidth, operation: Arithmetic, x: Number, y: Number) -> Op
     }
 }
 
-/// What arithmetic makes of two numbers: by the table, and so that every number held before is held after by what the
-/// machine computes. None where no number is left.
+/// What arithmetic makes of two numbers: by the table, and so that every number held before is held
+/// after by what the machine computes. None where no number is left.
 pub fn arithmetic(bits: OpWidth, operation: Arithmetic, x: Number, y: Number) -> Option<Number>
     ensures table { Gives (transferred bits operation (view x) (view y)) result }
     ensures keeps { (m n : ℕ) → Holds (view x) m → Holds (view y) n → Kept result (alu_value bits operation m n) }
@@ -187,7 +188,8 @@ fn copy(bits: OpWidth, x: Number) -> Option<Number>
     }
 }
 
-/// A copy: of 64 bits the number as it is, not tightened; of 32 bits its low half. None where no number is left.
+/// A copy: of 64 bits the number as it is, not tightened; of 32 bits its low half. None where no
+/// number is left.
 pub fn copied(bits: OpWidth, x: Number) -> Option<Number>
     ensures table { Gives (copied bits (view x)) result }
     ensures keeps { (n : ℕ) → Holds (view x) n → Kept result (mov_value bits n) }
@@ -240,7 +242,8 @@ fn extended(extension: SignedMove, x: Number) -> Option<Number>
     }
 }
 
-/// A copy with sign extension: exact of a constant, and else any number of its width. None where no number is left.
+/// A copy with sign extension: exact of a constant, and else any number of its width. None where no
+/// number is left.
 pub fn sign_extended(extension: SignedMove, x: Number) -> Option<Number>
     ensures table { Gives (sign_extended extension (view x)) result }
     ensures keeps { (n : ℕ) → Holds (view x) n → Kept result (signed_move_value extension n) }

@@ -28,8 +28,8 @@ fn is_same_register(dst: Register, source: &Operand) -> bool
 }
 
 impl Frame {
-    /// Goes on from the instruction at a slot, which no rule refuses, to the frame after it, and gives its edges.
-    /// Of a call the first register of the range that its helper writes is given.
+    /// Goes on from the instruction at a slot, which no rule refuses, to the frame after it, and
+    /// gives its edges. Of a call the first register of the range that its helper writes is given.
     pub fn flow(&mut self, room: Option<u8>, insn: &Insn, slot: usize) -> Edges
         requires { slot < 2 ^ 62 }
         ensures table { flow room insn.now slot self.old ≡ with_edges result (slot + slot_count insn.now) self.new }
@@ -77,7 +77,8 @@ impl Frame {
         }
     }
 
-    /// What a load gives: what is known of the slot that it is, or else a number of that many bytes.
+    /// What a load gives: what is known of the slot that it is, or else a number of that many
+    /// bytes.
     fn loaded(&self, width: Width, base: Register, offset: i16) -> Kind
         ensures { Some (seen result) ≡ loaded_kind (kept_kind self.now (kind_at self.now base) (extended offset) (byte_count width)) (option_map plain.Num (tighten (ranged 0 (load_high width)))) }
     {
@@ -88,7 +89,8 @@ impl Frame {
         }
     }
 
-    /// Gives a register what an instruction computes; where no value is left the instruction goes nowhere.
+    /// Gives a register what an instruction computes; where no value is left the instruction goes
+    /// nowhere.
     fn compute(&mut self, dst: Register, kind: Option<Kind>) -> Edges
         ensures { (next : ℕ) → computed next self.old dst (option_map seen kind) ≡ with_edges result next self.new }
     {

@@ -15,8 +15,8 @@ use bpf_decode::{OpWidth, Operand, Region, Register};
 use std::alloc::{AllocError, Global};
 use std::marker::Model;
 
-/// What is known before an instruction: the kinds of the eleven registers, and those of the stack's slots of eight bytes,
-/// where such are known. Contracts see them in plain numbers.
+/// What is known before an instruction: the kinds of the eleven registers, and those of the stack's
+/// slots of eight bytes, where such are known. Contracts see them in plain numbers.
 #[derive(Drop)]
 pub struct Frame {
     registers: [Kind; 11],
@@ -33,8 +33,9 @@ impl Model for Frame {
 }
 
 impl Frame {
-    /// As a method begins: 1 points to the input, 2 is its length, at most `in_cap`, 3 points to the output, 10 to the
-    /// end of a stack of `stack` bytes. So many slots are known: each is the number 0.
+    /// As a method begins: 1 points to the input, 2 is its length, at most `in_cap`, 3 points to
+    /// the output, 10 to the end of a stack of `stack` bytes. So many slots are known: each is the
+    /// number 0.
     pub fn entry(alloc: Global, in_cap: u64, stack: u64, count: usize) -> Result<Frame, AllocError>
         ensures { IfOk result (λ f. f ≡ entry_frame in_cap stack count) }
     {
@@ -94,8 +95,8 @@ impl Frame {
         join_slots(&mut self.slots, &other.slots);
     }
 
-    /// A helper answers any number in register 0, leaves registers 1 to 5 unset, and overwrites what may be its writable
-    /// range, of which the first register is given.
+    /// A helper answers any number in register 0, leaves registers 1 to 5 unset, and overwrites
+    /// what may be its writable range, of which the first register is given.
     pub(crate) fn end_call(&mut self, room: Option<u8>)
         ensures { self.new ≡ after_call room self.old }
     {
@@ -136,7 +137,8 @@ impl Frame {
         }
     }
 
-    /// The kind of the slot that an access is, at a distance from what a kind points to, where it is one that is known.
+    /// The kind of the slot that an access is, at a distance from what a kind points to, where it
+    /// is one that is known.
     pub fn slot(&self, base: Kind, distance: u64, bytes: usize) -> Option<Kind>
         ensures { option_map seen result ≡ kept_kind self.now (seen base) distance bytes }
     {

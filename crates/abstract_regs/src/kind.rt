@@ -10,8 +10,8 @@ use abstract_num::{
 };
 use bpf_decode::{Arithmetic, ByteOrder, Comparison, EndWidth, OpWidth, Region, SignedMove};
 
-/// What is known of a register: nothing, not even that it is set; that it is a number; or that it points into a region,
-/// so far from its first byte.
+/// What is known of a register: nothing, not even that it is set; that it is a number; or that it
+/// points into a region, so far from its first byte.
 #[derive(Clone, Copy, PartialEq, Eq)]
 pub enum Kind {
     Unset,
@@ -57,7 +57,8 @@ impl Kind {
         }
     }
 
-    /// What two flows that meet leave of a register: a number with a pointer, or two regions, leave nothing.
+    /// What two flows that meet leave of a register: a number with a pointer, or two regions, leave
+    /// nothing.
     pub fn join(self, other: Kind) -> Kind
         ensures { seen result ≡ join_kind (seen self) (seen other) }
     {
@@ -134,7 +135,8 @@ impl Kind {
         }
     }
 
-    /// What an edge of a comparison leaves of both its kinds; `same` says that they are of one register.
+    /// What an edge of a comparison leaves of both its kinds; `same` says that they are of one
+    /// register.
     pub(crate) fn along(
         bits: OpWidth,
         comparison: Comparison,

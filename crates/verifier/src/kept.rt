@@ -7,7 +7,8 @@ use abstract_regs::Frame;
 use std::alloc::{AllocError, Global};
 use std::marker::Model;
 
-/// The frames that are kept for jumps' targets, each till its slot comes. Contracts see them by slot.
+/// The frames that are kept for jumps' targets, each till its slot comes. Contracts see them by
+/// slot.
 #[derive(Drop)]
 pub struct PendingFrames {
     frames: Vec<Option<Box<Frame>>>,

@@ -8,7 +8,8 @@ use abstract_regs::{Kind, access_fits, range_fits};
 use bpf_decode::{Arithmetic, OpWidth};
 use bpf_machine::Caps;
 
-/// Whether it is arithmetic with a pointer other than a number added to it or subtracted from it, in 64 bits.
+/// Whether it is arithmetic with a pointer other than a number added to it or subtracted from it,
+/// in 64 bits.
 pub fn is_alu_refused(bits: OpWidth, operation: Arithmetic, x: Kind, y: Kind) -> bool
     ensures { result ≡ alu_refused bits operation (seen x) (seen y) }
 {
@@ -73,7 +74,8 @@ pub fn range_leaves(caps: &Caps, pointer: Kind, length: Kind) -> bool
     }
 }
 
-/// Whether a helper's range from this pointer on, of that length, is in the region that is read only.
+/// Whether a helper's range from this pointer on, of that length, is in the region that is read
+/// only.
 pub fn range_is_read_only(pointer: Kind, length: Kind) -> bool
     ensures { result ≡ range_is_read_only (seen pointer) (seen length) }
 {

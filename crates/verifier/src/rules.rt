@@ -14,7 +14,8 @@ use bpf_decode::{Insn, Operand, Register, jump_target, width};
 use bpf_machine::Caps;
 use helpers::signature;
 
-/// The lowest rule that refuses the instruction at a slot; rules 5 to 15 and 17 under a frame alone.
+/// The lowest rule that refuses the instruction at a slot; rules 5 to 15 and 17 under a frame
+/// alone.
 pub fn refusing_rule(
     caps: &Caps,
     code: &[Option<Insn>],
@@ -204,7 +205,8 @@ fn writes_r10(insn: &Insn) -> bool
     }
 }
 
-/// It computes with a pointer, other than a copy, or a number added to it or subtracted from it, each in 64 bits.
+/// It computes with a pointer, other than a copy, or a number added to it or subtracted from it,
+/// each in 64 bits.
 #[rattlefmt::skip]
 fn computes_with_pointer(frame: &Frame, insn: &Insn) -> bool
     ensures { result ≡ computes_with_pointer frame.now insn.now }
@@ -306,7 +308,8 @@ fn loads_part(caps: &Caps, frame: &Frame, base: Register, offset: i16, bytes: us
         && load_meets(Content::Pointer, caps, frame, base, offset, bytes)
 }
 
-/// Whether the bytes at a distance from what a register points to are a slot of the stack that is known.
+/// Whether the bytes at a distance from what a register points to are a slot of the stack that is
+/// known.
 fn is_slot(frame: &Frame, base: Register, offset: i16, bytes: usize) -> bool
     ensures { result ≡ is_some (kept_kind frame.now (kind_at frame.now base) (extended offset) bytes) }
 {
