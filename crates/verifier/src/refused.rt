@@ -20,8 +20,8 @@ pub struct RefusedSlot {
     /// The lowest rule that refuses the slot's instruction.
     pub rule: Rule,
     pub insn: Insn,
-    /// What is known of the registers before it: the join of all that flows into the slot. None
-    /// where nothing does.
+    /// What is known of registers and slots of the stack before it: the join of all that flows into
+    /// the slot. None where nothing does.
     pub known: Option<Frame>,
 }
 

@@ -10,7 +10,7 @@ pub enum Rule {
     Backward,
     /// A jump's target is past the last slot or in a wide load's second half.
     Target,
-    /// The last instruction is neither `exit` nor a jump.
+    /// The last instruction is neither `exit` nor `ja`.
     FallsOff,
     /// A call within the program.
     LocalCall,
@@ -19,7 +19,8 @@ pub enum Rule {
     UnsetRead,
     /// Register 10 is the destination of arithmetic, a load or a wide load.
     WritesR10,
-    /// Arithmetic on a pointer that gives neither a copy nor a place in its region.
+    /// Arithmetic on a pointer other than a copy, or a number added to it or subtracted from it,
+    /// each of 64 bits.
     PointerArithmetic,
     /// A comparison with a pointer.
     PointerCompare,
