@@ -7,6 +7,7 @@ use bpf_decode::{Arithmetic, OpWidth};
 
 /// Whether all of the bytes at that distance from an offset are among the first `size`, by the
 /// upper bound of the sum; so are those of a sum that has no value.
+#[inline(always)]
 pub fn access_fits(at: Number, distance: u64, bytes: u64, size: u64) -> bool
     ensures { result ≡ access_fits (view at) distance bytes size }
 {
@@ -23,6 +24,7 @@ pub fn access_fits(at: Number, distance: u64, bytes: u64, size: u64) -> bool
 
 /// Whether a range of a length from an offset on is within the first `size` bytes, by the upper
 /// bounds of both.
+#[inline(always)]
 pub fn range_fits(at: Number, length: Number, size: u64) -> bool
     ensures { result ≡ range_fits (view at) (view length) size }
 {

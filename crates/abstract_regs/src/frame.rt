@@ -48,7 +48,7 @@ impl Frame {
         Ok(Frame { registers, slots })
     }
 
-    /// An equal frame. It takes no memory where no slots are known.
+    /// An equal frame. It takes memory for its slots alone, and rule set 1 has none.
     pub fn copy(&self, alloc: Global) -> Result<Frame, AllocError>
         ensures { IfOk result (λ f. f ≡ self.now) }
     {
@@ -67,6 +67,7 @@ impl Frame {
     }
 
     /// The kind of the register of that number; past 10 it is Unset.
+    #[inline(always)]
     pub fn kind(&self, register: usize) -> Kind
         ensures { seen result ≡ kind_at self.now register }
     {
@@ -74,6 +75,7 @@ impl Frame {
     }
 
     /// The kind of a register.
+    #[inline(always)]
     pub fn at(&self, register: Register) -> Kind
         ensures { seen result ≡ kind_at self.now register }
     {
@@ -81,6 +83,7 @@ impl Frame {
     }
 
     /// Gives a register another kind.
+    #[inline(always)]
     pub(crate) fn set(&mut self, dst: Register, kind: Kind)
         ensures { self.new ≡ with_kind self.old dst (seen kind) }
     {
@@ -139,6 +142,7 @@ impl Frame {
 
     /// The kind of the slot that an access is, at a distance from what a kind points to, where it
     /// is one that is known.
+    #[inline(always)]
     pub fn slot(&self, base: Kind, distance: u64, bytes: usize) -> Option<Kind>
         ensures { option_map seen result ≡ kept_kind self.now (seen base) distance bytes }
     {
@@ -153,6 +157,7 @@ impl Frame {
     }
 
     /// Whether a slot that the bytes of an access may touch has it.
+    #[inline(always)]
     pub fn access_meets(&self, content: Content, base: Kind, distance: u64, bytes: usize) -> bool
         ensures { result ≡ meets content (access_span (stack_place (seen base) distance) bytes) 0 self.now.slots }
     {
@@ -165,6 +170,7 @@ impl Frame {
     }
 
     /// Whether a slot that a helper's range may touch has it.
+    #[inline(always)]
     pub fn range_meets(&self, content: Content, pointer: Kind, length: Kind) -> bool
         ensures { result ≡ meets content (stack_range (seen pointer) (seen length)) 0 self.now.slots }
     {
@@ -193,6 +199,7 @@ impl Frame {
     }
 
     /// The kind of what an instruction reads besides its destination.
+    #[inline(always)]
     pub fn operand(&self, source: Operand) -> Kind
         ensures { seen result ≡ operand_kind self.now source }
     {
@@ -203,6 +210,7 @@ impl Frame {
     }
 
     /// The kind of what a comparison compares with its destination.
+    #[inline(always)]
     pub(crate) fn compared(&self, bits: OpWidth, source: &Operand) -> Kind
         ensures { seen result ≡ compared_kind bits self.now source.now }
     {
@@ -215,6 +223,7 @@ impl Frame {
     }
 }
 
+#[inline(always)]
 fn kind_in(registers: &[Kind; 11], register: usize) -> Kind
     ensures { seen result ≡ or_unset (slice_get (seen_each registers.now) register) }
 {

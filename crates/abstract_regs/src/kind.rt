@@ -28,6 +28,7 @@ pub(crate) struct Kinds {
 
 impl Kind {
     /// Whether nothing is known of it.
+    #[inline(always)]
     pub fn is_unset(self) -> bool
         ensures { result ≡ is_unset (seen self) }
     {
@@ -38,6 +39,7 @@ impl Kind {
     }
 
     /// Whether it is a number.
+    #[inline(always)]
     pub fn is_num(self) -> bool
         ensures { result ≡ is_num (seen self) }
     {
@@ -48,6 +50,7 @@ impl Kind {
     }
 
     /// Whether it is a pointer.
+    #[inline(always)]
     pub fn is_ptr(self) -> bool
         ensures { result ≡ is_ptr (seen self) }
     {
@@ -92,6 +95,7 @@ impl Kind {
     }
 
     /// The negative of a number.
+    #[inline(always)]
     pub(crate) fn neg(self, bits: OpWidth) -> Option<Kind>
         ensures { option_map seen result ≡ neg_kind bits (seen self) }
     {
@@ -102,6 +106,7 @@ impl Kind {
     }
 
     /// A copy: of a pointer in 64 bits alone.
+    #[inline(always)]
     pub(crate) fn mov(self, bits: OpWidth) -> Option<Kind>
         ensures { option_map seen result ≡ mov_kind bits (seen self) }
     {
@@ -116,6 +121,7 @@ impl Kind {
     }
 
     /// A copy of a number with sign extension.
+    #[inline(always)]
     pub(crate) fn mov_signed(self, extension: SignedMove) -> Option<Kind>
         ensures { option_map seen result ≡ signed_move_kind extension (seen self) }
     {
@@ -162,6 +168,7 @@ impl Kind {
     }
 
     /// The kind of a number, where one is left.
+    #[inline(always)]
     fn number(n: Option<Number>) -> Option<Kind>
         ensures { option_map seen result ≡ option_map plain.Num (option_map view n) }
     {
@@ -172,6 +179,7 @@ impl Kind {
     }
 
     /// The kind of a pointer, where an offset is left.
+    #[inline(always)]
     fn pointer(region: Region, at: Option<Number>) -> Option<Kind>
         ensures { option_map seen result ≡ option_map (plain.Ptr region) (option_map view at) }
     {
@@ -182,6 +190,7 @@ impl Kind {
     }
 
     /// A number's kind twice.
+    #[inline(always)]
     fn twice(n: Option<Number>) -> Option<Kinds>
         ensures { option_map seen_both result ≡ option_map same_num (option_map view n) }
     {
@@ -195,6 +204,7 @@ impl Kind {
     }
 
     /// The kinds of two numbers.
+    #[inline(always)]
     fn both(numbers: Option<(Number, Number)>) -> Option<Kinds>
         ensures { option_map seen_both result ≡ option_map both_nums (option_map view_both numbers) }
     {
@@ -208,6 +218,7 @@ impl Kind {
     }
 }
 
+#[inline(always)]
 fn is_same_region(r: Region, q: Region) -> bool
     ensures { result ≡ same_region r q }
 {

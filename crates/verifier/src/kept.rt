@@ -36,6 +36,7 @@ impl PendingFrames {
     }
 
     /// Takes the frame that is kept for a slot, if there is one.
+    #[inline(always)]
     pub fn take(&mut self, slot: usize) -> Option<Box<Frame>>
         ensures taken { unbox result ≡ frame_at self.old slot }
         ensures left { self.new ≡ slice_set self.old slot None }

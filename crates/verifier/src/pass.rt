@@ -89,6 +89,7 @@ pub fn first_refused(
 }
 
 /// A frame out of its box.
+#[inline(always)]
 fn unboxed(frame: Option<Box<Frame>>) -> Option<Frame>
     ensures { result ≡ unbox frame }
 {
@@ -99,6 +100,7 @@ fn unboxed(frame: Option<Box<Frame>>) -> Option<Frame>
 }
 
 /// The instruction that begins at a slot, if one does.
+#[inline(always)]
 fn insn_at(code: &[Option<Insn>], slot: usize) -> Option<Insn>
     ensures { result ≡ fetch code.now slot }
 {
@@ -176,6 +178,7 @@ impl Pass {
     }
 
     /// Comes to a slot: what falls through to it joins what is kept for it.
+    #[inline(always)]
     fn arrive(&mut self, slot: usize)
         ensures current { unbox self.new.current ≡ awaited self.old slot }
         ensures kept { self.new.kept ≡ slice_set self.old.kept slot None }
