@@ -9,4 +9,4 @@ mod laws;
 
 pub use answer::{Answer, AnswerError, answer_on};
 pub use class::{ClassError, load, method_of};
-pub use laws::one_answer;
+pub use laws::{one_answer, parts_may_be_left_out};

@@ -36,7 +36,7 @@ no_write xs from end h =
     let none : (end - from == 0) ≡ true = eq-eqb (end - from) 0 (omega arith) in
     ap (λ (b : Bool). if b then [] else Write from (take (end - from) (drop from xs)) ∷ []) none
 
-no_data : (xs : List ℕ) → data_edits xs xs ≡ []
+pub no_data : (xs : List ℕ) → data_edits xs xs ≡ []
 no_data xs =
     let same : length_edits (length xs) (length xs) ≡ [] = ap (λ (b : Bool). if b then [] else SetLength (length xs) ∷ []) (eq-eqb (length xs) (length xs) refl) in
     ap (λ (es : List Edit). es ++ byte_edits (resized xs (length xs)) xs) same

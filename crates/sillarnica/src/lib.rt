@@ -54,7 +54,8 @@ pub extern "C" fn sillarnica_method(
     method::declared(alloc, image, method, flags, in_cap, out_cap)
 }
 
-/// Which parts of an object a method can see or change: 1 data, 2 xattrs, 4 keys, added. It answers 7 of every method.
+/// Which parts of an object a method can see or change: 1 data, 2 xattrs, 4 keys, added. A call on the object with these
+/// parts alone answers what one on the whole object does. -95: there is no such method; -12.
 #[unsafe(no_mangle)]
 pub extern "C" fn sillarnica_needs(alloc: Global, image: &[u8], method: &[u8]) -> i32
     ensures { TellsNeeds image.now method.now result }

@@ -11,3 +11,5 @@ mod flat;
 mod host;
 #[cfg(test)]
 mod images;
+#[cfg(test)]
+mod parts;

@@ -1,0 +1,300 @@
+//! Random methods over all helpers, on whole objects and on objects without the parts that the methods don't need: the
+//! answers are the same to the byte.
+
+use bpf_decode::read_image;
+use class_calls::{Answer, answer_on};
+use footprint::{Parts, needed};
+use std::alloc::Global;
+
+/// The next of a row of numbers, below `most`.
+fn next(row: &mut u64, most: u64) -> u64 {
+    *row = row
+        .wrapping_mul(6_364_136_223_846_793_005)
+        .wrapping_add(1_442_695_040_888_963_407);
+    (*row >> 33) % most.max(1)
+}
+
+/// An instruction's eight bytes: opcode, destination and source, and a number.
+fn slot(code: &mut Vec<u8>, opcode: u8, registers: u8, number: u32) -> Option<()> {
+    code.extend_from_slice(&[opcode, registers, 0, 0]).ok()?;
+    code.extend_from_slice(&number.to_le_bytes()).ok()
+}
+
+/// `mov` of a number to a register.
+fn set(code: &mut Vec<u8>, register: u8, number: u32) -> Option<()> {
+    slot(code, 0xb7, register, number)
+}
+
+/// A register points to a place after where another points.
+fn point(code: &mut Vec<u8>, register: u8, base: u8, place: u32) -> Option<()> {
+    slot(code, 0xbf, base * 16 + register, 0)?;
+    slot(code, 0x07, register, place)
+}
+
+/// A range of that many bytes of the input, which register 7 points to, in registers `first` and the next.
+fn readable(code: &mut Vec<u8>, first: u8, row: &mut u64, len: u32) -> Option<()> {
+    point(code, first, 7, next(row, 4) as u32)?;
+    set(code, first + 1, len)
+}
+
+/// A range of the output, which register 8 points to.
+fn writable(code: &mut Vec<u8>, first: u8, row: &mut u64) -> Option<()> {
+    point(code, first, 8, 8 * next(row, 4) as u32)?;
+    set(code, first + 1, 1 + next(row, 6) as u32)
+}
+
+/// The arguments of a helper: a number, a readable range, or two ranges.
+fn arguments(code: &mut Vec<u8>, helper: u32, row: &mut u64) -> Option<()> {
+    match helper {
+        2 => {
+            set(code, 1, next(row, 6) as u32)?;
+            writable(code, 2, row)
+        }
+        3 => {
+            set(code, 1, next(row, 6) as u32)?;
+            readable(code, 2, row, 3)
+        }
+        4 | 14 => set(code, 1, next(row, 2) as u32 * 4),
+        6 | 9 | 12 => {
+            readable(code, 1, row, 1)?;
+            writable(code, 3, row)
+        }
+        7 | 10 => {
+            readable(code, 1, row, 1)?;
+            readable(code, 3, row, 2)
+        }
+        8 | 11 => readable(code, 1, row, 1),
+        13 => set(code, 1, next(row, 40) as u32),
+        _ => Some(()),
+    }
+}
+
+/// A call whose answer counts in register 6.
+fn call(code: &mut Vec<u8>, helper: u32, row: &mut u64) -> Option<()> {
+    arguments(code, helper, row)?;
+    slot(code, 0x85, 0, helper)?;
+    slot(code, 0x27, 6, 31)?;
+    slot(code, 0x0f, 0x06, 0)
+}
+
+/// Registers 7 and 8 point to the input and the output, and register 6 is 0.
+fn begin(code: &mut Vec<u8>) -> Option<()> {
+    slot(code, 0xbf, 0x17, 0)?;
+    slot(code, 0xbf, 0x38, 0)?;
+    set(code, 6, 0)
+}
+
+/// Register 6, shifted right by some bits, is the method's code.
+fn finish(code: &mut Vec<u8>, shift: u32) -> Option<()> {
+    slot(code, 0xbf, 0x60, 0)?;
+    slot(code, 0x77, 0, shift)?;
+    slot(code, 0x95, 0, 0)
+}
+
+/// A method's code: two to nine calls of the helpers that `allowed` has, and a code that is not negative, but for one method in eight.
+fn code_of(alloc: Global, allowed: u64, row: &mut u64) -> Option<Vec<u8>> {
+    let mut code = Vec::new(alloc);
+    begin(&mut code)?;
+    for _ in 0..2 + next(row, 8) {
+        let helper = 1 + next(row, 15) as u32;
+        if allowed >> helper & 1 == 1 {
+            call(&mut code, helper, row)?;
+        }
+    }
+    finish(&mut code, if next(row, 8) == 0 { 0 } else { 1 })?;
+    Some(code)
+}
+
+/// The image of a class of one method `f` of that code, with flags 3, 8 bytes of input and 40 of output.
+fn image_of(alloc: Global, code: &[u8]) -> Option<Vec<u8>> {
+    let mut image = Vec::new(alloc);
+    image
+        .extend_from_slice(b"RCL1\x01\x00\x00\x00\x01f\x03\x08\x00\x28\x00")
+        .ok()?;
+    let slots = (code.len() / 8) as u16;
+    image.extend_from_slice(&slots.to_le_bytes()).ok()?;
+    image.extend_from_slice(code).ok()?;
+    Some(image)
+}
+
+/// An object: whether it is there, how many bytes of data, and which of four names are xattrs and keys.
+#[derive(Clone, Copy)]
+struct Drawn {
+    there: bool,
+    len: u8,
+    xattrs: u64,
+    keys: u64,
+}
+
+fn drawn(row: &mut u64) -> Drawn {
+    Drawn {
+        there: next(row, 5) > 0,
+        len: next(row, 9) as u8,
+        xattrs: next(row, 16),
+        keys: next(row, 16),
+    }
+}
+
+/// The entries of the names a to d that `names` has, each with a value of two bytes.
+fn entries(form: &mut Vec<u8>, names: u64) -> Option<()> {
+    let count = (0..4).filter(|bit| names >> *bit & 1 == 1).count();
+    form.extend_from_slice(&(count as u16).to_le_bytes()).ok()?;
+    for bit in 0..4 {
+        if names >> bit & 1 == 1 {
+            form.extend_from_slice(&[1, b'a' + bit, 2, 0, b'v', b'0' + bit])
+                .ok()?;
+        }
+    }
+    Some(())
+}
+
+/// Its flat form with these parts alone.
+fn form_of(alloc: Global, object: &Drawn, parts: Parts) -> Option<Vec<u8>> {
+    let mut form = Vec::new(alloc);
+    if !object.there {
+        form.push(0).ok()?;
+        return Some(form);
+    }
+    let len = if parts.bytes { object.len } else { 0 };
+    form.extend_from_slice(&[1, len, 0, 0, 0]).ok()?;
+    for n in 0..len {
+        form.push(b'A' + n).ok()?;
+    }
+    entries(&mut form, if parts.xattrs { object.xattrs } else { 0 })?;
+    entries(&mut form, if parts.keys { object.keys } else { 0 })?;
+    Some(form)
+}
+
+/// The parts that the image's method needs.
+fn parts_of(alloc: Global, image: &[u8]) -> Option<Parts> {
+    let class = read_image(alloc, image).ok()?;
+    let method = class.methods().first()?;
+    Some(needed(method.instructions()))
+}
+
+fn asked(alloc: Global, image: &[u8], form: &[u8]) -> Option<Answer> {
+    answer_on(alloc, image, b"f", form, 7, b"abcdabcd").ok()
+}
+
+fn are_same(a: &Answer, b: &Answer) -> bool {
+    a.code == b.code
+        && a.steps == b.steps
+        && a.output.as_slice() == b.output.as_slice()
+        && a.edits.as_slice() == b.edits.as_slice()
+}
+
+const ALL: Parts = Parts {
+    bytes: true,
+    xattrs: true,
+    keys: true,
+};
+
+/// Whether a method answers the same on an object with the parts alone; none where a call is refused.
+fn holds(alloc: Global, image: &[u8], object: &Drawn, parts: Parts) -> Option<bool> {
+    let whole = asked(alloc, image, &form_of(alloc, object, ALL)?)?;
+    let reduced = asked(alloc, image, &form_of(alloc, object, parts)?)?;
+    Some(are_same(&whole, &reduced))
+}
+
+/// Helpers by bits of their ids: some of `caller` and `out_len`, `remove`, `create`, and those of the data, xattrs and keys.
+fn helpers(bits: u64) -> u64 {
+    const GROUPS: [u64; 5] = [0x20, 0x4000, 0x1e, 0x1c0, 0x1e00];
+    let mut all = 0xa000;
+    for (bit, group) in GROUPS.iter().enumerate() {
+        if bits >> bit & 1 == 1 {
+            all |= *group;
+        }
+    }
+    all
+}
+
+/// A random method on four random objects: whether the parts that it needs are enough, and whether these are not all.
+fn round(alloc: Global, row: &mut u64) -> Option<(bool, bool)> {
+    let allowed = helpers(next(row, 32));
+    let code = code_of(alloc, allowed, row)?;
+    let image = image_of(alloc, &code)?;
+    let parts = parts_of(alloc, &image)?;
+    for _ in 0..4 {
+        if !holds(alloc, &image, &drawn(row), parts)? {
+            return Some((false, false));
+        }
+    }
+    Some((true, parts != ALL))
+}
+
+#[test]
+fn the_needed_parts_are_enough(rt: HostRuntime) {
+    let mut row = 1;
+    let mut fewer = 0;
+    for _ in 0..200 {
+        let (is_enough, is_less) = round(rt.alloc(), &mut row).expect(&rt, "calls");
+        assert!(rt; is_enough);
+        if is_less {
+            fewer += 1;
+        }
+    }
+    assert!(rt; fewer > 60);
+}
+
+/// Helpers that a method calls, and the number of the parts that it needs.
+#[rattlefmt::skip]
+const NUMBERS: [(&[u32], u8); 26] = [
+    (&[], 0), (&[1], 1), (&[2], 1), (&[3], 1), (&[4], 1), (&[5], 0), (&[6], 2), (&[7], 2), (&[8], 2),
+    (&[9], 4), (&[10], 4), (&[11], 4), (&[12], 4), (&[13], 0), (&[14], 0), (&[15], 0),
+    (&[1, 8], 3), (&[2, 12], 5), (&[6, 9], 6), (&[4, 6, 11], 7),
+    // an object that is removed and created has none of what it had
+    (&[5, 3], 7), (&[7, 5], 7), (&[5, 10], 7), (&[14, 5], 7), (&[5, 1, 4], 1), (&[5, 8, 6], 2),
+];
+
+/// The image of a method that calls these helpers in order.
+fn calling(alloc: Global, helpers: &[u32], row: &mut u64) -> Option<Vec<u8>> {
+    let mut code = Vec::new(alloc);
+    begin(&mut code)?;
+    for helper in helpers {
+        call(&mut code, *helper, row)?;
+    }
+    finish(&mut code, 1)?;
+    image_of(alloc, &code)
+}
+
+fn number_of(alloc: Global, helpers: &[u32]) -> Option<u8> {
+    let image = calling(alloc, helpers, &mut 1)?;
+    Some(parts_of(alloc, &image)?.number())
+}
+
+#[test]
+fn each_helper_needs_its_part(rt: HostRuntime) {
+    for (helpers, number) in &NUMBERS {
+        assert!(rt; number_of(rt.alloc(), helpers) == Some(*number));
+    }
+}
+
+/// Helpers, and a part: on an object without it the answer of a method that calls them is another.
+#[rattlefmt::skip]
+const SEEN: [(&[u32], u8); 13] = [
+    (&[1], 1), (&[2], 1), (&[3], 1), (&[4], 1), (&[6], 2), (&[8], 2), (&[9], 4), (&[11], 4), (&[12], 4),
+    (&[5, 3], 2), (&[5, 7], 4), (&[5, 10], 1), (&[5, 14], 2),
+];
+
+fn is_seen(alloc: Global, helpers: &[u32], part: u8) -> Option<bool> {
+    const FULL: Drawn = Drawn {
+        there: true,
+        len: 8,
+        xattrs: 15,
+        keys: 15,
+    };
+    let image = calling(alloc, helpers, &mut 1)?;
+    let parts = Parts {
+        bytes: part != 1,
+        xattrs: part != 2,
+        keys: part != 4,
+    };
+    Some(!holds(alloc, &image, &FULL, parts)?)
+}
+
+#[test]
+fn no_part_is_named_in_vain(rt: HostRuntime) {
+    for (helpers, part) in &SEEN {
+        assert!(rt; is_seen(rt.alloc(), helpers, *part) == Some(true));
+    }
+}
