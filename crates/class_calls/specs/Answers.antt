@@ -1,5 +1,5 @@
 -- What the calls on bytes give.
-use Rattle.std.specs.Prelude.{◌≡◌, ◌≢◌, ℕ, ◌≤◌, List, Some, None, Result, Ok, Err, length}
+use Rattle.std.specs.Prelude.{◌≡◌, ◌≢◌, ℕ, ◌≤◌, List, Some, None, Err, length}
 use Rattle.std.specs.List.{AllByRecursion}
 use Rattle.bpf_decode.specs.Class.{ClassMethod, Class, IsImage}
 use Rattle.bpf_decode.specs.ImageReading.{image_of}

@@ -1,14 +1,10 @@
 -- The edits of a change make of the object before the object after, and none are made where nothing changed.
-use Rattle.std.proofs.Common.{◌≡◌, ◌∙◌, ℕ, zero, suc, ◌+◌, ◌-◌, Bool, true, false, List, [], ◌∷◌, ◌++◌, Some, None, Ok, refl, ap, sym, arith, length, take, drop, get_or}
-use Rattle.std.specs.Prelude.{if◌then◌else◌, ◌==◌, slice_get}
-use Rattle.std.specs.List.{flat_map}
+use Rattle.std.proofs.Common.{◌≡◌, ◌∙◌, ℕ, zero, suc, ◌-◌, Bool, true, List, [], ◌∷◌, ◌++◌, Some, None, Ok, refl, ap, sym, arith, length, take, drop, get_or}
+use Rattle.std.specs.Prelude.{if◌then◌else◌, ◌==◌}
 use Rattle.std.proofs.lemmas.Bool.{eq-eqb}
-use Rattle.std.specs.FinMap as fin
-use Rattle.object_store.specs.Object.{Attributes, Content, PlainObject, IsContent, IsObject, nothing, resized}
-use Rattle.object_bytes.specs.declared.part.Part.{Part}
+use Rattle.object_store.specs.Object.{Content, PlainObject, IsContent, IsObject, nothing, resized}
 use Rattle.object_bytes.specs.declared.part.Part.TheVariants.{Xattrs, Keys}
-use Rattle.object_bytes.specs.Part.{names}
-use Rattle.object_bytes.specs.Edits.{Edit, Create, Remove, SetLength, Write, all_edited, spelled, Leads}
+use Rattle.object_bytes.specs.Edits.{Edit, SetLength, Write, all_edited, spelled, Leads}
 use Rattle.object_bytes.specs.Changes.{apart, alike, length_edits, write_edits, byte_edits, data_edits, name_edits, content_edits, edits}
 use Rattle.object_bytes.proofs.Again.{nothing_is}
 use Rattle.object_bytes.proofs.DataMade.{both_made, data_made, resized_same}

@@ -12,7 +12,7 @@ use Rattle.object_store.specs.Edits.{overlaid}
 use Rattle.class_calls.specs.Answers.{IsLoaded, RefusesClass, IsAnswered, HasNoMethod, TakesNoInput, HasNoObject}
 use Rattle.class_calls.specs.Needs.{AreEnough}
 use Rattle.class_calls.specs.declared.answer.Answer.{Answer}
-use Rattle.footprint.specs.Parts.{number_of}
+use Rattle.footprint.specs.Parts as footprint
 use Rattle.footprint.specs.Needed.{needed}
 use Rattle.sillarnica.specs.declared.told.ToldRefusal.{ToldRefusal}
 use Rattle.sillarnica.specs.declared.told.ToldAnswer.{ToldAnswer}
@@ -125,7 +125,7 @@ pub record Needs (image name : List ℕ) (result : ℤ) : Type 0 where
   pub spelled : IsImage image written
   pub method : ClassMethod
   pub named : method_named written.methods name ≡ Some method
-  pub number : result ≡ pos (number_of (needed method.instructions))
+  pub number : result ≡ pos (footprint.number_of (needed method.instructions))
   pub enough : AreEnough image name (needed method.instructions)
 
 abbrev pub TellsNeeds : List ℕ → List ℕ → ℤ → Type 0
