@@ -1,4 +1,5 @@
-/* A host that keeps objects in a hash table: `host IMAGE OBJECT METHOD HEX ..` makes the calls in order. It reads as C and C++. */
+/* A host that keeps objects in a hash table: `host IMAGE OBJECT METHOD HEX ..` makes the calls in
+ * order. It reads as C and C++. */
 #include "sillarnica.h"
 #include <stdio.h>
 #include <stdlib.h>

@@ -1,4 +1,5 @@
--- A call on an object without parts that the method doesn't need is answered as one on the whole object.
+-- A call on an object without parts that the method doesn't need is answered as one on the whole
+-- object.
 use Rattle.std.proofs.Common.{◌≡◌, ◌∙◌, ℕ, ℤ, ◌≤◌, Bool, true, false, List, [], ◌∷◌, Some, None, refl, ap, sym, subst, length}
 use Rattle.std.specs.Prelude.{if◌then◌else◌}
 use Rattle.std.specs.List.{AllByRecursion}

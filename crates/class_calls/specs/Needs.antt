@@ -14,8 +14,9 @@ use Rattle.class_calls.specs.declared.answer.Answer.{Answer}
 use Rattle.class_calls.specs.declared.answer.AnswerError.{AnswerError}
 use Rattle.class_calls.specs.Answers.{IsLoaded, IsAnswered, RefusesCall}
 
--- What the image's class answers on an object, which may be past the limits: the run of the method's bytes on the flat
--- machine has this code, output and steps, and the edits make of the object the one that the run leaves.
+-- What the image's class answers on an object, which may be past the limits: the run of the
+-- method's bytes on the flat machine has this code, output and steps, and the edits make of the
+-- object the one that the run leaves.
 pub record AnswersOn (image name : List ℕ) (object : PlainObject) (caller : ℕ) (input : List ℕ) (answer : Answer) : Type 0 where
   pub class : List ClassMethod
   pub loaded : IsLoaded image class
@@ -27,9 +28,10 @@ pub record AnswersOn (image name : List ℕ) (object : PlainObject) (caller : �
   pub runs : RunsTo method object caller input (record { code = cast_unsigned w64 answer.code; output = answer.output.items; object = after }) answer.steps
   pub lead : Leads object after answer.edits.items
 
--- These parts are enough. Let a host keep them, or more, of any object, and call the method on the flat form of what it
--- kept. The answer is that on the whole object, whatever is in the other parts. If the whole object has a flat form, a call
--- on that answers the same, code, instructions, output and edits, and is refused for the same reason.
+-- These parts are enough. Let a host keep them, or more, of any object, and call the method on the
+-- flat form of what it kept. The answer is that on the whole object, whatever is in the other
+-- parts. If the whole object has a flat form, a call on that answers the same, code, instructions,
+-- output and edits, and is refused for the same reason.
 pub record AreEnough (image name : List ℕ) (needed : Parts) : Type 0 where
   pub any : (kept : Parts) → Covers kept needed → (whole : PlainObject) (form : List ℕ) → Spells form (reduced kept whole) →
       (caller : ℕ) (input : List ℕ) (answer : Answer) → IsAnswered image name form caller input answer → AnswersOn image name whole caller input answer

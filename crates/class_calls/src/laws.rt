@@ -15,8 +15,8 @@ pub fn one_answer()
     bpf_decode::round_trip();
 }
 
-/// A host may leave out of an object each part that the method's code doesn't need: the answer is the same, and so its edits
-/// are those of the whole object.
+/// A host may leave out of an object each part that the method's code doesn't need: the answer is
+/// the same, and so its edits are those of the whole object.
 pub fn parts_may_be_left_out()
     ensures { NeededAreEnough }
 {

@@ -1,4 +1,5 @@
--- A helper that code without some parts may call does on the reduced object what it does on the whole one.
+-- A helper that code without some parts may call does on the reduced object what it does on the
+-- whole one.
 use Rattle.std.proofs.Common.{◌≡◌, ◌∙◌, ℕ, ◌+◌, Bool, true, false, List, [], Some, None, refl, ap, sym, subst, length}
 use Rattle.std.specs.Prelude.{if◌then◌else◌, nat_lt, not, ◌==◌}
 use Rattle.std.specs.FinMap as fin
@@ -193,7 +194,8 @@ module _ (kb kx : Bool) (whole : PlainObject) (creates : Bool) where
       (m_refused O whole creates ENODATA (Some c) g)
       (m_changes O whole creates (Some d) _ 0 (with_omap c (fin.remove c.omap key) g) refl))
 
--- What code that leaves out parts may call: helpers of kept parts, none that removes where one creates.
+-- What code that leaves out parts may call: helpers of kept parts, none that removes where one
+-- creates.
 pub record MayCall (kept : Parts) (creates : Bool) (h : Helper) : Type 0 where
   pub bytes : does Bytes h ≡ true → kept.bytes ≡ true
   pub xattrs : does Xattrs h ≡ true → kept.xattrs ≡ true

@@ -12,14 +12,14 @@ use Rattle.footprint.specs.Needed.{needed}
 abbrev pub whole_outcome : Parts → PlainObject → Outcome → Outcome
 whole_outcome kept whole o = record { code = o.code; output = o.output; object = restored kept whole o.object }
 
--- The run on the whole object has this outcome but for the parts that aren't kept: those it leaves as they were, and the
--- run on the object without them put nothing there.
+-- The run on the whole object has this outcome but for the parts that aren't kept: those it leaves
+-- as they were, and the run on the object without them put nothing there.
 pub record Frames (m : ClassMethod) (kept : Parts) (whole : PlainObject) (caller : ℕ) (input : List ℕ) (outcome : Outcome) (steps : ℕ) : Type 0 where
   pub runs : RunsTo m whole caller input (whole_outcome kept whole outcome) steps
   pub empty : reduced kept outcome.object ≡ outcome.object
 
--- Of every method within the limits and all parts that its code needs, or more: where the run on an object that has only
--- these ends, so does the run on the whole object.
+-- Of every method within the limits and all parts that its code needs, or more: where the run on an
+-- object that has only these ends, so does the run on the whole object.
 abbrev pub FrameLaw : Type 0
 FrameLaw =
     (m : ClassMethod) → IsMethod m → (kept : Parts) → Covers kept (needed m.instructions) →

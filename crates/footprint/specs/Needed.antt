@@ -1,13 +1,15 @@
--- Which parts of an object code needs. A helper reads or changes one part at most, besides whether the object is there:
+-- Which parts of an object code needs. A helper reads or changes one part at most, besides whether
+-- the object is there:
 --
 --     1 stat, 2 read, 3 write, 4 truncate              the data
 --     6 getxattr, 7 setxattr, 8 rmxattr                the xattrs
 --     9 map_get, 10 map_set, 11 map_rm, 12 map_next    the keys
 --     5 remove, 13 out_len, 14 create, 15 caller       none
 --
--- 5 removes the object, and 3, 7, 10 and 14 create one where there is none. Code that calls 5 and one of these can empty
--- every part of an object that was there and is there: so it needs all. Else a part that is left out stands as it was,
--- or went with the object, or the object was created without it.
+-- 5 removes the object, and 3, 7, 10 and 14 create one where there is none. Code that calls 5 and
+-- one of these can empty every part of an object that was there and is there: so it needs all. Else
+-- a part that is left out stands as it was, or went with the object, or the object was created
+-- without it.
 use Rattle.std.specs.Prelude.{Bool, true, false, if◌then◌else◌, List, [], ◌∷◌, Option, Some, None}
 use Rattle.bpf_decode.specs.declared.insn.Insn.{Insn}
 use Rattle.bpf_decode.specs.declared.insn.Insn.TheVariants.{Call}

@@ -4,9 +4,9 @@ ghost use Rattle.footprint.specs.Frame.{FrameLaw};
 
 use bpf_machine::{chains, decoded, layouts};
 
-/// A law. Where a run of a method ends on an object without parts that the method's code doesn't need, the run on the whole
-/// object ends with the same code, output and steps, and leaves of the needed parts what the other left, and the others as
-/// they were.
+/// A law. Where a run of a method ends on an object without parts that the method's code doesn't
+/// need, the run on the whole object ends with the same code, output and steps, and leaves of the
+/// needed parts what the other left, and the others as they were.
 pub fn frame()
     ensures { FrameLaw }
 {

@@ -1,7 +1,8 @@
 ghost use Rattle.std.specs.Prelude.{◌≡◌};
 ghost use Rattle.footprint.specs.Parts.{number_of};
 
-/// Parts of an object: its data, its xattrs and the keys of its omap. That an object is there is no part of it.
+/// Parts of an object: its data, its xattrs and the keys of its omap. That an object is there is no
+/// part of it.
 #[derive(Clone, Copy, PartialEq, Eq)]
 pub struct Parts {
     pub bytes: bool,

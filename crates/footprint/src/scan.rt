@@ -67,8 +67,9 @@ fn calls(code: &[Insn], deed: Deed) -> bool
     false
 }
 
-/// The parts that a method of this code can see or change: those of the helpers that it calls. If it calls one that removes
-/// an object and one that creates one, it can empty each part, so these are all.
+/// The parts that a method of this code can see or change: those of the helpers that it calls. If
+/// it calls one that removes an object and one that creates one, it can empty each part, so these
+/// are all.
 pub fn needed(code: &[Insn]) -> Parts
     ensures { result ≡ needed code.now }
 {

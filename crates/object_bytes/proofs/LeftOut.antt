@@ -1,5 +1,6 @@
--- An object without some of its parts, which another has without them too: the edits between the two are those between the
--- whole object and the other with the parts of the whole one. Three truth values say which parts are kept.
+-- An object without some of its parts, which another has without them too: the edits between the
+-- two are those between the whole object and the other with the parts of the whole one. Three truth
+-- values say which parts are kept.
 use Rattle.std.proofs.Common.{◌≡◌, ◌∙◌, ℕ, ◌≤◌, Bool, true, false, List, [], ◌++◌, Some, None, Ok, refl, ap, sym, subst, length}
 use Rattle.std.specs.Prelude.{if◌then◌else◌}
 use Rattle.std.specs.FinMap as fin

@@ -1,4 +1,5 @@
--- The edits of a change make of the object before the object after, and none are made where nothing changed.
+-- The edits of a change make of the object before the object after, and none are made where nothing
+-- changed.
 use Rattle.std.proofs.Common.{◌≡◌, ◌∙◌, ℕ, zero, suc, ◌-◌, Bool, true, List, [], ◌∷◌, ◌++◌, Some, None, Ok, refl, ap, sym, arith, length, take, drop, get_or}
 use Rattle.std.specs.Prelude.{if◌then◌else◌, ◌==◌}
 use Rattle.std.proofs.lemmas.Bool.{eq-eqb}

@@ -51,7 +51,8 @@ pub(crate) fn declared(
     0
 }
 
-/// Which parts of an object a method needs: 1 data, 2 xattrs, 4 keys, added. Refused: no such method, -95, and -12.
+/// Which parts of an object a method needs: 1 data, 2 xattrs, 4 keys, added. Refused: no such
+/// method, -95, and -12.
 pub(crate) fn needs(alloc: Global, image: &[u8], name: &[u8]) -> i32
     ensures { TellsNeeds image.now name.now result }
 {

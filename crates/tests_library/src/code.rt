@@ -15,7 +15,7 @@ pub fn set(code: &mut Vec<u8>, register: u8, number: u32) -> Option<()> {
 
 /// A register points to a place after where another points.
 pub fn point(code: &mut Vec<u8>, register: u8, base: u8, place: u32) -> Option<()> {
-    slot(code, 0xbf, base * 16 + register, 0)?;
+    slot(code, 0xbf, (base << 4) | register, 0)?;
     slot(code, 0x07, register, place)
 }
 
@@ -33,13 +33,14 @@ pub fn finish(code: &mut Vec<u8>, shift: u32) -> Option<()> {
     slot(code, 0x95, 0, 0)
 }
 
-/// The image of a class of one method `f` of that code, with flags 3, 8 bytes of input and 40 of output.
+/// The image of a class of one method `f` of that code, with flags 3, 8 bytes of input and 40 of
+/// output.
 pub fn image_of(alloc: Global, code: &[u8]) -> Option<Vec<u8>> {
     let mut image = Vec::new(alloc);
     image
         .extend_from_slice(b"RCL1\x01\x00\x00\x00\x01f\x03\x08\x00\x28\x00")
         .ok()?;
-    let slots = (code.len() / 8) as u16;
+    let slots = u16::try_from(code.len() / 8).ok()?;
     image.extend_from_slice(&slots.to_le_bytes()).ok()?;
     image.extend_from_slice(code).ok()?;
     Some(image)

@@ -1,4 +1,5 @@
-//! Tests alone, of the calls on bytes: flat forms, edits, answers, limits, parts that are left out, and a host in Rattle.
+//! Tests alone, of the calls on bytes: flat forms, edits, answers, limits, parts that are left out,
+//! and a host in Rattle.
 #![tactic(auto)]
 
 #[cfg(test)]

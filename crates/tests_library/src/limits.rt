@@ -1,4 +1,5 @@
-//! Objects at their limits of data, xattrs and keys: forms, edits, and calls that would pass a limit.
+//! Objects at their limits of data, xattrs and keys: forms, edits, and calls that would pass a
+//! limit.
 
 use crate::code::{begin, image_of, point, set, slot};
 use class_calls::{Answer, answer_on};
@@ -63,29 +64,42 @@ fn forms_at_the_limits(rt: HostRuntime) {
 /// An object at each limit.
 const FULL: Size = (65536, 32, 1024);
 
-fn object_of(alloc: Global, size: Size) -> Option<Object> {
-    read_object(alloc, &form(alloc, size)?).ok()?
+/// The object of a size; none of no size.
+fn made(alloc: Global, size: Option<Size>) -> Option<Option<Object>> {
+    match size {
+        Some(size) => read_object(alloc, &form(alloc, size)?).ok(),
+        None => Some(None),
+    }
 }
 
-/// How many bytes the edits between two objects have.
-fn length(alloc: Global, before: Option<&Object>, after: Option<&Object>) -> Option<usize> {
-    Some(edits_of(alloc, before, after).ok()?.len())
+/// Sizes of two objects, and how many bytes the edits between them have: create 1, set the length
+/// 5, write 9 and the data, set a name 6, and remove it 4. A removal of the object has one byte.
+type Change = (Option<Size>, Option<Size>, usize);
+
+const CHANGES: [Change; 5] = [
+    (None, Some(FULL), 15 + 65536 + 6 * 1056),
+    (Some((0, 0, 0)), Some(FULL), 14 + 65536 + 6 * 1056),
+    (Some(FULL), Some((0, 0, 0)), 5 + 4 * 1056),
+    (Some(FULL), Some(FULL), 0),
+    (Some(FULL), None, 1),
+];
+
+fn length(alloc: Global, change: &Change) -> Option<usize> {
+    let before = made(alloc, change.0)?;
+    let after = made(alloc, change.1)?;
+    let edits = edits_of(alloc, before.as_ref(), after.as_ref()).ok()?;
+    Some(edits.len())
 }
 
-/// Create, set the length, write, and set each name: 1, 5, 9 and the data, and 6 a name. A removal has one byte.
 #[test]
 fn edits_at_the_limits(rt: HostRuntime) {
-    let full = object_of(rt.alloc(), FULL).expect(&rt, "an object");
-    let none = object_of(rt.alloc(), (0, 0, 0)).expect(&rt, "an object");
-    assert!(rt; length(rt.alloc(), None, Some(&full)) == Some(15 + 65536 + 6 * 1056));
-    assert!(rt; length(rt.alloc(), Some(&none), Some(&full)) == Some(14 + 65536 + 6 * 1056));
-    assert!(rt; length(rt.alloc(), Some(&full), Some(&none)) == Some(5 + 4 * 1056));
-    assert!(rt; length(rt.alloc(), Some(&full), Some(&full)) == Some(0));
-    assert!(rt; length(rt.alloc(), Some(&full), None) == Some(1));
+    for change in &CHANGES {
+        assert!(rt; length(rt.alloc(), change) == Some(change.2));
+    }
 }
 
-/// The image of a method that calls a helper for its answer: `write` of the input's first byte at a place, or a set of the
-/// name that the input begins with to its third byte.
+/// The image of a method that calls a helper for its answer: `write` of the input's first byte at a
+/// place, or a set of the name that the input begins with to its third byte.
 fn asking(alloc: Global, helper: u32, place: u32) -> Option<Vec<u8>> {
     let mut code = Vec::new(alloc);
     begin(&mut code)?;
