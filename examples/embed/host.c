@@ -1,5 +1,5 @@
-/* A host that keeps objects in a hash table: `host IMAGE OBJECT METHOD HEX ..` makes the calls in
- * order. It reads as C and C++. */
+/* A host that keeps objects in a hash table: `host IMAGE OBJECT METHOD[@CALLER] HEX ..` makes
+ * the calls in order. It reads as C and C++. */
 #include "sillarnica.h"
 #include <stdio.h>
 #include <stdlib.h>
@@ -65,16 +65,17 @@ int main(int argc, char **argv) {
 	struct sillarnica_refusal why;
 	struct sillarnica_answer said;
 	FILE *file = fopen(argc > 1 ? argv[1] : "", "rb");
-	if (!file) return fprintf(stderr, "usage: host IMAGE [OBJECT METHOD HEX|-] ..\n"), 2;
+	if (!file) return fprintf(stderr, "usage: host IMAGE [OBJECT METHOD[@CALLER] HEX|-] ..\n"), 2;
 	size_t len = fread(image, 1, sizeof image, file);
 	fclose(file);
 	int64_t line = sillarnica_explain(image, len, out, sizeof out);
 	if (line) return printf("%.*s\n", line > 0 ? (int)line : 9, line > 0 ? (char *)out : "no memory"), 1;
 	for (char **word = argv + 2; word + 2 < argv + argc; word += 3) {
 		struct object *o = find(word[0]);
-		size_t n = 0;
+		size_t n = 0, k = strcspn(word[1], "@");
+		uint32_t caller = word[1][k] ? (uint32_t)atol(word[1] + k + 1) : 1;
 		for (unsigned b; n < sizeof input && sscanf(word[2] + 2 * n, "%2x", &b) == 1; n++) input[n] = (uint8_t)b;
-		int result = sillarnica_call(image, len, (const uint8_t *)word[1], strlen(word[1]), o->flat, o->len, 1, input, n, &why, &said, out, sizeof out);
+		int result = sillarnica_call(image, len, (const uint8_t *)word[1], k, o->flat, o->len, caller, input, n, &why, &said, out, sizeof out);
 		if (result) { printf("refused %d\n", result); continue; }
 		printf("code %lld output ", (long long)said.code);
 		for (uint64_t i = 0; i < said.output_len; i++) printf("%02x", out[i]);
