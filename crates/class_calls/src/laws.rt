@@ -15,12 +15,14 @@ pub fn one_answer()
     bpf_decode::round_trip();
 }
 
-/// A host may leave out of an object each part that the method's code doesn't need: the answer is
-/// the same, and so its edits are those of the whole object.
+/// A host may leave out of an object each part that the method's code doesn't need, or hand in
+/// whatever it likes there: the answer is the same, and so its edits are those of the whole object.
 pub fn parts_may_be_left_out()
     ensures { NeededAreEnough }
 {
     bpf_decode::one_class();
+    bpf_machine::chains();
+    bpf_machine::layouts();
     object_bytes::one_object();
     footprint::frame();
 }

@@ -57,7 +57,7 @@ pub extern "C" fn sillarnica_method(
 }
 
 /// Which parts of an object a method can see or change: 1 data, 2 xattrs, 4 keys, added. A call on
-/// the object with these parts alone answers what one on the whole object does. -95: there is no
+/// any object that has these parts of another answers what one on the other does. -95: there is no
 /// such method; -12.
 #[unsafe(no_mangle)]
 pub extern "C" fn sillarnica_needs(alloc: Global, image: &[u8], method: &[u8]) -> i32

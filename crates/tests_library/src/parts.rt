@@ -1,5 +1,5 @@
-//! Random methods over all helpers, on whole objects and on objects without the parts that the
-//! methods don't need: the answers are the same to the byte.
+//! Random methods over all helpers, on whole objects, and on objects that have nothing or something
+//! else in the parts that the methods don't need: the answers are the same to the byte.
 
 ghost use Rattle.std.specs.Prelude.{◌<◌, ◌≤◌};
 
@@ -118,20 +118,41 @@ fn entries(form: &mut Vec<u8>, names: u32) -> Option<()> {
     Some(())
 }
 
-/// Its flat form with these parts alone.
-fn form_of(alloc: Global, object: &Drawn, parts: Parts) -> Option<Vec<u8>> {
+/// There, and without anything.
+const NOTHING: Drawn = Drawn {
+    there: true,
+    len: 0,
+    xattrs: 0,
+    keys: 0,
+};
+
+/// These parts of one, and the others of another.
+fn mixed(object: &Drawn, other: &Drawn, parts: Parts) -> Drawn {
+    Drawn {
+        there: object.there,
+        len: if parts.bytes { object.len } else { other.len },
+        xattrs: if parts.xattrs {
+            object.xattrs
+        } else {
+            other.xattrs
+        },
+        keys: if parts.keys { object.keys } else { other.keys },
+    }
+}
+
+/// Its flat form.
+fn form_of(alloc: Global, object: &Drawn) -> Option<Vec<u8>> {
     let mut form = Vec::new(alloc);
     if !object.there {
         form.push(0).ok()?;
         return Some(form);
     }
-    let len = if parts.bytes { object.len } else { 0 };
-    form.extend_from_slice(&[1, len, 0, 0, 0]).ok()?;
-    for n in 0..len {
+    form.extend_from_slice(&[1, object.len, 0, 0, 0]).ok()?;
+    for n in 0..object.len {
         form.push(n).ok()?;
     }
-    entries(&mut form, if parts.xattrs { object.xattrs } else { 0 })?;
-    entries(&mut form, if parts.keys { object.keys } else { 0 })?;
+    entries(&mut form, object.xattrs)?;
+    entries(&mut form, object.keys)?;
     Some(form)
 }
 
@@ -159,12 +180,12 @@ const ALL: Parts = Parts {
     keys: true,
 };
 
-/// Whether a method answers the same on an object with the parts alone; none where a call is
-/// refused.
-fn holds(alloc: Global, image: &[u8], object: &Drawn, parts: Parts) -> Option<bool> {
-    let whole = asked(alloc, image, &form_of(alloc, object, ALL)?)?;
-    let reduced = asked(alloc, image, &form_of(alloc, object, parts)?)?;
-    Some(are_same(&whole, &reduced))
+/// Whether a method answers the same on an object with these parts of it and the others of another;
+/// none where a call is refused.
+fn holds(alloc: Global, image: &[u8], object: &Drawn, other: &Drawn, parts: Parts) -> Option<bool> {
+    let whole = asked(alloc, image, &form_of(alloc, object)?)?;
+    let given = asked(alloc, image, &form_of(alloc, &mixed(object, other, parts))?)?;
+    Some(are_same(&whole, &given))
 }
 
 /// Helpers by bits of their ids: some of `caller` and `out_len`, `remove`, `create`, and those of
@@ -188,7 +209,10 @@ fn round(alloc: Global, row: &mut u64) -> Option<(bool, bool)> {
     let image = image_of(alloc, &code)?;
     let parts = parts_of(alloc, &image)?;
     for _ in 0..4 {
-        if !holds(alloc, &image, &draw(row), parts)? {
+        let object = draw(row);
+        let is_enough = holds(alloc, &image, &object, &NOTHING, parts)?
+            && holds(alloc, &image, &object, &draw(row), parts)?;
+        if !is_enough {
             return Some((false, false));
         }
     }
@@ -265,7 +289,7 @@ fn is_seen(alloc: Global, helpers: &[u32], part: u8) -> Option<bool> {
     let mut row = 1;
     for _ in 0..8 {
         let image = calling(alloc, helpers, &mut row)?;
-        if !holds(alloc, &image, &FULL, parts)? {
+        if !holds(alloc, &image, &FULL, &NOTHING, parts)? {
             return Some(true);
         }
     }
