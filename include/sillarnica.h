@@ -89,7 +89,10 @@ int32_t sillarnica_method(const uint8_t *image, size_t image_len, const uint8_t 
 	uint32_t *flags, uint32_t *in_cap, uint32_t *out_cap);
 
 /*
- * Which parts of an object the method can see or change: 1 data, 2 xattrs, 4 keys, added. Today 7 for every method.
+ * Which parts of an object the method can see or change: 1 data, 2 xattrs, 4 keys, added. The flat
+ * form that is handed to a call may leave the others out, as if the object had no data, xattrs or
+ * keys, or have anything there. Answer and edits are those of the whole object, whatever it has there,
+ * also past the limits. Whether there is an object is no part: a method always sees it.
  * -95: the image has no such method, or is none. -12.
  */
 int32_t sillarnica_needs(const uint8_t *image, size_t image_len, const uint8_t *method, size_t method_len);

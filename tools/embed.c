@@ -1,7 +1,7 @@
 /* Makes the calls of a file on the library, and prints what each gives: `embed FILE THREADS`. tools/embed.sh compiles it.
  * A call is five fields, each four bytes of length and its bytes: image, method, object, caller (four bytes), input.
- * Each call is also made with too little room, and every sixteenth with memory refused at each growth in turn, and its answer
- * compared with what the header says. Then so many threads make all calls at once, and each answer is compared again.
+ * Each call is also made with too little room, on the parts that the method needs alone, and every sixteenth with memory
+ * refused at each growth in turn, and its answer compared with what the header says. Then so many threads make all calls at once, and each answer is compared again.
  * `malloc` and `realloc` of the library go through here (-Wl,--wrap), where REFUSE is asked for at link time. */
 #include "sillarnica.h"
 #include <pthread.h>
@@ -66,6 +66,46 @@ static int is_same(const struct found *a, const struct found *b) {
 	size_t used = a->result == 0 ? a->said.output_len + a->said.edits_len : 0;
 	if (a->result != b->result || memcmp(&a->why, &b->why, sizeof a->why)) return 0;
 	return !memcmp(&a->said, &b->said, sizeof a->said) && !memcmp(a->out, b->out, used);
+}
+
+static size_t number(const uint8_t *p, int n) { return n ? p[0] + 256 * number(p + 1, n - 1) : 0; }
+
+/* Where the entries end that begin at a place of a flat form. */
+static size_t entries_end(const uint8_t *p, size_t at) {
+	size_t count = number(p + at, 2);
+	for (at += 2; count; count--) at += 3 + p[at] + number(p + at + 1 + p[at], 2);
+	return at;
+}
+
+/* Writes a flat form without the parts that are not needed, and gives its length. */
+static size_t reduce(struct slice form, int32_t needs, uint8_t *to) {
+	const uint8_t *p = form.at;
+	size_t ends[4] = { 1, 0, 0, 0 }, least[3] = { 4, 2, 2 }, len = 1;
+	to[0] = p[0];
+	if (!p[0]) return len;
+	ends[1] = 5 + number(p + 1, 4), ends[2] = entries_end(p, ends[1]), ends[3] = entries_end(p, ends[2]);
+	for (int i = 0; i < 3; i++) {
+		size_t n = needs >> i & 1 ? ends[i + 1] - ends[i] : least[i];
+		if (needs >> i & 1) memcpy(to + len, p + ends[i], n); else memset(to + len, 0, n);
+		len += n;
+	}
+	return len;
+}
+
+/* On the parts that the method needs alone. */
+static void on_parts(size_t n, uint8_t *out) {
+	struct call c = calls[n];
+	struct found f;
+	int32_t needs = sillarnica_needs(c.image.at, c.image.len, c.method.at, c.method.len);
+	int has_method = founds[n].result <= 0 && founds[n].result != -95;
+	want(has_method ? 0 <= needs && needs <= 7 : founds[n].result == 2 || needs == -95, n, "needs says something else");
+	if (founds[n].result != 0) return;
+	uint8_t *form = (uint8_t *)malloc(c.object.len);
+	c.object.len = reduce(c.object, needs, form), c.object.at = form;
+	fill(&f, out, most);
+	f.result = make(&c, &f, most);
+	want(is_same(&founds[n], &f), n, "another answer on the parts alone");
+	free(form);
 }
 
 /* With too little room, and with memory refused. */
@@ -154,6 +194,7 @@ int main(int argc, char **argv) {
 		f->out = (uint8_t *)memcpy(malloc(most), out, most);
 		uint8_t *other = (uint8_t *)malloc(most);
 		again(count, other);
+		on_parts(count, other);
 		free(other);
 		size_t used = f->result == 0 ? f->said.output_len + f->said.edits_len : 0;
 		f->out = (uint8_t *)realloc(f->out, used + 1);

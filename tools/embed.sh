@@ -6,10 +6,12 @@
 # CALLS is 10,000 if it isn't given; ARCHIVE and RADOSCLS are what `rt lib` and `rt run` leave, and tools/library.sh takes ARCHIVE. It prints a line for each step,
 # and the status is 0 if nothing differs:
 #
-# - cc and c++ build examples/embed/host.c, and it prints what the page says; so does examples/embed/host.py by a shared object;
+# - cc and c++ build examples/embed/host.c, and it prints what the page says, and of the built-in class `lock` what two callers
+#   get; so does examples/embed/host.py by a shared object;
 # - random calls, some of hostile images and flat forms, give the program's code, output, steps and refusals, and their edits
 #   make of the object before the program's object after;
-# - each is made with too little room, and with memory refused at each growth; eight threads make all of them at once;
+# - each is made with too little room, on the parts that its method needs alone, and with memory refused at each growth; eight
+#   threads make all of them at once;
 # - the same under the address and undefined-behavior sanitizers.
 set -u
 top=$(cd "$(dirname "$0")/.." && pwd)
@@ -43,10 +45,27 @@ refused -95
 code 0 output - steps 2 object absent
 LINES
     step "$name" $?
+    "$@" "$work/lock.img" a lock@1 - a lock@2 - a lock@1 - a unlock@2 - a unlock@1 - a unlock@1 - a lock@2 - a lock@1 - b unlock@2 - > "$work/lines"
+    diff "$work/lines" - <<'LINES'
+code 0 output - steps 20 object 0 1 0
+code -16 output - steps 16 object 0 1 0
+code 0 output - steps 15 object 0 1 0
+code -16 output - steps 15 object 0 1 0
+code 0 output - steps 19 object 0 0 0
+code -61 output - steps 12 object 0 0 0
+code 0 output - steps 20 object 0 1 0
+code -16 output - steps 16 object 0 1 0
+code -2 output - steps 12 object absent
+LINES
+    step "$name: a lock of two callers" $?
     "$@" <(printf RCL1) > "$work/lines"
     [ "$(cat "$work/lines")" = "image refused after 0 methods: 1 Truncated" ]
     step "$name refuses" $?
 }
+
+# the built-in class `lock` as an image
+sed -n '/^pub const LOCK/,/^";/{s/^pub const LOCK: &str = "//;/^";/d;p}' "$top/crates/builtin_classes/src/lock.rt" > "$work/lock.txt"
+"$radoscls" asm "$work/lock.txt" "$work/lock.img" || exit 1
 
 flags=(-I "$work/library" -Wall -Wextra)
 wrap=(-DREFUSE -Wl,--wrap=malloc -Wl,--wrap=realloc -pthread)

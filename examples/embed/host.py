@@ -1,5 +1,5 @@
-"""A host in Python: `host.py LIBRARY IMAGE [OBJECT METHOD HEX|-] ..` makes the calls in order. LIBRARY is a shared object made of
-libsillarnica.a. An object is None, or its data and two dicts of names, all bytes."""
+"""A host in Python: `host.py LIBRARY IMAGE [OBJECT METHOD[@CALLER] HEX|-] ..` makes the calls in order. LIBRARY is a
+shared object made of libsillarnica.a. An object is None, or its data and two dicts of names, all bytes."""
 import ctypes, struct, sys
 
 
@@ -91,8 +91,9 @@ def main(path, image, *words):
         return 1
     for name, method, text in zip(*[iter(words)] * 3):
         before = objects.get(name)
+        method, _, caller = method.partition("@")
         text = b"" if text == "-" else bytes.fromhex(text)
-        result, answer, output, edits = library.call(image, method.encode(), flatten(before), 1, text)
+        result, answer, output, edits = library.call(image, method.encode(), flatten(before), int(caller or 1), text)
         if result:
             print(f"refused {result}")
             continue

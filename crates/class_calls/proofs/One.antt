@@ -1,5 +1,5 @@
 -- A call has one answer.
-use Rattle.std.proofs.Common.{◌≡◌, ◌∙◌, ℕ, ◌<◌, ◌≤◌, List, Option, Some, None, Result, Ok, Err, length, refl, ap, sym, subst, inl, inr, arith}
+use Rattle.std.proofs.Common.{◌≡◌, ◌∙◌, ℕ, ◌<◌, ◌≤◌, List, Option, Some, None, Result, Ok, Err, length, refl, ap, sym, inl, inr, arith}
 use Rattle.std.specs.Prelude.{◌⊎◌}
 use Rattle.bpf_decode.specs.Class.{ClassMethod, Class, IsImage}
 use Rattle.bpf_decode.specs.ImageReading.{image_of}
@@ -7,7 +7,7 @@ use Rattle.bpf_decode.specs.declared.image_error.ImageError.{ImageError}
 use Rattle.verifier.specs.Verdict.{class_verdict}
 use Rattle.verifier.specs.declared.refusal.Refusal.{Refusal}
 use Rattle.interp.specs.Plain.{method_named}
-use Rattle.class_calls.specs.Answers.{IsLoaded, RefusesClass, HasNoMethod, TakesNoInput, HasNoObject, IsAnswered, IsWant, RefusesCall}
+use Rattle.class_calls.specs.Answers.{IsLoaded, RefusesClass, IsAnswered, IsWant, RefusesCall}
 use Rattle.class_calls.specs.declared.answer.Answer.{Answer}
 use Rattle.class_calls.specs.declared.answer.AnswerError.{AnswerError}
 use Rattle.class_calls.specs.declared.answer.AnswerError.TheVariants as ask

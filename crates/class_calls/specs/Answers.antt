@@ -1,5 +1,5 @@
 -- What the calls on bytes give.
-use Rattle.std.specs.Prelude.{◌≡◌, ◌≢◌, ℕ, ◌≤◌, List, Some, None, Result, Ok, Err, length}
+use Rattle.std.specs.Prelude.{◌≡◌, ◌≢◌, ℕ, ◌≤◌, List, Some, None, Err, length}
 use Rattle.std.specs.List.{AllByRecursion}
 use Rattle.bpf_decode.specs.Class.{ClassMethod, Class, IsImage}
 use Rattle.bpf_decode.specs.ImageReading.{image_of}
@@ -54,7 +54,8 @@ IsOfVerdict r (load.Image e) = ⊥
 IsOfVerdict r (load.Verdict s) = (s ≡ r) × (r.rule ≢ rules.NoMemory)
 IsOfVerdict r load.NoMemory = r.rule ≡ rules.NoMemory
 
--- it says code, steps and output of the outcome, and edits that make of the object before the one after
+-- it says code, steps and output of the outcome, and edits that make of the object before the one
+-- after
 pub record Says (outcome : Outcome) (answer : Answer) : Type 0 where
   pub code : answer.code ≡ outcome.code
   pub steps : answer.steps ≡ outcome.steps

@@ -1,2 +1,4 @@
--- A reader must believe Answers: what the calls on bytes give.
+-- A reader must believe Answers (what the calls on bytes give) and Needs (what a host may leave out
+-- of an object).
 pub mod Answers
+pub mod Needs

@@ -1,9 +1,10 @@
-//! A law of the answers, proved as the contract of a function that does nothing.
+//! Laws of the answers, proved as contracts of functions that do nothing.
 
 ghost use Rattle.std.specs.Prelude.{◌≡◌, ◌⊎◌, ℕ, List};
 ghost use Rattle.class_calls.specs.Answers.{IsAnswered, IsWant, RefusesCall};
 ghost use Rattle.class_calls.specs.declared.answer.Answer.{Answer};
 ghost use Rattle.class_calls.specs.declared.answer.AnswerError.{AnswerError};
+ghost use Rattle.class_calls.specs.Needs.{NeededAreEnough};
 
 /// But for want of memory a call is refused for one reason alone, or answered and not refused.
 pub fn one_answer()
@@ -12,4 +13,16 @@ pub fn one_answer()
 {
     bpf_decode::one_class();
     bpf_decode::round_trip();
+}
+
+/// A host may leave out of an object each part that the method's code doesn't need, or hand in
+/// whatever it likes there: the answer is the same, and so its edits are those of the whole object.
+pub fn parts_may_be_left_out()
+    ensures { NeededAreEnough }
+{
+    bpf_decode::one_class();
+    bpf_machine::chains();
+    bpf_machine::layouts();
+    object_bytes::one_object();
+    footprint::frame();
 }

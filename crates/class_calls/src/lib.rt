@@ -1,6 +1,7 @@
-//! Calls of verified classes on bytes, for a host that keeps the objects itself: an object comes in as its flat form, and
-//! its change goes out as edits. `load` gives an image's class if no rule refuses it, and `answer_on` makes a call. Each is a
-//! function of its arguments alone, and keeps nothing.
+//! Calls of verified classes on bytes, for a host that keeps the objects itself: an object comes in
+//! as its flat form, and its change goes out as edits. `load` gives an image's class if no rule
+//! refuses it, and `answer_on` makes a call. Each is a function of its arguments alone, and keeps
+//! nothing.
 #![tactic(auto)]
 
 mod answer;
@@ -9,4 +10,4 @@ mod laws;
 
 pub use answer::{Answer, AnswerError, answer_on};
 pub use class::{ClassError, load, method_of};
-pub use laws::one_answer;
+pub use laws::{one_answer, parts_may_be_left_out};

@@ -1,5 +1,5 @@
 -- A flat form is read as its object, so equal flat forms are of equal objects.
-use Rattle.std.proofs.Common.{◌≡◌, ◌∙◌, ℕ, zero, suc, ◌+◌, ◌-◌, ◌<◌, ◌≤◌, Bool, true, false, List, [], ◌∷◌, ◌++◌, Some, None, Result, Ok, Err, is_some, refl, ap, sym, subst, arith, length, append_assoc, drop, take}
+use Rattle.std.proofs.Common.{◌≡◌, ◌∙◌, ℕ, suc, ◌+◌, ◌<◌, ◌≤◌, Bool, true, false, List, [], ◌∷◌, ◌++◌, Some, None, Result, Ok, Err, is_some, refl, ap, sym, subst, arith, length, append_assoc, drop}
 use Rattle.std.specs.Prelude.{slice_get, if◌then◌else◌, nat_lt, ◌==◌, not, ◌&&◌}
 use Rattle.std.specs.List.{flat_map}
 use Rattle.std.specs.FinMap as fin
@@ -7,7 +7,6 @@ use Rattle.std.proofs.lemmas.Bool.{le-ltb, ne_eqb}
 use Rattle.std.proofs.lemmas.List.{append-nil, drop_all}
 use Rattle.byteorder.specs.Endian.{little_bytes}
 use Rattle.bpf_decode.specs.Reading.{◌>>=◌, checked}
-use Rattle.shared_map.specs.Entries.{nth}
 use Rattle.object_store.specs.declared.limits.TheConstants.{DATA_LIMIT, XATTR_LIMIT, KEY_LIMIT, NAME_LIMIT, VALUE_LIMIT}
 use Rattle.object_store.specs.declared.store_error.StoreError.{StoreError}
 use Rattle.object_store.specs.declared.store_error.StoreError.TheVariants.{TooBig, Range}
@@ -19,7 +18,7 @@ use Rattle.object_bytes.specs.declared.part.Part.{Part}
 use Rattle.object_bytes.specs.declared.part.Part.TheVariants.{Xattrs, Keys}
 use Rattle.object_bytes.specs.Part.{names, IsShort}
 use Rattle.object_bytes.specs.Flat.{entry_bytes, entries_bytes, content_bytes, flat}
-use Rattle.object_bytes.specs.Reading.{stored, set_in, entry_at, entries_at, part_at, data_at, content_at, object_at, number_at, bytes_at, there}
+use Rattle.object_bytes.specs.Reading.{stored, set_in, entries_at, part_at, data_at, content_at, object_at, bytes_at, there}
 use Rattle.std.proofs.lemmas.Option.{none-some}
 use Rattle.object_bytes.proofs.Entries.{R, Rows, got_at}
 use Rattle.object_bytes.proofs.Maps.{AreAmong, fewer_among, among_set, among_empty, set_fits, inserted, inserted_all}

@@ -1,6 +1,5 @@
 -- Where bytes differ.
-use Rattle.std.proofs.Common.{◌≡◌, ℕ, ◌≤◌, List, [], ◌∷◌, length, drop, refl, ap, ◌∙◌, arith, length-drop}
-use Rattle.std.specs.Prelude.{◌-◌}
+use Rattle.std.proofs.Common.{◌≡◌, ℕ, ◌≤◌, List, [], ◌∷◌, length, drop, refl, arith, length-drop}
 use Rattle.object_bytes.specs.Changes.{alike}
 
 alike-nil : (xs ys : List ℕ) → length ys ≡ 0 → alike xs ys ≡ 0

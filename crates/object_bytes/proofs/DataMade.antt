@@ -1,8 +1,7 @@
 -- The edits of data make of the data before the data after.
 use Rattle.std.proofs.Common.{◌≡◌, ◌∙◌, ℕ, zero, suc, ◌+◌, ◌-◌, ◌<◌, ◌≤◌, Bool, true, false, List, [], ◌∷◌, ◌++◌, Some, Result, Ok, Err, refl, ap, sym, arith, length, take, drop, drop-cons, get_or, append_assoc, length-drop, length-append, replicate}
 use Rattle.std.specs.Prelude.{if◌then◌else◌, nat_lt, ◌==◌}
-use Rattle.std.specs.List.{flat_map}
-use Rattle.std.proofs.lemmas.Bool.{le-ltb, ne_eqb, eqb-true, eqb-false, eq-eqb}
+use Rattle.std.proofs.lemmas.Bool.{le-ltb, ne_eqb, eqb-true, eqb-false}
 use Rattle.std.proofs.lemmas.List.{append-nil, take-append-drop, take_all, take-take, drop-drop, drop_all, length-take, length-take-le, length-replicate}
 use Rattle.bpf_decode.specs.Reading.{◌>>=◌}
 use Rattle.object_store.specs.declared.limits.TheConstants.{DATA_LIMIT}

@@ -8,3 +8,4 @@ pub mod Again
 pub mod DataMade
 pub mod NamesMade
 pub mod Made
+pub mod LeftOut

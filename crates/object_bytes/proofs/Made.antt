@@ -1,14 +1,11 @@
--- The edits of a change make of the object before the object after, and none are made where nothing changed.
-use Rattle.std.proofs.Common.{◌≡◌, ◌∙◌, ℕ, zero, suc, ◌+◌, ◌-◌, Bool, true, false, List, [], ◌∷◌, ◌++◌, Some, None, Ok, refl, ap, sym, arith, length, take, drop, get_or}
-use Rattle.std.specs.Prelude.{if◌then◌else◌, ◌==◌, slice_get}
-use Rattle.std.specs.List.{flat_map}
+-- The edits of a change make of the object before the object after, and none are made where nothing
+-- changed.
+use Rattle.std.proofs.Common.{◌≡◌, ◌∙◌, ℕ, zero, suc, ◌-◌, Bool, true, List, [], ◌∷◌, ◌++◌, Some, None, Ok, refl, ap, sym, arith, length, take, drop, get_or}
+use Rattle.std.specs.Prelude.{if◌then◌else◌, ◌==◌}
 use Rattle.std.proofs.lemmas.Bool.{eq-eqb}
-use Rattle.std.specs.FinMap as fin
-use Rattle.object_store.specs.Object.{Attributes, Content, PlainObject, IsContent, IsObject, nothing, resized}
-use Rattle.object_bytes.specs.declared.part.Part.{Part}
+use Rattle.object_store.specs.Object.{Content, PlainObject, IsContent, IsObject, nothing, resized}
 use Rattle.object_bytes.specs.declared.part.Part.TheVariants.{Xattrs, Keys}
-use Rattle.object_bytes.specs.Part.{names}
-use Rattle.object_bytes.specs.Edits.{Edit, Create, Remove, SetLength, Write, all_edited, spelled, Leads}
+use Rattle.object_bytes.specs.Edits.{Edit, SetLength, Write, all_edited, spelled, Leads}
 use Rattle.object_bytes.specs.Changes.{apart, alike, length_edits, write_edits, byte_edits, data_edits, name_edits, content_edits, edits}
 use Rattle.object_bytes.proofs.Again.{nothing_is}
 use Rattle.object_bytes.proofs.DataMade.{both_made, data_made, resized_same}
@@ -36,7 +33,7 @@ no_write xs from end h =
     let none : (end - from == 0) ≡ true = eq-eqb (end - from) 0 (omega arith) in
     ap (λ (b : Bool). if b then [] else Write from (take (end - from) (drop from xs)) ∷ []) none
 
-no_data : (xs : List ℕ) → data_edits xs xs ≡ []
+pub no_data : (xs : List ℕ) → data_edits xs xs ≡ []
 no_data xs =
     let same : length_edits (length xs) (length xs) ≡ [] = ap (λ (b : Bool). if b then [] else SetLength (length xs) ∷ []) (eq-eqb (length xs) (length xs) refl) in
     ap (λ (es : List Edit). es ++ byte_edits (resized xs (length xs)) xs) same

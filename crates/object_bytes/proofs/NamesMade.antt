@@ -1,17 +1,13 @@
 -- The edits of names make of the names before the names after.
-use Rattle.std.proofs.Common.{◌≡◌, ◌∙◌, ℕ, zero, suc, ◌+◌, ◌<◌, ◌≤◌, Bool, true, false, cond, List, [], ◌∷◌, ◌++◌, Option, Some, None, Result, Ok, Err, is_some, refl, ap, sym, subst, inl, inr, arith, length}
+use Rattle.std.proofs.Common.{◌≡◌, ◌∙◌, ℕ, suc, ◌≤◌, Bool, true, false, cond, List, [], ◌∷◌, ◌++◌, Option, Some, None, Ok, Err, is_some, refl, ap, sym, subst, inl, inr, arith}
 use Rattle.std.specs.Prelude.{◌⊎◌, ◌&&◌, T, slice_get, if◌then◌else◌}
 use Rattle.std.specs.List.{flat_map}
 use Rattle.std.specs.Str.{bytes_eq}
-use Rattle.std.specs.Ordering.{is_eq}
 use Rattle.std.proofs.lemmas.Cmp.{nat_list_cmp_total, nat_list_eq_equiv}
 use Rattle.std.proofs.lemmas.Bool.{eqb-true}
 use Rattle.std.specs.FinMap as fin
 use Rattle.std.specs.FinMap.{find, is_sorted}
-use Rattle.std.specs.FinMap.Entries.{below_all}
 use Rattle.bpf_decode.specs.Reading.{◌>>=◌}
-use Rattle.object_store.specs.declared.limits.TheConstants.{XATTR_LIMIT, KEY_LIMIT}
-use Rattle.object_store.specs.declared.store_error.StoreError.{StoreError}
 use Rattle.object_store.specs.declared.store_error.StoreError.TheVariants.{Range}
 use Rattle.object_store.specs.Object.{Attributes, Content, PlainObject, IsName, AreWithin}
 use Rattle.object_store.specs.Calls as calls
@@ -23,7 +19,7 @@ use Rattle.object_bytes.specs.Changes.{lost, gained, is_value, name_edits}
 use Rattle.object_bytes.proofs.Entries.{R, Rows, found_at, got_at, first, second}
 use Rattle.object_bytes.proofs.Maps.{AreAmong, ties, tied_key, same, fewer_among, among_set, removal_is, find_below}
 use Rattle.object_bytes.proofs.Again.{IsEntry, AreOf, rest_of, all_of, with_names, most_of, with_same, named_is, set_xattr_is, set_key_is}
-use Rattle.object_bytes.proofs.DataMade.{Made, then_all, both_made}
+use Rattle.object_bytes.proofs.DataMade.{Made, both_made}
 
 abbrev holding : Part → Content → Attributes → PlainObject
 holding part c m = Some (with_names part c m)

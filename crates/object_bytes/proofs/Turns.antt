@@ -1,5 +1,5 @@
 -- Reading one entry after the other, as a loop does.
-use Rattle.std.proofs.Common.{◌≡◌, ◌∙◌, ℕ, zero, suc, ◌-◌, ◌<◌, ◌≤◌, List, Result, Ok, Err, refl, ap, sym, arith}
+use Rattle.std.proofs.Common.{◌≡◌, ◌∙◌, ℕ, zero, suc, ◌-◌, ◌<◌, ◌≤◌, List, Result, Ok, Err, refl, ap, arith}
 use Rattle.bpf_decode.specs.Reading.{◌>>=◌}
 use Rattle.object_store.specs.Object.{Content}
 use Rattle.object_bytes.specs.declared.flat.FlatError.{FlatError}

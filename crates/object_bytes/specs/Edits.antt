@@ -66,7 +66,8 @@ edit_bytes (Write at text) = 8 ∷ little_bytes 4 at ++ little_bytes 4 (length t
 abbrev pub spelled : List Edit → List ℕ
 spelled es = flat_map edit_bytes es
 
--- The bytes are edits, one after the other, that make of the object before the object after. There are none if nothing changed.
+-- The bytes are edits, one after the other, that make of the object before the object after. There
+-- are none if nothing changed.
 pub record Leads (before after : PlainObject) (bytes : List ℕ) : Type 0 where
   pub edits : List Edit
   pub written : bytes ≡ spelled edits

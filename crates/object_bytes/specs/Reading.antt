@@ -1,5 +1,6 @@
--- Reading a flat form from left to right. What is read may have another spelling than the bytes: they are compared afterwards.
-use Rattle.std.specs.Prelude.{◌≡◌, ◌⊎◌, ℕ, zero, suc, ◌==◌, nat_le, List, [], ◌∷◌, length, take, drop, Option, Some, None, Result, Ok, Err, if◌then◌else◌}
+-- Reading a flat form from left to right. What is read may have another spelling than the bytes:
+-- they are compared afterwards.
+use Rattle.std.specs.Prelude.{◌≡◌, ◌⊎◌, ℕ, zero, suc, ◌==◌, nat_le, List, [], ◌∷◌, length, take, drop, Some, None, Result, Ok, Err, if◌then◌else◌}
 use Rattle.byteorder.specs.Endian.{little_number}
 use Rattle.bpf_decode.specs.Reading.{◌>>=◌, checked}
 use Rattle.object_store.specs.Object.{Content, PlainObject}

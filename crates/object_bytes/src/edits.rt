@@ -225,7 +225,8 @@ fn edit_bytes_of(
     Ok(out)
 }
 
-/// The edits that make of one object, absent or there, another, as they are written. Of equal objects there are none.
+/// The edits that make of one object, absent or there, another, as they are written. Of equal
+/// objects there are none.
 pub fn edits_of(
     alloc: Global,
     before: Option<&Object>,

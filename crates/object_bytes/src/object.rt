@@ -21,7 +21,8 @@ pub(crate) fn is_object(object: Option<&Object>)
     }
 }
 
-/// The object of a flat form; none if it says that there is none. Refused: bytes that are no object's flat form.
+/// The object of a flat form; none if it says that there is none. Refused: bytes that are no
+/// object's flat form.
 pub fn read_object(alloc: Global, bytes: &[u8]) -> Result<Option<Object>, FlatError>
     ensures found { IfOk result (Spells bytes.now) }
     ensures malformed { result ≡ Err FlatError.Malformed → (object : PlainObject) → Spells bytes.now object → ⊥ }

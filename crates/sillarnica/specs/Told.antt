@@ -10,7 +10,10 @@ use Rattle.verifier.specs.RuleNumber.{rule_number, refusal_text}
 use Rattle.verifier.specs.declared.refusal.Refusal.{Refusal}
 use Rattle.object_store.specs.Edits.{overlaid}
 use Rattle.class_calls.specs.Answers.{IsLoaded, RefusesClass, IsAnswered, HasNoMethod, TakesNoInput, HasNoObject}
+use Rattle.class_calls.specs.Needs.{AreEnough}
 use Rattle.class_calls.specs.declared.answer.Answer.{Answer}
+use Rattle.footprint.specs.Parts as footprint
+use Rattle.footprint.specs.Needed.{needed}
 use Rattle.sillarnica.specs.declared.told.ToldRefusal.{ToldRefusal}
 use Rattle.sillarnica.specs.declared.told.ToldAnswer.{ToldAnswer}
 
@@ -116,16 +119,18 @@ abbrev pub given : Option (Bor ClassMethod) → Option ClassMethod
 given None = None
 given (Some m) = Some m.now
 
--- ---- which parts of an object a method needs: all
-pub record SpellsMethod (image name : List ℕ) : Type 0 where
+-- ---- which parts of an object a method needs: these are enough, and the number says them
+pub record Needs (image name : List ℕ) (result : ℤ) : Type 0 where
   pub written : Class
   pub spelled : IsImage image written
   pub method : ClassMethod
   pub named : method_named written.methods name ≡ Some method
+  pub number : result ≡ pos (footprint.number_of (needed method.instructions))
+  pub enough : AreEnough image name (needed method.instructions)
 
 abbrev pub TellsNeeds : List ℕ → List ℕ → ℤ → Type 0
 TellsNeeds image name result =
-    ((result ≡ pos 7) × SpellsMethod image name)
+    Needs image name result
     ⊎ (((result ≡ negsuc 94) × (SpellsNoClass image ⊎ SpellsNoMethod image name))
     ⊎ (result ≡ negsuc 11))
 

@@ -10,7 +10,8 @@ use crate::told::{
 use class_calls::{Answer, AnswerError, answer_on};
 use std::alloc::Global;
 
-/// Writes the output and then the edits, if there is room for both. If there isn't, nothing is written.
+/// Writes the output and then the edits, if there is room for both. If there isn't, nothing is
+/// written.
 fn write_out(answer: &Answer, out: &mut [u8]) -> bool
     ensures { HasRoom answer.now out.old out.new result }
 {

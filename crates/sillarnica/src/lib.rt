@@ -1,5 +1,6 @@
-//! The calls of verified classes for C; `include/sillarnica.h` declares them. Each is a function of its arguments: the caller
-//! owns all memory before and after, nothing is kept, and there is no state, so any number of calls may run at once.
+//! The calls of verified classes for C; `include/sillarnica.h` declares them. Each is a function of
+//! its arguments: the caller owns all memory before and after, nothing is kept, and there is no
+//! state, so any number of calls may run at once.
 #![tactic(auto)]
 
 ghost use Rattle.std.specs.Prelude.{◌≡◌, pos};
@@ -29,8 +30,8 @@ pub extern "C" fn sillarnica_verify(alloc: Global, image: &[u8], refusal: &mut T
     verify::verify(alloc, image, refusal)
 }
 
-/// The line that says why the image or the class is refused: how many bytes it has, and into the buffer as many as fit;
-/// 0 if the class is accepted; or -12.
+/// The line that says why the image or the class is refused: how many bytes it has, and into the
+/// buffer as many as fit; 0 if the class is accepted; or -12.
 #[unsafe(no_mangle)]
 pub extern "C" fn sillarnica_explain(alloc: Global, image: &[u8], text: &mut [u8]) -> i64
     ensures { TellsExplain image.now text.old text.new result }
@@ -38,8 +39,9 @@ pub extern "C" fn sillarnica_explain(alloc: Global, image: &[u8], text: &mut [u8
     verify::explain(alloc, image, text)
 }
 
-/// What a method declares: its flags (1 reads, 2 writes, 3 both) and the most bytes of its input and output: 0; 1 if the bytes
-/// are no image; -95 if it has no method of that name; or -12. No rule is asked.
+/// What a method declares: its flags (1 reads, 2 writes, 3 both) and the most bytes of its input
+/// and output: 0; 1 if the bytes are no image; -95 if it has no method of that name; or -12. No
+/// rule is asked.
 #[unsafe(no_mangle)]
 pub extern "C" fn sillarnica_method(
     alloc: Global,
@@ -54,7 +56,9 @@ pub extern "C" fn sillarnica_method(
     method::declared(alloc, image, method, flags, in_cap, out_cap)
 }
 
-/// Which parts of an object a method can see or change: 1 data, 2 xattrs, 4 keys, added. It answers 7 of every method.
+/// Which parts of an object a method can see or change: 1 data, 2 xattrs, 4 keys, added. A call on
+/// any object that has these parts of another answers what one on the other does. -95: there is no
+/// such method; -12.
 #[unsafe(no_mangle)]
 pub extern "C" fn sillarnica_needs(alloc: Global, image: &[u8], method: &[u8]) -> i32
     ensures { TellsNeeds image.now method.now result }
@@ -62,9 +66,10 @@ pub extern "C" fn sillarnica_needs(alloc: Global, image: &[u8], method: &[u8]) -
     method::needs(alloc, image, method)
 }
 
-/// Calls a method of the image's class on an object in its flat form: 0, and the buffer begins with the output and then the
-/// edits; 1 or 2 with the reason; -95 no such method; -7 the input is too long; -22 the bytes are no object's flat form;
-/// -12; or -34, if the buffer is too small for what `answer` says. Of several refusals it is the first in this order.
+/// Calls a method of the image's class on an object in its flat form: 0, and the buffer begins with
+/// the output and then the edits; 1 or 2 with the reason; -95 no such method; -7 the input is too
+/// long; -22 the bytes are no object's flat form; -12; or -34, if the buffer is too small for what
+/// `answer` says. Of several refusals it is the first in this order.
 #[unsafe(no_mangle)]
 pub extern "C" fn sillarnica_call(
     alloc: Global,

@@ -6,10 +6,9 @@ ghost use Rattle.sillarnica.specs.Told.{TellsMethod, TellsNeeds, given};
 
 use crate::told::{IMAGE, NO_MEMORY, NO_METHOD};
 use bpf_decode::{ClassImage, DecodeError, Method, read_image};
+use class_calls::parts_may_be_left_out;
+use footprint::needed;
 use std::alloc::Global;
-
-/// Data, xattrs and keys.
-const ALL_PARTS: i32 = 7;
 
 /// The method of a name, if the class has one.
 fn find<'a>(class: &'a ClassImage, name: &[u8]) -> Option<&'a Method>
@@ -52,10 +51,12 @@ pub(crate) fn declared(
     0
 }
 
-/// Which parts of an object a method needs: all of them, 7. Refused: no such method, -95, and -12.
+/// Which parts of an object a method needs: 1 data, 2 xattrs, 4 keys, added. Refused: no such
+/// method, -95, and -12.
 pub(crate) fn needs(alloc: Global, image: &[u8], name: &[u8]) -> i32
     ensures { TellsNeeds image.now name.now result }
 {
+    parts_may_be_left_out();
     let class = match read_image(alloc, image) {
         Ok(class) => class,
         Err(error) => {
@@ -66,7 +67,7 @@ pub(crate) fn needs(alloc: Global, image: &[u8], name: &[u8]) -> i32
         }
     };
     match find(&class, name) {
-        Some(_) => ALL_PARTS,
+        Some(method) => i32::from(needed(method.instructions()).number()),
         None => NO_METHOD,
     }
 }

@@ -9,8 +9,9 @@ use bpf_decode::ImageError;
 use class_calls::{Answer, ClassError};
 use verifier::Refusal;
 
-/// Why a class is refused. Kind 1: the image, after `method` methods, by the refusal `number`; `slot` is -1 where it names
-/// none. Kind 2: the verdict, by the rule `number` at that method and slot.
+/// Why a class is refused. Kind 1: the image, after `method` methods, by the refusal `number`;
+/// `slot` is -1 where it names none. Kind 2: the verdict, by the rule `number` at that method and
+/// slot.
 #[repr(C)]
 #[derive(Drop)]
 pub struct ToldRefusal {
@@ -20,7 +21,8 @@ pub struct ToldRefusal {
     pub slot: i64,
 }
 
-/// What a call answers: the method's code, the instructions executed, and how many bytes of output and of edits there are.
+/// What a call answers: the method's code, the instructions executed, and how many bytes of output
+/// and of edits there are.
 #[repr(C)]
 #[derive(Drop)]
 pub struct ToldAnswer {

@@ -37,7 +37,8 @@ const ROWS: [Row; 17] = [
     // 7 the length: cut, and extended with zeros
     (&DATA, &[1, 1, 0, 0, 0, 0x61, 0, 0, 0, 0], &[7, 1, 0, 0, 0]),
     (&DATA, &[1, 4, 0, 0, 0, 0x61, 0x62, 0x63, 0, 0, 0, 0, 0], &[7, 4, 0, 0, 0]),
-    // 8 a write: what was appended alone, and what lies between the first byte that differs and the last
+    // 8 a write: what was appended alone, and what lies between the first byte that differs and the
+    // last
     (&DATA, &[1, 4, 0, 0, 0, 0x61, 0x62, 0x63, 0x64, 0, 0, 0, 0], &[7, 4, 0, 0, 0, 8, 3, 0, 0, 0, 1, 0, 0, 0, 0x64]),
     (&DATA, &[1, 3, 0, 0, 0, 0x61, 0x78, 0x63, 0, 0, 0, 0], &[8, 1, 0, 0, 0, 1, 0, 0, 0, 0x78]),
     (&DATA, &[1, 3, 0, 0, 0, 0x78, 0x62, 0x79, 0, 0, 0, 0], &[8, 0, 0, 0, 0, 3, 0, 0, 0, 0x78, 0x62, 0x79]),

@@ -42,7 +42,8 @@ const FORMS: [(&[u8], bool); 19] = [
     (&[1, 0, 0, 0, 0, 0, 0, 2, 0, 1, 0x61, 0, 0, 2, 0x61, 0, 0, 0], true),
 ];
 
-/// Whether the bytes are read as an object that has them as its flat form; none if memory was refused.
+/// Whether the bytes are read as an object that has them as its flat form; none if memory was
+/// refused.
 fn is_form(alloc: Global, bytes: &[u8]) -> Option<bool> {
     match read_object(alloc, bytes) {
         Ok(object) => is_spelled(alloc, object.as_ref(), bytes),
@@ -75,7 +76,8 @@ fn whole(rt: HostRuntime) {
     assert!(rt; object.key_count() == 2);
 }
 
-/// A form with a byte changed is another object's, or none's; what is read always has the bytes as its form.
+/// A form with a byte changed is another object's, or none's; what is read always has the bytes as
+/// its form.
 #[test]
 fn hostile_forms(rt: HostRuntime) {
     for at in 0..WHOLE.len() {
@@ -131,7 +133,8 @@ fn at_the_limits(rt: HostRuntime) {
     }
 }
 
-/// Forms past the limits: what is added to a form at a limit, and how long data, name and value say that they are.
+/// Forms past the limits: what is added to a form at a limit, and how long data, name and value say
+/// that they are.
 #[rattlefmt::skip]
 const PAST: [(u32, u8, u16); 3] = [(65537, 1, 0), (0, 65, 0), (0, 1, 4097)];
 

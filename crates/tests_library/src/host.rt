@@ -7,7 +7,8 @@ use object_store::Object;
 use std::alloc::Global;
 use verifier::verify;
 
-/// The object after a call of a method of an image's class, and the method's code; none if there is no such call.
+/// The object after a call of a method of an image's class, and the method's code; none if there is
+/// no such call.
 fn called(
     alloc: Global,
     image: &[u8],

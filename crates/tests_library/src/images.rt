@@ -15,8 +15,8 @@ pub const UNSET: [u8; 25] = [
     0x95, 0, 0, 0, 0, 0, 0, 0,
 ];
 
-/// `w`, flags 2, at most 1 byte of input: it writes its input to the object's first bytes, and answers how many.
-/// `mov r3, r2`, `mov r2, r1`, `mov r1, 0`, `call 3`, `exit`.
+/// `w`, flags 2, at most 1 byte of input: it writes its input to the object's first bytes, and
+/// answers how many. `mov r3, r2`, `mov r2, r1`, `mov r1, 0`, `call 3`, `exit`.
 #[rattlefmt::skip]
 pub const WRITE: [u8; 57] = [
     0x52, 0x43, 0x4c, 0x31, 1, 0, 0, 0, 1, 0x77, 2, 1, 0, 0, 0, 5, 0,

@@ -1,7 +1,6 @@
-use Rattle.std.proofs.Common.{◌≡◌, ℕ, List, Option, Some, None, sym, ap, ◌∙◌, arith}
+use Rattle.std.proofs.Common.{◌≡◌, ℕ, List, Option, Some, None, sym, arith}
 use Rattle.std.specs.Prelude.{IfSome}
 use Rattle.std.specs.Borrow.{Bor}
-use Rattle.std.specs.FinMap as fin
 use Rattle.shared_map.specs.Entries.{entry_behind, nth}
 use Rattle.object_store.specs.Object.{Attributes, AreWithin}
 use Rattle.object_bytes.specs.Part.{IsShort}

@@ -1,0 +1,4 @@
+pub mod Helpers
+pub mod Steps
+pub mod Calls
+pub mod Runs
