@@ -12,7 +12,8 @@ use Rattle.rados_client.specs.Session.{PlacedReply}
 use Rattle.rados_client.specs.declared.exec_error.ExecError.{ExecError}
 use Rattle.cluster_tool.specs.Answers.{AreCalls, AreEndsOf, AreAllEnds}
 use Rattle.cluster_tool.specs.Callers.{AllCalled, AreNew, CallerState, HasCalled, IsNewCaller}
-use Rattle.cluster_tool.specs.Played.{AreDone}
+use Rattle.osd.specs.declared.config.Config.{Config}
+use Rattle.cluster_tool.specs.Played.{AreDone, AreMapsMade, IsStepMade}
 
 -- a client whose calls ended so
 record IsThere (callers : List CallerState) (at : ℕ) (ends : List (Result PlacedReply ExecError)) : Type 0 where
@@ -97,11 +98,13 @@ pub whole_more : (cs : List CallerState) (c : CallerState) → All (λ (x : Call
 whole_more cs c all one k d within =
     each_more (λ (i : ℕ) (x : CallerState). x.lost ≡ false) cs (length cs) c refl all one k d (subst (λ (i : ℕ). k < i) (count_more cs (length cs) c refl) within)
 
--- all calls are done
-pub are_done : (classes : Classes) (steps : List Step) (clients : ℕ) (olds news : List CallerState) (all : List (List (Result PlacedReply ExecError))) →
-    all ≡ map (λ (c : CallerState). c.ends) news → clients ≡ clients_in 0 steps → AreNew clients olds → AllCalled classes steps olds news → All (λ (c : CallerState). c.lost ≡ false) news → AreDone classes steps all
-are_done classes steps clients olds news all is counted new called whole =
-    subst (λ (l : List (List (Result PlacedReply ExecError))). AreDone classes steps l) (sym is) (record {
+-- all calls are done, and all maps made
+pub are_done : (classes : Classes) (config : Config) (steps : List Step) (clients : ℕ) (olds news : List CallerState) (all : List (List (Result PlacedReply ExecError))) →
+    all ≡ map (λ (c : CallerState). c.ends) news → clients ≡ clients_in 0 steps → AreNew clients olds → AllCalled classes steps olds news → All (λ (c : CallerState). c.lost ≡ false) news →
+    AreMapsMade config steps → AreDone classes config steps all
+are_done classes config steps clients olds news all is counted new called whole maps =
+    subst (λ (l : List (List (Result PlacedReply ExecError))). AreDone classes config steps l) (sym is) (record {
       clients = all_counted classes steps clients olds news new called ∙ counted;
       ends = all_ended classes steps clients olds news new called whole;
+      maps = maps;
     })

@@ -1,4 +1,5 @@
 pub mod Calling
 pub mod Configs
 pub mod Ends
+pub mod Mapping
 pub mod Printed

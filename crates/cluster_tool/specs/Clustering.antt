@@ -33,10 +33,10 @@ pub record IsWithin (plan : FilePlan) (P : Config → Type 0) : Type 0 where
   pub is : config_of plan.numbers ≡ Some config
   pub comes : P config
 
--- Each call was made: the lines of their ends, which are true.
-pub record IsMade (classes : Classes) (plan : FilePlan) (printed : List ℕ) : Type 0 where
+-- Each call and each map was made: the lines of the calls' ends, which are true.
+pub record IsMade (classes : Classes) (plan : FilePlan) (printed : List ℕ) (config : Config) : Type 0 where
   pub all : List (List (Result PlacedReply ExecError))
-  pub done : AreDone classes plan.steps all
+  pub done : AreDone classes config plan.steps all
   pub lines : printed ≡ all_lines 1 (map (map shown) all)
 
 -- A map of the file was refused.
@@ -58,7 +58,7 @@ IsRefused plan printed = IsLimit plan printed ⊎ IsWithin plan (λ config. IsNo
 -- WHAT COMES of a file's text, where memory lasts: what its plan comes to; or, before anything is
 -- done, the line that is malformed first alone.
 abbrev pub IsPrintoutOf : Classes → Result FilePlan ℕ → List ℕ → Ending → Type 0
-IsPrintoutOf classes (Ok plan) printed Done = IsWithin plan (λ config. IsMade classes plan printed)
+IsPrintoutOf classes (Ok plan) printed Done = IsWithin plan (λ config. IsMade classes plan printed config)
 IsPrintoutOf classes (Ok plan) printed Bad = ⊥
 IsPrintoutOf classes (Ok plan) printed Refused = IsRefused plan printed
 IsPrintoutOf classes (Ok plan) printed NoMemory = ⊥

@@ -1,12 +1,11 @@
 -- How a plan may end.
-use Rattle.std.specs.Prelude.{◌≡◌, ⊤, ℕ, List, Result, length, map}
-use Rattle.std.specs.List.{Contains}
+use Rattle.std.specs.Prelude.{◌≡◌, ◌++◌, ⊤, ℕ, List, [], ◌∷◌, Result, length, map}
 use Rattle.pg_log.specs.Log.{Classes}
 use Rattle.cluster_file.specs.Plan.{clients_in}
 use Rattle.cluster_file.specs.declared.step.Step.{Step}
-use Rattle.cluster_file.specs.declared.step.Step.TheVariants.{Map}
+use Rattle.cluster_file.specs.declared.step.Step.TheVariants.{Call, Map}
 use Rattle.map_book.specs.declared.map_error.MapError.{MapError}
-use Rattle.osd.specs.Maps.{WasRefused}
+use Rattle.osd.specs.Maps.{WasMade, WasRefused}
 use Rattle.osd.specs.declared.config.Config.{Config}
 use Rattle.rados_client.specs.Session.{PlacedReply}
 use Rattle.rados_client.specs.declared.exec_error.ExecError.{ExecError}
@@ -14,21 +13,41 @@ use Rattle.cluster_tool.specs.Answers.{AreAllEnds}
 use Rattle.cluster_tool.specs.declared.played.Played.{Played}
 use Rattle.cluster_tool.specs.declared.played.Played.TheVariants.{Done, MapRefused, NoMemory}
 
--- the map of that line of the file was refused by the maps of a cluster of these numbers
+-- a map of these up nodes was made by the maps of a cluster of these numbers
+pub record IsMapMade (config : Config) (nodes : List ℕ) : Type 0 where
+  pub epoch : ℕ
+  pub made : WasMade config nodes epoch
+
+-- the step is a call, or its map was made
+abbrev pub IsStepMade : Config → Step → Type 0
+IsStepMade config (Call call) = ⊤
+IsStepMade config (Map line nodes) = IsMapMade config nodes
+
+-- THE MAPS OF THESE STEPS: each was made.
+abbrev pub AreMapsMade : Config → List Step → Type 0
+AreMapsMade config [] = ⊤
+AreMapsMade config (step ∷ steps) = IsStepMade config step × AreMapsMade config steps
+
+-- The map of that line of the file was refused by the maps of a cluster of these numbers, and it is
+-- the first: each map above it was made.
 pub record IsMapRefused (config : Config) (steps : List Step) (line : ℕ) (why : MapError) : Type 0 where
+  pub above : List Step
   pub nodes : List ℕ
-  pub there : Contains steps (Map line nodes)
+  pub below : List Step
+  pub there : steps ≡ above ++ Map line nodes ∷ below
+  pub made : AreMapsMade config above
   pub refused : WasRefused config nodes why
 
--- each client's calls have their true ends
-pub record AreDone (classes : Classes) (steps : List Step) (all : List (List (Result PlacedReply ExecError))) : Type 0 where
+-- each client's calls have their true ends, and each map was made
+pub record AreDone (classes : Classes) (config : Config) (steps : List Step) (all : List (List (Result PlacedReply ExecError))) : Type 0 where
   pub clients : length all ≡ clients_in 0 steps
   pub ends : AreAllEnds classes steps all
+  pub maps : AreMapsMade config steps
 
 -- HOW A PLAN ENDS on a cluster of these numbers, with these classes: each call of each client has
--- its true end; or a map of the plan was refused, and nothing after it was done; or memory was
--- refused.
+-- its true end, and each map was made; or a map of the plan was refused, the first that is; or
+-- memory was refused.
 abbrev pub Plays : Classes → Config → List Step → Played → Type 0
-Plays classes config steps (Done all) = AreDone classes steps (map (λ v. v.items) all.items)
+Plays classes config steps (Done all) = AreDone classes config steps (map (λ v. v.items) all.items)
 Plays classes config steps (MapRefused line why) = IsMapRefused config steps line why
 Plays classes config steps NoMemory = ⊤

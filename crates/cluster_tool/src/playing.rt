@@ -1,7 +1,7 @@
 //! A plan played on a cluster.
 ghost use Rattle.std.specs.Prelude.{◌≡◌, false, IfOk, IfNone, IfSome, All, map};
 ghost use Rattle.cluster_tool.specs.Callers.{AllCalled, AreNew};
-ghost use Rattle.cluster_tool.specs.Played.{IsMapRefused, Plays};
+ghost use Rattle.cluster_tool.specs.Played.{AreMapsMade, IsMapRefused, Plays};
 
 use crate::caller::Caller;
 use crate::crossing::{caller_crosses, figures_cross};
@@ -175,6 +175,7 @@ fn play_steps<'a, N: ClusterName + Send + Sync, R: Threads + Wait + Clock + Sync
     callers: &mut Vec<Caller<'a, N, R>>,
 ) -> Option<(usize, MapError)>
     ensures none { IfNone result (AllCalled N.classes steps.now callers.old.items callers.new.items) }
+    ensures made { IfNone result (AreMapsMade N.config steps.now) }
     ensures some { IfSome result (λ r. IsMapRefused N.config steps.now r.0 r.1) }
 {
     let end = steps.len();

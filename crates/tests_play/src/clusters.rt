@@ -21,7 +21,7 @@ const HELLO: &str =
     b701000005000000 850000000d000000 9500000000000000";
 
 /// Files below the first line, what they print, and the status.
-static WORKED: [(&str, &str, u8); 13] = [
+static WORKED: [(&str, &str, u8); 15] = [
     ("", "", 0),
     (
         "client 1 a lock lock -\nclient 1 a lock unlock -\n",
@@ -63,6 +63,13 @@ static WORKED: [(&str, &str, u8); 13] = [
         "line 3: refused 2 Limit\n",
         1,
     ),
+    // of two refused maps the first, and nothing after it
+    (
+        "map 0 1\nmap 1 1\nclient 1 a lock lock -\nmap\n",
+        "line 3: refused 2 Limit\n",
+        1,
+    ),
+    ("client 1 a lock lock -\nmap\nmap 3\n", "line 3: refused 1 NoneUp\n", 1),
     // the node that was up alone has the log
     (
         "map 1\nclient 1 a lock lock -\nmap 0 1 2\nclient 1 a lock lock -\nclient 1 a lock unlock -\n",
