@@ -102,8 +102,8 @@ fn push_sizes(
 }
 
 /// Measures a row. It fails where a call isn't answered.
-pub fn failover<R: Threads + Wait + Clock + Files + Sync>(
-    rt: &R,
+pub fn failover<R: Threads + Wait + Clock + Files + Sync + Drop>(
+    rt: R,
     alloc: Global,
     row: Row,
 ) -> Result<Taken> {

@@ -47,9 +47,14 @@ const WORKERS: [usize; 3] = [1, 2, 4];
 
 fn main(rt: HostRuntime) -> Result<()> {
     let words: Vec<String> = env::args(&rt)?.collect(rt.alloc())?;
-    match row_asked_for(&words)? {
-        Some(number) => row(&rt, rt.alloc(), number),
-        None => tables(&rt, rt.alloc(), Mode::of(&words).context(USAGE)?),
+    if let Some(number) = row_asked_for(&words)? {
+        return row(&rt, rt.alloc(), number);
+    }
+    let mode = Mode::of(&words).context(USAGE)?;
+    tables(&rt, rt.alloc(), mode)?;
+    match mode {
+        Mode::Dry => tenths(&rt, rt.alloc()),
+        Mode::Timed => Ok(()),
     }
 }
 
@@ -64,8 +69,8 @@ fn row_asked_for(words: &[String]) -> Result<Option<usize>> {
 }
 
 /// Measures a row of the failovers.
-fn row<R: Threads + Wait + Clock + Files + Print + Sync>(
-    rt: &R,
+fn row<R: Threads + Wait + Clock + Files + Print + Sync + Copy>(
+    rt: R,
     alloc: Global,
     number: usize,
 ) -> Result<()> {
@@ -77,7 +82,10 @@ fn row<R: Threads + Wait + Clock + Files + Print + Sync>(
 }
 
 /// Plays a tenth of each row of the failovers.
-fn tenths<R: Threads + Wait + Clock + Files + Print + Sync>(rt: &R, alloc: Global) -> Result<()> {
+fn tenths<R: Threads + Wait + Clock + Files + Print + Sync + Copy>(
+    rt: R,
+    alloc: Global,
+) -> Result<()> {
     for row in rows(alloc)? {
         let row = row.tenth();
         let taken = failover(rt, alloc, row)?;
@@ -88,7 +96,7 @@ fn tenths<R: Threads + Wait + Clock + Files + Print + Sync>(rt: &R, alloc: Globa
 }
 
 /// Prints the other tables.
-fn tables<R: Threads + Wait + Clock + CpuClock + Files + Print + Sync>(
+fn tables<R: Threads + Wait + Clock + CpuClock + Print + Sync>(
     rt: &R,
     alloc: Global,
     mode: Mode,
@@ -119,10 +127,7 @@ fn tables<R: Threads + Wait + Clock + CpuClock + Files + Print + Sync>(
             }
         }
     }
-    match mode {
-        Mode::Dry => tenths(rt, alloc),
-        Mode::Timed => Ok(()),
-    }
+    Ok(())
 }
 
 /// Prints a figure.

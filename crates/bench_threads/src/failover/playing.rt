@@ -22,8 +22,9 @@ use std::time::{Clock, Instant};
 const WORKER_LIMIT: usize = 4;
 
 /// Plays a row on a new cluster.
-pub fn run<R: Threads + Wait + Clock + Files + Sync>(
-    rt: &R,
+// The runtime comes by value: the prover takes no `Files` of a reference to a threads' type parameter.
+pub fn run<R: Threads + Wait + Clock + Files + Sync + Drop>(
+    rt: R,
     alloc: Global,
     row: Row,
 ) -> Result<Taken> {

@@ -3,6 +3,12 @@ use std::fmt;
 /// What a failover may take more than its share of the time before it, in nanoseconds.
 const GRACE: u128 = 50_000_000;
 
+/// The nudges of a session, at most.
+const NUDGES: u64 = 10;
+
+/// The messages of nodes for a session, at most.
+const MESSAGES: u64 = 60;
+
 /// What a row took.
 #[derive(Clone, Copy)]
 pub struct Taken {
@@ -31,15 +37,36 @@ impl Taken {
         }
     }
 
-    /// Whether it is within the aims: a quarter of the time of the calls before the map and 50 ms, 1.5 times the
-    /// memory before it, ten nudges and sixty messages a session.
-    fn is_within(self) -> bool {
-        let sessions = self.sessions as u64;
-        let time = self.calling / 4;
-        self.failover <= time.saturating_add(GRACE)
-            && self.most.saturating_mul(2) <= self.before.saturating_mul(3)
-            && self.nudges <= sessions.saturating_mul(10)
-            && self.messages <= sessions.saturating_mul(60)
+    /// Whether the failover took at most a quarter of the time of the calls before it, and 50 ms.
+    fn is_fast(self) -> bool {
+        self.failover <= (self.calling / 4).saturating_add(GRACE)
+    }
+
+    /// Whether memory grew to 1.5 times at most.
+    fn is_small(self) -> bool {
+        self.most.saturating_mul(2) <= self.before.saturating_mul(3)
+    }
+
+    /// Whether there were at most that many a session.
+    fn is_few(self, count: u64, each: u64) -> bool {
+        count <= each.saturating_mul(self.sessions as u64)
+    }
+
+    /// The aims that it misses.
+    fn write_misses<W: fmt::Write>(self, f: &mut fmt::Formatter<W>) -> fmt::Result {
+        if !self.is_fast() {
+            f.write_str(", misses time")?;
+        }
+        if !self.is_small() {
+            f.write_str(", misses memory")?;
+        }
+        if !self.is_few(self.nudges, NUDGES) {
+            f.write_str(", misses nudges")?;
+        }
+        if !self.is_few(self.messages, MESSAGES) {
+            f.write_str(", misses messages")?;
+        }
+        Ok(())
     }
 }
 
@@ -63,16 +90,11 @@ impl fmt::Display for Taken {
         let sessions = (self.sessions as u64).max(1);
         let nudges = self.nudges.saturating_mul(10) / sessions;
         let messages = self.messages.saturating_mul(10) / sessions;
-        let verdict = if self.is_within() { "within" } else { "OVER" };
         write!(f, "{:>6}.{} ms", calling / 10, calling % 10)?;
         write!(f, "{:>6}.{} ms {share:>4} %", failover / 10, failover % 10)?;
-        write!(f, "{mebibytes:>5} MiB {memory:>4} %")?;
-        write!(f, "{:>5}.{} nudges", nudges / 10, nudges % 10)?;
-        write!(
-            f,
-            "{:>5}.{} messages  {verdict}",
-            messages / 10,
-            messages % 10
-        )
+        write!(f, "{mebibytes:>4} MiB {memory:>4} %")?;
+        write!(f, "{:>4}.{} nudges", nudges / 10, nudges % 10)?;
+        write!(f, "{:>4}.{} messages", messages / 10, messages % 10)?;
+        self.write_misses(f)
     }
 }
