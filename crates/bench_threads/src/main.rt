@@ -1,8 +1,8 @@
 //! `bench_threads` measures what a cluster in threads costs: calls on whole clusters, and the parts of a message: a
 //! pair of `submit` and `take` of the queues, with one thread and with four, a `commit` and a `look` of the board, a
 //! lock, a wake, what nodes do with a call's messages, and what a client does to ask and to look for the answer. With
-//! `failover` and a row's number, from 1, it measures that row alone of what a failover takes; with `--dry` it plays each
-//! of these rows with a tenth of its calls, and leaves all times out.
+//! `failover` and a row's number, from 1, it measures that row alone of what a failover takes; with `--dry` it plays a
+//! part of the calls of each of these rows, a tenth at most, and leaves all times out.
 #![tactic(auto)]
 
 mod asking;
@@ -53,7 +53,7 @@ fn main(rt: HostRuntime) -> Result<()> {
     let mode = Mode::of(&words).context(USAGE)?;
     tables(&rt, rt.alloc(), mode)?;
     match mode {
-        Mode::Dry => tenths(&rt, rt.alloc()),
+        Mode::Dry => parts(&rt, rt.alloc()),
         Mode::Timed => Ok(()),
     }
 }
@@ -81,13 +81,13 @@ fn row<R: Threads + Wait + Clock + Files + Print + Sync + Copy>(
     println!(rt; "{row}{taken}").map_err(Error::from)
 }
 
-/// Plays a tenth of each row of the failovers.
-fn tenths<R: Threads + Wait + Clock + Files + Print + Sync + Copy>(
+/// Plays a part of each row of the failovers.
+fn parts<R: Threads + Wait + Clock + Files + Print + Sync + Copy>(
     rt: R,
     alloc: Global,
 ) -> Result<()> {
     for row in rows(alloc)? {
-        let row = row.tenth();
+        let row = row.part();
         let taken = failover(rt, alloc, row)?;
         let answers = taken.answers;
         println!(rt; "{row}{answers:>7}")?;

@@ -55,10 +55,15 @@ pub struct Row {
 }
 
 impl Row {
-    /// The same with a tenth of the calls.
-    pub fn tenth(self) -> Row {
+    /// The same with a part of the calls: a tenth where the primary leaves and one worker serves, else a hundredth.
+    pub fn part(self) -> Row {
+        let divisor = if self.change == Change::PrimaryLeaves && self.workers == 1 {
+            10
+        } else {
+            100
+        };
         Row {
-            calls: self.calls / 10,
+            calls: self.calls / divisor,
             ..self
         }
     }
