@@ -1,0 +1,75 @@
+//! Run after run, until the time is over.
+
+use crate::fault::Fault;
+use crate::run::run;
+use crate::shape::Shape;
+use crate::totals::Totals;
+use anyhow::{Error, Result};
+use std::sync::Wait;
+use std::thread::Threads;
+use std::time::{Clock, Instant};
+
+/// For how long runs are played, by which seed, and from which number on.
+#[derive(Clone, Copy)]
+pub struct Asked {
+    pub seconds: u64,
+    pub seed: u64,
+    pub first: u64,
+}
+
+/// A run that is wrong.
+#[derive(Clone, Copy, Drop)]
+pub struct Wrong {
+    pub number: u64,
+    pub fault: Fault,
+}
+
+/// Plays run after run, until the time is over or one is wrong.
+pub fn thrash<R: Threads + Wait + Clock + Sync + AllocGlobal>(
+    rt: &R,
+    asked: Asked,
+    totals: &mut Totals,
+) -> Result<Option<Wrong>> {
+    let start = Instant::now(rt)?;
+    for number in asked.first..u64::MAX {
+        if start.elapsed(rt)?.as_secs() >= asked.seconds {
+            break;
+        }
+        let shape = Shape::new(asked.seed, number);
+        totals.runs = totals.runs.wrapping_add(1);
+        if let Some(fault) = run(rt.alloc(), rt, shape, totals)? {
+            return Ok(Some(Wrong { number, fault }));
+        }
+    }
+    Ok(None)
+}
+
+/// Plays runs, prints what they came to, and fails where one is wrong.
+pub fn tell_thrash<R: Threads + Wait + Clock + Sync + Print + AllocGlobal>(
+    rt: &R,
+    asked: Asked,
+) -> Result<()> {
+    let mut totals = Totals::new();
+    let wrong = thrash(rt, asked, &mut totals)?;
+    print!(rt; "{totals}")?;
+    tell_verdict(rt, asked.seed, wrong)
+}
+
+/// Prints the verdict alone, and fails where a run is wrong.
+pub fn tell_thrash_alone<R: Threads + Wait + Clock + Sync + Print + AllocGlobal>(
+    rt: &R,
+    asked: Asked,
+) -> Result<()> {
+    let mut totals = Totals::new();
+    let wrong = thrash(rt, asked, &mut totals)?;
+    tell_verdict(rt, asked.seed, wrong)
+}
+
+/// Prints the verdict, and fails where a run is wrong.
+fn tell_verdict<R: Print + AllocGlobal>(rt: &R, seed: u64, wrong: Option<Wrong>) -> Result<()> {
+    let Some(Wrong { number, fault }) = wrong else {
+        return println!(rt; "thrash: right").map_err(Error::from);
+    };
+    println!(rt; "run {number} of seed {seed}: {fault}")?;
+    Err(Error::msg("a run is wrong"))
+}
