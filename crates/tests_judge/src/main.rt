@@ -31,6 +31,7 @@ mod judge;
 mod made;
 mod memory;
 mod object;
+mod peak;
 mod plan;
 mod random;
 mod run;

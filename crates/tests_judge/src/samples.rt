@@ -75,12 +75,14 @@ struct Sample {
     entries: [(usize, u32, u32, i64); CALLS],
     /// What the backups keep.
     backups: [(usize, u32, u32, i64); CALLS],
-    /// Whether the last call comes after the trouble.
+    /// Whether the calls come after the trouble.
     is_last: bool,
+    /// How many entries a log has at most.
+    limit: usize,
 }
 
 /// How many changes there are, the first of which changes nothing.
-pub const CHANGES: usize = 18;
+pub const CHANGES: usize = 20;
 
 impl Sample {
     /// The history with the change of that number.
@@ -90,6 +92,7 @@ impl Sample {
             entries: ENTRIES,
             backups: ENTRIES,
             is_last: false,
+            limit: 6,
         };
         sample.change_answers(change);
         sample.change_entries(change);
@@ -117,6 +120,11 @@ impl Sample {
                 self.is_last = true;
             }
             10 => self.rows[5].how = How::Twice,
+            // The log of its group is full.
+            18 => {
+                self.rows[5].how = How::Refused(ExecError::LogFull);
+                self.limit = 1;
+            }
             // What nodes refuse is answered.
             11 => self.rows[5].asks = Asks::NoClass,
             _ => {}
@@ -141,9 +149,11 @@ impl Sample {
             _ => {}
         }
         self.backups = self.entries;
-        // A backup lacks an answered call.
-        if change == 17 {
-            self.backups[5].0 = 0;
+        match change {
+            // A backup lacks an answered call, or has another code.
+            17 => self.backups[5].0 = 0,
+            19 => self.backups[1].3 = 0,
+            _ => {}
         }
     }
 
@@ -161,7 +171,7 @@ impl Sample {
             clients,
             groups,
             kept,
-            limit: 6,
+            limit: self.limit,
         })
     }
 

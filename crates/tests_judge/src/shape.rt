@@ -36,11 +36,11 @@ pub struct Shape {
     pub objects: u32,
     /// How many calls a caller makes at most.
     pub calls: u32,
-    /// Whether callers go on until the log is full.
-    pub is_full: bool,
     pub shares: Shares,
     /// How many microseconds pass at most between two maps, stops or nudges.
     pub pause: u32,
+    /// How many of these there are at most.
+    pub unrests: u32,
 }
 
 /// One of four numbers.
@@ -78,10 +78,10 @@ impl Shape {
             config: config(&mut random),
             callers: callers(&mut random, is_many),
             objects: random.between(1, 8),
-            calls: if is_many { 8 } else { random.between(8, 60) },
-            is_full: false,
+            calls: if is_many { 8 } else { random.between(8, 100) },
             shares: some_shares(&mut random),
-            pause: pick(&mut random, [50, 200, 1_000, 4_000]),
+            pause: pick(&mut random, [200, 1_000, 5_000, 20_000]),
+            unrests: random.between(20, 300),
         }
     }
 
@@ -107,9 +107,9 @@ impl Shape {
             callers: 12,
             objects: 8,
             calls: 65_536,
-            is_full: true,
             shares,
             pause: 100_000,
+            unrests: 400,
         }
     }
 
@@ -162,6 +162,6 @@ fn tries(random: &mut Random) -> u32 {
     if random.is_one_in(8) {
         random.between(20, 900)
     } else {
-        random.between(PATIENT, 8_000)
+        random.between(PATIENT, 6_000)
     }
 }

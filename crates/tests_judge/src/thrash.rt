@@ -1,10 +1,12 @@
 //! Run after run, until the time is over.
 
 use crate::fault::Fault;
+use crate::peak::peak;
 use crate::run::run;
 use crate::shape::Shape;
 use crate::totals::Totals;
 use anyhow::{Error, Result};
+use std::rt::Files;
 use std::sync::Wait;
 use std::thread::Threads;
 use std::time::{Clock, Instant};
@@ -44,15 +46,26 @@ pub fn thrash<R: Threads + Wait + Clock + Sync + AllocGlobal>(
     Ok(None)
 }
 
-/// Plays runs, prints what they came to, and fails where one is wrong.
-pub fn tell_thrash<R: Threads + Wait + Clock + Sync + Print + AllocGlobal>(
+/// Plays runs, prints what they came to, and fails where one is wrong. With the memory that the process had, a reader can
+/// tell whether it stays within twice what the entries take.
+pub fn tell_thrash<R: Threads + Wait + Clock + Sync + Files + Print + AllocGlobal>(
     rt: &R,
     asked: Asked,
 ) -> Result<()> {
     let mut totals = Totals::new();
+    tell_memory(rt, "before")?;
     let wrong = thrash(rt, asked, &mut totals)?;
     print!(rt; "{totals}")?;
+    tell_memory(rt, "at most")?;
     tell_verdict(rt, asked.seed, wrong)
+}
+
+/// Prints how much memory the process has had, where the system tells it.
+fn tell_memory<R: Files + Print + AllocGlobal>(rt: &R, when: &str) -> Result<()> {
+    match peak(rt) {
+        Some(peak) => println!(rt; "memory {when} {peak} KiB").map_err(Error::from),
+        None => Ok(()),
+    }
 }
 
 /// Prints the verdict alone, and fails where a run is wrong.

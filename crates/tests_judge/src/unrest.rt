@@ -71,7 +71,7 @@ impl Unrest {
         })
     }
 
-    /// Goes on until no caller calls in the trouble, and then makes all calm.
+    /// Goes on for as long as callers call in the trouble, but not for ever, and then makes all calm.
     pub fn play<N: ClusterName, R: Wait + Clock>(
         &mut self,
         running: &Running<N, R>,
@@ -81,7 +81,7 @@ impl Unrest {
             self.fault = Some("no session is left");
             return;
         };
-        for _ in running.runtime().forever() {
+        for _ in 0..trouble.shape.unrests {
             if !trouble.is_calling() {
                 break;
             }
@@ -106,19 +106,19 @@ impl Unrest {
         let nodes = trouble.shape.config.nodes;
         let node = NodeId::new(u64::from(self.random.below(nodes.min(16) as u32)));
         match self.random.below(16) {
-            0..=3 => {
+            0 | 1 => {
                 self.stops = self.stops.wrapping_add(1);
                 self.expect(running.stop(node).is_ok(), "a node isn't stopped");
             }
-            4..=7 => self.expect(running.go(node).is_ok(), "a node isn't let go"),
-            8 => self.let_all_go(running),
-            9 | 10 => {
+            2..=4 => self.expect(running.go(node).is_ok(), "a node isn't let go"),
+            5 => self.let_all_go(running),
+            6 => {
                 let group = self
                     .random
                     .below(trouble.shape.config.groups.min(64) as u32);
                 running.nudge(&mut opened.sends, group as usize);
             }
-            11 => self.ask_wrongly(running, nodes),
+            7 => self.ask_wrongly(running, nodes),
             _ => self.publish(running, trouble),
         }
     }
