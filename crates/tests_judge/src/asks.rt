@@ -88,7 +88,7 @@ impl Asks {
             Asks::Get(name) => input.extend_from_slice(xattr(name).as_bytes())?,
             Asks::Set { name, byte, count } => {
                 let name = xattr(name).as_bytes();
-                input.push(name.len() as u8)?;
+                input.push(name.len().min(255) as u8)?;
                 input.extend_from_slice(name)?;
                 push_times(&mut input, byte, count)?;
             }

@@ -152,15 +152,18 @@ impl<N: ClusterName, R: Wait> AtWork<'_, N, R> {
         Ok(())
     }
 
-    /// Calls each object once, until it is answered.
+    /// Calls some objects once more, until it is answered.
     fn after_trouble(
         &mut self,
         random: &mut Random,
         made: &mut Vec<Made>,
     ) -> Result<(), AllocError> {
+        let client = self.session.client().get();
         for object in 0..self.trouble.shape.objects {
-            let call = self.insist(random, object)?;
-            made.push(call)?;
+            if self.trouble.shape.is_last(client, object) {
+                let call = self.insist(random, object)?;
+                made.push(call)?;
+            }
         }
         Ok(())
     }

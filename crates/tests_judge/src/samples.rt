@@ -162,8 +162,8 @@ impl Sample {
         let mut clients = Vec::new(alloc);
         let mut kept = Vec::new(alloc);
         let mut groups = Vec::new(alloc);
-        for number in 0..2 {
-            clients.push(self.client(alloc, number + 1)?)?;
+        for number in 0..2u32 {
+            clients.push(self.client(alloc, number.wrapping_add(1))?)?;
             kept.push(self.kept(alloc, number as usize)?)?;
             groups.push(number as usize)?;
         }

@@ -113,6 +113,11 @@ impl Shape {
         }
     }
 
+    /// Whether a client calls that object after the trouble: all where there are few clients, else one of them.
+    pub fn is_last(&self, client: u32, object: u32) -> bool {
+        self.callers <= 8 || client % self.objects.max(1) == object
+    }
+
     /// Whether calls have so few tries that others have to nudge.
     pub fn is_impatient(&self) -> bool {
         self.config.tries < PATIENT
