@@ -65,15 +65,18 @@ impl Made {
     /// Notes how it, or a repeat, ended. A repeat of an answered call may be unanswered, or be refused by a node that
     /// came to know the call late; an answer is the same again.
     pub fn note(&mut self, end: End, tick: u64) {
-        if !matches!(self.end, End::Replied(_, _)) {
-            if matches!(end, End::Replied(_, _)) {
-                self.ended = tick;
+        let is_reply = matches!(end, End::Replied(_, _));
+        match &self.end {
+            End::Refused(_) => {
+                if is_reply {
+                    self.ended = tick;
+                }
+                self.end = end;
             }
-            self.end = end;
-            return;
-        }
-        if matches!(end, End::Replied(_, _)) && !is_same(&self.end, &end) {
-            self.end = End::Differs;
+            End::Replied(_, _) if is_reply && !is_same(&self.end, &end) => {
+                self.end = End::Differs;
+            }
+            End::Replied(_, _) | End::Differs => {}
         }
     }
 }
