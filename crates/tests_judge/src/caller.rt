@@ -152,7 +152,7 @@ impl<N: ClusterName, R: Wait> AtWork<'_, N, R> {
         Ok(())
     }
 
-    /// Calls some objects once more, until it is answered.
+    /// Calls objects once more, each until it is answered.
     fn after_trouble(
         &mut self,
         random: &mut Random,
