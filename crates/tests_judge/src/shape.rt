@@ -68,7 +68,7 @@ impl Shape {
     /// The shape of the run of that number of a seed.
     pub fn new(seed: u64, number: u64) -> Shape {
         let mut random = Random::new(seed, number.wrapping_mul(STREAMS));
-        if number % FULL == FULL / 2 {
+        if number >= FULL {
             return Shape::full(seed, number, &mut random);
         }
         let is_many = number % MANY == MANY - 1;

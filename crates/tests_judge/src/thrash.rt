@@ -3,7 +3,7 @@
 use crate::fault::Fault;
 use crate::peak::peak;
 use crate::run::run;
-use crate::shape::Shape;
+use crate::shape::{FULL, Shape};
 use crate::totals::Totals;
 use anyhow::{Error, Result};
 use std::rt::Files;
@@ -17,6 +17,34 @@ pub struct Asked {
     pub seconds: u64,
     pub seed: u64,
     pub first: u64,
+}
+
+/// After how many seconds a log grows to its limit, and then after how many again. These runs are long.
+const FULL_AFTER: u64 = 20;
+
+const FULL_EVERY: u64 = 60;
+
+/// The number of the next run, and how many runs had a log that grows to its limit.
+#[derive(Clone, Copy)]
+struct Numbers {
+    next: u64,
+    full: u64,
+}
+
+impl Numbers {
+    /// The number of the run that is played after so many seconds.
+    fn number(&mut self, seconds: u64) -> u64 {
+        let due = self.full.wrapping_mul(FULL_EVERY).wrapping_add(FULL_AFTER);
+        if seconds >= due {
+            let number = FULL.wrapping_add(self.full);
+            self.full = self.full.wrapping_add(1);
+            number
+        } else {
+            let number = self.next;
+            self.next = self.next.wrapping_add(1);
+            number
+        }
+    }
 }
 
 /// A run that is wrong.
@@ -33,10 +61,16 @@ pub fn thrash<R: Threads + Wait + Clock + Sync + AllocGlobal>(
     totals: &mut Totals,
 ) -> Result<Option<Wrong>> {
     let start = Instant::now(rt)?;
-    for number in asked.first..u64::MAX {
-        if start.elapsed(rt)?.as_secs() >= asked.seconds {
+    let mut numbers = Numbers {
+        next: asked.first,
+        full: 0,
+    };
+    for _ in 0..u64::MAX {
+        let seconds = start.elapsed(rt)?.as_secs();
+        if seconds >= asked.seconds {
             break;
         }
+        let number = numbers.number(seconds);
         let shape = Shape::new(asked.seed, number);
         totals.runs = totals.runs.wrapping_add(1);
         if let Some(fault) = run(rt.alloc(), rt, shape, totals)? {
