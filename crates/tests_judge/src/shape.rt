@@ -8,9 +8,10 @@ const STREAMS: u64 = 128;
 
 const FIRST_CALLER: u64 = 2;
 
-/// One run of so many has a log that grows to its limit, and one of so many has many callers.
-const FULL: u64 = 100;
+/// In the runs from this number on a log grows to its limit.
+pub const FULL: u64 = 1_000_000;
 
+/// One run of so many has many callers.
 const MANY: u64 = 8;
 
 /// A session gives up a call after that many looks at least, so that it nudges before. Where it has fewer tries, others
