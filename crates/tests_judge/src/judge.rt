@@ -1,9 +1,10 @@
 //! What was printed, compared with logs that run in the order of their places.
 
-use crate::object::Object;
-use crate::plan::{OBJECTS, Plan, Planned};
+use crate::object::{Answer, Object};
+use crate::plan::{OBJECTS, Plan, Planned, push_hex};
 use std::alloc::{AllocError, Global};
 use std::fmt;
+use std::fmt::Write;
 
 /// How what was printed is judged.
 #[derive(Clone, Copy, Drop)]
@@ -109,8 +110,12 @@ struct Run {
 impl Run {
     /// Of no call.
     fn new(alloc: Global, clients: u32) -> Result<Run, AllocError> {
+        let mut objects = Vec::new(alloc);
+        for _ in 0..OBJECTS {
+            objects.push(Object::absent(alloc))?;
+        }
         Ok(Run {
-            objects: vec![in alloc; Object::absent(); OBJECTS as usize]?,
+            objects,
             made: vec![in alloc; 0; clients as usize]?,
             maps: 0,
         })
@@ -130,8 +135,8 @@ impl Run {
         let Some(object) = self.objects.get_mut(call.object as usize) else {
             return Ok(None);
         };
-        let (code, output) = object.reply(call.client, call.asks);
-        Ok(Some(line_of(alloc, call, place, code, output)?))
+        let answer = object.reply(alloc, call.client, call.asks)?;
+        Ok(Some(line_of(alloc, call, place, &answer)?))
     }
 
     /// Whether the call comes after all of its client's that stand here. If so, it stands here from now on.
@@ -151,16 +156,18 @@ fn line_of(
     alloc: Global,
     call: &Planned,
     place: usize,
-    code: i64,
-    output: Option<u8>,
+    answer: &Answer,
 ) -> Result<String, AllocError> {
     let client = call.client;
     let number = call.number;
-    let shown = match output {
-        Some(b) => format!(in alloc; "{b:02x}{b:02x}{b:02x}{b:02x}")?,
-        None => format!(in alloc; "-")?,
-    };
-    format!(in alloc; "client {client} call {number} place {place} code {code} output {shown}")
+    let code = answer.code;
+    let mut line = String::new(alloc);
+    write!(
+        line,
+        "client {client} call {number} place {place} code {code} output "
+    )?;
+    push_hex(&mut line, &answer.output)?;
+    Ok(line)
 }
 
 /// Runs the list of those lines in the order of their places, and tells which line it doesn't give, if one.

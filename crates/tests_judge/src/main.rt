@@ -5,19 +5,48 @@
 //!   before a map above those after it;
 //! - each line says what that list gives, run in the order of its places.
 //!
-//! `tests_judge` plays some small clusters, and judges the first one's lines also with changes that make them wrong.
+//! And it thrashes clusters of random shapes: sessions call without pause, nodes are stopped and let go, maps of all shapes
+//! are made, messages are lost, doubled and late, and some logs grow to their limit. Each run has to end. Then:
+//!
+//! - each answered call stands in its group's list at its place, with its answer, which the list gives, run in the order
+//!   of its places;
+//! - each call stands there once, each client's calls in their order, and none before a call that was answered before it
+//!   began;
+//! - all nodes that act for the group keep that list, and what was answered whole;
+//! - refusals are deserved, a full log's too, and each call after the trouble is answered.
+//!
+//! `tests_judge` plays some small clusters, and judges the first one's lines also with changes that make them wrong; then
+//! it judges a small history with changes, and thrashes for ten seconds.
 //! `tests_judge CLIENTS CALLS GROUPS` plays one, in which each client makes that many calls before, between and after
-//! three maps.
+//! three maps. `tests_judge thrash SECONDS SEED [FIRST]` thrashes, from run FIRST on, and prints what the runs came to.
 #![tactic(auto)]
 
+mod asks;
+mod caller;
+mod crossing;
+mod fault;
+mod history;
+mod history_judge;
 mod judge;
+mod made;
 mod memory;
 mod object;
+mod peak;
 mod plan;
+mod random;
+mod run;
+mod samples;
+mod shape;
+mod thrash;
+mod totals;
+mod trouble;
+mod unrest;
 
 use crate::judge::{Verdict, judge};
 use crate::memory::played;
 use crate::plan::{Plan, Size};
+use crate::samples::tell_of_samples;
+use crate::thrash::{Asked, tell_thrash, tell_thrash_alone};
 use anyhow::{Context, Error, Result};
 use std::alloc::Global;
 use std::env;
@@ -54,25 +83,59 @@ const CHANGES: [(&str, &str); 5] = [
     ("place 2 code -2 output -", "refused 9 Unanswered"),
 ];
 
+/// The thrashing where none is asked for.
+const TEN_SECONDS: Asked = Asked {
+    seconds: 10,
+    seed: 1,
+    first: 0,
+};
+
+/// What the words ask for.
+enum Task {
+    All,
+    Cluster(Size),
+    Thrash(Asked),
+}
+
 fn main(rt: HostRuntime) -> Result<()> {
     let words: Vec<String> = env::args(&rt)?.collect(rt.alloc())?;
     match asked(&words)? {
-        Some(size) => tell(&rt, size),
-        None => tell_all(&rt),
+        Task::All => tell_all(&rt),
+        Task::Cluster(size) => tell(&rt, size),
+        Task::Thrash(asked) => tell_thrash(&rt, asked),
     }
 }
 
-/// The cluster that the words ask for, if they do.
-fn asked(words: &[String]) -> Result<Option<Size>> {
+/// What the words ask for.
+fn asked(words: &[String]) -> Result<Task> {
     match words {
-        [] | [_] => Ok(None),
-        [_, clients, calls, groups] => Ok(Some(Size {
+        [] | [_] => Ok(Task::All),
+        [_, word, rest @ ..] if word.as_str() == "thrash" => thrash_of(rest),
+        [_, clients, calls, groups] => Ok(Task::Cluster(Size {
             clients: number(clients)?,
             calls: number(calls)?,
             groups: number(groups)?,
         })),
-        _ => Err(Error::msg("usage: tests_judge [CLIENTS CALLS GROUPS]")),
+        _ => Err(usage()),
     }
+}
+
+fn usage() -> Error {
+    Error::msg("usage: tests_judge [CLIENTS CALLS GROUPS | thrash SECONDS SEED [FIRST]]")
+}
+
+/// The thrashing that the words after `thrash` ask for.
+fn thrash_of(words: &[String]) -> Result<Task> {
+    let (seconds, seed, first) = match words {
+        [seconds, seed] => (seconds, seed, 0),
+        [seconds, seed, first] => (seconds, seed, number(first)?),
+        _ => return Err(usage()),
+    };
+    Ok(Task::Thrash(Asked {
+        seconds: u64::from(number(seconds)?),
+        seed: u64::from(number(seed)?),
+        first: u64::from(first),
+    }))
 }
 
 /// The number that a word is.
@@ -85,7 +148,9 @@ fn tell_all<R: Threads + Wait + Clock + Sync + Print + AllocGlobal>(rt: &R) -> R
     for size in SIZES {
         tell(rt, size)?;
     }
-    tell_of_changes(rt)
+    tell_of_changes(rt)?;
+    tell_of_samples(rt)?;
+    tell_thrash_alone(rt, TEN_SECONDS)
 }
 
 /// Plays the first cluster, and prints how its lines are judged with each change.

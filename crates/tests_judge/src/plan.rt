@@ -1,5 +1,6 @@
 //! What many clients call.
 
+use crate::asks::Asks;
 use std::alloc::{AllocError, Global};
 use std::fmt::Write;
 
@@ -15,17 +16,6 @@ pub struct Size {
     pub clients: u32,
     pub calls: u32,
     pub groups: u32,
-}
-
-/// What a call asks of its object.
-#[derive(Clone, Copy)]
-pub enum Asks {
-    Lock,
-    Unlock,
-    /// The first four bytes become this one.
-    Write(u8),
-    /// The first eight bytes.
-    Read,
 }
 
 /// A call.
@@ -68,8 +58,15 @@ impl Dice {
         match self.throw() % 4 {
             0 => Asks::Lock,
             1 => Asks::Unlock,
-            2 => Asks::Write((self.throw() % 256) as u8),
-            _ => Asks::Read,
+            2 => Asks::Write {
+                offset: 0,
+                byte: (self.throw() % 256) as u8,
+                count: 4,
+            },
+            _ => Asks::Read {
+                offset: 0,
+                length: 8,
+            },
         }
     }
 }
@@ -93,19 +90,19 @@ impl Plan {
             text,
             "cluster nodes 3 replicas 3 groups {groups} shards 4 workers 4 tries 100000000\n"
         )?;
-        self.push_lines(&mut text, 0)?;
+        self.push_lines(alloc, &mut text, 0)?;
         for (before, nodes) in MAPS.iter().enumerate() {
             write!(text, "map {nodes}\n")?;
-            self.push_lines(&mut text, before + 1)?;
+            self.push_lines(alloc, &mut text, before + 1)?;
         }
         Ok(text)
     }
 
     /// Adds the lines of the calls that come after that many maps.
-    fn push_lines(&self, text: &mut String, maps: usize) -> Result<(), AllocError> {
+    fn push_lines(&self, alloc: Global, text: &mut String, maps: usize) -> Result<(), AllocError> {
         for call in &self.calls {
             if call.maps == maps {
-                push_line(text, call)?;
+                push_line(alloc, text, call)?;
             }
         }
         Ok(())
@@ -138,18 +135,23 @@ fn push_calls(
 }
 
 /// Adds the line of a call.
-fn push_line(text: &mut String, call: &Planned) -> Result<(), AllocError> {
+fn push_line(alloc: Global, text: &mut String, call: &Planned) -> Result<(), AllocError> {
     let client = call.client;
     let object = call.object;
-    write!(text, "client {client} o{object} ")?;
-    match call.asks {
-        Asks::Lock => write!(text, "lock lock -\n")?,
-        Asks::Unlock => write!(text, "lock unlock -\n")?,
-        Asks::Write(b) => write!(
-            text,
-            "obj write 0000000000000000{b:02x}{b:02x}{b:02x}{b:02x}\n"
-        )?,
-        Asks::Read => write!(text, "obj read 00000000000000000800000000000000\n")?,
+    let (class, _) = call.asks.class();
+    let method = call.asks.method();
+    write!(text, "client {client} o{object} {class} {method} ")?;
+    push_hex(text, &call.asks.input(alloc)?)?;
+    write!(text, "\n")
+}
+
+/// Adds bytes, two digits each, or `-` if there are none.
+pub fn push_hex(text: &mut String, bytes: &[u8]) -> Result<(), AllocError> {
+    for byte in bytes {
+        write!(text, "{byte:02x}")?;
+    }
+    if bytes.is_empty() {
+        write!(text, "-")?;
     }
     Ok(())
 }
