@@ -146,7 +146,8 @@ fn time<N: ClusterName + Send + Sync, R: Threads + Wait + Clock + CpuClock + Syn
     })
 }
 
-/// Makes that many calls by each session, each in a thread of its own. Answers how many were replied to.
+/// Makes that many calls by each session, each in a thread of its own. Answers how many were
+/// replied to.
 fn call_all<N: ClusterName + Send + Sync, R: Threads + Wait + Sync>(
     alloc: Global,
     running: &Running<N, R>,

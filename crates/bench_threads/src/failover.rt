@@ -1,6 +1,6 @@
-//! What a failover takes: sessions fill the log of one group of three nodes, a map changes who acts for it, and each
-//! session makes one call more. A row is measured in a process of its own, since the system tells a process's greatest
-//! memory once.
+//! What a failover takes: sessions fill the log of one group of three nodes, a map changes who acts
+//! for it, and each session makes one call more. A row is measured in a process of its own, since
+//! the system tells a process's greatest memory once.
 
 mod calling;
 mod counts;

@@ -1,8 +1,9 @@
-//! `bench_threads` measures what a cluster in threads costs: calls on whole clusters, and the parts of a message: a
-//! pair of `submit` and `take` of the queues, with one thread and with four, a `commit` and a `look` of the board, a
-//! lock, a wake, what nodes do with a call's messages, and what a client does to ask and to look for the answer. With
-//! `failover` and a row's number, from 1, it measures that row alone of what a failover takes; with `--dry` it plays a
-//! part of the calls of each of these rows, a tenth at most, and leaves all times out.
+//! `bench_threads` measures what a cluster in threads costs: calls on whole clusters, and the parts
+//! of a message: a pair of `submit` and `take` of the queues, with one thread and with four, a
+//! `commit` and a `look` of the board, a lock, a wake, what nodes do with a call's messages, and
+//! what a client does to ask and to look for the answer. With `failover` and a row's number, from
+//! 1, it measures that row alone of what a failover takes; with `--dry` it plays a part of the
+//! calls of each of these rows, a tenth at most, and leaves all times out.
 #![tactic(auto)]
 
 mod asking;

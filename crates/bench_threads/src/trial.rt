@@ -6,7 +6,8 @@ use std::fmt;
 /// The sessions that call at once, at most.
 pub const SESSION_LIMIT: usize = 16;
 
-/// What is called, by how many sessions, on a cluster of three nodes with how many replicas and workers.
+/// What is called, by how many sessions, on a cluster of three nodes with how many replicas and
+/// workers.
 #[derive(Clone, Copy)]
 pub struct Trial {
     pub load: Load,

@@ -36,7 +36,8 @@ struct Delivery {
     carried: Carried,
 }
 
-/// What the nodes of a group do with all messages of a call, in one thread, where the first so many of three nodes act.
+/// What the nodes of a group do with all messages of a call, in one thread, where the first so many
+/// of three nodes act.
 pub fn turns<C: Clock>(clock: &C, alloc: Global, mode: Mode, acting: usize) -> Result<Figure> {
     let table = table(alloc)?;
     let mut figure = Figure::new(mode);
@@ -157,8 +158,8 @@ fn cell<N: BoardName>(alloc: Global, number: u64, writer: Writer) -> GroupCell<N
     GroupCell::new(GroupNode::<N>::new(alloc, NodeId::new(number)), writer)
 }
 
-/// Brings the requests to the first node, one after another, and all that comes of each. Answers how many were replied
-/// to.
+/// Brings the requests to the first node, one after another, and all that comes of each. Answers
+/// how many were replied to.
 fn settle_all<N: BoardName>(
     shared: Shared<'_>,
     cells: &mut Vec<GroupCell<N>>,
@@ -174,7 +175,8 @@ fn settle_all<N: BoardName>(
     Ok(replied)
 }
 
-/// Brings an event to the first node, and all that comes of it. Answers how many clients were answered.
+/// Brings an event to the first node, and all that comes of it. Answers how many clients were
+/// answered.
 fn settle<N: BoardName>(
     shared: Shared<'_>,
     cells: &mut Vec<GroupCell<N>>,

@@ -45,7 +45,8 @@ pub fn nudges<N: ClusterName, R: Wait>(sessions: &[Session<'_, N, R>]) -> u64 {
     sum
 }
 
-/// Makes the calls of each session in a thread of its own, up to its first that isn't answered, and counts those that are.
+/// Makes the calls of each session in a thread of its own, up to its first that isn't answered, and
+/// counts those that are.
 pub fn call_all<'a, N: ClusterName + Send + Sync, R: Threads + Wait + Sync>(
     alloc: Global,
     running: &'a Running<N, R>,
@@ -67,8 +68,8 @@ pub fn call_all<'a, N: ClusterName + Send + Sync, R: Threads + Wait + Sync>(
 }
 
 impl Calls {
-    /// Makes the calls of the session at that place on an object of its own, up to the first that isn't answered. How many
-    /// are.
+    /// Makes the calls of the session at that place on an object of its own, up to the first that
+    /// isn't answered. How many are.
     fn answered<N: ClusterName, R: Wait>(
         self,
         alloc: Global,

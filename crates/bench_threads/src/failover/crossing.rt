@@ -1,4 +1,5 @@
-//! What may go to another thread, for the proofs of `playing` and `calling`. The functions do nothing.
+//! What may go to another thread, for the proofs of `playing` and `calling`. The functions do
+//! nothing.
 ghost use denote.Param.Send.{IsSync};
 ghost use Rattle.bench_threads.specs.contracts.failover.counts.Counts as counts;
 

@@ -22,7 +22,8 @@ use std::time::{Clock, Instant};
 const WORKER_LIMIT: usize = 4;
 
 /// Plays a row on a new cluster.
-// The runtime comes by value: the prover takes no `Files` of a reference to a threads' type parameter.
+// The runtime comes by value: the prover takes no `Files` of a reference to a threads' type
+// parameter.
 pub fn run<R: Threads + Wait + Clock + Files + Sync + Drop>(
     rt: R,
     alloc: Global,

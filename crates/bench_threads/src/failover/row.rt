@@ -1,7 +1,8 @@
 use osd::Config;
 use std::fmt;
 
-/// How many looks and submits a call makes at most, so that a row ends also where a call is never answered.
+/// How many looks and submits a call makes at most, so that a row ends also where a call is never
+/// answered.
 const TRIES: u32 = 1_000_000;
 
 /// What each session calls on an object of its own.
@@ -29,7 +30,8 @@ pub enum Change {
     PrimaryLeaves,
     /// It leaves out the last backup.
     BackupLeaves,
-    /// It brings back the node that is to be the primary, which was left out from the beginning and so has nothing.
+    /// It brings back the node that is to be the primary, which was left out from the beginning and
+    /// so has nothing.
     EmptyReturns,
 }
 
@@ -55,7 +57,8 @@ pub struct Row {
 }
 
 impl Row {
-    /// The same with a part of the calls: a tenth where the primary leaves and one worker serves, else a hundredth.
+    /// The same with a part of the calls: a tenth where the primary leaves and one worker serves,
+    /// else a hundredth.
     pub fn part(self) -> Row {
         let divisor = if self.change == Change::PrimaryLeaves && self.workers == 1 {
             10
@@ -85,7 +88,8 @@ impl Row {
         (self.calls / self.sessions.max(1)).max(1)
     }
 
-    /// How many calls are answered, if all are: those before the map, and one of each session after it.
+    /// How many calls are answered, if all are: those before the map, and one of each session after
+    /// it.
     pub fn answers(self) -> u64 {
         let each = self.calls_each().saturating_add(1);
         each.saturating_mul(self.sessions) as u64

@@ -19,7 +19,8 @@ pub struct Taken {
     pub calling: u128,
     /// The nanoseconds from the map to the last session's next answer.
     pub failover: u128,
-    /// What was resident before the map, and at most up to the last answer, in KiB; 0 where the system doesn't say.
+    /// What was resident before the map, and at most up to the last answer, in KiB; 0 where the
+    /// system doesn't say.
     pub before: u64,
     pub most: u64,
     /// From the map to the last session's next answer, by all sessions.
