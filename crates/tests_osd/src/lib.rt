@@ -1,14 +1,11 @@
-//! Tests alone, of a cluster in threads. Each ends by itself: it counts its turns, and fails where they are used up.
+//! Tests alone, of a cluster in threads. Each ends by itself: it counts its turns, and fails where
+//! they are used up.
 #![tactic(auto)]
 
 #[cfg(test)]
 mod asking;
 #[cfg(test)]
-mod ending;
-#[cfg(test)]
 mod fates;
-#[cfg(test)]
-mod gates;
 #[cfg(test)]
 mod groups;
 #[cfg(test)]
@@ -20,10 +17,4 @@ mod modes;
 #[cfg(test)]
 mod nudges;
 #[cfg(test)]
-mod pairs;
-#[cfg(test)]
 mod stops;
-#[cfg(test)]
-mod turns;
-#[cfg(test)]
-mod workers;

@@ -1,8 +1,8 @@
-//! A nudge whose operation no queue takes, and a node that is stopped while a worker waits for its lock.
+//! A nudge whose operation no queue takes, and a node that is stopped while a worker waits for its
+//! lock.
 
-use crate::asking::{Calls, Fence, Server, TURNS, Taken, lock, served_by};
+use crate::asking::{Calls, Fence, Server, TURNS, Taken, lock, name_in, served_by};
 use crate::fates::Cut;
-use crate::turns::name_in;
 use group_cell::Post;
 use osd::{AskError, ClusterName, Config, Gate, Opened, PassAll, Running};
 use pg_log::ClientId;
@@ -12,7 +12,8 @@ use std::sync::Wait;
 use std::sync::atomic::{AtomicBool, Ordering};
 use std::thread::yield_now;
 
-/// Of nodes 0 and 1 node 0 alone acts for group 1, and node 1 for group 0 if it is up. Both groups have one queue.
+/// Of nodes 0 and 1 node 0 alone acts for group 1, and node 1 for group 0 if it is up. Both groups
+/// have one queue.
 const TWO_GROUPS: Config = Config {
     nodes: 2,
     replicas: 1,
@@ -22,7 +23,8 @@ const TWO_GROUPS: Config = Config {
     tries: 1000,
 };
 
-/// The maps that the worker takes: the first of both groups, the one with which it is held, and those of a full queue.
+/// The maps that the worker takes: the first of both groups, the one with which it is held, and
+/// those of a full queue.
 const MAPS: u64 = 2 + 1 + 1_024;
 
 /// Counts what the worker takes, and holds it with a map once that is wanted.
@@ -58,7 +60,8 @@ struct GivenBack {
 }
 
 impl GivenBack {
-    /// Makes a map of both nodes, or of node 0 alone: group 0 goes from the one to the other, and group 1 stays.
+    /// Makes a map of both nodes, or of node 0 alone: group 0 goes from the one to the other, and
+    /// group 1 stays.
     fn makes<N: ClusterName, R: Wait>(&self, running: &Running<N, R>, has_both: bool) -> bool {
         let both = [NodeId::new(0), NodeId::new(1)];
         let one = [NodeId::new(0)];
@@ -118,7 +121,8 @@ impl GivenBack {
         fence.settles(running) && self.gate.taken.others() == MAPS
     }
 
-    /// Whether a request of group 1 of that number is answered by a reply. It is refused where the group is in peering.
+    /// Whether a request of group 1 of that number is answered by a reply. It is refused where the
+    /// group is in peering.
     fn is_answered<N: ClusterName, R: Wait>(
         &self,
         running: &Running<N, R>,
@@ -200,7 +204,8 @@ const STOPS: u32 = 100;
 
 const QUEUED: u32 = 20;
 
-/// A node is stopped again and again amid requests, while its log is read, so that the worker waits for its lock.
+/// A node is stopped again and again amid requests, while its log is read, so that the worker waits
+/// for its lock.
 #[derive(Drop)]
 struct StoppedAtLock {
     alloc: Global,
@@ -232,7 +237,8 @@ impl StoppedAtLock {
         true
     }
 
-    /// Whether the node has as many entries after the worker has taken all requests as when `stop` had answered.
+    /// Whether the node has as many entries after the worker has taken all requests as when `stop`
+    /// had answered.
     fn stays<N: ClusterName, R: Wait>(
         &self,
         running: &Running<N, R>,
