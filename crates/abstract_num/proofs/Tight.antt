@@ -100,7 +100,8 @@ denied x e f = rw (eq-eqb x.low x.high e, f)
 pub denied_by_bits : (x : Plain) → x.low ≡ x.high → (clear x.low x.unknown ≡ x.value → ⊥) → by_constant x ≡ None
 denied_by_bits x e b = denied x e (ap (λ (z : Bool). z && (int_le x.least (signed x.low) && int_le (signed x.low) x.greatest)) (ne_eqb _ _ b))
 
--- Where the numbers of the unsigned range have one sign, its ends as signed numbers are those that the signed range meets.
+-- Where the numbers of the unsigned range have one sign, its ends as signed numbers are those that
+-- the signed range meets.
 pub meets_low : (x : Plain) (p q : ℤ) → x.low ≤ x.high → x.high < 2 ^ 63 → p ≡ signed x.low → q ≡ signed x.high → by_unsigned x ≡ meet_signed x p q
 meets_low x p q le lt e f =
     let met : by_unsigned x ≡ meet_signed x (pos x.low) (pos x.high) = rw (lt-ltb x.high (2 ^ 63) lt) in

@@ -15,7 +15,8 @@ use Rattle.abstract_num.specs.declared.fact.Fact.TheVariants.{Same, Above, AtLea
 use Rattle.abstract_num.specs.declared.fact.Edge.{Edge}
 use Rattle.abstract_num.specs.declared.fact.Edge.TheVariants.{Ahead, Turned, Apart, Disjoint}
 
--- How the first and the second number stand to one another where a comparison holds, and where it doesn't.
+-- How the first and the second number stand to one another where a comparison holds, and where it
+-- doesn't.
 abbrev pub edge_of : Comparison → Bool → Edge
 edge_of is.Equal true = Ahead Same
 edge_of is.Equal false = Apart

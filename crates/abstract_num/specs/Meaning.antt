@@ -1,4 +1,5 @@
--- What the rows compute and the facts say, of two numbers below 2 ^ 64; an operation is the machine's.
+-- What the rows compute and the facts say, of two numbers below 2 ^ 64; an operation is the
+-- machine's.
 use Rattle.std.specs.Prelude.{ℕ, ◌≡◌, ◌≢◌, ◌^◌, ◌<◌, ◌≤◌, ◌<ℤ◌, ◌≤ℤ◌, bit_and}
 use Rattle.std.specs.Int.{w64}
 use Rattle.bpf_decode.specs.Arithmetic.{computed, mov_value}

@@ -1,5 +1,5 @@
--- A number in plain numbers: the unsigned range [low, high], the signed range [least, greatest], and the bits of value
--- that unknown leaves known.
+-- A number in plain numbers: the unsigned range [low, high], the signed range [least, greatest],
+-- and the bits of value that unknown leaves known.
 use Rattle.std.specs.Prelude.{◌≡◌, ℕ, ℤ, pos, negsuc, ◌-◌, ◌^◌, ◌<◌, ◌≤◌, ◌≤ℤ◌, min, max, bit_or, bit_xor, Option, Some, None, MatchOption, IsSomeAnd}
 use Rattle.std.specs.Int.{int_min, int_max}
 use Rattle.abstract_num.specs.Signed.{signed}

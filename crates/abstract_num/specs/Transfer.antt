@@ -23,7 +23,8 @@ use Rattle.abstract_num.specs.declared.row.Row.TheVariants as row
 use Rattle.abstract_num.specs.declared.row.RowAnswer.{RowAnswer}
 use Rattle.abstract_num.specs.declared.row.RowAnswer.TheVariants.{Exact, By, All}
 
--- The row that answers an operation by rows, with the source's masked number where that is constant.
+-- The row that answers an operation by rows, with the source's masked number where that is
+-- constant.
 abbrev pub row_of : Arithmetic → Option ℕ → RowAnswer
 row_of op.Add s = By row.Add
 row_of op.Sub s = By row.Sub

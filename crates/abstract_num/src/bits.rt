@@ -4,7 +4,8 @@ mod rows;
 
 ghost use Rattle.std.specs.Prelude.{◌≡◌, ◌<◌, ◌^◌, bit_and};
 
-/// The numbers that agree with `value` in each bit that `unknown` hasn't set. A bit is never set in both.
+/// The numbers that agree with `value` in each bit that `unknown` hasn't set. A bit is never set in
+/// both.
 #[derive(Clone, Copy, PartialEq, Eq)]
 pub struct Bits {
     pub value: u64,

@@ -6,7 +6,8 @@ ghost use Rattle.abstract_num.specs.Meaning.{row_value, IsFact};
 use crate::fact::Fact;
 use crate::row::Row;
 
-/// A kind of value that stands for some whole numbers below `2^64`. Nothing here takes memory or fails.
+/// A kind of value that stands for some whole numbers below `2^64`. Nothing here takes memory or
+/// fails.
 pub trait Domain: Copy {
     /// Which numbers a value holds.
     ghost holds: { Self → ℕ → Type 0 };

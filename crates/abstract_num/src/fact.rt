@@ -1,4 +1,5 @@
-/// What an edge of a comparison tells the parts of two numbers, once the numbers as a whole have decided it.
+/// What an edge of a comparison tells the parts of two numbers, once the numbers as a whole have
+/// decided it.
 #[derive(Clone, Copy)]
 pub enum Fact {
     /// Both are the same number.

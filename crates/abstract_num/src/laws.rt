@@ -1,8 +1,8 @@
 ghost use Rattle.abstract_num.specs.Keeping.{NumbersFit, ConstantsFit, AnyHolds, ConstantHolds, ArithmeticKeeps, NegativeKeeps, CopyKeeps, ExtensionKeeps, OrderKeeps, RangeKeeps, LoadKeeps, SignedLoadKeeps, TightenKeeps, EdgeKeeps, JoinKeeps};
 ghost use Rattle.abstract_num.specs.Laws.{JoinCommutes, JoinAssociates, JoinOfSame, JoinIsAbove, BelowIsReflexive, BelowIsTransitive, BelowHolds};
 
-/// A law, proved when the crate is checked; a call does nothing. The join of numbers is a commutative, associative and
-/// idempotent upper bound.
+/// A law, proved when the crate is checked; a call does nothing. The join of numbers is a
+/// commutative, associative and idempotent upper bound.
 pub fn join_laws()
     ensures commutes { JoinCommutes }
     ensures associates { JoinAssociates }
@@ -17,8 +17,8 @@ pub fn order_laws()
     ensures holds { BelowHolds }
 {}
 
-/// A law. The tables of specs/ keep every number: what the machine computes of held numbers is held by what they give.
-/// Numbers of the code fit.
+/// A law. The tables of specs/ keep every number: what the machine computes of held numbers is held
+/// by what they give. Numbers of the code fit.
 pub fn keeping_laws()
     ensures fits { NumbersFit }
     ensures constants_fit { ConstantsFit }

@@ -1,9 +1,11 @@
-//! Abstract numbers: what is known of a whole number below `2^64`, as an unsigned range, a signed range and known bits.
+//! Abstract numbers: what is known of a whole number below `2^64`, as an unsigned range, a signed
+//! range and known bits.
 //!
-//! `Domain` is the trait of such values, with its laws; `Product` of any two lawful parts is lawful.
-//! `arithmetic` and its like answer by the tables of specs/ and keep every number that was held, by what the machine
-//! computes; `refine` keeps the numbers that pass along an edge of a comparison; `tighten` passes knowledge between
-//! the parts. All of it takes no memory and can't fail: `None` says that no number is left.
+//! `Domain` is the trait of such values, with its laws; `Product` of any two lawful parts is
+//! lawful. `arithmetic` and its like answer by the tables of specs/ and keep every number that was
+//! held, by what the machine computes; `refine` keeps the numbers that pass along an edge of a
+//! comparison; `tighten` passes knowledge between the parts. All of it takes no memory and can't
+//! fail: `None` says that no number is left.
 #![tactic(auto)]
 
 mod bits;

@@ -17,7 +17,8 @@ use crate::urange::URange;
 use bpf_decode::{SignedWidth, Width};
 use std::mem::size_of;
 
-/// What is known of a number below `2^64`: the numbers that lie in both ranges and agree with the known bits.
+/// What is known of a number below `2^64`: the numbers that lie in both ranges and agree with the
+/// known bits.
 pub type Number = Product<URange, Product<SRange, Bits>>;
 
 /// A value takes six words.
@@ -25,6 +26,7 @@ const _: () = prove!(size_of::<Number>() <= 48);
 
 impl Product<URange, Product<SRange, Bits>> {
     /// The number of these parts.
+    #[inline(always)]
     pub(crate) fn of(unsigned: URange, signed: SRange, bits: Bits) -> Number
         ensures { result ≡ record { first = unsigned; second = record { first = signed; second = bits } } }
     {
@@ -38,6 +40,7 @@ impl Product<URange, Product<SRange, Bits>> {
     }
 
     /// Its unsigned range.
+    #[inline(always)]
     pub fn unsigned(self) -> URange
         ensures { result ≡ self.first }
     {
@@ -45,6 +48,7 @@ impl Product<URange, Product<SRange, Bits>> {
     }
 
     /// Its signed range.
+    #[inline(always)]
     pub fn signed(self) -> SRange
         ensures { result ≡ self.second.first }
     {
@@ -52,6 +56,7 @@ impl Product<URange, Product<SRange, Bits>> {
     }
 
     /// Its known bits.
+    #[inline(always)]
     pub fn bits(self) -> Bits
         ensures { result ≡ self.second.second }
     {
@@ -60,6 +65,7 @@ impl Product<URange, Product<SRange, Bits>> {
 }
 
 /// Every number.
+#[inline(always)]
 pub fn any() -> Number
     ensures table { view result ≡ any }
     ensures holds { (n : ℕ) → n < 2 ^ 64 → Holds (view result) n }
@@ -80,6 +86,7 @@ pub fn any() -> Number
 }
 
 /// The number `n` alone.
+#[inline(always)]
 pub fn constant(n: u64) -> Number
     ensures table { view result ≡ constant n }
     ensures holds { (k : ℕ) → Holds (view result) k ↔ (k ≡ n) }
@@ -100,11 +107,13 @@ pub fn constant(n: u64) -> Number
 }
 
 /// The range from `low` to `high`, tightened once.
+#[inline(always)]
 fn tightened(low: u64, high: u64) -> Number
     requires { low ≤ high }
     ensures { tighten (ranged low high) ≡ Some (view result) }
 {
-    // A named range says nothing of the other parts: what they know of it comes from the one tightening.
+    // A named range says nothing of the other parts: what they know of it comes from the one
+    // tightening.
     let wide = Number::of(URange { low, high }, any().signed(), any().bits());
     match tighten(wide) {
         Some(x) => x,
@@ -113,6 +122,7 @@ fn tightened(low: u64, high: u64) -> Number
 }
 
 /// The numbers from `low` to `high`, tightened once.
+#[inline(always)]
 pub fn between(low: u64, high: u64) -> Number
     requires { low ≤ high }
     ensures table { tighten (ranged low high) ≡ Some (view result) }
@@ -122,6 +132,7 @@ pub fn between(low: u64, high: u64) -> Number
 }
 
 /// The signed range from `low` to `high`, tightened once.
+#[inline(always)]
 fn signed_tightened(low: i64, high: i64) -> Number
     requires { low ≤ℤ high }
     ensures { tighten (signed_ranged low high) ≡ Some (view result) }
@@ -134,6 +145,7 @@ fn signed_tightened(low: i64, high: i64) -> Number
 }
 
 /// The numbers that are from `low` to `high` as signed ones, tightened once.
+#[inline(always)]
 pub fn signed_between(low: i64, high: i64) -> Number
     requires { low ≤ℤ high }
     ensures table { tighten (signed_ranged low high) ≡ Some (view result) }
@@ -143,6 +155,7 @@ pub fn signed_between(low: i64, high: i64) -> Number
 }
 
 /// The numbers of a load that fills with zeros.
+#[inline(always)]
 fn of_load(width: Width) -> Number
     ensures { tighten (ranged 0 (load_high width)) ≡ Some (view result) }
 {
@@ -155,6 +168,7 @@ fn of_load(width: Width) -> Number
 }
 
 /// What a load that fills with zeros may give: the range, tightened once.
+#[inline(always)]
 pub fn loaded(width: Width) -> Number
     ensures table { tighten (ranged 0 (load_high width)) ≡ Some (view result) }
     ensures holds { (n : ℕ) → n < 256 ^ byte_count width → Holds (view result) n }
@@ -163,6 +177,7 @@ pub fn loaded(width: Width) -> Number
 }
 
 /// The numbers of a load that extends the sign.
+#[inline(always)]
 fn of_signed_load(width: SignedWidth) -> Number
     ensures { tighten (signed_ranged (signed_low width) (signed_high width)) ≡ Some (view result) }
 {
@@ -174,6 +189,7 @@ fn of_signed_load(width: SignedWidth) -> Number
 }
 
 /// What a load that extends the sign may give: the range, tightened once.
+#[inline(always)]
 pub fn loaded_signed(width: SignedWidth) -> Number
     ensures table { tighten (signed_ranged (signed_low width) (signed_high width)) ≡ Some (view result) }
     ensures holds { (n : ℕ) → n < 256 ^ signed_byte_count width → Holds (view result) (signed_load_value width n) }
@@ -182,6 +198,7 @@ pub fn loaded_signed(width: SignedWidth) -> Number
 }
 
 /// An upper bound of both, not tightened.
+#[inline(always)]
 pub fn join(x: Number, y: Number) -> Number
     ensures table { view result ≡ join (view x) (view y) }
     ensures joined { result ≡ joined x y }
@@ -190,6 +207,7 @@ pub fn join(x: Number, y: Number) -> Number
 }
 
 /// Whether `x` is below `y` in the order of the join.
+#[inline(always)]
 pub fn is_below(x: Number, y: Number) -> bool
     ensures { IsTrue result ↔ Below (view x) (view y) }
 {
@@ -197,6 +215,7 @@ pub fn is_below(x: Number, y: Number) -> bool
 }
 
 /// Whether `n` agrees with the known bits.
+#[inline(always)]
 fn agrees(bits: Bits, n: u64) -> bool
     ensures { IsTrue result ↔ (clear n bits.unknown ≡ bits.value) }
 {
@@ -204,6 +223,7 @@ fn agrees(bits: Bits, n: u64) -> bool
 }
 
 /// Whether `n` lies in the range.
+#[inline(always)]
 fn lies_in(range: URange, n: u64) -> bool
     ensures { IsTrue result ↔ (range.low ≤ n) × (n ≤ range.high) }
 {
@@ -211,6 +231,7 @@ fn lies_in(range: URange, n: u64) -> bool
 }
 
 /// Whether `n` lies in the range as a signed number.
+#[inline(always)]
 fn lies_in_signed(range: SRange, n: u64) -> bool
     ensures { IsTrue result ↔ (range.low ≤ℤ signed n) × (signed n ≤ℤ range.high) }
 {
@@ -218,6 +239,7 @@ fn lies_in_signed(range: SRange, n: u64) -> bool
 }
 
 /// Whether the number holds `n`.
+#[inline(always)]
 pub fn holds(x: &Number, n: u64) -> bool
     ensures { IsTrue result ↔ Holds (view x.now) n }
 {
@@ -225,6 +247,7 @@ pub fn holds(x: &Number, n: u64) -> bool
 }
 
 /// The unsigned upper bound.
+#[inline(always)]
 pub fn highest(x: &Number) -> u64
     ensures table { result ≡ (view x.now).high }
     ensures bound { (n : ℕ) → Holds (view x.now) n → n ≤ result }

@@ -26,6 +26,7 @@ impl<A: Domain, B: Domain> Domain for Product<A, B> {
 
     ghost refines = { λ f p q r. BothRefine (A.refines f p.first q.first) (B.refines f p.second q.second) r };
 
+    #[inline(always)]
     fn top() -> Self {
         Product {
             first: A::top(),
@@ -33,6 +34,7 @@ impl<A: Domain, B: Domain> Domain for Product<A, B> {
         }
     }
 
+    #[inline(always)]
     fn constant(n: u64) -> Self {
         Product {
             first: A::constant(n),
@@ -40,6 +42,7 @@ impl<A: Domain, B: Domain> Domain for Product<A, B> {
         }
     }
 
+    #[inline(always)]
     fn join(self, other: Self) -> Self {
         Product {
             first: self.first.join(other.first),
@@ -47,6 +50,7 @@ impl<A: Domain, B: Domain> Domain for Product<A, B> {
         }
     }
 
+    #[inline(always)]
     fn is_below(self, other: Self) -> bool {
         self.first.is_below(other.first) && self.second.is_below(other.second)
     }
@@ -58,6 +62,7 @@ impl<A: Domain, B: Domain> Domain for Product<A, B> {
         }
     }
 
+    #[inline(always)]
     fn refine(fact: Fact, left: Self, right: Self) -> Option<(Self, Self)> {
         match A::refine(fact, left.first, right.first) {
             None => None,

@@ -11,6 +11,7 @@ use crate::transfer::is_constant;
 use bpf_decode::{Comparison, OpWidth};
 
 /// How the two numbers stand to one another where a comparison holds, and where it doesn't.
+#[inline(always)]
 fn edge_of(comparison: Comparison, taken: bool) -> Edge
     ensures { result ≡ edge_of comparison taken }
 {
@@ -41,6 +42,7 @@ fn edge_of(comparison: Comparison, taken: bool) -> Edge
 }
 
 /// What a fact leaves of both numbers, part by part.
+#[inline(always)]
 fn by_fact(fact: Fact, x: Number, y: Number) -> Option<(Number, Number)>
     ensures { GivesBoth (by_fact fact (view x) (view y)) result }
 {
@@ -48,6 +50,7 @@ fn by_fact(fact: Fact, x: Number, y: Number) -> Option<(Number, Number)>
 }
 
 /// What a fact of the second and the first number leaves of both.
+#[inline(always)]
 fn by_turned(fact: Fact, x: Number, y: Number) -> Option<(Number, Number)>
     ensures { GivesBoth (by_edge (Edge.Turned fact) (view x) (view y)) result }
 {
@@ -58,6 +61,7 @@ fn by_turned(fact: Fact, x: Number, y: Number) -> Option<(Number, Number)>
 }
 
 /// `x`, other than `y` where that is constant.
+#[inline(always)]
 fn other_than(x: Number, y: Number) -> Option<Number>
     ensures { Gives (other_than (view x) (view y)) result }
 {
@@ -72,6 +76,7 @@ fn other_than(x: Number, y: Number) -> Option<Number>
 }
 
 /// Two different numbers.
+#[inline(always)]
 fn apart(x: Number, y: Number) -> Option<(Number, Number)>
     ensures { GivesBoth (by_edge Edge.Apart (view x) (view y)) result }
 {
@@ -85,6 +90,7 @@ fn apart(x: Number, y: Number) -> Option<(Number, Number)>
 }
 
 /// Two numbers without a set bit in common.
+#[inline(always)]
 fn disjoint(x: Number, y: Number) -> Option<(Number, Number)>
     ensures { GivesBoth (by_edge Edge.Disjoint (view x) (view y)) result }
 {
@@ -108,6 +114,7 @@ fn by_edge(edge: Edge, x: Number, y: Number) -> Option<(Number, Number)>
 }
 
 /// Below this the low halves compare as the whole numbers do.
+#[inline(always)]
 fn short_end(comparison: Comparison) -> u64
     ensures { result ≡ short_end comparison }
 {
@@ -120,7 +127,9 @@ fn short_end(comparison: Comparison) -> u64
     }
 }
 
-/// Whether a comparison tells something: one of 32 bits tells nothing of a number that may be longer.
+/// Whether a comparison tells something: one of 32 bits tells nothing of a number that may be
+/// longer.
+#[inline(always)]
 fn tells(bits: OpWidth, comparison: Comparison, x: Number, y: Number) -> bool
     ensures { result ≡ tells bits comparison (view x) (view y) }
 {
@@ -134,6 +143,7 @@ fn tells(bits: OpWidth, comparison: Comparison, x: Number, y: Number) -> bool
 }
 
 /// What the comparison's edge leaves of both numbers, not tightened.
+#[inline(always)]
 fn refined(
     bits: OpWidth,
     comparison: Comparison,
@@ -151,6 +161,7 @@ fn refined(
 }
 
 /// What the comparison's edge leaves of both numbers, each tightened once.
+#[inline(always)]
 fn along(
     bits: OpWidth,
     comparison: Comparison,
@@ -172,9 +183,10 @@ fn along(
     Some((a, b))
 }
 
-/// What is left of both numbers of a comparison along the edge where it holds (`taken`) or doesn't: by the table, each
-/// tightened once, and so that every pair of numbers held before for which the comparison goes this way is held after.
-/// None where there is no such pair. The number of a register that is compared with itself isn't refined but tightened.
+/// What is left of both numbers of a comparison along the edge where it holds (`taken`) or doesn't:
+/// by the table, each tightened once, and so that every pair of numbers held before for which the
+/// comparison goes this way is held after. None where there is no such pair. The number of a
+/// register that is compared with itself isn't refined but tightened.
 pub fn refine(
     bits: OpWidth,
     comparison: Comparison,

@@ -1,5 +1,5 @@
-/// A row of the transfer table: what the parts of a number are asked, once the number as a whole has decided which row
-/// applies. A constant shift count stands in the row and is taken modulo 64.
+/// A row of the transfer table: what the parts of a number are asked, once the number as a whole
+/// has decided which row applies. A constant shift count stands in the row and is taken modulo 64.
 #[derive(Clone, Copy)]
 pub enum Row {
     Add,

@@ -9,6 +9,7 @@ use crate::srange::SRange;
 use crate::urange::URange;
 
 /// The unsigned range from `low` to `high`, met with x's; none where the ends cross.
+#[inline(always)]
 fn meet_unsigned(x: Number, low: u64, high: u64) -> Option<Number>
     ensures { let y = meet_unsigned (view x) low high in MatchOption result (y.high < y.low) (λ z. view z ≡ y) }
 {
@@ -21,6 +22,7 @@ fn meet_unsigned(x: Number, low: u64, high: u64) -> Option<Number>
 }
 
 /// The signed range from `low` to `high`, met with x's; none where the ends cross.
+#[inline(always)]
 fn meet_signed(x: Number, low: i64, high: i64) -> Option<Number>
     ensures { let y = meet_signed (view x) low high in MatchOption result (y.greatest <ℤ y.least) (λ z. view z ≡ y) }
 {
@@ -42,6 +44,7 @@ fn meet_signed(x: Number, low: i64, high: i64) -> Option<Number>
 }
 
 /// The unsigned range meets what the bits allow.
+#[inline(always)]
 fn by_bits(x: Number) -> Option<Number>
     ensures { let y = by_bits (view x) in MatchOption result (y.high < y.low) (λ z. view z ≡ y) }
 {
@@ -50,6 +53,7 @@ fn by_bits(x: Number) -> Option<Number>
 }
 
 /// The signed range meets the unsigned one, where its numbers have one sign.
+#[inline(always)]
 fn by_unsigned(x: Number) -> Option<Number>
     ensures { let y = by_unsigned (view x) in MatchOption result (y.greatest <ℤ y.least) (λ z. view z ≡ y) }
 {
@@ -62,6 +66,7 @@ fn by_unsigned(x: Number) -> Option<Number>
 }
 
 /// The unsigned range meets the signed one, where its numbers have one sign.
+#[inline(always)]
 fn by_signed(x: Number) -> Option<Number>
     ensures { let y = by_signed (view x) in MatchOption result (y.high < y.low) (λ z. view z ≡ y) }
 {
@@ -74,6 +79,7 @@ fn by_signed(x: Number) -> Option<Number>
 }
 
 /// The constant, where the unsigned range is one number; none where bits or signed range deny it.
+#[inline(always)]
 fn by_constant(x: Number) -> Option<Number>
     ensures { Gives (by_constant (view x)) result }
 {
@@ -102,6 +108,7 @@ fn by_constant(x: Number) -> Option<Number>
 }
 
 /// The four steps, one after another.
+#[inline(always)]
 fn stepped(x: Number) -> Option<Number>
     ensures { Gives (tighten (view x)) result }
 {
@@ -117,8 +124,9 @@ fn stepped(x: Number) -> Option<Number>
     by_constant(w)
 }
 
-/// Passes once what each part knows to the others, in the order of the table: bits to the unsigned range, that to the
-/// signed one and back, and a single number to all parts. A second time may tighten further. None where no number is left.
+/// Passes once what each part knows to the others, in the order of the table: bits to the unsigned
+/// range, that to the signed one and back, and a single number to all parts. A second time may
+/// tighten further. None where no number is left.
 pub fn tighten(x: Number) -> Option<Number>
     ensures table { Gives (tighten (view x)) result }
     ensures keeps { (n : ℕ) → Holds (view x) n → Kept result n }

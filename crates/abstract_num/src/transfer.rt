@@ -12,6 +12,7 @@ use crate::tightening::tighten;
 use bpf_decode::{Arithmetic, ByteOrder, EndWidth, OpWidth, SignedMove, arithmetic as exact};
 
 /// Whether the unsigned range is one number.
+#[inline(always)]
 pub(crate) fn is_constant(x: Number) -> bool
     ensures { result ≡ is_constant (view x) }
 {
@@ -19,6 +20,7 @@ pub(crate) fn is_constant(x: Number) -> bool
 }
 
 /// The shift count modulo `width`, where it is constant.
+#[inline(always)]
 fn count_of(width: u64, y: Number) -> Option<u32>
     requires some { 0 < width }
     requires most { width ≤ 64 }
@@ -53,7 +55,8 @@ fn row_of(operation: Arithmetic, count: Option<u32>) -> RowAnswer
     }
 }
 
-/// The row of 32 bits: an arithmetic shift is a logical one where the sign is 0, and else any number.
+/// The row of 32 bits: an arithmetic shift is a logical one where the sign is 0, and else any
+/// number.
 fn row_of_32(operation: Arithmetic, x: Number, y: Number) -> RowAnswer
     ensures { result ≡ row_of_32 operation (view x) (view y) }
 {
@@ -70,6 +73,7 @@ fn row_of_32(operation: Arithmetic, x: Number, y: Number) -> RowAnswer
 }
 
 /// How an operation of 64 bits is answered.
+#[inline(always)]
 fn answer64(operation: Arithmetic, x: Number, y: Number) -> RowAnswer
     ensures { result ≡ answer64 operation (view x) (view y) }
 {
@@ -109,6 +113,7 @@ fn moved(row: Row, x: Number, y: Number) -> Number
 }
 
 /// The number that answers, not tightened.
+#[inline(always)]
 fn answered(answer: RowAnswer, x: Number, y: Number) -> Number
     ensures { view result ≡ answered answer (view x) (view y) }
 {
@@ -120,6 +125,7 @@ fn answered(answer: RowAnswer, x: Number, y: Number) -> Number
 }
 
 /// The low 32 bits.
+#[inline(always)]
 fn cut(x: Number) -> Option<Number>
     ensures { Gives (cut (view x)) result }
 {
@@ -127,6 +133,7 @@ fn cut(x: Number) -> Option<Number>
 }
 
 /// The number that answers an operation of 32 bits: an exact one as it is, and else cut.
+#[inline(always)]
 fn finished32(answer: RowAnswer, x: Number, y: Number) -> Option<Number>
     ensures { Gives (finished32 answer (view x) (view y)) result }
 {
@@ -151,6 +158,7 @@ fn arithmetic32(operation: Arithmetic, x: Number, y: Number) -> Option<Number>
 }
 
 /// What arithmetic makes of two numbers.
+#[inline(always)]
 fn transferred(bits: OpWidth, operation: Arithmetic, x: Number, y: Number) -> Option<Number>
     ensures { Gives (transferred bits operation (view x) (view y)) result }
 {
@@ -160,8 +168,8 @@ fn transferred(bits: OpWidth, operation: Arithmetic, x: Number, y: Number) -> Op
     }
 }
 
-/// What arithmetic makes of two numbers: by the table, and so that every number held before is held after by what the
-/// machine computes. None where no number is left.
+/// What arithmetic makes of two numbers: by the table, and so that every number held before is held
+/// after by what the machine computes. None where no number is left.
 pub fn arithmetic(bits: OpWidth, operation: Arithmetic, x: Number, y: Number) -> Option<Number>
     ensures table { Gives (transferred bits operation (view x) (view y)) result }
     ensures keeps { (m n : ℕ) → Holds (view x) m → Holds (view y) n → Kept result (alu_value bits operation m n) }
@@ -170,6 +178,7 @@ pub fn arithmetic(bits: OpWidth, operation: Arithmetic, x: Number, y: Number) ->
 }
 
 /// The negative: 0 less the number.
+#[inline(always)]
 pub fn negative(bits: OpWidth, x: Number) -> Option<Number>
     ensures table { Gives (transferred bits Arithmetic.Sub (constant 0) (view x)) result }
     ensures keeps { (n : ℕ) → Holds (view x) n → Kept result (neg_value bits n) }
@@ -178,6 +187,7 @@ pub fn negative(bits: OpWidth, x: Number) -> Option<Number>
 }
 
 /// What a copy makes of a number.
+#[inline(always)]
 fn copy(bits: OpWidth, x: Number) -> Option<Number>
     ensures { Gives (copied bits (view x)) result }
 {
@@ -187,7 +197,9 @@ fn copy(bits: OpWidth, x: Number) -> Option<Number>
     }
 }
 
-/// A copy: of 64 bits the number as it is, not tightened; of 32 bits its low half. None where no number is left.
+/// A copy: of 64 bits the number as it is, not tightened; of 32 bits its low half. None where no
+/// number is left.
+#[inline(always)]
 pub fn copied(bits: OpWidth, x: Number) -> Option<Number>
     ensures table { Gives (copied bits (view x)) result }
     ensures keeps { (n : ℕ) → Holds (view x) n → Kept result (mov_value bits n) }
@@ -221,6 +233,7 @@ fn sign_extended32(extension: SignedMove, x: Number) -> Option<Number>
 }
 
 /// The width of a copy with sign extension.
+#[inline(always)]
 fn class_of(extension: SignedMove) -> OpWidth
     ensures { result ≡ signed_move_bits extension }
 {
@@ -240,7 +253,8 @@ fn extended(extension: SignedMove, x: Number) -> Option<Number>
     }
 }
 
-/// A copy with sign extension: exact of a constant, and else any number of its width. None where no number is left.
+/// A copy with sign extension: exact of a constant, and else any number of its width. None where no
+/// number is left.
 pub fn sign_extended(extension: SignedMove, x: Number) -> Option<Number>
     ensures table { Gives (sign_extended extension (view x)) result }
     ensures keeps { (n : ℕ) → Holds (view x) n → Kept result (signed_move_value extension n) }

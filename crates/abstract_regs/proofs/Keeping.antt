@@ -264,7 +264,8 @@ module _ (law : Laws) where
   extended_small16 (pos n) h = let b = h.sfits in omega arith
   extended_small16 (negsuc n) h = omega arith
 
-  -- what a load gives: the kind of a slot is true of its value, a number of that many bytes of a number
+  -- what a load gives: the kind of a slot is true of its value, a number of that many bytes of a
+  -- number
   slot_or_number : (o number : Option PlainKind) (v : Value) → ((x : PlainKind) → o ≡ Some x → HoldsKind x (Some v)) → (o ≡ None → Left number v) → Left (loaded_kind o number) v
   slot_or_number None number v whole other = other refl
   slot_or_number (Some x) number v whole other = whole x refl

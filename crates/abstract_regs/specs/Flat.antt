@@ -1,4 +1,5 @@
--- What a frame says of registers that are plain numbers: of a pointer, its address, wherever the regions lie.
+-- What a frame says of registers that are plain numbers: of a pointer, its address, wherever the
+-- regions lie.
 use Rattle.std.specs.Prelude.{◌≡◌, ℕ, ◌+◌, ◌%◌, ◌^◌, List, [], ◌∷◌, Option, Some, None, map}
 use Rattle.std.specs.Option.{option_map}
 use Rattle.bpf_decode.specs.declared.region.Region.{Region}
@@ -21,7 +22,8 @@ number_of base (values.Ptr r at) = (base r + at) % 2 ^ 64
 abbrev pub flat_registers : Bases → List (Option Value) → List (Option ℕ)
 flat_registers base cs = map (option_map (number_of base)) cs
 
--- The numbers that a register of a kind may have: held ones, or a region's base plus a held offset. An unset one may have any, or none.
+-- The numbers that a register of a kind may have: held ones, or a region's base plus a held offset.
+-- An unset one may have any, or none.
 abbrev pub HoldsFlat : Bases → PlainKind → Option ℕ → Type 0
 HoldsFlat base Unset c = Unit {0}
 HoldsFlat base (Num k) None = ⊥

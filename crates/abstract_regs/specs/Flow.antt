@@ -45,7 +45,8 @@ abbrev pub along_edge : OpWidth → Comparison → Bool → ℕ → Operand → 
 along_edge bits comparison taken dst source f =
     option_map (with_both f dst source) (along_kinds bits comparison taken (same_register dst source) (kind_at f dst) (compared_kind bits f source))
 
--- what a load gives: what is known of the slot that it is, as it stands, or else a number of that many bytes
+-- what a load gives: what is known of the slot that it is, as it stands, or else a number of that
+-- many bytes
 abbrev pub loaded_kind : Option PlainKind → Option PlainKind → Option PlainKind
 loaded_kind (Some x) number = Some x
 loaded_kind None number = number

@@ -41,8 +41,8 @@ abbrev pub number_kind : Option Plain → PlainKind
 number_kind None = Unset
 number_kind (Some n) = Num n
 
--- As a method begins: 1 points to the input, 2 is its length, at most in_cap, 3 points to the output, 10 to the end of
--- the stack. So many slots are known: each is the number 0.
+-- As a method begins: 1 points to the input, 2 is its length, at most in_cap, 3 points to the
+-- output, 10 to the end of the stack. So many slots are known: each is the number 0.
 abbrev pub entry_frame : ℕ → ℕ → ℕ → PlainFrame
 entry_frame in_cap stack count = record {
   registers =
@@ -50,7 +50,8 @@ entry_frame in_cap stack count = record {
   slots = replicate count (Num (constant 0));
 }
 
--- the bytes of the stack that a helper may write, where the first register of its writable range is given
+-- the bytes of the stack that a helper may write, where the first register of its writable range is
+-- given
 abbrev pub room_span : PlainFrame → Option ℕ → Option Span
 room_span f None = None
 room_span f (Some r) = stack_range (kind_at f r) (kind_at f (r + 1))

@@ -1,4 +1,5 @@
--- What is known of a register: nothing, a number, or a pointer into a region, by the numbers' tables.
+-- What is known of a register: nothing, a number, or a pointer into a region, by the numbers'
+-- tables.
 use Rattle.std.specs.Prelude.{◌≡◌, ℕ, ◌+◌, Option, Some, None, Bool, true, false, if◌then◌else◌, nat_le}
 use Rattle.std.specs.Option.{option_map}
 use Rattle.bpf_decode.specs.declared.region.Region.{Region}
@@ -60,7 +61,8 @@ same_region Stack Input = false
 same_region Stack Output = false
 same_region Stack Stack = true
 
--- a number joined with a pointer, two regions, and Unset with anything give Unset; nothing is tightened
+-- a number joined with a pointer, two regions, and Unset with anything give Unset; nothing is
+-- tightened
 abbrev pub join_kind : PlainKind → PlainKind → PlainKind
 join_kind Unset y = Unset
 join_kind (Num k) Unset = Unset
@@ -70,8 +72,8 @@ join_kind (Ptr r k) Unset = Unset
 join_kind (Ptr r k) (Num l) = Unset
 join_kind (Ptr r k) (Ptr q l) = if same_region r q then Ptr r (join k l) else Unset
 
--- What an instruction that no rule refuses computes; none where no number is left. Arithmetic of numbers, or a pointer
--- whose offset moves:
+-- What an instruction that no rule refuses computes; none where no number is left. Arithmetic of
+-- numbers, or a pointer whose offset moves:
 abbrev pub alu_kind : OpWidth → Arithmetic → PlainKind → PlainKind → Option PlainKind
 alu_kind bits operation (Num k) (Num l) = option_map Num (transferred bits operation k l)
 alu_kind bits operation (Ptr r k) (Num l) = option_map (Ptr r) (transferred bits operation k l)
@@ -103,7 +105,8 @@ end_kind order width Unset = Some Unset
 end_kind order width (Num k) = option_map Num (ordered order width k)
 end_kind order width (Ptr r k) = Some Unset
 
--- What an edge of a comparison leaves of both its kinds. A register that is compared with itself is tightened and no more.
+-- What an edge of a comparison leaves of both its kinds. A register that is compared with itself is
+-- tightened and no more.
 abbrev pub both_nums : Plain × Plain → PlainKind × PlainKind
 both_nums s = (Num s.0, Num s.1)
 
@@ -118,7 +121,8 @@ along_kinds bits comparison taken same (Num k) Unset = Some (Num k, Unset)
 along_kinds bits comparison taken same (Num k) (Ptr q l) = Some (Num k, Ptr q l)
 along_kinds bits comparison taken same (Ptr r k) y = Some (Ptr r k, y)
 
--- The last place of an access at a distance from an offset: the upper bound of their sum; none where no place is left.
+-- The last place of an access at a distance from an offset: the upper bound of their sum; none
+-- where no place is left.
 abbrev pub last_place : Plain → ℕ → Option Plain
 last_place k distance = transferred Bits64 Add k (constant distance)
 

@@ -32,7 +32,8 @@ BelowEach xs [] = Unit {0}
 BelowEach [] (y ∷ ys) = ⊥
 BelowEach (x ∷ xs) (y ∷ ys) = BelowKind x y × BelowEach xs ys
 
--- Of the frames of the code: the join is commutative, associative and idempotent, and an upper bound.
+-- Of the frames of the code: the join is commutative, associative and idempotent, and an upper
+-- bound.
 abbrev pub JoinCommutes : Type 0
 JoinCommutes = (xs ys : List Kind) → length xs ≡ length ys → join_each (seen_each xs) (seen_each ys) ≡ join_each (seen_each ys) (seen_each xs)
 
@@ -66,14 +67,15 @@ pub record EntryIsHeld (in_cap stack count n : ℕ) : Type 0 where
 abbrev pub EntryHolds : Type 0
 EntryHolds = (in_cap stack count n : ℕ) → in_cap < 2 ^ 64 → stack < 2 ^ 64 → n ≤ in_cap → EntryIsHeld in_cap stack count n
 
--- An access that fits by an offset stays within the first so many bytes, at every place that the offset holds.
+-- An access that fits by an offset stays within the first so many bytes, at every place that the
+-- offset holds.
 abbrev pub AccessesFit : Type 0
 AccessesFit =
     (k : Plain) → Fits k → (distance w size : ℕ) → distance < 2 ^ 64 → access_fits k distance w size ≡ true →
     (at : ℕ) → Holds k at → (at + distance) % 2 ^ 64 + w ≤ size
 
--- A range that fits from an offset on stays within the first so many bytes, from every place that the offset holds, for
--- every number of bytes that the length holds.
+-- A range that fits from an offset on stays within the first so many bytes, from every place that
+-- the offset holds, for every number of bytes that the length holds.
 abbrev pub RangesFit : Type 0
 RangesFit =
     (k l : Plain) → (size : ℕ) → range_fits k l size ≡ true →
@@ -94,7 +96,8 @@ LoadsAreKnown =
     (vs : List (Option Value)) → length f.slots ≡ length vs → HoldsEach f.slots vs →
     (r : Region) (at : ℕ) → HoldsKind x (Some (values.Ptr r at)) → LoadIsKnown vs r ((at + distance) % 2 ^ 64) w
 
--- Where a helper's range meets nothing that isn't to be read, each slot that it reaches is a number.
+-- Where a helper's range meets nothing that isn't to be read, each slot that it reaches is a
+-- number.
 abbrev pub RangesAreKnown : Type 0
 RangesAreKnown =
     (f : PlainFrame) (x y : PlainKind) → meets Nothing (stack_range x y) 0 f.slots ≡ false → meets Pointer (stack_range x y) 0 f.slots ≡ false →

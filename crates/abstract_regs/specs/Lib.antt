@@ -1,6 +1,7 @@
--- To be believed: Kind, Slots and Frame (what is known of registers and of the stack's slots, and what they hold), Flow
--- (where an instruction goes on, and the frame along each edge), Moves (what instructions do with registers and slots).
--- Seen is the view of the code's kinds; Laws and Flat are proved of these.
+-- To be believed: Kind, Slots and Frame (what is known of registers and of the stack's slots, and
+-- what they hold), Flow (where an instruction goes on, and the frame along each edge), Moves (what
+-- instructions do with registers and slots). Seen is the view of the code's kinds; Laws and Flat
+-- are proved of these.
 pub mod Kind
 pub mod Slots
 pub mod Frame

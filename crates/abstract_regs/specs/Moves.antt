@@ -1,5 +1,5 @@
--- What instructions do with the registers and with the stack's slots, by the machine's operations, whatever memory and
--- helpers answer.
+-- What instructions do with the registers and with the stack's slots, by the machine's operations,
+-- whatever memory and helpers answer.
 use Rattle.std.specs.Prelude.{◌≡◌, ◌⊎◌, ℕ, ◌+◌, ◌*◌, ◌%◌, ◌^◌, ◌<◌, ◌≤◌, true, false, List, [], ◌∷◌, length, Option, Some, None, slice_get, slice_set, drop}
 use Rattle.bpf_decode.specs.declared.insn.Operand.{Operand}
 use Rattle.bpf_decode.specs.declared.insn.Operand.TheVariants.{Immediate, Register}
@@ -36,7 +36,8 @@ operand_in cs (Register r) = value_at cs r
 abbrev pub with_value : List (Option Value) → ℕ → Value → List (Option Value)
 with_value cs r v = slice_set cs r (Some v)
 
--- ---- slots of the stack, by their values: a number, a place, or none where a place was overwritten in part
+-- ---- slots of the stack, by their values: a number, a place, or none where a place was
+-- overwritten in part
 
 -- one of w bytes at a place is in slot j
 pub record Touched (at w j : ℕ) : Type 0 where
@@ -59,7 +60,8 @@ pub record IsSlot (vs : List (Option Value)) (r : Region) (at w j : ℕ) : Type 
   pub place : at ≡ 8 * j
   pub inside : j < length vs
 
--- A load of w bytes gives the value of the slot that they are; it gives a number where each slot that they reach is one.
+-- A load of w bytes gives the value of the slot that they are; it gives a number where each slot
+-- that they reach is one.
 pub record Loads (vs : List (Option Value)) (r : Region) (at w : ℕ) (v : Value) : Type 0 where
   pub whole : (j : ℕ) → IsSlot vs r at w j → value_at vs j ≡ Some v
   pub number : ((j : ℕ) → j < length vs → Reached r at w j → IsNumber (value_at vs j)) → (n : ℕ) × (v ≡ Num n) × (n < 256 ^ w)
@@ -83,7 +85,8 @@ Overwritten None cs vs ws = ws ≡ vs
 Overwritten (Some k) cs vs ws =
     (r : Region) × (at n : ℕ) × (value_at cs k ≡ Some (Ptr r at)) × (value_at cs (k + 1) ≡ Some (Num n)) × Overwrites vs r at n ws
 
--- The instruction at slot p takes the registers cs to ds and the stack's slots vs to ws, and goes on at slot q.
+-- The instruction at slot p takes the registers cs to ds and the stack's slots vs to ws, and goes
+-- on at slot q.
 abbrev pub Moves : Option ℕ → Insn → ℕ → List (Option Value) → List (Option Value) → ℕ → List (Option Value) → List (Option Value) → Type 0
 Moves room (Alu bits operation dst source) p cs vs q ds ws =
     (x y v : Value) × (value_at cs dst ≡ Some x) × (operand_in cs source ≡ Some y) × (alu_values bits operation x y ≡ Some v) × (q ≡ p + 1) × (ds ≡ with_value cs dst v) × (ws ≡ vs)
@@ -133,8 +136,9 @@ abbrev pub EachFits : List PlainKind → Type 0
 EachFits [] = Unit {0}
 EachFits (x ∷ xs) = KindFits x × EachFits xs
 
--- What the rules leave of the stack: a load meets no slot that is unset, nor a part of a place; a store is through
--- a pointer, of a number or of a slot; a helper's range has a pointer and a length.
+-- What the rules leave of the stack: a load meets no slot that is unset, nor a part of a place; a
+-- store is through a pointer, of a number or of a slot; a helper's range has a pointer and a
+-- length.
 abbrev pub AllowsLoad : PlainFrame → PlainKind → ℕ → ℕ → Type 0
 AllowsLoad f x distance w =
     (is_ptr x ≡ true) × (meets Nothing (access_span (stack_place x distance) w) 0 f.slots ≡ false) × (kept_kind f x distance w ≡ None → meets Pointer (access_span (stack_place x distance) w) 0 f.slots ≡ false)

@@ -1,5 +1,5 @@
--- What is known of the stack's slots of eight bytes: a kind for each, in a list by slot. In rule set 1 the list is empty, so
--- that what is said here of slots says nothing there.
+-- What is known of the stack's slots of eight bytes: a kind for each, in a list by slot. In rule
+-- set 1 the list is empty, so that what is said here of slots says nothing there.
 use Rattle.std.specs.Prelude.{ℕ, ◌+◌, ◌*◌, ◌/◌, ◌%◌, ◌==◌, ◌&&◌, nat_lt, List, [], ◌∷◌, Option, Some, None, Bool, true, false, if◌then◌else◌, slice_get, slice_set}
 use Rattle.abstract_num.specs.Plain.{Plain, any}
 use Rattle.abstract_regs.specs.declared.content.Content.{Content}
@@ -7,7 +7,8 @@ use Rattle.abstract_regs.specs.declared.content.Content.TheVariants as contents
 use Rattle.abstract_regs.specs.Kind.{PlainKind, Unset, Num, Ptr, is_unset, is_ptr, last_place}
 use Rattle.bpf_decode.specs.declared.region.Region.TheVariants.{Input, Output, Stack}
 
--- bytes of the stack: the lowest place of the first, and the one after the highest place of the last
+-- bytes of the stack: the lowest place of the first, and the one after the highest place of the
+-- last
 pub record Span : Type 0 where
   pub low : ℕ
   pub high : ℕ

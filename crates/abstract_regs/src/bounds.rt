@@ -5,13 +5,15 @@ ghost use Rattle.abstract_regs.specs.Kind.{access_fits, range_fits};
 use abstract_num::{Number, arithmetic, constant, highest};
 use bpf_decode::{Arithmetic, OpWidth};
 
-/// Whether all of the bytes at that distance from an offset are among the first `size`, by the upper bound of the sum;
-/// so are those of a sum that has no value.
+/// Whether all of the bytes at that distance from an offset are among the first `size`, by the
+/// upper bound of the sum; so are those of a sum that has no value.
+#[inline(always)]
 pub fn access_fits(at: Number, distance: u64, bytes: u64, size: u64) -> bool
     ensures { result ≡ access_fits (view at) distance bytes size }
 {
     match arithmetic(OpWidth::Bits64, Arithmetic::Add, at, constant(distance)) {
-        // No number is left, so no run comes here: the rule of bounds does not refuse, and the edge after it lives.
+        // No number is left, so no run comes here: the rule of bounds does not refuse, and the edge
+        // after it lives.
         None => true,
         Some(place) => {
             let first = highest(&place);
@@ -20,7 +22,9 @@ pub fn access_fits(at: Number, distance: u64, bytes: u64, size: u64) -> bool
     }
 }
 
-/// Whether a range of a length from an offset on is within the first `size` bytes, by the upper bounds of both.
+/// Whether a range of a length from an offset on is within the first `size` bytes, by the upper
+/// bounds of both.
+#[inline(always)]
 pub fn range_fits(at: Number, length: Number, size: u64) -> bool
     ensures { result ≡ range_fits (view at) (view length) size }
 {

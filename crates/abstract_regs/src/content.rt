@@ -15,6 +15,7 @@ pub enum Content {
 
 impl Content {
     /// Whether a slot of that kind has it.
+    #[inline(always)]
     pub(crate) fn is_in(self, kind: Kind) -> bool
         ensures { result ≡ has self (seen kind) }
     {

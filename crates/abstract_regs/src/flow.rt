@@ -18,6 +18,7 @@ use abstract_num::{constant, keeping_laws, loaded, loaded_signed};
 use bpf_decode::{Comparison, Insn, OpWidth, Operand, Register, Width, jump_target};
 
 /// Whether a comparison is of a register with itself.
+#[inline(always)]
 fn is_same_register(dst: Register, source: &Operand) -> bool
     ensures { result ≡ same_register dst source.now }
 {
@@ -28,8 +29,8 @@ fn is_same_register(dst: Register, source: &Operand) -> bool
 }
 
 impl Frame {
-    /// Goes on from the instruction at a slot, which no rule refuses, to the frame after it, and gives its edges.
-    /// Of a call the first register of the range that its helper writes is given.
+    /// Goes on from the instruction at a slot, which no rule refuses, to the frame after it, and
+    /// gives its edges. Of a call the first register of the range that its helper writes is given.
     pub fn flow(&mut self, room: Option<u8>, insn: &Insn, slot: usize) -> Edges
         requires { slot < 2 ^ 62 }
         ensures table { flow room insn.now slot self.old ≡ with_edges result (slot + slot_count insn.now) self.new }
@@ -77,7 +78,9 @@ impl Frame {
         }
     }
 
-    /// What a load gives: what is known of the slot that it is, or else a number of that many bytes.
+    /// What a load gives: what is known of the slot that it is, or else a number of that many
+    /// bytes.
+    #[inline(always)]
     fn loaded(&self, width: Width, base: Register, offset: i16) -> Kind
         ensures { Some (seen result) ≡ loaded_kind (kept_kind self.now (kind_at self.now base) (extended offset) (byte_count width)) (option_map plain.Num (tighten (ranged 0 (load_high width)))) }
     {
@@ -88,7 +91,9 @@ impl Frame {
         }
     }
 
-    /// Gives a register what an instruction computes; where no value is left the instruction goes nowhere.
+    /// Gives a register what an instruction computes; where no value is left the instruction goes
+    /// nowhere.
+    #[inline(always)]
     fn compute(&mut self, dst: Register, kind: Option<Kind>) -> Edges
         ensures { (next : ℕ) → computed next self.old dst (option_map seen kind) ≡ with_edges result next self.new }
     {
@@ -121,6 +126,7 @@ impl Frame {
     }
 
     /// Both edges, by what they leave of both kinds.
+    #[inline(always)]
     fn fork(
         &mut self,
         dst: Register,
@@ -167,6 +173,7 @@ impl Frame {
     }
 
     /// Gives the registers of a comparison other kinds.
+    #[inline(always)]
     fn put_both(&mut self, dst: Register, source: &Operand, kinds: Kinds)
         ensures { self.new ≡ with_both self.old dst source.now (seen_both kinds) }
     {
@@ -175,6 +182,7 @@ impl Frame {
     }
 
     /// Gives an operand another kind, where it is a register.
+    #[inline(always)]
     fn put(&mut self, source: &Operand, kind: Kind)
         ensures { self.new ≡ with_operand self.old source.now (seen kind) }
     {

@@ -15,8 +15,8 @@ use bpf_decode::{OpWidth, Operand, Region, Register};
 use std::alloc::{AllocError, Global};
 use std::marker::Model;
 
-/// What is known before an instruction: the kinds of the eleven registers, and those of the stack's slots of eight bytes,
-/// where such are known. Contracts see them in plain numbers.
+/// What is known before an instruction: the kinds of the eleven registers, and those of the stack's
+/// slots of eight bytes, where such are known. Contracts see them in plain numbers.
 #[derive(Drop)]
 pub struct Frame {
     registers: [Kind; 11],
@@ -33,8 +33,9 @@ impl Model for Frame {
 }
 
 impl Frame {
-    /// As a method begins: 1 points to the input, 2 is its length, at most `in_cap`, 3 points to the output, 10 to the
-    /// end of a stack of `stack` bytes. So many slots are known: each is the number 0.
+    /// As a method begins: 1 points to the input, 2 is its length, at most `in_cap`, 3 points to
+    /// the output, 10 to the end of a stack of `stack` bytes. So many slots are known: each is the
+    /// number 0.
     pub fn entry(alloc: Global, in_cap: u64, stack: u64, count: usize) -> Result<Frame, AllocError>
         ensures { IfOk result (λ f. f ≡ entry_frame in_cap stack count) }
     {
@@ -47,7 +48,7 @@ impl Frame {
         Ok(Frame { registers, slots })
     }
 
-    /// An equal frame. It takes no memory where no slots are known.
+    /// An equal frame. It takes memory for its slots alone, and rule set 1 has none.
     pub fn copy(&self, alloc: Global) -> Result<Frame, AllocError>
         ensures { IfOk result (λ f. f ≡ self.now) }
     {
@@ -66,6 +67,7 @@ impl Frame {
     }
 
     /// The kind of the register of that number; past 10 it is Unset.
+    #[inline(always)]
     pub fn kind(&self, register: usize) -> Kind
         ensures { seen result ≡ kind_at self.now register }
     {
@@ -73,6 +75,7 @@ impl Frame {
     }
 
     /// The kind of a register.
+    #[inline(always)]
     pub fn at(&self, register: Register) -> Kind
         ensures { seen result ≡ kind_at self.now register }
     {
@@ -80,6 +83,7 @@ impl Frame {
     }
 
     /// Gives a register another kind.
+    #[inline(always)]
     pub(crate) fn set(&mut self, dst: Register, kind: Kind)
         ensures { self.new ≡ with_kind self.old dst (seen kind) }
     {
@@ -94,8 +98,8 @@ impl Frame {
         join_slots(&mut self.slots, &other.slots);
     }
 
-    /// A helper answers any number in register 0, leaves registers 1 to 5 unset, and overwrites what may be its writable
-    /// range, of which the first register is given.
+    /// A helper answers any number in register 0, leaves registers 1 to 5 unset, and overwrites
+    /// what may be its writable range, of which the first register is given.
     pub(crate) fn end_call(&mut self, room: Option<u8>)
         ensures { self.new ≡ after_call room self.old }
     {
@@ -136,7 +140,9 @@ impl Frame {
         }
     }
 
-    /// The kind of the slot that an access is, at a distance from what a kind points to, where it is one that is known.
+    /// The kind of the slot that an access is, at a distance from what a kind points to, where it
+    /// is one that is known.
+    #[inline(always)]
     pub fn slot(&self, base: Kind, distance: u64, bytes: usize) -> Option<Kind>
         ensures { option_map seen result ≡ kept_kind self.now (seen base) distance bytes }
     {
@@ -151,6 +157,7 @@ impl Frame {
     }
 
     /// Whether a slot that the bytes of an access may touch has it.
+    #[inline(always)]
     pub fn access_meets(&self, content: Content, base: Kind, distance: u64, bytes: usize) -> bool
         ensures { result ≡ meets content (access_span (stack_place (seen base) distance) bytes) 0 self.now.slots }
     {
@@ -163,6 +170,7 @@ impl Frame {
     }
 
     /// Whether a slot that a helper's range may touch has it.
+    #[inline(always)]
     pub fn range_meets(&self, content: Content, pointer: Kind, length: Kind) -> bool
         ensures { result ≡ meets content (stack_range (seen pointer) (seen length)) 0 self.now.slots }
     {
@@ -191,6 +199,7 @@ impl Frame {
     }
 
     /// The kind of what an instruction reads besides its destination.
+    #[inline(always)]
     pub fn operand(&self, source: Operand) -> Kind
         ensures { seen result ≡ operand_kind self.now source }
     {
@@ -201,6 +210,7 @@ impl Frame {
     }
 
     /// The kind of what a comparison compares with its destination.
+    #[inline(always)]
     pub(crate) fn compared(&self, bits: OpWidth, source: &Operand) -> Kind
         ensures { seen result ≡ compared_kind bits self.now source.now }
     {
@@ -213,6 +223,7 @@ impl Frame {
     }
 }
 
+#[inline(always)]
 fn kind_in(registers: &[Kind; 11], register: usize) -> Kind
     ensures { seen result ≡ or_unset (slice_get (seen_each registers.now) register) }
 {

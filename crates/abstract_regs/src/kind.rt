@@ -10,8 +10,8 @@ use abstract_num::{
 };
 use bpf_decode::{Arithmetic, ByteOrder, Comparison, EndWidth, OpWidth, Region, SignedMove};
 
-/// What is known of a register: nothing, not even that it is set; that it is a number; or that it points into a region,
-/// so far from its first byte.
+/// What is known of a register: nothing, not even that it is set; that it is a number; or that it
+/// points into a region, so far from its first byte.
 #[derive(Clone, Copy, PartialEq, Eq)]
 pub enum Kind {
     Unset,
@@ -28,6 +28,7 @@ pub(crate) struct Kinds {
 
 impl Kind {
     /// Whether nothing is known of it.
+    #[inline(always)]
     pub fn is_unset(self) -> bool
         ensures { result ≡ is_unset (seen self) }
     {
@@ -38,6 +39,7 @@ impl Kind {
     }
 
     /// Whether it is a number.
+    #[inline(always)]
     pub fn is_num(self) -> bool
         ensures { result ≡ is_num (seen self) }
     {
@@ -48,6 +50,7 @@ impl Kind {
     }
 
     /// Whether it is a pointer.
+    #[inline(always)]
     pub fn is_ptr(self) -> bool
         ensures { result ≡ is_ptr (seen self) }
     {
@@ -57,7 +60,8 @@ impl Kind {
         }
     }
 
-    /// What two flows that meet leave of a register: a number with a pointer, or two regions, leave nothing.
+    /// What two flows that meet leave of a register: a number with a pointer, or two regions, leave
+    /// nothing.
     pub fn join(self, other: Kind) -> Kind
         ensures { seen result ≡ join_kind (seen self) (seen other) }
     {
@@ -91,6 +95,7 @@ impl Kind {
     }
 
     /// The negative of a number.
+    #[inline(always)]
     pub(crate) fn neg(self, bits: OpWidth) -> Option<Kind>
         ensures { option_map seen result ≡ neg_kind bits (seen self) }
     {
@@ -101,6 +106,7 @@ impl Kind {
     }
 
     /// A copy: of a pointer in 64 bits alone.
+    #[inline(always)]
     pub(crate) fn mov(self, bits: OpWidth) -> Option<Kind>
         ensures { option_map seen result ≡ mov_kind bits (seen self) }
     {
@@ -115,6 +121,7 @@ impl Kind {
     }
 
     /// A copy of a number with sign extension.
+    #[inline(always)]
     pub(crate) fn mov_signed(self, extension: SignedMove) -> Option<Kind>
         ensures { option_map seen result ≡ signed_move_kind extension (seen self) }
     {
@@ -134,7 +141,8 @@ impl Kind {
         }
     }
 
-    /// What an edge of a comparison leaves of both its kinds; `same` says that they are of one register.
+    /// What an edge of a comparison leaves of both its kinds; `same` says that they are of one
+    /// register.
     pub(crate) fn along(
         bits: OpWidth,
         comparison: Comparison,
@@ -160,6 +168,7 @@ impl Kind {
     }
 
     /// The kind of a number, where one is left.
+    #[inline(always)]
     fn number(n: Option<Number>) -> Option<Kind>
         ensures { option_map seen result ≡ option_map plain.Num (option_map view n) }
     {
@@ -170,6 +179,7 @@ impl Kind {
     }
 
     /// The kind of a pointer, where an offset is left.
+    #[inline(always)]
     fn pointer(region: Region, at: Option<Number>) -> Option<Kind>
         ensures { option_map seen result ≡ option_map (plain.Ptr region) (option_map view at) }
     {
@@ -180,6 +190,7 @@ impl Kind {
     }
 
     /// A number's kind twice.
+    #[inline(always)]
     fn twice(n: Option<Number>) -> Option<Kinds>
         ensures { option_map seen_both result ≡ option_map same_num (option_map view n) }
     {
@@ -193,6 +204,7 @@ impl Kind {
     }
 
     /// The kinds of two numbers.
+    #[inline(always)]
     fn both(numbers: Option<(Number, Number)>) -> Option<Kinds>
         ensures { option_map seen_both result ≡ option_map both_nums (option_map view_both numbers) }
     {
@@ -206,6 +218,7 @@ impl Kind {
     }
 }
 
+#[inline(always)]
 fn is_same_region(r: Region, q: Region) -> bool
     ensures { result ≡ same_region r q }
 {

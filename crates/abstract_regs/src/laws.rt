@@ -2,8 +2,8 @@ ghost use Rattle.abstract_regs.specs.Laws.{JoinCommutes, JoinAssociates, JoinOfS
 
 use abstract_num::keeping_laws;
 
-/// A law, proved when the crate is checked; a call does nothing. The join of frames is a commutative, associative and
-/// idempotent upper bound.
+/// A law, proved when the crate is checked; a call does nothing. The join of frames is a
+/// commutative, associative and idempotent upper bound.
 pub fn join_laws()
     ensures commutes { JoinCommutes }
     ensures associates { JoinAssociates }
@@ -13,9 +13,10 @@ pub fn join_laws()
     abstract_num::join_laws();
 }
 
-/// A law. What either of two frames holds, their join holds; what a method begins with, the entry frame holds; the bytes
-/// of an access that fits are in the region, at every place that its offset holds; so are those of a range that fits, from
-/// every place that its offset holds, as many as its length holds.
+/// A law. What either of two frames holds, their join holds; what a method begins with, the entry
+/// frame holds; the bytes of an access that fits are in the region, at every place that its offset
+/// holds; so are those of a range that fits, from every place that its offset holds, as many as its
+/// length holds.
 pub fn holding_laws()
     ensures joins { JoinsHold }
     ensures entry { EntryHolds }
@@ -31,8 +32,8 @@ pub fn slots_stay()
     ensures joins { JoinsKeepSlots }
 {}
 
-/// A law. An access whose slot's kind is known is that slot; what a load that no rule refuses reads of the stack's slots
-/// is known, and so is what a helper's range does.
+/// A law. An access whose slot's kind is known is that slot; what a load that no rule refuses reads
+/// of the stack's slots is known, and so is what a helper's range does.
 pub fn slots_known()
     ensures slots { SlotsAreKnown }
     ensures loads { LoadsAreKnown }

@@ -49,6 +49,7 @@ pub(crate) fn join_slots(slots: &mut Vec<Kind>, others: &[Kind])
 }
 
 /// What is known of a slot that was overwritten in part: some number, where it was one.
+#[inline(always)]
 fn overwritten(kind: Kind) -> Kind
     ensures { seen result ≡ overwritten (seen kind) }
 {
@@ -77,6 +78,7 @@ fn spoil_span(slots: &mut [Kind], span: StackSpan)
 }
 
 /// Whether a slot that may have one of the bytes has it.
+#[inline(always)]
 pub(crate) fn meets(content: Content, slots: &[Kind], span: Option<StackSpan>) -> bool
     ensures { result ≡ meets content span 0 (seen_each slots.now) }
 {

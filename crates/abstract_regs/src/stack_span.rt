@@ -29,6 +29,7 @@ impl Model for StackSpan {
 
 impl StackSpan {
     /// The first slot that may have one of them.
+    #[inline(always)]
     pub fn first(&self) -> usize
         ensures { result ≡ self.now.low / 8 }
     {
@@ -36,6 +37,7 @@ impl StackSpan {
     }
 
     /// The slot after the last that may have one of them, of that many slots.
+    #[inline(always)]
     pub fn end(&self, count: usize) -> usize
         ensures { result ≡ min count ((self.now.high + 7) / 8) }
     {
@@ -46,6 +48,7 @@ impl StackSpan {
 }
 
 /// Where an access at a distance from what a kind points to may be in the stack.
+#[inline(always)]
 pub(crate) fn stack_place(kind: Kind, distance: u64) -> Option<Number>
     ensures { option_map view result ≡ stack_place (seen kind) distance }
 {
@@ -59,6 +62,7 @@ pub(crate) fn stack_place(kind: Kind, distance: u64) -> Option<Number>
 }
 
 /// The bytes of an access at a place.
+#[inline(always)]
 pub(crate) fn access_span(place: Option<Number>, bytes: usize) -> Option<StackSpan>
     ensures { result ≡ access_span (option_map view place) bytes }
 {
@@ -73,6 +77,7 @@ pub(crate) fn access_span(place: Option<Number>, bytes: usize) -> Option<StackSp
 }
 
 /// The slot that an access is: eight bytes at one place, which is a multiple of 8.
+#[inline(always)]
 pub(crate) fn whole_slot(place: Option<Number>, bytes: usize) -> Option<usize>
     ensures { result ≡ whole_slot (option_map view place) bytes }
 {
@@ -90,6 +95,7 @@ pub(crate) fn whole_slot(place: Option<Number>, bytes: usize) -> Option<usize>
 }
 
 /// The bytes of a helper's range that is in the stack.
+#[inline(always)]
 pub(crate) fn stack_range(pointer: Kind, length: Kind) -> Option<StackSpan>
     ensures { result ≡ stack_range (seen pointer) (seen length) }
 {
@@ -102,6 +108,7 @@ pub(crate) fn stack_range(pointer: Kind, length: Kind) -> Option<StackSpan>
 }
 
 /// The bytes from an offset on, as many as a length may be; none, where it can only be 0.
+#[inline(always)]
 fn range_span(at: Number, length: Number) -> Option<StackSpan>
     ensures { result ≡ range_span (view at) (view length) }
 {

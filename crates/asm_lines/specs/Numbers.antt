@@ -18,7 +18,8 @@ hex_number ds = if all_digits 16 ds && nat_le (length ds) 16 then Some (digits_v
 unfoldable pub natural : List ℕ → Option ℕ
 natural text = if slice_index text 0 == 48 && slice_index text 1 == 120 then hex_number (drop 2 text) else decimal_number text
 
--- a number without a sign that was read, if it is at most `most`: no number is 2 Operand, a greater one 3 Range
+-- a number without a sign that was read, if it is at most `most`: no number is 2 Operand, a greater
+-- one 3 Range
 abbrev pub natural_within : ℕ → Option ℕ → Result ℕ AsmFault
 natural_within most None = Err Operand
 natural_within most (Some n) = if nat_le n most then Ok n else Err Range

@@ -53,7 +53,8 @@ fn digits_within(text: &[u8], radix: u8, most: u64) -> Result<u64, AsmFault>
 }
 
 /// Decimal digits without a leading zero, up to `most`.
-// A number has one spelling: another is `Operand`, and `Range` is a right spelling of a number that doesn't fit.
+// A number has one spelling: another is `Operand`, and `Range` is a right spelling of a number that
+// doesn't fit.
 #[tactic(auto, unfolding(crate::specs::Numbers::decimal_number))]
 pub(crate) fn decimal_within(text: &[u8], most: u64) -> Result<u64, AsmFault>
     ensures { result ≡ natural_within most (decimal_number text.now) }

@@ -302,7 +302,8 @@ pub fn class_text(alloc: Global, class: &ClassImage) -> Result<String, AllocErro
     Ok(out)
 }
 
-/// The canonical text of a class, with each instruction's slot in a comment. It is refused for want of memory alone.
+/// The canonical text of a class, with each instruction's slot in a comment. It is refused for want
+/// of memory alone.
 pub fn class_with_slots(alloc: Global, class: &ClassImage) -> Result<String, AllocError>
     ensures { IfOk result (λ s. string_bytes s ≡ class_with_slots class.now) }
 {

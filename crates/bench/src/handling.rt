@@ -1,5 +1,5 @@
-//! What a request costs the nodes of a group of three, beside the network and threads: its primary, each of the two
-//! that replicate it, and the primary again at each acknowledgement.
+//! What a request costs the nodes of a group of three, beside the network and threads: its primary,
+//! each of the two that replicate it, and the primary again at each acknowledgement.
 
 mod asked;
 mod group;
@@ -15,8 +15,8 @@ use std::time::Clock;
 /// What clients ask.
 const ASKED: [Asked; 2] = [Asked::Lock, Asked::Read];
 
-/// Prints an empty line, a heading, and a line for each request: how many messages it takes and, where there is a
-/// clock, the nanoseconds of each part and of all.
+/// Prints an empty line, a heading, and a line for each request: how many messages it takes and,
+/// where there is a clock, the nanoseconds of each part and of all.
 pub fn report<C: Clock, O: io::Write>(alloc: Global, clock: Option<&C>, out: &mut O) -> Result<()> {
     let heading = if clock.is_some() {
         "  request    Rep    Ack    all, ns"

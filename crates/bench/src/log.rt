@@ -8,7 +8,8 @@ use std::alloc::Global;
 use std::io;
 use std::time::Clock;
 
-/// Prints an empty line, and a line each for the replay and the adoption, with their times where there is a clock.
+/// Prints an empty line, and a line each for the replay and the adoption, with their times where
+/// there is a clock.
 pub fn report<C: Clock, O: io::Write>(alloc: Global, clock: Option<&C>, out: &mut O) -> Result<()> {
     let (replay, adopt) = times(alloc, clock)?;
     writeln!(out, "\n{:<29}{replay}", "replay 65536 entries")?;

@@ -1,8 +1,9 @@
-//! `bench` measures, a table each: an instruction of `call`, a call beside an object, a slot of `verify` and an
-//! `append` of a group, over methods of its own; what a text of many labels costs to assemble; what a change of a small
-//! object costs, beside the same change of a large one; calls that only read their object, beside none and beside one
-//! of full size; a log that becomes another list, beside a replay of that list; and a request at the nodes of a group
-//! of three. With `--dry` it leaves the times out. With `memory` it prints alone what the entries of a full log hold in
+//! `bench` measures, a table each: an instruction of `call`, a call beside an object, a slot of
+//! `verify` and an `append` of a group, over methods of its own; what a text of many labels costs
+//! to assemble; what a change of a small object costs, beside the same change of a large one; calls
+//! that only read their object, beside none and beside one of full size; a log that becomes another
+//! list, beside a replay of that list; and a request at the nodes of a group of three. With `--dry`
+//! it leaves the times out. With `memory` it prints alone what the entries of a full log hold in
 //! memory.
 #![tactic(auto)]
 

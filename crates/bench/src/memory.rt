@@ -1,5 +1,5 @@
-//! What a log's entries hold in memory, with the objects that they make: what is resident at most, less what an empty
-//! program is, by what the system says of this process.
+//! What a log's entries hold in memory, with the objects that they make: what is resident at most,
+//! less what an empty program is, by what the system says of this process.
 use anyhow::{Context, Error, Result};
 use bench_table::lock_request;
 use builtin_classes::load_lock;
@@ -19,7 +19,8 @@ const STATUS: &str = "/proc/self/status";
 /// The word before the most that was resident, in KiB.
 const MOST: &str = "VmHWM:";
 
-/// Fills a log, and prints how many bytes an entry was resident at most. The process has done nothing else before.
+/// Fills a log, and prints how many bytes an entry was resident at most. The process has done
+/// nothing else before.
 pub fn report<O: io::Write>(rt: &HostRuntime, out: &mut O) -> Result<()> {
     let before = resident(rt)?;
     let mut table = ClassTable::new(rt.alloc());
@@ -66,7 +67,8 @@ impl GroupWork for Filling<'_> {
     }
 }
 
-/// The request after that many: every object is locked and unlocked by client 1, and then the next one.
+/// The request after that many: every object is locked and unlocked by client 1, and then the next
+/// one.
 fn request(alloc: Global, before: u32) -> Result<Request> {
     let place = before / 2 % OBJECTS;
     let object = format!(in alloc; "object {place}")?;

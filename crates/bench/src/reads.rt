@@ -20,7 +20,8 @@ const LINES: [(Reading, bool); 4] = [
     (Reading::MapGet, true),
 ];
 
-/// Prints an empty line, and a line for each call beside each object, with its time where there is a clock.
+/// Prints an empty line, and a line for each call beside each object, with its time where there is
+/// a clock.
 pub fn report<C: Clock, O: io::Write>(alloc: Global, clock: Option<&C>, out: &mut O) -> Result<()> {
     let full = full_object(alloc)?;
     lines(alloc, clock, &full, out)

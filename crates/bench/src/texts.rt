@@ -17,7 +17,8 @@ const JUMPS: u32 = 4095;
 /// How often each text is assembled, of which the least time counts.
 const RUNS: usize = 5;
 
-/// Prints an empty line, and a line for each number of labels, with its time where there is a clock.
+/// Prints an empty line, and a line for each number of labels, with its time where there is a
+/// clock.
 pub fn report<C: Clock, O: io::Write>(alloc: Global, clock: Option<&C>, out: &mut O) -> Result<()> {
     writeln!(out)?;
     for labels in &LABELS {

@@ -33,7 +33,8 @@ abbrev pub first_length : List ClassMethod → ℕ
 first_length [] = 0
 first_length (m ∷ ms) = length m.instructions
 
--- the run of the method `f` beside no object, for client 1 and on no input has that many steps on the flat machine
+-- the run of the method `f` beside no object, for client 1 and on no input has that many steps on
+-- the flat machine
 pub record RunsIn (class : List ClassMethod) (steps : ℕ) : Type 0 where
   pub method : ClassMethod
   pub named : method_named class (codes "f") ≡ Some method

@@ -1,6 +1,6 @@
-//! What `bench` and `bench_threads` measure and print: the methods and the calls beside objects of the one, with the
-//! table of what they take, and the figures of the other. What is printed is stated, and each time is the least of its
-//! runs.
+//! What `bench` and `bench_threads` measure and print: the methods and the calls beside objects of
+//! the one, with the table of what they take, and the figures of the other. What is printed is
+//! stated, and each time is the least of its runs.
 #![tactic(auto)]
 
 mod figure;

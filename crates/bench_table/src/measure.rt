@@ -27,7 +27,8 @@ const CALLS: usize = 1_000;
 /// The requests of a measurement of `append`.
 const REQUESTS: u32 = 4_096;
 
-/// The picoseconds that each of `count` took, where all took that many nanoseconds; at most 2^64 - 1.
+/// The picoseconds that each of `count` took, where all took that many nanoseconds; at most 2^64 -
+/// 1.
 pub fn picos_each(nanos: u128, count: usize) -> u64
     requires { 1 ≤ count }
     ensures { result ≡ picos_each nanos count }
@@ -137,8 +138,8 @@ pub fn time_verify<C: Clock>(alloc: Global, clock: &C, ready: &Ready, runs: usiz
     least_picos(alloc, clock, &ready.image, passes, runs)
 }
 
-/// The least picoseconds that an `append` to a group took that has that many entries, of that many runs: of requests of one
-/// client for the method `f` of a class.
+/// The least picoseconds that an `append` to a group took that has that many entries, of that many
+/// runs: of requests of one client for the method `f` of a class.
 pub fn time_append<C: Clock>(
     alloc: Global,
     clock: &C,
@@ -179,7 +180,8 @@ fn requests(alloc: Global, class: usize, count: u32) -> Result<Vec<Request>> {
     Ok(requests)
 }
 
-/// Appends requests to a group, and gives the nanoseconds that those took which came after the first ones.
+/// Appends requests to a group, and gives the nanoseconds that those took which came after the
+/// first ones.
 #[derive(Drop)]
 struct Appends<'a, C> {
     clock: &'a C,

@@ -11,8 +11,8 @@ pub enum Mode {
 }
 
 impl Mode {
-    /// The mode that the words of a command line ask for, of which the first is the program's own name: none more for
-    /// `Timed`, `--dry` for `Dry`.
+    /// The mode that the words of a command line ask for, of which the first is the program's own
+    /// name: none more for `Timed`, `--dry` for `Dry`.
     pub fn of(words: &[String]) -> Option<Mode>
         ensures { result ≡ mode_of (map string_bytes words.now) }
     {

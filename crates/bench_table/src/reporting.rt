@@ -13,8 +13,9 @@ use std::alloc::Global;
 use std::io;
 use std::time::Clock;
 
-/// Prints the table: a line for each method and, where it is timed, one for each call beside an object, and one for
-/// `append` at each length, of the method of four steps. Each time is the least of that many.
+/// Prints the table: a line for each method and, where it is timed, one for each call beside an
+/// object, and one for `append` at each length, of the method of four steps. Each time is the least
+/// of that many.
 pub fn report<C: Clock, O: io::Write>(
     alloc: Global,
     clock: &C,

@@ -51,8 +51,8 @@ pub struct CallLine {
     pub time: Nanos,
 }
 
-/// The table: a heading, a line for each method and, where times are taken, one for each call beside an object and two
-/// for `append`.
+/// The table: a heading, a line for each method and, where times are taken, one for each call
+/// beside an object and two for `append`.
 #[derive(Drop)]
 pub struct Table {
     pub mode: Mode,

@@ -10,7 +10,8 @@ use verifier::{VerifiedClass, verify};
 /// A slot's bytes (RFC 9669 section 3).
 type Slot = [u8; 8];
 
-/// A method that is measured: three slots, four more that many times, and `exit`. It reads no object, and takes no input.
+/// A method that is measured: three slots, four more that many times, and `exit`. It reads no
+/// object, and takes no input.
 #[derive(Drop)]
 pub struct Workload {
     /// What the table calls it.
@@ -91,7 +92,8 @@ const BRANCHES: [Slot; 4] = [
     [0x3d, 0x76, 0, 0, 0, 0, 0, 0],
 ];
 
-/// `jsgt r0, 0, +2`, `add r0, 1`, `ja +1`, `add r0, -1`: its two sides in turn, of two and of three steps.
+/// `jsgt r0, 0, +2`, `add r0, 1`, `ja +1`, `add r0, -1`: its two sides in turn, of two and of three
+/// steps.
 const DIAMOND: [Slot; 4] = [
     [0x65, 0x00, 2, 0, 0, 0, 0, 0],
     [0x07, 0x00, 0, 0, 1, 0, 0, 0],
@@ -107,7 +109,8 @@ const RANGES: [Slot; 4] = [
     [0x71, 0x50, 0, 0, 0, 0, 0, 0],
 ];
 
-/// `ldxdw r4, [r6+0]`, `jgt r4, 511, +2`, `add r4, r6`, `ldxb r0, [r4+0]`: a place that a jump has checked.
+/// `ldxdw r4, [r6+0]`, `jgt r4, 511, +2`, `add r4, r6`, `ldxb r0, [r4+0]`: a place that a jump has
+/// checked.
 const CHECKED: [Slot; 4] = [
     [0x79, 0x64, 0, 0, 0, 0, 0, 0],
     [0x25, 0x04, 2, 0, 0xff, 1, 0, 0],
@@ -115,8 +118,8 @@ const CHECKED: [Slot; 4] = [
     [0x71, 0x40, 0, 0, 0, 0, 0, 0],
 ];
 
-/// `stxdw [r10-8], r6`, `stxdw [r10-16], r3`, `ldxdw r4, [r10-8]`, `ldxdw r5, [r10-16]`: a number and a pointer,
-/// spilled.
+/// `stxdw [r10-8], r6`, `stxdw [r10-16], r3`, `ldxdw r4, [r10-8]`, `ldxdw r5, [r10-16]`: a number
+/// and a pointer, spilled.
 const SPILLS: [Slot; 4] = [
     [0x7b, 0x6a, 0xf8, 0xff, 0, 0, 0, 0],
     [0x7b, 0x3a, 0xf0, 0xff, 0, 0, 0, 0],
@@ -124,7 +127,8 @@ const SPILLS: [Slot; 4] = [
     [0x79, 0xa5, 0xf0, 0xff, 0, 0, 0, 0],
 ];
 
-/// The methods that are measured, in the table's order. What the first takes is what a call costs beside its steps.
+/// The methods that are measured, in the table's order. What the first takes is what a call costs
+/// beside its steps.
 pub const WORKLOADS: [Workload; 11] = [
     Workload {
         name: "call",
@@ -241,7 +245,8 @@ impl Workload {
     }
 }
 
-/// A class of one method, `f`, which has that code, flags and in_cap, and no output, with that rule set.
+/// A class of one method, `f`, which has that code, flags and in_cap, and no output, with that rule
+/// set.
 pub fn class_of(
     alloc: Global,
     rules: RuleSet,
@@ -267,7 +272,8 @@ fn instructions(class: &VerifiedClass) -> usize
     }
 }
 
-/// How many instructions a run of the class's method `f` executes, beside no object, for client 1, on no input.
+/// How many instructions a run of the class's method `f` executes, beside no object, for client 1,
+/// on no input.
 pub fn steps(alloc: Global, class: &VerifiedClass) -> Result<usize>
     ensures { IfOk result (λ n. RunsIn class.now n) }
 {

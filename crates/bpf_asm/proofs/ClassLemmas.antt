@@ -63,7 +63,8 @@ one_more done before [] m h k = rw k refl
 one_more done before (x ∷ xs) m h k =
     onto (after done (method_after before x)) (methods_after (done + 1) x.name xs) (methods_after (done + 1) x.name (xs ++ (m ∷ []))) x xs (xs ++ (m ∷ [])) h (λ e. one_more (done + 1) x.name xs m e k)
 
--- a method of a header within the limits, whose slots are within theirs, is right after the name of the last one
+-- a method of a header within the limits, whose slots are within theirs, is right after the name of
+-- the last one
 pub header_passes : (before : List ℕ) (h : MethodHeader) (m : ClassMethod) → IsTrue (is_header h) → is_above before h.name ≡ true → m.name ≡ h.name → m.flags ≡ h.flags → m.in_cap ≡ h.in_cap → m.out_cap ≡ h.out_cap → 1 ≤ slot_total m.instructions → slot_total m.instructions ≤ SLOT_LIMIT → method_after before m ≡ Ok m
 header_passes before h m valid above a b c d some few =
     let in_all = and_left (is_method_name h.name && between 1 3 h.flags && between 0 CAPACITY_LIMIT h.in_cap) (between 0 CAPACITY_LIMIT h.out_cap) valid in

@@ -80,8 +80,8 @@ abbrev pub instruction_at : List Statement → ℕ → Result Draft AsmFault →
 instruction_at all slot (Err fault) = Err fault
 instruction_at all slot (Ok d) = if nat_le (slot + draft_slots (Ok d)) SLOT_LIMIT then filled Some (finished all slot d) else Err faults.Range
 
--- what a line at a slot gives: an instruction or nothing. `before` has the method's lines above it: a label that stands
--- among them already is 4 Label
+-- what a line at a slot gives: an instruction or nothing. `before` has the method's lines above it:
+-- a label that stands among them already is 4 Label
 abbrev pub line_at : List Statement → List Statement → ℕ → Statement → Result (Option Insn) AsmFault
 line_at all before slot Empty = Ok None
 line_at all before slot (Label name) = if is_some (slot_of_label name 0 before) then Err faults.Label else Ok None
@@ -95,7 +95,8 @@ proceed line (Err fault) without with_insn = Err (record { line = line; fault = 
 proceed line (Ok None) without with_insn = without
 proceed line (Ok (Some insn)) without with_insn = with_insn insn
 
--- the instructions of lines in order: `line` is the number of the next, `slot` the next slot, `done` what stands above
+-- the instructions of lines in order: `line` is the number of the next, `slot` the next slot,
+-- `done` what stands above
 unfoldable pub body_from : List Statement → List Statement → ℕ → ℕ → List Insn → List Statement → Result (List Insn) AsmError
 body_from all before line slot done [] = Ok done
 body_from all before line slot done (s ∷ rest) =
@@ -119,8 +120,8 @@ is_instruction (Instruction d) = true
 abbrev pub has_instruction : List Statement → Bool
 has_instruction lines = nat_lt 0 (count_by is_instruction lines)
 
--- the fault on the first line of a text without instructions, where one method's text is read: `.rules` and `.method` are
--- 1 Word
+-- the fault on the first line of a text without instructions, where one method's text is read:
+-- `.rules` and `.method` are 1 Word
 abbrev pub bare_fault : List Statement → AsmFault
 bare_fault [] = faults.Range
 bare_fault (Empty ∷ rest) = faults.Range
@@ -133,6 +134,7 @@ bare_fault (Directive header ∷ rest) = faults.Word
 abbrev pub assembled : List Statement → Result (List Insn) AsmError
 assembled lines = if has_instruction lines then body 1 lines else Err (record { line = 1; fault = bare_fault lines })
 
--- Reading one method's text: its instructions, or the first line that is refused and the least fault there.
+-- Reading one method's text: its instructions, or the first line that is refused and the least
+-- fault there.
 unfoldable pub read_text : List ℕ → Result (List Insn) AsmError
 read_text text = assembled (statements_of text)

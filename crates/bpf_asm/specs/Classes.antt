@@ -1,4 +1,5 @@
--- Classes: the rule set, and methods read one after the other, up to the first line that is refused.
+-- Classes: the rule set, and methods read one after the other, up to the first line that is
+-- refused.
 use Rattle.std.specs.Prelude.{ℕ, ◌+◌, ◌==◌, ◌||◌, not, nat_le, Bool, true, false, List, [], ◌∷◌, ◌++◌, length, if◌then◌else◌, Option, Some, None, Result, Ok, Err}
 use Rattle.std.specs.List.{before_first}
 use Rattle.bpf_decode.specs.declared.insn.Insn.{Insn}
@@ -29,8 +30,8 @@ abbrev pub last_name : List ℕ → List ClassMethod → List ℕ
 last_name before [] = before
 last_name before (m ∷ ms) = last_name m.name ms
 
--- the fault of a method's first line after other methods: 3 Range for a 33rd or one without instruction, 4 Label for a
--- name that isn't above the one before
+-- the fault of a method's first line after other methods: 3 Range for a 33rd or one without
+-- instruction, 4 Label for a name that isn't above the one before
 abbrev pub opening_fault : List ClassMethod → Bool → MethodHeader → Option AsmFault
 opening_fault done bare h = if nat_le METHOD_LIMIT (length done) || bare then Some faults.Range else (if is_above (last_name [] done) h.name then None else Some faults.Label)
 
@@ -55,8 +56,9 @@ abbrev pub next_method : Result ClassMethod AsmError → (ClassMethod → Result
 next_method (Err e) others = Err e
 next_method (Ok m) others = others m
 
--- The methods of lines in order: `line` is the number of the next, `done` the methods above it. A method's lines reach
--- to the next `.method`, and are read with it. Before the first one nothing may stand.
+-- The methods of lines in order: `line` is the number of the next, `done` the methods above it. A
+-- method's lines reach to the next `.method`, and are read with it. Before the first one nothing
+-- may stand.
 unfoldable pub class_from : List ClassMethod → ℕ → List Statement → Result (List ClassMethod) AsmError
 class_from done line [] = if length done == 0 then Err (record { line = 1; fault = faults.Range }) else Ok done
 class_from done line (Directive header ∷ rest) =
@@ -70,8 +72,8 @@ abbrev pub with_rules : RuleSet → Result (List ClassMethod) AsmError → Resul
 with_rules rules (Ok ms) = Ok (record { rules = rules; methods = ms })
 with_rules rules (Err e) = Err e
 
--- The class of lines in order: its rule set is 1, or what the first line that isn't empty says by `.rules`. After it
--- stand the methods, with no `.rules` among them.
+-- The class of lines in order: its rule set is 1, or what the first line that isn't empty says by
+-- `.rules`. After it stand the methods, with no `.rules` among them.
 unfoldable pub ruled_from : ℕ → List Statement → Result Class AsmError
 ruled_from line [] = with_rules One (class_from [] line [])
 ruled_from line (Empty ∷ rest) = ruled_from (line + 1) rest
@@ -81,8 +83,8 @@ ruled_from line (Label name ∷ rest) = with_rules One (class_from [] line (Labe
 ruled_from line (Directive header ∷ rest) = with_rules One (class_from [] line (Directive header ∷ rest))
 ruled_from line (Instruction d ∷ rest) = with_rules One (class_from [] line (Instruction d ∷ rest))
 
--- the fault on the first line of a text without instructions: a label before the first `.method` is 1 Word, and a
--- `.rules` or `.method` of the wrong form 2 Operand
+-- the fault on the first line of a text without instructions: a label before the first `.method` is
+-- 1 Word, and a `.rules` or `.method` of the wrong form 2 Operand
 abbrev pub bare_class_fault : List Statement → AsmFault
 bare_class_fault [] = faults.Range
 bare_class_fault (Empty ∷ rest) = faults.Range

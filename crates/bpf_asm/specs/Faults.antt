@@ -1,5 +1,6 @@
--- Why a text is refused, apart from its grammar: "line n has fault f" as a relation, and the first fault of a text. A line's
--- faults are those of its place, whatever is wrong elsewhere; a line that is none of its form has its own (Shapes).
+-- Why a text is refused, apart from its grammar: "line n has fault f" as a relation, and the first
+-- fault of a text. A line's faults are those of its place, whatever is wrong elsewhere; a line that
+-- is none of its form has its own (Shapes).
 use Rattle.std.specs.Prelude.{◌≡◌, ◌⊎◌, ℕ, ℤ, pos, ◌+◌, ◌-ℤ◌, ◌<◌, ◌≤◌, Bool, true, false, List, [], ◌∷◌, ◌++◌, Option, Some, None, IsSome, Result, Ok, Err, FitsSigned}
 use Rattle.std.specs.Int.{w16, w32}
 use Rattle.std.specs.List.{before_first}
@@ -40,8 +41,9 @@ DraftFault all slot (drafts.JumpLong target) f = TargetFault (FitsSigned w32) al
 DraftFault all slot (drafts.Branch bits comparison dst source target) f = TargetFault (FitsSigned w16) all slot target f
 DraftFault all slot (drafts.CallLocal target) f = TargetFault (FitsSigned w32) all slot target f
 
--- a line at a slot, among all lines of its method and after those above it: its own fault where it isn't of the form, a
--- label that stands above, a `.rules` or `.method` inside, an instruction that passes the limit of slots, or one that goes nowhere
+-- a line at a slot, among all lines of its method and after those above it: its own fault where it
+-- isn't of the form, a label that stands above, a `.rules` or `.method` inside, an instruction that
+-- passes the limit of slots, or one that goes nowhere
 abbrev pub LineFault : List Statement → List Statement → ℕ → Statement → AsmFault → Type 0
 LineFault all above slot Empty f = ⊥
 LineFault all above slot (Label name) f = IsSome (slot_of_label name 0 above) × (f ≡ faults.Label)
@@ -74,8 +76,8 @@ HasFault lines n f = IsBare lines n f ⊎ LinesHaveFault lines [] 1 0 lines n f
 
 -- ---- the lines of a class
 
--- where a line of a class stands: whether a `.rules` stands above it, how many methods begin above it and the last one's
--- name, all lines of that method, those above the line, and the line's slot
+-- where a line of a class stands: whether a `.rules` stands above it, how many methods begin above
+-- it and the last one's name, all lines of that method, those above the line, and the line's slot
 pub record Place : Type 0 where
   pub ruled : Bool
   pub methods : ℕ
@@ -97,8 +99,8 @@ next_place p (Label name) below = record p { above = p.above ++ (Label name ∷ 
 next_place p (Rules rules) below = record p { ruled = true; above = p.above ++ (Rules rules ∷ []) }
 next_place p (Instruction d) below = record p { above = p.above ++ (Instruction d ∷ []); slot = p.slot + draft_slots d }
 
--- a `.method` line: its own fault where it isn't of the form; a method too many, or one without instruction; a name that
--- isn't above the last
+-- a `.method` line: its own fault where it isn't of the form; a method too many, or one without
+-- instruction; a name that isn't above the last
 abbrev pub OpeningFault : Place → Result MethodHeader AsmFault → List Statement → AsmFault → Type 0
 OpeningFault p (Err g) below f = f ≡ g
 OpeningFault p (Ok h) below f =
@@ -110,7 +112,8 @@ abbrev pub RulesOperand : Result RuleSet AsmFault → AsmFault → Type 0
 RulesOperand (Ok rules) f = ⊥
 RulesOperand (Err g) f = f ≡ g
 
--- a `.rules` line: one after another or after a `.method`; one before the first `.method` that is of the wrong form
+-- a `.rules` line: one after another or after a `.method`; one before the first `.method` that is
+-- of the wrong form
 abbrev pub RulesFault : Place → Result RuleSet AsmFault → AsmFault → Type 0
 RulesFault p rules f = (((p.ruled ≡ true) ⊎ (1 ≤ p.methods)) × (f ≡ faults.Word)) ⊎ ((p.methods ≡ 0) × RulesOperand rules f)
 

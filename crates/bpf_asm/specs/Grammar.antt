@@ -1,5 +1,5 @@
--- The grammar of one method's text and of a class's, as relations: what each line says, labels that stand once, and
--- distances that reach them.
+-- The grammar of one method's text and of a class's, as relations: what each line says, labels that
+-- stand once, and distances that reach them.
 use Rattle.std.specs.Prelude.{◌≡◌, ℕ, ℤ, pos, ◌+◌, ◌-ℤ◌, ◌≤◌, true, length, List, [], ◌∷◌, ◌++◌, Some, None, Result, Ok, Err, FitsSigned}
 use Rattle.std.specs.Int.{w16, w32}
 use Rattle.bpf_decode.specs.declared.insn.Insn.{Insn}

@@ -1,5 +1,5 @@
--- What a line says, and the lines of a text: nothing, a label, a `.rules`, a `.method`, an instruction, or why it is none
--- of its form.
+-- What a line says, and the lines of a text: nothing, a label, a `.rules`, a `.method`, an
+-- instruction, or why it is none of its form.
 use Rattle.std.specs.Prelude.{◌≡◌, ℕ, ◌≤◌, List, [], ◌∷◌, length, Ok, Err}
 use Rattle.std.specs.List.{join_with_byte}
 use Rattle.asm_lines.specs.declared.statement.Statement.{Statement}

@@ -1,5 +1,5 @@
--- Why a line is none of its form: the shape of a word's operands whatever their numbers, and what tells 1 Word, 2 Operand
--- and 3 Range apart.
+-- Why a line is none of its form: the shape of a word's operands whatever their numbers, and what
+-- tells 1 Word, 2 Operand and 3 Range apart.
 use Rattle.std.specs.Prelude.{◌≡◌, ◌⊎◌, ℕ, ℤ, ◌≤◌, true, List, [], ◌++◌, length, codes}
 use Rattle.bpf_decode.specs.Limits.{is_method_name}
 use Rattle.asm_lines.specs.declared.draft.Draft.{Draft}
@@ -96,7 +96,8 @@ pub record AreOutOfRange (word rest : List ℕ) : Type 0 where
   pub shaped : AnyOperands form rest
   pub none : (draft : Draft) → ¬ IsDraftText draft word rest
 
--- 1 Word: a word of no form; 2 Operand: operands that are not of the form; 3 Range: a number out of its range
+-- 1 Word: a word of no form; 2 Operand: operands that are not of the form; 3 Range: a number out of
+-- its range
 abbrev pub InstructionFault : List ℕ → List ℕ → AsmFault → Type 0
 InstructionFault word rest faults.Word = (form : Form) → ¬ (word ≡ word_of form)
 InstructionFault word rest faults.Operand = AreMisshapen word rest

@@ -1,4 +1,5 @@
--- What a line is made of, as relations: its comment and blanks, its words, its operands and their numbers.
+-- What a line is made of, as relations: its comment and blanks, its words, its operands and their
+-- numbers.
 use Rattle.std.specs.Prelude.{◌≡◌, ◌⊎◌, ℕ, ℤ, pos, negsuc, ◌==◌, ◌||◌, ◌≤◌, ◌-◌, not, suc, true, false, List, [], ◌∷◌, ◌++◌, length, slice_index, FitsSigned, codes}
 use Rattle.std.specs.List.{list_all}
 use Rattle.std.specs.Int.{w16, w32}

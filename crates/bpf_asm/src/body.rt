@@ -159,8 +159,8 @@ fn line_at(
     }
 }
 
-/// Puts the instructions of a method's lines, of which those are the labels and whose first has that number, into an
-/// empty list.
+/// Puts the instructions of a method's lines, of which those are the labels and whose first has
+/// that number, into an empty list.
 #[tactic(auto, unfolding(crate::specs::Bodies::body_from))]
 fn push_body(
     labels: &Labels,
@@ -196,7 +196,8 @@ fn push_body(
     Ok(())
 }
 
-/// A method's instructions, whose first line has that number; or the first line that is refused, and its least fault.
+/// A method's instructions, whose first line has that number; or the first line that is refused,
+/// and its least fault.
 pub(crate) fn read_body(
     alloc: Global,
     first: usize,

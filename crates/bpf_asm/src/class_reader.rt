@@ -56,7 +56,8 @@ fn opening_fault(done: &[Method], bare: bool, header: &Header) -> Option<AsmFaul
     }
 }
 
-/// A method of that header, from its lines, of which one at least is an instruction's and whose first has that number.
+/// A method of that header, from its lines, of which one at least is an instruction's and whose
+/// first has that number.
 #[tactic(auto, using(crate::proofs::ClassLemmas::header_passes))]
 fn with_body(
     alloc: Global,
@@ -254,15 +255,16 @@ fn read_class_text(alloc: Global, text: &str) -> Result<ClassImage, AsmError>
     class_assembled(alloc, &lines)
 }
 
-/// The class of a text. What is refused is the lowest line that has a fault, with the least fault there; want of memory
-/// may come in place of any answer. It costs as much as `assemble`.
+/// The class of a text. What is refused is the lowest line that has a fault, with the least fault
+/// there; want of memory may come in place of any answer. It costs as much as `assemble`.
 pub fn assemble_class(alloc: Global, text: &str) -> Result<ClassImage, AsmError>
     ensures found { IfOk result (λ c. read_class_text text.now ≡ Ok c) }
     ensures refused { IfErr result (λ e. (e ≡ no_memory) ⊎ (read_class_text text.now ≡ Err e)) }
     ensures grammar { IfOk result (λ c. IsClassText text.now c) }
     ensures one { IfOk result (λ c. (d : Class) → IsClassText text.now d → d ≡ c) }
     ensures only { IfErr result (λ e. (e ≡ no_memory) ⊎ ((c : Class) → ¬ IsClassText text.now c)) }
-    // The refusal is the text's first fault: of all faults of its lines that of the lowest line, and there the least.
+    // The refusal is the text's first fault: of all faults of its lines that of the lowest line,
+    // and there the least.
     ensures first { IfErr result (λ e. (e ≡ no_memory) ⊎ RefusesClassText text.now e) }
     ensures faultless { IfOk result (λ _. IsFaultlessClass text.now) }
 {

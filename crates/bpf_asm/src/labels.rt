@@ -7,8 +7,9 @@ use std::alloc::{AllocError, Global};
 use std::collections::BTreeMap;
 use std::marker::Model;
 
-/// The labels of a method's lines by name: the slot and the line at which each stands first. Contracts see the lines.
-/// It costs a logarithm of the number of labels for each label, and for each question.
+/// The labels of a method's lines by name: the slot and the line at which each stands first.
+/// Contracts see the lines. It costs a logarithm of the number of labels for each label, and for
+/// each question.
 #[derive(Drop)]
 pub(crate) struct Labels<'a, 't> {
     lines: &'a [Statement<'t>],
@@ -52,7 +53,8 @@ impl<'a, 't> Labels<'a, 't> {
         }
     }
 
-    /// Whether a label of that name stands above a line, which is given by its place among the lines.
+    /// Whether a label of that name stands above a line, which is given by its place among the
+    /// lines.
     pub(crate) fn stands_above(&self, name: &[u8], line: usize) -> bool
         ensures { result ≡ is_some (slot_of_label name.now 0 (take line self.now)) }
     {

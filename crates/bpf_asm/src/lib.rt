@@ -1,4 +1,5 @@
-//! The assembly language of methods and classes: what is read is exactly the grammar, and each class has one text.
+//! The assembly language of methods and classes: what is read is exactly the grammar, and each
+//! class has one text.
 #![tactic(auto)]
 
 mod assembler;

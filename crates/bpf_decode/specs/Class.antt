@@ -49,7 +49,8 @@ pub record IsClass (ms : List ClassMethod) : Type 0 where
   pub methods : AllByRecursion IsMethod ms
   pub names : NamesRise ms
 
--- a method's bytes: its name after its length, flags, in_cap, out_cap, the number of slots, and its code
+-- a method's bytes: its name after its length, flags, in_cap, out_cap, the number of slots, and its
+-- code
 abbrev pub method_bytes : ClassMethod → List ℕ
 method_bytes m =
     (length m.name ∷ m.name)

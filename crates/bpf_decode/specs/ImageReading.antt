@@ -19,7 +19,8 @@ use Rattle.bpf_decode.specs.Reading.{◌>>=◌, checked, code_of}
 abbrev pub is_above : List ℕ → List ℕ → Bool
 is_above before name = is_lt (slice_cmp nat_cmp before name)
 
--- ---- fields: each is read whole and then tested, and what is read is a value and the bytes after it
+-- ---- fields: each is read whole and then tested, and what is read is a value and the bytes after
+-- it
 
 abbrev pub byte_at : List ℕ → Result (ℕ × List ℕ) DecodeError
 byte_at [] = Err Truncated

@@ -1,6 +1,7 @@
--- A reader must believe Instruction and Class (the grammars), Arithmetic (what operations compute), Limits and Refusal,
--- Table, Reading and ImageReading for the order of refusals (what they read is proved to be the grammars), and Fields and
--- Opcodes for the machine, whose definition reads a slot by them.
+-- A reader must believe Instruction and Class (the grammars), Arithmetic (what operations compute),
+-- Limits and Refusal, Table, Reading and ImageReading for the order of refusals (what they read is
+-- proved to be the grammars), and Fields and Opcodes for the machine, whose definition reads a slot
+-- by them.
 pub mod Instruction
 pub mod Arithmetic
 pub mod Jump

@@ -1,4 +1,5 @@
--- What a class's numbers and names may be, as tests. The numbers are the constants of src/limits.rt.
+-- What a class's numbers and names may be, as tests. The numbers are the constants of
+-- src/limits.rt.
 use Rattle.std.specs.Prelude.{ℕ, ◌==◌, ◌&&◌, ◌||◌, nat_le, Bool, true, List, [], ◌∷◌, length}
 use Rattle.bpf_decode.specs.declared.limits.TheConstants.{METHOD_LIMIT, NAME_LIMIT, CAPACITY_LIMIT, SLOT_LIMIT}
 

@@ -1,4 +1,5 @@
--- The table of opcodes (RFC 9669 sections 4 and 5): each row's opcode, its fields and its instruction.
+-- The table of opcodes (RFC 9669 sections 4 and 5): each row's opcode, its fields and its
+-- instruction.
 use Rattle.std.specs.Prelude.{ℕ, ◌+◌, ◌*◌, ◌/◌, ◌%◌, ◌^◌, ◌==◌, ◌&&◌, ◌||◌, nat_le, Bool, List, [], ◌∷◌, Option, Some, None, option_map, option_and_then, if◌then◌else◌}
 use Rattle.std.specs.List.{find}
 use Rattle.std.specs.Int.{w16, w32, cast_signed}
@@ -119,7 +120,8 @@ instruction (BranchRegister bits comparison) f high = insns.Branch bits comparis
 instruction Call f high = if f.src == 0 then insns.Call f.imm else insns.CallLocal (cast_signed w32 f.imm)
 instruction Exit f high = insns.Exit
 
--- the slot of an operation on a register and an operand: by one opcode for a number, by another for a register
+-- the slot of an operation on a register and an operand: by one opcode for a number, by another for
+-- a register
 abbrev pub operand_slot : ℕ → ℕ → ℕ → Operand → ℕ → List ℕ
 operand_slot immediate register dst (Immediate imm) offset = slot immediate dst 0 offset (imm_field imm)
 operand_slot immediate register dst (Register src) offset = slot register dst src offset 0

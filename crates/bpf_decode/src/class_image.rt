@@ -12,7 +12,8 @@ use crate::method::Method;
 use crate::rule_set::RuleSet;
 use std::marker::Model;
 
-/// A class: its rule set, and 1 to 32 methods within the limits, by rising names. Contracts see a `Class`.
+/// A class: its rule set, and 1 to 32 methods within the limits, by rising names. Contracts see a
+/// `Class`.
 pub struct ClassImage {
     rules: RuleSet,
     methods: Vec<Method>,
@@ -40,9 +41,10 @@ impl ClassImage {
 
     /// The class of those methods that is verified by that rule set. It takes no memory.
     ///
-    /// Refusals, in the order of the image's fields, with the number of methods that are right before it: `Limit` for
-    /// their count; of a method `Name`, `Order`, `Flags`, and `Limit` for a capacity or its slots. Such methods may have no
-    /// image (a name of 300 bytes has no length byte), so this order is a definition of its own.
+    /// Refusals, in the order of the image's fields, with the number of methods that are right
+    /// before it: `Limit` for their count; of a method `Name`, `Order`, `Flags`, and `Limit` for a
+    /// capacity or its slots. Such methods may have no image (a name of 300 bytes has no length
+    /// byte), so this order is a definition of its own.
     pub fn new(methods: Vec<Method>, rules: RuleSet) -> Result<ClassImage, ImageError>
         ensures exact { result ≡ class_of rules methods.items }
         ensures accepts { IsOk result ↔ IsClass methods.items }
@@ -54,7 +56,8 @@ impl ClassImage {
         }
     }
 
-    /// The class of methods that were tested while they were read, as `new` tests them: nothing is tested again.
+    /// The class of methods that were tested while they were read, as `new` tests them: nothing is
+    /// tested again.
     pub fn tested(methods: Vec<Method>, rules: RuleSet) -> ClassImage
         requires { methods_of methods.items ≡ Ok methods.items }
         ensures { result ≡ record { rules = rules; methods = methods.items } }

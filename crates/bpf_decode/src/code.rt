@@ -67,8 +67,8 @@ fn count(bytes: &[u8]) -> Result<usize, DecodeError>
 
 /// How many instructions the bytes are. It takes no memory.
 ///
-/// Refusals, slot by slot: a length that is no multiple of 8 (`Truncated`, first of all), then `Opcode`, `Register`,
-/// `NonzeroField` and `WideHalf`.
+/// Refusals, slot by slot: a length that is no multiple of 8 (`Truncated`, first of all), then
+/// `Opcode`, `Register`, `NonzeroField` and `WideHalf`.
 pub fn check(bytes: &[u8]) -> Result<usize, DecodeError>
     ensures exact { result ≡ count_of bytes.now }
     // What is counted is code.
@@ -127,7 +127,8 @@ fn row_slot(row: OpcodeRow, dst: u8, src: u8, offset: u16, imm: u32) -> Slot
     }
 }
 
-/// The slot of an operation on a register and an operand: by one row for a number, by another for a register.
+/// The slot of an operation on a register and an operand: by one row for a number, by another for a
+/// register.
 #[rattlefmt::skip]
 fn operand_slot(immediate: OpcodeRow, register: OpcodeRow, dst: Register, source: Operand, offset: u16) -> Slot
     ensures spelled { operand_slot (opcode immediate) (opcode register) dst source offset ≡ slot result.opcode result.dst result.src result.offset result.imm }
@@ -194,8 +195,9 @@ fn put_wide(out: &mut Vec<u8>, dst: Register, value: u64) -> Result<(), AllocErr
     .put(out)
 }
 
-/// For the prover alone: nothing else says of a value behind a reference that its numbers are within their types' ranges.
-/// `slots` proves by it that instructions fit their fields; nothing of it runs.
+/// For the prover alone: nothing else says of a value behind a reference that its numbers are
+/// within their types' ranges. `slots` proves by it that instructions fit their fields; nothing of
+/// it runs.
 fn fits(insn: &Insn) -> bool
     ensures always { result ≡ true }
     ensures fit { Fits insn.now }

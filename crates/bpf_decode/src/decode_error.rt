@@ -11,7 +11,8 @@ use thiserror::Error;
 pub enum DecodeError {
     /// A field passes the end; of code alone, the length is no multiple of 8.
     Truncated,
-    /// The first four bytes are neither `RCL1` nor `RCL2`, or the number after the count of methods isn't 0.
+    /// The first four bytes are neither `RCL1` nor `RCL2`, or the number after the count of methods
+    /// isn't 0.
     Magic,
     /// No instruction has the opcode of that slot.
     Opcode(usize),
@@ -19,7 +20,8 @@ pub enum DecodeError {
     Register(usize),
     /// In that slot an unused field isn't zero, or a selecting field has a value of no instruction.
     NonzeroField(usize),
-    /// The wide load at that slot has no second half, or one with an opcode, registers or an offset.
+    /// The wide load at that slot has no second half, or one with an opcode, registers or an
+    /// offset.
     WideHalf(usize),
     /// A name's length isn't 1 to `NAME_LIMIT`, or a byte of it is none of a-z, 0-9 and `_`.
     Name,
@@ -76,7 +78,8 @@ impl DecodeError {
         }
     }
 
-    /// The slot that it names, counted within the code that was read; `None` for those that name none.
+    /// The slot that it names, counted within the code that was read; `None` for those that name
+    /// none.
     #[rattlefmt::skip]
     pub fn slot(self) -> Option<usize>
         ensures { result ≡ slot_of self }

@@ -125,7 +125,8 @@ fn method_at<'a>(
     ))
 }
 
-/// The bytes of a legal name as text: each is one of a-z, 0-9 and `_`. It fails for want of memory alone.
+/// The bytes of a legal name as text: each is one of a-z, 0-9 and `_`. It fails for want of memory
+/// alone.
 pub fn name_text(alloc: Global, name: &[u8]) -> Result<String, AllocError>
     requires { IsTrue (are_name_bytes name.now) }
     ensures { IfOk result (λ t. string_bytes t ≡ name.now) }
@@ -227,8 +228,9 @@ fn class(alloc: Global, bytes: &[u8]) -> Result<ClassImage, ImageError>
 
 /// The class that the bytes are. Each field is read whole and tested before the next.
 ///
-/// Refusals, the first in reading order, with the number of methods that were read whole before: see `DecodeError`.
-/// `NoMemory` may come in place of any answer, with the number of methods that were read whole before it, too.
+/// Refusals, the first in reading order, with the number of methods that were read whole before:
+/// see `DecodeError`. `NoMemory` may come in place of any answer, with the number of methods that
+/// were read whole before it, too.
 pub fn read_image(alloc: Global, bytes: &[u8]) -> Result<ClassImage, ImageError>
     ensures exact { GivesImage (λ c. c) result (image_of bytes.now) }
     // Where memory runs out, that many methods were read whole.

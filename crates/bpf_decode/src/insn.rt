@@ -5,7 +5,8 @@ use crate::access::{SignedWidth, Width};
 use crate::operation::{Arithmetic, ByteOrder, Comparison, EndWidth, OpWidth, SignedMove};
 use crate::register::Register;
 
-/// What an instruction reads as well as its destination: a number in the instruction, or a register.
+/// What an instruction reads as well as its destination: a number in the instruction, or a
+/// register.
 #[derive(Clone, Copy, PartialEq, Eq)]
 pub enum Operand {
     Immediate(i32),
@@ -15,7 +16,8 @@ pub enum Operand {
 /// One instruction (RFC 9669 sections 4 and 5). The wide load takes two slots, every other one.
 #[derive(Clone, Copy, PartialEq, Eq)]
 pub enum Insn {
-    /// Arithmetic of a register and an operand: on all 64 bits, a number sign-extended to them, or on the low 32 of both.
+    /// Arithmetic of a register and an operand: on all 64 bits, a number sign-extended to them, or
+    /// on the low 32 of both.
     Alu {
         bits: OpWidth,
         operation: Arithmetic,
@@ -91,7 +93,8 @@ pub enum Insn {
     Call {
         helper: u32,
     },
-    /// A call within the program, in slots from the slot after it. It is read, and no machine runs it.
+    /// A call within the program, in slots from the slot after it. It is read, and no machine runs
+    /// it.
     CallLocal {
         distance: i32,
     },

@@ -2,7 +2,8 @@ ghost use Rattle.std.specs.Prelude.{◌≡◌, ◌<◌, ◌^◌};
 ghost use Rattle.bpf_decode.specs.Jump.{jump_target};
 ghost use Rattle.bpf_decode.specs.Values.{extended};
 
-/// The slot to which a jump goes: its distance counts from the slot after it (RFC 9669 section 4.3).
+/// The slot to which a jump goes: its distance counts from the slot after it (RFC 9669 section
+/// 4.3).
 pub fn jump_target(slot: usize, distance: i64) -> usize
     requires { slot < 2 ^ 62 }
     ensures { result ≡ jump_target slot (extended distance) }

@@ -36,8 +36,8 @@ pub fn round_trip()
     ensures read_code { (bytes written : List ℕ) (is : List Insn) → ((i : ℕ) → get_or bytes i 0 < 256) → code_of bytes ≡ Ok is → IsCode written is → written ≡ bytes }
 {}
 
-/// No image has more than `IMAGE_LIMIT` bytes. So of a longer file one byte more is enough: those after it change no answer
-/// of reading, a refusal neither.
+/// No image has more than `IMAGE_LIMIT` bytes. So of a longer file one byte more is enough: those
+/// after it change no answer of reading, a refusal neither.
 pub fn beginning()
     ensures longest { (bytes : List ℕ) (c : Class) → IsImage bytes c → length bytes ≤ IMAGE_LIMIT }
     ensures image { (bytes : List ℕ) (c : Class) → IsImage (take (IMAGE_LIMIT + 1) bytes) c ↔ IsImage bytes c }

@@ -1,9 +1,10 @@
 //! Class images and their instructions.
 //!
-//! `check` and `decode` read exactly the code of this profile of RFC 9669, and `read_image` exactly the class images;
-//! `encode` and `write_image` give the one spelling of each.
-//! Each refusal is the first in reading order and comes exactly under its condition; a `ClassImage` is always a class.
-//! The grammars are specs/Instruction and specs/Class; specs/Table, Reading and ImageReading read them from left to right.
+//! `check` and `decode` read exactly the code of this profile of RFC 9669, and `read_image` exactly
+//! the class images; `encode` and `write_image` give the one spelling of each. Each refusal is the
+//! first in reading order and comes exactly under its condition; a `ClassImage` is always a class.
+//! The grammars are specs/Instruction and specs/Class; specs/Table, Reading and ImageReading read
+//! them from left to right.
 #![tactic(auto)]
 
 mod access;

@@ -3,8 +3,8 @@ ghost use Rattle.std.specs.Prelude.{◌≡◌, string_bytes};
 use crate::insn::Insn;
 use std::marker::Model;
 
-/// A method as it is written. Its numbers may be any: a `ClassImage` keeps those that are within the limits.
-/// Contracts see a `ClassMethod`.
+/// A method as it is written. Its numbers may be any: a `ClassImage` keeps those that are within
+/// the limits. Contracts see a `ClassMethod`.
 pub struct Method {
     name: String,
     flags: u8,
@@ -37,7 +37,8 @@ impl Model for Method {
 }
 
 impl Method {
-    /// A method of that name, flags (1 reads, 2 writes, 3 both), capacities of input and output in bytes, and code.
+    /// A method of that name, flags (1 reads, 2 writes, 3 both), capacities of input and output in
+    /// bytes, and code.
     pub fn new(
         name: String,
         flags: u8,

@@ -129,7 +129,8 @@ impl Arithmetic {
     }
 }
 
-/// A copy with sign extension (RFC 9669 section 4.1, MOVSX): how much is copied, and to how many bits.
+/// A copy with sign extension (RFC 9669 section 4.1, MOVSX): how much is copied, and to how many
+/// bits.
 #[derive(Clone, Copy, PartialEq, Eq)]
 pub enum SignedMove {
     Byte64,

@@ -7,7 +7,8 @@ use crate::operation::{Arithmetic, ByteOrder, Comparison, EndWidth, OpWidth, Sig
 use crate::register::Register;
 use crate::slot::Slot;
 
-/// A row of the table of opcodes (RFC 9669 sections 4 and 5): which fields an instruction uses, and how.
+/// A row of the table of opcodes (RFC 9669 sections 4 and 5): which fields an instruction uses, and
+/// how.
 #[derive(Clone, Copy)]
 pub enum OpcodeRow {
     AluImmediate(OpWidth, Arithmetic),
@@ -152,7 +153,8 @@ impl OpcodeRow {
         }
     }
 
-    /// Whether the fields that it doesn't use are zero, and a selecting field has a value of an instruction.
+    /// Whether the fields that it doesn't use are zero, and a selecting field has a value of an
+    /// instruction.
     #[rattlefmt::skip]
     pub fn allows(self, slot: &Slot) -> bool
         ensures { result ≡ fields_allowed self slot.now }
@@ -176,8 +178,8 @@ impl OpcodeRow {
         }
     }
 
-    /// The high half of a wide load, from the bytes after its first slot: `None` if they are no second half.
-    /// Every other row has 0.
+    /// The high half of a wide load, from the bytes after its first slot: `None` if they are no
+    /// second half. Every other row has 0.
     #[rattlefmt::skip]
     pub fn high_half(self, bytes: &[u8]) -> Option<u32>
         ensures { result ≡ high_half self bytes.now }

@@ -1,4 +1,5 @@
--- What helpers read and write, and the memory as a method begins, are those of one memory by address.
+-- What helpers read and write, and the memory as a method begins, are those of one memory by
+-- address.
 use Rattle.std.proofs.Common.{◌≡◌, ℕ, ◌+◌, ◌-◌, ◌<◌, ◌≤◌, List, [], ◌∷◌, Option, Some, None, Bool, true, false, replicate, refl, ap, ◌∙◌, sym, subst, arith, length, length-append, inl, inr}
 use Rattle.std.specs.Prelude.{slice_get, if◌then◌else◌, ◌==◌}
 use Rattle.std.proofs.lemmas.Bool.{eqb-true, cases_lt}

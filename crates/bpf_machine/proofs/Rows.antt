@@ -1,4 +1,5 @@
--- The table, row by row: an instruction's bytes do what the instruction does, and that is the image of the typed step.
+-- The table, row by row: an instruction's bytes do what the instruction does, and that is the image
+-- of the typed step.
 use Rattle.std.proofs.Common.{◌≡◌, ℕ, List, ◌++◌, Option, Some, None, refl, arith}
 use Rattle.bpf_decode.specs.declared.access.Width.TheVariants.{Byte, Half, Word, Double}
 use Rattle.bpf_decode.specs.declared.access.SignedWidth.TheVariants as signed

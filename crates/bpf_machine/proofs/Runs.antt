@@ -44,7 +44,8 @@ module _ (caps : Caps) (lay : Layout) (ok : IsLayout caps lay) (before : PlainOb
       ap (λ x. goes_on x more') (s.by t refl).1 ∙ ap one_more (r t o l.0 l.1) ∙ ap (Ended o) l.2
 
   module _ (is : List Insn) (fit : AllFit is) where
-    -- an exit of the typed machine is one of the flat machine; elsewhere the typed one makes a step, so the flat one does, and is at no exit
+    -- an exit of the typed machine is one of the flat machine; elsewhere the typed one makes a
+    -- step, so the flat one does, and is at no exit
     here : (s : Typed) (more : Typed → Ending) (more' : State ℕ → Ending) (o : Outcome) (k : ℕ) (a : Option ℕ) (b : Option ℕ) (c : Option Typed) (d : Option (State ℕ)) → exit_code (spelling is) (image lay s) ≡ b → step caps lay (spelling is) (image lay s) ≡ d → Sim Any same a b → Sim Any (image lay) c d → Rest more more' → typed_ends before s a (goes_on c more) ≡ Ended o k → ends before (image lay s) b (goes_on d more') ≡ Ended o k
     here s more more' o k (Some v) b c d x y p q r h = ap (λ v. ends before (image lay s) v (goes_on d more')) (p.by v refl).1 ∙ h
     here s more more' o k None None c d x y p q r h = goes c d more more' o k q r h

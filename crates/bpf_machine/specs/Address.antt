@@ -10,7 +10,8 @@ use Rattle.bpf_machine.specs.State.{◌>>=◌, le_value, le_bytes, Memory, cells
 use Rattle.bpf_machine.specs.Flat.{Layout, base, IsIn, IsLayout, find, load, load_signed, store, range}
 use Rattle.bpf_machine.specs.Helper.{bytes_in, write_room}
 
--- the byte at an address: that of the region which has the address, at its place there; none outside of the regions
+-- the byte at an address: that of the region which has the address, at its place there; none
+-- outside of the regions
 abbrev pub byte_at : Caps → Layout → Memory → ℕ → Option ℕ
 byte_at caps lay m at = find caps lay at 1 >>= λ p. slice_get (cells m p.0) p.1
 
@@ -27,7 +28,8 @@ pub record Reads (caps : Caps) (lay : Layout) (m : Memory) (at w : ℕ) (bytes :
   pub count : length bytes ≡ w
   pub stand : StandsAt caps lay m at bytes
 
--- what a store does: its bytes stand at its address, at every other address stands what stood there, and nothing else changes
+-- what a store does: its bytes stand at its address, at every other address stands what stood
+-- there, and nothing else changes
 pub record Writes (caps : Caps) (lay : Layout) (at : ℕ) (bytes : List ℕ) (s t : State ℕ) : Type 0 where
   pub stand : StandsAt caps lay t.memory at bytes
   pub others : (a : ℕ) → ((at ≤ a) × (a < at + length bytes) → ⊥) → byte_at caps lay t.memory a ≡ byte_at caps lay s.memory a
@@ -63,19 +65,22 @@ StoresAreAtAddresses =
     (caps : Caps) (lay : Layout) → IsLayout caps lay → (w at n : ℕ) (s t : State ℕ) → IsMemory caps s.memory → store caps lay w at n s ≡ Some t →
     Writes caps lay at (le_bytes w n) s t
 
--- What a helper reads of a range is the bytes at its addresses. A range of no bytes has none, wherever it begins.
+-- What a helper reads of a range is the bytes at its addresses. A range of no bytes has none,
+-- wherever it begins.
 abbrev pub RangesAreOfAddresses : Type 0
 RangesAreOfAddresses =
     (caps : Caps) (lay : Layout) → IsLayout caps lay → (at n : ℕ) (m : Memory) (place : Option (Region × ℕ)) → IsMemory caps m → range caps lay false at n ≡ Some place →
     Reads caps lay m at n (bytes_in m place n)
 
--- What a helper writes into a range, no more bytes than that has, stands at its addresses, and no other byte changes.
+-- What a helper writes into a range, no more bytes than that has, stands at its addresses, and no
+-- other byte changes.
 abbrev pub RoomsAreAtAddresses : Type 0
 RoomsAreAtAddresses =
     (caps : Caps) (lay : Layout) → IsLayout caps lay → (at n : ℕ) (s : State ℕ) (place : Option (Region × ℕ)) (bytes : List ℕ) → IsMemory caps s.memory → range caps lay true at n ≡ Some place → length bytes ≤ n →
     Writes caps lay at bytes s (record s { memory = write_room s.memory place bytes })
 
--- a memory in which these bytes stand at the input's address, and 0 at every other address of a region
+-- a memory in which these bytes stand at the input's address, and 0 at every other address of a
+-- region
 pub record Opens (caps : Caps) (lay : Layout) (m : Memory) (input : List ℕ) : Type 0 where
   pub lengths : IsMemory caps m
   pub begins : StandsAt caps lay m (base lay Input) input

@@ -1,5 +1,5 @@
--- The slots of the typed machine's stack: eight cells each, at the places that are multiples of 8. What stands in them,
--- and what accesses leave of it.
+-- The slots of the typed machine's stack: eight cells each, at the places that are multiples of 8.
+-- What stands in them, and what accesses leave of it.
 use Rattle.std.specs.Prelude.{◌≡◌, ℕ, zero, suc, ◌+◌, ◌*◌, ◌^◌, ◌<◌, ◌≤◌, List, [], ◌∷◌, Option, Some, None, take, drop, length, replicate, slice_get}
 use Rattle.bpf_decode.specs.declared.value.Value.{Value}
 use Rattle.bpf_decode.specs.declared.value.Value.TheVariants.{Num, Ptr}
@@ -8,7 +8,8 @@ use Rattle.object_store.specs.Object.{AreBytes}
 use Rattle.bpf_machine.specs.State.{le_value, le_bytes}
 use Rattle.bpf_machine.specs.Typed.{Cell, Byte, PartOf, as_cells, parts_of, place_of, plain_bytes, number_or, over}
 
--- what the cells of a slot are: a number, or a place; neither, where a place was overwritten in part
+-- what the cells of a slot are: a number, or a place; neither, where a place was overwritten in
+-- part
 abbrev pub slot_of : List Cell → Option Value
 slot_of cs = number_or (plain_bytes cs) (place_of cs)
 
@@ -67,8 +68,8 @@ pub record Leaves (count : ℕ) (cs : List Cell) (at w : ℕ) (ds : List Cell) :
   pub stack : IsStack count ds
   pub others : (j : ℕ) → j < count → (Touches at w j → ⊥) → slot_value ds j ≡ slot_value cs j
 
--- Bytes that are written over slots leave the other slots as they were, and every number a number; over a slot they are its
--- number.
+-- Bytes that are written over slots leave the other slots as they were, and every number a number;
+-- over a slot they are its number.
 pub record LeavesNumbers (count : ℕ) (cs : List Cell) (at : ℕ) (bytes : List ℕ) (ds : List Cell) : Type 0 where
   pub rest : Leaves count cs at (length bytes) ds
   pub numbers : (j : ℕ) → j < count → IsNumber (slot_value cs j) → IsNumber (slot_value ds j)

@@ -13,7 +13,8 @@ pub record IsWithinLimits (caps : Caps) (outcome : Outcome) : Type 0 where
   pub bytes : AreBytes outcome.output
   pub short : length outcome.output ≤ caps.out_cap
 
--- The outcome of every run that began within the limits, in regions as long as a method may have them.
+-- The outcome of every run that began within the limits, in regions as long as a method may have
+-- them.
 abbrev pub OutcomesAreWithinLimits : Type 0
 OutcomesAreWithinLimits =
     (caps : Caps) (lay : Layout) (code : List ℕ) (before : PlainObject) (caller : ℕ) (input : List ℕ) (count : ℕ) (outcome : Outcome) (steps : ℕ) →

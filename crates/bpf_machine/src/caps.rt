@@ -5,7 +5,8 @@ ghost use Rattle.bpf_machine.specs.Safe.{caps_of};
 use crate::limits::STACK_SIZE;
 use bpf_decode::{Method, Region};
 
-/// What a method declares: the lengths of its regions in bytes, and whether it may change the object.
+/// What a method declares: the lengths of its regions in bytes, and whether it may change the
+/// object.
 #[derive(Clone, Copy, PartialEq, Eq)]
 pub struct Caps {
     pub in_cap: u16,

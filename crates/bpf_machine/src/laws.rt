@@ -5,28 +5,30 @@ ghost use Rattle.bpf_machine.specs.Within.{OutcomesAreWithinLimits, CallsAreWith
 
 use helpers::effects_are_within_limits;
 
-/// A law, proved when the crate is checked; a call does nothing. Where the typed machine's run of a method's instructions
-/// ends, the flat machine's run of their bytes ends with the same outcome, after as many steps, in every layout of the
-/// regions: so in the first layout too, in which the interpreter runs it. A method whose typed runs all end is safe.
+/// A law, proved when the crate is checked; a call does nothing. Where the typed machine's run of a
+/// method's instructions ends, the flat machine's run of their bytes ends with the same outcome,
+/// after as many steps, in every layout of the regions: so in the first layout too, in which the
+/// interpreter runs it. A method whose typed runs all end is safe.
 pub fn simulation()
     ensures simulates { Simulates }
     ensures safe { EndsAlwaysIsSafe }
 {}
 
-/// A law. A run by counting ends exactly where the chain of its steps ends at an exit within the count, never stuck.
+/// A law. A run by counting ends exactly where the chain of its steps ends at an exit within the
+/// count, never stuck.
 pub fn chains()
     ensures { RunsAreChains }
 {}
 
-/// A law. A run by counting is stuck exactly where the chain of its steps reaches a stuck state within the count, and
-/// wants more steps exactly where there is a chain of as many as are counted.
+/// A law. A run by counting is stuck exactly where the chain of its steps reaches a stuck state
+/// within the count, and wants more steps exactly where there is a chain of as many as are counted.
 pub fn other_runs()
     ensures stuck { StuckRunsAreChains }
     ensures unfinished { UnfinishedRunsAreChains }
 {}
 
-/// A law. Where an instruction begins, the step on the bytes is the instruction's. Where none begins, in a wide load's
-/// second half or past the end, the machine is stuck.
+/// A law. Where an instruction begins, the step on the bytes is the instruction's. Where none
+/// begins, in a wide load's second half or past the end, the machine is stuck.
 pub fn decoded()
     ensures begins { BytesAreInstructions }
     ensures elsewhere { ElsewhereIsStuck }
@@ -42,10 +44,11 @@ pub fn outcomes()
     ensures { OutcomesAreOne }
 {}
 
-/// A law. The three regions are one memory: the byte at an address is that of the region which has the address; a load
-/// is the little-endian value of the bytes at its addresses; a store changes the bytes at its addresses and no other. So
-/// do a helper's ranges: it reads the bytes at the addresses of one, and changes those at the addresses of another. As a
-/// method begins, its input stands at the input's address, and 0 at every other address of a region.
+/// A law. The three regions are one memory: the byte at an address is that of the region which has
+/// the address; a load is the little-endian value of the bytes at its addresses; a store changes
+/// the bytes at its addresses and no other. So do a helper's ranges: it reads the bytes at the
+/// addresses of one, and changes those at the addresses of another. As a method begins, its input
+/// stands at the input's address, and 0 at every other address of a region.
 pub fn addresses()
     ensures places { PlacesAreAddresses }
     ensures elsewhere { NoByteElsewhere }
@@ -57,9 +60,10 @@ pub fn addresses()
     ensures opening { OpeningIsAtAddresses }
 {}
 
-/// A law. The typed machine's stack in slots of eight bytes: as a method begins, each is the number 0; bytes alone are read
-/// of slots that are numbers; a write changes the slots that it touches, leaves numbers if it writes bytes, and over a
-/// whole slot leaves the number, or the place, that it writes.
+/// A law. The typed machine's stack in slots of eight bytes: as a method begins, each is the number
+/// 0; bytes alone are read of slots that are numbers; a write changes the slots that it touches,
+/// leaves numbers if it writes bytes, and over a whole slot leaves the number, or the place, that
+/// it writes.
 pub fn slots()
     ensures values { SlotsHaveValues }
     ensures begin { SlotsBeginAtZero }
@@ -69,8 +73,9 @@ pub fn slots()
     ensures numbers { NumbersAreTheirBytes }
 {}
 
-/// A law. Beside an object within all limits, on an input of bytes, a run that ends leaves an object within all limits,
-/// and at most out_cap bytes of output; so does a call. The capacities are such as a method may declare.
+/// A law. Beside an object within all limits, on an input of bytes, a run that ends leaves an
+/// object within all limits, and at most out_cap bytes of output; so does a call. The capacities
+/// are such as a method may declare.
 pub fn limits_are_kept()
     ensures runs { OutcomesAreWithinLimits }
     ensures calls { CallsAreWithinLimits }

@@ -1,6 +1,7 @@
-//! What a method's bytes mean. The flat machine reads raw slots and plain addresses; the typed machine runs decoded
-//! instructions over numbers and places. The laws: what the typed machine does, the flat one does wherever the regions
-//! lie, so a method whose typed runs end is safe. The flat machine as a program is the crate `flat_machine`.
+//! What a method's bytes mean. The flat machine reads raw slots and plain addresses; the typed
+//! machine runs decoded instructions over numbers and places. The laws: what the typed machine
+//! does, the flat one does wherever the regions lie, so a method whose typed runs end is safe. The
+//! flat machine as a program is the crate `flat_machine`.
 #![tactic(auto)]
 
 mod caps;

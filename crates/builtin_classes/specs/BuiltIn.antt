@@ -12,7 +12,8 @@ use Rattle.verifier.specs.declared.refusal.Refusal.{Refusal}
 use Rattle.builtin_classes.specs.declared.failure.BuiltInFailure.{BuiltInFailure}
 use Rattle.builtin_classes.specs.declared.failure.BuiltInFailure.TheVariants.{NoMemory, Text, Verdict}
 
--- the methods are those of the class that the text is, the verifier accepts it, and each method is safe
+-- the methods are those of the class that the text is, the verifier accepts it, and each method is
+-- safe
 pub record IsLoaded (text : List ℕ) (class : List ClassMethod) : Type 0 where
   pub written : Class
   pub read : IsClassText text written
@@ -34,7 +35,8 @@ pub record IsRefused (text : List ℕ) (refusal : Refusal) : Type 0 where
   pub read : IsClassText text class
   pub verdict : class_verdict class ≡ Some refusal
 
--- Why the class of a text can't be had: memory was refused, or the text is no class's, or the class is refused.
+-- Why the class of a text can't be had: memory was refused, or the text is no class's, or the class
+-- is refused.
 abbrev pub LoadFails : List ℕ → BuiltInFailure → Type 0
 LoadFails text NoMemory = ⊤
 LoadFails text (Text error) = read_class_text text ≡ Err error

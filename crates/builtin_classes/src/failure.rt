@@ -7,7 +7,8 @@ use std::error::Error;
 use std::fmt;
 use verifier::Refusal;
 
-/// Why a built-in class can't be had. A text that is no class and a class that is not safe are faults of this crate.
+/// Why a built-in class can't be had. A text that is no class and a class that is not safe are
+/// faults of this crate.
 #[derive(Clone, Copy, Debug, PartialEq, Eq)]
 pub enum BuiltInFailure {
     /// Memory was refused.

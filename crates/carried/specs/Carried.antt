@@ -12,8 +12,8 @@ use Rattle.carried.specs.declared.operation.Carried.{Carried}
 use Rattle.carried.specs.declared.operation.Carried.TheVariants.{Plain, Query, Log}
 use Rattle.carried.specs.declared.operation.ShortLog.{ShortLog}
 
--- PACKING. A sender that has committed that many entries says so in a question for a list. A list goes without its first
--- requests, as many as its receiver reported.
+-- PACKING. A sender that has committed that many entries says so in a question for a list. A list
+-- goes without its first requests, as many as its receiver reported.
 abbrev pub carried_as : ℕ → ℕ → Party → MessageKind → Carried
 carried_as committed reported sender (QueryOf map) = Query sender map committed
 carried_as committed reported sender (LogOf interval list) = Log (record { sender = sender; interval = interval; log = packed list reported })
@@ -29,7 +29,8 @@ reported_of (Query sender map reported) = reported
 reported_of (Plain event) = 0
 reported_of (Log short) = 0
 
--- UNPACKING. A list has its beginning from the receiver's own log; where that is too short, it is lost.
+-- UNPACKING. A list has its beginning from the receiver's own log; where that is too short, it is
+-- lost.
 abbrev pub whole_list : List ClientRequest → ShortLog → Option Event
 whole_list local m = if nat_lt (length local) m.log.common then None
     else Some (AMessage (record { sender = m.sender; kind = LogOf m.interval (spread local m.log) }))

@@ -1,4 +1,5 @@
-//! Which of the values here may go to another thread, for the proofs of the crates above. The functions do nothing.
+//! Which of the values here may go to another thread, for the proofs of the crates above. The
+//! functions do nothing.
 ghost use denote.Param.Send.{IsSend};
 ghost use Rattle.carried.specs.contracts.operation.Carried as carried;
 ghost use Rattle.carried.specs.contracts.operation.Operation as operation;

@@ -30,8 +30,9 @@ fn carry(committed: usize, reported: usize, sender: Party, kind: MessageKind) ->
     }
 }
 
-/// A message of a node as it is carried, and its receiver. A question for a list says how much the sender has committed; a
-/// list goes without its first `reported` requests, which its receiver has; the others are shared. It takes no memory.
+/// A message of a node as it is carried, and its receiver. A question for a list says how much the
+/// sender has committed; a list goes without its first `reported` requests, which its receiver has;
+/// the others are shared. It takes no memory.
 pub fn pack(committed: usize, reported: usize, packet: Packet) -> (Party, Carried)
     ensures { result ≡ packed_as committed reported packet }
 {

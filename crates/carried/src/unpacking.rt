@@ -52,8 +52,9 @@ fn whole_list(alloc: Global, local: &[Entry], short: ShortLog) -> Result<Option<
     Ok(Some(Event::Message(Message { sender, kind })))
 }
 
-/// The event that comes to a node whose log is `local`. A list gets its beginning from there; if that is too short it is
-/// lost, and nothing comes. It fails for want of memory alone, and that for a list alone.
+/// The event that comes to a node whose log is `local`. A list gets its beginning from there; if
+/// that is too short it is lost, and nothing comes. It fails for want of memory alone, and that for
+/// a list alone.
 pub fn event_of(alloc: Global, local: &[Entry], carried: Carried) -> Result<Option<Event>, NoMemory>
     ensures { IfOk result (λ e. e ≡ unpacked_as (requests_of local.now) carried) }
 {

@@ -26,8 +26,8 @@ answer_text (Ran reply) = reply_text reply
 answer_text Assembled = []
 answer_text (Disassembled text) = string_bytes text
 
--- The answer is one to that action, true of the files as they were; none was written but the one that is named for the
--- image of a text or of raw code.
+-- The answer is one to that action, true of the files as they were; none was written but the one
+-- that is named for the image of a text or of raw code.
 abbrev pub Settles : Storage → Storage → Action → Answer → Type 0
 Settles before after (Verify image) (Accepted class) = (after ≡ before) × IsSafeIn before.disk image.now class
 Settles before after (Run call) (Ran reply) = (after ≡ before) × Reports before.disk call reply

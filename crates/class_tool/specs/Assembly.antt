@@ -22,7 +22,8 @@ pub record IsSourceIn (disk : Option Disk) (name : List ℕ) (bytes : List ℕ) 
   pub held : Holds disk name text
   pub spells : Spells text bytes
 
--- The one file holds a class's text. Then the other holds the image of that class, and every other file is as it was.
+-- The one file holds a class's text. Then the other holds the image of that class, and every other
+-- file is as it was.
 pub record Assembles (before after : Storage) (text image : List ℕ) : Type 0 where
   pub bytes : List ℕ
   pub source : IsSourceIn before.disk text bytes
@@ -78,7 +79,8 @@ pub record WriteFails (before after : Storage) (text image : List ℕ) (failure 
   pub source : IsSourceIn before.disk text bytes
   pub fails : FailsToWrite before after image
 
--- Why no image was written, in the order in which it is tried. Before the write every file is as it was.
+-- Why no image was written, in the order in which it is tried. Before the write every file is as it
+-- was.
 abbrev pub AssembleFails : Storage → Storage → List ℕ → List ℕ → Failure → Type 0
 AssembleFails before after text image failure =
     ((after ≡ before) × (TextFails before.disk text failure ⊎ SourceFails before.disk text failure)) ⊎ WriteFails before after text image failure

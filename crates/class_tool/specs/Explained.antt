@@ -21,7 +21,8 @@ abbrev pub IsLoadNote : Option Disk → List ℕ → Failure → List ℕ → Ty
 IsLoadNote disk name (failure.Verdict refusal) note = IsRefusalNote disk name refusal note
 IsLoadNote disk name why note = note ≡ []
 
--- of a file that can't be read or written what the system says of it, of which nothing is claimed, and else nothing
+-- of a file that can't be read or written what the system says of it, of which nothing is claimed,
+-- and else nothing
 abbrev pub IsFileNote : Failure → List ℕ → Type 0
 IsFileNote failure.CannotRead note = ⊤
 IsFileNote failure.CannotWrite note = ⊤
@@ -33,8 +34,8 @@ IsVerifyNote disk name failure.CannotRead note = ⊤
 IsVerifyNote disk name failure.CannotWrite note = ⊤
 IsVerifyNote disk name why note = IsLoadNote disk name why note
 
--- The note of a failure: where and why `verify` refuses a class; the name of a file that could not be read or written, and
--- the system's reason.
+-- The note of a failure: where and why `verify` refuses a class; the name of a file that could not
+-- be read or written, and the system's reason.
 abbrev pub IsNote : Option Disk → Action → Failure → List ℕ → Type 0
 IsNote disk (action.Verify image) why note = IsVerifyNote disk image.now why note
 IsNote disk (action.Run call) why note = IsFileNote why note

@@ -66,8 +66,8 @@ abbrev pub there : Result Content Failure → Result PlainObject Failure
 there (Ok content) = Ok (Some content)
 there (Err e) = Err e
 
--- The object before a call: none without data, xattrs and keys. The first refusal is of the data, then of the xattrs,
--- then of the keys, each in order.
+-- The object before a call: none without data, xattrs and keys. The first refusal is of the data,
+-- then of the xattrs, then of the keys, each in order.
 abbrev pub object_in : Option (Bor (List ℕ)) → List Entry → List Entry → Result PlainObject Failure
 object_in (Some text) xattrs keys = there (content_in text.now xattrs keys)
 object_in None [] [] = Ok None

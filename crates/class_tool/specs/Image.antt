@@ -19,7 +19,8 @@ pub record IsImageIn (disk : Option Disk) (name : List ℕ) (class : Class) : Ty
   pub held : Holds disk name bytes
   pub image : IsImage bytes class
 
--- the methods are those of a class whose image the file holds, no rule refuses it, and each method is safe
+-- the methods are those of a class whose image the file holds, no rule refuses it, and each method
+-- is safe
 pub record IsSafeIn (disk : Option Disk) (name : List ℕ) (class : List ClassMethod) : Type 0 where
   pub written : Class
   pub image : IsImageIn disk name written
@@ -39,7 +40,8 @@ pub record IsVerdictIn (disk : Option Disk) (name : List ℕ) (refusal : Refusal
   pub image : IsImageIn disk name class
   pub verdict : (refusal ≡ out_of_memory) ⊎ (class_verdict class ≡ Some refusal)
 
--- Why no class was read: the file can't be read, memory was refused, or the file's bytes are refused.
+-- Why no class was read: the file can't be read, memory was refused, or the file's bytes are
+-- refused.
 abbrev pub ReadFails : Option Disk → List ℕ → Failure → Type 0
 ReadFails disk name CannotRead = IsUnreadable disk name
 ReadFails disk name CannotWrite = ⊥

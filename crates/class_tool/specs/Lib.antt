@@ -1,6 +1,7 @@
--- A reader must believe Files (what files hold, and what a write changes), Image, Assembly, Packing, Run and Answer (what each
--- command answers, and why it fails), Given (the object that words spell), Log and Reply (which call a reply is of, and what is
--- printed of it), Shown, Failure, Note and Explained (the other texts). Output and System name two fields for contracts.
+-- A reader must believe Files (what files hold, and what a write changes), Image, Assembly,
+-- Packing, Run and Answer (what each command answers, and why it fails), Given (the object that
+-- words spell), Log and Reply (which call a reply is of, and what is printed of it), Shown,
+-- Failure, Note and Explained (the other texts). Output and System name two fields for contracts.
 pub mod Answer
 pub mod Assembly
 pub mod Explained

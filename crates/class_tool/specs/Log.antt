@@ -38,8 +38,8 @@ IsCallRefusal NoClass = ⊥
 IsCallRefusal NoMethod = ⊤
 IsCallRefusal InputTooLong = ⊤
 
--- why a method of a class isn't called on an input: there is none of that name, the input is longer than it takes, or
--- memory was refused
+-- why a method of a class isn't called on an input: there is none of that name, the input is longer
+-- than it takes, or memory was refused
 abbrev pub CallRefused : List ClassMethod → List ℕ → List ℕ → CallError → Type 0
 CallRefused class method input call.NoMethod = method_named class method ≡ None
 CallRefused class method input call.InputTooLong = InputPasses class method input

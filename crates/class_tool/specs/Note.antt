@@ -115,7 +115,8 @@ head_text m = codes "  method " ++ m.name ++ codes ", IN " ++ decimal m.in_cap +
 abbrev pub wanted_text : Rule → List ℕ
 wanted_text rule = codes "  wanted: " ++ wanted rule ++ codes "\n  see docs/VERIFIER.md, " ++ rule_text rule ++ codes "\n"
 
--- the method, the instruction, what is known of the registers that it reads, what the rule wants, and the page
+-- the method, the instruction, what is known of the registers that it reads, what the rule wants,
+-- and the page
 abbrev pub slot_text : ClassMethod → Rule → Insn → Option PlainFrame → List ℕ
 slot_text m rule i known = head_text m ++ canonical_text (i ∷ []) ++ known_text i known ++ wanted_text rule
 

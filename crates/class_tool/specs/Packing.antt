@@ -20,7 +20,8 @@ pub record IsCodeIn (disk : Option Disk) (name : List ℕ) (instructions : List 
   pub held : Holds disk name bytes
   pub code : IsCode bytes instructions
 
--- the method has the name, the flags and the capacities that were asked for, and the code that the file holds
+-- the method has the name, the flags and the capacities that were asked for, and the code that the
+-- file holds
 pub record IsMethodIn (disk : Option Disk) (raw : RawMethod) (method : ClassMethod) : Type 0 where
   pub code : IsCodeIn disk raw.code.now method.instructions
   pub name : method.name ≡ raw.name.now
@@ -76,7 +77,8 @@ pub record MethodsFail (disk : Option Disk) (raws : List RawMethod) (failure : F
   pub read : AreMethodsIn disk first methods
   pub why : CodeFails disk next.code.now (length first) failure
 
--- Why methods have no image: memory was refused, or they are no class, by the first refusal in the order of its fields.
+-- Why methods have no image: memory was refused, or they are no class, by the first refusal in the
+-- order of its fields.
 abbrev pub ClassFails : RuleSet → List ClassMethod → Failure → Type 0
 ClassFails rules methods CannotRead = ⊥
 ClassFails rules methods CannotWrite = ⊥
@@ -102,7 +104,8 @@ pub record PackWriteFails (before after : Storage) (asked : Packing) (failure : 
   pub packed : IsPackedOf before.disk asked.rules asked.methods.items bytes
   pub fails : FailsToWrite before after asked.image.now
 
--- Why no image was written, in the order in which it is tried. Before the write every file is as it was.
+-- Why no image was written, in the order in which it is tried. Before the write every file is as it
+-- was.
 abbrev pub PackFails : Storage → Storage → Packing → Failure → Type 0
 PackFails before after asked failure =
     ((after ≡ before) × (MethodsFail before.disk asked.methods.items failure ⊎ PackedFails before.disk asked.rules asked.methods.items failure)) ⊎ PackWriteFails before after asked failure

@@ -45,14 +45,15 @@ pub record IsReplyOf (is_shown : Bool) (logged : Logged) (outcome : Outcome) (re
 abbrev pub IsOneOutcome : Outcome → Logged → Type 0
 IsOneOutcome outcome logged = (logged.code ≡ outcome.code) × (logged.output.items ≡ outcome.output.items)
 
--- On no object it is what a group whose one request is this call replies. A group can't be given an object.
+-- On no object it is what a group whose one request is this call replies. A group can't be given an
+-- object.
 abbrev pub IsReplied : PlainObject → List ClassMethod → ClientRequest → Logged → Type 0
 IsReplied None class r logged = IsLogged class r logged
 IsReplied (Some object) class r logged = ⊤
 
--- A reply tells what the method's bytes do on the flat machine, in every layout, on the object that is spelled; and
--- where there is none, what a group whose one request is this call replies, which is the same outcome. The class is safe,
--- and is the one whose image the file holds.
+-- A reply tells what the method's bytes do on the flat machine, in every layout, on the object that
+-- is spelled; and where there is none, what a group whose one request is this call replies, which
+-- is the same outcome. The class is safe, and is the one whose image the file holds.
 pub record Reports (disk : Option Disk) (call : Call) (reply : Reply) : Type 0 where
   pub class : List ClassMethod
   pub input : List ℕ

@@ -14,7 +14,8 @@ or_dash (digit ∷ digits) = digit ∷ digits
 abbrev pub is_printable : ℕ → Bool
 is_printable b = nat_le 33 b && (nat_le b 126 && not (b == 61))
 
--- a name is printed as text where that can be read again as the same name, else in hexadecimal after 0x
+-- a name is printed as text where that can be read again as the same name, else in hexadecimal
+-- after 0x
 abbrev pub is_text : List ℕ → Bool
 is_text name = not (slice_index name 0 == 48 && slice_index name 1 == 120) && not (list_any (λ b. not (is_printable b)) name)
 

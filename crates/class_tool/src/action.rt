@@ -21,7 +21,8 @@ pub struct Call<'a> {
     pub input: &'a str,
     /// Who calls.
     pub caller: ClientId,
-    /// The object's data before the call, in hexadecimal. Without data, xattrs and keys there is no object.
+    /// The object's data before the call, in hexadecimal. Without data, xattrs and keys there is no
+    /// object.
     pub data: Option<&'a str>,
     /// Its xattrs, set in this order.
     pub xattrs: Vec<Entry<'a>>,

@@ -48,8 +48,8 @@ fn image_in<F: Reads>(alloc: Global, files: &F, name: &str) -> Result<Vec<u8>, F
     image_of(alloc, &text)
 }
 
-/// Writes the image of the class whose text the one file holds to the other, which may be the same one. Nothing is
-/// written before the text is read whole and known to be right.
+/// Writes the image of the class whose text the one file holds to the other, which may be the same
+/// one. Nothing is written before the text is read whole and known to be right.
 pub fn assemble<F: Files>(
     alloc: Global,
     files: &mut F,
@@ -83,7 +83,8 @@ fn text_of(alloc: Global, class: &ClassImage, has_slots: bool) -> Result<String,
     }
 }
 
-/// The canonical text of the class whose image a file holds, with each instruction's slot or without.
+/// The canonical text of the class whose image a file holds, with each instruction's slot or
+/// without.
 pub fn disassemble<F: Reads>(
     alloc: Global,
     files: &F,

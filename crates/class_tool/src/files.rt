@@ -28,22 +28,23 @@ pub trait Files: Reads {
     // Whether a write failed.
     ghost failed: { Self → Bool };
 
-    /// Makes those bytes the whole of the file of that name. Every other file stays as it was, also where it fails, which
-    /// `failed` tells from then on.
+    /// Makes those bytes the whole of the file of that name. Every other file stays as it was, also
+    /// where it fails, which `failed` tells from then on.
     fn write(&mut self, name: &str, bytes: &[u8]) -> io::Result<()>
         ensures written { IfOk result (λ _. IsWritten (Self.disk self.new) name.now bytes.now) }
         ensures others { OthersStay (Self.disk self.old) (Self.disk self.new) name.now }
         ensures took { IsOk result → failed self.new ≡ failed self.old }
         ensures lost { IsErr result → failed self.new ≡ true };
 
-    /// The name of the file that was last not read or written, and the system's reason, as a line; none where that isn't
-    /// known. Nothing is claimed of it.
+    /// The name of the file that was last not read or written, and the system's reason, as a line;
+    /// none where that isn't known. Nothing is claimed of it.
     fn fault(&self, _alloc: Global) -> Option<String> {
         None
     }
 }
 
-/// The files of the system, and standard input under the name `-`, where it is read. Nothing is claimed of what they hold.
+/// The files of the system, and standard input under the name `-`, where it is read. Nothing is
+/// claimed of what they hold.
 #[derive(Drop)]
 pub struct SystemFiles<'a, R> {
     rt: &'a R,

@@ -118,7 +118,8 @@ fn content_in(
     with_entries(alloc, Part::Keys, object, keys)
 }
 
-/// The object before a call, or the first refusal: of its data, then of its xattrs, then of its keys.
+/// The object before a call, or the first refusal: of its data, then of its xattrs, then of its
+/// keys.
 pub(crate) fn object_before(alloc: Global, asked: &Call<'_>) -> Result<Option<Object>, Failure>
     ensures { Gives (λ o. o) result (object_before asked.now) }
 {

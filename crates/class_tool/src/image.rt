@@ -7,8 +7,8 @@ use bpf_decode::{ClassImage, IMAGE_LIMIT, beginning, read_image};
 use std::alloc::Global;
 use verifier::{VerifiedClass, verify};
 
-/// The class whose image a file holds. Of a file that is longer than any image, one byte more than an image may have is
-/// read, which changes no answer.
+/// The class whose image a file holds. Of a file that is longer than any image, one byte more than
+/// an image may have is read, which changes no answer.
 pub fn read_class<F: Reads>(alloc: Global, files: &F, image: &str) -> Result<ClassImage, Failure>
     ensures read { IfOk result (IsImageIn (F.disk files.now) image.now) }
     ensures fails { IfErr result (ReadFails (F.disk files.now) image.now) }
@@ -25,7 +25,8 @@ pub fn read_class<F: Reads>(alloc: Global, files: &F, image: &str) -> Result<Cla
     }
 }
 
-/// The class whose image a file holds, where it is safe: each method runs to its exit on every object and input.
+/// The class whose image a file holds, where it is safe: each method runs to its exit on every
+/// object and input.
 pub fn load<F: Reads>(alloc: Global, files: &F, image: &str) -> Result<VerifiedClass, Failure>
     ensures safe { IfOk result (IsSafeIn (F.disk files.now) image.now) }
     ensures fails { IfErr result (LoadFails (F.disk files.now) image.now) }

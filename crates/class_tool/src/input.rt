@@ -5,7 +5,8 @@ use crate::failure::Failure;
 use hex::FromHexError;
 use std::alloc::Global;
 
-/// The bytes that pairs of hexadecimal digits stand for, in either case. Of no digits it gives no bytes.
+/// The bytes that pairs of hexadecimal digits stand for, in either case. Of no digits it gives no
+/// bytes.
 pub fn decode_input(alloc: Global, text: &str) -> Result<Vec<u8>, Failure>
     ensures ok { IfOk result (λ bytes. decode_of text.now ≡ Ok bytes.items) }
     ensures err { IfErr result (λ e. (e ≡ Failure.NoMemory) ⊎ ((e ≡ Failure.InputNotHex) × IsErr (decode_of text.now))) }

@@ -1,7 +1,8 @@
-//! What the program `radoscls` does once its words are read: `find` tells whether a class is safe, calls a method of one,
-//! writes the image of a text or of raw code, or gives the text of an image. Its answer is true of the files as they were,
-//! and a failure says why, the first reason in a stated order. Only an image is written, to the file that is named for it,
-//! and only where it is right. An answer and a failure print as the lines of `answer_text` and `failure_text`.
+//! What the program `radoscls` does once its words are read: `find` tells whether a class is safe,
+//! calls a method of one, writes the image of a text or of raw code, or gives the text of an image.
+//! Its answer is true of the files as they were, and a failure says why, the first reason in a
+//! stated order. Only an image is written, to the file that is named for it, and only where it is
+//! right. An answer and a failure print as the lines of `answer_text` and `failure_text`.
 #![tactic(auto)]
 
 mod action;

@@ -85,8 +85,8 @@ fn call_error(error: LogError) -> CallError
     }
 }
 
-/// Appends a call to an empty group of that class alone, as the caller's first request, on the object `o`; and gives
-/// what the log then has of it. A refusal is that of a call of the same name.
+/// Appends a call to an empty group of that class alone, as the caller's first request, on the
+/// object `o`; and gives what the log then has of it. A refusal is that of a call of the same name.
 pub fn append(
     alloc: Global,
     class: VerifiedClass,

@@ -233,7 +233,8 @@ fn of_verdict(alloc: Global, rules: RuleSet, method: &Method) -> Result<String, 
     }
 }
 
-/// What is printed of a class with that refusal; nothing where memory was refused. It costs what `verify` does of the method.
+/// What is printed of a class with that refusal; nothing where memory was refused. It costs what
+/// `verify` does of the method.
 pub(crate) fn refusal_note(
     alloc: Global,
     class: &ClassImage,

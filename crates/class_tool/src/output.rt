@@ -11,8 +11,8 @@ pub trait Output {
     // Whether a write or a flush of it failed.
     ghost failed: { Self → Bool };
 
-    /// Prints a whole text, and lets nothing of it wait. It fails exactly where a write or a flush does, which `failed`
-    /// tells from then on.
+    /// Prints a whole text, and lets nothing of it wait. It fails exactly where a write or a flush
+    /// does, which `failed` tells from then on.
     fn print<D: fmt::Display + Drop>(&mut self, text: D) -> io::Result<()>
         ensures printed { OnOk result (IfSome (D.output text) (Appends (printed self.old) (printed self.new))) }
         ensures took { IsOk result → failed self.new ≡ failed self.old }

@@ -9,7 +9,8 @@ use crate::files::{Files, Reads};
 use bpf_decode::{ClassImage, ImageError, Insn, Method, RuleSet, decode, write_image};
 use std::alloc::Global;
 
-/// The instructions of the raw code that a file holds. A refusal of the code is an image's, after `done` methods.
+/// The instructions of the raw code that a file holds. A refusal of the code is an image's, after
+/// `done` methods.
 fn code_in<F: Reads>(
     alloc: Global,
     files: &F,
@@ -93,8 +94,9 @@ fn packed<F: Reads>(
     image_of(alloc, rules, methods)
 }
 
-/// Writes the image of the class of those methods, whose raw code files hold. Nothing is written before all files are
-/// read and the class is known to be right; the image may take the place of one of them.
+/// Writes the image of the class of those methods, whose raw code files hold. Nothing is written
+/// before all files are read and the class is known to be right; the image may take the place of
+/// one of them.
 pub fn pack<F: Files>(alloc: Global, files: &mut F, asked: &Packing<'_>) -> Result<(), Failure>
     ensures ok { IfOk result (λ _. Packs (storage F.disk F.failed files.old) (storage F.disk F.failed files.new) asked.now) }
     ensures err { IfErr result (PackFails (storage F.disk F.failed files.old) (storage F.disk F.failed files.new) asked.now) }

@@ -11,7 +11,8 @@ use object_store::Object;
 use std::alloc::{AllocError, Global};
 use std::fmt;
 
-/// What a call of a method came to. It prints as four lines, and those of what is shown of the object.
+/// What a call of a method came to. It prints as four lines, and those of what is shown of the
+/// object.
 #[derive(Drop)]
 pub struct Reply {
     /// The code that was answered.
@@ -54,7 +55,8 @@ impl Holdings {
 }
 
 impl Reply {
-    /// The reply of that answer and that outcome, with what the object holds or without. It fails only for want of memory.
+    /// The reply of that answer and that outcome, with what the object holds or without. It fails
+    /// only for want of memory.
     pub(crate) fn new(
         alloc: Global,
         logged: &Logged,

@@ -48,7 +48,8 @@ fn are_codes(logged: &Logged, outcome: &Outcome)
     let _codes = (logged.code, outcome.code);
 }
 
-/// Appends the request of a call to an empty group, and gives the reply of its entry and of the call's outcome.
+/// Appends the request of a call to an empty group, and gives the reply of its entry and of the
+/// call's outcome.
 fn log(
     alloc: Global,
     class: VerifiedClass,
@@ -107,8 +108,8 @@ fn call_beside(
     Ok(reply_beside(alloc, asked, &outcome)?)
 }
 
-/// Makes the call on the object that is spelled. If there is none, it appends the same request to an empty group, and code
-/// and output are those of the log's entry.
+/// Makes the call on the object that is spelled. If there is none, it appends the same request to
+/// an empty group, and code and output are those of the log's entry.
 pub fn run<F: Reads>(alloc: Global, files: &F, asked: &Call<'_>) -> Result<Reply, Failure>
     ensures ok { IfOk result (Reports (F.disk files.now) asked.now) }
     ensures err { IfErr result (RunFails (F.disk files.now) asked.now) }

@@ -12,9 +12,9 @@ use crate::packing::pack;
 use crate::run::run;
 use std::alloc::Global;
 
-/// Does what is asked for. The answer is true of the files as they were. No file is written but the one that is named
-/// for the image of a text or of raw code, and that one only where it is right; a failure says why, the first reason in the
-/// order of `Fails`.
+/// Does what is asked for. The answer is true of the files as they were. No file is written but the
+/// one that is named for the image of a text or of raw code, and that one only where it is right; a
+/// failure says why, the first reason in the order of `Fails`.
 pub fn find<F: Files>(alloc: Global, files: &mut F, action: &Action<'_>) -> Result<Answer, Failure>
     ensures settles { IfOk result (Settles (storage F.disk F.failed files.old) (storage F.disk F.failed files.new) action.now) }
     ensures fails { IfErr result (Fails (storage F.disk F.failed files.old) (storage F.disk F.failed files.new) action.now) }

@@ -8,7 +8,8 @@ use Rattle.cluster_file.specs.Planned.{PlannedCall}
 use Rattle.cluster_file.specs.declared.step.Step.{Step}
 use Rattle.cluster_file.specs.declared.step.Step.TheVariants.{Call, Map}
 
--- THE FIRST LINE: `cluster`, and then each key with a number. Which numbers a cluster may have is no matter of form.
+-- THE FIRST LINE: `cluster`, and then each key with a number. Which numbers a cluster may have is
+-- no matter of form.
 abbrev pub value_in : List ℕ → List ℕ → List ℕ → Option ℕ
 value_in key word value = if bytes_eq word key then number_in value else None
 
@@ -55,7 +56,8 @@ abbrev pub call_in : List (List ℕ) → ℕ → List (List ℕ) → Option Plan
 call_in names clients [] = None
 call_in names clients (client ∷ args) = option_and_then (λ c. call_of names c args) (client_in clients client)
 
--- EACH FURTHER LINE: `client`, or `map`, after this number of clients was named above it. A map keeps its line's number.
+-- EACH FURTHER LINE: `client`, or `map`, after this number of clients was named above it. A map
+-- keeps its line's number.
 abbrev pub step_in : List (List ℕ) → ℕ → ℕ → List (List ℕ) → Option Step
 step_in names number clients [] = None
 step_in names number clients (word ∷ args) =
@@ -70,7 +72,8 @@ abbrev pub clients_after : ℕ → Step → ℕ
 clients_after clients (Call call) = if nat_le call.client clients then clients else call.client
 clients_after clients (Map line nodes) = clients
 
--- THE LINES AFTER THE FIRST, the last of which had that number: their steps, or the number of the first that is malformed.
+-- THE LINES AFTER THE FIRST, the last of which had that number: their steps, or the number of the
+-- first that is malformed.
 abbrev pub before_steps : Step → Result (List Step) ℕ → Result (List Step) ℕ
 before_steps step (Ok steps) = Ok (step ∷ steps)
 before_steps step (Err line) = Err line
@@ -84,7 +87,8 @@ steps_of names number clients [] = Ok []
 steps_of names number clients (line ∷ lines) =
     go_on (suc number) (λ step. steps_of names (suc number) (clients_after clients step) lines) (step_of names (suc number) clients line)
 
--- THE FILE, where the classes go by these names: its plan, or the number of its first malformed line.
+-- THE FILE, where the classes go by these names: its plan, or the number of its first malformed
+-- line.
 pub record FilePlan : Type 0 where
   pub numbers : Numbers
   pub steps : List Step

@@ -35,7 +35,8 @@ abbrev pub all_lines : ℕ → List (List CallEnd) → List ℕ
 all_lines client [] = []
 all_lines client (ends ∷ others) = call_lines client 0 ends ++ all_lines (suc client) others
 
--- A LINE THAT IS MALFORMED, and one that is refused, each alone: `line 3: bad`, `line 3: refused 1 NoneUp`.
+-- A LINE THAT IS MALFORMED, and one that is refused, each alone: `line 3: bad`, `line 3: refused 1
+-- NoneUp`.
 abbrev pub bad_line : ℕ → List ℕ
 bad_line number = codes "line " ++ decimal number ++ codes ": bad\n"
 

@@ -4,7 +4,8 @@ use object_store::ObjectName;
 use pg_log::ClientId;
 use std::marker::Model;
 
-/// A call as a file plans it: which client makes it, on which object, of which class and method, with which input.
+/// A call as a file plans it: which client makes it, on which object, of which class and method,
+/// with which input.
 #[derive(Drop)]
 pub struct Call {
     client: ClientId,

@@ -4,7 +4,8 @@ ghost use Rattle.cluster_file.specs.Plan.{ended, field_in, first_line, last_in, 
 
 use file_words::number_in;
 
-/// The numbers of a file's first line, whatever a cluster may have. One above 2^64 - 1 counts as that.
+/// The numbers of a file's first line, whatever a cluster may have. One above 2^64 - 1 counts as
+/// that.
 #[derive(Clone, Copy, Drop)]
 pub struct Numbers {
     pub nodes: u64,

@@ -1,7 +1,7 @@
-//! Cluster files as text: `read_plan` reads a file whole, its cluster, its clients' calls and its maps, or finds its first
-//! malformed line; `call_lines`, `bad_line` and `refused_line` give what is printed. The rules are `specs/Plan.antt` and
-//! `specs/Text.antt`; each call's result is pinned by them, and it fails for want of memory alone. What a plan does in
-//! threads is `cluster_tool`'s.
+//! Cluster files as text: `read_plan` reads a file whole, its cluster, its clients' calls and its
+//! maps, or finds its first malformed line; `call_lines`, `bad_line` and `refused_line` give what
+//! is printed. The rules are `specs/Plan.antt` and `specs/Text.antt`; each call's result is pinned
+//! by them, and it fails for want of memory alone. What a plan does in threads is `cluster_tool`'s.
 #![tactic(auto)]
 
 mod call;

@@ -8,7 +8,8 @@ use file_words::{ended_lines, words};
 use std::alloc::{AllocError, Global};
 use std::marker::Model;
 
-/// What a file says: the numbers of its first line, and what each further line does, in their order.
+/// What a file says: the numbers of its first line, and what each further line does, in their
+/// order.
 #[derive(Drop)]
 pub struct Plan {
     numbers: Numbers,

@@ -14,7 +14,8 @@ pub(crate) const CLIENT_LIMIT: u32 = 64;
 pub enum Step {
     /// A client makes a call.
     Call(Call),
-    /// A map is made of these up nodes, once all calls above have ended. The line's number, from 1, stands first.
+    /// A map is made of these up nodes, once all calls above have ended. The line's number, from 1,
+    /// stands first.
     Map(usize, Nodes),
 }
 
@@ -103,7 +104,8 @@ fn step_in(
     }
 }
 
-/// What a line does, if it is well-formed: the line of that number, before which `clients` clients were named.
+/// What a line does, if it is well-formed: the line of that number, before which `clients` clients
+/// were named.
 pub(crate) fn read_step(
     alloc: Global,
     names: &[&str],

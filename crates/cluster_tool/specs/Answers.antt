@@ -10,9 +10,10 @@ use Rattle.rados_client.specs.Refusals.{exec_error_text}
 use Rattle.rados_client.specs.Session.{PlacedReply, SessionState, next_request}
 use Rattle.rados_client.specs.declared.exec_error.ExecError.{ExecError}
 
--- THE CALLS OF A SESSION, one after another, from the one state of it to the other. Each ended as `exec` promises (`IsCall`) of
--- the request that the session sent for it: a reply is true by a legal list of requests to these classes, which begins with
--- all that the session had seen of it before; a refusal for class, method or input is the request's.
+-- THE CALLS OF A SESSION, one after another, from the one state of it to the other. Each ended as
+-- `exec` promises (`IsCall`) of the request that the session sent for it: a reply is true by a
+-- legal list of requests to these classes, which begins with all that the session had seen of it
+-- before; a refusal for class, method or input is the request's.
 abbrev pub AreCalls : Classes → List PlannedCall → List (Result PlacedReply ExecError) → SessionState → SessionState → Type 0
 AreCalls classes [] [] old new = new ≡ old
 AreCalls classes [] (end ∷ ends) old new = ⊥

@@ -50,13 +50,13 @@ pub record IsMapLine (plan : FilePlan) (printed : List ℕ) (config : Config) : 
 abbrev pub IsNoRoom : List ℕ → Type 0
 IsNoRoom printed = printed ≡ refused_line 1 (config_error_text config_error.NoMemory)
 
--- THE CLUSTER OR A MAP IS REFUSED: a number of the first line is outside its limits; or none is, and memory for the cluster or
--- a map was refused.
+-- THE CLUSTER OR A MAP IS REFUSED: a number of the first line is outside its limits; or none is,
+-- and memory for the cluster or a map was refused.
 abbrev pub IsRefused : FilePlan → List ℕ → Type 0
 IsRefused plan printed = IsLimit plan printed ⊎ IsWithin plan (λ config. IsNoRoom printed ⊎ IsMapLine plan printed config)
 
--- WHAT COMES of a file's text, where memory lasts: what its plan comes to; or, before anything is done, the line that is
--- malformed first alone.
+-- WHAT COMES of a file's text, where memory lasts: what its plan comes to; or, before anything is
+-- done, the line that is malformed first alone.
 abbrev pub IsPrintoutOf : Classes → Result FilePlan ℕ → List ℕ → Ending → Type 0
 IsPrintoutOf classes (Ok plan) printed Done = IsWithin plan (λ config. IsMade classes plan printed)
 IsPrintoutOf classes (Ok plan) printed Bad = ⊥
@@ -81,7 +81,8 @@ abbrev pub Prints : List ℕ → Ending → Option (List ℕ) → Option (List �
 Prints printed ending old new failed fails result =
     ((result ≡ ending) × Appends old new printed × (fails ≡ failed)) ⊎ ((result ≡ Unprinted) × (fails ≡ true))
 
--- how a file ends: that was printed; or nothing was, for want of memory; or a write or a flush failed
+-- how a file ends: that was printed; or nothing was, for want of memory; or a write or a flush
+-- failed
 abbrev pub EndsSo : Classes → List (List ℕ) → List ℕ → Option (List ℕ) → Option (List ℕ) → Bool → Bool → Ending → Type 0
 EndsSo classes names text old new failed fails Done = IsShown classes names text old new failed fails Done
 EndsSo classes names text old new failed fails Bad = IsShown classes names text old new failed fails Bad
@@ -89,7 +90,8 @@ EndsSo classes names text old new failed fails Refused = IsShown classes names t
 EndsSo classes names text old new failed fails NoMemory = (new ≡ old) × (fails ≡ failed)
 EndsSo classes names text old new failed fails Unprinted = fails ≡ true
 
--- WHAT A CLUSTER FILE COMES TO: with the built-in classes and those of the tenants' files, the text that the file holds.
+-- WHAT A CLUSTER FILE COMES TO: with the built-in classes and those of the tenants' files, the text
+-- that the file holds.
 pub record Clusters (disk : Option Disk) (c : Clustering) (old new : Option (List ℕ)) (failed fails : Bool) (ending : Ending) : Type 0 where
   pub classes : Classes
   pub loaded : AreClasses disk c.tenants.items classes

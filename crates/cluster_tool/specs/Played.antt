@@ -25,8 +25,9 @@ pub record AreDone (classes : Classes) (steps : List Step) (all : List (List (Re
   pub clients : length all ≡ clients_in 0 steps
   pub ends : AreAllEnds classes steps all
 
--- HOW A PLAN ENDS on a cluster of these numbers, with these classes: each call of each client has its true end; or a map of
--- the plan was refused, and nothing after it was done; or memory was refused.
+-- HOW A PLAN ENDS on a cluster of these numbers, with these classes: each call of each client has
+-- its true end; or a map of the plan was refused, and nothing after it was done; or memory was
+-- refused.
 abbrev pub Plays : Classes → Config → List Step → Played → Type 0
 Plays classes config steps (Done all) = AreDone classes steps (map (λ v. v.items) all.items)
 Plays classes config steps (MapRefused line why) = IsMapRefused config steps line why

@@ -10,7 +10,8 @@ use std::marker::Model;
 use std::sync::Wait;
 use std::time::Clock;
 
-/// A client: its session, how its calls ended so far, and whether memory was refused to keep one of these ends.
+/// A client: its session, how its calls ended so far, and whether memory was refused to keep one of
+/// these ends.
 #[derive(Drop)]
 pub(crate) struct Caller<'a, N: ClusterName, R> {
     session: Session<'a, N, R>,

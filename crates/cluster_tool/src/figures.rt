@@ -11,7 +11,8 @@ const SECOND: u64 = 1_000_000_000;
 /// Nanoseconds of a microsecond.
 const MICROSECOND: u64 = 1_000;
 
-/// What a run took. All threads that play it add to it; it is shown as seven lines. Counts are modulo 2^64.
+/// What a run took. All threads that play it add to it; it is shown as seven lines. Counts are
+/// modulo 2^64.
 #[derive(Drop)]
 pub struct Figures {
     calls: AtomicU64,

@@ -1,9 +1,10 @@
-//! What the command `radoscls cluster` does once its words are read: `cluster` loads the built-in classes and the
-//! tenants', reads a file of calls and maps whole, makes the cluster that its first line names, and plays the rest:
-//! each client and each worker in a thread of its own, each map once all calls above it have ended. Each line that is
-//! printed of a call is how `exec` ended it: a reply is true of a legal list of requests to these classes
-//! (`specs/Answers.antt`). Nothing is said of how long that takes (`Figures` measures it), that it ends, or of the order
-//! of calls of several clients.
+//! What the command `radoscls cluster` does once its words are read: `cluster` loads the built-in
+//! classes and the tenants', reads a file of calls and maps whole, makes the cluster that its first
+//! line names, and plays the rest: each client and each worker in a thread of its own, each map
+//! once all calls above it have ended. Each line that is printed of a call is how `exec` ended it:
+//! a reply is true of a legal list of requests to these classes (`specs/Answers.antt`). Nothing is
+//! said of how long that takes (`Figures` measures it), that it ends, or of the order of calls of
+//! several clients.
 #![tactic(auto)]
 
 mod asked;

@@ -20,8 +20,9 @@ use std::time::Clock;
 /// How many workers a cluster has at most.
 const WORKER_LIMIT: usize = 16;
 
-/// Plays a plan on a cluster of these parts, with these classes: each client and each worker in a thread of its own. It
-/// is not played if memory for the nodes is refused. The caller picks the names, which are those of the parts and classes.
+/// Plays a plan on a cluster of these parts, with these classes: each client and each worker in a
+/// thread of its own. It is not played if memory for the nodes is refused. The caller picks the
+/// names, which are those of the parts and classes.
 pub(crate) fn play<N: ClusterName + Send + Sync, R: Threads + Wait + Clock + Sync + Drop>(
     alloc: Global,
     rt: R,
@@ -164,8 +165,8 @@ fn call_all<'a, N: ClusterName + Send + Sync, R: Threads + Wait + Clock + Sync>(
     );
 }
 
-/// Makes the calls of a plan, and each of its maps once all calls above have ended, up to the first map that is
-/// refused.
+/// Makes the calls of a plan, and each of its maps once all calls above have ended, up to the first
+/// map that is refused.
 fn play_steps<'a, N: ClusterName + Send + Sync, R: Threads + Wait + Clock + Sync>(
     alloc: Global,
     running: &'a Running<N, R>,

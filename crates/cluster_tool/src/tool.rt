@@ -44,13 +44,15 @@ struct Printout {
     ending: Ending,
 }
 
-/// Loads the classes, reads the file whole, and plays its plan. Requests go to `lock` (0), `obj` (1) and the tenants'
-/// classes, by their names. A call refused by its session is printed as the others.
+/// Loads the classes, reads the file whole, and plays its plan. Requests go to `lock` (0), `obj`
+/// (1) and the tenants' classes, by their names. A call refused by its session is printed as the
+/// others.
 ///
-/// A failure says why nothing was done, the first reason in this order: a built-in class can't be had, which memory
-/// alone is known to cause; the image of a tenant's class can't be loaded, the first one in their order; the file can't
-/// be read or is no text. Nothing was printed then. It starts threads and waits for them: nothing is said of when it
-/// ends. What the run took is added to the figures.
+/// A failure says why nothing was done, the first reason in this order: a built-in class can't be
+/// had, which memory alone is known to cause; the image of a tenant's class can't be loaded, the
+/// first one in their order; the file can't be read or is no text. Nothing was printed then. It
+/// starts threads and waits for them: nothing is said of when it ends. What the run took is added
+/// to the figures.
 pub fn cluster<F: Reads, O: Output, R: Threads + Wait + Clock + Sync + Drop>(
     alloc: Global,
     rt: R,

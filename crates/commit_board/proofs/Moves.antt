@@ -53,7 +53,8 @@ all_more F [] w mine others (suc j) u e = absurd (some-ne-none u (sym e))
 all_more F (x ∷ xs) w mine others zero u e = others zero u e
 all_more F (x ∷ xs) w mine others (suc j) u e = all_more (λ k. F (suc k)) xs w mine (λ k. others (suc k)) j u e
 
--- who has a row has it still after a seat's view changed, if that view keeps the row or didn't have it
+-- who has a row has it still after a seat's view changed, if that view keeps the row or didn't have
+-- it
 has_after : (views : List View) (by : ℕ) (v w : View) → get_elem? views by ≡ some v → (j i : ℕ) → (v.first ≤ i → i < v.end → (w.first ≤ i) × (i < w.end)) → HasRow views j i → HasRow (set views by w) j i
 has_after views by v w at j i still h =
     dite (ℕ_discrete j by)

@@ -23,8 +23,8 @@ owner rows = writes 0 rows []
 abbrev pub sees : List (List ClientRequest) → List (List ClientRequest) → View
 sees known received = view_of 0 0 [] known received
 
--- What the seat with this number knows, and what it received, is a beginning of each row's list. It has the whole list of the rows that are its own, and it
--- alone writes them
+-- What the seat with this number knows, and what it received, is a beginning of each row's list. It
+-- has the whole list of the rows that are its own, and it alone writes them
 pub record Fits (rows : ℕ) (logs : ℕ → List ClientRequest) (seat : ℕ → ℕ) (by : ℕ) (v : View) : Type 0 where
   pub owns : (i : ℕ) → v.first ≤ i → i < v.end → (i < rows) × (seat i ≡ by) × (v.written ≡ logs i)
   pub knows : (i : ℕ) → IsPrefix (list_at v.known i) (logs i)

@@ -14,7 +14,8 @@ use pg_log::{NoMemory, Request};
 use std::alloc::Global;
 use std::marker::{Brand, Model};
 
-/// A word for each row: the length of the row's list. To a contract it is its name, with the number of rows.
+/// A word for each row: the length of the row's list. To a contract it is its name, with the number
+/// of rows.
 #[derive(Drop)]
 pub struct Board {
     table: Table<u8, View, usize, Rows, Global>,
@@ -75,7 +76,8 @@ impl Board {
             .fetch_add::<Add<J>>(&mut writer.seat, writer.row, 1);
     }
 
-    /// Loads the row's word: the length of the beginning of the row's list that the token then knows, which begins with what it knew.
+    /// Loads the row's word: the length of the beginning of the row's list that the token then
+    /// knows, which begins with what it knew.
     pub fn look(&self, seen: &mut Seen, row: usize) -> u64
         requires board { seen.old.board ≡ self.now }
         requires row { row < self.now.words }
@@ -122,7 +124,8 @@ impl Board {
         }
     }
 
-    /// The token knows of each row the longer of what it knew and what the note knew, which begins with both. The note is spent.
+    /// The token knows of each row the longer of what it knew and what the note knew, which begins
+    /// with both. The note is spent.
     pub fn meet(&self, seen: &mut Seen, note: Note)
         requires seen { seen.old.board ≡ self.now }
         requires note { note.board ≡ self.now }
@@ -147,7 +150,8 @@ impl Board {
         self.table.shared.load::<Merge>(&mut seen.seat, 0);
     }
 
-    /// What the token knows of the writer's row is a beginning of the writer's list. Nothing changes.
+    /// What the token knows of the writer's row is a beginning of the writer's list. Nothing
+    /// changes.
     pub fn compare(&self, writer: &mut Writer, seen: &mut Seen)
         requires writer { writer.old.board ≡ self.now }
         requires seen { seen.old.board ≡ self.now }

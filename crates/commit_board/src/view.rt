@@ -3,8 +3,8 @@ use atomic_table::TableRule;
 use pg_log::Request;
 use std::collections::LinkedList;
 
-/// The rows from `first` up to `end` are its own to write, and each has the list `written`. It knows a beginning of each row's list, and has received one. No
-/// value of it is made.
+/// The rows from `first` up to `end` are its own to write, and each has the list `written`. It
+/// knows a beginning of each row's list, and has received one. No value of it is made.
 pub struct View {
     pub first: u64,
     pub end: u64,

@@ -29,7 +29,8 @@ words_in piece = filter (λ w. not (length w == 0)) (slice_split (λ b. b == 9) 
 abbrev pub words : List ℕ → List (List ℕ)
 words line = flat_map words_in (slice_split (λ b. b == 32) line)
 
--- NUMBERS: one decimal digit or more, without a leading zero, and nothing else. One above 2 ^ 64 - 1 counts as that: no node, map, message, client or request has it.
+-- NUMBERS: one decimal digit or more, without a leading zero, and nothing else. One above 2 ^ 64 -
+-- 1 counts as that: no node, map, message, client or request has it.
 abbrev pub number_in : List ℕ → Option ℕ
 number_in word = if is_decimal word then Some (min (digits_value 10 word) (2 ^ 64 - 1)) else None
 

@@ -34,8 +34,8 @@ impl Bytes {
     }
 }
 
-/// The bytes that a word spells: pairs of hexadecimal digits of either case, or `-` for no byte; nothing where it is
-/// neither.
+/// The bytes that a word spells: pairs of hexadecimal digits of either case, or `-` for no byte;
+/// nothing where it is neither.
 pub fn bytes_in(alloc: Global, word: &str) -> Result<Option<Bytes>, AllocError>
     ensures { IfOk result (λ b. b ≡ bytes_in word.now) }
 {

@@ -8,7 +8,8 @@ use std::alloc::{AllocError, Global};
 /// The id that no class has.
 pub const NO_CLASS: usize = 64;
 
-/// The id of the class of that name: its place among the names, the first where it stands twice, or `NO_CLASS`.
+/// The id of the class of that name: its place among the names, the first where it stands twice, or
+/// `NO_CLASS`.
 pub fn class_of(names: &[&str], word: &str) -> usize
     ensures { result ≡ class_of 0 (map (λ n. n.now) names.now) word.now }
 {

@@ -36,8 +36,8 @@ impl Nodes {
     }
 }
 
-/// The nodes of the words' numbers, in their order; nothing where a word is no number. A number past 15 is no node's, and
-/// is kept.
+/// The nodes of the words' numbers, in their order; nothing where a word is no number. A number
+/// past 15 is no node's, and is kept.
 pub fn nodes_in(alloc: Global, words: &[&str]) -> Result<Option<Nodes>, AllocError>
     ensures { IfOk result (λ ns. ns ≡ numbers_in (map (λ w. w.now) words.now)) }
 {

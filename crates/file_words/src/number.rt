@@ -4,8 +4,8 @@ ghost use Rattle.file_words.specs.Words.{number_in, id_in};
 
 use text_digits::{is_decimal, value_within};
 
-/// The number that a word spells: one decimal digit or more, without a leading zero; 2^64 - 1 where it is greater. Nothing
-/// where the word is none.
+/// The number that a word spells: one decimal digit or more, without a leading zero; 2^64 - 1 where
+/// it is greater. Nothing where the word is none.
 pub fn number_in(word: &str) -> Option<u64>
     ensures { result ≡ number_in word.now }
 {

@@ -5,8 +5,8 @@ ghost use Rattle.file_words.specs.Words.{words, words_in, lines_of, ended_lines_
 
 use std::alloc::{AllocError, Global};
 
-/// The lines of a text: what stands between line feeds, so that an empty one may be the last. It fails for want of memory
-/// alone.
+/// The lines of a text: what stands between line feeds, so that an empty one may be the last. It
+/// fails for want of memory alone.
 pub fn lines(alloc: Global, text: &str) -> Result<Vec<&str>, AllocError>
     ensures { IfOk result (λ v. map (λ l. l.now) v.items ≡ lines_of text.now) }
 {
@@ -32,8 +32,8 @@ fn drop_empty_end(lines: &mut Vec<&str>)
     }
 }
 
-/// The lines of a text, each ended by a line feed but for the last, which may go without: nothing stands after a line feed
-/// at the text's end. It fails for want of memory alone.
+/// The lines of a text, each ended by a line feed but for the last, which may go without: nothing
+/// stands after a line feed at the text's end. It fails for want of memory alone.
 pub fn ended_lines(alloc: Global, text: &str) -> Result<Vec<&str>, AllocError>
     ensures { IfOk result (λ v. map (λ l. l.now) v.items ≡ ended_lines_of text.now) }
 {

@@ -20,7 +20,8 @@ fn help_by(alloc: Global, helper: Helper, s: &mut FlatState) -> Result<Option<u6
     ensures slot { s.new.slot ≡ s.old.slot }
     ensures machine { s.new.memory.machine ≡ s.old.memory.machine }
 {
-    // A helper that lacks memory ends the run and answers no error number: each replica is to compute the same.
+    // A helper that lacks memory ends the run and answers no error number: each replica is to
+    // compute the same.
     match helper {
         Helper::Stat => Ok(Some(helpers::stat(&s.object))),
         Helper::Read => Ok(read(s)),
@@ -40,7 +41,8 @@ fn help_by(alloc: Global, helper: Helper, s: &mut FlatState) -> Result<Option<u6
     }
 }
 
-/// Whether a method may call the helper of that id: one that may change the object asks for leave to write.
+/// Whether a method may call the helper of that id: one that may change the object asks for leave
+/// to write.
 fn may_call(caps: &Caps, id: u32) -> bool
     ensures { result ≡ may_call caps.now id }
 {

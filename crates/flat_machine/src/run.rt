@@ -27,8 +27,8 @@ pub struct RunStart<'a> {
 /// How a run ends.
 #[derive(Drop)]
 pub enum Ending {
-    /// At an exit: the code, to be read as a signed number, the output, the object after, and the number of
-    /// instructions executed.
+    /// At an exit: the code, to be read as a signed number, the output, the object after, and the
+    /// number of instructions executed.
     Ended {
         code: u64,
         output: Vec<u8>,
@@ -210,8 +210,8 @@ fn run_from(
     ended(alloc, before, stop, s)
 }
 
-/// Runs a method's bytes on plain addresses, in at most that many steps. It is the definition of the machine as a
-/// program, and slow. Refused: NoMemory.
+/// Runs a method's bytes on plain addresses, in at most that many steps. It is the definition of
+/// the machine as a program, and slow. Refused: NoMemory.
 pub fn flat_run(
     alloc: Global,
     machine: &Machine,

@@ -21,8 +21,8 @@ pub record PostedReply : Type 0 where
   pub answer : Reply
   pub lists : List (List ClientRequest)
 
--- The reply is of the cell's row and of this place, and its note knows the row's list. What stands at the place is the
--- request of the cell's committed list, by the reply's type.
+-- The reply is of the cell's row and of this place, and its note knows the row's list. What stands
+-- at the place is the request of the cell's committed list, by the reply's type.
 pub record IsReplyOf (cell : CellState) (at : ℕ) (r : PostedReply) : Type 0 where
   pub row : r.row ≡ cell.row
   pub place : r.place ≡ at

@@ -1,8 +1,9 @@
 use pg_log::Classes;
 use std::marker::Brand;
 
-/// The one board of a cluster, and the classes that are loaded there. It names them for the proofs of all calls, also of
-/// those on a value that comes out of a lock, of which nothing but the type is known.
+/// The one board of a cluster, and the classes that are loaded there. It names them for the proofs
+/// of all calls, also of those on a value that comes out of a lock, of which nothing but the type
+/// is known.
 pub trait BoardName: Classes {
     ghost use Rattle.atomic_table.specs.Seated.{TableId};
 

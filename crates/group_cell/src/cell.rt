@@ -22,8 +22,8 @@ use pg_log::{ClassTable, Entry, NoMemory, legal_lists, pairs, replies};
 use std::alloc::Global;
 use std::marker::{Model, PhantomData};
 
-/// A node of a group, and the writer of its row on the board. The row's list is the list that the node has committed.
-/// Contracts see the node, the row and its list.
+/// A node of a group, and the writer of its row on the board. The row's list is the list that the
+/// node has committed. Contracts see the node, the row and its list.
 #[derive(Drop)]
 pub struct GroupCell<N: BoardName> {
     node: GroupNode<N>,
@@ -48,7 +48,8 @@ impl<N: BoardName> Model for GroupCell<N> {
 }
 
 impl<N: BoardName> GroupCell<N> {
-    /// The cell of a node that has nothing, with the writer of an empty row of the named board. It takes no memory.
+    /// The cell of a node that has nothing, with the writer of an empty row of the named board. It
+    /// takes no memory.
     pub fn new(node: GroupNode<N>, writer: Writer) -> GroupCell<N>
         requires node { node.state ≡ fresh }
         requires writer { (writer.board ≡ N.board) × (writer.list ≡ []) }
@@ -73,9 +74,9 @@ impl<N: BoardName> GroupCell<N> {
         &self.node
     }
 
-    /// Takes an event as `GroupNode::handle` does: the same state, exactly its messages, its refusal. It adds to the row's
-    /// list exactly the requests that became committed, in their order, each by one `commit`. A refusal leaves the cell as
-    /// if the event never came.
+    /// Takes an event as `GroupNode::handle` does: the same state, exactly its messages, its
+    /// refusal. It adds to the row's list exactly the requests that became committed, in their
+    /// order, each by one `commit`. A refusal leaves the cell as if the event never came.
     ///
     /// The board and the table are the named ones.
     pub fn handle(
@@ -111,8 +112,8 @@ impl<N: BoardName> GroupCell<N> {
         Ok(sent)
     }
 
-    /// The answer to the request at a committed place, with a note of the row's list; none exactly where the place isn't
-    /// committed. It costs a copy of the answer. Only memory may be refused.
+    /// The answer to the request at a committed place, with a note of the row's list; none exactly
+    /// where the place isn't committed. It costs a copy of the answer. Only memory may be refused.
     ///
     /// The board is the named one.
     pub fn reply(
@@ -167,7 +168,8 @@ impl<N: BoardName> GroupCell<N> {
         })
     }
 
-    /// A note of the row's list, which is what the node has committed. It takes no memory, and reads nothing of the board.
+    /// A note of the row's list, which is what the node has committed. It takes no memory, and
+    /// reads nothing of the board.
     ///
     /// The board is the named one.
     pub fn note(&mut self, board: &Board) -> Note

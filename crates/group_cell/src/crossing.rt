@@ -1,4 +1,5 @@
-//! Which of the values here may go to another thread, for the proofs of the crates above. The functions do nothing.
+//! Which of the values here may go to another thread, for the proofs of the crates above. The
+//! functions do nothing.
 ghost use denote.Param.Send.{IsSend};
 ghost use Rattle.group_cell.specs.contracts.cell.GroupCell as cell;
 ghost use Rattle.group_cell.specs.contracts.post.Post as post;
@@ -23,7 +24,8 @@ pub fn cell_crosses<N: BoardName + Send>()
     can_send::<GroupCell<N>>()
 }
 
-/// What a client is sent may go to another thread where its name may. So threads may share a lock on a mailbox.
+/// What a client is sent may go to another thread where its name may. So threads may share a lock
+/// on a mailbox.
 pub fn post_crosses<N: BoardName + Send>()
     ensures reply { IsSend (reply.the_row N.row (record { board = N.board }) (record { classes = N.classes })) }
     ensures refused { IsSend (refused.the_row N.row (record { board = N.board }) (record { classes = N.classes })) }

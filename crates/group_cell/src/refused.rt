@@ -6,8 +6,8 @@ use group_world::HandleError;
 use pg_log::Request;
 use std::marker::{Model, PhantomData};
 
-/// The refusal of a request. Where it is `NoClass`, `NoMethod` or `InputTooLong`, that is so of the request and the
-/// loaded classes.
+/// The refusal of a request. Where it is `NoClass`, `NoMethod` or `InputTooLong`, that is so of the
+/// request and the loaded classes.
 #[derive(Drop)]
 pub struct Refused<N: BoardName> {
     request: Request,

@@ -9,11 +9,12 @@ use group_world::{CallReply, Place};
 use pg_log::Request;
 use std::marker::{Model, PhantomData};
 
-// No clause says that the row is one of the request's group: a cell lies under a lock, where its type says all that is
-// known, and that type names no group.
+// No clause says that the row is one of the request's group: a cell lies under a lock, where its
+// type says all that is known, and that type names no group.
 
-/// The answer to a committed request, with a note of its own. In the list that the note knows of the row, which is
-/// legal, the whole request stands at the place and at no other, and is answered so there.
+/// The answer to a committed request, with a note of its own. In the list that the note knows of
+/// the row, which is legal, the whole request stands at the place and at no other, and is answered
+/// so there.
 #[derive(Drop)]
 pub struct Reply<N: BoardName> {
     pub(crate) request: Request,

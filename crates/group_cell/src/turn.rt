@@ -21,13 +21,14 @@ use placement::NodeId;
 use std::alloc::Global;
 
 impl<N: BoardName> GroupCell<N> {
-    /// Does what an operation carries to this node. The node takes the event that comes, as `handle` says, or refuses it.
-    /// Each message of its step goes out, in their order: packed to a node, as a question to the monitor, as a `Reply` to a
-    /// client. A refused request goes out as a `Refused`. A list whose beginning the node doesn't have is lost, and then
-    /// nothing happens.
+    /// Does what an operation carries to this node. The node takes the event that comes, as
+    /// `handle` says, or refuses it. Each message of its step goes out, in their order: packed to a
+    /// node, as a question to the monitor, as a `Reply` to a client. A refused request goes out as
+    /// a `Refused`. A list whose beginning the node doesn't have is lost, and then nothing happens.
     ///
-    /// `None` stands for a message that memory was refused to, which is a reply. Where there was no memory for
-    /// the event itself it never came; where there was none for the list of what goes out, all of it is lost.
+    /// `None` stands for a message that memory was refused to, which is a reply. Where there was no
+    /// memory for the event itself it never came; where there was none for the list of what goes
+    /// out, all of it is lost.
     ///
     /// The board and the table are the named ones.
     pub fn turn(
@@ -42,8 +43,8 @@ impl<N: BoardName> GroupCell<N> {
         ensures turn { IfOk result (λ v. IsTurn N.classes self.old self.new (reported_of carried) (unpacked_as self.old.node.state.log carried) v.items) }
         ensures lost { OnErr result (IsCutShort N.classes self.old self.new (unpacked_as self.old.node.state.log carried)) }
     {
-        // An item for each message, also for one that memory was refused to: then a proof refuses a worker that drops
-        // another, and no test has to.
+        // An item for each message, also for one that memory was refused to: then a proof refuses a
+        // worker that drops another, and no test has to.
         let reported = carried.reported();
         match event_of(alloc, self.node().group().entries(), carried)? {
             None => Ok(Vec::new(alloc)),

@@ -139,7 +139,8 @@ move_sound v n e s lt new =
       newly_held = λ a m h _ acts. held_from_later v (move_view v n e) a m [] l (s.active_held a m h acts);
     })
 
--- the monitor begins an interval; the intervals that were passed over count as made with the same map
+-- the monitor begins an interval; the intervals that were passed over count as made with the same
+-- map
 abbrev pub map_view : View → GroupMap → View
 map_view v m = record {
   classes = v.classes;

@@ -1,4 +1,5 @@
--- What handlers share: a list that takes another's place, the same message to many, and two steps of one node.
+-- What handlers share: a list that takes another's place, the same message to many, and two steps
+-- of one node.
 use Rattle.std.proofs.Common.{◌≡◌, ℕ, ◌+◌, ◌≤◌, true, eqb, List, [], ◌∷◌, ◌++◌, length, take, Some, inl, inr, ◌∙◌, refl, ap, arith}
 use Rattle.std.specs.Prelude.{is_none}
 use Rattle.std.specs.List.{AllByRecursion}

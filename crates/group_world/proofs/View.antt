@@ -1,4 +1,5 @@
--- What is known for good of a run: the maps, the activated intervals, each node's interval, and the last list that each node held in each interval.
+-- What is known for good of a run: the maps, the activated intervals, each node's interval, and the
+-- last list that each node held in each interval.
 use Rattle.std.proofs.Common.{◌≡◌, ℕ, ◌<◌, ◌≤◌, Bool, true, List, [], Option, Some, ◌⊎◌, inl, inr, sym, ◌∙◌, ap, subst, arith}
 use Rattle.std.specs.List.{Contains, AllByRecursion}
 use Rattle.std.proofs.lemmas.Option.{same_Some}
@@ -180,7 +181,8 @@ chosen_in_last v a b front s c hb l =
     prefix_trans _ _ _ (chosen_in_base v a b front top.list s c lt top.held) within.above in
     let r : goal = elim (cases_order a b) [ inl e ↦ same e | inr (inl lt) ↦ below lt | inr (inr gt) ↦ absurd (omega arith) ] in r
 
--- a list is covered for all intervals below e, where it is for those of which the node is a member, the last activated one among them
+-- a list is covered for all intervals below e, where it is for those of which the node is a member,
+-- the last activated one among them
 pub covered_below : (v : View) (e n : ℕ) (xs : List ClientRequest) → Sound v → 1 ≤ e → e ≤ v.newest → has n (acting v (prev v e)) ≡ true
     → ((a : ℕ) → v.active a ≡ true → has n (acting v a) ≡ true → a < e → Covered v a xs)
     → (a : ℕ) → v.active a ≡ true → a < e → Covered v a xs

@@ -20,8 +20,9 @@ abbrev pub map_refusal : MonitorState → List ℕ → Option MonitorError
 map_refusal m acting = if not (is_acting acting) then Some BadActing else
     if nat_le (2 ^ 32 - 1) m.newest.epoch then Some EpochsUsedUp else None
 
--- The next map. Where its acting list is that of the newest map, in the same order, it keeps that map's interval and what
--- was before it. Else an interval begins, and before it was the last activated one.
+-- The next map. Where its acting list is that of the newest map, in the same order, it keeps that
+-- map's interval and what was before it. Else an interval begins, and before it was the last
+-- activated one.
 abbrev pub next_map : MonitorState → List ℕ → GroupMap
 next_map m acting = if is_same_list m.newest.acting acting
     then record { epoch = suc m.newest.epoch; interval = m.newest.interval; acting = acting; prev = m.newest.prev; prev_acting = m.newest.prev_acting }
@@ -42,7 +43,8 @@ activation_refusal m interval = if is_newest m interval then None else Some NotN
 abbrev pub with_activated : MonitorState → MonitorState
 with_activated m = record { newest = m.newest; activated = interval_of m.newest }
 
--- An activated interval that the next map keeps stays activated: a further activation changes nothing.
+-- An activated interval that the next map keeps stays activated: a further activation changes
+-- nothing.
 abbrev pub KeptStaysActivated : Type 0
 KeptStaysActivated = (m : MonitorState) (acting : List ℕ) → is_same_list m.newest.acting acting ≡ true →
     with_activated (with_map (with_activated m) acting) ≡ with_map (with_activated m) acting

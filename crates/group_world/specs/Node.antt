@@ -32,7 +32,8 @@ fresh = record { interval = 0; members = no_map; status = Out; log = []; committ
 abbrev pub committed_list : NodeState → List ClientRequest
 committed_list s = take s.committed s.log
 
--- What an event makes of a node: its state, the messages that it sends in their order, and the refusal if it is one.
+-- What an event makes of a node: its state, the messages that it sends in their order, and the
+-- refusal if it is one.
 pub record Outcome : Type 0 where
   pub node : NodeState
   pub sent : List Packet

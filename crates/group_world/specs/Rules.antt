@@ -36,8 +36,8 @@ begins (x ∷ xs) (y ∷ ys) = is_same_request x y && begins xs ys
 abbrev pub is_usable : Classes → NodeState → List ClientRequest → Bool
 is_usable classes s list = is_none (first_refusal classes list) && begins (committed_list s) list
 
--- ADOPT A LIST. The primary takes it as its log and has the other members install it. It counts as installed itself, and
--- asks the monitor at once where it acts alone.
+-- ADOPT A LIST. The primary takes it as its log and has the other members install it. It counts as
+-- installed itself, and asks the monitor at once where it acts alone.
 abbrev pub ask_if : ℕ → NodeState → Bool → List Packet
 ask_if n s all = if all then packet n TheMonitor (AskActivate s.interval) ∷ [] else []
 
@@ -48,9 +48,10 @@ adopt n s list = record {
   refusal = None;
 }
 
--- LEARN A MAP. A node moves to a map of a higher interval: it is out where it doesn't act, and waits where it acts and
--- isn't the primary. A primary asks the members of the interval before for their lists; where there is none it adopts
--- the empty list. A map that would have a node that has committed do so isn't learned. Other maps change nothing.
+-- LEARN A MAP. A node moves to a map of a higher interval: it is out where it doesn't act, and
+-- waits where it acts and isn't the primary. A primary asks the members of the interval before for
+-- their lists; where there is none it adopts the empty list. A map that would have a node that has
+-- committed do so isn't learned. Other maps change nothing.
 abbrev pub at_map : NodeState → GroupMap → Status → NodeState
 at_map s m status = record { interval = m.interval; members = m; status = status; log = s.log; committed = s.committed; joined = []; acked = [] }
 
@@ -85,8 +86,9 @@ abbrev pub adopt_log : Classes → ℕ → NodeState → ℕ → List ClientRequ
 adopt_log classes n s interval list =
     if (interval == s.interval) && (is_asking s.status && is_usable classes s list) then adopt n s list else nothing s
 
--- INSTALL. A list that the node can't use is ignored whole, and so is the move. Else it first moves to the map: where it
--- waits then it takes the list as its log and says so, and where it has installed already it only says so again.
+-- INSTALL. A list that the node can't use is ignored whole, and so is the move. Else it first moves
+-- to the map: where it waits then it takes the list as its log and says so, and where it has
+-- installed already it only says so again.
 abbrev pub says_installed : ℕ → Party → NodeState → Packet
 says_installed n receiver s = packet n receiver (InstalledIn s.interval)
 
@@ -101,7 +103,8 @@ abbrev pub install : Classes → ℕ → NodeState → Party → GroupMap → Li
 install classes n s sender m list = if ignores n s m then nothing s else
     if is_usable classes s list then install_after n sender list (arrive n s m) else nothing s
 
--- NOTE AN INSTALLED. An installing primary notes each other member of its interval once; with the last it asks the monitor.
+-- NOTE AN INSTALLED. An installing primary notes each other member of its interval once; with the
+-- last it asks the monitor.
 abbrev pub note_installed : ℕ → NodeState → Party → ℕ → Outcome
 note_installed n s (ANode m) interval =
     if (interval == s.interval) && (is_installing s.status && (has m s.members.acting && not (has m s.joined)))
@@ -109,7 +112,8 @@ note_installed n s (ANode m) interval =
     else nothing s
 note_installed n s _ interval = nothing s
 
--- ACTIVATE. An installing primary becomes active: the whole list that it adopted is committed, and counts as acknowledged.
+-- ACTIVATE. An installing primary becomes active: the whole list that it adopted is committed, and
+-- counts as acknowledged.
 abbrev pub each_at : List ℕ → ℕ → List ℕ
 each_at [] k = []
 each_at (n ∷ ns) k = k ∷ each_at ns k
@@ -119,8 +123,8 @@ activate s interval = if (interval == s.interval) && is_installing s.status
     then nothing (record s { status = Active; committed = length s.log; acked = each_at s.members.acting (length s.log) })
     else nothing s
 
--- COMMIT. The commit point rises to the least acknowledged length, the primary's own included, and each newly committed
--- request is answered, in order.
+-- COMMIT. The commit point rises to the least acknowledged length, the primary's own included, and
+-- each newly committed request is answered, in order.
 abbrev pub least_of : ℕ → List ℕ → ℕ
 least_of k [] = k
 least_of k (a ∷ acked) = least_of (min k a) acked
@@ -151,9 +155,9 @@ raised m k [] acked = acked
 raised m k (n ∷ ns) [] = []
 raised m k (n ∷ ns) (a ∷ acked) = (if n == m then max a k else a) ∷ raised m k ns acked
 
--- REQUEST. An active primary answers a committed request again, and is silent of one that is logged and isn't committed.
--- A new one that may follow the log is appended and sent to the other members, and where the primary acts alone it is
--- committed at once. Else it is refused.
+-- REQUEST. An active primary answers a committed request again, and is silent of one that is logged
+-- and isn't committed. A new one that may follow the log is appended and sent to the other members,
+-- and where the primary acts alone it is committed at once. Else it is refused.
 abbrev pub append_new : Classes → ℕ → NodeState → ClientRequest → Outcome
 append_new classes n s r =
     let o = commit classes n (record s { log = s.log ++ r ∷ []; acked = raised n (length (s.log ++ r ∷ [])) s.members.acting s.acked }) in
@@ -173,8 +177,8 @@ abbrev pub request : Classes → ℕ → NodeState → ClientRequest → Outcome
 request classes n s r = if is_active s.status then request_at classes n s r (place_of r.client r.number s.log) else
     if is_asking s.status || is_installing s.status then refused s Peering else refused s NotPrimary
 
--- REPLICATE. A member that has installed appends the request of the next place, where it may follow the log, and
--- acknowledges its length; at a lower place it only acknowledges.
+-- REPLICATE. A member that has installed appends the request of the next place, where it may follow
+-- the log, and acknowledges its length; at a lower place it only acknowledges.
 abbrev pub says_ack : ℕ → Party → NodeState → Packet
 says_ack n receiver s = packet n receiver (Ack s.interval (length s.log))
 

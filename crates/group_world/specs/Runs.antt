@@ -1,5 +1,5 @@
--- Worked runs of the rules, message by message. The calls are of a class with the methods `lock` and `unlock`; a line leaves
--- out what a call answers.
+-- Worked runs of the rules, message by message. The calls are of a class with the methods `lock`
+-- and `unlock`; a line leaves out what a call answers.
 use Rattle.std.specs.Prelude.{◌≡◌, ℕ, ◌-◌, List, [], ◌∷◌, ◌++◌, length, map, codes}
 use Rattle.bpf_decode.specs.Class.{ClassMethod}
 use Rattle.pg_log.specs.Requests.{ClientRequest}
@@ -15,8 +15,8 @@ use Rattle.group_world.specs.declared.message.MessageKind.{MessageKind}
 use Rattle.group_world.specs.declared.message.MessageKind.TheVariants.{Query, Log as LogOf, Install, Installed as InstalledIn, AskActivate, Activated, Rep, Ack, Reply as ReplyTo}
 use Rattle.group_world.specs.declared.message.Packet.{Packet}
 
--- A message in short: sender, receiver, kind, its interval (of a reply the request's number), and a list's length, a
--- place or an acknowledged length.
+-- A message in short: sender, receiver, kind, its interval (of a reply the request's number), and a
+-- list's length, a place or an acknowledged length.
 abbrev pub Line : Type 0
 Line = Party × Party × List ℕ × ℕ × ℕ
 
@@ -108,7 +108,8 @@ request_repeated = both_have ++ delivers 9 ∷ delivers 10 ∷ RequestAt 1 (call
 abbrev pub RepeatedRequest : Type 0
 RepeatedRequest = (lines request_repeated ≡ both_lines ++ reply 1 1 7 0 ∷ reply 1 1 7 0 ∷ []) × (standing request_repeated 1 ≡ (1, Active, 1, 1))
 
--- LOST ACKNOWLEDGEMENTS: the primary stops before it hears them. The next one finds the request, and both answer alike.
+-- LOST ACKNOWLEDGEMENTS: the primary stops before it hears them. The next one finds the request,
+-- and both answer alike.
 abbrev pub lost_acknowledgements : List WorldEvent
 lost_acknowledgements = both_have ++ MapMade (2 ∷ 3 ∷ []) ∷ sees 2 2 ∷ delivers 13 ∷ delivers 14 ∷ delivers 15 ∷ delivers 16 ∷ delivers 17 ∷ delivers 18
     ∷ RequestAt 2 (call 1 7 (codes "lock")) ∷ delivers 9 ∷ delivers 10 ∷ []
@@ -135,7 +136,8 @@ abbrev pub AllStopped : Type 0
 AllStopped = (lines all_stopped ≡ three_lines ++ from_to 4 1 (codes "Query") 2 0 ∷ from_to 4 2 (codes "Query") 2 0 ∷ from_to 4 3 (codes "Query") 2 0 ∷ [])
     × (standing all_stopped 4 ≡ (2, Asking, 0, 0))
 
--- A DIVERGENT END: the old primary has a request that no other has, and gives it up for what the others chose.
+-- A DIVERGENT END: the old primary has a request that no other has, and gives it up for what the
+-- others chose.
 abbrev pub divergent_end : List WorldEvent
 divergent_end = both_have ++ delivers 9 ∷ delivers 10 ∷ RequestAt 1 (call 1 8 (codes "unlock")) ∷ MapMade (2 ∷ 3 ∷ []) ∷ sees 2 2 ∷ delivers 16 ∷ delivers 17 ∷ delivers 18 ∷ delivers 19
     ∷ delivers 20 ∷ delivers 21 ∷ RequestAt 2 (call 2 1 (codes "lock")) ∷ delivers 22 ∷ delivers 23 ∷ MapMade (1 ∷ 2 ∷ []) ∷ sees 1 3 ∷ delivers 26 ∷ delivers 27 ∷ []
@@ -151,7 +153,8 @@ DivergentEnd = (standing divergent_end 1 ≡ (3, Installing, 2, 1))
     ∷ from_to 1 2 (codes "Query") 3 0 ∷ from_to 1 3 (codes "Query") 3 0 ∷ from_to 3 1 (codes "Log") 3 2 ∷ from_to 1 2 (codes "Install") 3 2
     ∷ from_to 2 1 (codes "Installed") 3 0 ∷ to_monitor 1 3 ∷ from_monitor 1 3 ∷ from_to 1 2 (codes "Rep") 3 2 ∷ from_to 2 1 (codes "Ack") 3 3 ∷ reply 1 1 8 2 ∷ [])
 
--- WHAT IS UNANSWERED is what the primary sends again: first to both members, and then to the one that is silent.
+-- WHAT IS UNANSWERED is what the primary sends again: first to both members, and then to the one
+-- that is silent.
 abbrev pub one_silent : List WorldEvent
 one_silent = three_nodes ++ RequestAt 1 (call 1 7 (codes "lock")) ∷ []
 
@@ -159,7 +162,8 @@ abbrev pub OneSilent : Type 0
 OneSilent = (map line (unanswered 1 ((after one_silent).nodes 1)) ≡ from_to 1 2 (codes "Rep") 1 0 ∷ from_to 1 3 (codes "Rep") 1 0 ∷ [])
     × (map line (unanswered 1 ((after (one_silent ++ delivers 7 ∷ delivers 9 ∷ [])).nodes 1)) ≡ from_to 1 3 (codes "Rep") 1 0 ∷ [])
 
--- A KEPT INTERVAL: a map of the same acting list changes nothing at a node, and only the newest map is compared.
+-- A KEPT INTERVAL: a map of the same acting list changes nothing at a node, and only the newest map
+-- is compared.
 abbrev pub kept_interval : List WorldEvent
 kept_interval = three_nodes ++ MapMade (1 ∷ 2 ∷ 3 ∷ []) ∷ sees 2 2 ∷ RequestAt 1 (call 1 1 (codes "lock")) ∷ delivers 7 ∷ delivers 8 ∷ delivers 9 ∷ delivers 10
     ∷ MapMade (1 ∷ 2 ∷ []) ∷ MapMade (1 ∷ 2 ∷ 3 ∷ []) ∷ sees 1 4 ∷ []

@@ -37,6 +37,7 @@ unanswered_in n s Asking = to_all n s.members.prev_acting (Query s.members)
 unanswered_in n s Installing = to_missing n s.joined s.members.acting (Install s.members s.log) ++ ask_if n s (all_among s.members.acting s.joined)
 unanswered_in n s Active = reps_unacked n s s.members.acting s.acked
 
--- The unanswered messages of a node, members in acting order (of Query that of the map before), places rising.
+-- The unanswered messages of a node, members in acting order (of Query that of the map before),
+-- places rising.
 abbrev pub unanswered : ℕ → NodeState → List Packet
 unanswered n s = unanswered_in n s s.status

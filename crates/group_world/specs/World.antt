@@ -1,4 +1,5 @@
--- From the world of one group to the agreed world. What a node does at an event is in Rules, the monitor in Monitor.
+-- From the world of one group to the agreed world. What a node does at an event is in Rules, the
+-- monitor in Monitor.
 use Rattle.std.specs.Prelude.{◌≡◌, ℕ, List, [], ◌∷◌, ◌++◌, ◌≤◌, length, ◌==◌, if◌then◌else◌, is_none, Option, Some, None, slice_get}
 use Rattle.std.specs.List.{Contains, AllByRecursion}
 use mathlib.Core.List.{IsPrefix}
@@ -19,7 +20,8 @@ use Rattle.group_world.specs.declared.message.Packet.{Packet}
 use Rattle.group_world.specs.declared.event.Event.{Event}
 use Rattle.group_world.specs.declared.event.Event.TheVariants.{Request as ARequest, Map as AMap, Message as AMessage}
 
--- A WORLD is the loaded classes, every map made, the monitor, each node by its number, and every message ever sent.
+-- A WORLD is the loaded classes, every map made, the monitor, each node by its number, and every
+-- message ever sent.
 pub record World : Type 0 where
   pub classes : Classes
   pub maps : List GroupMap
@@ -31,9 +33,10 @@ pub record World : Type 0 where
 abbrev pub opening : Classes → World
 opening classes = record { classes = classes; maps = []; monitor = no_maps; nodes = λ n. fresh; sent = [] }
 
--- WHAT MAY HAPPEN. A request comes to a node. The monitor makes a map of an acting list. A node sees a map, by its place
--- among all that were made. A message is delivered, by its place among all that were ever sent: so it may come late,
--- again, out of order or never. An event meets want of memory.
+-- WHAT MAY HAPPEN. A request comes to a node. The monitor makes a map of an acting list. A node
+-- sees a map, by its place among all that were made. A message is delivered, by its place among all
+-- that were ever sent: so it may come late, again, out of order or never. An event meets want of
+-- memory.
 pub data WorldEvent : Type 0 where
   RequestAt : (node : ℕ) → ClientRequest → WorldEvent
   MapMade : (acting : List ℕ) → WorldEvent
@@ -115,7 +118,8 @@ pub record StandsAt (list : List ClientRequest) (client number place : ℕ) : Ty
   pub of_client : request.client ≡ client
   pub of_number : request.number ≡ number
 
--- A reply names a place of the list at which a request of that client and number stands, and carries what is answered there.
+-- A reply names a place of the list at which a request of that client and number stands, and
+-- carries what is answered there.
 abbrev pub IsTrueOf : Classes → List ClientRequest → MessageKind → Type 0
 IsTrueOf classes list (ReplyTo client number place answer) =
     StandsAt list client number place × (reply_at classes list place ≡ Some answer)
@@ -127,9 +131,10 @@ KeepsCommitted s (LogOf interval list) = interval ≡ s.interval → s.status �
 KeepsCommitted s (Install m list) = m.interval ≡ s.interval → s.status ≡ Waiting → IsPrefix (committed_list s) list
 KeepsCommitted s _ = Unit {0}
 
--- AN AGREED WORLD, after these events: there is one legal list such that each node's committed list is a beginning of it,
--- each of its requests was brought, and each reply ever sent is its request's; and what a node would send again was
--- sent before, and what it would take keeps what it has committed.
+-- AN AGREED WORLD, after these events: there is one legal list such that each node's committed list
+-- is a beginning of it, each of its requests was brought, and each reply ever sent is its
+-- request's; and what a node would send again was sent before, and what it would take keeps what it
+-- has committed.
 pub record IsAgreed (events : List WorldEvent) (w : World) : Type 0 where
   pub list : List ClientRequest
   pub legal : Legal w.classes list
@@ -152,7 +157,8 @@ abbrev pub NoneIsCut : Type 0
 NoneIsCut = (classes : Classes) (events : List WorldEvent) (event : WorldEvent) →
     IsUncut (run events (opening classes)) (happens (run events (opening classes)) event)
 
--- Of one node: an event keeps the committed length within the log, and cuts the committed list nowhere.
+-- Of one node: an event keeps the committed length within the log, and cuts the committed list
+-- nowhere.
 abbrev pub StepsCutNothing : Type 0
 StepsCutNothing = (classes : Classes) (n : ℕ) (s : NodeState) (event : Event) → s.committed ≤ length s.log →
     ((local_step classes n s event).node.committed ≤ length (local_step classes n s event).node.log)

@@ -1,5 +1,5 @@
-//! Which values of the protocol may go to another thread, and which may be shared by threads, for the proofs of the crates
-//! above. Each function does nothing.
+//! Which values of the protocol may go to another thread, and which may be shared by threads, for
+//! the proofs of the crates above. Each function does nothing.
 ghost use denote.Param.Send.{IsSend, IsSync};
 ghost use Rattle.group_world.specs.contracts.event.Event as event;
 ghost use Rattle.group_world.specs.contracts.group_map.GroupMap as map;

@@ -1,7 +1,8 @@
-//! What a group of nodes agrees on, whatever the network loses, repeats or reorders and whichever nodes stop.
-//! The crate has the types that a node and the monitor handle (maps, events, messages, refusals), the rules of the
-//! protocol as definitions over lists (`specs/Rules.antt`, one definition a rule, and `specs/World.antt`, from the world to
-//! the agreed world), and the theorem: `agreement`. The crate above proves that its code carries out these rules.
+//! What a group of nodes agrees on, whatever the network loses, repeats or reorders and whichever
+//! nodes stop. The crate has the types that a node and the monitor handle (maps, events, messages,
+//! refusals), the rules of the protocol as definitions over lists (`specs/Rules.antt`, one
+//! definition a rule, and `specs/World.antt`, from the world to the agreed world), and the theorem:
+//! `agreement`. The crate above proves that its code carries out these rules.
 #![tactic(auto)]
 
 mod answer;

@@ -3,7 +3,8 @@ ghost use Rattle.std.specs.Prelude.{◌≡◌};
 use crate::message::Packet;
 use std::marker::Model;
 
-/// The messages that an event sends, in their order, each with its receiver. Contracts see the list.
+/// The messages that an event sends, in their order, each with its receiver. Contracts see the
+/// list.
 #[derive(Drop)]
 pub struct Messages {
     items: Vec<Packet>,

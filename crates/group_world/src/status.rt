@@ -9,7 +9,8 @@ pub enum Status {
     Installed,
     /// The primary, which asks the members of the last activated interval for their lists.
     Asking,
-    /// The primary, which has adopted a list, and has the others install it and the monitor activate the interval.
+    /// The primary, which has adopted a list, and has the others install it and the monitor
+    /// activate the interval.
     Installing,
     /// The primary, which takes requests.
     Active,

@@ -10,8 +10,8 @@ pub record Takes : Type 0 where
   pub arguments : List Argument
   pub writes : Bool
 
--- What a helper is given, in the order of its registers: its numbers, the bytes of its readable ranges, the length of
--- its writable range, and the client for whom the method runs.
+-- What a helper is given, in the order of its registers: its numbers, the bytes of its readable
+-- ranges, the length of its writable range, and the client for whom the method runs.
 pub record Given : Type 0 where
   pub numbers : List ℕ
   pub texts : List (List ℕ)
@@ -47,7 +47,8 @@ abbrev pub where_present : PlainObject → (Content → Answer) → Answer
 where_present None answer = refuses ENOENT
 where_present (Some o) answer = answer o
 
--- What a helper does: its answer, what it copies, the object after, and the output length where it sets that.
+-- What a helper does: its answer, what it copies, the object after, and the output length where it
+-- sets that.
 pub record Effect : Type 0 where
   pub answer : ℕ
   pub bytes : List ℕ

@@ -11,8 +11,8 @@ pub record IsWithinLimits (room : ℕ) (e : Effect) : Type 0 where
   pub bytes : AreBytes e.bytes
   pub short : length e.bytes ≤ room
 
--- Of an object within the limits every helper leaves one within them, where each text that it is given is as long as a
--- value may be.
+-- Of an object within the limits every helper leaves one within them, where each text that it is
+-- given is as long as a value may be.
 abbrev pub EffectsAreWithinLimits : Type 0
 EffectsAreWithinLimits =
     (id : ℕ) (object : PlainObject) (g : Given) → IsObject object → AllByRecursion IsValue g.texts → IsWithinLimits g.room (effect id object g)

@@ -1,5 +1,5 @@
--- The helpers, one row each: what it takes and what it does. Where a row names several conditions they are tried in
--- the order in which they stand. Numbers are whole numbers: nothing wraps.
+-- The helpers, one row each: what it takes and what it does. Where a row names several conditions
+-- they are tried in the order in which they stand. Numbers are whole numbers: nothing wraps.
 use Rattle.std.specs.Prelude.{ℕ, ◌+◌, ◌==◌, List, [], ◌∷◌, Option, Some, None, true, false, if◌then◌else◌, not, nat_lt, length}
 use Rattle.std.specs.Option.{option_map}
 use Rattle.std.specs.FinMap as fin
@@ -18,18 +18,20 @@ use Rattle.helpers.specs.Effect.{Takes, Given, number, text, Answer, gives, refu
 abbrev pub stat_answer : PlainObject → Answer
 stat_answer object = where_present object (λ o. gives (length o.bytes))
 
--- read: copies the bytes from a place on that exist, at most as many as there is room for; answers their count
+-- read: copies the bytes from a place on that exist, at most as many as there is room for; answers
+-- their count
 abbrev pub read_answer : PlainObject → ℕ → ℕ → Answer
 read_answer object at room = where_present object (λ o. copies (part o.bytes at room))
 
--- write: refused where it would pass the limit; creates an absent object, zeros fill a gap, and no bytes leave the data
--- as it is; answers how many bytes it wrote
+-- write: refused where it would pass the limit; creates an absent object, zeros fill a gap, and no
+-- bytes leave the data as it is; answers how many bytes it wrote
 abbrev pub write_effect : PlainObject → ℕ → List ℕ → Effect
 write_effect object at bytes =
     if nat_lt DATA_LIMIT (at + length bytes) then refused EFBIG object else
     changes (Some (record (content_of object) { bytes = spliced (content_of object).bytes at bytes })) (length bytes)
 
--- truncate: refused past the limit, then where the object is absent; cuts the data or extends it with zeros
+-- truncate: refused past the limit, then where the object is absent; cuts the data or extends it
+-- with zeros
 abbrev pub truncate_effect : PlainObject → ℕ → Effect
 truncate_effect object size =
     if nat_lt DATA_LIMIT size then refused EFBIG object else
@@ -39,8 +41,8 @@ truncate_effect object size =
 abbrev pub remove_effect : PlainObject → Effect
 remove_effect object = on_present object (λ o. changes None 0)
 
--- a value or a key that is looked up: refused where there is none, then where there is too little room for it; copies
--- it and answers its length
+-- a value or a key that is looked up: refused where there is none, then where there is too little
+-- room for it; copies it and answers its length
 abbrev pub found_answer : Option (List ℕ) → ℕ → Answer
 found_answer None room = refuses ENODATA
 found_answer (Some bytes) room = if nat_lt room (length bytes) then refuses ERANGE else copies bytes
@@ -51,14 +53,16 @@ getxattr_answer object name room =
     if not (is_named name) then refuses EINVAL else
     where_present object (λ o. found_answer (fin.get o.xattrs name) room)
 
--- setxattr: refused where the name is none, then where it is new and past the limit; creates an absent object
+-- setxattr: refused where the name is none, then where it is new and past the limit; creates an
+-- absent object
 abbrev pub setxattr_effect : PlainObject → List ℕ → List ℕ → Effect
 setxattr_effect object name value =
     if not (is_named name) then refused EINVAL object else
     if is_full XATTR_LIMIT (content_of object).xattrs name then refused ENOSPC object else
     changes (Some (record (content_of object) { xattrs = fin.insert (content_of object).xattrs name value })) 0
 
--- rmxattr: refused where the name is none, then where the object is absent, then where it has no such xattr
+-- rmxattr: refused where the name is none, then where the object is absent, then where it has no
+-- such xattr
 abbrev pub rmxattr_effect : PlainObject → List ℕ → Effect
 rmxattr_effect object name =
     if not (is_named name) then refused EINVAL object else
@@ -85,8 +89,8 @@ map_rm_effect object key =
     on_present object (λ o. if not (fin.contains_key o.omap key) then refused ENODATA (Some o) else
     changes (Some (record o { omap = fin.remove o.omap key })) 0)
 
--- map_next: the least key above the given bytes, which are no key where they are none; refused where these are too
--- many, then where the object is absent
+-- map_next: the least key above the given bytes, which are no key where they are none; refused
+-- where these are too many, then where the object is absent
 abbrev pub map_next_answer : PlainObject → List ℕ → ℕ → Answer
 map_next_answer object key room =
     if nat_lt NAME_LIMIT (length key) then refuses EINVAL else

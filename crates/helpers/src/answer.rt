@@ -7,7 +7,8 @@ use crate::errno::{EEXIST, EFBIG, EINVAL, ENODATA, ENOENT, ENOMEM, ENOSPC, ERANG
 use object_store::StoreError;
 use txn::NoMemory;
 
-/// What a helper answers in register 0, and the bytes that it copies to the beginning of its writable range.
+/// What a helper answers in register 0, and the bytes that it copies to the beginning of its
+/// writable range.
 #[derive(Clone, Copy)]
 pub struct HelperAnswer<'a> {
     pub number: u64,
@@ -38,14 +39,15 @@ fn errno_of(error: StoreError) -> u64
     }
 }
 
-/// What a helper answers if its change came to this: the number that it gives, or the negative of an error number.
+/// What a helper answers if its change came to this: the number that it gives, or the negative of
+/// an error number.
 pub fn answered(change: Result<(), StoreError>, number: u64) -> Result<u64, NoMemory>
     ensures answer { IfOk result (λ n. n ≡ number_of change number) }
     ensures no_want { IfOk result (λ _. IsAnswer change) }
     ensures want { OnErr result (change ≡ Err StoreError.NoMemory) }
 {
-    // Want of memory ends the call and has no error number here: what a method computes depends on its object, client and
-    // input alone, so every replica computes the same.
+    // Want of memory ends the call and has no error number here: what a method computes depends on
+    // its object, client and input alone, so every replica computes the same.
     match change {
         Ok(()) => Ok(number),
         Err(StoreError::NoMemory) => Err(NoMemory),

@@ -7,8 +7,9 @@ use crate::errno::{EEXIST, ENOENT};
 use std::alloc::Global;
 use txn::{NoMemory, Staged};
 
-/// Helper 3, `write`: writes bytes into the data at a place. It creates an absent object, zeros fill a gap, and no
-/// bytes leave the data as it is. It answers how many bytes it wrote. Refused: EFBIG past the most bytes of an object.
+/// Helper 3, `write`: writes bytes into the data at a place. It creates an absent object, zeros
+/// fill a gap, and no bytes leave the data as it is. It answers how many bytes it wrote. Refused:
+/// EFBIG past the most bytes of an object.
 pub fn write(alloc: Global, staged: &mut Staged, at: u64, bytes: &[u8]) -> Result<u64, NoMemory>
     ensures answer { IfOk result (λ n. n ≡ (write_effect staged.old.after at bytes.now).answer) }
     ensures object { IfOk result (λ _. staged.new.after ≡ (write_effect staged.old.after at bytes.now).object) }
@@ -18,8 +19,8 @@ pub fn write(alloc: Global, staged: &mut Staged, at: u64, bytes: &[u8]) -> Resul
     answered(staged.write(alloc, at, bytes), bytes.len() as u64)
 }
 
-/// Helper 4, `truncate`: cuts the data to a length, or extends it with zeros. It answers 0. Refused, in this order:
-/// EFBIG past the most bytes of an object, ENOENT.
+/// Helper 4, `truncate`: cuts the data to a length, or extends it with zeros. It answers 0.
+/// Refused, in this order: EFBIG past the most bytes of an object, ENOENT.
 pub fn truncate(alloc: Global, staged: &mut Staged, size: u64) -> Result<u64, NoMemory>
     ensures answer { IfOk result (λ n. n ≡ (truncate_effect staged.old.after size).answer) }
     ensures object { IfOk result (λ _. staged.new.after ≡ (truncate_effect staged.old.after size).object) }
@@ -42,8 +43,9 @@ pub fn remove(staged: &mut Staged) -> u64
     0
 }
 
-/// Helper 7, `setxattr`: sets an xattr, of an absent object too, which it creates. It answers 0. Refused, in this
-/// order: EINVAL if the name is none, ENOSPC if it is new and the object has all xattrs that it may have.
+/// Helper 7, `setxattr`: sets an xattr, of an absent object too, which it creates. It answers 0.
+/// Refused, in this order: EINVAL if the name is none, ENOSPC if it is new and the object has all
+/// xattrs that it may have.
 pub fn setxattr(
     alloc: Global,
     staged: &mut Staged,
@@ -59,8 +61,8 @@ pub fn setxattr(
     answered(staged.set_xattr(alloc, name, value), 0)
 }
 
-/// Helper 8, `rmxattr`: removes an xattr. It answers 0. Refused, in this order: EINVAL if the name is none, ENOENT,
-/// ENODATA if it has no such xattr.
+/// Helper 8, `rmxattr`: removes an xattr. It answers 0. Refused, in this order: EINVAL if the name
+/// is none, ENOENT, ENODATA if it has no such xattr.
 pub fn rmxattr(alloc: Global, staged: &mut Staged, name: &[u8]) -> Result<u64, NoMemory>
     ensures answer { IfOk result (λ n. n ≡ (rmxattr_effect staged.old.after name.now).answer) }
     ensures object { IfOk result (λ _. staged.new.after ≡ (rmxattr_effect staged.old.after name.now).object) }
@@ -96,8 +98,8 @@ pub fn map_rm(alloc: Global, staged: &mut Staged, key: &[u8]) -> Result<u64, NoM
     answered(staged.remove_key(alloc, key), 0)
 }
 
-/// Helper 14, `create`: creates an absent object. It answers 0 and takes no memory. Refused: EEXIST if the object is
-/// there and is to be new, which any number but 0 says.
+/// Helper 14, `create`: creates an absent object. It answers 0 and takes no memory. Refused: EEXIST
+/// if the object is there and is to be new, which any number but 0 says.
 pub fn create(staged: &mut Staged, exclusive: u64) -> u64
     ensures answer { result ≡ (create_effect staged.old.after exclusive).answer }
     ensures object { staged.new.after ≡ (create_effect staged.old.after exclusive).object }

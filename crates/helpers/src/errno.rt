@@ -1,4 +1,5 @@
-//! The numbers of the errors that methods answer, as Linux has them. An answer is the negative of one.
+//! The numbers of the errors that methods answer, as Linux has them. An answer is the negative of
+//! one.
 
 /// The object is absent.
 pub const ENOENT: u64 = 2;

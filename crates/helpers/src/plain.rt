@@ -2,8 +2,8 @@ ghost use Rattle.std.specs.Prelude.{◌≡◌, None, Some};
 ghost use Rattle.helpers.specs.Effect.{gives};
 ghost use Rattle.helpers.specs.Table.{out_len_effect};
 
-/// Helper 13, `out_len`: the first `n` bytes of the output region are the output; by its signature they are at most
-/// out_cap. It answers 0 and touches no object.
+/// Helper 13, `out_len`: the first `n` bytes of the output region are the output; by its signature
+/// they are at most out_cap. It answers 0 and touches no object.
 pub fn out_len(output_len: &mut usize, n: u64) -> u64
     ensures answer { result ≡ (out_len_effect None n).answer }
     ensures length { Some output_len.new ≡ (out_len_effect None n).out_len }

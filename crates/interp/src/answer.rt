@@ -12,8 +12,8 @@ use object_store::Object;
 use std::alloc::Global;
 use txn::Change;
 
-/// The answer of a run that came to its exit with a code, in that many steps. A negative code keeps nothing of what the run
-/// did.
+/// The answer of a run that came to its exit with a code, in that many steps. A negative code keeps
+/// nothing of what the run did.
 pub fn answer(
     alloc: Global,
     given: Option<&Object>,

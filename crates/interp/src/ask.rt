@@ -11,8 +11,8 @@ use helpers::{Helper, bytes_in};
 use std::alloc::Global;
 use txn::{NoMemory, Staged};
 
-/// Does what a helper does, on the newest object, the output's length and the memory, and gives its answer. Names and
-/// values are read out of the memory, and so is what is copied into it.
+/// Does what a helper does, on the newest object, the output's length and the memory, and gives its
+/// answer. Names and values are read out of the memory, and so is what is copied into it.
 fn answer(
     alloc: Global,
     helper: Helper,
@@ -58,8 +58,8 @@ fn answer(
     }
 }
 
-/// A call of the helper of an id (RFC 9669 section 4.3.1). No register is unset after it: the machine leaves registers
-/// 1 to 5 unset.
+/// A call of the helper of an id (RFC 9669 section 4.3.1). No register is unset after it: the
+/// machine leaves registers 1 to 5 unset.
 #[inline(never)]
 pub fn ask(alloc: Global, run: &mut Run, memory: &mut [u8], id: u32) -> Result<(), NoMemory>
     requires { CanDo run.old.caps run.old.staged.before run.old memory.old (help run.old.caps (first_layout run.old.caps) id) }

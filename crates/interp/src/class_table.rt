@@ -60,7 +60,8 @@ pub struct ClassTable {
     classes: Vec<VerifiedClass>,
 }
 
-// Written out, so that a crate that drops a table calls this, and proves nothing of its classes once more.
+// Written out, so that a crate that drops a table calls this, and proves nothing of its classes
+// once more.
 impl Drop for ClassTable {
     fn drop(self) {
         let ClassTable { classes } = self;

@@ -1,4 +1,5 @@
-//! Calls of verified methods: `call` gives the machine's outcome and the change of the object, and the table of loaded classes.
+//! Calls of verified methods: `call` gives the machine's outcome and the change of the object, and
+//! the table of loaded classes.
 #![tactic(auto)]
 
 mod act;

@@ -17,7 +17,8 @@ pub record Book : Type 0 where
   -- each group's monitor, by the group's number
   pub monitors : List MonitorState
 
--- What is true of every book: its numbers are within their limits, and the newest maps have one epoch.
+-- What is true of every book: its numbers are within their limits, and the newest maps have one
+-- epoch.
 pub record IsBook (nodes replicas epoch : ℕ) (monitors : List MonitorState) : Type 0 where
   pub few_nodes : nodes ≤ 16
   pub some_replicas : 1 ≤ replicas
@@ -47,7 +48,8 @@ abbrev pub book_refusal : Book → List ℕ → Option MapError
 book_refusal b [] = Some NoneUp
 book_refusal b (n ∷ ns) = refusal_of b (n ∷ ns)
 
--- the acting list of a group: the up nodes by rank, as many as there are replicas, or all where fewer are up
+-- the acting list of a group: the up nodes by rank, as many as there are replicas, or all where
+-- fewer are up
 abbrev pub acting_list : ℕ → List ℕ → ℕ → List ℕ
 acting_list replicas up group = take replicas (ranked group up)
 

@@ -1,4 +1,5 @@
--- A reader of the contracts must believe Book and Refusal. Errors has how refusals of lower crates are passed on.
+-- A reader of the contracts must believe Book and Refusal. Errors has how refusals of lower crates
+-- are passed on.
 pub mod Book
 pub mod Errors
 pub mod Refusal

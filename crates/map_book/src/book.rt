@@ -13,8 +13,9 @@ use placement::{ClusterMap, NodeId, acting, acting_sets, are_nodes};
 use std::alloc::Global;
 use std::marker::Model;
 
-/// The monitors of a cluster's groups, which make their maps together: the newest maps have one epoch. Contracts see how
-/// many nodes the cluster has, how many act for a group, that epoch, and each group's monitor.
+/// The monitors of a cluster's groups, which make their maps together: the newest maps have one
+/// epoch. Contracts see how many nodes the cluster has, how many act for a group, that epoch, and
+/// each group's monitor.
 #[derive(Drop)]
 pub struct MapBook {
     alloc: Global,
@@ -51,7 +52,8 @@ fn are_below(bound: u64, nodes: &[NodeId]) -> bool
     true
 }
 
-/// A monitor after a map more, whose acting list is the placement's, and that map. It costs copies of three maps.
+/// A monitor after a map more, whose acting list is the placement's, and that map. It costs copies
+/// of three maps.
 fn moved(
     alloc: Global,
     monitor: &Monitor,
@@ -105,8 +107,8 @@ fn all_moved(
 }
 
 impl MapBook {
-    /// The book of a cluster with this number of nodes and groups, and with `replicas` nodes that act for a group. No map is made
-    /// yet. Only memory may be refused.
+    /// The book of a cluster with this number of nodes and groups, and with `replicas` nodes that
+    /// act for a group. No map is made yet. Only memory may be refused.
     pub fn new(alloc: Global, nodes: u64, replicas: usize, groups: u64) -> Result<MapBook, MapError>
         requires nodes { nodes ≤ 16 }
         requires replicas { (1 ≤ replicas) × (replicas ≤ 3) }
@@ -155,13 +157,14 @@ impl MapBook {
         self.monitors[group].newest()
     }
 
-    /// Makes a map more of each group, and gives them in the order of the groups. Each acting list is the placement's of
-    /// these up nodes: the first by falling score, as many as there are replicas. Where a group's acting list stays, its
-    /// interval does, and it needn't be told.
+    /// Makes a map more of each group, and gives them in the order of the groups. Each acting list
+    /// is the placement's of these up nodes: the first by falling score, as many as there are
+    /// replicas. Where a group's acting list stays, its interval does, and it needn't be told.
     ///
-    /// Refused: `NoneUp` where no node is up; `Limit` where a number isn't that of a node of the cluster, or stands twice;
-    /// `EpochsUsedUp` after epoch 2^32 - 1; of these the first. Memory may be refused in place of an answer. After a
-    /// refusal no group's monitor has moved: all that grows does so before the first moves.
+    /// Refused: `NoneUp` where no node is up; `Limit` where a number isn't that of a node of the
+    /// cluster, or stands twice; `EpochsUsedUp` after epoch 2^32 - 1; of these the first. Memory
+    /// may be refused in place of an answer. After a refusal no group's monitor has moved: all that
+    /// grows does so before the first moves.
     pub fn new_map(&mut self, up: &[NodeId]) -> Result<Vec<NewMap>, MapError>
         ensures maps { IfOk result (λ v. v.items ≡ new_maps self.old up.now) }
         ensures acting { IfOk result (λ v. All (λ n. is_acting n.map.acting ≡ true) v.items) }
@@ -192,8 +195,9 @@ impl MapBook {
         Ok(maps)
     }
 
-    /// Activates an interval of a group, as its `Monitor::activate` does; the other groups stay as they are. It refuses by
-    /// `NotNewest` where the interval isn't that of the group's newest map, and changes nothing then. It takes no memory.
+    /// Activates an interval of a group, as its `Monitor::activate` does; the other groups stay as
+    /// they are. It refuses by `NotNewest` where the interval isn't that of the group's newest map,
+    /// and changes nothing then. It takes no memory.
     pub fn activate(&mut self, group: usize, interval: Epoch) -> Result<(), MonitorError>
         requires { group < length self.old.monitors }
         ensures answer { (m : MonitorState) → slice_get self.old.monitors group ≡ Some m → MatchResult result (λ _. activation_refusal m interval ≡ None) (λ e. activation_refusal m interval ≡ Some e) }

@@ -1,4 +1,5 @@
-//! Which of the values here may go to another thread, for the proofs of the crates above. The functions do nothing.
+//! Which of the values here may go to another thread, for the proofs of the crates above. The
+//! functions do nothing.
 ghost use denote.Param.Send.{IsSend};
 ghost use Rattle.map_book.specs.contracts.book.MapBook as book;
 ghost use Rattle.map_book.specs.contracts.new_map.NewMap as new_map;

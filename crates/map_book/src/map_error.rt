@@ -7,8 +7,8 @@ use std::alloc::{AllocError, AllocFailed};
 use std::error::Error;
 use std::fmt;
 
-/// Why no maps are made; all monitors are then as before. It prints as number and name, as `1 NoneUp`. Of the first three
-/// the lowest that applies.
+/// Why no maps are made; all monitors are then as before. It prints as number and name, as `1
+/// NoneUp`. Of the first three the lowest that applies.
 #[derive(Clone, Copy, Debug, PartialEq, Eq, Drop)]
 pub enum MapError {
     /// No node is up.

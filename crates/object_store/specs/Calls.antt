@@ -1,5 +1,6 @@
--- What each call on an object answers, absent or there: the first refusal that applies, or the answer. Of several
--- refusals the first is of a name's length, then of a size, then absent, present, no such name, too many.
+-- What each call on an object answers, absent or there: the first refusal that applies, or the
+-- answer. Of several refusals the first is of a name's length, then of a size, then absent,
+-- present, no such name, too many.
 use Rattle.std.specs.Prelude.{ℕ, ◌+◌, Bool, ◌&&◌, not, List, Some, None, Result, Ok, Err, if◌then◌else◌, nat_lt, ◌==◌, length, is_some}
 use Rattle.std.specs.Option.{ok_or}
 use Rattle.std.specs.FinMap as fin

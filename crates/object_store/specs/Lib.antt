@@ -1,5 +1,5 @@
--- A reader must believe Object (what an object holds, and its limits), Edits, Calls, Names, Refusal and Returned.
--- Laws is proved of Calls. Extents and Shared say what the code keeps.
+-- A reader must believe Object (what an object holds, and its limits), Edits, Calls, Names, Refusal
+-- and Returned. Laws is proved of Calls. Extents and Shared say what the code keeps.
 pub mod Object
 pub mod Edits
 pub mod Calls

@@ -1,5 +1,5 @@
-//! The calls on one object, absent or there. A read takes no memory. A change leaves the object that it is given as it is, and makes what it becomes, sharing
-//! all that it doesn't touch.
+//! The calls on one object, absent or there. A read takes no memory. A change leaves the object
+//! that it is given as it is, and makes what it becomes, sharing all that it doesn't touch.
 ghost use Rattle.std.specs.Prelude.{◌≡◌, Result, IfOk, IfErr, Ok, Err, if◌then◌else◌, nat_lt, length};
 ghost use Rattle.std.specs.Option.{option_copied};
 ghost use Rattle.object_store.specs.Object.{Content, IsName, IsValue, content_of};
@@ -20,7 +20,8 @@ pub fn stat(object: Option<&Object>) -> Result<usize, StoreError>
     Ok(there(object)?.len())
 }
 
-/// Copies the bytes from a place on into a buffer, as many as there are and as fit, and answers how many. Refused: 1 Absent; the buffer is then as it was.
+/// Copies the bytes from a place on into a buffer, as many as there are and as fit, and answers how
+/// many. Refused: 1 Absent; the buffer is then as it was.
 pub fn read(object: Option<&Object>, at: u64, out: &mut [u8]) -> Result<usize, StoreError>
     ensures count { result ≡ spec.count (spec.read (option_copied object.entry) at (length out.old)) }
     ensures bytes { out.new ≡ spec.filled (spec.read (option_copied object.entry) at (length out.old)) out.old }
@@ -42,7 +43,8 @@ pub fn get_key<'a>(object: Option<&'a Object>, key: &[u8]) -> Result<&'a [u8], S
     named(object, key)?.key(key).ok_or(StoreError::NoAttr)
 }
 
-/// The least key of the omap above these bytes, which may be none. Refused: 6 Range past `NAME_LIMIT`, 1 Absent, 3 NoAttr.
+/// The least key of the omap above these bytes, which may be none. Refused: 6 Range past
+/// `NAME_LIMIT`, 1 Absent, 3 NoAttr.
 pub fn next_key<'a>(object: Option<&'a Object>, key: &[u8]) -> Result<&'a [u8], StoreError>
     ensures { behind result ≡ spec.next_key (option_copied object.entry) key.now }
 {
@@ -52,7 +54,8 @@ pub fn next_key<'a>(object: Option<&'a Object>, key: &[u8]) -> Result<&'a [u8], 
     there(object)?.key_above(key).ok_or(StoreError::NoAttr)
 }
 
-/// Text written at a place; it creates an object that is absent. Zeros fill a gap, and no bytes leave the data as it is. Refused: 4 TooBig, 7 NoMemory.
+/// Text written at a place; it creates an object that is absent. Zeros fill a gap, and no bytes
+/// leave the data as it is. Refused: 4 TooBig, 7 NoMemory.
 pub fn write(
     alloc: Global,
     object: Option<&Object>,
@@ -81,7 +84,8 @@ pub fn truncate(alloc: Global, object: Option<&Object>, len: u64) -> Result<Obje
     finished(alloc, new, done)
 }
 
-/// An xattr set; it creates an object that is absent. Refused: 6 Range, 4 TooBig, 5 TooMany, 7 NoMemory.
+/// An xattr set; it creates an object that is absent. Refused: 6 Range, 4 TooBig, 5 TooMany, 7
+/// NoMemory.
 pub fn set_xattr(
     alloc: Global,
     object: Option<&Object>,
@@ -96,7 +100,8 @@ pub fn set_xattr(
     finished(alloc, new, done)
 }
 
-/// A key of the omap set; it creates an object that is absent. Refused: 6 Range, 4 TooBig, 5 TooMany, 7 NoMemory.
+/// A key of the omap set; it creates an object that is absent. Refused: 6 Range, 4 TooBig, 5
+/// TooMany, 7 NoMemory.
 pub fn set_key(
     alloc: Global,
     object: Option<&Object>,
@@ -133,8 +138,8 @@ pub fn remove_key(alloc: Global, object: Option<&Object>, key: &[u8]) -> Result<
     finished(alloc, new, done)
 }
 
-/// An object without data, xattrs and keys if there is none; one that is there stays as it is. Refused: 2 Exists, if it is there and the creation is
-/// exclusive, 7 NoMemory.
+/// An object without data, xattrs and keys if there is none; one that is there stays as it is.
+/// Refused: 2 Exists, if it is there and the creation is exclusive, 7 NoMemory.
 pub fn create(object: Option<&Object>, exclusive: bool) -> Result<Object, StoreError>
     ensures { Gives (λ o. o) result (spec.create (option_copied object.entry) exclusive) }
 {

@@ -15,18 +15,20 @@ pub trait Data: Drop {
     fn len(&self) -> usize
         ensures { result ≡ length (bytes self.now) };
 
-    /// Copies the bytes from a place on into a buffer, as many as there are and as fit, and answers how many.
+    /// Copies the bytes from a place on into a buffer, as many as there are and as fit, and answers
+    /// how many.
     fn read(&self, at: u64, out: &mut [u8]) -> usize
         ensures count { result ≡ length (part (bytes self.now) at (length out.old)) }
         ensures bytes { out.new ≡ overlaid (part (bytes self.now) at (length out.old)) out.old };
 
-    /// Writes bytes at a place. Zeros fill a gap, and no bytes leave the data as it is, wherever they stand. Refused: 4 TooBig past `DATA_LIMIT`,
-    /// 7 NoMemory; nothing has changed then.
+    /// Writes bytes at a place. Zeros fill a gap, and no bytes leave the data as it is, wherever
+    /// they stand. Refused: 4 TooBig past `DATA_LIMIT`, 7 NoMemory; nothing has changed then.
     fn write(&mut self, alloc: Global, at: u64, text: &[u8]) -> Result<(), DataError>
         ensures answer { GivesData (λ _. bytes self.new) result (written (bytes self.old) at text.now) }
         ensures err { OnErr result (bytes self.new ≡ bytes self.old) };
 
-    /// Cuts the data, or extends it with zeros. Refused: 4 TooBig past `DATA_LIMIT`, 7 NoMemory; nothing has changed then.
+    /// Cuts the data, or extends it with zeros. Refused: 4 TooBig past `DATA_LIMIT`, 7 NoMemory;
+    /// nothing has changed then.
     fn truncate(&mut self, alloc: Global, len: u64) -> Result<(), DataError>
         ensures answer { GivesData (λ _. bytes self.new) result (truncated (bytes self.old) len) }
         ensures err { OnErr result (bytes self.new ≡ bytes self.old) };

@@ -15,7 +15,8 @@ pub enum Edit {
     Truncate(u64),
 }
 
-/// Makes all edits in order, or none: it is refused as the first refused edit is, 4 TooBig or 7 NoMemory, and the data is then as it was.
+/// Makes all edits in order, or none: it is refused as the first refused edit is, 4 TooBig or 7
+/// NoMemory, and the data is then as it was.
 pub fn edit_all<D: Data>(alloc: Global, content: &mut D, edits: &[Edit]) -> Result<(), DataError>
     ensures answer { GivesData (λ _. D.bytes content.new) result (all_edited (D.bytes content.old) edits.now) }
     ensures err { OnErr result (D.bytes content.new ≡ D.bytes content.old) }

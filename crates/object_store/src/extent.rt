@@ -8,7 +8,8 @@ use std::sync::Arc;
 /// The most bytes of an extent.
 pub(crate) const EXTENT_LIMIT: usize = 4096;
 
-/// One to 4,096 bytes that never change once they are made, shared by all data that has them. Contracts see the bytes.
+/// One to 4,096 bytes that never change once they are made, shared by all data that has them.
+/// Contracts see the bytes.
 #[derive(Drop)]
 pub(crate) struct Extent {
     content: Arc<Vec<u8>>,

@@ -12,8 +12,9 @@ use std::alloc::{AllocError, Global};
 use std::marker::Model;
 use std::sync::Arc;
 
-/// Data in extents of 1 to 4,096 bytes, as few as it needs, which never change once they are made: a copy costs one pointer, and a write copies the extents that
-/// it touches and shares the others. Contracts see the bytes.
+/// Data in extents of 1 to 4,096 bytes, as few as it needs, which never change once they are made:
+/// a copy costs one pointer, and a write copies the extents that it touches and shares the others.
+/// Contracts see the bytes.
 #[derive(Drop)]
 pub struct ExtentData {
     parts: Option<Arc<Vec<Extent>>>,

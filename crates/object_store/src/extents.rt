@@ -129,8 +129,8 @@ fn append(parts: &[Extent], from: usize, to: usize, out: &mut Vec<u8>) -> Result
     Ok(())
 }
 
-/// Copies the bytes of a range to the front of a buffer, as far as they exist, and answers how many. Of the extents before
-/// it only the lengths are read, and of those past it nothing.
+/// Copies the bytes of a range to the front of a buffer, as far as they exist, and answers how
+/// many. Of the extents before it only the lengths are read, and of those past it nothing.
 pub(crate) fn copy_out(parts: &[Extent], from: usize, to: usize, out: &mut [u8]) -> usize
     requires order { from ≤ to }
     requires room { to - from ≤ length out.old }

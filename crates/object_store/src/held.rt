@@ -17,7 +17,8 @@ use shared_map::SharedMap;
 use std::alloc::{AllocError, Global};
 use std::marker::Model;
 
-/// What an object holds: its data, its xattrs and its omap, always within the limits. A copy shares all of it and costs three pointers. Contracts see its content.
+/// What an object holds: its data, its xattrs and its omap, always within the limits. A copy shares
+/// all of it and costs three pointers. Contracts see its content.
 #[derive(Drop)]
 pub(crate) struct Held {
     bytes: ExtentData,
@@ -64,7 +65,8 @@ impl Held {
         self.bytes.len()
     }
 
-    /// Copies the bytes from a place on into a buffer, as many as there are and as fit, and answers how many. It takes no memory.
+    /// Copies the bytes from a place on into a buffer, as many as there are and as fit, and answers
+    /// how many. It takes no memory.
     pub(crate) fn read(&self, at: u64, out: &mut [u8]) -> usize
         ensures count { result ≡ length (part self.now.bytes at (length out.old)) }
         ensures bytes { out.new ≡ overlaid (part self.now.bytes at (length out.old)) out.old }

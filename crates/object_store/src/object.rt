@@ -13,13 +13,15 @@ use std::alloc::{AllocError, Global};
 use std::marker::Model;
 use std::sync::Arc;
 
-/// An object: its data, its xattrs and its omap, always within the limits. What it holds never changes once it is made, so a copy shares all of it and costs
-/// one pointer. Contracts see what it holds.
+/// An object: its data, its xattrs and its omap, always within the limits. What it holds never
+/// changes once it is made, so a copy shares all of it and costs one pointer. Contracts see what it
+/// holds.
 pub struct Object {
     held: Option<Arc<Held>>,
 }
 
-// Written out, so that a crate that drops an object calls this and needn't prove again how its parts are dropped.
+// Written out, so that a crate that drops an object calls this and needn't prove again how its
+// parts are dropped.
 impl Drop for Object {
     fn drop(self) {
         let Object { held } = self;
@@ -87,7 +89,8 @@ impl Object {
         }
     }
 
-    /// Copies the bytes from a place on into a buffer, as many as there are and as fit, and answers how many. It takes no memory.
+    /// Copies the bytes from a place on into a buffer, as many as there are and as fit, and answers
+    /// how many. It takes no memory.
     pub fn read(&self, at: u64, out: &mut [u8]) -> usize
         ensures count { result ≡ length (part self.now.bytes at (length out.old)) }
         ensures bytes { out.new ≡ overlaid (part self.now.bytes at (length out.old)) out.old }

@@ -15,7 +15,8 @@ use shared_map::SharedMap;
 use std::alloc::Global;
 use std::marker::Model;
 
-/// Objects by name. A copy shares all of them and costs one pointer. Contracts see the finite map from names to what the objects hold.
+/// Objects by name. A copy shares all of them and costs one pointer. Contracts see the finite map
+/// from names to what the objects hold.
 #[derive(Drop)]
 pub struct Objects {
     by_name: SharedMap<Object>,
@@ -58,7 +59,8 @@ impl Objects {
         self.by_name.get(name.text().as_bytes())
     }
 
-    /// The object at a place in the order of the names, from 0 on, and its name, in the logarithm of the number of objects.
+    /// The object at a place in the order of the names, from 0 on, and its name, in the logarithm
+    /// of the number of objects.
     pub fn nth(&self, n: usize) -> Option<(&[u8], &Object)>
         ensures { entry_behind result ≡ nth self.now n }
     {
@@ -82,7 +84,8 @@ impl Objects {
         })
     }
 
-    /// Makes this the object of that name, in place of the one that is there. Refused: 7 NoMemory; nothing has changed then.
+    /// Makes this the object of that name, in place of the one that is there. Refused: 7 NoMemory;
+    /// nothing has changed then.
     pub fn put(
         &mut self,
         alloc: Global,
@@ -118,7 +121,8 @@ impl Objects {
         Ok(self.by_name.remove(alloc, name.text().as_bytes())?)
     }
 
-    /// Makes the object of that name equal to this one, which it shares, or absent. Refused: 7 NoMemory; nothing has changed then.
+    /// Makes the object of that name equal to this one, which it shares, or absent. Refused: 7
+    /// NoMemory; nothing has changed then.
     pub fn store(
         &mut self,
         alloc: Global,
@@ -142,8 +146,8 @@ impl Objects {
         calls::stat(self.get(name))
     }
 
-    /// Copies the bytes of an object from a place on into a buffer, as many as there are and as fit, and answers how many. Refused: 1 Absent; the buffer is
-    /// then as it was.
+    /// Copies the bytes of an object from a place on into a buffer, as many as there are and as
+    /// fit, and answers how many. Refused: 1 Absent; the buffer is then as it was.
     pub fn read(&self, name: &ObjectName, at: u64, out: &mut [u8]) -> Result<usize, StoreError>
         ensures count { result ≡ spec.count (spec.read (fin.get self.now name.now) at (length out.old)) }
         ensures bytes { out.new ≡ spec.filled (spec.read (fin.get self.now name.now) at (length out.old)) out.old }
@@ -165,15 +169,16 @@ impl Objects {
         calls::get_key(self.get(name), key)
     }
 
-    /// The least key of an object's omap above these bytes, which may be none. Refused: 6 Range past `NAME_LIMIT`, 1 Absent, 3 NoAttr.
+    /// The least key of an object's omap above these bytes, which may be none. Refused: 6 Range
+    /// past `NAME_LIMIT`, 1 Absent, 3 NoAttr.
     pub fn next_key(&self, name: &ObjectName, key: &[u8]) -> Result<&[u8], StoreError>
         ensures { behind result ≡ spec.next_key (fin.get self.now name.now) key.now }
     {
         calls::next_key(self.get(name), key)
     }
 
-    /// Writes text at a place of an object, which it creates if it is absent. Zeros fill a gap, and no bytes leave the data as it is. Refused: 4 TooBig,
-    /// 7 NoMemory; nothing has changed then.
+    /// Writes text at a place of an object, which it creates if it is absent. Zeros fill a gap, and
+    /// no bytes leave the data as it is. Refused: 4 TooBig, 7 NoMemory; nothing has changed then.
     pub fn write(
         &mut self,
         alloc: Global,
@@ -188,7 +193,8 @@ impl Objects {
         self.put_changed(alloc, name, changed)
     }
 
-    /// Cuts the data of an object, or extends it with zeros. Refused: 4 TooBig, 1 Absent, 7 NoMemory; nothing has changed then.
+    /// Cuts the data of an object, or extends it with zeros. Refused: 4 TooBig, 1 Absent, 7
+    /// NoMemory; nothing has changed then.
     pub fn truncate(&mut self, alloc: Global, name: &ObjectName, len: u64) -> Result<(), StoreError>
         ensures answer { Gives (λ _. self.new) result (after self.old name.now (spec.truncate (fin.get self.old name.now) len)) }
         ensures err { OnErr result (self.new ≡ self.old) }
@@ -197,7 +203,8 @@ impl Objects {
         self.put_changed(alloc, name, changed)
     }
 
-    /// Sets an xattr of an object, which it creates if it is absent. Refused: 6 Range, 4 TooBig, 5 TooMany, 7 NoMemory; nothing has changed then.
+    /// Sets an xattr of an object, which it creates if it is absent. Refused: 6 Range, 4 TooBig, 5
+    /// TooMany, 7 NoMemory; nothing has changed then.
     pub fn set_xattr(
         &mut self,
         alloc: Global,
@@ -212,7 +219,8 @@ impl Objects {
         self.put_changed(alloc, name, changed)
     }
 
-    /// Sets a key of the omap of an object, which it creates if it is absent. Refused: 6 Range, 4 TooBig, 5 TooMany, 7 NoMemory; nothing has changed then.
+    /// Sets a key of the omap of an object, which it creates if it is absent. Refused: 6 Range, 4
+    /// TooBig, 5 TooMany, 7 NoMemory; nothing has changed then.
     pub fn set_key(
         &mut self,
         alloc: Global,
@@ -227,7 +235,8 @@ impl Objects {
         self.put_changed(alloc, name, changed)
     }
 
-    /// Removes an xattr of an object. Refused: 6 Range, 1 Absent, 3 NoAttr, 7 NoMemory; nothing has changed then.
+    /// Removes an xattr of an object. Refused: 6 Range, 1 Absent, 3 NoAttr, 7 NoMemory; nothing has
+    /// changed then.
     pub fn remove_xattr(
         &mut self,
         alloc: Global,
@@ -241,7 +250,8 @@ impl Objects {
         self.put_changed(alloc, name, changed)
     }
 
-    /// Removes a key of the omap of an object. Refused: 6 Range, 1 Absent, 3 NoAttr, 7 NoMemory; nothing has changed then.
+    /// Removes a key of the omap of an object. Refused: 6 Range, 1 Absent, 3 NoAttr, 7 NoMemory;
+    /// nothing has changed then.
     pub fn remove_key(
         &mut self,
         alloc: Global,
@@ -255,8 +265,9 @@ impl Objects {
         self.put_changed(alloc, name, changed)
     }
 
-    /// Creates an object without data, xattrs and keys; one that is there stays as it is. Refused: 2 Exists, if it is there and the creation is exclusive,
-    /// 7 NoMemory; nothing has changed then.
+    /// Creates an object without data, xattrs and keys; one that is there stays as it is. Refused:
+    /// 2 Exists, if it is there and the creation is exclusive, 7 NoMemory; nothing has changed
+    /// then.
     pub fn create(
         &mut self,
         alloc: Global,

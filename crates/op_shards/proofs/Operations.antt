@@ -47,7 +47,8 @@ module _ {V : Type 0} where
   only_one x v (suc by) e = absurd (some-ne-none v (sym e))
 
 module _ {T : Type 0} where
-  -- who has a sender has it still after a pass changed, if that pass keeps the sender or didn't have it
+  -- who has a sender has it still after a pass changed, if that pass keeps the sender or didn't
+  -- have it
   has_after : (views : List (PassState T)) (by : ℕ) (v w : PassState T) → get_elem? views by ≡ some v → (j p : ℕ) → (v.first ≤ p → p < v.end → (w.first ≤ p) × (p < w.end)) → HasSender views j p → HasSender (set views by w) j p
   has_after views by v w at j p keeps h =
       dite (ℕ_discrete j by)

@@ -1,4 +1,5 @@
--- One queue: what it holds, what was taken of it, and what each of its passes knows. Each operation of a sender is taken once, and in the order in which the queue accepted it.
+-- One queue: what it holds, what was taken of it, and what each of its passes knows. Each operation
+-- of a sender is taken once, and in the order in which the queue accepted it.
 use Rattle.std.specs.Prelude.{◌≡◌, ◌⊎◌, ℕ, suc, ◌+◌, ◌%◌, ◌<◌, ◌≤◌, ◌==◌, cond, List, [], ◌∷◌, ◌++◌, length, take}
 use mathlib.Core.Option.{some}
 use lib.ListN.{get_elem?}
@@ -30,7 +31,8 @@ module _ {T : Type 0} where
   abbrev pub taker : QueuePosition → ℕ → List (Ranked T) → PassState T
   taker place parts got = pass_state place 0 0 parts [] got
 
-  -- the pass of all senders from a number on, and of a number of takers, none of which has done anything
+  -- the pass of all senders from a number on, and of a number of takers, none of which has done
+  -- anything
   abbrev pub free_end : QueuePosition → ℕ → ℕ → PassState T
   free_end place next parts = pass_state place next place.senders parts [] []
 
@@ -88,7 +90,8 @@ module _ {T : Type 0} where
   abbrev pub IsNextAfter : List (Ranked T) → Ranked T → Type 0
   IsNextAfter xs x = Each (λ y. y.sender ≡ x.sender → y.rank < x.rank) xs
 
-  -- the operation belongs into this queue: its group's number, modulo the number of shards, is the shard
+  -- the operation belongs into this queue: its group's number, modulo the number of shards, is the
+  -- shard
   abbrev pub IsHere : (T → ℕ) → QueuePosition → Ranked T → Type 0
   IsHere group place x = (group x.op % place.shards ≡ place.shard) × (x.sender < place.senders)
 
@@ -96,8 +99,9 @@ module _ {T : Type 0} where
   abbrev pub HasSender : List (PassState T) → ℕ → ℕ → Type 0
   HasSender views by p = (v : PassState T) × (get_elem? views by ≡ some v) × (v.first ≤ p) × (p < v.end)
 
-  -- The pass with this number is of this queue, unless it is spent. It knows all that the queue accepted of the senders that are its own. What it took was taken before
-  -- what comes next of each sender, and without a part it took nothing
+  -- The pass with this number is of this queue, unless it is spent. It knows all that the queue
+  -- accepted of the senders that are its own. What it took was taken before what comes next of each
+  -- sender, and without a part it took nothing
   pub record Fits (place : QueuePosition) (taken : List (Ranked T)) (sent : ℕ → List (Ranked T)) (seat : ℕ → ℕ) (by : ℕ) (v : PassState T) : Type 0 where
     pub opened : 0 < v.place.shard → 0 < v.place.shards
     pub placed : 0 < v.place.shards → v.place ≡ place
@@ -105,9 +109,10 @@ module _ {T : Type 0} where
     pub past : Each (λ y. y.rank < length (of y.sender taken)) v.got
     pub idle : v.parts ≡ 0 → v.got ≡ []
 
-  -- What was taken, and then what the queue holds, is of each sender what the queue accepted of it, by rank from 0 on. So what was taken of a sender has
-  -- the ranks below some number, and what the queue holds of it those from there on, in order. Each of these operations is of a sender and of the queue's
-  -- shard. What was taken is what the passes took, each once. Each sender has a pass
+  -- What was taken, and then what the queue holds, is of each sender what the queue accepted of it,
+  -- by rank from 0 on. So what was taken of a sender has the ranks below some number, and what the
+  -- queue holds of it those from there on, in order. Each of these operations is of a sender and of
+  -- the queue's shard. What was taken is what the passes took, each once. Each sender has a pass
   pub record Kept (group : T → ℕ) (items : List (Ranked T)) (views : List (PassState T)) : Type 0 where
     pub place : QueuePosition
     pub taken : List (Ranked T)
@@ -150,6 +155,7 @@ module _ {T : Type 0} where
       (w ≡ pass_state v.place v.first v.end v.parts v.put (v.got ++ x ∷ []))
       × IsHere group v.place x × IsNextAfter v.got x × WasKept group w
 
-  -- what a sender's pass learns of what it was handed: each operation of its own was accepted, and where it was handed all parts, they are the first ones
+  -- what a sender's pass learns of what it was handed: each operation of its own was accepted, and
+  -- where it was handed all parts, they are the first ones
   abbrev pub Accounts : PassState T → List (Ranked T) → Type 0
   Accounts v items = IsPartOf (of v.first v.got) v.put × (v.parts ≡ v.place.takers → AreFirstOf (of v.first v.got) v.put)

@@ -66,13 +66,15 @@ pub record Got (T : Type 0) : Type 0 where
   pub parts : ℕ
   pub taken : List (Ranked T)
 
--- a sender: the queues that its pass came with, its number, and what the queue of each shard accepted of it, in order
+-- a sender: the queues that its pass came with, its number, and what the queue of each shard
+-- accepted of it, in order
 pub record Sender (T : Type 0) : Type 0 where
   pub queues : Queues
   pub sender : ℕ
   pub accepted : List (List (Ranked T))
 
--- a taker, or several whose passes were put together: the queues that the passes came with, how many takers they are, and what they took of each shard
+-- a taker, or several whose passes were put together: the queues that the passes came with, how
+-- many takers they are, and what they took of each shard
 pub record Taker (T : Type 0) : Type 0 where
   pub queues : Queues
   pub takers : ℕ
@@ -156,7 +158,8 @@ module _ {T : Type 0} where
   abbrev pub TakerWasKeptAt : (T → ℕ) → ℕ → Taker T → ℕ → Type 0
   TakerWasKeptAt group n t shard = Held n (KeptWith group (taker (shard_of t.queues shard) t.takers (at_shard t.taken shard)))
 
-  -- what the queue of each shard had accepted of the sender is the beginning of what it accepted since
+  -- what the queue of each shard had accepted of the sender is the beginning of what it accepted
+  -- since
   pub record Grew (s t : Sender T) : Type 0 where
     pub begins : (shard : ℕ) → IsPrefix (at_shard s.accepted shard) (at_shard t.accepted shard)
 

@@ -8,8 +8,8 @@ use crate::op::Op;
 use crate::pass::{SendPass, TakePass};
 use crate::shards::OpShards;
 
-/// Where operations may go from one thread to another, threads may share their queues, and the queues and the passes may go
-/// to another thread.
+/// Where operations may go from one thread to another, threads may share their queues, and the
+/// queues and the passes may go to another thread.
 pub fn queues_cross<T: Op + Send>()
     ensures shared { IsSync (shards.the_row T.row T.Op) }
     ensures shards { IsSend (shards.the_row T.row T.Op) }

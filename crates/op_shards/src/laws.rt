@@ -1,4 +1,5 @@
-//! What a sender's pass goes on with, for the proofs of the crates above. The function does nothing.
+//! What a sender's pass goes on with, for the proofs of the crates above. The function does
+//! nothing.
 ghost use Rattle.std.specs.Prelude.{◌≡◌};
 ghost use Rattle.op_shards.specs.Passes.{Sender, Grew, WasSent};
 
@@ -13,9 +14,10 @@ impl<T> Property<T> for Brand {
     ghost holds = { λ _. Unit {0} };
 }
 
-/// From a state of a pass to itself nothing is lost, nor over several steps of each of which this is so. Where an operation
-/// was sent, one was sent that has each property of it; and what was sent in one step was sent in that step together with steps
-/// before and after it. The property may speak of `about`.
+/// From a state of a pass to itself nothing is lost, nor over several steps of each of which this
+/// is so. Where an operation was sent, one was sent that has each property of it; and what was sent
+/// in one step was sent in that step together with steps before and after it. The property may
+/// speak of `about`.
 pub fn sending_goes_on<T, A, P: Property<T>>(about: &A)
     ensures none { (s : Sender T) → Grew s s }
     ensures several { (s t u : Sender T) → Grew s t → Grew t u → Grew s u }

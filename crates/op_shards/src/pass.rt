@@ -12,7 +12,8 @@ use std::alloc::{AllocError, Global};
 use std::marker::Model;
 use std::sync::Wait;
 
-/// What a sender holds. To a contract it is the queues that it came with, the sender's number, and what each accepted of it.
+/// What a sender holds. To a contract it is the queues that it came with, the sender's number, and
+/// what each accepted of it.
 #[derive(Drop)]
 pub struct SendPass<T> {
     sender: u64,
@@ -32,8 +33,8 @@ impl<T> Model for SendPass<T> {
     ghost invariant = { λ s. (map (λ l. l.spot) s.ends.items ≡ spots (queues_of (map (λ l. l.spot.queue) s.ends.items) s.senders s.takers)) × All (λ l. l.sender ≡ s.sender) s.ends.items };
 }
 
-/// What a taker holds, or several whose passes were put together. To a contract it is the queues that it came with, how many takers it is, and what
-/// they took of each.
+/// What a taker holds, or several whose passes were put together. To a contract it is the queues
+/// that it came with, how many takers it is, and what they took of each.
 #[derive(Drop)]
 pub struct TakePass<T> {
     senders: usize,
@@ -84,7 +85,8 @@ impl<T: Op> SendPass<T> {
         queue_end.len(rt, queue)
     }
 
-    /// What the taker took of this sender was accepted, each operation at least as often. Of all takers together it is what was accepted first.
+    /// What the taker took of this sender was accepted, each operation at least as often. Of all
+    /// takers together it is what was accepted first.
     pub(crate) fn compare(&mut self, queue: &Queue<T>, other: &mut TakePass<T>, shard: usize)
         requires queue { slice_get self.old.queues.names shard ≡ Some (name queue.now) }
         requires same { other.old.queues ≡ self.old.queues }

@@ -147,7 +147,8 @@ impl<T: Op> SendEnd<T> {
         queue.len_as::<Put, R>(rt, &mut self.pass)
     }
 
-    /// What the taker took of this sender was accepted, each operation at least as often. If the taker has all parts, it is what was accepted first.
+    /// What the taker took of this sender was accepted, each operation at least as often. If the
+    /// taker has all parts, it is what was accepted first.
     pub fn compare(&mut self, queue: &Queue<T>, other: &mut TakeEnd<T>)
         requires queue { self.old.spot.queue ≡ name queue.now }
         requires other { other.old.spot ≡ self.old.spot }

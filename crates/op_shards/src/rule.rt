@@ -5,7 +5,8 @@ use crossbeam_queue::protocol::{Join, Lesson, Outcome, Protocol, Split};
 use std::collections::LinkedList;
 use std::marker::{Brand, PhantomData};
 
-/// An operation with its sender, and its rank among those that its shard's queue accepted of this sender.
+/// An operation with its sender, and its rank among those that its shard's queue accepted of this
+/// sender.
 #[derive(Drop)]
 pub struct Ranked<T> {
     pub sender: u64,
@@ -13,7 +14,8 @@ pub struct Ranked<T> {
     pub op: T,
 }
 
-/// Where a queue stands: its shard, and how many shards, senders and takers there are. No value of it is made.
+/// Where a queue stands: its shard, and how many shards, senders and takers there are. No value of
+/// it is made.
 pub struct QueuePosition {
     pub shard: u64,
     pub shards: u64,
@@ -21,7 +23,9 @@ pub struct QueuePosition {
     pub takers: u64,
 }
 
-/// What a pass of one queue knows. The senders from `first` up to `end` are its own, and each has put in the list `put`. It has the parts of `parts` takers, and has taken the list `got`. No value of it is made.
+/// What a pass of one queue knows. The senders from `first` up to `end` are its own, and each has
+/// put in the list `put`. It has the parts of `parts` takers, and has taken the list `got`. No
+/// value of it is made.
 pub struct PassState<T> {
     pub place: QueuePosition,
     pub first: u64,

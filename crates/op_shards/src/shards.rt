@@ -18,8 +18,9 @@ use txn::NoMemory;
 
 // It keeps no runtime: each call is handed the one by which it locks and waits.
 
-/// A bounded queue for each shard. An operation's shard is the number of its group modulo the number of shards. To a contract it is the queues by
-/// shard, how many senders and takers have passes of them, and how many operations each holds at most.
+/// A bounded queue for each shard. An operation's shard is the number of its group modulo the
+/// number of shards. To a contract it is the queues by shard, how many senders and takers have
+/// passes of them, and how many operations each holds at most.
 #[derive(Drop)]
 pub struct OpShards<T: Op> {
     places: usize,
@@ -41,7 +42,8 @@ impl<T: Op> Model for OpShards<T> {
 }
 
 impl<T: Op> OpShards<T> {
-    /// Empty queues of `places` places each, and a pass of all of them for each sender and each taker.
+    /// Empty queues of `places` places each, and a pass of all of them for each sender and each
+    /// taker.
     pub fn new(
         alloc: Global,
         shards: usize,
@@ -76,9 +78,10 @@ impl<T: Op> OpShards<T> {
         self.queues.len()
     }
 
-    /// Puts the operation at the end of the queue of its group's shard. Full: it comes back, and only if that queue was full
-    /// at one moment: of the call, which the contract can't say. The pass has all that it had, and with an accepted operation one more:
-    /// `sending_goes_on` says how this adds up over many calls.
+    /// Puts the operation at the end of the queue of its group's shard. Full: it comes back, and
+    /// only if that queue was full at one moment: of the call, which the contract can't say. The
+    /// pass has all that it had, and with an accepted operation one more: `sending_goes_on` says
+    /// how this adds up over many calls.
     pub fn submit<R: Wait>(&self, rt: &R, pass: &mut SendPass<T>, op: T) -> Result<(), T>
         requires { pass.old.queues ≡ self.now.queues }
         ensures queues { pass.new.queues ≡ pass.old.queues }
@@ -94,9 +97,10 @@ impl<T: Op> OpShards<T> {
         pass.push(rt, queue, shard, op)
     }
 
-    /// Takes an operation from the front of the shard's queue, and adds it to the pass. It is of one of the senders and of that shard, and after all
-    /// operations of its sender that the pass has there. None, and the pass as it was, only if that queue was empty at one moment: of the call, which the
-    /// contract can't say.
+    /// Takes an operation from the front of the shard's queue, and adds it to the pass. It is of
+    /// one of the senders and of that shard, and after all operations of its sender that the pass
+    /// has there. None, and the pass as it was, only if that queue was empty at one moment: of the
+    /// call, which the contract can't say.
     pub fn take<R: Wait>(&self, rt: &R, pass: &mut TakePass<T>, shard: usize) -> Option<T>
         requires pass { pass.old.queues ≡ self.now.queues }
         requires shard { shard < length self.now.queues.names }
@@ -114,9 +118,9 @@ impl<T: Op> OpShards<T> {
         }
     }
 
-    /// Whether the shard's queue is empty: true only if it was at one moment, of the call, which the contract can't say.
-    /// Of false nothing is said, since another taker may have taken the last operation meanwhile. Nothing changes, and
-    /// nobody is waited for.
+    /// Whether the shard's queue is empty: true only if it was at one moment, of the call, which
+    /// the contract can't say. Of false nothing is said, since another taker may have taken the
+    /// last operation meanwhile. Nothing changes, and nobody is waited for.
     pub fn is_empty(&self, pass: &mut TakePass<T>, shard: usize) -> bool
         requires pass { pass.old.queues ≡ self.now.queues }
         requires shard { shard < length self.now.queues.names }
@@ -127,8 +131,8 @@ impl<T: Op> OpShards<T> {
         pass.is_empty(queue, shard)
     }
 
-    /// How many places of the shard's queue are free at one moment, of the call, which the contract can't say. Nothing
-    /// changes.
+    /// How many places of the shard's queue are free at one moment, of the call, which the contract
+    /// can't say. Nothing changes.
     pub fn free_places<R: Wait>(&self, rt: &R, pass: &mut SendPass<T>, shard: usize) -> usize
         requires pass { pass.old.queues ≡ self.now.queues }
         requires shard { shard < length self.now.queues.names }
@@ -149,8 +153,9 @@ impl<T: Op> OpShards<T> {
         takes.gather(&self.queues, other);
     }
 
-    /// What was taken of a sender's operations in a shard is among those that were accepted there, each at least as often. What all takers together took
-    /// is the first ones of those, each once. Nothing changes.
+    /// What was taken of a sender's operations in a shard is among those that were accepted there,
+    /// each at least as often. What all takers together took is the first ones of those, each once.
+    /// Nothing changes.
     pub fn compare(&self, sends: &mut SendPass<T>, takes: &mut TakePass<T>, shard: usize)
         requires sends { sends.old.queues ≡ self.now.queues }
         requires takes { takes.old.queues ≡ self.now.queues }

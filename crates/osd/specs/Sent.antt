@@ -9,7 +9,8 @@ use Rattle.carried.specs.declared.operation.Operation.{Operation}
 use Rattle.group_cell.specs.declared.outgoing.Outgoing.{Outgoing}
 use Rattle.group_cell.specs.declared.outgoing.Outgoing.TheVariants.{ToNode, ToMonitor, ToClient}
 
--- From the one state of a pass to the other, nothing that was accepted is lost, and each operation that was accepted since has the property P.
+-- From the one state of a pass to the other, nothing that was accepted is lost, and each operation
+-- that was accepted since has the property P.
 pub record OnlySent (s t : Sender Operation) (P : Operation → Type 0) : Type 0 where
   pub since : ℕ → List (Ranked Operation)
   pub kept : (shard : ℕ) → at_shard s.accepted shard ++ since shard ≡ at_shard t.accepted shard

@@ -11,8 +11,8 @@ struct Rings {
     has_waiting: bool,
 }
 
-/// The bell that wakes the workers. It is rung after each operation that a queue took, for a shard that was skipped, and at
-/// the end.
+/// The bell that wakes the workers. It is rung after each operation that a queue took, for a shard
+/// that was skipped, and at the end.
 #[derive(Drop)]
 pub(crate) struct Bell {
     finished: AtomicBool,

@@ -29,8 +29,8 @@ use map_book::book_crosses;
 use op_shards::queues_cross;
 use pg_log::{request_crosses, table_crosses};
 
-/// Threads may share a running cluster whose names and runtime they may share, and what a session holds may go from one
-/// thread to another.
+/// Threads may share a running cluster whose names and runtime they may share, and what a session
+/// holds may go from one thread to another.
 pub fn running_crosses<N: ClusterName + Send + Sync, R: Sync>()
     ensures shared { IsSync (running.the_row N.row R.row (record { queues = N.queues; config = N.config }) (record { board = N.board }) (record { classes = N.classes })) }
     ensures opened { IsSend (opened.the_row N.row (record { queues = N.queues; config = N.config }) (record { board = N.board }) (record { classes = N.classes })) }

@@ -11,8 +11,8 @@ pub enum DeliveryMode {
     Late,
 }
 
-/// What becomes of each message that nodes send, and of each Reply. Refusals, the monitors' messages, and what `nudge` and
-/// `new_map` submit pass.
+/// What becomes of each message that nodes send, and of each Reply. Refusals, the monitors'
+/// messages, and what `nudge` and `new_map` submit pass.
 pub trait Fate {
     /// Comes for each message of a worker, which are numbered from 0 on, modulo 2^64.
     fn of(&self, worker: usize, n: u64) -> DeliveryMode;

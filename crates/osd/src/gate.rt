@@ -1,8 +1,9 @@
-/// What a worker asks before each operation. It may keep the worker there; no lock is held meanwhile. While it keeps a
-/// client's request, other workers go on with the operations of its shard; while it keeps another operation, they don't.
+/// What a worker asks before each operation. It may keep the worker there; no lock is held
+/// meanwhile. While it keeps a client's request, other workers go on with the operations of its
+/// shard; while it keeps another operation, they don't.
 pub trait Gate {
-    /// Comes before an operation is handled: for a client's request its client's number times 2^32 and its own number, else
-    /// 0.
+    /// Comes before an operation is handled: for a client's request its client's number times 2^32
+    /// and its own number, else 0.
     fn before(&self, number: u64);
 }
 

@@ -1,10 +1,14 @@
-//! A cluster in threads: the nodes of all groups, each node of a group under a lock of its own, and the workers that serve
-//! them. It starts no thread: who plays on a `Running` cluster brings the threads, and `play` lends it one.
+//! A cluster in threads: the nodes of all groups, each node of a group under a lock of its own, and
+//! the workers that serve them. It starts no thread: who plays on a `Running` cluster brings the
+//! threads, and `play` lends it one.
 //!
-//! - Every token of the board, every pass and every answer is of the one cluster, by type (`ClusterName`).
-//! - A worker takes operations (`Running::serve`), and does with each what `GroupCell::turn` does under the group's lock.
+//! - Every token of the board, every pass and every answer is of the one cluster, by type
+//!   (`ClusterName`).
+//! - A worker takes operations (`Running::serve`), and does with each what `GroupCell::turn` does
+//!   under the group's lock.
 //! - A client asks by `Running::ask`, and finds the newest answer by `Running::mail`.
-//! - A pass only grows: `ask` says that the whole request was submitted, `nudge` that only operations of its group were.
+//! - A pass only grows: `ask` says that the whole request was submitted, `nudge` that only
+//!   operations of its group were.
 #![tactic(auto)]
 
 mod ask_error;

@@ -18,7 +18,8 @@ impl<N: ClusterName> Mailbox<N> {
 
     /// Puts an answer in, over the one that is there.
     pub fn put<R: Wait>(&self, rt: &R, post: Post<N>) {
-        // A client asks one thing at a time, and asks again for what it missed: the newest answer is enough.
+        // A client asks one thing at a time, and asks again for what it missed: the newest answer
+        // is enough.
         *self.newest.lock(rt) = Some(post);
     }
 

@@ -8,7 +8,8 @@ use map_book::{MapBook, MapError, NewMap};
 use placement::NodeId;
 use std::marker::Model;
 
-/// What lies under the monitors' lock: the book of maps, and what the monitors send by. Contracts see the book.
+/// What lies under the monitors' lock: the book of maps, and what the monitors send by. Contracts
+/// see the book.
 #[derive(Drop)]
 pub(crate) struct Monitors<N: ClusterName> {
     book: MapBook,
@@ -35,7 +36,8 @@ impl<N: ClusterName> Monitors<N> {
         Monitors { book, sends }
     }
 
-    /// Makes a map of these up nodes for each group, and gives the maps and their epoch. It refuses as the book does.
+    /// Makes a map of these up nodes for each group, and gives the maps and their epoch. It refuses
+    /// as the book does.
     pub fn new_map(&mut self, up: &[NodeId]) -> Result<(Vec<NewMap>, u32), MapError>
         ensures maps { IfOk result (λ r. (length r.0.items ≡ N.config.groups) × All HasPrimary r.0.items) }
         ensures made { IfOk result (λ r. WasMade N.config up.now r.1) }

@@ -1,9 +1,9 @@
 use group_cell::BoardName;
 use std::marker::Brand;
 
-/// The names of a cluster: its queues, what it is made of, its board and its classes. They are known to proofs
-/// alone, and each call that plays on a cluster picks them; no code computes with them. What lies under a lock is known by its type alone, so each
-/// such type takes the names.
+/// The names of a cluster: its queues, what it is made of, its board and its classes. They are
+/// known to proofs alone, and each call that plays on a cluster picks them; no code computes with
+/// them. What lies under a lock is known by its type alone, so each such type takes the names.
 pub trait ClusterName: BoardName {
     ghost use Rattle.op_shards.specs.Passes.{Queues};
     ghost use Rattle.osd.specs.declared.config.Config.{Config};

@@ -6,7 +6,8 @@ use std::marker::{Model, PhantomData};
 use std::sync::Mutex;
 use std::sync::atomic::{AtomicBool, Ordering};
 
-/// A node: its part in each group, each part under a lock of its own. Contracts see how many groups it has.
+/// A node: its part in each group, each part under a lock of its own. Contracts see how many groups
+/// it has.
 #[derive(Drop)]
 pub(crate) struct Node<N: ClusterName> {
     stopped: AtomicBool,

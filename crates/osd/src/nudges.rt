@@ -2,8 +2,9 @@ use crate::cause::Cause;
 use std::alloc::{AllocError, Global};
 use std::sync::atomic::{AtomicU64, Ordering};
 
-/// Of each group, how much of its last nudge is under way: the nudge itself, and those of its operations that aren't served
-/// yet. A nudge that comes meanwhile adds nothing, since it would send the same again.
+/// Of each group, how much of its last nudge is under way: the nudge itself, and those of its
+/// operations that aren't served yet. A nudge that comes meanwhile adds nothing, since it would
+/// send the same again.
 #[derive(Drop)]
 pub(crate) struct Nudges {
     under_way: Vec<AtomicU64>,
@@ -36,7 +37,8 @@ impl Nudges {
         }
     }
 
-    /// An operation is about to go into a queue: before that, since a worker may be done with it at once.
+    /// An operation is about to go into a queue: before that, since a worker may be done with it at
+    /// once.
     pub fn add(&self, group: usize, cause: Cause) {
         if cause == Cause::Nudge
             && let Some(count) = self.under_way.get(group)

@@ -16,8 +16,8 @@ use std::marker::Model;
 /// The places of a queue.
 const QUEUE_PLACES: usize = 1024;
 
-/// A cluster that has no name yet: all of it but the classes, with a map of each group by which all nodes are up. Contracts
-/// see its board, its queues and what it is made of.
+/// A cluster that has no name yet: all of it but the classes, with a map of each group by which all
+/// nodes are up. Contracts see its board, its queues and what it is made of.
 #[derive(Drop)]
 pub struct Parts {
     pub(crate) config: Config,
@@ -68,7 +68,8 @@ impl Model for Parts {
 }
 
 impl Parts {
-    /// The parts of a cluster whose numbers are within their limits. It makes the first map of each group, with all nodes up.
+    /// The parts of a cluster whose numbers are within their limits. It makes the first map of each
+    /// group, with all nodes up.
     pub fn new(alloc: Global, config: Config) -> Result<Parts, NoMemory>
         requires { IsTrue (is_within_limits config) }
         ensures { IfOk result (λ p. p.config ≡ config) }

@@ -5,8 +5,8 @@ use carried::Operation;
 use op_shards::Op;
 use std::marker::Model;
 
-/// An operation in a queue. A place of a queue holds its box, so that queues are small. Contracts see the operation; by what
-/// it came is for the count of nudges alone.
+/// An operation in a queue. A place of a queue holds its box, so that queues are small. Contracts
+/// see the operation; by what it came is for the count of nudges alone.
 #[derive(Drop)]
 pub struct Queued {
     operation: Box<Operation>,

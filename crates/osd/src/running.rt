@@ -33,9 +33,11 @@ use std::alloc::Global;
 use std::marker::Model;
 use std::sync::{Mutex, MutexGuard, Wait};
 
-/// A cluster that any number of threads play on, by shared references to it. Contracts see what it is made of.
+/// A cluster that any number of threads play on, by shared references to it. Contracts see what it
+/// is made of.
 ///
-/// A thread holds at most one lock at a time; only `new_map` holds two, the monitors' and then the newest maps'.
+/// A thread holds at most one lock at a time; only `new_map` holds two, the monitors' and then the
+/// newest maps'.
 #[derive(Drop)]
 pub struct Running<N: ClusterName, R> {
     alloc: Global,
@@ -120,8 +122,9 @@ impl<N: ClusterName, R: Wait> Running<N, R> {
         self.mail.get(place)?.take(&self.rt)
     }
 
-    /// A node's part in a group, locked, if there is one and the node isn't stopped. What a node takes and sends goes through
-    /// here, so what reaches a stopped node is lost, and it sends nothing again.
+    /// A node's part in a group, locked, if there is one and the node isn't stopped. What a node
+    /// takes and sends goes through here, so what reaches a stopped node is lost, and it sends
+    /// nothing again.
     fn awake(&self, node: NodeId, group: usize) -> Option<MutexGuard<'_, GroupCell<N>>> {
         let node = self.nodes.get(node.get() as usize)?;
         let cell = node.cell(group)?.lock(&self.rt);

@@ -27,8 +27,8 @@ pub trait Scenario {
         ensures { gives N.classes self.now result };
 }
 
-/// Names a cluster, with the classes that are loaded, and plays a scenario on it. It is not played where memory for the
-/// nodes is refused.
+/// Names a cluster, with the classes that are loaded, and plays a scenario on it. It is not played
+/// where memory for the nodes is refused.
 pub fn play<S: Scenario, R: Threads + Wait + Sync + Drop>(
     alloc: Global,
     rt: R,

@@ -2,9 +2,9 @@ use std::sync::Wait;
 use std::sync::atomic::{AtomicBool, AtomicU64, Ordering};
 use std::thread::yield_now;
 
-/// Which shards are served. A worker claims a shard before it takes from its queue, and releases it afterwards, so that one
-/// worker at a time serves it. Whether a queue has operations only the queue tells: what is kept here can't be out of step
-/// with it.
+/// Which shards are served. A worker claims a shard before it takes from its queue, and releases it
+/// afterwards, so that one worker at a time serves it. Whether a queue has operations only the
+/// queue tells: what is kept here can't be out of step with it.
 #[derive(Drop)]
 pub(crate) struct Schedule {
     /// A bit for each shard, set while a worker has claimed it.
@@ -32,9 +32,9 @@ impl Schedule {
         self.claimed.load(Ordering::SeqCst) & bit_of(shard) != 0
     }
 
-    /// Claims a shard. False where another worker has claimed it: then it is skipped. Who skips it needn't come again. The
-    /// other worker has found an operation and looks at each shard once more, and where it leaves the shard to others before
-    /// that, it rings.
+    /// Claims a shard. False where another worker has claimed it: then it is skipped. Who skips it
+    /// needn't come again. The other worker has found an operation and looks at each shard once
+    /// more, and where it leaves the shard to others before that, it rings.
     pub fn claim(&self, shard: usize) -> bool {
         if self.try_claim(shard) {
             return true;
@@ -60,7 +60,8 @@ impl Schedule {
         self.has_skipped.swap(false, Ordering::SeqCst)
     }
 
-    /// Claims a shard again that was released for a while, as soon as no other worker has claimed it.
+    /// Claims a shard again that was released for a while, as soon as no other worker has claimed
+    /// it.
     pub fn reclaim<R: Wait>(&self, rt: &R, shard: usize) {
         for _ in rt.forever() {
             if self.try_claim(shard) {

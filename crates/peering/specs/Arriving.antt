@@ -35,7 +35,8 @@ abbrev pub interval_after : NodeState → GroupMap → Option Status → ℕ
 interval_after s m None = s.interval
 interval_after s m (Some status) = m.interval
 
--- What was decided at a map makes this outcome of the node: its state and its messages; and it is no refusal.
+-- What was decided at a map makes this outcome of the node: its state and its messages; and it is
+-- no refusal.
 pub record Makes (s : NodeState) (m : GroupMap) (a : Arrival) (o : Outcome) : Type 0 where
   pub node : after_move s m a.status a.joined.items ≡ o.node
   pub sent : a.sent.items ≡ o.sent

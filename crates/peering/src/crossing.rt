@@ -1,4 +1,5 @@
-//! Which of the values here may go to another thread, for the proofs of the crates above. Each function does nothing.
+//! Which of the values here may go to another thread, for the proofs of the crates above. Each
+//! function does nothing.
 ghost use denote.Param.Send.{IsSend};
 ghost use Rattle.pg_log.specs.contracts.requests.Requests as requests;
 ghost use Rattle.peering.specs.contracts.monitor.Monitor as monitor;
@@ -29,7 +30,8 @@ fn lists_cross()
     sends::<Requests>()
 }
 
-/// A node may go to another thread if the name of its classes may. So threads may share a lock on it.
+/// A node may go to another thread if the name of its classes may. So threads may share a lock on
+/// it.
 pub fn node_crosses<C: Classes + Send>()
     ensures { IsSend (node.the_row C.row (record { classes = C.classes })) }
 {

@@ -10,8 +10,9 @@ use std::alloc::{AllocError, Global};
 use std::marker::Model;
 use std::mem;
 
-/// The monitor of a group: it makes maps and activates intervals. It keeps two maps, however many it made. Contracts see
-/// the newest map, and of what was activated last the interval and who acts in it.
+/// The monitor of a group: it makes maps and activates intervals. It keeps two maps, however many
+/// it made. Contracts see the newest map, and of what was activated last the interval and who acts
+/// in it.
 #[derive(Drop)]
 pub struct Monitor {
     alloc: Global,
@@ -80,10 +81,11 @@ impl Monitor {
 }
 
 impl Monitor {
-    /// Makes the next map, and gives it. If the acting list is that of the newest map, in the same order, it keeps that
-    /// map's interval and what was before it; else an interval begins, and before it was the last activated one. It
-    /// refuses by, the first that applies: `BadActing` if the list hasn't one to three nodes, or has one twice or a
-    /// number above 15; `EpochsUsedUp` after epoch 2^32 - 1; `NoMemory`. A refusal leaves the monitor as it was.
+    /// Makes the next map, and gives it. If the acting list is that of the newest map, in the same
+    /// order, it keeps that map's interval and what was before it; else an interval begins, and
+    /// before it was the last activated one. It refuses by, the first that applies: `BadActing` if
+    /// the list hasn't one to three nodes, or has one twice or a number above 15; `EpochsUsedUp`
+    /// after epoch 2^32 - 1; `NoMemory`. A refusal leaves the monitor as it was.
     pub fn new_map(&mut self, acting: &[NodeId]) -> Result<GroupMap, MonitorError>
         ensures ok { IfOk result (λ m. (m ≡ next_map self.old acting.now) × (map_refusal self.old acting.now ≡ None)) }
         ensures made { OnOk result (self.new ≡ with_map self.old acting.now) }
@@ -96,8 +98,8 @@ impl Monitor {
         Ok(next)
     }
 
-    /// The map that it would make next, which is `new_map`'s first half: all that grows. It changes nothing, and refuses
-    /// as `new_map` does. The map's lists are of the given allocator.
+    /// The map that it would make next, which is `new_map`'s first half: all that grows. It changes
+    /// nothing, and refuses as `new_map` does. The map's lists are of the given allocator.
     pub fn next_map(&self, alloc: Global, acting: &[NodeId]) -> Result<GroupMap, MonitorError>
         ensures ok { IfOk result (λ m. (m ≡ next_map self.now acting.now) × (map_refusal self.now acting.now ≡ None)) }
         ensures next { IfOk result (λ m. IsNextMap self.now m) }
@@ -113,7 +115,8 @@ impl Monitor {
         Ok(map)
     }
 
-    /// Keeps its next map as the newest, which is `new_map`'s second half. It takes no memory, and can't be refused.
+    /// Keeps its next map as the newest, which is `new_map`'s second half. It takes no memory, and
+    /// can't be refused.
     pub fn keep(&mut self, map: GroupMap)
         requires { IsNextMap self.old map }
         ensures { self.new ≡ with_map self.old map.acting }
@@ -158,8 +161,9 @@ impl Monitor {
         }
     }
 
-    /// Activates an interval. It refuses by `NotNewest` if it isn't the newest map's, and is then as it was. A second
-    /// time changes nothing, also after a map that kept the interval. It takes no memory.
+    /// Activates an interval. It refuses by `NotNewest` if it isn't the newest map's, and is then
+    /// as it was. A second time changes nothing, also after a map that kept the interval. It takes
+    /// no memory.
     pub fn activate(&mut self, interval: Epoch) -> Result<(), MonitorError>
         ensures answer { MatchResult result (λ _. activation_refusal self.old interval ≡ None) (λ e. activation_refusal self.old interval ≡ Some e) }
         ensures ok { OnOk result (self.new ≡ with_activated self.old) }

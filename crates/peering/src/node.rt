@@ -28,7 +28,8 @@ pub struct GroupNode<C: Classes> {
     members: GroupMap,
     status: Status,
     group: Group<C>,
-    /// The log as the list that messages share, if one was made and the log is still that list; else none.
+    /// The log as the list that messages share, if one was made and the log is still that list;
+    /// else none.
     listed: Requests,
     committed: usize,
     joined: Vec<NodeId>,
@@ -162,18 +163,20 @@ impl<C: Classes> GroupNode<C> {
 }
 
 impl<C: Classes> GroupNode<C> {
-    /// Takes an event: a request, a map or a message. It gives the messages that it sends, in their order, or refuses: a
-    /// request by the first that applies of 1 to 8, another event by `NoMemory` alone. A refusal leaves the node as if the
-    /// event never came.
+    /// Takes an event: a request, a map or a message. It gives the messages that it sends, in their
+    /// order, or refuses: a request by the first that applies of 1 to 8, another event by
+    /// `NoMemory` alone. A refusal leaves the node as if the event never came.
     ///
     /// The table is that of the earlier calls, or that one with classes added.
     ///
-    /// What each event costs, apart from what it sends: a request at the primary its call, a logarithm and a copy of the
-    /// request for each other member; a Rep its call; an Ack a constant and a Reply for each newly committed entry; a
-    /// Query a copy of the whole log. The list of a Log at an asking primary is tested before anything is copied or run,
-    /// which costs a comparison with what is committed and a logarithm for each request. A usable one costs a copy for
-    /// each other member, a comparison with the log, and what undoing and running the ends costs. The list of an Install
-    /// costs that comparison and the ends if the node waits, else the test alone.
+    /// What each event costs, apart from what it sends: a request at the primary its call, a
+    /// logarithm and a copy of the request for each other member; a Rep its call; an Ack a constant
+    /// and a Reply for each newly committed entry; a Query a copy of the whole log. The list of a
+    /// Log at an asking primary is tested before anything is copied or run, which costs a
+    /// comparison with what is committed and a logarithm for each request. A usable one costs a
+    /// copy for each other member, a comparison with the log, and what undoing and running the ends
+    /// costs. The list of an Install costs that comparison and the ends if the node waits, else the
+    /// test alone.
     pub fn handle(&mut self, table: &ClassTable, event: Event) -> Result<Messages, HandleError>
         requires table { IsPrefix table.now C.classes }
         requires legal { Legal table.now self.old.state.log }

@@ -168,7 +168,8 @@ pub fn reps_to(
     Ok(())
 }
 
-/// What the primary sends on adopting a list: Install to the others, and if it acts alone AskActivate to the monitor.
+/// What the primary sends on adopting a list: Install to the others, and if it acts alone
+/// AskActivate to the monitor.
 #[tactic(auto, using(crate::proofs::Messages::to_missing_none))]
 pub fn adoption(
     alloc: Global,

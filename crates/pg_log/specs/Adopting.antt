@@ -17,9 +17,10 @@ pub record IsCommonBeginning (own list : List ClientRequest) (k : ℕ) : Type 0 
 abbrev pub rest_refusal : Classes → List ClientRequest → ℕ → Option LogError
 rest_refusal classes list k = first_refusal_from classes (take k list) (drop k list)
 
--- Why a list can't be put in place of a log that has its first requests, this many, in common with it: the refusal of
--- the first of the others that can't follow those before it, or want of memory. That comes only where the list has a
--- request that is logged, or one that can follow those before it.
+-- Why a list can't be put in place of a log that has its first requests, this many, in common with
+-- it: the refusal of the first of the others that can't follow those before it, or want of memory.
+-- That comes only where the list has a request that is logged, or one that can follow those before
+-- it.
 pub data RestRefuses (classes : Classes) (list : List ClientRequest) (k : ℕ) (e : LogError) : Type 0 where
   Refused : rest_refusal classes list k ≡ Some e → RestRefuses classes list k e
   Short : e ≡ NoMemory → 0 < k ⊎ SomeCanRun classes list → RestRefuses classes list k e

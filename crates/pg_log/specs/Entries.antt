@@ -20,7 +20,8 @@ use Rattle.pg_log.specs.Places.{ArePlaces}
 abbrev pub outcome_made : ℤ → List ℕ → Versions → Outcome
 outcome_made code output change = record { code = cast_unsigned w64 code; output = output; object = change.after }
 
--- Code, output and the object after are the machine's outcome of a method on an object, which is the one before.
+-- Code, output and the object after are the machine's outcome of a method on an object, which is
+-- the one before.
 pub record IsOutcome (method : Option ClassMethod) (object : PlainObject) (r : ClientRequest) (code : ℤ) (output : List ℕ) (change : Versions) : Type 0 where
   pub made : outcome_made code output change ≡ outcome_of_method method object r
   pub from_before : change.before ≡ object
@@ -29,7 +30,8 @@ pub record IsOutcome (method : Option ClassMethod) (object : PlainObject) (r : C
 abbrev pub IsOutcomeOn : Classes → PlainObjects → ClientRequest → ℤ → List ℕ → Versions → Type 0
 IsOutcomeOn classes objects r code output change = IsOutcome (method_of classes r) (fin.get objects r.object) r code output change
 
--- each entry's reply and change are those of its request on the objects that the requests before it made
+-- each entry's reply and change are those of its request on the objects that the requests before it
+-- made
 abbrev pub AreEntries : Classes → PlainObjects → List Entry → Type 0
 AreEntries classes objects [] = Unit {0}
 AreEntries classes objects (e ∷ es) =
@@ -55,13 +57,15 @@ abbrev pub given_reply : Option (ℤ × Bor (List ℕ)) → Option Reply
 given_reply None = None
 given_reply (Some p) = Some (record { code = cast_unsigned w64 p.0; output = p.1.now })
 
--- What may be kept after the entries of a list: its request may follow, is safe, and reply and change are its.
+-- What may be kept after the entries of a list: its request may follow, is safe, and reply and
+-- change are its.
 pub record IsNextEntry (classes : Classes) (xs : List ClientRequest) (e : Entry) : Type 0 where
   pub legal : Legal classes (xs ++ e.request ∷ [])
   pub safe : IsSafeRequest classes e.request
   pub outcome : IsOutcomeOn classes (fold classes xs) e.request e.code e.output.items e.change
 
--- What a group keeps: a legal log of safe methods, replies and changes of its requests, their fold, and their places.
+-- What a group keeps: a legal log of safe methods, replies and changes of its requests, their fold,
+-- and their places.
 pub record Keeps (classes : Classes) (entries : List Entry) (objects : PlainObjects) (places : Places) : Type 0 where
   pub legal : Legal classes (requests_of entries)
   pub safe : AreSafe classes (requests_of entries)

@@ -74,7 +74,8 @@ PlaceHasThePair =
     (xs : List ClientRequest) (client number place : ℕ) → place_of client number xs ≡ Some place →
     (place < length xs) × (a : ClientRequest) × (slice_get xs place ≡ Some a) × (a.client ≡ client) × (a.number ≡ number)
 
--- What a table with classes added makes of a legal list: it is legal, with the same objects and replies.
+-- What a table with classes added makes of a legal list: it is legal, with the same objects and
+-- replies.
 pub record SameWithMore (classes more : Classes) (xs : List ClientRequest) : Type 0 where
   pub legal : Legal (classes ++ more) xs
   pub same_objects : fold (classes ++ more) xs ≡ fold classes xs
@@ -91,8 +92,9 @@ RefusalsAreExact = (classes : Classes) (xs : List ClientRequest) (r : ClientRequ
 abbrev pub ListsAreExact : Type 0
 ListsAreExact = (classes : Classes) (xs : List ClientRequest) → (first_refusal classes xs ≡ None) ↔ Legal classes xs
 
--- a log that is legal by the table becomes a list as the list would be replayed: what refuses the list is what refuses
--- its rest, and where there is a common beginning some request of the list can run
+-- a log that is legal by the table becomes a list as the list would be replayed: what refuses the
+-- list is what refuses its rest, and where there is a common beginning some request of the list can
+-- run
 pub record IsAsReplayed (classes : Classes) (list : List ClientRequest) (k : ℕ) : Type 0 where
   pub same : rest_refusal classes list k ≡ first_refusal classes list
   pub some : 0 < k → SomeCanRun classes list

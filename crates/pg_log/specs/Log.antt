@@ -1,4 +1,5 @@
--- Which lists of requests are legal, and what a list makes: the objects, and the reply of each request.
+-- Which lists of requests are legal, and what a list makes: the objects, and the reply of each
+-- request.
 use Rattle.std.specs.Prelude.{◌≡◌, ℕ, ◌<◌, ◌≤◌, List, [], ◌∷◌, Option, Some, None, slice_get, take, length}
 use Rattle.std.specs.FinMap as map
 use Rattle.bpf_decode.specs.Class.{ClassMethod}
@@ -14,7 +15,8 @@ use Rattle.pg_log.specs.Requests.{ClientRequest}
 abbrev pub Classes : Type 0
 Classes = List (List ClassMethod)
 
--- what a request is answered: the code, as a number below 2 ^ 64 that is read as a signed one, and the output
+-- what a request is answered: the code, as a number below 2 ^ 64 that is read as a signed one, and
+-- the output
 pub record Reply : Type 0 where
   pub code : ℕ
   pub output : List ℕ
@@ -46,7 +48,8 @@ method_in (Some class) name = method_named class name
 abbrev pub method_of : Classes → ClientRequest → Option ClassMethod
 method_of classes r = method_in (slice_get classes r.class) r.method
 
--- the machine's outcome of a request's method on an object; where there is no such method nothing happens
+-- the machine's outcome of a request's method on an object; where there is no such method nothing
+-- happens
 unfoldable pub outcome_of_method : Option ClassMethod → PlainObject → ClientRequest → Outcome
 outcome_of_method None object r = record { code = 0; output = []; object = object }
 outcome_of_method (Some m) object r = call_outcome m object r.client r.input

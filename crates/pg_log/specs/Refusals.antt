@@ -105,7 +105,8 @@ pub record SomeCanRun (classes : Classes) (list : List ClientRequest) : Type 0 w
   pub within : place < length list
   pub unrefused : first_refusal classes (take (place + 1) list) ≡ None
 
--- The request may follow the list: there is room, its method can run, and its number is above those of its client.
+-- The request may follow the list: there is room, its method can run, and its number is above those
+-- of its client.
 pub record Follows (classes : Classes) (list : List ClientRequest) (r : ClientRequest) : Type 0 where
   pub room : length list < LOG_LIMIT
   pub run : CanRun classes r

@@ -5,8 +5,8 @@ use Rattle.std.specs.declared.sync.Arc.{Arc}
 use Rattle.std.specs.declared.vec.Vec.{Vec}
 use Rattle.pg_log.specs.declared.request_parts.RequestParts.{RequestParts}
 
--- Client and number tell requests apart. The object goes by its name's bytes, the class by its id in the table,
--- the method by its name's bytes.
+-- Client and number tell requests apart. The object goes by its name's bytes, the class by its id
+-- in the table, the method by its name's bytes.
 pub record ClientRequest : Type 0 where
   pub client : ℕ
   pub number : ℕ

@@ -11,9 +11,9 @@ use Rattle.pg_log.specs.Log.{Classes, Legal, method_of, fold, reply_at}
 use Rattle.pg_log.specs.Entries.{AreSafe}
 use Rattle.pg_log.specs.Within.{IsRequest}
 
--- The request ran: wherever the regions lie, its method's bytes ran on the object that the requests before it left, to this
--- outcome, in at most as many steps as the method has instructions. Code and output are the reply at the place, and the
--- object after is the one that is left.
+-- The request ran: wherever the regions lie, its method's bytes ran on the object that the requests
+-- before it left, to this outcome, in at most as many steps as the method has instructions. Code
+-- and output are the reply at the place, and the object after is the one that is left.
 pub record RanAt (classes : Classes) (list : List ClientRequest) (k : ℕ) (r : ClientRequest) : Type 0 where
   pub method : ClassMethod
   pub named : method_of classes r ≡ Some method

@@ -7,9 +7,9 @@ use crate::log_error::LogError;
 use crate::request::Request;
 use interp::{ClassTable, VerifiedMethod};
 
-/// Why the table's classes can't run a request, if they can't: `NoClass`, `NoMethod` or `InputTooLong`, the first that
-/// applies. `append` refuses by the same test, once the log has room and the client's number is new. It costs the number
-/// of the class's methods.
+/// Why the table's classes can't run a request, if they can't: `NoClass`, `NoMethod` or
+/// `InputTooLong`, the first that applies. `append` refuses by the same test, once the log has room
+/// and the client's number is new. It costs the number of the class's methods.
 pub fn class_refusal(table: &ClassTable, request: &Request) -> Option<LogError>
     ensures { result ≡ refusal_of_class (slice_get table.now request.now.class) request.now }
 {

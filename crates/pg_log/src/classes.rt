@@ -1,6 +1,7 @@
 use std::marker::Brand;
 
-/// The classes that are ever loaded for a group, by id. It names them for the proofs of all calls on one group.
+/// The classes that are ever loaded for a group, by id. It names them for the proofs of all calls
+/// on one group.
 // A type parameter, since of a value that comes out of a lock nothing is known but its type.
 pub trait Classes {
     ghost use Rattle.std.specs.Prelude.{List};

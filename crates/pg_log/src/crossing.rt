@@ -1,5 +1,6 @@
-//! Which of the log's values may go to another thread, and which may be shared by threads, for the proofs of the crates
-//! above: a search for the parts of a group all at once is too long. Each function does nothing.
+//! Which of the log's values may go to another thread, and which may be shared by threads, for the
+//! proofs of the crates above: a search for the parts of a group all at once is too long. Each
+//! function does nothing.
 ghost use denote.Param.Send.{IsSend, IsSync};
 ghost use Rattle.interp.specs.contracts.class_table.ClassTable as table;
 ghost use Rattle.object_store.specs.contracts.object.Object as object;
@@ -82,7 +83,8 @@ pub fn table_crosses()
     shares::<ClassTable>()
 }
 
-/// A group may go to another thread if the name of its classes may. So threads may share a lock on it.
+/// A group may go to another thread if the name of its classes may. So threads may share a lock on
+/// it.
 pub fn group_crosses<C: Classes + Send>()
     ensures { IsSend (group.the_row C.row (record { classes = C.classes })) }
 {

@@ -23,14 +23,16 @@ use object_store::{Object, ObjectName, Objects};
 use std::alloc::Global;
 use std::marker::{Model, PhantomData};
 
-/// The log of a group with the objects that it makes, for the classes that `C` names. Contracts see the list of its
-/// requests, which is legal: objects, replies and the index by client are always that list's.
+/// The log of a group with the objects that it makes, for the classes that `C` names. Contracts see
+/// the list of its requests, which is legal: objects, replies and the index by client are always
+/// that list's.
 pub struct Group<C: Classes> {
     of: PhantomData<C>,
     log: Log,
 }
 
-// Written out, so that a crate that drops a group calls this and needn't prove again how its parts are dropped.
+// Written out, so that a crate that drops a group calls this and needn't prove again how its parts
+// are dropped.
 impl<C: Classes> Drop for Group<C> {
     fn drop(self) {
         let Group { of: _, log } = self;
@@ -119,8 +121,8 @@ impl<C: Classes> Group<C> {
         }
     }
 
-    /// The place of the client's request of that number, with its code and output. It costs a logarithm of the number
-    /// of clients and one of the client's requests.
+    /// The place of the client's request of that number, with its code and output. It costs a
+    /// logarithm of the number of clients and one of the client's requests.
     pub fn reply_of(&self, client: ClientId, number: RequestNumber) -> Option<(usize, i64, &[u8])>
         ensures { MatchOption result
             (place_of client number self.now ≡ None)

@@ -16,7 +16,8 @@ pub trait GroupWork {
     /// What it gives.
     type Output;
 
-    /// What is known of that, by the work, the classes, and the list of the group that it is handed.
+    /// What is known of that, by the work, the classes, and the list of the group that it is
+    /// handed.
     ghost gives: { Self → List (List ClassMethod) → List ClientRequest → Self.Output → Type 0 };
 
     /// Does it. All calls on the group may be given the table.
@@ -42,8 +43,8 @@ pub fn start<C: Classes, W: GroupWork>(alloc: Global, table: &ClassTable, work: 
     work.work::<C>(table, Group::new(alloc))
 }
 
-/// Goes on with a group where classes were added to its table: names the classes of the longer table, and does the work
-/// with it and the same group for those classes.
+/// Goes on with a group where classes were added to its table: names the classes of the longer
+/// table, and does the work with it and the same group for those classes.
 pub fn go_on<C: Classes, W: GroupWork>(table: &ClassTable, group: Group<C>, work: W) -> W::Output
     requires { IsPrefix C.classes table.now }
     ensures { W.gives work table.now group result }

@@ -1,18 +1,19 @@
-//! Laws of legal lists, of their objects and of their replies, for the proofs of the crates above. Each function does nothing.
+//! Laws of legal lists, of their objects and of their replies, for the proofs of the crates above.
+//! Each function does nothing.
 ghost use Rattle.std.specs.Prelude.{◌≡◌};
 ghost use Rattle.pg_log.specs.declared.group.TheConstants.{LOG_LIMIT};
 ghost use Rattle.pg_log.specs.Laws.{BeginningsAreLegal, EmptyIsLegal, AppendIsAStep, FoldIsAStep, FoldGoesOn, FoldsStay, UndoingGoesBack, RepliesStay, LastReply, RepliesAreThere, EntriesHaveReplies, PairsStandOnce, PlaceIsThePairs, PlaceHasThePair, ClassesAdded, RefusalsAreExact, ListsAreExact, AdoptingIsReplaying};
 
-/// Every beginning of a legal list is legal, the empty list too; a list with one request more is legal exactly where
-/// the list is and the request may follow it.
+/// Every beginning of a legal list is legal, the empty list too; a list with one request more is
+/// legal exactly where the list is and the request may follow it.
 pub fn legal_lists()
     ensures beginnings { BeginningsAreLegal }
     ensures empty { EmptyIsLegal }
     ensures append { AppendIsAStep }
 {}
 
-/// The objects of a list: with one request more those after that request, of a longer list those of the rest from those
-/// of the beginning, and of a beginning the same whatever follows.
+/// The objects of a list: with one request more those after that request, of a longer list those of
+/// the rest from those of the beginning, and of a beginning the same whatever follows.
 pub fn folds()
     ensures step { FoldIsAStep }
     ensures on { FoldGoesOn }
@@ -24,8 +25,8 @@ pub fn undoing()
     ensures { UndoingGoesBack }
 {}
 
-/// The replies of a list: one at each place, that of the last request on the objects before it, and the same whatever
-/// follows. What an entry of a log says is the reply of its place.
+/// The replies of a list: one at each place, that of the last request on the objects before it, and
+/// the same whatever follows. What an entry of a log says is the reply of its place.
 pub fn replies()
     ensures there { RepliesAreThere }
     ensures last { LastReply }
@@ -33,7 +34,8 @@ pub fn replies()
     ensures entries { EntriesHaveReplies }
 {}
 
-/// A pair of client and number stands at most once in a legal list, and its place is the one at which it stands, in range.
+/// A pair of client and number stands at most once in a legal list, and its place is the one at
+/// which it stands, in range.
 pub fn pairs()
     ensures once { PairsStandOnce }
     ensures place { PlaceIsThePairs }
@@ -45,14 +47,15 @@ pub fn classes_added()
     ensures { ClassesAdded }
 {}
 
-/// A request may follow a list exactly where nothing refuses it, and a list is legal exactly where none of its requests
-/// is refused.
+/// A request may follow a list exactly where nothing refuses it, and a list is legal exactly where
+/// none of its requests is refused.
 pub fn refusals()
     ensures requests { RefusalsAreExact }
     ensures lists { ListsAreExact }
 {}
 
-/// A log that is legal by the table becomes a list exactly as the list would be replayed, though only its rest is run.
+/// A log that is legal by the table becomes a list exactly as the list would be replayed, though
+/// only its rest is run.
 pub fn adopting()
     ensures { AdoptingIsReplaying }
 {}

@@ -13,9 +13,9 @@ use crate::request::Request;
 use interp::ClassTable;
 use std::alloc::Global;
 
-/// Why a list can't be run, if it can't: what refuses the first of its requests that can't follow those before it, as
-/// `replay` would. It runs nothing, and costs a logarithm of the number of clients for each request. It refuses by
-/// `NoMemory` alone.
+/// Why a list can't be run, if it can't: what refuses the first of its requests that can't follow
+/// those before it, as `replay` would. It runs nothing, and costs a logarithm of the number of
+/// clients for each request. It refuses by `NoMemory` alone.
 pub fn list_refusal(
     alloc: Global,
     table: &ClassTable,

@@ -13,8 +13,9 @@ use crate::request_number::RequestNumber;
 use std::alloc::{AllocError, Global};
 use std::collections::BTreeMap;
 
-/// The places of the requests of a list by client: number and place of each, by rising numbers. A question about a
-/// client costs a logarithm of the number of clients; about a number that isn't its last, one of its requests too.
+/// The places of the requests of a list by client: number and place of each, by rising numbers. A
+/// question about a client costs a logarithm of the number of clients; about a number that isn't
+/// its last, one of its requests too.
 #[derive(Drop)]
 pub(crate) struct Places {
     pub(crate) by_client: BTreeMap<u32, Vec<(u32, usize)>>,

@@ -10,13 +10,15 @@ use std::alloc::Global;
 use std::marker::Model;
 use std::sync::Arc;
 
-/// A client's request: a method of a class, to be run on an object. It never changes once it is made, so all copies of it, in
-/// logs, in messages and under way, share one value, and a copy costs a count. Contracts see its parts.
+/// A client's request: a method of a class, to be run on an object. It never changes once it is
+/// made, so all copies of it, in logs, in messages and under way, share one value, and a copy costs
+/// a count. Contracts see its parts.
 pub struct Request {
     parts: Arc<RequestParts>,
 }
 
-// Written out, so that a crate that drops a request calls this, and proves nothing of its parts once more.
+// Written out, so that a crate that drops a request calls this, and proves nothing of its parts
+// once more.
 impl Drop for Request {
     fn drop(self) {
         let Request { parts } = self;
@@ -96,8 +98,8 @@ impl Request {
         })
     }
 
-    /// Whether the two are one request: equal in each part. Two copies of one are compared by their bytes, too: the kit's
-    /// `Arc` tells nothing of two pointers that are equal.
+    /// Whether the two are one request: equal in each part. Two copies of one are compared by their
+    /// bytes, too: the kit's `Arc` tells nothing of two pointers that are equal.
     pub fn is(&self, other: &Request) -> bool
         ensures { IsTrue result ↔ (self.now ≡ other.now) }
     {

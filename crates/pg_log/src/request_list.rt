@@ -29,7 +29,8 @@ pub fn copy_requests(alloc: Global, list: &[Request]) -> Result<Vec<Request>, Lo
     Ok(copies)
 }
 
-/// The requests of these entries. It refuses by `NoMemory` alone, and costs a count and a pointer each.
+/// The requests of these entries. It refuses by `NoMemory` alone, and costs a count and a pointer
+/// each.
 pub fn copy_log(alloc: Global, entries: &[Entry]) -> Result<Vec<Request>, LogError>
     ensures ok { IfOk result (λ v. v.items ≡ requests_of entries.now) }
     ensures err { IfErr result (λ e. e ≡ LogError.NoMemory) }

@@ -5,14 +5,15 @@ use std::alloc::{AllocError, Global};
 use std::marker::Model;
 use std::sync::Arc;
 
-/// A list of requests that never changes once it is made, as a message carries it. A copy of it, and what it has from a place
-/// on, share it and cost a count. Contracts see the list.
+/// A list of requests that never changes once it is made, as a message carries it. A copy of it,
+/// and what it has from a place on, share it and cost a count. Contracts see the list.
 pub struct Requests {
     all: Option<Arc<Vec<Request>>>,
     from: usize,
 }
 
-// Written out, so that a crate that drops a list calls this, and proves nothing of its parts once more.
+// Written out, so that a crate that drops a list calls this, and proves nothing of its parts once
+// more.
 impl Drop for Requests {
     fn drop(self) {
         let Requests { all, from: _ } = self;

@@ -1,6 +1,7 @@
 use crate::node_id::NodeId;
 
-/// What a cluster looks like in an epoch. Nothing is tested before a group's acting set is asked for.
+/// What a cluster looks like in an epoch. Nothing is tested before a group's acting set is asked
+/// for.
 #[derive(Drop)]
 pub struct ClusterMap {
     /// The map's number, 1 to 2^32 - 1.

@@ -16,8 +16,8 @@ fn fnv1a(bytes: &[u8]) -> u64
     hash
 }
 
-/// The group of the object of that name, below `groups`: the low bits of the name's hash. There are 1 to 64 groups, a
-/// power of two. It costs the name's length.
+/// The group of the object of that name, below `groups`: the low bits of the name's hash. There are
+/// 1 to 64 groups, a power of two. It costs the name's length.
 pub fn group_of(name: &[u8], groups: u64) -> u64
     requires { IsTrue (is_group_count groups) }
     ensures value { result ≡ group_of name.now groups }

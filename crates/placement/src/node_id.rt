@@ -2,7 +2,8 @@ ghost use Rattle.std.specs.Prelude.{◌≡◌};
 
 use std::marker::Model;
 
-/// A node's number. Those of a cluster's nodes are 0 to 15; another number is a node of none. Contracts see the number.
+/// A node's number. Those of a cluster's nodes are 0 to 15; another number is a node of none.
+/// Contracts see the number.
 #[derive(Clone, Copy, PartialEq, Eq, Drop)]
 pub struct NodeId {
     number: u64,

@@ -3,7 +3,8 @@ ghost use Rattle.placement.specs.Placement.{score};
 
 use crate::node_id::NodeId;
 
-/// What a node weighs for a group: the number of both, mixed as SplitMix64 mixes its state. Arithmetic wraps.
+/// What a node weighs for a group: the number of both, mixed as SplitMix64 mixes its state.
+/// Arithmetic wraps.
 pub fn score(group: u64, node: NodeId) -> u64
     ensures { result ≡ score group node }
 {

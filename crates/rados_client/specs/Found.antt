@@ -8,15 +8,16 @@ use Rattle.rados_client.specs.declared.found.Found.TheVariants as found
 use Rattle.rados_client.specs.Session.{PlacedReply}
 use Rattle.rados_client.specs.Promise.{IsAnswered, Says}
 
--- of the request, by the lists that are known then: a reply is true, and so is a refusal, which is a node's
+-- of the request, by the lists that are known then: a reply is true, and so is a refusal, which is
+-- a node's
 abbrev pub IsFound : Classes → List (List ClientRequest) → ClientRequest → Found → Type 0
 IsFound classes lists r found.Nothing = ⊤
 IsFound classes lists r found.Later = ⊤
 IsFound classes lists r (found.Refused e) = Says classes r ⊥ ⊥ e
 IsFound classes lists r (found.Reply reply) = IsAnswered classes lists r reply
 
--- What a look that found an answer says of it, by the lists that are known then. A node's refusal is never that the tries
--- are used up.
+-- What a look that found an answer says of it, by the lists that are known then. A node's refusal
+-- is never that the tries are used up.
 pub record IsAnswer (classes : Classes) (lists : List (List ClientRequest)) (r : ClientRequest) (result : Result PlacedReply ExecError) : Type 0 where
   pub ok : IfOk result (IsAnswered classes lists r)
   pub err : IfErr result (Says classes r ⊥ ⊥)

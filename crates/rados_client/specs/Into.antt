@@ -7,8 +7,8 @@ use Rattle.rados_client.specs.declared.exec_error.ExecError.{ExecError}
 use Rattle.rados_client.specs.Session.{SessionState, PlacedReply}
 use Rattle.rados_client.specs.Promise.{IsCall}
 
--- the code where it is negative; else -34 where the output is longer than the buffer; else the output's length where it
--- isn't 0; else the code
+-- the code where it is negative; else -34 where the output is longer than the buffer; else the
+-- output's length where it isn't 0; else the code
 abbrev pub into_code : Answer → List ℕ → ℤ
 into_code a buffer =
     if nat_le (2 ^ 63) a.code then cast_signed w64 a.code else

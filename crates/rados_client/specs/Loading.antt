@@ -14,7 +14,8 @@ use Rattle.osd.specs.declared.config.Config.{Config}
 use Rattle.rados_client.specs.declared.load_error.LoadError.{LoadError}
 use Rattle.rados_client.specs.declared.load_error.LoadError.TheVariants as load
 
--- a cluster: how many classes are loaded; what it is made of, and which classes, by id, where it hasn't run
+-- a cluster: how many classes are loaded; what it is made of, and which classes, by id, where it
+-- hasn't run
 pub record ClusterState : Type 0 where
   pub count : ℕ
   pub config : Option Config
@@ -37,7 +38,8 @@ pub record IsVerified (image : List ℕ) (class : List ClassMethod) : Type 0 whe
   pub methods : class ≡ written.methods
   pub accepted : class_verdict written ≡ None
 
--- the image's class, which is accepted, is one more at the end, and its id is that place; what the cluster is made of stays
+-- the image's class, which is accepted, is one more at the end, and its id is that place; what the
+-- cluster is made of stays
 pub record IsAdded (image : List ℕ) (old new : ClusterState) (id : ℕ) : Type 0 where
   pub class : List ClassMethod
   pub verified : IsVerified image class
@@ -70,6 +72,7 @@ abbrev pub first_of : Option LoadError → Option LoadError → Option LoadError
 first_of None later = later
 first_of (Some e) later = Some e
 
--- Why a class isn't loaded, memory aside: by its image, else for want of room, else since the cluster has run.
+-- Why a class isn't loaded, memory aside: by its image, else for want of room, else since the
+-- cluster has run.
 abbrev pub load_refusal : List ℕ → ClusterState → Option LoadError
 load_refusal image s = first_of (class_refusal image) (refusal_of_room (s.count == CLASS_LIMIT) (refusal_of_start s.classes))

@@ -15,16 +15,16 @@ use Rattle.rados_client.specs.declared.exec_error.ExecError.{ExecError}
 use Rattle.rados_client.specs.declared.exec_error.ExecError.TheVariants as exec
 use Rattle.rados_client.specs.Session.{Contact, SessionState, PlacedReply, KnowsMore}
 
--- The lists that are known have one, of some row, with a legal beginning in which the whole request stands once, at the
--- reply's place, and is answered there as the reply says.
+-- The lists that are known have one, of some row, with a legal beginning in which the whole request
+-- stands once, at the reply's place, and is answered there as the reply says.
 pub record IsAnswered (classes : Classes) (lists : List (List ClientRequest)) (r : ClientRequest) (reply : PlacedReply) : Type 0 where
   pub row : ℕ
   pub begun : List ClientRequest
   pub begins : IsPrefix begun (list_at lists row)
   pub stands : Stands classes begun reply.place r reply.answer
 
--- The same, whoever knows it: some legal list has the whole request once, at the reply's place, answered there as the
--- reply says.
+-- The same, whoever knows it: some legal list has the whole request once, at the reply's place,
+-- answered there as the reply says.
 pub record IsAnswerIn (classes : Classes) (r : ClientRequest) (reply : PlacedReply) : Type 0 where
   pub list : List ClientRequest
   pub stands : Stands classes list reply.place r reply.answer
@@ -37,8 +37,8 @@ WasAsked old new r = WasSent old new (λ op. op.carried ≡ Plain (ARequest r))
 abbrev pub NotAsked : Sender Operation → Sender Operation → ClientRequest → Type 0
 NotAsked old new r = WasAsked old new r → ⊥
 
--- What a refusal says: of the request, by the loaded classes, and of the queues that it was submitted to. Taken says
--- that one took it in this call, Untaken that none did.
+-- What a refusal says: of the request, by the loaded classes, and of the queues that it was
+-- submitted to. Taken says that one took it in this call, Untaken that none did.
 abbrev pub Says : Classes → ClientRequest → Type 0 → Type 0 → ExecError → Type 0
 Says classes r Taken Untaken exec.NotPrimary = ⊥
 Says classes r Taken Untaken exec.Peering = ⊥
@@ -64,8 +64,8 @@ pub record IsAsked (classes : Classes) (old new : Contact) (r : ClientRequest) (
 abbrev pub IsUsed : SessionState → SessionState → ClientRequest → Type 0
 IsUsed old new r = (new.used ≡ suc old.used) × (new.last ≡ Some r)
 
--- What becomes of the number where a call is refused. Where none is left, and where memory was refused before the
--- request was sent, the session is as it was.
+-- What becomes of the number where a call is refused. Where none is left, and where memory was
+-- refused before the request was sent, the session is as it was.
 abbrev pub NumberAt : SessionState → SessionState → ClientRequest → ExecError → Type 0
 NumberAt old new r exec.NotPrimary = ⊥
 NumberAt old new r exec.Peering = ⊥

@@ -7,14 +7,15 @@ use Rattle.commit_board.specs.Lists.{list_at}
 use Rattle.op_shards.specs.Passes.{Sender}
 use Rattle.carried.specs.declared.operation.Operation.{Operation}
 
--- what a session shares with the cluster: the list that it knows of each row of the board, what each queue accepted of
--- it, and how often it nudged
+-- what a session shares with the cluster: the list that it knows of each row of the board, what
+-- each queue accepted of it, and how often it nudged
 pub record Contact : Type 0 where
   pub seen : List (List ClientRequest)
   pub sends : Sender Operation
   pub nudges : ℕ
 
--- a session: its client, how many numbers are used up, the request that was sent last, and its contact
+-- a session: its client, how many numbers are used up, the request that was sent last, and its
+-- contact
 pub record SessionState : Type 0 where
   pub client : ℕ
   pub used : ℕ

@@ -2,8 +2,9 @@ ghost use Rattle.std.specs.Prelude.{◌≡◌};
 
 use std::marker::Model;
 
-/// The id of a class, its place among the loaded ones: `lock` is 0, `obj` is 1, tenants' begin at 2. Any number may be
-/// asked; one that no class has is refused by the node. Contracts see the number.
+/// The id of a class, its place among the loaded ones: `lock` is 0, `obj` is 1, tenants' begin at
+/// 2. Any number may be asked; one that no class has is refused by the node. Contracts see the
+/// number.
 #[derive(Clone, Copy, PartialEq, Eq, Drop)]
 pub struct ClassId {
     id: usize,

@@ -18,9 +18,9 @@ use std::sync::Wait;
 use std::thread::Threads;
 use verifier::{Rule, VerifiedClass, verify};
 
-/// A cluster of nodes in one process, before and after it runs. Classes are loaded before; then a scenario is run on
-/// it, which opens sessions and brings the threads. Contracts see how many classes are loaded; before it runs also what it
-/// is made of, and which classes.
+/// A cluster of nodes in one process, before and after it runs. Classes are loaded before; then a
+/// scenario is run on it, which opens sessions and brings the threads. Contracts see how many
+/// classes are loaded; before it runs also what it is made of, and which classes.
 #[derive(Drop)]
 pub struct Cluster {
     alloc: Global,
@@ -47,9 +47,9 @@ impl Model for Cluster {
 }
 
 impl Cluster {
-    /// A cluster of these nodes, with a map of epoch 1 in which all nodes are up. The classes `lock` and `obj` are
-    /// loaded, with the ids 0 and 1. No thread is started. Refused: `Limit` exactly where a number is outside its
-    /// limits, else `NoMemory`.
+    /// A cluster of these nodes, with a map of epoch 1 in which all nodes are up. The classes
+    /// `lock` and `obj` are loaded, with the ids 0 and 1. No thread is started. Refused: `Limit`
+    /// exactly where a number is outside its limits, else `NoMemory`.
     pub fn new(alloc: Global, config: Config) -> Result<Cluster, ConfigError>
         ensures limit { (result ≡ Err ConfigError.Limit) ↔ (is_within_limits config ≡ false) }
         ensures made { IfOk result (HasBuiltIn config) }
@@ -69,12 +69,12 @@ impl Cluster {
         })
     }
 
-    /// Loads a class from its image, and gives its id; the first has id 2, the next 3, and so on. Its methods are
-    /// verified to be safe.
+    /// Loads a class from its image, and gives its id; the first has id 2, the next 3, and so on.
+    /// Its methods are verified to be safe.
     ///
-    /// Refused, the first that applies, and the cluster is as it was: `Image` where the bytes are no image, `Verdict`
-    /// where a method isn't safe, `TooMany` where 64 classes are loaded, `NoMemory`, `Started` where the cluster has
-    /// run.
+    /// Refused, the first that applies, and the cluster is as it was: `Image` where the bytes are
+    /// no image, `Verdict` where a method isn't safe, `TooMany` where 64 classes are loaded,
+    /// `NoMemory`, `Started` where the cluster has run.
     pub fn load_class(&mut self, image: &[u8]) -> Result<ClassId, LoadError>
         ensures loaded { IfOk result (IsAdded image.now self.old self.new) }
         ensures refused { IfErr result (λ e. (load_refusal image.now self.old ≡ Some e) ⊎ (e ≡ LoadError.NoMemory)) }
@@ -94,8 +94,9 @@ impl Cluster {
         }
     }
 
-    /// Gives the parts and the classes to who names the cluster (`Running::named`) and brings its threads: a scenario of
-    /// `run` can start none. From then on the cluster has started. None exactly where it had started before.
+    /// Gives the parts and the classes to who names the cluster (`Running::named`) and brings its
+    /// threads: a scenario of `run` can start none. From then on the cluster has started. None
+    /// exactly where it had started before.
     pub fn start(&mut self) -> Option<(Parts, ClassTable)>
         ensures given { MatchOption result (self.old.classes ≡ None) (λ p. (self.old.config ≡ Some p.0.config) × (self.old.classes ≡ Some p.1)) }
         ensures spent { self.new ≡ record {
@@ -111,11 +112,11 @@ impl Cluster {
         }
     }
 
-    /// Runs the scenario on the cluster with the classes that are loaded. It is done once: from then on the cluster has
-    /// started, and no class is loaded any more.
+    /// Runs the scenario on the cluster with the classes that are loaded. It is done once: from
+    /// then on the cluster has started, and no class is loaded any more.
     ///
-    /// Refused: `Started` exactly where the cluster was run before, `NoMemory` where memory for the nodes is refused;
-    /// then nothing was run, and the cluster has started.
+    /// Refused: `Started` exactly where the cluster was run before, `NoMemory` where memory for the
+    /// nodes is refused; then nothing was run, and the cluster has started.
     pub fn run<S: Scenario, R: Threads + Wait + Sync + Drop>(
         &mut self,
         rt: R,
@@ -165,8 +166,8 @@ fn started_with(count: usize) -> LoadError
     }
 }
 
-/// A table with the classes `lock` and `obj`. None where memory is refused: their texts are constants, which tests
-/// load.
+/// A table with the classes `lock` and `obj`. None where memory is refused: their texts are
+/// constants, which tests load.
 fn built_in(alloc: Global) -> Option<ClassTable>
     ensures { IfSome result IsBuiltIn }
 {

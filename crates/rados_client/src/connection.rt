@@ -21,8 +21,8 @@ use std::thread;
 /// How many turns the other threads are given after a queue was full.
 const TURNS_WHEN_FULL: u32 = 64;
 
-/// What a session shares with its cluster: what it has seen of the board, and the pass that it submits by; and how
-/// often it nudged.
+/// What a session shares with its cluster: what it has seen of the board, and the pass that it
+/// submits by; and how often it nudged.
 #[derive(Drop)]
 pub(crate) struct Connection<'a, N: ClusterName, R> {
     running: &'a Running<N, R>,
@@ -95,8 +95,8 @@ impl<'a, N: ClusterName, R: Wait> Connection<'a, N, R> {
         self.running.board().meet(&mut self.seen, note);
     }
 
-    /// Asks for the request until it is answered or the tries are used up: the first submit is one, and each later
-    /// submit and each look. None where memory was refused before the first submit.
+    /// Asks for the request until it is answered or the tries are used up: the first submit is one,
+    /// and each later submit and each look. None where memory was refused before the first submit.
     pub fn ask(&mut self, request: &Request, tries: u32) -> Option<Result<Reply, ExecError>>
         ensures none { IfNone result (self.new ≡ self.old) }
         ensures some { IfSome result (IsAsked N.classes self.old self.new request.now) }
@@ -114,8 +114,8 @@ impl<'a, N: ClusterName, R: Wait> Connection<'a, N, R> {
         Some(Err(patience.end()))
     }
 
-    /// One try: the request is submitted again where that is due, else the mailbox is looked into. Some where the
-    /// request is answered.
+    /// One try: the request is submitted again where that is due, else the mailbox is looked into.
+    /// Some where the request is answered.
     fn try_once(
         &mut self,
         request: &Request,

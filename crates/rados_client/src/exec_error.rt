@@ -5,13 +5,13 @@ use group_world::HandleError;
 use std::error::Error;
 use std::fmt;
 
-/// Why a call has no reply. It prints as number and name, as `7 InputTooLong`. The first eight are a node's refusals of
-/// a request, or want of memory in the session itself; a session tries again after the first two, and never answers
-/// them.
+/// Why a call has no reply. It prints as number and name, as `7 InputTooLong`. The first eight are
+/// a node's refusals of a request, or want of memory in the session itself; a session tries again
+/// after the first two, and never answers them.
 ///
-/// After `Unanswered`, after a `LogFull`, `NoMemory` or `NotTaken` that `retry` answers, and after a `LogFull` or
-/// `NoMemory` that comes to a number which was sent more than once, nobody knows whether the call stands in the
-/// history: ask again by `retry`, or read what it was to change.
+/// After `Unanswered`, after a `LogFull`, `NoMemory` or `NotTaken` that `retry` answers, and after
+/// a `LogFull` or `NoMemory` that comes to a number which was sent more than once, nobody knows
+/// whether the call stands in the history: ask again by `retry`, or read what it was to change.
 #[derive(Clone, Copy, Debug, PartialEq, Eq, Drop)]
 pub enum ExecError {
     /// The node isn't the group's primary.
@@ -76,8 +76,8 @@ impl ExecError {
         self.row().1
     }
 
-    /// A node's refusal as a session answers it: of the same number and name. None for the two after which it asks
-    /// again.
+    /// A node's refusal as a session answers it: of the same number and name. None for the two
+    /// after which it asks again.
     pub(crate) fn of_node(refusal: HandleError) -> Option<ExecError>
         ensures { result ≡ refusal_of_node refusal }
     {

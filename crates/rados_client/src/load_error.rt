@@ -3,7 +3,8 @@ use std::error::Error;
 use std::fmt;
 use verifier::Refusal;
 
-/// Why a class isn't loaded. It prints as number and name, as `3 TooMany`. Of several the first by number.
+/// Why a class isn't loaded. It prints as number and name, as `3 TooMany`. Of several the first by
+/// number.
 #[derive(Clone, Copy, Debug, PartialEq, Eq, Drop)]
 pub enum LoadError {
     /// The bytes are no image.

@@ -18,9 +18,9 @@ use std::sync::Wait;
 const OBJECT_CLASS: usize = 1;
 
 impl<N: ClusterName, R: Wait> Session<'_, N, R> {
-    /// Reads `length` bytes of the object's data from `offset` on, as many as there are: they are the output, and their
-    /// count the code. It is -22 (EINVAL) where the length passes 4,096, -2 (ENOENT) where there is no object. It
-    /// answers as `exec`.
+    /// Reads `length` bytes of the object's data from `offset` on, as many as there are: they are
+    /// the output, and their count the code. It is -22 (EINVAL) where the length passes 4,096, -2
+    /// (ENOENT) where there is no object. It answers as `exec`.
     pub fn read(
         &mut self,
         alloc: Global,
@@ -41,9 +41,10 @@ impl<N: ClusterName, R: Wait> Session<'_, N, R> {
         self.call(alloc, &call)
     }
 
-    /// Writes the bytes into the object's data at `offset`; an absent object is created, and what lies before the
-    /// offset is zero. Their count is the code. It is -27 (EFBIG) where the data would pass 65,536 bytes. More than
-    /// 4,088 bytes are refused by `InputTooLong`. It answers as `exec`.
+    /// Writes the bytes into the object's data at `offset`; an absent object is created, and what
+    /// lies before the offset is zero. Their count is the code. It is -27 (EFBIG) where the data
+    /// would pass 65,536 bytes. More than 4,088 bytes are refused by `InputTooLong`. It answers as
+    /// `exec`.
     pub fn write(
         &mut self,
         alloc: Global,
@@ -64,16 +65,17 @@ impl<N: ClusterName, R: Wait> Session<'_, N, R> {
         self.call(alloc, &call)
     }
 
-    /// The length of the object's data is the code; -2 (ENOENT) where there is no object. It answers as `exec`.
+    /// The length of the object's data is the code; -2 (ENOENT) where there is no object. It
+    /// answers as `exec`.
     pub fn stat(&mut self, alloc: Global, object: &ObjectName) -> Result<Reply, ExecError>
         ensures { IsCall N.classes self.old self.new (next_request self.old object.now 1 (codes "stat") []) result }
     {
         self.exec(alloc, object, ClassId::new(OBJECT_CLASS), "stat", &[])
     }
 
-    /// The value of the object's xattr of that name is the output, and its length the code; -2 (ENOENT) where there is
-    /// no object, -61 (ENODATA) where it has no such xattr. A name of more than 64 bytes is refused by `InputTooLong`.
-    /// It answers as `exec`.
+    /// The value of the object's xattr of that name is the output, and its length the code; -2
+    /// (ENOENT) where there is no object, -61 (ENODATA) where it has no such xattr. A name of more
+    /// than 64 bytes is refused by `InputTooLong`. It answers as `exec`.
     pub fn getxattr(
         &mut self,
         alloc: Global,
@@ -91,9 +93,9 @@ impl<N: ClusterName, R: Wait> Session<'_, N, R> {
         )
     }
 
-    /// Gives the object's xattr of that name the value; an absent object is created. The code is 0, or -22 (EINVAL)
-    /// where the name has no byte or more than 64, -27 (EFBIG) where the value has more than 4,031, -28 (ENOSPC) where
-    /// the object has 32 others. It answers as `exec`.
+    /// Gives the object's xattr of that name the value; an absent object is created. The code is 0,
+    /// or -22 (EINVAL) where the name has no byte or more than 64, -27 (EFBIG) where the value has
+    /// more than 4,031, -28 (ENOSPC) where the object has 32 others. It answers as `exec`.
     pub fn setxattr(
         &mut self,
         alloc: Global,
@@ -103,7 +105,8 @@ impl<N: ClusterName, R: Wait> Session<'_, N, R> {
     ) -> Result<Reply, ExecError>
         ensures { IsCall N.classes self.old self.new (next_request self.old object.now 1 (codes "setxattr") (attr_input name.now value.now)) result }
     {
-        // No name has more than 64 bytes, and the class refuses a longer one by the first byte alone.
+        // No name has more than 64 bytes, and the class refuses a longer one by the first byte
+        // alone.
         let count = name.len().min(255) as u8;
         let call = Call {
             object,

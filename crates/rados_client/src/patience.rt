@@ -8,16 +8,19 @@ const LOOKS: u32 = 1_000;
 /// How many turns a look gives the other threads at most.
 const TURNS: u32 = 64;
 
-/// How long a session goes on looking before it submits the request again, and whether a queue has taken the request. At
-/// least one look comes before each repeat, so that a session sees its answer also while its queue is full.
+/// How long a session goes on looking before it submits the request again, and whether a queue has
+/// taken the request. At least one look comes before each repeat, so that a session sees its answer
+/// also while its queue is full.
 #[derive(Clone, Copy)]
 pub(crate) struct Patience {
     looks_left: u32,
-    /// How many looks follow the call's next refusal: 1 after the first, and twice as many after each further one, up to
-    /// `LOOKS`. A group that is in peering refuses at once, and would be nudged by each session all the time.
+    /// How many looks follow the call's next refusal: 1 after the first, and twice as many after
+    /// each further one, up to `LOOKS`. A group that is in peering refuses at once, and would be
+    /// nudged by each session all the time.
     looks_when_refused: u32,
-    /// How many turns each look gives the other threads: 1, and twice as many after each repeat of the request, up to
-    /// `TURNS`. Who waits for the end of a long peering would nudge thousands of times else.
+    /// How many turns each look gives the other threads: 1, and twice as many after each repeat of
+    /// the request, up to `TURNS`. Who waits for the end of a long peering would nudge thousands of
+    /// times else.
     turns: u32,
     pub taken: bool,
 }

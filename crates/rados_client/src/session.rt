@@ -19,8 +19,9 @@ use std::alloc::Global;
 use std::marker::Model;
 use std::sync::Wait;
 
-/// A client's session of a running cluster. It makes one call after another; a session of another thread makes its own.
-/// Contracts see its client, how many numbers it has used up, the request that it sent last, and what it knows.
+/// A client's session of a running cluster. It makes one call after another; a session of another
+/// thread makes its own. Contracts see its client, how many numbers it has used up, the request
+/// that it sent last, and what it knows.
 #[derive(Drop)]
 pub struct Session<'a, N: ClusterName, R> {
     client: ClientId,
@@ -43,9 +44,9 @@ impl<'a, N: ClusterName, R> Model for Session<'a, N, R> {
 }
 
 impl<'a, N: ClusterName, R: Wait> Session<'a, N, R> {
-    /// Opens a session; the first has client 1, the next 2, and so on. It has sent nothing and knows nothing. Refused:
-    /// `TooMany` exactly where 64 were opened before. What a session needs was made with the cluster, so `NoMemory`
-    /// never comes.
+    /// Opens a session; the first has client 1, the next 2, and so on. It has sent nothing and
+    /// knows nothing. Refused: `TooMany` exactly where 64 were opened before. What a session needs
+    /// was made with the cluster, so `NoMemory` never comes.
     pub fn open(running: &'a Running<N, R>) -> Result<Session<'a, N, R>, OpenError>
         ensures new { IfOk result (λ s. (s.client ≤ 64) × (s.used ≡ 0) × (s.last ≡ None) × (s.contact.seen ≡ []) × (s.contact.nudges ≡ 0)) }
         ensures refused { IfErr result (λ e. e ≡ OpenError.TooMany) }
@@ -68,25 +69,28 @@ impl<'a, N: ClusterName, R: Wait> Session<'a, N, R> {
         self.client
     }
 
-    /// How many times it nudged a group since it was opened; a call nudges before each repeat of its request.
+    /// How many times it nudged a group since it was opened; a call nudges before each repeat of
+    /// its request.
     pub fn nudges(&self) -> u64
         ensures { result ≡ self.now.contact.nudges }
     {
         self.connection.nudges()
     }
 
-    /// Calls a method on an object, and waits for the reply in as many tries as the cluster gives a call. The
-    /// request has the next number.
+    /// Calls a method on an object, and waits for the reply in as many tries as the cluster gives a
+    /// call. The request has the next number.
     ///
-    /// Each call of a session makes the same promise (`IsCall`), of the request that it would send next. A reply is true:
-    /// among the lists that the session knows then is one, of some row of the board, with a legal
-    /// beginning in which the whole request stands once, at the reply's place, and is answered there by its method as
-    /// the reply says. That list begins with all that the session had seen or been told of the row.
+    /// Each call of a session makes the same promise (`IsCall`), of the request that it would send
+    /// next. A reply is true: among the lists that the session knows then is one, of some row of
+    /// the board, with a legal beginning in which the whole request stands once, at the reply's
+    /// place, and is answered there by its method as the reply says. That list begins with all that
+    /// the session had seen or been told of the row.
     ///
-    /// Refused, the first that applies: `NumbersUsedUp` where the client has sent number 2^32 - 1, and `NoMemory` where
-    /// memory for the request is refused; then the session is as it was. After the first submit the number is used up:
-    /// by `LogFull`, `StaleNumber`, `NoClass`, `NoMethod`, `InputTooLong` or `NoMemory` of the node; by `Unanswered` or
-    /// `NotTaken` where the tries are used up.
+    /// Refused, the first that applies: `NumbersUsedUp` where the client has sent number 2^32 - 1,
+    /// and `NoMemory` where memory for the request is refused; then the session is as it was. After
+    /// the first submit the number is used up: by `LogFull`, `StaleNumber`, `NoClass`, `NoMethod`,
+    /// `InputTooLong` or `NoMemory` of the node; by `Unanswered` or `NotTaken` where the tries are
+    /// used up.
     pub fn exec(
         &mut self,
         alloc: Global,
@@ -108,10 +112,12 @@ impl<'a, N: ClusterName, R: Wait> Session<'a, N, R> {
         self.call(alloc, &call)
     }
 
-    /// Sends the request that was sent last again, with its number, and waits for the reply as `exec` does. A request
-    /// that stands in the history is answered from there, so it never runs twice. Number and request stay.
+    /// Sends the request that was sent last again, with its number, and waits for the reply as
+    /// `exec` does. A request that stands in the history is answered from there, so it never runs
+    /// twice. Number and request stay.
     ///
-    /// Refused: `NothingSent` exactly where nothing was sent yet; else as `exec`, but for `NumbersUsedUp`.
+    /// Refused: `NothingSent` exactly where nothing was sent yet; else as `exec`, but for
+    /// `NumbersUsedUp`.
     pub fn retry(&mut self) -> Result<Reply, ExecError>
         ensures { IsRepeat N.classes self.old self.new result }
     {
@@ -125,7 +131,8 @@ impl<'a, N: ClusterName, R: Wait> Session<'a, N, R> {
         }
     }
 
-    /// A note of what the session has seen, for another session of the same cluster. It takes no memory.
+    /// A note of what the session has seen, for another session of the same cluster. It takes no
+    /// memory.
     pub fn tell(&mut self) -> Note
         ensures board { result.board ≡ N.board }
         ensures lists { result.lists ≡ self.old.contact.seen }
@@ -134,7 +141,8 @@ impl<'a, N: ClusterName, R: Wait> Session<'a, N, R> {
         self.connection.tell()
     }
 
-    /// Knows from now on what it knew and what the note knew. The note is spent. It takes no memory.
+    /// Knows from now on what it knew and what the note knew. The note is spent. It takes no
+    /// memory.
     pub fn hear(&mut self, note: Note)
         requires { note.board ≡ N.board }
         ensures known { KnowsMore self.old.contact.seen self.new.contact.seen }

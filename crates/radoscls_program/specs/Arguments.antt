@@ -51,7 +51,8 @@ pub record TakesRules (value : List ℕ → Option (List ℕ)) (rules : RuleSet)
   pub there : value (codes "rules") ≡ Some text
   pub named : rules_named text ≡ Some rules
 
--- what `pack` takes from the values: the file OUT of the image, the rule set --rules, and a method of each METHOD
+-- what `pack` takes from the values: the file OUT of the image, the rule set --rules, and a method
+-- of each METHOD
 pub record TakesPacking (value : List ℕ → Option (List ℕ)) (values : List ℕ → Option (List (List ℕ))) (asked : Packing) : Type 0 where
   pub image : value (codes "OUT") ≡ Some asked.image.now
   pub rules : TakesRules value asked.rules
@@ -67,8 +68,9 @@ pub record TakesPlain (value : List ℕ → Option (List ℕ)) (call : Plain) : 
   pub caller_within : IsClientNumber caller_text
   pub caller : call.caller ≡ number_in caller_text
 
--- What `run` takes from the values: the file IN of the image, METHOD, what --input spells, the client --caller; the object's
--- data --object, an xattr of each --xattr and a key of each --key, and whether --show is there.
+-- What `run` takes from the values: the file IN of the image, METHOD, what --input spells, the
+-- client --caller; the object's data --object, an xattr of each --xattr and a key of each --key,
+-- and whether --show is there.
 pub record TakesCall (value : List ℕ → Option (List ℕ)) (values : List ℕ → Option (List (List ℕ))) (call : Call) : Type 0 where
   pub image : value (codes "IN") ≡ Some call.image.now
   pub method : value (codes "METHOD") ≡ Some call.method.now
@@ -82,9 +84,9 @@ pub record TakesCall (value : List ℕ → Option (List ℕ)) (values : List ℕ
   pub keys : AreEntries (texts_of (values (codes "key"))) call.keys.items
   pub shown : call.is_shown ≡ is_set (value (codes "show"))
 
--- What each action takes from the values: whether the class in the file IN is safe; a call; the image of the text in the file IN, into the file
--- OUT; the image of raw code; the text of the class in the file IN, with slots where --slots
--- is there. `values` gives all texts of an argument.
+-- What each action takes from the values: whether the class in the file IN is safe; a call; the
+-- image of the text in the file IN, into the file OUT; the image of raw code; the text of the class
+-- in the file IN, with slots where --slots is there. `values` gives all texts of an argument.
 abbrev pub Takes : (List ℕ → Option (List ℕ)) → (List ℕ → Option (List (List ℕ))) → Action → Type 0
 Takes value values (Verify image) = value (codes "IN") ≡ Some image.now
 Takes value values (Run call) = TakesCall value values call
@@ -100,8 +102,8 @@ AsksBy name value values action = (name ≡ subcommand_for action) × Takes valu
 abbrev pub NamesFiles : (List ℕ → Option (List ℕ)) → Type 0
 NamesFiles value = IsSome (value (codes "IN")) × IsSome (value (codes "OUT"))
 
--- What `sim` takes from the values: the file of events FILE, a tenant's class of each --class, and whether --trace is there.
--- `values` gives all texts of an option.
+-- What `sim` takes from the values: the file of events FILE, a tenant's class of each --class, and
+-- whether --trace is there. `values` gives all texts of an option.
 pub record TakesSim (value : List ℕ → Option (List ℕ)) (values : List ℕ → Option (List (List ℕ))) (s : Simulation) : Type 0 where
   pub file : value (codes "FILE") ≡ Some s.file.now
   pub tenants : SpellsTenants (texts_of (values (codes "class"))) s.tenants.items
@@ -112,7 +114,8 @@ pub record NamesSim (value : List ℕ → Option (List ℕ)) (values : List ℕ 
   pub file : IsSome (value (codes "FILE"))
   pub tenants : are_tenants (texts_of (values (codes "class"))) ≡ true
 
--- What `cluster` takes from the values: the file of calls and maps FILE, and a tenant's class of each --class.
+-- What `cluster` takes from the values: the file of calls and maps FILE, and a tenant's class of
+-- each --class.
 pub record TakesCluster (value : List ℕ → Option (List ℕ)) (values : List ℕ → Option (List (List ℕ))) (c : Clustering) : Type 0 where
   pub file : value (codes "FILE") ≡ Some c.file.now
   pub tenants : SpellsTenants (texts_of (values (codes "class"))) c.tenants.items

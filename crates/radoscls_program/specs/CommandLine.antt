@@ -1,7 +1,7 @@
--- The command line: `verify IN [--explain]`, `run IN METHOD [--input HEX] [--caller N]
--- [--object HEX] [--xattr NAME=HEX ..] [--key KEY=HEX ..] [--show] [--explain]`, `asm IN OUT [--explain]`,
--- `pack OUT METHOD .. [--rules N] [--explain]`, `dis IN [--slots] [--explain]`,
--- `sim FILE [--class NAME=IMAGE ..] [--trace]`, and `cluster FILE [--class NAME=IMAGE ..] [--stats]`.
+-- The command line: `verify IN [--explain]`, `run IN METHOD [--input HEX] [--caller N] [--object
+-- HEX] [--xattr NAME=HEX ..] [--key KEY=HEX ..] [--show] [--explain]`, `asm IN OUT [--explain]`,
+-- `pack OUT METHOD .. [--rules N] [--explain]`, `dis IN [--slots] [--explain]`, `sim FILE [--class
+-- NAME=IMAGE ..] [--trace]`, and `cluster FILE [--class NAME=IMAGE ..] [--stats]`.
 use Rattle.std.specs.Prelude.{◌≡◌, Bool, List, [], ◌∷◌, Option, Some, None, true, false, pos, codes}
 use Rattle.clap.specs.Lexer.{usize_max}
 use Rattle.clap.specs.Words.{App, Row, Rule, Text, all_of, first_of, new_app, new_rule, with_rule, with_subcommand}
@@ -131,7 +131,8 @@ pub record AsksSim (subcommand : Option (Text × List Row)) (s : Simulation) : T
   pub entered : subcommand ≡ Some (codes "sim", rows)
   pub asked : TakesSim (λ id. first_of id rows) (λ id. all_of id rows) s
 
--- the run on a cluster that the words ask for is that of the subcommand `cluster`, and --stats has it measured
+-- the run on a cluster that the words ask for is that of the subcommand `cluster`, and --stats has
+-- it measured
 pub record AsksCluster (subcommand : Option (Text × List Row)) (c : Clustering) (is_measured : Bool) : Type 0 where
   pub rows : List Row
   pub entered : subcommand ≡ Some (codes "cluster", rows)

@@ -23,8 +23,8 @@ IsCut disk old new s = (middle : Stream) × Plays disk old middle s ending.NoMem
 abbrev pub IsBarred : Option Disk → Stream → Stream → Simulation → Type 0
 IsBarred disk old new s = (failure : Failure) × SimulationFails disk s failure × IsPrinted old new (failure_line failure)
 
--- How playing a file ends: each line was done and printed; or one is bad, a write or a flush failed, memory was refused at
--- a line, or no line was done.
+-- How playing a file ends: each line was done and printed; or one is bad, a write or a flush
+-- failed, memory was refused at a line, or no line was done.
 abbrev pub SimEnds : Option Disk → Stream → Stream → Simulation → ExitStatus → Type 0
 SimEnds disk old new s Done = Plays disk old new s ending.Done
 SimEnds disk old new s Refused =

@@ -42,7 +42,8 @@ abbrev pub IsNoteAsked : Bool → Option Disk → Action → Failure → List �
 IsNoteAsked false disk action failure note = note ≡ []
 IsNoteAsked true disk action failure note = IsNote disk action failure note
 
--- There was a reason against the action that the words name, and its line was printed, with --explain the note below it.
+-- There was a reason against the action that the words name, and its line was printed, with
+-- --explain the note below it.
 pub record IsFailed (before after : Storage) (old new : Stream) (words : List Text) : Type 0 where
   pub action : Action
   pub is_explained : Bool
@@ -115,7 +116,8 @@ pub record IsUnstarted (before after : Storage) (old new : Stream) (status : Exi
 abbrev pub Starts : Storage → Storage → Stream → Stream → ExitStatus → Type 0
 Starts before after old new status = ((words : List Text) × Ends before after old new words status) ⊎ IsUnstarted before after old new status
 
--- an answer was printed, or a write or a flush failed; a failure's line was printed, or a write or a flush failed
+-- an answer was printed, or a write or a flush failed; a failure's line was printed, or a write or
+-- a flush failed
 abbrev pub Responds : Stream → Stream → Result Answer Failure → List ℕ → ExitStatus → Type 0
 Responds old new (Ok answer) note Done = Took old new (answer_text answer)
 Responds old new (Ok answer) note Refused = new.failed ≡ true
@@ -124,8 +126,8 @@ Responds old new (Err failure) note Done = ⊥
 Responds old new (Err failure) note Refused = IsPrinted old new (failure_line failure ++ note)
 Responds old new (Err failure) note Usage = ⊥
 
--- what is done of a task: an action is answered or fails, and that is printed; a file of events, or of calls and maps, is
--- played, and no file changes
+-- what is done of a task: an action is answered or fails, and that is printed; a file of events, or
+-- of calls and maps, is played, and no file changes
 abbrev pub Found : Storage → Storage → Action → Bool → Result Answer Failure → List ℕ → Type 0
 Found before after action is_explained (Ok answer) note = Settles before after action answer
 Found before after action is_explained (Err failure) note = Fails before after action failure × IsNoteAsked is_explained before.disk action failure note

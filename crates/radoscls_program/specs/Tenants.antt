@@ -18,7 +18,8 @@ name_in text = before_first is_equals text
 abbrev pub image_in : Text → Text
 image_in text = after_first is_equals text
 
--- a word of a file of events may be that: it isn't empty, and neither a space nor a tab stands in it
+-- a word of a file of events may be that: it isn't empty, and neither a space nor a tab stands in
+-- it
 abbrev pub is_word : Text → Bool
 is_word name = not (length name == 0) && (not (list_any (λ b. b == 32) name) && not (list_any (λ b. b == 9) name))
 

@@ -344,7 +344,8 @@ fn root_command<'a>(alloc: Global) -> Result<Command<'a>, AllocError>
     with_subcommand(of_groups, cluster_command(alloc))
 }
 
-/// The client of the number that a text writes in decimal digits, with or without a plus: 1 to 4294967295.
+/// The client of the number that a text writes in decimal digits, with or without a plus: 1 to
+/// 4294967295.
 fn caller_of(text: &str) -> Option<ClientId>
     ensures value { IfSome result (λ caller. caller ≡ number_in text.now) }
     ensures within { IsSome result ↔ IsClientNumber text.now }
@@ -632,7 +633,8 @@ fn task_of<'a>(alloc: Global, matches: &ArgMatches<'a>) -> Result<Option<Task<'a
     }
 }
 
-/// The task that was found, or why there is none: the command's own error where the words ask for nothing.
+/// The task that was found, or why there is none: the command's own error where the words ask for
+/// nothing.
 fn found_task<'a>(
     command: &mut Command<'a>,
     found: Result<Option<Task<'a>>, AllocError>,

@@ -1,7 +1,8 @@
-//! The program `radoscls` on words, files and two writers: reads the command line, does what it asks for by `class_tool`,
-//! and prints it. `program` says what each of its endings means: what was printed, which file was written, and why not.
-//! `start` runs it on the words and files of the process, and gives what that ends with. The command `cluster` starts
-//! threads and waits for them; the others do neither.
+//! The program `radoscls` on words, files and two writers: reads the command line, does what it
+//! asks for by `class_tool`, and prints it. `program` says what each of its endings means: what was
+//! printed, which file was written, and why not. `start` runs it on the words and files of the
+//! process, and gives what that ends with. The command `cluster` starts threads and waits for them;
+//! the others do neither.
 #![tactic(auto)]
 
 mod arguments;

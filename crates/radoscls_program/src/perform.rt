@@ -99,7 +99,8 @@ fn play<F: Reads, O: Output>(
     }
 }
 
-/// Plays a file of calls and maps on a cluster. What that took is written to `err`, where it is asked for.
+/// Plays a file of calls and maps on a cluster. What that took is written to `err`, where it is
+/// asked for.
 fn measure<R: Threads + Wait + Clock + Sync, F: Reads, O: Output, E: io::Write>(
     alloc: Global,
     rt: &R,
@@ -175,16 +176,17 @@ pub(crate) fn perform<
     }
 }
 
-/// Does what the words ask for; the first is the program's own name. Answers and refusals are printed on `out`, a line
-/// each; usage and help on `err`.
+/// Does what the words ask for; the first is the program's own name. Answers and refusals are
+/// printed on `out`, a line each; usage and help on `err`.
 ///
-/// The answer is what the process ends with: 0 where it was done and printed, 1 where it was refused, or a write or a flush
-/// of `out` failed, 2 after usage or help, where the words name no task without a fault. No file is written but the one
-/// that `asm` or `pack` names for the image, and that one only where the text or the raw code is right. `sim` prints of each line of its file what it
-/// comes to before the next is done; `cluster` prints its lines once all calls have ended.
+/// The answer is what the process ends with: 0 where it was done and printed, 1 where it was
+/// refused, or a write or a flush of `out` failed, 2 after usage or help, where the words name no
+/// task without a fault. No file is written but the one that `asm` or `pack` names for the image,
+/// and that one only where the text or the raw code is right. `sim` prints of each line of its file
+/// what it comes to before the next is done; `cluster` prints its lines once all calls have ended.
 ///
-/// `cluster` starts threads by `rt` and waits for them: nothing is said of when it ends. With `--stats` what the run took
-/// is written to `err`.
+/// `cluster` starts threads by `rt` and waits for them: nothing is said of when it ends. With
+/// `--stats` what the run took is written to `err`.
 pub fn program<S: AsStr, R: Threads + Wait + Clock + Sync, F: Files, O: Output, E: io::Write>(
     alloc: Global,
     rt: &R,

@@ -23,7 +23,8 @@ fn words<R: Env + AllocGlobal>(rt: &R) -> io::Result<Vec<String>> {
     Ok(env::args(rt)?.collect(rt.alloc())?)
 }
 
-/// Runs the program on those words, or says why there are none: `program`, on words that may be missing.
+/// Runs the program on those words, or says why there are none: `program`, on words that may be
+/// missing.
 pub fn end_of<R: Threads + Wait + Clock + Sync, F: class_tool::Files, O: Output, E: io::Write>(
     alloc: Global,
     rt: &R,
@@ -41,8 +42,8 @@ pub fn end_of<R: Threads + Wait + Clock + Sync, F: class_tool::Files, O: Output,
     }
 }
 
-/// Runs `end_of` on the process's own words and files, and gives the number of its status: `program`'s answer, or 1 where
-/// the words could not be read, of which a line is printed.
+/// Runs `end_of` on the process's own words and files, and gives the number of its status:
+/// `program`'s answer, or 1 where the words could not be read, of which a line is printed.
 pub fn start<
     R: Env + Files + AllocGlobal + Input + Threads + Wait + Clock + Sync,
     O: Output,

@@ -43,7 +43,8 @@ fn is_free(name: &str, tenants: &[TenantClass<'_>]) -> bool
     is_word(name) && !is_taken(name, tenants)
 }
 
-/// The class that a text spells: its name stands before the first `=`, the file of its image after it.
+/// The class that a text spells: its name stands before the first `=`, the file of its image after
+/// it.
 fn tenant_class<'a>(text: &'a str) -> Option<TenantClass<'a>>
     ensures none { IfNone result (list_any is_equals text.now ≡ false) }
     ensures some { IfSome result (λ o. (list_any is_equals text.now ≡ true) × (o.name.now ≡ name_in text.now) × (o.image.now ≡ image_in text.now)) }
@@ -67,8 +68,8 @@ fn next_class<'a>(text: &'a str, tenants: &[TenantClass<'_>]) -> Option<TenantCl
     }
 }
 
-/// The classes that texts spell, in their order; none where a text has no `=`, a name is no word or is used before, or
-/// there are too many.
+/// The classes that texts spell, in their order; none where a text has no `=`, a name is no word or
+/// is used before, or there are too many.
 pub(crate) fn tenants_in<'a>(
     alloc: Global,
     texts: &[&'a str],

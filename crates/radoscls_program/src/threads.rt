@@ -11,7 +11,8 @@ use std::sync::Wait;
 use std::thread::Threads;
 use std::time::Clock;
 
-/// Plays a file of calls and maps, and prints why where that comes to nothing or ends for want of memory.
+/// Plays a file of calls and maps, and prints why where that comes to nothing or ends for want of
+/// memory.
 pub(crate) fn play_cluster<R: Threads + Wait + Clock + Sync, F: Reads, O: Output>(
     alloc: Global,
     rt: &R,

@@ -1,5 +1,5 @@
-//! Runs `radoscls` on the files, words and streams of the system, in a folder of its own: what no contract can say of
-//! them. Each line tells what was seen.
+//! Runs `radoscls` on the files, words and streams of the system, in a folder of its own: what no
+//! contract can say of them. Each line tells what was seen.
 #![tactic(auto)]
 
 use class_tool::{Files, Printer, Reads, SystemFiles};

@@ -10,7 +10,8 @@ abbrev pub added_or : Option LogError → ℕ → Result (Option ℕ) LogError
 added_or None after = Ok (Some after)
 added_or (Some why) after = Err why
 
--- What a request at a place answers of a log where there is memory: the length after, none past the end, or the refusal.
+-- What a request at a place answers of a log where there is memory: the length after, none past the
+-- end, or the refusal.
 abbrev pub append_at_answer : Classes → List ClientRequest → ℕ → ClientRequest → Result (Option ℕ) LogError
 append_at_answer classes list place r =
     if nat_lt place (length list) then Ok (Some (length list)) else

@@ -1,8 +1,8 @@
 ghost use Rattle.std.specs.Prelude.{◌≡◌, ◌<◌, ℕ, length, min};
 ghost use Rattle.replication.specs.Places.{IsLeast, least_from};
 
-/// How many entries all members have: the least of the acknowledged lengths, the primary's own among them. It takes no
-/// memory.
+/// How many entries all members have: the least of the acknowledged lengths, the primary's own
+/// among them. It takes no memory.
 pub fn commit_point(acked: &[usize]) -> usize
     requires { 0 < length acked.now }
     ensures least { IsLeast result acked.now }

@@ -7,7 +7,8 @@ use pg_log::{NoMemory, Request, Requests, copy_requests};
 use std::alloc::Global;
 use std::marker::Model;
 
-/// A list of which the receiver has the beginning: how many requests that is, and the rest. Contracts see both.
+/// A list of which the receiver has the beginning: how many requests that is, and the rest.
+/// Contracts see both.
 #[derive(Drop)]
 pub struct PackedLog {
     common: usize,
@@ -51,8 +52,9 @@ impl PackedLog {
     }
 }
 
-/// Leaves out of a list, which it takes, the first `reported` requests, which the receiver says that it has, or all of them
-/// if the list is no longer. What follows is shared. It takes no memory.
+/// Leaves out of a list, which it takes, the first `reported` requests, which the receiver says
+/// that it has, or all of them if the list is no longer. What follows is shared. It takes no
+/// memory.
 pub fn pack_list(list: Requests, reported: usize) -> PackedLog
     ensures { result ≡ packed list reported }
 {
@@ -63,7 +65,8 @@ pub fn pack_list(list: Requests, reported: usize) -> PackedLog
     }
 }
 
-/// The same of a list that isn't shared. It costs a count and a pointer for each request of the rest.
+/// The same of a list that isn't shared. It costs a count and a pointer for each request of the
+/// rest.
 pub fn pack_log(alloc: Global, list: &[Request], reported: usize) -> Result<PackedLog, NoMemory>
     ensures { IfOk result (λ p. p ≡ packed list.now reported) }
 {
@@ -94,8 +97,9 @@ fn unpacked(alloc: Global, local: &[Request], log: &PackedLog) -> Result<Vec<Req
     }
 }
 
-/// The list that was packed, if the local list begins with what was left out. It costs a count and a pointer for each request. It refuses by
-/// `TooShort` exactly if the local list is shorter than what was left out, and else by `NoMemory`.
+/// The list that was packed, if the local list begins with what was left out. It costs a count and
+/// a pointer for each request. It refuses by `TooShort` exactly if the local list is shorter than
+/// what was left out, and else by `NoMemory`.
 pub fn unpack_log(
     alloc: Global,
     local: &[Request],

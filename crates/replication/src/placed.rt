@@ -7,15 +7,16 @@ ghost use Rattle.replication.specs.Places.{append_at_answer, list_with};
 use crate::rep::Rep;
 use pg_log::{ClassTable, Classes, Group, LogError};
 
-/// Puts a request at its place. If that is the log's length the request is added, and if it is a smaller one nothing
-/// changes; both give the length after. A greater place gives none, and changes nothing. Its epoch isn't looked
-/// at.
+/// Puts a request at its place. If that is the log's length the request is added, and if it is a
+/// smaller one nothing changes; both give the length after. A greater place gives none, and changes
+/// nothing. Its epoch isn't looked at.
 ///
-/// At the length it refuses as `Group::append` does, save that a logged pair is `StaleNumber`, on a full log `LogFull`.
-/// A refusal leaves the group as it was.
+/// At the length it refuses as `Group::append` does, save that a logged pair is `StaleNumber`, on a
+/// full log `LogFull`. A refusal leaves the group as it was.
 ///
-/// The table is that of the earlier calls, or that one with classes added. A place that isn't the length costs the same
-/// however long the log is; one that is costs what `Group::append` costs. The request is never copied.
+/// The table is that of the earlier calls, or that one with classes added. A place that isn't the
+/// length costs the same however long the log is; one that is costs what `Group::append` costs. The
+/// request is never copied.
 pub fn append_at<C: Classes>(
     group: &mut Group<C>,
     table: &ClassTable,

@@ -262,7 +262,8 @@ module _ {V : Type 0} where
   pub high_part : (x : Entries V) (e : Pair V) (y : Entries V) (f : Pair V) (z : Entries V) → IsTrue (sorted ((x ++ e ∷ y) ++ f ∷ z)) → IsTrue (sorted (y ++ f ∷ z))
   high_part x e y f z h = sorted-past x e (y ++ f ∷ z) (sorted-turned x e y f z h)
 
-  -- what is turned twice: (x ++ e ∷ (y ++ f ∷ z)) ++ g ∷ u, and x ++ e ∷ ((y ++ f ∷ z) ++ g ∷ u), is (x ++ e ∷ y) ++ f ∷ (z ++ g ∷ u)
+  -- what is turned twice: (x ++ e ∷ (y ++ f ∷ z)) ++ g ∷ u, and x ++ e ∷ ((y ++ f ∷ z) ++ g ∷ u),
+  -- is (x ++ e ∷ y) ++ f ∷ (z ++ g ∷ u)
   pub twice_right : (x : Entries V) (e : Pair V) (y : Entries V) (f : Pair V) (z : Entries V) (g : Pair V) (u : Entries V) → x ++ e ∷ ((y ++ f ∷ z) ++ g ∷ u) ≡ (x ++ e ∷ y) ++ f ∷ (z ++ g ∷ u)
   twice_right x e y f z g u = ap (λ t. x ++ e ∷ t) (turned y f z g u) ∙ sym (turned x e y f (z ++ g ∷ u))
 

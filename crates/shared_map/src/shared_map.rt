@@ -9,12 +9,14 @@ use std::alloc::{AllocError, Global};
 use std::cmp::Ordering;
 use std::marker::Model;
 
-/// A map from bytes to values, in the order of the bytes. Its copies share what they have in common. Contracts see the finite map.
+/// A map from bytes to values, in the order of the bytes. Its copies share what they have in
+/// common. Contracts see the finite map.
 pub struct SharedMap<V> {
     tree: Tree<V>,
 }
 
-// Written out, so that a crate that drops a map calls this and needn't prove again how a tree is dropped.
+// Written out, so that a crate that drops a map calls this and needn't prove again how a tree is
+// dropped.
 impl<V: Drop> Drop for SharedMap<V> {
     fn drop(self) {
         let SharedMap { tree } = self;
@@ -59,15 +61,16 @@ impl<V: Drop> SharedMap<V> {
         self.tree.get(key)
     }
 
-    /// The least key above these bytes, in the logarithm of the number of keys. The bytes need not be a key.
+    /// The least key above these bytes, in the logarithm of the number of keys. The bytes need not
+    /// be a key.
     pub fn key_above(&self, key: &[u8]) -> Option<&[u8]>
         ensures { option_copied result ≡ key_above self.now key.now }
     {
         self.tree.above(key)
     }
 
-    /// Gives a key this value, in place of the one that it has. It makes the path to the key anew and shares the rest with older copies, which stay as
-    /// they are. An error changes nothing.
+    /// Gives a key this value, in place of the one that it has. It makes the path to the key anew
+    /// and shares the rest with older copies, which stay as they are. An error changes nothing.
     pub fn set(&mut self, alloc: Global, key: &[u8], value: V) -> Result<(), AllocError>
         ensures ok { OnOk result (self.new ≡ fin.insert self.old key.now value) }
         ensures err { OnErr result (self.new ≡ self.old) }
@@ -76,8 +79,8 @@ impl<V: Drop> SharedMap<V> {
         Ok(())
     }
 
-    /// Removes a key, which may be absent. It makes the path to the key anew and shares the rest with older copies, which stay as they are. An error
-    /// changes nothing.
+    /// Removes a key, which may be absent. It makes the path to the key anew and shares the rest
+    /// with older copies, which stay as they are. An error changes nothing.
     pub fn remove(&mut self, alloc: Global, key: &[u8]) -> Result<(), AllocError>
         ensures ok { OnOk result (self.new ≡ fin.remove self.old key.now) }
         ensures err { OnErr result (self.new ≡ self.old) }
@@ -98,7 +101,8 @@ impl<V: Drop> SharedMap<V> {
         })
     }
 
-    /// The key and the value at a place in the order of the keys, from 0 on, in the logarithm of the number of keys.
+    /// The key and the value at a place in the order of the keys, from 0 on, in the logarithm of
+    /// the number of keys.
     pub fn nth(&self, n: usize) -> Option<(&[u8], &V)>
         ensures { entry_behind result ≡ nth self.now n }
     {
@@ -108,7 +112,8 @@ impl<V: Drop> SharedMap<V> {
         }
     }
 
-    /// How many nodes stand on the longest way down, 255 if it is more: what a call costs at most. No clause speaks of it; tests hold it low.
+    /// How many nodes stand on the longest way down, 255 if it is more: what a call costs at most.
+    /// No clause speaks of it; tests hold it low.
     pub fn height(&self) -> u8 {
         self.tree.height()
     }

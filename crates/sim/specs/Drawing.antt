@@ -1,5 +1,6 @@
--- The run of a file as it is drawn: what each line makes happen, and every message. What a line comes to is `step`, as where
--- the lines are printed; how steps and messages look is sim_trace's `drawn`.
+-- The run of a file as it is drawn: what each line makes happen, and every message. What a line
+-- comes to is `step`, as where the lines are printed; how steps and messages look is sim_trace's
+-- `drawn`.
 use Rattle.std.specs.Prelude.{◌≡◌, ℕ, suc, min, Bool, List, [], ◌∷◌, ◌++◌, map, Option, Some, None, is_some, if◌then◌else◌, codes, string_bytes}
 use Rattle.std.specs.Fmt.{decimal}
 use Rattle.pg_log.specs.Log.{Classes}
@@ -44,7 +45,8 @@ drawn_as m = record { from = m.from; to = m.to; text = string_bytes m.text }
 abbrev pub drawn_of : MessageShown → Drawn
 drawn_of m = record { from = column_of m.sender; to = column_of m.receiver; text = m.text }
 
--- WHAT A LINE IS TO MAKE HAPPEN, if anything: at the monitor, between a client and a node, at a node; or a message arrives.
+-- WHAT A LINE IS TO MAKE HAPPEN, if anything: at the monitor, between a client and a node, at a
+-- node; or a message arrives.
 abbrev pub meant_by : Line → Option What
 meant_by lines.Empty = None
 meant_by (lines.Map acting) = Some (At Monitor)
@@ -122,7 +124,8 @@ noted_if line t (Some what) = record { what = what; text = said line what t; sen
 abbrev pub noted : List (List ℕ) → List ℕ → Taken → List Noted
 noted names line t = noted_if line t (done_if (meant_by (line_of names line)) t)
 
--- A RUN: its steps, the played world after them with all messages, and the number of the bad line, if one is.
+-- A RUN: its steps, the played world after them with all messages, and the number of the bad line,
+-- if one is.
 pub record Course : Type 0 where
   pub steps : List Noted
   pub played : Played

@@ -1,4 +1,5 @@
--- The lines of a file, one after another, up to the first that is bad: what is printed of them, in the group's world.
+-- The lines of a file, one after another, up to the first that is bad: what is printed of them, in
+-- the group's world.
 use Rattle.std.specs.Prelude.{◌≡◌, ℕ, suc, ◌≤◌, List, [], ◌∷◌, ◌++◌, length, take, Bool, true, false, Option, if◌then◌else◌, codes}
 use Rattle.std.specs.Fmt.{decimal}
 use Rattle.std.specs.Io.KnownBytes.{Appends}
@@ -49,8 +50,8 @@ pub record Grew (old new : Option (List ℕ)) (failed fails : Bool) (text : List
   pub grew : Appends old new text
   pub well : fails ≡ failed
 
--- All lines were printed that the lines of the file come to, and none is bad, or one is; and the group's world after them is
--- an agreed one.
+-- All lines were printed that the lines of the file come to, and none is bad, or one is; and the
+-- group's world after them is an agreed one.
 pub record Prints (classes : Classes) (printed : Printed) (bad : Bool) (old new : Option (List ℕ)) (failed fails : Bool) : Type 0 where
   pub shown : Grew old new failed fails printed.text
   pub is : printed.bad ≡ bad

@@ -12,20 +12,22 @@ pub use Rattle.sim.specs.declared.file.Ending.TheVariants.{Done, Bad, NoMemory, 
 use Rattle.tenant_classes.specs.Classes.{AreClasses, ClassesFail, names_of}
 use Rattle.sim.specs.declared.asked.Simulation.{Simulation}
 
--- Of a drawing: it was printed whole, with no bad line or one, or nothing was for want of memory, or a write or a flush failed.
+-- Of a drawing: it was printed whole, with no bad line or one, or nothing was for want of memory,
+-- or a write or a flush failed.
 abbrev pub IsDrawn : Classes → Course → Option (List ℕ) → Option (List ℕ) → Bool → Bool → Ending → Type 0
 IsDrawn classes run old new failed fails Done = Shows classes run false old new failed fails
 IsDrawn classes run old new failed fails Bad = Shows classes run true old new failed fails
 IsDrawn classes run old new failed fails NoMemory = (new ≡ old) × (fails ≡ failed)
 IsDrawn classes run old new failed fails Unprinted = fails ≡ true
 
--- A text was played: its lines were done and printed as they are defined to be, or their run was drawn.
+-- A text was played: its lines were done and printed as they are defined to be, or their run was
+-- drawn.
 abbrev pub Plays : Bool → Classes → List (List ℕ) → List ℕ → Option (List ℕ) → Option (List ℕ) → Bool → Bool → Ending → Type 0
 Plays true classes names text old new failed fails ending = IsDrawn classes (course classes names (lines_of text)) old new failed fails ending
 Plays false classes names text old new failed fails ending = EndsBy classes names (lines_of text) old new failed fails ending
 
--- WHAT A SIMULATION IS: with the built-in classes and those of the tenants' files, the text that the file of events holds
--- was played.
+-- WHAT A SIMULATION IS: with the built-in classes and those of the tenants' files, the text that
+-- the file of events holds was played.
 pub record Simulates (disk : Option Disk) (s : Simulation) (old new : Option (List ℕ)) (failed fails : Bool) (ending : Ending) : Type 0 where
   pub classes : Classes
   pub loaded : AreClasses disk s.tenants.items classes

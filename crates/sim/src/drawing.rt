@@ -69,7 +69,8 @@ fn take_line<C: Classes>(
     Ok(false)
 }
 
-/// Does lines up to the first that is bad, notes what happened, and gives the number of the bad one.
+/// Does lines up to the first that is bad, notes what happened, and gives the number of the bad
+/// one.
 fn take_lines<C: Classes>(
     alloc: Global,
     table: &ClassTable,
@@ -151,8 +152,8 @@ fn trace_lines<C: Classes>(
     trace_from(alloc, table, names, lines, &mut world)
 }
 
-/// Does the lines of a text as `run` does, and draws what happened, once all are done or one is bad. It fails for want of
-/// memory alone.
+/// Does the lines of a text as `run` does, and draws what happened, once all are done or one is
+/// bad. It fails for want of memory alone.
 pub(crate) fn trace(
     alloc: Global,
     table: &ClassTable,

@@ -119,11 +119,12 @@ fn run_lines<C: Classes, O: Output>(
     }
 }
 
-/// Does the lines of a text, and prints of each what it comes to before the next is done. Requests go to the table's
-/// classes by these names, the one of id 0 first; another word is a class that isn't loaded.
+/// Does the lines of a text, and prints of each what it comes to before the next is done. Requests
+/// go to the table's classes by these names, the one of id 0 first; another word is a class that
+/// isn't loaded.
 ///
-/// It ends with `Bad` at the first bad line, whose number is printed; with `NoMemory` where memory is refused, and then
-/// prints nothing of that line; and where a write or a flush fails.
+/// It ends with `Bad` at the first bad line, whose number is printed; with `NoMemory` where memory
+/// is refused, and then prints nothing of that line; and where a write or a flush fails.
 pub(crate) fn run<O: Output>(
     alloc: Global,
     table: &ClassTable,

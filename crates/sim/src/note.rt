@@ -78,7 +78,8 @@ fn sent_by(taken: &Taken) -> usize
     0
 }
 
-/// Messages that are sent again, after each other, with `: ` before the first and `, ` before each further one.
+/// Messages that are sent again, after each other, with `: ` before the first and `, ` before each
+/// further one.
 fn again_after(alloc: Global, numbers: &[usize]) -> Result<String, AllocError>
     ensures { IfOk result (λ t. string_bytes t ≡ again_after (codes ": ") numbers.now) }
 {

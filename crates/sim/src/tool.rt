@@ -8,12 +8,13 @@ use class_tool::{Failure, Output, Reads, read_text};
 use std::alloc::Global;
 use tenant_classes::{class_names, classes};
 
-/// Loads the classes, reads the file of events, and does its lines: prints of each what it comes to before the next is
-/// done, or draws them all. Requests go to `lock` (0), `obj` (1) and the tenants' classes, by their names.
+/// Loads the classes, reads the file of events, and does its lines: prints of each what it comes to
+/// before the next is done, or draws them all. Requests go to `lock` (0), `obj` (1) and the
+/// tenants' classes, by their names.
 ///
-/// A failure says why no line was done, the first reason in this order: a built-in class can't be had, which memory alone
-/// is known to cause; the image of a tenant's class can't be loaded, the first one in their order; the file can't be read
-/// or is no text. Nothing was printed then.
+/// A failure says why no line was done, the first reason in this order: a built-in class can't be
+/// had, which memory alone is known to cause; the image of a tenant's class can't be loaded, the
+/// first one in their order; the file can't be read or is no text. Nothing was printed then.
 pub fn simulate<F: Reads, O: Output>(
     alloc: Global,
     files: &F,

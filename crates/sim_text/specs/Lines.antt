@@ -1,4 +1,5 @@
--- What a line says: the event or question that its words name. Words, numbers, names and bytes are file_words'.
+-- What a line says: the event or question that its words name. Words, numbers, names and bytes are
+-- file_words'.
 use Rattle.std.specs.Prelude.{ℕ, ◌-◌, ◌==◌, List, [], ◌∷◌, slice_index, slice_get, Option, Some, None, if◌then◌else◌, codes}
 use Rattle.std.specs.Option.{option_map, option_and_then, unwrap_or}
 use Rattle.std.specs.Str.{bytes_eq}
@@ -24,7 +25,8 @@ two_in _ = None
 abbrev pub ids_in : List ℕ → List ℕ → Option (ℕ × ℕ)
 ids_in client number = option_and_then (λ c. option_map (λ n. (c, n)) (id_in number)) (id_in client)
 
--- and its words in their order: client and number, object and class, method and input; too few or too many are none
+-- and its words in their order: client and number, object and class, method and input; too few or
+-- too many are none
 abbrev pub request_with_method : ℕ → ℕ → List ℕ → ℕ → List (List ℕ) → Option ClientRequest
 request_with_method client number object class (method ∷ input ∷ []) =
     option_map (λ bytes. record { client = client; number = number; object = object; class = class; method = method; input = bytes }) (bytes_in input)

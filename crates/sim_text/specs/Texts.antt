@@ -45,7 +45,8 @@ reply_text number place answer =
     codes "Reply " ++ (decimal number ++ (codes " " ++ (decimal place ++ (codes " " ++ (signed_decimal (cast_signed w64 answer.code)
     ++ (codes " " ++ digits_or_dash (encode_lower answer.output)))))))
 
--- what a message says: its kind, its interval, and how long a list is, a place or an acknowledged length
+-- what a message says: its kind, its interval, and how long a list is, a place or an acknowledged
+-- length
 abbrev pub kind_text : MessageKind → List ℕ
 kind_text (Query m) = word_and_number (codes "Query") m.interval
 kind_text (LogOf interval list) = word_and_two_numbers (codes "Log") interval (length list)
@@ -100,7 +101,8 @@ is_bad (Again numbers) = false
 abbrev pub refused_text : List ℕ → List ℕ
 refused_text why = codes "refused " ++ why
 
--- a new map: a new interval, which is its epoch, and the one activated before it; or the interval that it keeps
+-- a new map: a new interval, which is its epoch, and the one activated before it; or the interval
+-- that it keeps
 abbrev pub map_text : MapMade → List ℕ
 map_text m = if m.epoch == m.interval then codes "map " ++ (decimal m.epoch ++ (codes " prev " ++ decimal m.prev))
     else codes "map " ++ (decimal m.epoch ++ (codes " same " ++ decimal m.interval))

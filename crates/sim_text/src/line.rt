@@ -133,8 +133,8 @@ fn says(alloc: Global, names: &[&str], words: &[&str]) -> Result<Line, AllocErro
     }
 }
 
-/// What a line says: the classes go by these names, the one of id 0 first. A line that says nothing else is `Bad`, no
-/// error: it fails for want of memory alone.
+/// What a line says: the classes go by these names, the one of id 0 first. A line that says nothing
+/// else is `Bad`, no error: it fails for want of memory alone.
 pub fn read_line(alloc: Global, names: &[&str], line: &str) -> Result<Line, AllocError>
     ensures { IfOk result (λ l. l ≡ line_of (map (λ n. n.now) names.now) line.now) }
 {

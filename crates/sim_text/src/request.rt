@@ -18,7 +18,8 @@ fn ids_in(client: &str, number: &str) -> Option<(ClientId, RequestNumber)>
     Some((client, number))
 }
 
-/// A request, by its client, number, object and class, and the words that are left: its method and input.
+/// A request, by its client, number, object and class, and the words that are left: its method and
+/// input.
 fn request_with_method(
     alloc: Global,
     client: ClientId,
@@ -52,7 +53,8 @@ fn request_with_method(
     }
 }
 
-/// A request, by its client and number, and the words that are left: its object and class, and so on.
+/// A request, by its client and number, and the words that are left: its object and class, and so
+/// on.
 fn request_with_object(
     alloc: Global,
     names: &[&str],

@@ -51,8 +51,8 @@ fn node_text(alloc: Global, shown: &NodeShown) -> Result<String, AllocError>
     )
 }
 
-/// What is said of it in a line, without a line feed; of messages, and of a line that is bad or says nothing, no text. It
-/// fails for want of memory alone.
+/// What is said of it in a line, without a line feed; of messages, and of a line that is bad or
+/// says nothing, no text. It fails for want of memory alone.
 pub fn said_text(alloc: Global, taken: &Taken) -> Result<String, AllocError>
     ensures { IfOk result (λ t. string_bytes t ≡ said_text taken.now) }
 {
@@ -81,7 +81,8 @@ fn again_lines(alloc: Global, numbers: &[usize]) -> Result<String, AllocError>
     Ok(text)
 }
 
-/// Messages that are sent again, each in a line, or that there are none. It fails for want of memory alone.
+/// Messages that are sent again, each in a line, or that there are none. It fails for want of
+/// memory alone.
 pub fn again_text(alloc: Global, numbers: &[usize]) -> Result<String, AllocError>
     ensures { IfOk result (λ t. string_bytes t ≡ again_text numbers.now) }
 {

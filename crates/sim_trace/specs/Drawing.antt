@@ -1,5 +1,5 @@
--- The drawing of a run: above it the names of the columns, then a line for each step, and below it one for each message
--- that it sent and that no step delivers.
+-- The drawing of a run: above it the names of the columns, then a line for each step, and below it
+-- one for each message that it sent and that no step delivers.
 use Rattle.std.specs.Prelude.{ℕ, zero, suc, ◌+◌, ◌-◌, ◌==◌, min, Bool, true, false, List, [], ◌∷◌, ◌++◌, length, map, Option, Some, None, if◌then◌else◌, slice_get, slice_index_or, codes, string_bytes}
 use Rattle.std.specs.List.{list_any, range_with_len}
 use Rattle.std.specs.Fmt.{decimal}
@@ -28,7 +28,8 @@ abbrev pub delivery : List Column → ℕ → Bool → Option Message → List �
 delivery columns number arrives None = []
 delivery columns number arrives (Some l) = message_row columns number arrives l ++ string_bytes l.text
 
--- what happened: something at one column; a client asks a node; a message arrives, or comes to a node that is stopped
+-- what happened: something at one column; a client asks a node; a message arrives, or comes to a
+-- node that is stopped
 abbrev pub picture : List Column → List Message → What → List ℕ
 picture columns messages (At column) = mark_row (length columns) (place_of column columns)
 picture columns messages (Asked client node) = arrow_row (length columns) (place_of client columns) (place_of node columns) true (codes "req")

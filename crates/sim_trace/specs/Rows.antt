@@ -1,4 +1,5 @@
--- The picture of a line: a cell of 12 characters for each column, which begins with the column's bar.
+-- The picture of a line: a cell of 12 characters for each column, which begins with the column's
+-- bar.
 use Rattle.std.specs.Prelude.{ℕ, zero, suc, ◌-◌, nat_lt, Bool, List, [], ◌++◌, length, if◌then◌else◌, codes}
 
 -- a text, n times

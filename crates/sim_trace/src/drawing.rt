@@ -12,7 +12,8 @@ use crate::step::{Step, What};
 use crate::text::push_repeated;
 use std::alloc::{AllocError, Global};
 
-/// What a run is drawn by: the columns, the messages, and for each message whether some step delivers it.
+/// What a run is drawn by: the columns, the messages, and for each message whether some step
+/// delivers it.
 #[derive(Drop)]
 struct Chart<'a> {
     alloc: Global,
@@ -22,9 +23,10 @@ struct Chart<'a> {
     ghost same: { length arrived.now ≡ length messages.now },
 }
 
-/// The run as a message sequence: the names of the columns, then a line for each step. A message is drawn where it
-/// arrives, each time; one that no step delivers below the step that sent it, a reply as it reaches its client, any other
-/// as lost. The line of a step ends with the numbers of the messages that it sent.
+/// The run as a message sequence: the names of the columns, then a line for each step. A message is
+/// drawn where it arrives, each time; one that no step delivers below the step that sent it, a
+/// reply as it reaches its client, any other as lost. The line of a step ends with the numbers of
+/// the messages that it sent.
 pub fn draw(alloc: Global, messages: &[Message], steps: &[Step]) -> Result<String, AllocError>
     ensures { IfOk result (λ s. string_bytes s ≡ drawn messages.now steps.now) }
 {

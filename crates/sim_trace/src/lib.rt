@@ -1,6 +1,6 @@
-//! Draws what happened in a group as a message sequence in text: a column for each client, each node and the monitor, and
-//! an arrow for each message where it arrives. `draw` takes the messages and, step by step, what happened; what it draws is
-//! the definition `drawn`.
+//! Draws what happened in a group as a message sequence in text: a column for each client, each
+//! node and the monitor, and an arrow for each message where it arrives. `draw` takes the messages
+//! and, step by step, what happened; what it draws is the definition `drawn`.
 #![tactic(auto)]
 
 mod column;

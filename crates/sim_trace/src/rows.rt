@@ -5,7 +5,8 @@ ghost use Rattle.sim_trace.specs.Rows.{repeated, shaft, rest, mark_row, right_he
 use crate::text::{push_bars, push_repeated};
 use std::alloc::AllocError;
 
-/// From the column of one place to that of another. One that doesn't arrive ends before it is there.
+/// From the column of one place to that of another. One that doesn't arrive ends before it is
+/// there.
 #[derive(Clone, Copy)]
 pub(crate) struct Arrow {
     pub start: usize,

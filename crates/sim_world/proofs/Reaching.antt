@@ -34,7 +34,8 @@ pub either : {A : Type 0} (P : A → Type 0) (b : Bool) (s t : A) → P s → P 
 either P true s t p q = p
 either P false s t p q = q
 
--- Of each such world: its classes are those, and each node has committed no more than it has logged.
+-- Of each such world: its classes are those, and each node has committed no more than it has
+-- logged.
 pub record Sound (classes : Classes) (w : World) : Type 0 where
   pub named : w.classes ≡ classes
   pub within : (n : ℕ) → (w.nodes n).committed ≤ length (w.nodes n).log

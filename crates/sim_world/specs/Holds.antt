@@ -1,4 +1,5 @@
--- How a played world is held: the nodes 0 to 15 alone, and of each list that was sent no more than its receiver lacks.
+-- How a played world is held: the nodes 0 to 15 alone, and of each list that was sent no more than
+-- its receiver lacks.
 use Rattle.std.specs.Prelude.{◌≡◌, ℕ, ◌≤◌, ◌<◌, List, [], ◌∷◌, length, map, Option, Some, None, if◌then◌else◌}
 use Rattle.pg_log.specs.Log.{Classes}
 use Rattle.carried.specs.Carried.{carried_as}
@@ -16,7 +17,8 @@ use Rattle.sim_world.specs.Step.{Played, is_node, step}
 use Rattle.sim_world.specs.inner.Parts.{Parts, nth_node}
 use Rattle.sim_world.specs.declared.kept.KeptMessage.{KeptMessage}
 
--- A MESSAGE IS KEPT as it is carried; of a list the receiving node reported no more than it has committed now.
+-- A MESSAGE IS KEPT as it is carried; of a list the receiving node reported no more than it has
+-- committed now.
 abbrev pub HasCommitted : (ℕ → NodeState) → Party → ℕ → Type 0
 HasCommitted nodes (ANode n) reported = reported ≤ (nodes n).committed
 HasCommitted nodes TheMonitor reported = Unit {0}
@@ -86,7 +88,8 @@ pub record IsAgreedWorld (classes : Classes) (w : World) : Type 0 where
 abbrev pub ReachedAgree : Type 0
 ReachedAgree = (classes : Classes) (w : World) → IsReached classes w → IsAgreedWorld classes w
 
--- A MESSAGE AS IT IS SHOWN: between whom, and what it says; of one that was sent, and of one as it is kept.
+-- A MESSAGE AS IT IS SHOWN: between whom, and what it says; of one that was sent, and of one as it
+-- is kept.
 pub record MessageShown : Type 0 where
   pub sender : Party
   pub receiver : Party

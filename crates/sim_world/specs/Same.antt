@@ -1,4 +1,5 @@
--- Which messages are equal, of the kinds that are sent again, and the lowest number of an equal one.
+-- Which messages are equal, of the kinds that are sent again, and the lowest number of an equal
+-- one.
 use Rattle.std.specs.Prelude.{ℕ, suc, ◌==◌, ◌&&◌, Bool, true, false, List, [], ◌∷◌, if◌then◌else◌}
 use Rattle.pg_log.specs.Requests.{ClientRequest}
 use Rattle.group_world.specs.Maps.{GroupMap, is_same_list}
@@ -62,7 +63,8 @@ is_same_party (AClient c) other = is_client other c
 abbrev pub is_same_packet : Packet → Packet → Bool
 is_same_packet p q = is_same_party p.receiver q.receiver && (is_same_party p.message.sender q.message.sender && is_same_kind p.message.kind q.message.kind)
 
--- The lowest number of an equal message, from a number on; the one past the last where there is none.
+-- The lowest number of an equal message, from a number on; the one past the last where there is
+-- none.
 abbrev pub number_from : ℕ → Packet → List Packet → ℕ
 number_from number p [] = number
 number_from number p (q ∷ qs) = if is_same_packet p q then number else number_from (suc number) p qs

@@ -1,5 +1,5 @@
--- What a line does in the world of a group, and what comes of it. What happens there is group_world's: its events, its nodes'
--- steps, its monitor.
+-- What a line does in the world of a group, and what comes of it. What happens there is
+-- group_world's: its events, its nodes' steps, its monitor.
 use Rattle.std.specs.Prelude.{ℕ, ◌-◌, nat_lt, Bool, true, false, List, length, map, Option, Some, None, if◌then◌else◌, slice_set, slice_index_or, replicate}
 use Rattle.pg_log.specs.Log.{Classes}
 use Rattle.group_world.specs.Maps.{GroupMap}
@@ -58,7 +58,8 @@ is_stopped p n = slice_index_or p.stopped n false
 abbrev pub unless_stopped : Played → ℕ → Happened → Happened
 unless_stopped p n h = if is_node p n then (if is_stopped p n then stays p Stopped else h) else stays p Bad
 
--- what node n makes of what comes to it, and the event by which that comes: it happens unless the node refuses it
+-- what node n makes of what comes to it, and the event by which that comes: it happens unless the
+-- node refuses it
 abbrev pub outcome_at : World → ℕ → Event → Outcome
 outcome_at w n coming = local_step w.classes n (w.nodes n) coming
 
@@ -98,8 +99,8 @@ abbrev pub see : Played → ℕ → ℕ → Option GroupMap → Happened
 see p n number None = stays p Bad
 see p n number (Some m) = at_node p (MapSeen n (number - 1)) n (AMap m)
 
--- NO EVENTS of the group: a node stops or goes on, is shown, or says by the lowest numbers of equal messages what it would
--- send again.
+-- NO EVENTS of the group: a node stops or goes on, is shown, or says by the lowest numbers of equal
+-- messages what it would send again.
 abbrev pub set_stopped : Played → ℕ → Bool → Happened
 set_stopped p n b = if is_node p n
     then record { played = record { world = p.world; stopped = slice_set p.stopped n b }; taken = Sent 0 } else stays p Bad

@@ -2,7 +2,8 @@
 use carried::Carried;
 use group_world::Party;
 
-/// A message that was sent, as it is kept: a list goes without the beginning that its receiver had committed.
+/// A message that was sent, as it is kept: a list goes without the beginning that its receiver had
+/// committed.
 #[derive(Drop)]
 pub struct KeptMessage {
     /// Whom it is for.

@@ -21,8 +21,8 @@ use std::marker::Model;
 /// How many nodes there are, by numbers from 0.
 const NODE_COUNT: usize = 16;
 
-/// The parts of a played world: every map, the monitor, the nodes, which of them are stopped, and every message as it is
-/// kept. Contracts see them.
+/// The parts of a played world: every map, the monitor, the nodes, which of them are stopped, and
+/// every message as it is kept. Contracts see them.
 #[derive(Drop)]
 pub(crate) struct Parts<C: Classes> {
     pub(crate) alloc: Global,

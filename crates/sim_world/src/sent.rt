@@ -91,7 +91,8 @@ fn last_number(kept: &Vec<KeptMessage>) -> usize
     kept.len()
 }
 
-/// Keeps a message after the others, and its number in its bucket. Where memory is refused, both are as before.
+/// Keeps a message after the others, and its number in its bucket. Where memory is refused, both
+/// are as before.
 fn keep_numbered(
     kept: &mut Vec<KeptMessage>,
     buckets: &mut Vec<Numbers>,
@@ -124,7 +125,8 @@ fn is_equal_to(packet: &Packet, kept: &[KeptMessage], number: usize) -> bool
     }
 }
 
-/// The first of these numbers whose message is equal to that one; the one past the last where there is none.
+/// The first of these numbers whose message is equal to that one; the one past the last where there
+/// is none.
 fn first_equal(
     packet: &Packet,
     kept: &[KeptMessage],
@@ -153,8 +155,8 @@ fn lowest_equal(
     first_equal(packet, kept, buckets[at].items())
 }
 
-/// The messages that were sent, as they are kept, by numbers from 1. One that is equal to another is found among few.
-/// Contracts see the list of them.
+/// The messages that were sent, as they are kept, by numbers from 1. One that is equal to another
+/// is found among few. Contracts see the list of them.
 #[derive(Drop)]
 pub(crate) struct Sent {
     kept: Vec<KeptMessage>,

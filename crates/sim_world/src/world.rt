@@ -13,9 +13,9 @@ use sim_text::{Line, Taken};
 use std::alloc::{AllocError, Global};
 use std::marker::Model;
 
-/// A played world, for the classes that `C` names: a world of the group that events lead to, and which of the nodes 0 to 15
-/// are stopped. Contracts see how it is held; `Holds` says of which played world that is. Where memory was refused at a
-/// line, it is lost.
+/// A played world, for the classes that `C` names: a world of the group that events lead to, and
+/// which of the nodes 0 to 15 are stopped. Contracts see how it is held; `Holds` says of which
+/// played world that is. Where memory was refused at a line, it is lost.
 #[derive(Drop)]
 pub struct World<C: Classes> {
     parts: Parts<C>,
@@ -35,8 +35,8 @@ impl<C: Classes> Model for World<C> {
 }
 
 impl<C: Classes> World<C> {
-    /// The world before the first line: nodes that have learned nothing, no map and no message. It fails for want of memory
-    /// alone.
+    /// The world before the first line: nodes that have learned nothing, no map and no message. It
+    /// fails for want of memory alone.
     pub fn new(alloc: Global) -> Result<World<C>, AllocError>
         ensures { IfOk result (λ w. Holds C.classes w (beginning C.classes)) }
     {
@@ -61,9 +61,10 @@ impl<C: Classes> World<C> {
         self.parts.node(number)
     }
 
-    /// Does a line, and gives what came of it; a bad one leaves all as it was. It fails for want of memory alone: the world
-    /// is lost then, and each further line fails too. A line costs what its event costs at the node, and a copy of the
-    /// message that it delivers; of a list, a copy of what the node has of it too.
+    /// Does a line, and gives what came of it; a bad one leaves all as it was. It fails for want of
+    /// memory alone: the world is lost then, and each further line fails too. A line costs what its
+    /// event costs at the node, and a copy of the message that it delivers; of a list, a copy of
+    /// what the node has of it too.
     pub fn take(&mut self, table: &ClassTable, line: Line) -> Result<Taken, AllocError>
         requires { table.now ≡ C.classes }
         ensures { IfOk result (λ t. Steps C.classes self.old self.new line t) }
@@ -80,7 +81,8 @@ impl<C: Classes> World<C> {
         Ok(taken)
     }
 
-    /// What is printed of what came of the last line; of a bad one nothing. It fails for want of memory alone.
+    /// What is printed of what came of the last line; of a bad one nothing. It fails for want of
+    /// memory alone.
     pub fn text(&self, taken: &Taken) -> Result<String, AllocError>
         ensures { IfOk result (λ t. Says C.classes self.now taken.now (string_bytes t)) }
     {

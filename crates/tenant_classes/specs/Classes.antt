@@ -30,7 +30,8 @@ pub record GrewByTenants (disk : Option Disk) (tenants : List TenantClass) (old 
   pub added : new ≡ old ++ others
   pub loaded : AreIn disk tenants others
 
--- THE CLASSES: the built-in ones, `lock` 0 and `obj` 1, and from 2 on the tenants' in the order given.
+-- THE CLASSES: the built-in ones, `lock` 0 and `obj` 1, and from 2 on the tenants' in the order
+-- given.
 pub record AreClasses (disk : Option Disk) (tenants : List TenantClass) (classes : Classes) : Type 0 where
   pub ours : Classes
   pub built_in : AreLoaded LOCK.now OBJ.now ours
@@ -55,6 +56,7 @@ abbrev pub TenantsFail : Option Disk → List TenantClass → Failure → Type 0
 TenantsFail disk [] failure = ⊥
 TenantsFail disk (o ∷ tenants) failure = LoadFails disk o.image.now failure ⊎ (HoldsClass disk o × TenantsFail disk tenants failure)
 
--- Why the classes can't be had: one of the built-in ones can't, or the first of the tenants' that can't.
+-- Why the classes can't be had: one of the built-in ones can't, or the first of the tenants' that
+-- can't.
 abbrev pub ClassesFail : Option Disk → List TenantClass → Failure → Type 0
 ClassesFail disk tenants failure = BuiltInFails failure ⊎ TenantsFail disk tenants failure

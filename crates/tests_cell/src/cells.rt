@@ -141,7 +141,8 @@ fn is_answered<N: BoardName, R: Abort>(
     is_right && answers_it_alone(rt, alloc, &Post::Reply(reply), row)
 }
 
-/// Whether nothing is answered before the interval is activated, nor at a place that isn't committed, and all rows are.
+/// Whether nothing is answered before the interval is activated, nor at a place that isn't
+/// committed, and all rows are.
 fn locks<N: BoardName, R: Abort>(
     rt: &R,
     alloc: Global,

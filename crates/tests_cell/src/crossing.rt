@@ -1,4 +1,5 @@
-//! What the threads of a cluster hand to one another, and what they share under locks, may cross threads.
+//! What the threads of a cluster hand to one another, and what they share under locks, may cross
+//! threads.
 use carried::operation_crosses;
 use commit_board::board_crosses;
 use group_cell::{cell_crosses, post_crosses};

@@ -14,8 +14,8 @@ fn nodes<R: Abort>(rt: &R, alloc: Global, numbers: &[u64]) -> Vec<NodeId> {
     nodes
 }
 
-/// How many groups have a new interval by a map of these up nodes, if there is a map for each group and all are of that
-/// epoch.
+/// How many groups have a new interval by a map of these up nodes, if there is a map for each group
+/// and all are of that epoch.
 fn told<R: Abort>(
     rt: &R,
     alloc: Global,

@@ -82,7 +82,8 @@ fn first_map<R: Abort>(rt: &R, alloc: Global, acting: &[u64]) -> Event {
     Event::Map(GroupMap::new(one, one, nodes, Epoch::new(0), Vec::new(alloc)))
 }
 
-/// Whether a node that acts alone asks the monitor, again where nobody answered, and answers its client.
+/// Whether a node that acts alone asks the monitor, again where nobody answered, and answers its
+/// client.
 fn works_alone<N: BoardName, R: Abort>(
     rt: &R,
     alloc: Global,
@@ -119,7 +120,8 @@ fn works_alone<N: BoardName, R: Abort>(
     right && sends(alloc, board, table, &mut cell, unknown)
 }
 
-/// Whether the first of three acting nodes sends its empty list to the others, and refuses a client until they have it.
+/// Whether the first of three acting nodes sends its empty list to the others, and refuses a client
+/// until they have it.
 fn leads_three<N: BoardName, R: Abort>(
     rt: &R,
     alloc: Global,

@@ -1,5 +1,5 @@
-//! Tests alone, of the file of a cluster: what its lines say, which lines are malformed, and what is printed of its
-//! calls.
+//! Tests alone, of the file of a cluster: what its lines say, which lines are malformed, and what
+//! is printed of its calls.
 #![tactic(auto)]
 
 #[cfg(test)]

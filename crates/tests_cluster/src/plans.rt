@@ -95,7 +95,8 @@ fn is_call(
         && call.input() == input
 }
 
-/// Whether these steps are a call of an unknown class, a map without a node, a map of two, and a call with input.
+/// Whether these steps are a call of an unknown class, a map without a node, a map of two, and a
+/// call with input.
 fn are_right(steps: &[Step]) -> bool {
     match steps {
         [

@@ -1,4 +1,5 @@
-//! What is found of classes in two files, what the files hold afterwards, and what is printed of it.
+//! What is found of classes in two files, what the files hold afterwards, and what is printed of
+//! it.
 
 use crate::known::TwoFiles;
 use bpf_decode::RuleSet;

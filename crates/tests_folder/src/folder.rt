@@ -7,8 +7,8 @@ use std::io::{self, ErrorKind};
 pub const TWO: &str =
     "52434c31 0100 0000 01 66 01 0000 0000 0200 b700000000000000 9500000000000000";
 
-/// The files `image` (`its=image` too), `text` and `out`, which are there from the start, and the file `full`, which
-/// takes no bytes.
+/// The files `image` (`its=image` too), `text` and `out`, which are there from the start, and the
+/// file `full`, which takes no bytes.
 #[derive(Drop)]
 pub struct Folder {
     image: Vec<u8>,
@@ -22,14 +22,16 @@ pub struct Folder {
     pub most_read: Cell<usize>,
 }
 
-/// The bytes of hexadecimal digits, with spaces between them. None where they are none, or memory lacks.
+/// The bytes of hexadecimal digits, with spaces between them. None where they are none, or memory
+/// lacks.
 pub fn bytes_of(alloc: Global, text: &str) -> Option<Vec<u8>> {
     let digits: String = text.chars().filter(|c| *c != ' ').collect(alloc).ok()?;
     hex::decode(alloc, digits.as_str()).ok()
 }
 
 impl Folder {
-    /// An image in hexadecimal, a text, and a file `out` that holds something else. None where memory lacks.
+    /// An image in hexadecimal, a text, and a file `out` that holds something else. None where
+    /// memory lacks.
     pub fn of(alloc: Global, image: &str, text: &[u8]) -> Option<Folder> {
         Some(Folder {
             image: bytes_of(alloc, image)?,

@@ -1,5 +1,5 @@
-//! A folder in memory, and runs of the program on it, for the tests of its commands. Nothing here has a contract: it is
-//! a test, and the calls' contracts say what it tests.
+//! A folder in memory, and runs of the program on it, for the tests of its commands. Nothing here
+//! has a contract: it is a test, and the calls' contracts say what it tests.
 #![tactic(auto)]
 
 mod folder;

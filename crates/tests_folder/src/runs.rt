@@ -60,7 +60,8 @@ pub fn run_on<R: AllocGlobal + Threads + Wait + Clock + Sync>(
     })
 }
 
-/// Whether the program on those words and that folder prints that, explains nothing, and ends with that status.
+/// Whether the program on those words and that folder prints that, explains nothing, and ends with
+/// that status.
 pub fn prints_on<R: AllocGlobal + Threads + Wait + Clock + Sync>(
     rt: &R,
     words: &[&str],
@@ -90,7 +91,8 @@ pub fn only_prints<R: AllocGlobal + Threads + Wait + Clock + Sync>(
     prints && folder.writes == 0
 }
 
-/// Words after the program's name, on a folder with that image and that text: what they print, and the status.
+/// Words after the program's name, on a folder with that image and that text: what they print, and
+/// the status.
 pub struct Row {
     pub words: &'static [&'static str],
     pub image: &'static str,

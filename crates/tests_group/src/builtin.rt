@@ -11,8 +11,9 @@ use std::process::Abort;
 use std::str::SplitWhitespace;
 use verifier::{VerifiedClass, VerifiedMethod};
 
-/// An owner, another, and nobody. A row is a request (client, object, class, method and input), a bar, and its reply
-/// (code and output). Bytes are hexadecimal, `-` for none, and `*N` after them stands for N zero bytes.
+/// An owner, another, and nobody. A row is a request (client, object, class, method and input), a
+/// bar, and its reply (code and output). Bytes are hexadecimal, `-` for none, and `*N` after them
+/// stands for N zero bytes.
 const LOCKS: &str = "1 a lock unlock - | -2 -
 1 a lock lock - | 0 -
 2 a lock lock - | -16 -

@@ -18,7 +18,8 @@ fn part_of<R: Abort>(rt: &R, alloc: Global, part: &str) -> Vec<u8> {
     bytes
 }
 
-/// The bytes of a word: hexadecimal digits, `*N` for N zero bytes, and digits after a comma; or `-`.
+/// The bytes of a word: hexadecimal digits, `*N` for N zero bytes, and digits after a comma; or
+/// `-`.
 fn bytes_of<R: Abort>(rt: &R, alloc: Global, word: &str) -> Vec<u8> {
     let (part, digits) = halves(word.trim_matches('-'), ',');
     let mut bytes = part_of(rt, alloc, part);

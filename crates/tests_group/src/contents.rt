@@ -2,7 +2,8 @@
 use super::words::halves;
 use object_store::Object;
 
-/// Whether an object has that data, at most eight bytes, and those values of its xattr `k` and of its key `k`.
+/// Whether an object has that data, at most eight bytes, and those values of its xattr `k` and of
+/// its key `k`.
 fn is_content(object: &Object, text: &str) -> bool {
     let (data, values) = halves(text, ' ');
     let (xattr, key) = halves(values, ' ');

@@ -11,7 +11,8 @@ const NODE_2: Column = Column::Node(2);
 
 const CLIENT: Column = Column::Client(1);
 
-/// A reply that is never delivered reaches its client; m5 is lost; m4 comes to a stopped node; m1 comes twice.
+/// A reply that is never delivered reaches its client; m5 is lost; m4 comes to a stopped node; m1
+/// comes twice.
 const DRAWN: &str = "\
 c1          1           2           mon         event
 |--req----->|           |           |           req 1 1 7 a lock lock - => m1

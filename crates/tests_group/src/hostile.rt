@@ -1,4 +1,5 @@
-//! Images with one byte changed, to each value: refused, or written as they were read; and what is accepted runs.
+//! Images with one byte changed, to each value: refused, or written as they were read; and what is
+//! accepted runs.
 use bpf_asm::assemble_class;
 use bpf_decode::{ClassImage, read_image, write_image};
 use builtin_classes::LOCK;
@@ -26,7 +27,8 @@ fn answers(alloc: Global, class: &VerifiedClass, method: &VerifiedMethod, input:
     }
 }
 
-/// Whether a method answers on no input, on the longest of zeros, and on the longest of bytes of ff.
+/// Whether a method answers on no input, on the longest of zeros, and on the longest of bytes of
+/// ff.
 fn answers_three(alloc: Global, class: &VerifiedClass, method: &VerifiedMethod) -> bool {
     let most = usize::from(method.caps().in_cap).min(ZEROS.len());
     answers(alloc, class, method, &[])
@@ -80,7 +82,8 @@ fn come_of(alloc: Global, bytes: &[u8]) -> Fate {
     }
 }
 
-/// Sets the byte at a place to each of its values, and then back: how many images are accepted. None if one is wrong.
+/// Sets the byte at a place to each of its values, and then back: how many images are accepted.
+/// None if one is wrong.
 fn accepted_at(alloc: Global, bytes: &mut [u8], place: usize) -> Option<usize> {
     let kept = bytes.get(place).copied()?;
     let mut accepted = 0usize;
@@ -96,7 +99,8 @@ fn accepted_at(alloc: Global, bytes: &mut [u8], place: usize) -> Option<usize> {
     Some(accepted)
 }
 
-/// The same of a place, and of each that follows it by a number of places, in turn: how many in all.
+/// The same of a place, and of each that follows it by a number of places, in turn: how many in
+/// all.
 fn accepted(alloc: Global, bytes: &mut [u8], first: usize, step: usize) -> Option<usize> {
     let mut sum = 0usize;
     for place in 0..bytes.len() {
@@ -107,8 +111,9 @@ fn accepted(alloc: Global, bytes: &mut [u8], first: usize, step: usize) -> Optio
     Some(sum)
 }
 
-/// Accepted are 37 names, 3 flags, 273 capacities of the input and 273 of the output, `mov` and `mov32`, 1,024
-/// immediates, the other rule set, and the image as it stands at each of the other 22 places.
+/// Accepted are 37 names, 3 flags, 273 capacities of the input and 273 of the output, `mov` and
+/// `mov32`, 1,024 immediates, the other rule set, and the image as it stands at each of the other
+/// 22 places.
 #[test]
 fn two_instructions(rt: HostRuntime) {
     let mut bytes = TWO;
@@ -124,7 +129,8 @@ fn lock_image(rt: &impl Abort, alloc: Global) -> Vec<u8> {
 /// Into how many tests the image of `lock` is divided, since each has a minute.
 const PARTS: usize = 4;
 
-/// Whether the image of `lock` is accepted as it stands at each place of a part, and otherwise changed at some.
+/// Whether the image of `lock` is accepted as it stands at each place of a part, and otherwise
+/// changed at some.
 fn part_is_right<R: Abort>(rt: &R, alloc: Global, part: usize) -> bool {
     let mut bytes = lock_image(rt, alloc);
     let places = bytes.len() / PARTS;

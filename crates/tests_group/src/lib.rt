@@ -1,5 +1,6 @@
-//! Tests alone, of groups: which nodes act, the log and its requests, the built-in classes through a group, the world's
-//! types, requests at their places, drawings of runs; and of images with a byte changed.
+//! Tests alone, of groups: which nodes act, the log and its requests, the built-in classes through
+//! a group, the world's types, requests at their places, drawings of runs; and of images with a
+//! byte changed.
 #![tactic(auto)]
 
 #[cfg(test)]

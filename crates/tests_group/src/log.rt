@@ -24,13 +24,15 @@ use std::process::Abort;
 /// `mov r0, 0`, `exit`.
 pub(super) const SUCCEED: [u8; 16] = [0xb7, 0, 0, 0, 0, 0, 0, 0, 0x95, 0, 0, 0, 0, 0, 0, 0];
 
-/// `mov r2, r1`, `mov r1, 0`, `mov r3, 3`, `call 3`, `mov r0, -5`, `exit`: writes three bytes of the input, and fails.
+/// `mov r2, r1`, `mov r1, 0`, `mov r3, 3`, `call 3`, `mov r0, -5`, `exit`: writes three bytes of
+/// the input, and fails.
 const WRITE_THEN_FAIL: [u8; 48] = [
     0xbf, 0x12, 0, 0, 0, 0, 0, 0, 0xb7, 0x01, 0, 0, 0, 0, 0, 0, 0xb7, 0x03, 0, 0, 3, 0, 0, 0, 0x85,
     0, 0, 0, 3, 0, 0, 0, 0xb7, 0, 0, 0, 0xfb, 0xff, 0xff, 0xff, 0x95, 0, 0, 0, 0, 0, 0, 0,
 ];
 
-/// `mov r2, r1`, `mov r1, 0`, `mov r3, 3`, `call 3`, `exit`: writes three bytes of the input, and gives their count.
+/// `mov r2, r1`, `mov r1, 0`, `mov r3, 3`, `call 3`, `exit`: writes three bytes of the input, and
+/// gives their count.
 const WRITE: [u8; 40] = [
     0xbf, 0x12, 0, 0, 0, 0, 0, 0, 0xb7, 0x01, 0, 0, 0, 0, 0, 0, 0xb7, 0x03, 0, 0, 3, 0, 0, 0, 0x85,
     0, 0, 0, 3, 0, 0, 0, 0x95, 0, 0, 0, 0, 0, 0, 0,

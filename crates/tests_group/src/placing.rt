@@ -10,8 +10,8 @@ use std::alloc::Global;
 use std::process::Abort;
 use std::str::SplitWhitespace;
 
-/// A group, a node, and the score: what SplitMix64 gives at the state that both numbers make. The third to fifth are
-/// the generator's first outputs from the seed 0.
+/// A group, a node, and the score: what SplitMix64 gives at the state that both numbers make. The
+/// third to fifth are the generator's first outputs from the seed 0.
 const SCORES: [(u64, u64, u64); 5] = [
     (0, 0, 0),
     (0, 1, 0x5692_161d_100b_05e5),
@@ -20,8 +20,8 @@ const SCORES: [(u64, u64, u64); 5] = [
     (0xdaa6_6d2c_7ddf, 0x743f, 0x06c4_5d18_8009_454f),
 ];
 
-/// A group, replicas, groups and epoch; the nodes that are up; and the acting set. Those that are up stand in falling
-/// order, so that the order comes from the scores.
+/// A group, replicas, groups and epoch; the nodes that are up; and the acting set. Those that are
+/// up stand in falling order, so that the order comes from the scores.
 const ACTING: &str = "0 3 64 1 | 4 3 2 1 0 | 2 4 1
 1 3 64 1 | 4 3 2 1 0 | 2 0 4
 2 2 64 1 | 4 3 2 1 0 | 4 1
@@ -32,8 +32,9 @@ const ACTING: &str = "0 3 64 1 | 4 3 2 1 0 | 2 4 1
 0 3 64 1 | 0 | 0
 5 3 64 1 | 15 14 13 12 11 10 9 8 7 6 5 4 3 2 1 0 | 6 10 5";
 
-/// Each is one number away from a map that is right, on both sides of its range where it has two; then no node is up,
-/// and every number is outside its range; and then every number is its range's last.
+/// Each is one number away from a map that is right, on both sides of its range where it has two;
+/// then no node is up, and every number is outside its range; and then every number is its range's
+/// last.
 const LIMITS: &str = "0 3 64 0 | 0 1 | Limit
 0 3 64 4294967296 | 0 1 | Limit
 0 3 64 1 | 0 16 | Limit

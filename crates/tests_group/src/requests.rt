@@ -37,7 +37,8 @@ pub(super) fn request<R: Abort>(rt: &R, alloc: Global, parts: &RequestParts<'_>)
     Request::new(alloc, said).expect(rt, "memory")
 }
 
-/// The request of a text for the object `object`: client, number, class, method, and its input if that isn't empty.
+/// The request of a text for the object `object`: client, number, class, method, and its input if
+/// that isn't empty.
 pub(super) fn request_of<R: Abort>(rt: &R, alloc: Global, text: &str) -> Request {
     let mut words = text.split_whitespace();
     let parts = RequestParts {

@@ -18,18 +18,19 @@ use std::alloc::Global;
 use std::mem::replace;
 use std::process::Abort;
 
-/// The lines of a text, and the list of which they take the first requests. A line is what is done, a bar, and what
-/// that gives:
+/// The lines of a text, and the list of which they take the first requests. A line is what is done,
+/// a bar, and what that gives:
 ///
-/// - `append REQUEST`, `at PLACE REQUEST`, `adopt LIST`, `replay LIST`: the answer, or the refusal's name. A list is
-///   how many are taken of the first requests, and what follows them, or `full` and the client of a full list's last
-///   request.
+/// - `append REQUEST`, `at PLACE REQUEST`, `adopt LIST`, `replay LIST`: the answer, or the
+///   refusal's name. A list is how many are taken of the first requests, and what follows them, or
+///   `full` and the client of a full list's last request.
 /// - `fill LIST`: each of the list is appended; how many the log has then.
 /// - `copy`: the group becomes its copy.
 /// - `length`: the log's.
 /// - `code PLACE`, `reply CLIENT NUMBER`: the code; place and code, and no output.
 /// - `object`: its data and the values of its xattr and of its key `k`, `-` for none, or `absent`.
-/// - `CLIENT OBJECT CLASS METHOD INPUT`: a call of a built-in class, by the line's number; its code and its output.
+/// - `CLIENT OBJECT CLASS METHOD INPUT`: a call of a built-in class, by the line's number; its code
+///   and its output.
 #[derive(Drop)]
 pub(super) struct Script<'a, R> {
     pub(super) rt: &'a R,
@@ -251,7 +252,8 @@ fn is_taken<C: Classes, R: Abort>(
     is_tested & is_answer(take(rt, alloc, table, group, taking), line.wanted)
 }
 
-/// Whether the test of a list tells the refusal that its replay answers, or none where that answers a length.
+/// Whether the test of a list tells the refusal that its replay answers, or none where that answers
+/// a length.
 fn is_tested<R: Abort>(
     rt: &R,
     alloc: Global,

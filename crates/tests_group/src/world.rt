@@ -44,7 +44,8 @@ const MONITOR_TEXT: &str = "1 BadActing
 3 EpochsUsedUp
 4 NoMemory";
 
-/// The fourth map of a group. Its interval began with the third, and before it interval 1 was activated last.
+/// The fourth map of a group. Its interval began with the third, and before it interval 1 was
+/// activated last.
 fn map<R: Abort>(rt: &R, alloc: Global) -> GroupMap {
     let acting = nodes(rt, alloc, "1 2");
     let before = nodes(rt, alloc, "1 2 3");

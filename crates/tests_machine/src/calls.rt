@@ -1,4 +1,5 @@
-//! Calls of `interp`: rows with answers computed by hand, one call at all limits, and the table of classes.
+//! Calls of `interp`: rows with answers computed by hand, one call at all limits, and the table of
+//! classes.
 
 mod helper_calls;
 mod limits;

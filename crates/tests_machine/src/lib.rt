@@ -1,5 +1,5 @@
-//! Tests alone: calls of `interp`, and calls of verified methods beside the plain run of their raw bytes, on programs
-//! that loops make.
+//! Tests alone: calls of `interp`, and calls of verified methods beside the plain run of their raw
+//! bytes, on programs that loops make.
 #![tactic(auto)]
 
 #[cfg(test)]

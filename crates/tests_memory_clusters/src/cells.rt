@@ -1,5 +1,5 @@
-//! The row of a worker's turn, NoMemory: the event never came, or all that goes out is lost, or one message is;
-//! `resend` gives what was lost.
+//! The row of a worker's turn, NoMemory: the event never came, or all that goes out is lost, or one
+//! message is; `resend` gives what was lost.
 ghost use Rattle.std.specs.Prelude.{◌≡◌, [], map};
 ghost use Rattle.std.specs.List.{range_with_len};
 ghost use Rattle.commit_board.specs.Tokens.{new_writer};
@@ -34,8 +34,8 @@ fn is_to<N: BoardName>(item: &Option<Outgoing<N>>, number: u64) -> bool {
     }
 }
 
-/// What became of a turn: both members get the empty list; or the event never came, by which nothing is sent; or a part
-/// of what is sent is lost, or all of it.
+/// What became of a turn: both members get the empty list; or the event never came, by which
+/// nothing is sent; or a part of what is sent is lost, or all of it.
 fn found_of<N: BoardName>(
     node: &GroupNode<N>,
     sent: &Result<Vec<Option<Outgoing<N>>>, NoMemory>,

@@ -10,8 +10,8 @@ const IMAGE: [u8; 33] = [
     0x95, 0, 0, 0, 0, 0, 0, 0,
 ];
 
-/// A cluster of that many nodes and groups, with one queue and one worker. A call has two tries: it submits, and looks
-/// once.
+/// A cluster of that many nodes and groups, with one queue and one worker. A call has two tries: it
+/// submits, and looks once.
 pub fn config(nodes: u64, groups: u64) -> Config {
     Config {
         nodes,

@@ -1,6 +1,6 @@
-//! Rows of a running cluster that no other thread serves: `new_map`, 4 NoMemory; `exec` and `retry` before their first
-//! submit, 8 NoMemory; `logged`, 2 NoMemory; and a worker, who loses a message or an event, until the client submits
-//! again.
+//! Rows of a running cluster that no other thread serves: `new_map`, 4 NoMemory; `exec` and `retry`
+//! before their first submit, 8 NoMemory; `logged`, 2 NoMemory; and a worker, who loses a message
+//! or an event, until the client submits again.
 
 use crate::clusters::{cluster_of, config};
 use map_book::MapError;
@@ -131,8 +131,8 @@ fn is_first<N: ClusterName, R: Wait>(running: &Running<N, R>, ending: Ending) ->
     }
 }
 
-/// Submits a request before each operation, and has the node learn the newest map, until the request is logged. It
-/// counts the operations.
+/// Submits a request before each operation, and has the node learn the newest map, until the
+/// request is logged. It counts the operations.
 #[derive(Drop)]
 struct Asks<'a, N: ClusterName, R> {
     running: &'a Running<N, R>,
@@ -320,7 +320,8 @@ fn count_once<R: Threads + Wait + Sync + Copy + Drop>(rt: R, alloc: Global) -> O
     cluster.run(rt, &Worker { alloc }).ok()
 }
 
-/// How many operations a worker of a new cluster takes until the request is logged, and the log is right.
+/// How many operations a worker of a new cluster takes until the request is logged, and the log is
+/// right.
 fn count<R: Threads + Wait + Sync + Copy + Drop>(rt: R, alloc: Global) -> Option<u64> {
     match count_once(rt, alloc) {
         Some(count) => count,
@@ -328,8 +329,8 @@ fn count<R: Threads + Wait + Sync + Copy + Drop>(rt: R, alloc: Global) -> Option
     }
 }
 
-/// What a worker is refused makes a message or an event as one that never came: the log is the same in the end, after
-/// more operations than those of a worker who is refused nothing.
+/// What a worker is refused makes a message or an event as one that never came: the log is the same
+/// in the end, after more operations than those of a worker who is refused nothing.
 pub fn served<R: Threads + Wait + Sync + Copy + Drop>(rt: R, alloc: Global) -> Ending {
     match (count(rt, alloc), count(rt, alloc)) {
         (Some(one), Some(other)) if one == other => Ending::Answered,

@@ -1,6 +1,7 @@
-//! `tests_memory_rows` makes each call of the tables of calls that can be refused memory, and prints a line for each:
-//! its name, and `answered`. `tests_memory_rows ROW` makes one of them. tools/refuse.sh refuses each growth of a row in
-//! turn, by which the call is `refused` before it answers. A call that does otherwise `differs`, and the status is 1.
+//! `tests_memory_rows` makes each call of the tables of calls that can be refused memory, and
+//! prints a line for each: its name, and `answered`. `tests_memory_rows ROW` makes one of them.
+//! tools/refuse.sh refuses each growth of a row in turn, by which the call is `refused` before it
+//! answers. A call that does otherwise `differs`, and the status is 1.
 #![tactic(auto)]
 
 use std::alloc::Global;

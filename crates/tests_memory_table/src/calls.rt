@@ -9,8 +9,9 @@ use object_store::Object;
 use std::alloc::Global;
 use verifier::VerifiedClass;
 
-/// Calls each helper that takes memory, on the input `abcdefgh`: writes it at 4,092, cuts the data at 4,100, sets the
-/// xattrs `a` and `abcd`, sets the keys `ab` and `abc`, takes `a` and `ab` away, and reads from 4,094 what is there.
+/// Calls each helper that takes memory, on the input `abcdefgh`: writes it at 4,092, cuts the data
+/// at 4,100, sets the xattrs `a` and `abcd`, sets the keys `ab` and `abc`, takes `a` and `ab` away,
+/// and reads from 4,094 what is there.
 const EVERY: &str = ".method every rw 8 8
 mov r6, r1
 mov r7, r3

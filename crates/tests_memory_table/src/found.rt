@@ -52,8 +52,8 @@ impl Found {
 pub enum Ending {
     /// No growth of the call was refused, and it gave its answer.
     Answered,
-    /// The call answered by its number for want of memory, left its state as it was, and gave its answer when it was
-    /// made again.
+    /// The call answered by its number for want of memory, left its state as it was, and gave its
+    /// answer when it was made again.
     Refused,
     /// Neither.
     Differs,

@@ -1,5 +1,5 @@
-//! Rows of packed lists, `pack_log` NoMemory and `unpack_log` 2 NoMemory; of `acting`, 3 NoMemory; and of the queues
-//! and the board, NoMemory.
+//! Rows of packed lists, `pack_log` NoMemory and `unpack_log` 2 NoMemory; of `acting`, 3 NoMemory;
+//! and of the queues and the board, NoMemory.
 
 use crate::found::{Ending, Found};
 use crate::made::{Asked, copy_of, list_of, nodes_of};

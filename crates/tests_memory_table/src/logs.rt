@@ -18,8 +18,8 @@ pub enum Verb {
     Replay,
 }
 
-/// Puts its input after the object's data and answers their length; sets the xattr and the key of its input's first
-/// byte.
+/// Puts its input after the object's data and answers their length; sets the xattr and the key of
+/// its input's first byte.
 const KEEP: &str = ".method keep rw 4 0
 mov r6, r1
 call 1
@@ -67,7 +67,8 @@ const OTHER: [Asked; 5] = [
 /// The names of the objects.
 const NAMES: [&str; 3] = ["a", "b", "c"];
 
-/// Whether two logs have the same entries with the same replies, and the same objects of those names.
+/// Whether two logs have the same entries with the same replies, and the same objects of those
+/// names.
 pub fn same_logs<C: Classes>(one: &Group<C>, other: &Group<C>, names: &[ObjectName]) -> bool {
     same_entries(one, other) && same_objects(one, other, names)
 }

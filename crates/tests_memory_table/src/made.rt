@@ -1,4 +1,5 @@
-//! What rows are made of. Where memory is refused to it, which happens once in a run, it is made again.
+//! What rows are made of. Where memory is refused to it, which happens once in a run, it is made
+//! again.
 
 use bpf_asm::assemble_class;
 use bpf_decode::ClassImage;

@@ -14,7 +14,8 @@ use pg_log::{ClassTable, Classes, Group, GroupWork, with_group};
 use placement::NodeId;
 use std::alloc::Global;
 
-/// Whether the map is of that epoch and those nodes, which act the interval before in another order.
+/// Whether the map is of that epoch and those nodes, which act the interval before in another
+/// order.
 fn is_map(map: &GroupMap, acting: &[NodeId]) -> bool {
     map.epoch().get() == 2
         && map.interval().get() == 2
@@ -97,9 +98,9 @@ fn run(alloc: Global, of_resend: bool) -> Ending {
     }
 }
 
-/// `handle` at each event of a run: a map; a request, of whose acknowledgements one is lost, until the primary sends
-/// the request again; its reply, which is lost, and the same request; a new primary that adopts the log and sends it to
-/// two others; and the same request there.
+/// `handle` at each event of a run: a map; a request, of whose acknowledgements one is lost, until
+/// the primary sends the request again; its reply, which is lost, and the same request; a new
+/// primary that adopts the log and sends it to two others; and the same request there.
 pub fn handled(alloc: Global) -> Ending {
     run(alloc, false)
 }

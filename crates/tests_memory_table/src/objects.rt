@@ -82,7 +82,8 @@ impl Trial {
         }
     }
 
-    /// Whether the object that the call is of is what it should be, and there are as many as there should be.
+    /// Whether the object that the call is of is what it should be, and there are as many as there
+    /// should be.
     fn is_done(&self, deed: Deed) -> bool {
         let [_, _, name, _, _, absent] = self.names.as_slice() else {
             return false;

@@ -1,4 +1,5 @@
-//! Rows of `Staged`, whose word for want of memory is its `StoreError`'s, 7; and of `apply` and `undo`: NoMemory.
+//! Rows of `Staged`, whose word for want of memory is its `StoreError`'s, 7; and of `apply` and
+//! `undo`: NoMemory.
 
 use crate::found::{Ending, Found};
 use crate::same::same;

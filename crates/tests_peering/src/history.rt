@@ -1,5 +1,5 @@
-//! Long histories of a group on three, four and five nodes, made by chance from a seed, of which a plain program checks
-//! after each event what `agreement` says.
+//! Long histories of a group on three, four and five nodes, made by chance from a seed, of which a
+//! plain program checks after each event what `agreement` says.
 
 mod account;
 mod dice;

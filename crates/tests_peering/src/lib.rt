@@ -1,5 +1,5 @@
-//! Tests alone, of nodes and their monitor: the monitor's refusals, and long histories, made by chance. Runs by hand
-//! are files of events, which `tests_play` plays.
+//! Tests alone, of nodes and their monitor: the monitor's refusals, and long histories, made by
+//! chance. Runs by hand are files of events, which `tests_play` plays.
 #![tactic(auto)]
 
 #[cfg(test)]

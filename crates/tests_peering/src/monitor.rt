@@ -101,8 +101,8 @@ fn copies(rt: HostRuntime) {
     );
 }
 
-/// The nodes of a map, its epoch, its interval, and the interval that was activated before it. After each of the first
-/// two maps its interval is activated.
+/// The nodes of a map, its epoch, its interval, and the interval that was activated before it.
+/// After each of the first two maps its interval is activated.
 const APART: &str = "
 1 2 = 1 1 0
 1 2 = 2 1 0

@@ -1,4 +1,5 @@
-//! An Install whose list can't be run is ignored whole, the move to its map too, whatever the node would do at it.
+//! An Install whose list can't be run is ignored whole, the move to its map too, whatever the node
+//! would do at it.
 ghost use Rattle.std.specs.Prelude.{◌≡◌};
 
 use super::nodes::nodes;

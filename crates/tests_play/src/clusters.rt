@@ -1,5 +1,5 @@
-//! Files of calls and maps, by the program's command `cluster`: worked files, each kind of malformed line, and each
-//! refusal.
+//! Files of calls and maps, by the program's command `cluster`: worked files, each kind of
+//! malformed line, and each refusal.
 
 use crate::tenants::SPILLS;
 use std::fmt::Write;
@@ -100,7 +100,8 @@ fn clusters_are_played(rt: HostRuntime) {
     }
 }
 
-/// Lines that are malformed as the second one; what stands below them is malformed too, or would be refused.
+/// Lines that are malformed as the second one; what stands below them is malformed too, or would be
+/// refused.
 static BAD: [&str; 26] = [
     "",
     " ",

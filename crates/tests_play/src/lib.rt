@@ -1,6 +1,6 @@
-//! Tests alone, of the commands `sim` and `cluster`: what is printed of groups that are played from files of events, of
-//! their drawings and of tenants' classes, and of clusters that are played from files of calls. Of the lines of a file
-//! of events also what each says.
+//! Tests alone, of the commands `sim` and `cluster`: what is printed of groups that are played from
+//! files of events, of their drawings and of tenants' classes, and of clusters that are played from
+//! files of calls. Of the lines of a file of events also what each says.
 #![tactic(auto)]
 
 #[cfg(test)]

@@ -4,8 +4,8 @@ use placement::NodeId;
 use sim_text::{Line, lines, numbered, read_line};
 use std::process::Abort;
 
-/// Lines, with a letter for what each says and its last number: of a list of nodes how many there are, of a request its
-/// class's id.
+/// Lines, with a letter for what each says and its last number: of a list of nodes how many there
+/// are, of a request its class's id.
 static LINES: [(&str, u8, u64); 22] = [
     ("", b'-', 0),
     (" \t ", b'-', 0),

@@ -94,7 +94,8 @@ nothing
 m20 1->c1 Reply 7 0 0 -
 ";
 
-/// A request that comes before the one below it isn't logged, and an Install that comes again resets nothing.
+/// A request that comes before the one below it isn't logged, and an Install that comes again
+/// resets nothing.
 const OUT_OF_ORDER: &str = "> req 1 1 1 a lock lock -
 m7 1->2 Rep 1 0
 m8 1->3 Rep 1 0
@@ -113,7 +114,8 @@ node 2 epoch 1 installed length 1 committed 0
 m13 2->1 Ack 1 2
 ";
 
-/// The primary of a map that nobody else has learned asks the members before it, and answers no client.
+/// The primary of a map that nobody else has learned asks the members before it, and answers no
+/// client.
 const NEW_MEMBERS: &str = "> map 4 5
 map 2 prev 1
 > see 4 2
@@ -128,8 +130,8 @@ refused 1 NotPrimary
 node 4 epoch 2 asking length 0 committed 0
 ";
 
-/// The old primary logged a request that nobody else did; back as primary, it takes the list of the others in its
-/// place.
+/// The old primary logged a request that nobody else did; back as primary, it takes the list of the
+/// others in its place.
 const DIVERGENT_END: &str = "> deliver 9
 nothing
 > deliver 10
@@ -221,7 +223,8 @@ nothing
 m13 1->c1 Reply 7 0 0 -
 ";
 
-/// A map with the members that there were keeps their interval; one that is like an earlier map only doesn't.
+/// A map with the members that there were keeps their interval; one that is like an earlier map
+/// only doesn't.
 const SAME_MEMBERS: &str = "> map 1 2 3
 map 2 same 1
 > see 2 2
@@ -268,7 +271,8 @@ again m11
 refused 2 NotNewest
 ";
 
-/// Requests that are refused leave no entry; so do maps without a member, and of a node that there can't be.
+/// Requests that are refused leave no entry; so do maps without a member, and of a node that there
+/// can't be.
 const REFUSED: &str = "> req 1 1 1 a lock lock 00
 refused 7 InputTooLong
 > show 1
@@ -325,8 +329,8 @@ static RUNS: [[&str; 3]; 12] = [
 /// The requests of a long run.
 const LONG: u32 = 1_200;
 
-/// After that: one client's requests, of which nobody acknowledges any; the primary sends all of them again, to one
-/// member and then to the other.
+/// After that: one client's requests, of which nobody acknowledges any; the primary sends all of
+/// them again, to one member and then to the other.
 fn never_acknowledged<R: Abort + AllocGlobal>(rt: &R) -> String {
     let mut text = String::new(rt.alloc());
     for place in 0..LONG {

@@ -1,5 +1,5 @@
-//! Files of events with what they print, as one text: an event stands after `>`, and below it the lines that it comes
-//! to.
+//! Files of events with what they print, as one text: an event stands after `>`, and below it the
+//! lines that it comes to.
 
 use std::process::Abort;
 use std::sync::Wait;

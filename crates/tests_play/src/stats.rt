@@ -91,7 +91,8 @@ fn is_done(ended: &Ended, printed: &str) -> bool {
 fn fit(stats: Stats, elapsed: u64) -> bool {
     let calls = stats.calls;
     let worst = stats.worst;
-    // the longest call is not shorter than the mean, not longer than all calls, and not longer than the run
+    // the longest call is not shorter than the mean, not longer than all calls, and not longer than
+    // the run
     stats.mean <= worst
         && worst < stats.mean.saturating_add(1).saturating_mul(calls)
         && worst.saturating_mul(1_000) <= elapsed
@@ -107,8 +108,8 @@ fn nanoseconds_since<R: Abort + Clock>(rt: &R, start: Instant) -> u64 {
     elapsed.as_nanos().min(u128::from(u64::MAX)) as u64
 }
 
-/// Four calls of two clients, before and after a map. A lock goes to two other nodes, both answer, and so does the
-/// primary: five messages at least.
+/// Four calls of two clients, before and after a map. A lock goes to two other nodes, both answer,
+/// and so does the primary: five messages at least.
 #[test]
 fn calls_and_messages_are_counted(rt: HostRuntime) {
     let start = Instant::now(&rt).expect(&rt, "a clock");
@@ -206,8 +207,8 @@ impl Clock for Readings {
     }
 }
 
-/// What the clock reads of a run of two seconds with three calls, of 3,500, 9,999 and 0 nanoseconds: their beginnings
-/// and ends stand between those of the run.
+/// What the clock reads of a run of two seconds with three calls, of 3,500, 9,999 and 0
+/// nanoseconds: their beginnings and ends stand between those of the run.
 static RUN: [u64; 8] = [
     1_000,
     2_000,
@@ -224,7 +225,8 @@ fn now(clock: &Readings) -> Option<Instant> {
     Instant::now(clock).ok()
 }
 
-/// Three calls, of which the second took longest; five requests among seven operations, and four messages.
+/// Three calls, of which the second took longest; five requests among seven operations, and four
+/// messages.
 #[test]
 fn figures_are_shown(rt: HostRuntime) {
     let clock = Readings {

@@ -10,8 +10,8 @@ const HELLO: &str =
     "52434c31 0100 0000 05 68656c6c6f 01 0000 0500 0500 6203000068656c6c 720304006f000000 \
     b701000005000000 850000000d000000 9500000000000000";
 
-/// Rule set 2: a pointer stored, loaded and written through. `stxdw [r10-8], r3`, `mov r0, 0`, `ldxdw r4, [r10-8]`,
-/// `stb [r4+0], 1`, `exit`.
+/// Rule set 2: a pointer stored, loaded and written through. `stxdw [r10-8], r3`, `mov r0, 0`,
+/// `ldxdw r4, [r10-8]`, `stb [r4+0], 1`, `exit`.
 pub const SPILLS: &str =
     "52434c32 0100 0000 01 66 01 0000 0100 0500 7b3af8ff00000000 b700000000000000 79a4f8ff00000000 \
     7204000001000000 9500000000000000";

@@ -1,4 +1,5 @@
-//! What `bench` measures and prints: the methods' counts, the tables by a clock of known readings, and figures.
+//! What `bench` measures and prints: the methods' counts, the tables by a clock of known readings,
+//! and figures.
 
 mod figures;
 mod tables;

@@ -1,5 +1,5 @@
-//! What the pages for people show: an example of each rule of the verifier (docs/VERIFIER.md), and the classes of
-//! examples/ and docs/ASSEMBLY.md.
+//! What the pages for people show: an example of each rule of the verifier (docs/VERIFIER.md), and
+//! the classes of examples/ and docs/ASSEMBLY.md.
 
 use crate::pages::{HELLO, prints_of};
 
@@ -111,8 +111,8 @@ pub const COUNT: &str =
     mov r2, 1\nmov r3, r6          ; its value, from the output\nmov r4, 8\ncall 10             ; map_set\njne r0, 0, done     ; not set\n\
     mov r1, 8\ncall 13             ; out_len\nmov r0, r7\ndone:\nexit\n";
 
-/// examples/c/counter_o0.txt: counter.c as clang 14 writes it without optimization. Each variable is in the stack,
-/// pointers too.
+/// examples/c/counter_o0.txt: counter.c as clang 14 writes it without optimization. Each variable
+/// is in the stack, pointers too.
 const UNOPTIMIZED: &str =
     ".rules 2\n.method inc rw 0 8\nstxdw [r10-16], r1\nstxdw [r10-24], r2\nstxdw [r10-32], r3\nmov32 r1, 116\n\
     stxb [r10-36], r1\nmov32 r1, 1853189987\nstxw [r10-40], r1\nmov r1, 0\nstxdw [r10-48], r1\nmov r1, r10\n\

@@ -39,7 +39,8 @@ static REFUSED: [(&str, &str); 8] = [
     ),
 ];
 
-/// Words after which nothing is added: the class is safe, the call is refused, and the folder tells no reason.
+/// Words after which nothing is added: the class is safe, the call is refused, and the folder tells
+/// no reason.
 static UNTOLD: [(&[&str], &str, u8); 4] = [
     (&["verify", "image", "--explain"], "f ok 2\n", 0),
     (

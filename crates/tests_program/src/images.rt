@@ -4,13 +4,14 @@ use std::thread::Threads;
 use std::time::Clock;
 use tests_folder::{Folder, Row, TWO, only_prints, prints_on, with_repeated};
 
-/// Writes its three bytes of input to the object, and fails: `mov r2, r1`, `mov r1, 0`, `mov r3, 3`, `call 3`,
-/// `mov r0, -5`, `exit`.
+/// Writes its three bytes of input to the object, and fails: `mov r2, r1`, `mov r1, 0`, `mov r3,
+/// 3`, `call 3`, `mov r0, -5`, `exit`.
 const WRITE_AND_FAIL: &str =
     "52434c31 0100 0000 01 66 02 0300 0000 0600 bf12000000000000 b701000000000000 b703000003000000 \
     8500000003000000 b7000000fbffffff 9500000000000000";
 
-/// `e` is `lddw r0, 1`, `exit`, two instructions in three slots; `f` is `mov r0, 0`, `mov r0, 0`, `exit`.
+/// `e` is `lddw r0, 1`, `exit`, two instructions in three slots; `f` is `mov r0, 0`, `mov r0, 0`,
+/// `exit`.
 const TWO_METHODS: &str =
     "52434c31 0200 0000 01 65 01 0000 0000 0300 1800000001000000 0000000000000000 9500000000000000 \
     01 66 01 0000 0000 0300 b700000000000000 b700000000000000 9500000000000000";

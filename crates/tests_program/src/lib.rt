@@ -1,5 +1,6 @@
-//! Tests alone, of the program on words, files and writers: what it prints of images and texts of classes, and of words
-//! that ask for nothing; and how it ends where standard output fails. And of what is measured, and printed of it.
+//! Tests alone, of the program on words, files and writers: what it prints of images and texts of
+//! classes, and of words that ask for nothing; and how it ends where standard output fails. And of
+//! what is measured, and printed of it.
 #![tactic(auto)]
 
 #[cfg(test)]

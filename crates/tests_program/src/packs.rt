@@ -45,7 +45,8 @@ const SUM: &str =
     0f42000000000000 71140d0000000000 0f42000000000000 71140e0000000000 0f42000000000000 71110f0000000000 \
     0f12000000000000 7b23000000000000 b701000008000000 850000000d000000 9500000000000000";
 
-/// Raw code, the rule set and the method that it is packed as, words on the image, and what they print.
+/// Raw code, the rule set and the method that it is packed as, words on the image, and what they
+/// print.
 struct Packed {
     raw: &'static str,
     rules: &'static str,

@@ -1,5 +1,5 @@
-//! What the pages for users show: texts that are refused and how, verdicts, and the five patterns of
-//! examples/patterns.txt.
+//! What the pages for users show: texts that are refused and how, verdicts, and the five patterns
+//! of examples/patterns.txt.
 
 use std::process::Abort;
 use std::sync::Wait;

@@ -19,7 +19,8 @@ static USAGES: [&[&str]; 43] = [
     &["asm", "image", "out", "more"],
     &["dis"],
     &["--version"],
-    // no method; one that lacks a field; flags and capacities that are none; a good one after a bad one
+    // no method; one that lacks a field; flags and capacities that are none; a good one after a bad
+    // one
     &["pack", "out"],
     &["pack", "out", "f:r:0:0"],
     &["pack", "out", "f"],
@@ -76,7 +77,8 @@ static USAGES: [&[&str]; 43] = [
     ],
 ];
 
-/// Whether the program prints nothing of those words, explains its use, ends with 2, and writes no file.
+/// Whether the program prints nothing of those words, explains its use, ends with 2, and writes no
+/// file.
 fn explains<R: Abort + AllocGlobal + Threads + Wait + Clock + Sync>(
     rt: &R,
     words: &[&str],
@@ -95,8 +97,8 @@ fn explains_its_use(rt: HostRuntime) {
     }
 }
 
-/// Words, and what stands in the help or the usage that they get: the forms and phrases are clap's, the texts are the
-/// commands' own.
+/// Words, and what stands in the help or the usage that they get: the forms and phrases are clap's,
+/// the texts are the commands' own.
 static TOLD: [(&[&str], &str); 21] = [
     (
         &["--help"],
@@ -219,7 +221,8 @@ impl Write for Limited {
     }
 }
 
-/// The program's name and words after it, the room of standard output, whether it flushes, and the status.
+/// The program's name and words after it, the room of standard output, whether it flushes, and the
+/// status.
 type Row = (&'static [&'static str], usize, bool, u8);
 
 /// `f ok 2` and the line feed are seven bytes.
@@ -243,8 +246,8 @@ static EVENTS: [Row; 5] = [
     (SIM, 26, false, 1),
 ];
 
-/// Whether the program ends as a row tells on that text, where standard output is so limited, and standard output has
-/// failed where the status is 1.
+/// Whether the program ends as a row tells on that text, where standard output is so limited, and
+/// standard output has failed where the status is 1.
 fn ends_with<R: Abort + AllocGlobal + Threads + Wait + Clock + Sync>(
     rt: &R,
     text: &str,

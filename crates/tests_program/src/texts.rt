@@ -18,7 +18,8 @@ const KEEP_TEXT: &str =
     ".method keep rw 4 4\nmov r6, r3\nmov r2, r1\nmov r1, 0\nmov r3, 4\ncall 3\nmov r1, 0\n\
     mov r2, r6\nmov r3, 4\ncall 2\nmov r7, r0\nmov r1, 4\ncall 13\nmov r0, r7\nexit\n";
 
-/// A jump to a label over one instruction, with tabs, a comment, an empty line and no last line feed.
+/// A jump to a label over one instruction, with tabs, a comment, an empty line and no last line
+/// feed.
 const LOOSE_TEXT: &str =
     "; a label\n\n.method\tf  r 0 0\n\tmov r0 ,0x0 ; none\n jeq r0, 0, done\nmov r0, 1\ndone:\nexit";
 

@@ -1,5 +1,5 @@
-//! Tests alone, of the crates that keep objects: maps, objects by name, what a call does to its object, and the
-//! helpers.
+//! Tests alone, of the crates that keep objects: maps, objects by name, what a call does to its
+//! object, and the helpers.
 #![tactic(auto)]
 
 #[cfg(test)]

@@ -132,7 +132,8 @@ fn many<R: Abort>(rt: &R, alloc: Global, mask: u16) -> SharedMap<u16> {
     map
 }
 
-/// The fewest nodes on the longest way down of any tree of that many keys: one of ten nodes has at most 1,023.
+/// The fewest nodes on the longest way down of any tree of that many keys: one of ten nodes has at
+/// most 1,023.
 const LEAST: u8 = 11;
 
 /// Whether a map has all numbers, that key the last one set, and the tree is low.

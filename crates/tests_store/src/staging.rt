@@ -212,7 +212,8 @@ fn creation<R: Abort>(rt: &R, alloc: Global, objects: &mut Objects, name: &Objec
     copy.expect(rt, "memory")
 }
 
-/// Creates the first object and undoes a copy of that change. Whether the object was there in between.
+/// Creates the first object and undoes a copy of that change. Whether the object was there in
+/// between.
 fn undoes_creation<R: Abort>(rt: &R, alloc: Global, pair: &mut Pair) -> bool {
     let change = creation(rt, alloc, &mut pair.objects, &pair.one);
     let created = is_long(pair.objects.get(&pair.one), 4);
@@ -244,7 +245,8 @@ fn set_both(alloc: Global, staged: &mut Staged, n: u16, value: &[u8]) -> Result<
     staged.set_key(alloc, &name, value)
 }
 
-/// Sets keys and xattrs, as many as an object may have, with the longest names and values, and writes the last byte.
+/// Sets keys and xattrs, as many as an object may have, with the longest names and values, and
+/// writes the last byte.
 fn fill(alloc: Global, staged: &mut Staged) -> Result<(), StoreError> {
     for n in 0..KEY_LIMIT as u16 {
         set_both(alloc, staged, n, &[0x5a; 4096])?;

@@ -1,4 +1,5 @@
-//! Words of a line: `-` is nothing, `@64` a name of 64 bytes, the most that there are, and `@65` one of a byte more.
+//! Words of a line: `-` is nothing, `@64` a name of 64 bytes, the most that there are, and `@65`
+//! one of a byte more.
 
 use std::str::SplitWhitespace;
 
@@ -106,7 +107,8 @@ pub fn number(word: &str) -> u64 {
     }
 }
 
-/// A name of 64 bytes whose last two rise with the number, as `AA` of 0, `BA` of 32 and `aA` of 1,024.
+/// A name of 64 bytes whose last two rise with the number, as `AA` of 0, `BA` of 32 and `aA` of
+/// 1,024.
 pub fn numbered(n: u16) -> [u8; 64] {
     let mut name = [b'k'; 64];
     name[62] = b'A' + (n / 32 % 64) as u8;

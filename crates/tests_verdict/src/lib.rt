@@ -1,5 +1,5 @@
-//! Tests alone, of the verifier: what is known before a run of a number, and of the registers at a slot; verdicts on
-//! methods and classes.
+//! Tests alone, of the verifier: what is known before a run of a number, and of the registers at a
+//! slot; verdicts on methods and classes.
 #![tactic(auto)]
 
 #[cfg(test)]

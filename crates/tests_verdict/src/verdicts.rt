@@ -40,7 +40,8 @@ fn bytes<'a>(slots: &str, buffer: &'a mut [u8]) -> &'a [u8] {
     buffer.get(..count / 2).unwrap_or(&[])
 }
 
-/// The number of decimal digits; of others the greatest, which is none of flags, capacities, slots and rules.
+/// The number of decimal digits; of others the greatest, which is none of flags, capacities, slots
+/// and rules.
 fn number(text: &str) -> u16 {
     match text.parse::<u16>() {
         Ok(number) => number,
@@ -86,7 +87,8 @@ fn told_declared(text: &str) -> Declared {
     }
 }
 
-/// The method of a row: flags, in_cap, out_cap and a colon, the slots, a bar, and the method in words.
+/// The method of a row: flags, in_cap, out_cap and a colon, the slots, a bar, and the method in
+/// words.
 fn method_of(alloc: Global, name: &str, row: &str) -> Option<Method> {
     let Some((told, _)) = row.split_once('|') else {
         return None;
@@ -144,8 +146,9 @@ fn is_row_judged(alloc: Global, rules: RuleSet, row: &str, told: &str) -> bool {
     }
 }
 
-/// Checks rows, one a line: a verdict (`ok`, or the slot and the rule's number), a method, a bar, and the method in
-/// words. A line whose first character is `#` says of what the rows after it are. There are that many rows.
+/// Checks rows, one a line: a verdict (`ok`, or the slot and the rule's number), a method, a bar,
+/// and the method in words. A line whose first character is `#` says of what the rows after it are.
+/// There are that many rows.
 fn check<R: Abort>(rt: &R, alloc: Global, rows: &str, wanted: usize) {
     let mut count = 0usize;
     for row in rows.lines() {
@@ -158,7 +161,8 @@ fn check<R: Abort>(rt: &R, alloc: Global, rows: &str, wanted: usize) {
     assert!(rt; count == wanted);
 }
 
-/// Checks rows of both rule sets: of each line the first word is the verdict in set 2, the second that in set 1.
+/// Checks rows of both rule sets: of each line the first word is the verdict in set 2, the second
+/// that in set 1.
 fn check_both<R: Abort>(rt: &R, alloc: Global, rows: &str, wanted: usize) {
     let mut count = 0usize;
     for row in rows.lines() {

@@ -1,5 +1,5 @@
-//! Numbers as digits spell them, for texts of every kind: `are_digits`, `is_decimal` (no leading zero), and `value_within`
-//! a bound. The rules are `specs/Digits.antt`. No call takes memory.
+//! Numbers as digits spell them, for texts of every kind: `are_digits`, `is_decimal` (no leading
+//! zero), and `value_within` a bound. The rules are `specs/Digits.antt`. No call takes memory.
 #![tactic(auto)]
 
 mod number;

@@ -23,7 +23,8 @@ fn all_pass(text: &[u8], radix: u8) -> bool
     text.iter().all(|byte| digit_of(*byte) < radix)
 }
 
-/// Whether it is one digit or more to that base, 36 at most and letters of either case, and nothing else.
+/// Whether it is one digit or more to that base, 36 at most and letters of either case, and nothing
+/// else.
 pub fn are_digits(text: &[u8], radix: u8) -> bool
     ensures { result ≡ all_digits radix text.now }
 {

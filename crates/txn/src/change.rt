@@ -15,8 +15,8 @@ enum After {
     Made(Option<Object>),
 }
 
-/// What a call did: the object before and after, none if it is absent. One that a call made shares what the call didn't
-/// touch; one that no call changed is held once. Contracts see both.
+/// What a call did: the object before and after, none if it is absent. One that a call made shares
+/// what the call didn't touch; one that no call changed is held once. Contracts see both.
 #[derive(Drop)]
 pub struct Change {
     before: Option<Object>,
@@ -131,8 +131,8 @@ fn put(
     }
 }
 
-/// Does a change to the object of a name, which is as it was before the change: the object is then as it is after it. It costs a put into the objects, and nothing
-/// if no call changed the object.
+/// Does a change to the object of a name, which is as it was before the change: the object is then
+/// as it is after it. It costs a put into the objects, and nothing if no call changed the object.
 pub fn apply(
     alloc: Global,
     objects: &mut Objects,
@@ -150,8 +150,8 @@ pub fn apply(
     }
 }
 
-/// Undoes a change on the objects that `apply` left: all objects are then as they were before. It costs a put into
-/// the objects.
+/// Undoes a change on the objects that `apply` left: all objects are then as they were before. It
+/// costs a put into the objects.
 pub fn undo(
     alloc: Global,
     objects: &mut Objects,

@@ -18,9 +18,10 @@ enum Newest {
     Written(Option<Object>),
 }
 
-/// An object as a call has it so far. Contracts see it as the call found it and as it is now. Reads are reads of
-/// `object`, the newest version. Until the first write it holds a reference and copies nothing; a write costs what it
-/// touches. A write is the one of `object_store::calls` of the same name: if that refuses it, all stays as it was.
+/// An object as a call has it so far. Contracts see it as the call found it and as it is now. Reads
+/// are reads of `object`, the newest version. Until the first write it holds a reference and copies
+/// nothing; a write costs what it touches. A write is the one of `object_store::calls` of the same
+/// name: if that refuses it, all stays as it was.
 #[derive(Drop)]
 pub struct Staged<'a> {
     base: Option<&'a Object>,
@@ -62,8 +63,8 @@ impl<'a> Staged<'a> {
         }
     }
 
-    /// Writes bytes into the data at a place. An absent object comes to be, zeros fill a gap, and no bytes leave the
-    /// data as it is. Refused: 4 TooBig, 7 NoMemory.
+    /// Writes bytes into the data at a place. An absent object comes to be, zeros fill a gap, and
+    /// no bytes leave the data as it is. Refused: 4 TooBig, 7 NoMemory.
     pub fn write(&mut self, alloc: Global, at: u64, text: &[u8]) -> Result<(), StoreError>
         ensures before { self.new.before ≡ self.old.before }
         ensures answer { Gives (λ _. self.new.after) result (made (spec.write self.old.after at text.now)) }
@@ -73,7 +74,8 @@ impl<'a> Staged<'a> {
         self.renew(object)
     }
 
-    /// Cuts the data to a length, or extends it with zeros. Refused: 4 TooBig, 1 Absent, 7 NoMemory.
+    /// Cuts the data to a length, or extends it with zeros. Refused: 4 TooBig, 1 Absent, 7
+    /// NoMemory.
     pub fn truncate(&mut self, alloc: Global, len: u64) -> Result<(), StoreError>
         ensures before { self.new.before ≡ self.old.before }
         ensures answer { Gives (λ _. self.new.after) result (made (spec.truncate self.old.after len)) }
@@ -83,7 +85,8 @@ impl<'a> Staged<'a> {
         self.renew(object)
     }
 
-    /// Sets an xattr. An absent object comes to be. Refused: 6 Range, 4 TooBig, 5 TooMany, 7 NoMemory.
+    /// Sets an xattr. An absent object comes to be. Refused: 6 Range, 4 TooBig, 5 TooMany, 7
+    /// NoMemory.
     pub fn set_xattr(&mut self, alloc: Global, name: &[u8], value: &[u8]) -> Result<(), StoreError>
         ensures before { self.new.before ≡ self.old.before }
         ensures answer { Gives (λ _. self.new.after) result (made (spec.set_xattr self.old.after name.now value.now)) }
@@ -103,8 +106,8 @@ impl<'a> Staged<'a> {
         self.renew(object)
     }
 
-    /// Sets the value of a key of the omap. An absent object comes to be. Refused: 6 Range, 4 TooBig, 5 TooMany,
-    /// 7 NoMemory.
+    /// Sets the value of a key of the omap. An absent object comes to be. Refused: 6 Range, 4
+    /// TooBig, 5 TooMany, 7 NoMemory.
     pub fn set_key(&mut self, alloc: Global, key: &[u8], value: &[u8]) -> Result<(), StoreError>
         ensures before { self.new.before ≡ self.old.before }
         ensures answer { Gives (λ _. self.new.after) result (made (spec.set_key self.old.after key.now value.now)) }
@@ -124,7 +127,8 @@ impl<'a> Staged<'a> {
         self.renew(object)
     }
 
-    /// Makes the object that a call made the newest version; if the call was refused, all stays as it was.
+    /// Makes the object that a call made the newest version; if the call was refused, all stays as
+    /// it was.
     fn renew(&mut self, object: Result<Object, StoreError>) -> Result<(), StoreError>
         ensures before { self.new.before ≡ self.old.before }
         ensures answer { (answer : Result Content StoreError) → Gives (λ o. o) object answer → Gives (λ _. self.new.after) result (made answer) }
@@ -134,7 +138,8 @@ impl<'a> Staged<'a> {
         Ok(())
     }
 
-    /// Makes an object with nothing in it if it is absent; one that is there stays as it is. It takes no memory.
+    /// Makes an object with nothing in it if it is absent; one that is there stays as it is. It
+    /// takes no memory.
     pub fn create(&mut self)
         ensures before { self.new.before ≡ self.old.before }
         ensures after { self.new.after ≡ Some (content_of self.old.after) }
@@ -152,7 +157,8 @@ impl<'a> Staged<'a> {
         self.newest = Newest::Written(None);
     }
 
-    /// The change from the object as the call found it to the object as it is now. It shares both and grows nothing.
+    /// The change from the object as the call found it to the object as it is now. It shares both
+    /// and grows nothing.
     pub fn finish(self) -> Result<Change, NoMemory>
         ensures before { IfOk result (λ c. c.before ≡ self.entry.before) }
         ensures after { IfOk result (λ c. c.after ≡ self.entry.after) }

@@ -1,5 +1,5 @@
--- What loads, stores and helpers' ranges do to memory, by the values of the stack's slots: of the first slots, that many, a
--- frame may know something; the others are numbers.
+-- What loads, stores and helpers' ranges do to memory, by the values of the stack's slots: of the
+-- first slots, that many, a frame may know something; the others are numbers.
 use Rattle.std.proofs.Common.{◌≡◌, ◌⊎◌, inl, inr, ℕ, zero, suc, ◌+◌, ◌*◌, ◌/◌, ◌%◌, ◌^◌, ◌<◌, ◌≤◌, List, Option, Some, None, Bool, true, refl, ap, ◌∙◌, sym, subst, arith, length, take, drop, length-take, drop-drop, replicate, ◌∷◌}
 use Rattle.std.specs.Prelude.{slice_get}
 use Rattle.std.proofs.lemmas.Bool.{cases_lt, eq-eqb}
@@ -136,7 +136,8 @@ module _ (laws : SlotLaws) (caps : Caps) (sizes : AreCapacities caps) (n : ℕ) 
   none_past : (cs : List Cell) (j : ℕ) → n ≤ j → value_at (slot_values n cs) j ≡ None
   none_past cs j h = ap flat_option (slice_get_past (slot_values n cs) j (omega (arith, h, length-values n cs)))
 
-  -- what each slot that an access reaches is, so long as those are numbers of which something may be known
+  -- what each slot that an access reaches is, so long as those are numbers of which something may
+  -- be known
   abbrev pub AreNumbersReached : Region → ℕ → ℕ → Type 0
   AreNumbersReached r at w = (j : ℕ) → j < length known → Reached r at w j → IsNumber (value_at known j)
 

@@ -19,20 +19,23 @@ known_slots Two = 64
 abbrev pub entry : RuleSet → Caps → PlainFrame
 entry rules caps = entry_frame caps.in_cap (size caps Stack) (known_slots rules)
 
--- regions no longer than a value may be, a stack of 64 slots, of which all but the first ones, that many, are numbers
+-- regions no longer than a value may be, a stack of 64 slots, of which all but the first ones, that
+-- many, are numbers
 pub record IsMemory (known : ℕ) (m : TypedMemory) : Type 0 where
   pub input : IsValue m.input
   pub output : IsValue m.output
   pub stack : IsStack 64 m.stack
   pub rest : (j : ℕ) → known ≤ j → j < 64 → IsNumber (slot_value m.stack j)
 
--- what holds of every state within the limits: its memory, an object within its limits, a client's number
+-- what holds of every state within the limits: its memory, an object within its limits, a client's
+-- number
 pub record IsWithin (known : ℕ) (s : Typed) : Type 0 where
   pub memory : IsMemory known s.memory
   pub object : IsObject s.object
   pub client : s.caller < 2 ^ 32
 
--- A state that a frame is true of. The frame speaks of the first slots, that many: of all of them, or of none.
+-- A state that a frame is true of. The frame speaks of the first slots, that many: of all of them,
+-- or of none.
 pub record Holds (known : ℕ) (f : PlainFrame) (s : Typed) : Type 0 where
   pub regs : HoldsEach f.registers s.regs
   pub long : length f.slots ≡ known

@@ -41,8 +41,8 @@ is_at_most n Unset = false
 is_at_most n (Num k) = nat_le k.high n
 is_at_most n (Ptr r k) = false
 
--- A range of a helper, by the kinds of its pointer and its length. One whose pointer is a number or whose length is
--- a pointer is of the wrong kind, and neither of these.
+-- A range of a helper, by the kinds of its pointer and its length. One whose pointer is a number or
+-- whose length is a pointer is of the wrong kind, and neither of these.
 abbrev pub range_leaves : Caps → PlainKind → PlainKind → Bool
 range_leaves caps (Ptr r k) (Num l) = not (range_fits k l (size caps r))
 range_leaves caps (Ptr r k) Unset = false

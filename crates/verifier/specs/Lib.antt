@@ -1,6 +1,7 @@
--- To be believed: RuleNumber (numbers, names, texts), Kind and Frame (what the rules ask of what is known; what is known
--- and how it flows stands in abstract_regs), Rules (which rule refuses what), Verdict (the table of frames, the verdict),
--- Verified (what callers are told). The steps of the code, in private contracts alone: Pass, Kept.
+-- To be believed: RuleNumber (numbers, names, texts), Kind and Frame (what the rules ask of what is
+-- known; what is known and how it flows stands in abstract_regs), Rules (which rule refuses what),
+-- Verdict (the table of frames, the verdict), Verified (what callers are told). The steps of the
+-- code, in private contracts alone: Pass, Kept.
 pub mod RuleNumber
 pub mod Kind
 pub mod Frame

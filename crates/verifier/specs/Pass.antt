@@ -1,4 +1,5 @@
--- A step of the code: what the pass has between two slots, the frame at hand, and those that are kept for jumps' targets.
+-- A step of the code: what the pass has between two slots, the frame at hand, and those that are
+-- kept for jumps' targets.
 use Rattle.std.specs.Prelude.{◌≡◌, ℕ, ◌+◌, ◌<◌, List, Option, Some, None, slice_set, length}
 use Rattle.bpf_decode.specs.declared.insn.Insn.{Insn}
 use Rattle.bpf_decode.specs.Instruction.{slot_count}

@@ -24,8 +24,8 @@ use Rattle.verifier.specs.Kind.{alu_refused, mov_refused, stays, is_read_only, i
 use Rattle.abstract_regs.specs.Frame.{PlainFrame, kind_at, operand_kind, kept_kind}
 use Rattle.abstract_regs.specs.Flow.{target}
 
--- What is read of the stack: a load of w bytes that stays in its region, or a helper's range that does, may touch a slot
--- of which nothing is known, or one with a pointer.
+-- What is read of the stack: a load of w bytes that stays in its region, or a helper's range that
+-- does, may touch a slot of which nothing is known, or one with a pointer.
 abbrev pub load_meets : Content → Caps → PlainFrame → PlainKind → ℕ → ℕ → Bool
 load_meets content caps f x distance w = meets content (access_span (stack_place x distance) w) 0 f.slots && stays caps x distance w
 
@@ -150,7 +150,8 @@ writes_r10 (Load width dst from offset) = dst == 10
 writes_r10 (LoadSigned width dst from offset) = dst == 10
 writes_r10 i = false
 
--- arithmetic on a pointer other than a copy, or a number added to it or subtracted from it, each in 64 bits
+-- arithmetic on a pointer other than a copy, or a number added to it or subtracted from it, each in
+-- 64 bits
 abbrev pub computes_with_pointer : PlainFrame → Insn → Bool
 computes_with_pointer f (Alu bits operation dst source) = alu_refused bits operation (kind_at f dst) (operand_kind f source)
 computes_with_pointer f (Neg bits dst) = is_ptr (kind_at f dst)
@@ -214,7 +215,8 @@ abbrev pub under : Option PlainFrame → (PlainFrame → Bool) → Bool
 under None test = false
 under (Some f) test = test f
 
--- The table of rules, by their numbers: 1 to 4, of the shape of the code, whether a rule refuses instruction i at slot p,
+-- The table of rules, by their numbers: 1 to 4, of the shape of the code, whether a rule refuses
+-- instruction i at slot p,
 abbrev pub breaks_shape : List (Option Insn) → ℕ → Insn → Rule → Bool
 breaks_shape code p i Backward = is_backward i
 breaks_shape code p i Target = misses code p i

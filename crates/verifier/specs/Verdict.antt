@@ -61,7 +61,8 @@ abbrev pub incoming : RuleSet → Caps → List (Option Insn) → Table → ℕ 
 incoming rules caps code table q zero = start rules caps q
 incoming rules caps code table q (suc p) = flow_from caps code p q (fetch code p) (frame_at table p) (incoming rules caps code table q p)
 
--- The frames of the first n slots: each is the join of all that flows into its slot from lower slots.
+-- The frames of the first n slots: each is the join of all that flows into its slot from lower
+-- slots.
 abbrev pub frames : RuleSet → Caps → List (Option Insn) → ℕ → Table
 frames rules caps code zero = []
 frames rules caps code (suc q) = frames rules caps code q ++ (incoming rules caps code (frames rules caps code q) q q ∷ [])
@@ -69,8 +70,8 @@ frames rules caps code (suc q) = frames rules caps code q ++ (incoming rules cap
 abbrev pub whole_table : RuleSet → Caps → List (Option Insn) → Table
 whole_table rules caps code = frames rules caps code (length code)
 
--- A table of a method's frames: at each slot the join of all that flows into it from lower slots, and of what the
--- method begins with at slot 0.
+-- A table of a method's frames: at each slot the join of all that flows into it from lower slots,
+-- and of what the method begins with at slot 0.
 pub record IsTable (rules : RuleSet) (caps : Caps) (code : List (Option Insn)) (table : Table) : Type 0 where
   pub long : length table ≡ length code
   pub each : (q : ℕ) → q < length code → frame_at table q ≡ incoming rules caps code table q q
@@ -95,7 +96,8 @@ first_refused caps code table p (Some i ∷ rest) =
 abbrev pub code_verdict : RuleSet → Caps → List (Option Insn) → Option (ℕ × Rule)
 code_verdict rules caps code = first_refused caps code (whole_table rules caps code) 0 code
 
--- Where the code is first refused: the slot and the lowest rule, the slot's instruction, and the frame before it.
+-- Where the code is first refused: the slot and the lowest rule, the slot's instruction, and the
+-- frame before it.
 pub record IsFirstRefused (rules : RuleSet) (caps : Caps) (code : List (Option Insn)) (r : RefusedSlot) : Type 0 where
   pub verdict : code_verdict rules caps code ≡ Some (r.slot, r.rule)
   pub insn : fetch code r.slot ≡ Some r.insn

@@ -10,9 +10,10 @@ use crate::verified::{VerifiedClass, VerifiedMethod};
 use bpf_decode::{ClassImage, Method, RuleSet};
 use std::alloc::Global;
 
-/// Accepts a class, each of whose methods then runs to its exit on every object and input, or gives the first refusal:
-/// the first method with one, its lowest refused slot, and there the lowest rule. `Rule::NoMemory`, with method and
-/// slot 0, says that memory was refused. One pass over the slots of each method.
+/// Accepts a class, each of whose methods then runs to its exit on every object and input, or gives
+/// the first refusal: the first method with one, its lowest refused slot, and there the lowest
+/// rule. `Rule::NoMemory`, with method and slot 0, says that memory was refused. One pass over the
+/// slots of each method.
 pub fn verify(alloc: Global, image: &ClassImage) -> Result<VerifiedClass, Refusal>
     ensures value { IfOk result (λ v. v ≡ image.now.methods) }
     // Accepted means safe: never stuck, in every layout of the regions.

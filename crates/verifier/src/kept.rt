@@ -7,7 +7,8 @@ use abstract_regs::Frame;
 use std::alloc::{AllocError, Global};
 use std::marker::Model;
 
-/// The frames that are kept for jumps' targets, each till its slot comes. Contracts see them by slot.
+/// The frames that are kept for jumps' targets, each till its slot comes. Contracts see them by
+/// slot.
 #[derive(Drop)]
 pub struct PendingFrames {
     frames: Vec<Option<Box<Frame>>>,
@@ -35,6 +36,7 @@ impl PendingFrames {
     }
 
     /// Takes the frame that is kept for a slot, if there is one.
+    #[inline(always)]
     pub fn take(&mut self, slot: usize) -> Option<Box<Frame>>
         ensures taken { unbox result ≡ frame_at self.old slot }
         ensures left { self.new ≡ slice_set self.old slot None }

@@ -8,7 +8,9 @@ use abstract_regs::{Kind, access_fits, range_fits};
 use bpf_decode::{Arithmetic, OpWidth};
 use bpf_machine::Caps;
 
-/// Whether it is arithmetic with a pointer other than a number added to it or subtracted from it, in 64 bits.
+/// Whether it is arithmetic with a pointer other than a number added to it or subtracted from it,
+/// in 64 bits.
+#[inline(always)]
 pub fn is_alu_refused(bits: OpWidth, operation: Arithmetic, x: Kind, y: Kind) -> bool
     ensures { result ≡ alu_refused bits operation (seen x) (seen y) }
 {
@@ -23,6 +25,7 @@ pub fn is_alu_refused(bits: OpWidth, operation: Arithmetic, x: Kind, y: Kind) ->
 }
 
 /// Whether it is a pointer that is copied in 32 bits.
+#[inline(always)]
 pub fn is_mov_refused(bits: OpWidth, kind: Kind) -> bool
     ensures { result ≡ mov_refused bits (seen kind) }
 {
@@ -33,6 +36,7 @@ pub fn is_mov_refused(bits: OpWidth, kind: Kind) -> bool
 }
 
 /// Whether all of the bytes at that distance from it are in its region, whatever it points to.
+#[inline(always)]
 pub fn stays(caps: &Caps, kind: Kind, distance: u64, bytes: usize) -> bool
     ensures { result ≡ stays caps.now (seen kind) distance bytes }
 {
@@ -43,6 +47,7 @@ pub fn stays(caps: &Caps, kind: Kind, distance: u64, bytes: usize) -> bool
 }
 
 /// Whether it points into the region that is read only.
+#[inline(always)]
 pub fn is_read_only(kind: Kind) -> bool
     ensures { result ≡ is_read_only (seen kind) }
 {
@@ -53,6 +58,7 @@ pub fn is_read_only(kind: Kind) -> bool
 }
 
 /// Whether it is a number that is at most `most`.
+#[inline(always)]
 pub fn is_at_most(most: u16, kind: Kind) -> bool
     ensures { result ≡ is_at_most most (seen kind) }
 {
@@ -63,6 +69,7 @@ pub fn is_at_most(most: u16, kind: Kind) -> bool
 }
 
 /// Whether a helper's range from this pointer on, of that length, may leave its region.
+#[inline(always)]
 pub fn range_leaves(caps: &Caps, pointer: Kind, length: Kind) -> bool
     ensures { result ≡ range_leaves caps.now (seen pointer) (seen length) }
 {
@@ -73,7 +80,9 @@ pub fn range_leaves(caps: &Caps, pointer: Kind, length: Kind) -> bool
     }
 }
 
-/// Whether a helper's range from this pointer on, of that length, is in the region that is read only.
+/// Whether a helper's range from this pointer on, of that length, is in the region that is read
+/// only.
+#[inline(always)]
 pub fn range_is_read_only(pointer: Kind, length: Kind) -> bool
     ensures { result ≡ range_is_read_only (seen pointer) (seen length) }
 {
@@ -85,6 +94,7 @@ pub fn range_is_read_only(pointer: Kind, length: Kind) -> bool
 }
 
 /// Whether a number may be added to a pointer by it, or subtracted.
+#[inline(always)]
 fn moves_pointer(bits: OpWidth, operation: Arithmetic) -> bool
     ensures { result ≡ moves_pointer bits operation }
 {
@@ -97,6 +107,7 @@ fn moves_pointer(bits: OpWidth, operation: Arithmetic) -> bool
     }
 }
 
+#[inline(always)]
 fn is_addition(bits: OpWidth, operation: Arithmetic) -> bool
     ensures { result ≡ is_addition bits operation }
 {

@@ -16,8 +16,9 @@ use bpf_decode::{Insn, Region, RuleSet, width};
 use bpf_machine::{Caps, STACK_SIZE};
 use std::alloc::{AllocError, Global};
 
-/// What the pass over a method has of the flows into the slots to come: one frame, which is changed in place from
-/// instruction to instruction, and for each target of a jump the join of what has flowed to it.
+/// What the pass over a method has of the flows into the slots to come: one frame, which is changed
+/// in place from instruction to instruction, and for each target of a jump the join of what has
+/// flowed to it.
 #[derive(Drop)]
 pub struct Pass {
     /// The frame that falls through to the slot `landing`; at a slot, its frame.
@@ -26,8 +27,9 @@ pub struct Pass {
     kept: PendingFrames,
 }
 
-/// The first refused slot of a method, given what begins at each slot, and the lowest rule that refuses it.
-/// One pass over the slots in order, since no flow that is not refused goes back: its cost is linear in their number.
+/// The first refused slot of a method, given what begins at each slot, and the lowest rule that
+/// refuses it. One pass over the slots in order, since no flow that is not refused goes back: its
+/// cost is linear in their number.
 pub fn first_refusal(
     alloc: Global,
     rules: RuleSet,
@@ -51,13 +53,15 @@ fn frame_slots(rules: RuleSet) -> usize
     ensures { result ≡ known_slots rules }
 {
     match rules {
-        // Knowing no slots is all that sets rule set 1 apart: so one definition of frames and rules serves both.
+        // Knowing no slots is all that sets rule set 1 apart: so one definition of frames and rules
+        // serves both.
         RuleSet::One => 0,
         RuleSet::Two => STACK_SLOTS,
     }
 }
 
-/// The same slot and rule, with the slot's instruction and what is known before it. It costs the same pass.
+/// The same slot and rule, with the slot's instruction and what is known before it. It costs the
+/// same pass.
 pub fn first_refused(
     alloc: Global,
     rules: RuleSet,
@@ -85,6 +89,7 @@ pub fn first_refused(
 }
 
 /// A frame out of its box.
+#[inline(always)]
 fn unboxed(frame: Option<Box<Frame>>) -> Option<Frame>
     ensures { result ≡ unbox frame }
 {
@@ -95,6 +100,7 @@ fn unboxed(frame: Option<Box<Frame>>) -> Option<Frame>
 }
 
 /// The instruction that begins at a slot, if one does.
+#[inline(always)]
 fn insn_at(code: &[Option<Insn>], slot: usize) -> Option<Insn>
     ensures { result ≡ fetch code.now slot }
 {
@@ -172,6 +178,7 @@ impl Pass {
     }
 
     /// Comes to a slot: what falls through to it joins what is kept for it.
+    #[inline(always)]
     fn arrive(&mut self, slot: usize)
         ensures current { unbox self.new.current ≡ awaited self.old slot }
         ensures kept { self.new.kept ≡ slice_set self.old.kept slot None }

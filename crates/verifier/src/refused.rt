@@ -20,12 +20,13 @@ pub struct RefusedSlot {
     /// The lowest rule that refuses the slot's instruction.
     pub rule: Rule,
     pub insn: Insn,
-    /// What is known of the registers before it: the join of all that flows into the slot. None where nothing does.
+    /// What is known of registers and slots of the stack before it: the join of all that flows into
+    /// the slot. None where nothing does.
     pub known: Option<Frame>,
 }
 
-/// The first refused slot of a method under a rule set, with what the rule saw there; none where no rule refuses the method. It costs
-/// what `verify` does.
+/// The first refused slot of a method under a rule set, with what the rule saw there; none where no
+/// rule refuses the method. It costs what `verify` does.
 pub fn refused_slot(
     alloc: Global,
     rules: RuleSet,

@@ -10,28 +10,31 @@ pub enum Rule {
     Backward,
     /// A jump's target is past the last slot or in a wide load's second half.
     Target,
-    /// The last instruction is neither `exit` nor a jump.
+    /// The last instruction is neither `exit` nor `ja`.
     FallsOff,
     /// A call within the program.
     LocalCall,
-    /// An operand that is read is unset: at `exit` register 0, at a call the registers of the helper's arguments; or a slot
-    /// of the stack, of which nothing is known, is read.
+    /// An operand that is read is unset: at `exit` register 0, at a call the registers of the
+    /// helper's arguments; or a slot of the stack, of which nothing is known, is read.
     UnsetRead,
     /// Register 10 is the destination of arithmetic, a load or a wide load.
     WritesR10,
-    /// Arithmetic on a pointer that gives neither a copy nor a place in its region.
+    /// Arithmetic on a pointer other than a copy, or a number added to it or subtracted from it,
+    /// each of 64 bits.
     PointerArithmetic,
     /// A comparison with a pointer.
     PointerCompare,
     /// A pointer is stored, other than whole in a slot of the stack that is known.
     PointerStored,
-    /// A load or store through a number; or one through a pointer, or a helper's range, that may leave its region.
+    /// A load or store through a number; or one through a pointer, or a helper's range, that may
+    /// leave its region.
     Bounds,
     /// A store, or a helper's writable range, in the input.
     ReadOnlyRegion,
     /// A call of an id that is no helper's.
     UnknownHelper,
-    /// A helper is given a pointer for a number, a number for a pointer, or an output length that may pass out_cap.
+    /// A helper is given a pointer for a number, a number for a pointer, or an output length that
+    /// may pass out_cap.
     HelperArgument,
     /// A helper that may change the object, in a method that only reads.
     WriteHelperInReader,

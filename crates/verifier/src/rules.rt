@@ -14,7 +14,8 @@ use bpf_decode::{Insn, Operand, Register, jump_target, width};
 use bpf_machine::Caps;
 use helpers::signature;
 
-/// The lowest rule that refuses the instruction at a slot; rules 5 to 15 and 17 under a frame alone.
+/// The lowest rule that refuses the instruction at a slot; rules 5 to 15 and 17 under a frame
+/// alone.
 pub fn refusing_rule(
     caps: &Caps,
     code: &[Option<Insn>],
@@ -86,6 +87,7 @@ fn frame_rule(caps: &Caps, frame: &Frame, insn: &Insn) -> Option<Rule>
 }
 
 /// Whether an instruction begins at the slot.
+#[inline(always)]
 fn begins_at(code: &[Option<Insn>], slot: usize) -> bool
     ensures { result ≡ begins_at code.now slot }
 {
@@ -96,6 +98,7 @@ fn begins_at(code: &[Option<Insn>], slot: usize) -> bool
 }
 
 #[rattlefmt::skip]
+#[inline(always)]
 fn is_backward(insn: &Insn) -> bool
     ensures { result ≡ is_backward insn.now }
 {
@@ -109,6 +112,7 @@ fn is_backward(insn: &Insn) -> bool
 }
 
 #[rattlefmt::skip]
+#[inline(always)]
 fn misses(code: &[Option<Insn>], slot: usize, insn: &Insn) -> bool
     requires { slot < 2 ^ 62 }
     ensures { result ≡ misses code.now slot insn.now }
@@ -123,6 +127,7 @@ fn misses(code: &[Option<Insn>], slot: usize, insn: &Insn) -> bool
 }
 
 #[rattlefmt::skip]
+#[inline(always)]
 fn falls_off(code: &[Option<Insn>], slot: usize, insn: &Insn) -> bool
     requires { slot < 2 ^ 62 }
     ensures { result ≡ falls_off code.now slot insn.now }
@@ -137,6 +142,7 @@ fn falls_off(code: &[Option<Insn>], slot: usize, insn: &Insn) -> bool
 }
 
 #[rattlefmt::skip]
+#[inline(always)]
 fn is_local_call(insn: &Insn) -> bool
     ensures { result ≡ is_local_call insn.now }
 {
@@ -150,6 +156,7 @@ fn is_local_call(insn: &Insn) -> bool
 
 /// An operand that is read is unset.
 #[rattlefmt::skip]
+#[inline(always)]
 fn reads_unset(caps: &Caps, frame: &Frame, insn: &Insn) -> bool
     ensures { result ≡ reads_unset caps.now frame.now insn.now }
 {
@@ -169,18 +176,21 @@ fn reads_unset(caps: &Caps, frame: &Frame, insn: &Insn) -> bool
 }
 
 /// A load's base is unset, or what it reads of the stack.
+#[inline(always)]
 fn loads_unset(caps: &Caps, frame: &Frame, base: Register, offset: i16, bytes: usize) -> bool
     ensures { result ≡ is_unset (kind_at frame.now base) || load_meets Content.Nothing caps.now frame.now (kind_at frame.now base) (extended offset) bytes }
 {
     is_unset(frame, base) || load_meets(Content::Nothing, caps, frame, base, offset, bytes)
 }
 
+#[inline(always)]
 fn is_unset(frame: &Frame, register: Register) -> bool
     ensures { result ≡ is_unset (kind_at frame.now register) }
 {
     frame.at(register).is_unset()
 }
 
+#[inline(always)]
 fn is_operand_unset(frame: &Frame, operand: Operand) -> bool
     ensures { result ≡ operand_is_unset frame.now operand }
 {
@@ -192,6 +202,7 @@ fn is_operand_unset(frame: &Frame, operand: Operand) -> bool
 
 /// Register 10 is its destination.
 #[rattlefmt::skip]
+#[inline(always)]
 fn writes_r10(insn: &Insn) -> bool
     ensures { result ≡ writes_r10 insn.now }
 {
@@ -204,8 +215,10 @@ fn writes_r10(insn: &Insn) -> bool
     }
 }
 
-/// It computes with a pointer, other than a copy, or a number added to it or subtracted from it, each in 64 bits.
+/// It computes with a pointer, other than a copy, or a number added to it or subtracted from it,
+/// each in 64 bits.
 #[rattlefmt::skip]
+#[inline(always)]
 fn computes_with_pointer(frame: &Frame, insn: &Insn) -> bool
     ensures { result ≡ computes_with_pointer frame.now insn.now }
 {
@@ -224,6 +237,7 @@ fn computes_with_pointer(frame: &Frame, insn: &Insn) -> bool
 
 /// It compares a pointer.
 #[rattlefmt::skip]
+#[inline(always)]
 fn compares_pointer(frame: &Frame, insn: &Insn) -> bool
     ensures { result ≡ compares_pointer frame.now insn.now }
 {
@@ -235,6 +249,7 @@ fn compares_pointer(frame: &Frame, insn: &Insn) -> bool
     }
 }
 
+#[inline(always)]
 fn is_ptr(frame: &Frame, register: Register) -> bool
     ensures { result ≡ is_ptr (kind_at frame.now register) }
 {
@@ -243,6 +258,7 @@ fn is_ptr(frame: &Frame, register: Register) -> bool
 
 /// It stores a pointer, other than whole in a slot of the stack that is known.
 #[rattlefmt::skip]
+#[inline(always)]
 fn stores_pointer(frame: &Frame, insn: &Insn) -> bool
     ensures { result ≡ stores_pointer frame.now insn.now }
 {
@@ -260,6 +276,7 @@ fn stores_pointer(frame: &Frame, insn: &Insn) -> bool
 
 /// What it reads or writes may leave its region.
 #[rattlefmt::skip]
+#[inline(always)]
 fn leaves_region(caps: &Caps, frame: &Frame, insn: &Insn) -> bool
     ensures { result ≡ leaves_region caps.now frame.now insn.now }
 {
@@ -274,6 +291,7 @@ fn leaves_region(caps: &Caps, frame: &Frame, insn: &Insn) -> bool
     }
 }
 
+#[inline(always)]
 fn stays(caps: &Caps, frame: &Frame, base: Register, offset: i16, bytes: usize) -> bool
     ensures { result ≡ stays caps.now (kind_at frame.now base) (extended offset) bytes }
 {
@@ -299,6 +317,7 @@ fn reads_pointer(caps: &Caps, frame: &Frame, insn: &Insn) -> bool
 }
 
 /// A load that isn't that of a known slot reads a part of a pointer.
+#[inline(always)]
 fn loads_part(caps: &Caps, frame: &Frame, base: Register, offset: i16, bytes: usize) -> bool
     ensures { result ≡ (not (is_some (kept_kind frame.now (kind_at frame.now base) (extended offset) bytes)) && load_meets Content.Pointer caps.now frame.now (kind_at frame.now base) (extended offset) bytes) }
 {
@@ -306,7 +325,9 @@ fn loads_part(caps: &Caps, frame: &Frame, base: Register, offset: i16, bytes: us
         && load_meets(Content::Pointer, caps, frame, base, offset, bytes)
 }
 
-/// Whether the bytes at a distance from what a register points to are a slot of the stack that is known.
+/// Whether the bytes at a distance from what a register points to are a slot of the stack that is
+/// known.
+#[inline(always)]
 fn is_slot(frame: &Frame, base: Register, offset: i16, bytes: usize) -> bool
     ensures { result ≡ is_some (kept_kind frame.now (kind_at frame.now base) (extended offset) bytes) }
 {
@@ -317,6 +338,7 @@ fn is_slot(frame: &Frame, base: Register, offset: i16, bytes: usize) -> bool
 }
 
 /// Whether a load that stays in its region may touch a slot of the stack that has it.
+#[inline(always)]
 fn load_meets(
     content: Content,
     caps: &Caps,
@@ -334,6 +356,7 @@ fn load_meets(
 
 /// It writes into the region that is read only.
 #[rattlefmt::skip]
+#[inline(always)]
 fn writes_read_only(caps: &Caps, frame: &Frame, insn: &Insn) -> bool
     ensures { result ≡ writes_read_only caps.now frame.now insn.now }
 {
@@ -348,6 +371,7 @@ fn writes_read_only(caps: &Caps, frame: &Frame, insn: &Insn) -> bool
 
 /// It calls an id that is no helper's.
 #[rattlefmt::skip]
+#[inline(always)]
 fn calls_unknown(insn: &Insn) -> bool
     ensures { result ≡ calls_unknown insn.now }
 {
@@ -374,6 +398,7 @@ fn passes_wrong_kind(caps: &Caps, frame: &Frame, insn: &Insn) -> bool
 
 /// It calls a helper that may change the object, in a method that may not.
 #[rattlefmt::skip]
+#[inline(always)]
 fn writes_in_reader(caps: &Caps, insn: &Insn) -> bool
     ensures { result ≡ writes_in_reader caps.now insn.now }
 {
@@ -390,6 +415,7 @@ fn writes_in_reader(caps: &Caps, insn: &Insn) -> bool
 
 /// It leaves the method with a pointer in register 0.
 #[rattlefmt::skip]
+#[inline(always)]
 fn returns_pointer(frame: &Frame, insn: &Insn) -> bool
     ensures { result ≡ returns_pointer frame.now insn.now }
 {

@@ -21,10 +21,12 @@ impl Domain for Bits {
 
     ghost refines = { BitsRefine };
 
+    #[inline(always)]
     fn top() -> Self {
         rows::every()
     }
 
+    #[inline(always)]
     fn constant(n: u64) -> Self {
         Bits {
             value: n,
@@ -32,6 +34,7 @@ impl Domain for Bits {
         }
     }
 
+    #[inline(always)]
     fn join(self, other: Self) -> Self {
         rows::known(
             self.value,
@@ -39,6 +42,7 @@ impl Domain for Bits {
         )
     }
 
+    #[inline(always)]
     fn is_below(self, other: Self) -> bool {
         rows::without(self.unknown, other.unknown) == 0
             && rows::without(self.value, other.unknown) == other.value
@@ -57,6 +61,7 @@ impl Domain for Bits {
         }
     }
 
+    #[inline(always)]
     fn refine(fact: Fact, left: Self, right: Self) -> Option<(Self, Self)> {
         match fact {
             Fact::Same => edges::same(left, right),

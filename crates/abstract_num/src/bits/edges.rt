@@ -5,6 +5,7 @@ use crate::bits::Bits;
 use crate::bits::rows::without;
 use crate::fact::Fact;
 
+#[inline(always)]
 pub(super) fn same(left: Bits, right: Bits) -> Option<(Bits, Bits)>
     ensures { BitsRefine Fact.Same left right result }
 {
@@ -22,6 +23,7 @@ pub(super) fn same(left: Bits, right: Bits) -> Option<(Bits, Bits)>
     Some((both, both))
 }
 
+#[inline(always)]
 pub(super) fn meets(left: Bits, right: Bits) -> Option<(Bits, Bits)>
     ensures { BitsRefine Fact.Meets left right result }
 {
@@ -32,6 +34,7 @@ pub(super) fn meets(left: Bits, right: Bits) -> Option<(Bits, Bits)>
     }
 }
 
+#[inline(always)]
 pub(super) fn none_of(left: Bits, right: Bits, c: u64) -> Option<(Bits, Bits)>
     ensures { BitsRefine (Fact.NoneOf c) left right result }
 {

@@ -8,6 +8,7 @@ use crate::bits::Bits;
 use crate::row::Row;
 
 /// `n` with the bits of `mask` cleared.
+#[inline(always)]
 pub(super) fn without(n: u64, mask: u64) -> u64
     ensures { result ≡ clear n mask }
 {
@@ -15,6 +16,7 @@ pub(super) fn without(n: u64, mask: u64) -> u64
 }
 
 /// The bits of `value`, but for those of `unknown`.
+#[inline(always)]
 pub(super) fn known(value: u64, unknown: u64) -> Bits
     ensures { IsMask result (unknown_first unknown value) }
 {
@@ -25,6 +27,7 @@ pub(super) fn known(value: u64, unknown: u64) -> Bits
 }
 
 /// The bits of `unknown`, but for those of `value`, are unknown.
+#[inline(always)]
 pub(super) fn unless(value: u64, unknown: u64) -> Bits
     ensures { IsMask result (value_first value unknown) }
 {
@@ -35,6 +38,7 @@ pub(super) fn unless(value: u64, unknown: u64) -> Bits
 }
 
 /// Every number.
+#[inline(always)]
 pub(super) fn every() -> Bits
     ensures { IsMask result unknown }
 {
@@ -44,6 +48,7 @@ pub(super) fn every() -> Bits
     }
 }
 
+#[inline(always)]
 pub(super) fn and(left: Bits, right: Bits) -> Bits
     ensures { IsMask result (bits_row Row.And left.value left.unknown right.value right.unknown) }
 {
@@ -53,18 +58,21 @@ pub(super) fn and(left: Bits, right: Bits) -> Bits
     )
 }
 
+#[inline(always)]
 pub(super) fn or(left: Bits, right: Bits) -> Bits
     ensures { IsMask result (bits_row Row.Or left.value left.unknown right.value right.unknown) }
 {
     unless(left.value | right.value, left.unknown | right.unknown)
 }
 
+#[inline(always)]
 pub(super) fn xor(left: Bits, right: Bits) -> Bits
     ensures { IsMask result (bits_row Row.Xor left.value left.unknown right.value right.unknown) }
 {
     known(left.value ^ right.value, left.unknown | right.unknown)
 }
 
+#[inline(always)]
 pub(super) fn lsh(left: Bits, by: u32) -> Bits
     ensures { IsMask result (bits_row (Row.LshBy by) left.value left.unknown 0 0) }
 {
@@ -74,6 +82,7 @@ pub(super) fn lsh(left: Bits, by: u32) -> Bits
     }
 }
 
+#[inline(always)]
 pub(super) fn rsh(left: Bits, by: u32) -> Bits
     ensures { IsMask result (bits_row (Row.RshBy by) left.value left.unknown 0 0) }
 {
@@ -84,12 +93,14 @@ pub(super) fn rsh(left: Bits, by: u32) -> Bits
 }
 
 /// `n` shifted to the right with its sign.
+#[inline(always)]
 fn shifted_signed(n: u64, by: u32) -> u64
     ensures { result ≡ arsh (by % 64) n }
 {
     (n.cast_signed() >> (by % 64)).cast_unsigned()
 }
 
+#[inline(always)]
 pub(super) fn arsh(left: Bits, by: u32) -> Bits
     ensures { IsMask result (bits_row (Row.ArshBy by) left.value left.unknown 0 0) }
 {
@@ -99,6 +110,7 @@ pub(super) fn arsh(left: Bits, by: u32) -> Bits
     }
 }
 
+#[inline(always)]
 pub(super) fn cut(left: Bits) -> Bits
     ensures { IsMask result (bits_row Row.Cut left.value left.unknown 0 0) }
 {

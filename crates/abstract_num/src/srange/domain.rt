@@ -21,10 +21,12 @@ impl Domain for SRange {
 
     ghost refines = { SRangeRefines };
 
+    #[inline(always)]
     fn top() -> Self {
         rows::every()
     }
 
+    #[inline(always)]
     fn constant(n: u64) -> Self {
         SRange {
             low: n.cast_signed(),
@@ -32,6 +34,7 @@ impl Domain for SRange {
         }
     }
 
+    #[inline(always)]
     fn join(self, other: Self) -> Self {
         SRange {
             low: self.low.min(other.low),
@@ -39,6 +42,7 @@ impl Domain for SRange {
         }
     }
 
+    #[inline(always)]
     fn is_below(self, other: Self) -> bool {
         other.low <= self.low && self.high <= other.high
     }
@@ -51,6 +55,7 @@ impl Domain for SRange {
         }
     }
 
+    #[inline(always)]
     fn refine(fact: Fact, left: Self, right: Self) -> Option<(Self, Self)> {
         match fact {
             Fact::Same => edges::same(left, right),

@@ -8,6 +8,7 @@ use crate::fact::Fact;
 use crate::srange::SRange;
 
 /// The ranges between the ends, or none where two ends cross.
+#[inline(always)]
 fn between(low: i64, high: i64, other_low: i64, other_high: i64) -> Option<(SRange, SRange)>
     ensures { IsRefined (crosses ((low, high), (other_low, other_high))) (AreReaches ((low, high), (other_low, other_high))) result }
 {
@@ -25,6 +26,7 @@ fn between(low: i64, high: i64, other_low: i64, other_high: i64) -> Option<(SRan
 }
 
 /// The number after `n`.
+#[inline(always)]
 fn next(n: i64) -> i64
     requires { n <ℤ pos (2 ^ 63 - 1) }
     ensures { result ≡ n +ℤ pos 1 }
@@ -33,6 +35,7 @@ fn next(n: i64) -> i64
 }
 
 /// The number before `n`.
+#[inline(always)]
 fn previous(n: i64) -> i64
     requires { negsuc (2 ^ 63 - 1) <ℤ n }
     ensures { result ≡ n -ℤ pos 1 }
@@ -41,6 +44,7 @@ fn previous(n: i64) -> i64
 }
 
 /// The low end of the numbers from `low` on that are above `other`.
+#[inline(always)]
 fn least_above(low: i64, other: i64) -> i64
     requires { other <ℤ pos (2 ^ 63 - 1) }
     ensures { result ≡ int_max low (other +ℤ pos 1) }
@@ -49,6 +53,7 @@ fn least_above(low: i64, other: i64) -> i64
 }
 
 /// The high end of the numbers up to `high` that are below `other`.
+#[inline(always)]
 fn greatest_below(high: i64, other: i64) -> i64
     requires { negsuc (2 ^ 63 - 1) <ℤ other }
     ensures { result ≡ int_min high (other -ℤ pos 1) }
@@ -56,6 +61,7 @@ fn greatest_below(high: i64, other: i64) -> i64
     high.min(previous(other))
 }
 
+#[inline(always)]
 pub(super) fn same(left: SRange, right: SRange) -> Option<(SRange, SRange)>
     ensures { SRangeRefines Fact.Same left right result }
 {
@@ -64,6 +70,7 @@ pub(super) fn same(left: SRange, right: SRange) -> Option<(SRange, SRange)>
     between(low, high, low, high)
 }
 
+#[inline(always)]
 pub(super) fn above(left: SRange, right: SRange) -> Option<(SRange, SRange)>
     ensures { SRangeRefines Fact.SignedAbove left right result }
 {
@@ -78,6 +85,7 @@ pub(super) fn above(left: SRange, right: SRange) -> Option<(SRange, SRange)>
     )
 }
 
+#[inline(always)]
 pub(super) fn at_least(left: SRange, right: SRange) -> Option<(SRange, SRange)>
     ensures { SRangeRefines Fact.SignedAtLeast left right result }
 {
@@ -90,6 +98,7 @@ pub(super) fn at_least(left: SRange, right: SRange) -> Option<(SRange, SRange)>
 }
 
 /// The low end, moved where it is `c`.
+#[inline(always)]
 fn raised(low: i64, c: i64) -> i64
     requires { low ≡ c → low <ℤ pos (2 ^ 63 - 1) }
     ensures { result ≡ low +ℤ if_at low c }
@@ -98,6 +107,7 @@ fn raised(low: i64, c: i64) -> i64
 }
 
 /// The high end, moved where it is `c`.
+#[inline(always)]
 fn lowered(high: i64, c: i64) -> i64
     requires { high ≡ c → negsuc (2 ^ 63 - 1) <ℤ high }
     ensures { result ≡ high -ℤ if_at high c }
@@ -105,6 +115,7 @@ fn lowered(high: i64, c: i64) -> i64
     if high == c { previous(high) } else { high }
 }
 
+#[inline(always)]
 pub(super) fn other_than(left: SRange, right: SRange, c: u64) -> Option<(SRange, SRange)>
     ensures { SRangeRefines (Fact.Not c) left right result }
 {

@@ -6,6 +6,7 @@ use crate::row::Row;
 use crate::srange::SRange;
 
 /// Every number.
+#[inline(always)]
 pub(super) fn every() -> SRange
     ensures { IsReach result all }
 {
@@ -15,6 +16,7 @@ pub(super) fn every() -> SRange
     }
 }
 
+#[inline(always)]
 pub(super) fn add(left: SRange, right: SRange) -> SRange
     ensures { IsReach result (signed_row Row.Add left.low left.high right.low right.high) }
 {
@@ -27,6 +29,7 @@ pub(super) fn add(left: SRange, right: SRange) -> SRange
     SRange { low, high }
 }
 
+#[inline(always)]
 pub(super) fn sub(left: SRange, right: SRange) -> SRange
     ensures { IsReach result (signed_row Row.Sub left.low left.high right.low right.high) }
 {

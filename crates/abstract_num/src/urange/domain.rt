@@ -21,14 +21,17 @@ impl Domain for URange {
 
     ghost refines = { URangeRefines };
 
+    #[inline(always)]
     fn top() -> Self {
         rows::every()
     }
 
+    #[inline(always)]
     fn constant(n: u64) -> Self {
         URange { low: n, high: n }
     }
 
+    #[inline(always)]
     fn join(self, other: Self) -> Self {
         URange {
             low: self.low.min(other.low),
@@ -36,6 +39,7 @@ impl Domain for URange {
         }
     }
 
+    #[inline(always)]
     fn is_below(self, other: Self) -> bool {
         other.low <= self.low && self.high <= other.high
     }
@@ -59,6 +63,7 @@ impl Domain for URange {
         }
     }
 
+    #[inline(always)]
     fn refine(fact: Fact, left: Self, right: Self) -> Option<(Self, Self)> {
         match fact {
             Fact::Same => edges::same(left, right),

@@ -7,6 +7,7 @@ use crate::fact::Fact;
 use crate::urange::URange;
 
 /// The ranges between the ends, or none where two ends cross.
+#[inline(always)]
 fn between(low: u64, high: u64, other_low: u64, other_high: u64) -> Option<(URange, URange)>
     ensures { IsRefined (crosses ((low, high), (other_low, other_high))) (AreSpans ((low, high), (other_low, other_high))) result }
 {
@@ -23,6 +24,7 @@ fn between(low: u64, high: u64, other_low: u64, other_high: u64) -> Option<(URan
     }
 }
 
+#[inline(always)]
 pub(super) fn same(left: URange, right: URange) -> Option<(URange, URange)>
     ensures { URangeRefines Fact.Same left right result }
 {
@@ -31,6 +33,7 @@ pub(super) fn same(left: URange, right: URange) -> Option<(URange, URange)>
     between(low, high, low, high)
 }
 
+#[inline(always)]
 pub(super) fn above(left: URange, right: URange) -> Option<(URange, URange)>
     ensures { URangeRefines Fact.Above left right result }
 {
@@ -45,6 +48,7 @@ pub(super) fn above(left: URange, right: URange) -> Option<(URange, URange)>
     )
 }
 
+#[inline(always)]
 pub(super) fn at_least(left: URange, right: URange) -> Option<(URange, URange)>
     ensures { URangeRefines Fact.AtLeast left right result }
 {
@@ -56,6 +60,7 @@ pub(super) fn at_least(left: URange, right: URange) -> Option<(URange, URange)>
     )
 }
 
+#[inline(always)]
 pub(super) fn other_than(left: URange, right: URange, c: u64) -> Option<(URange, URange)>
     ensures { URangeRefines (Fact.Not c) left right result }
 {

@@ -6,6 +6,7 @@ use crate::row::Row;
 use crate::urange::URange;
 
 /// The range from `low` to `high`.
+#[inline(always)]
 pub(super) fn span(low: u64, high: u64) -> URange
     requires { low ≤ high }
     ensures { IsSpan result (ends low high) }
@@ -14,6 +15,7 @@ pub(super) fn span(low: u64, high: u64) -> URange
 }
 
 /// Every number.
+#[inline(always)]
 pub(super) fn every() -> URange
     ensures { IsSpan result all }
 {
@@ -23,6 +25,7 @@ pub(super) fn every() -> URange
     }
 }
 
+#[inline(always)]
 pub(super) fn add(left: URange, right: URange) -> URange
     ensures { IsSpan result (unsigned_row Row.Add left.low left.high right.low right.high) }
 {
@@ -32,6 +35,7 @@ pub(super) fn add(left: URange, right: URange) -> URange
     }
 }
 
+#[inline(always)]
 pub(super) fn sub(left: URange, right: URange) -> URange
     ensures { IsSpan result (unsigned_row Row.Sub left.low left.high right.low right.high) }
 {
@@ -71,6 +75,7 @@ pub(super) fn rem(left: URange, right: URange) -> URange
 }
 
 /// The greatest number with as many binary digits as `n`.
+#[inline(always)]
 fn filled(n: u64) -> u64
     ensures { result ≡ 2 ^ digits n - 1 }
 {
@@ -81,18 +86,21 @@ fn filled(n: u64) -> u64
     }
 }
 
+#[inline(always)]
 pub(super) fn or(left: URange, right: URange) -> URange
     ensures { IsSpan result (unsigned_row Row.Or left.low left.high right.low right.high) }
 {
     span(left.low.max(right.low), filled(left.high.max(right.high)))
 }
 
+#[inline(always)]
 pub(super) fn xor(left: URange, right: URange) -> URange
     ensures { IsSpan result (unsigned_row Row.Xor left.low left.high right.low right.high) }
 {
     span(0, filled(left.high.max(right.high)))
 }
 
+#[inline(always)]
 pub(super) fn lsh(left: URange, by: u32) -> URange
     ensures { IsSpan result (unsigned_row (Row.LshBy by) left.low left.high 0 0) }
 {
@@ -103,12 +111,14 @@ pub(super) fn lsh(left: URange, by: u32) -> URange
     }
 }
 
+#[inline(always)]
 pub(super) fn rsh(left: URange, by: u32) -> URange
     ensures { IsSpan result (unsigned_row (Row.RshBy by) left.low left.high 0 0) }
 {
     span(left.low >> (by % 64), left.high >> (by % 64))
 }
 
+#[inline(always)]
 pub(super) fn arsh(left: URange, by: u32) -> URange
     ensures { IsSpan result (unsigned_row (Row.ArshBy by) left.low left.high 0 0) }
 {
@@ -119,6 +129,7 @@ pub(super) fn arsh(left: URange, by: u32) -> URange
     }
 }
 
+#[inline(always)]
 pub(super) fn arsh_by_any(left: URange) -> URange
     ensures { IsSpan result (unsigned_row Row.Arsh left.low left.high 0 0) }
 {
@@ -129,6 +140,7 @@ pub(super) fn arsh_by_any(left: URange) -> URange
     }
 }
 
+#[inline(always)]
 pub(super) fn cut(left: URange) -> URange
     ensures { IsSpan result (unsigned_row Row.Cut left.low left.high 0 0) }
 {

@@ -18,7 +18,8 @@ const REQUESTS: u32 = 1_000;
 /// How often a run is made, of which the least times count.
 const RUNS: usize = 20;
 
-/// What a run's parts take: all its requests at the primary, all Reps at their replicas, and all Acks at the primary.
+/// What a run's parts take: all its requests at the primary, all Reps at their replicas, and all
+/// Acks at the primary.
 #[derive(Clone, Copy)]
 struct Nanos {
     request: u128,

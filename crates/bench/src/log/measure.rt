@@ -14,8 +14,8 @@ const REQUESTS: u32 = 65_536;
 /// How often each time is taken, of which the least counts.
 const RUNS: usize = 20;
 
-/// The least times of a replay and of an adoption, where there is a clock, of a full log whose client takes a lock and
-/// gives it back in turn; else both are made once.
+/// The least times of a replay and of an adoption, where there is a clock, of a full log whose
+/// client takes a lock and gives it back in turn; else both are made once.
 pub fn times<C: Clock>(alloc: Global, clock: Option<&C>) -> Result<(Time, Time)> {
     let mut table = ClassTable::new(alloc);
     table.add(load_lock(alloc)?)?;

@@ -25,7 +25,8 @@ pub enum Subject {
     Read { len: u64 },
 }
 
-/// Makes the calls once, and gives the least time that one took of some runs, where there is a clock.
+/// Makes the calls once, and gives the least time that one took of some runs, where there is a
+/// clock.
 pub fn time<C: Clock>(alloc: Global, clock: Option<&C>, subject: Subject) -> Result<Time> {
     let object = object_of(alloc, subject)?;
     let work = Calls {
@@ -55,7 +56,8 @@ impl Work for Calls<'_> {
     }
 }
 
-/// Looks at what was read, of objects that hold zeros: without that, the compiler leaves each read out.
+/// Looks at what was read, of objects that hold zeros: without that, the compiler leaves each read
+/// out.
 fn all_zero(read: &[u8; 64]) -> Result<()> {
     if *read == [0; 64] {
         Ok(())

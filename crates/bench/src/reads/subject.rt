@@ -56,8 +56,8 @@ fn value_of(object: Option<&Object>) -> Result<u64>
 /// The longest value.
 const VALUE: [u8; 4096] = [0x5a; 4096];
 
-/// An object with all data, xattrs and keys that one may have, and values of the most bytes. Its keys are the numbers
-/// from 0 on, two bytes each, the high one first.
+/// An object with all data, xattrs and keys that one may have, and values of the most bytes. Its
+/// keys are the numbers from 0 on, two bytes each, the high one first.
 pub fn full_object(alloc: Global) -> Result<Object> {
     let mut staged = Staged::over(None);
     fill(alloc, &mut staged)?;

@@ -33,7 +33,8 @@ abbrev pub GivesState : {A : Type 0} → Option A → State ℕ → Option (Stat
 GivesState (Some x) after step = step ≡ Some after
 GivesState None after step = step ≡ None
 
--- the step that sets a register to a value and goes on at the next slot; there is none where there is no value
+-- the step that sets a register to a value and goes on at the next slot; there is none where there
+-- is no value
 abbrev pub sets : ℕ → State ℕ → Option ℕ → Option (State ℕ)
 sets d s value = value >>= λ v. after s (set_reg s d v)
 
@@ -61,7 +62,8 @@ helped caps lay h s =
 abbrev pub with_answer : State ℕ → ℕ → State ℕ
 with_answer s n = record s { regs = answered s.regs n }
 
--- a helper's answer, which is still to be put in register 0, and what it left of the state; none where there is no step
+-- a helper's answer, which is still to be put in register 0, and what it left of the state; none
+-- where there is no step
 abbrev pub Answers : Option ℕ → State ℕ → Option (State ℕ) → Type 0
 Answers (Some n) s step = step ≡ Some (with_answer s n)
 Answers None s step = step ≡ None

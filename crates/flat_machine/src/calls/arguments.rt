@@ -32,7 +32,8 @@ pub fn text_in(memory: &Regions, text: Range) -> &[u8]
     }
 }
 
-/// The range of which two registers have the address and the length; `writes` where it is to be written.
+/// The range of which two registers have the address and the length; `writes` where it is to be
+/// written.
 fn range_at(s: &FlatState, writes: bool, register: u8) -> Option<Range>
     requires { register < 255 }
     ensures taken { option_map (λ r. (r.place, r.len)) result ≡ range_at (caps_in s.now) (layout_in s.now) (flat_state s.now) writes register }

@@ -16,13 +16,14 @@ use group_world::Event;
 use pg_log::Request;
 use std::sync::Wait;
 
-/// The places of a queue that clients and nudges leave to what nodes send to one another: above all to what ends a peering,
-/// which nobody sends again before the next nudge.
+/// The places of a queue that clients and nudges leave to what nodes send to one another: above all
+/// to what ends a peering, which nobody sends again before the next nudge.
 const KEPT_PLACES: usize = 256;
 
 impl<N: ClusterName, R: Wait> Running<N, R> {
-    /// Submits a copy of the request to the newest map's primary of its object's group. Full: fewer than 256 places of the
-    /// queue were free, and the request is given back. NoMemory: nothing was submitted.
+    /// Submits a copy of the request to the newest map's primary of its object's group. Full: fewer
+    /// than 256 places of the queue were free, and the request is given back. NoMemory: nothing was
+    /// submitted.
     pub fn ask(&self, sends: &mut Sends<N>, request: &Request) -> Result<(), AskError>
         ensures grew { Grew sends.old sends.new }
         ensures sent { OnOk result (WasSent sends.old sends.new (λ op. op.carried ≡ Plain (ARequest request.now))) }
@@ -49,7 +50,8 @@ impl<N: ClusterName, R: Wait> Running<N, R> {
         )
     }
 
-    /// Whether the queue of the group has more places free than clients and nudges leave to the nodes.
+    /// Whether the queue of the group has more places free than clients and nudges leave to the
+    /// nodes.
     pub(crate) fn has_room(&self, sends: &mut Sends<N>, group: usize) -> bool
         ensures { sends.new ≡ sends.old }
     {

@@ -14,7 +14,8 @@ use placement::NodeId;
 use std::sync::Wait;
 
 impl<N: ClusterName, R: Wait> Running<N, R> {
-    /// Brings what a node sends to whom it is for. It is lost where a queue is full, or memory is refused.
+    /// Brings what a node sends to whom it is for. It is lost where a queue is full, or memory is
+    /// refused.
     pub(crate) fn deliver(&self, sends: &mut Sends<N>, cause: Cause, delivery: Delivery<N>)
         ensures { OnlySent sends.old sends.new (IsOf delivery.group delivery.outgoing) }
     {
@@ -79,7 +80,8 @@ impl<N: ClusterName, R: Wait> Running<N, R> {
         monitors.activate(group, interval).is_ok()
     }
 
-    /// Puts an answer into the client's mailbox, over the one that is there. It is lost where the client has no mailbox.
+    /// Puts an answer into the client's mailbox, over the one that is there. It is lost where the
+    /// client has no mailbox.
     fn post(&self, client: ClientId, post: Post<N>) {
         let place = (client.get() - 1) as usize;
         if let Some(mailbox) = self.mail.get(place) {

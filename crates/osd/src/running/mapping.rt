@@ -12,10 +12,11 @@ use placement::{NodeId, REPLICA_LIMIT};
 use std::sync::Wait;
 
 impl<N: ClusterName, R: Wait> Running<N, R> {
-    /// Makes a map of these up nodes for each group, and gives its epoch. Each acting node of a group whose interval is new
-    /// is handed the map; what a full queue or memory refuses then is lost, and a nudge hands it on later. It refuses by
-    /// the first that applies: `NoneUp`, `Limit` (a number that isn't a node's, or a node twice), `EpochsUsedUp`; or by
-    /// `NoMemory`. The maps are then as before.
+    /// Makes a map of these up nodes for each group, and gives its epoch. Each acting node of a
+    /// group whose interval is new is handed the map; what a full queue or memory refuses then is
+    /// lost, and a nudge hands it on later. It refuses by the first that applies: `NoneUp`, `Limit`
+    /// (a number that isn't a node's, or a node twice), `EpochsUsedUp`; or by `NoMemory`. The maps
+    /// are then as before.
     pub fn new_map(&self, up: &[NodeId]) -> Result<u32, MapError>
         ensures made { IfOk result (WasMade N.config up.now) }
         ensures refused { IfErr result (WasRefused N.config up.now) }

@@ -26,8 +26,9 @@ use std::alloc::{AllocError, Global};
 use std::sync::{Mutex, Wait};
 
 impl<N: ClusterName, R: Wait + Drop> Running<N, R> {
-    /// A cluster by its parts, with the classes that are loaded. Each acting node of each group is handed its map. `play`
-    /// names most clusters; this is for who brings threads that start threads, which a `Scenario` can't.
+    /// A cluster by its parts, with the classes that are loaded. Each acting node of each group is
+    /// handed its map. `play` names most clusters; this is for who brings threads that start
+    /// threads, which a `Scenario` can't.
     ///
     /// The names are those of the parts and of the table.
     #[rattlefmt::skip]
@@ -43,8 +44,9 @@ impl<N: ClusterName, R: Wait + Drop> Running<N, R> {
         requires table { table ≡ N.classes }
         ensures { IfOk result (λ r. r ≡ parts.config) }
     {
-        // The call names the cluster, not a constructor of its parts: a call picks the names of values that are there
-        // already. So classes are loaded before the cluster has a name, and none after.
+        // The call names the cluster, not a constructor of its parts: a call picks the names of
+        // values that are there already. So classes are loaded before the cluster has a name, and
+        // none after.
         let Parts { config, rows, queues, maps } = parts;
         let Rows { board, mut writers, seen } = rows;
         let AllQueues { shards, sends, takes } = queues;

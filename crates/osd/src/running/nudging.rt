@@ -14,12 +14,13 @@ use placement::{NodeId, REPLICA_LIMIT};
 use std::sync::Wait;
 
 impl<N: ClusterName, R: Wait> Running<N, R> {
-    /// Hands the newest map of the group to each acting node of a lower interval, then submits what each acting node sends
-    /// again. A stopped node sends nothing. What it submits is of that group, and no request of a client.
+    /// Hands the newest map of the group to each acting node of a lower interval, then submits what
+    /// each acting node sends again. A stopped node sends nothing. What it submits is of that
+    /// group, and no request of a client.
     ///
-    /// It does nothing where there is no such group, where another nudge of the group is under way, and where an operation
-    /// that the last one submitted isn't served yet. What goes to a node isn't submitted where fewer than 256 places of
-    /// the queue are free.
+    /// It does nothing where there is no such group, where another nudge of the group is under way,
+    /// and where an operation that the last one submitted isn't served yet. What goes to a node
+    /// isn't submitted where fewer than 256 places of the queue are free.
     pub fn nudge(&self, sends: &mut Sends<N>, group: usize)
         ensures grew { Grew sends.old sends.new }
         ensures only { OnlySent sends.old sends.new (IsInternalTo group) }
@@ -129,7 +130,8 @@ impl<N: ClusterName, R: Wait> Running<N, R> {
         }
     }
 
-    /// Whether it takes none of the places that a nudge leaves to the nodes. What goes to the monitors may end a peering.
+    /// Whether it takes none of the places that a nudge leaves to the nodes. What goes to the
+    /// monitors may end a peering.
     fn may_go_out(&self, sends: &mut Sends<N>, group: usize, outgoing: &Outgoing<N>) -> bool
         ensures { sends.new ≡ sends.old }
     {
@@ -139,8 +141,8 @@ impl<N: ClusterName, R: Wait> Running<N, R> {
         }
     }
 
-    /// Brings what a node sends to whom it is for, if memory for it was there. What goes to a node leaves the last places of
-    /// the queue free.
+    /// Brings what a node sends to whom it is for, if memory for it was there. What goes to a node
+    /// leaves the last places of the queue free.
     fn deliver_some(
         &self,
         sends: &mut Sends<N>,

@@ -18,12 +18,13 @@ use placement::NodeId;
 use std::hint::spin_loop;
 use std::sync::Wait;
 
-/// How many shards a worker that found nothing looks at again before it waits. That takes about as long as to wait and to be
-/// woken, and the next operation of a client that calls again and again comes meanwhile.
+/// How many shards a worker that found nothing looks at again before it waits. That takes about as
+/// long as to wait and to be woken, and the next operation of a client that calls again and again
+/// comes meanwhile.
 const SPINS: usize = 128;
 
-/// What a gate gets of an operation: for a client's request the client's number times 2^32 and the request's number, else
-/// 0.
+/// What a gate gets of an operation: for a client's request the client's number times 2^32 and the
+/// request's number, else 0.
 fn gate_number(carried: &Carried) -> u64
     ensures { result ≡ gate_number carried.now }
 {
@@ -47,19 +48,21 @@ fn next_shard(shard: usize, shards: usize) -> usize
 }
 
 impl<N: ClusterName, R: Wait> Running<N, R> {
-    /// Serves as a worker until `finish`. It returns at once where the number is no worker's, or was served already.
+    /// Serves as a worker until `finish`. It returns at once where the number is no worker's, or
+    /// was served already.
     pub fn serve<G: Gate>(&self, worker: usize, gate: &G) {
         self.serve_with(worker, gate, &PassAll);
     }
 
-    /// Serves as a worker until `finish`, under a fate. It returns at once where the number is no worker's, or was served
-    /// already.
+    /// Serves as a worker until `finish`, under a fate. It returns at once where the number is no
+    /// worker's, or was served already.
     pub fn serve_with<G: Gate, F: Fate>(&self, worker: usize, gate: &G, fate: &F) {
         let Some(mut worker) = self.worker(worker) else {
             return;
         };
         for _ in self.rt.forever() {
-            // The count comes first: `finish` sets its flag before it raises the count, so one of the two shows it.
+            // The count comes first: `finish` sets its flag before it raises the count, so one of
+            // the two shows it.
             let count = self.bell.count(&self.rt);
             if self.bell.is_finished() {
                 break;
@@ -80,8 +83,8 @@ impl<N: ClusterName, R: Wait> Running<N, R> {
         self.workers.get(number)?.take(&self.rt)
     }
 
-    /// Takes an operation of each shard, beginning at the worker's own number modulo the number of shards. Answers whether
-    /// there was one.
+    /// Takes an operation of each shard, beginning at the worker's own number modulo the number of
+    /// shards. Answers whether there was one.
     fn round<G: Gate, F: Fate>(&self, worker: &mut Worker<N>, gate: &G, fate: &F) -> bool
         ensures { OnlySent worker.old.sends worker.new.sends IsAny }
     {
@@ -96,8 +99,8 @@ impl<N: ClusterName, R: Wait> Running<N, R> {
         found
     }
 
-    /// Looks at the shards again for a while. Answers whether one that nobody serves may have an operation, or the workers are
-    /// to end.
+    /// Looks at the shards again for a while. Answers whether one that nobody serves may have an
+    /// operation, or the workers are to end.
     fn finds_work(&self, worker: &mut Worker<N>) -> bool {
         let shards = self.shards.count();
         for look in 0..SPINS {
@@ -111,8 +114,9 @@ impl<N: ClusterName, R: Wait> Running<N, R> {
         self.bell.is_finished()
     }
 
-    /// Takes an operation of a shard and serves it. Answers whether there was one. A shard is served by one worker at a time,
-    /// so that what nodes send arrives in its order; one that another worker serves is skipped.
+    /// Takes an operation of a shard and serves it. Answers whether there was one. A shard is
+    /// served by one worker at a time, so that what nodes send arrives in its order; one that
+    /// another worker serves is skipped.
     fn take_turn<G: Gate, F: Fate>(
         &self,
         worker: &mut Worker<N>,
@@ -126,8 +130,8 @@ impl<N: ClusterName, R: Wait> Running<N, R> {
         if worker.takes.is_empty(&self.shards, shard) {
             return false;
         }
-        // Two workers at one shard could bring a member the second of two Reps first. It ignores that one, and only a nudge
-        // mends that.
+        // Two workers at one shard could bring a member the second of two Reps first. It ignores
+        // that one, and only a nudge mends that.
         if !self.schedule.claim(shard) {
             return false;
         }
@@ -209,8 +213,9 @@ impl<N: ClusterName, R: Wait> Running<N, R> {
         self.send(worker, fate, delivery);
     }
 
-    /// What a node's part in a group makes of what reaches it: what goes out by a turn of its cell, or nothing where it is lost.
-    /// What reaches a stopped node is lost, and so is what memory is refused to.
+    /// What a node's part in a group makes of what reaches it: what goes out by a turn of its cell,
+    /// or nothing where it is lost. What reaches a stopped node is lost, and so is what memory is
+    /// refused to.
     fn handle(&self, group: usize, node: NodeId, carried: Carried) -> Vec<Option<Outgoing<N>>>
         ensures { IsLostOrTurn N.classes carried result.items }
     {

@@ -37,7 +37,8 @@ impl<C: Classes> GroupNode<C> {
         if !self.is_at(interval, Status::Asking) {
             return Ok(Vec::new(self.alloc));
         }
-        // What is sent is made first, since a refusal is to leave the node as it was. It shares the list.
+        // What is sent is made first, since a refusal is to leave the node as it was. It shares the
+        // list.
         let adopted = installing(self.alloc, self.number, self.interval, &self.members, &list)?;
         if !self.take_list(table, &list)? {
             return Ok(Vec::new(self.alloc));
@@ -45,8 +46,9 @@ impl<C: Classes> GroupNode<C> {
         Ok(adopted.installs(self))
     }
 
-    /// Whether it can take a list: the list can be run, and begins with what is committed. It runs and changes nothing. A
-    /// beginning of the own log can be run, since the log can: that costs a comparison, and no index of the list.
+    /// Whether it can take a list: the list can be run, and begins with what is committed. It runs
+    /// and changes nothing. A beginning of the own log can be run, since the log can: that costs a
+    /// comparison, and no index of the list.
     pub(crate) fn can_take(&self, table: &ClassTable, list: &[Request]) -> Result<bool, HandleError>
         requires { IsLegalBy table.now C.classes self.now.state.log }
         ensures ok { IfOk result (λ can. can ≡ is_usable table.now self.now.state list.now) }
@@ -183,8 +185,8 @@ fn each_at(alloc: Global, nodes: &[NodeId], length: usize) -> Result<Vec<usize>,
     Ok(lengths)
 }
 
-/// Makes a log a received list, if the list is legal, and says whether. Else, and at an error, nothing changes. Log and
-/// list are at least as long as the committed list.
+/// Makes a log a received list, if the list is legal, and says whether. Else, and at an error,
+/// nothing changes. Log and list are at least as long as the committed list.
 fn become_list<C: Classes>(
     table: &ClassTable,
     group: &mut Group<C>,

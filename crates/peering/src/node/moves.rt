@@ -15,7 +15,8 @@ use pg_log::{ClassTable, Classes, Group, Requests};
 use placement::{NodeId, has};
 use std::alloc::Global;
 
-/// What a node is to do at a map: its new status if it moves, who has installed then, and what it sends.
+/// What a node is to do at a map: its new status if it moves, who has installed then, and what it
+/// sends.
 pub(crate) struct Arrival {
     pub status: Option<Status>,
     pub joined: Vec<NodeId>,
@@ -52,7 +53,8 @@ impl Arrival {
         sent
     }
 
-    /// Has a node install the list that it took as its log, and gives what it sends. It takes no memory.
+    /// Has a node install the list that it took as its log, and gives what it sends. It takes no
+    /// memory.
     pub(crate) fn installs<C: Classes>(self, node: &mut GroupNode<C>) -> Vec<Packet>
         ensures number { node.new.number ≡ node.old.number }
         ensures state { node.new.state ≡ record (node.old.state) { status = Status.Installing; joined = self.joined.items; acked = [] } }
@@ -164,7 +166,7 @@ impl<C: Classes> GroupNode<C> {
         if is_waiting(self.status_after(arrival.status)) {
             return self.install_first(table, sender, map, &list, arrival);
         }
-        // An unusable list is ignored whole, the move to its map too: no reachable world sends one.
+        // An unusable list is ignored whole, the move to its map too.
         if !self.can_take(table, list.items())? {
             return Ok(Vec::new(self.alloc));
         }
@@ -196,7 +198,8 @@ impl<C: Classes> GroupNode<C> {
         Ok(sent)
     }
 
-    /// Says of an Install that it has installed, if it has once it has moved. It takes nothing of the list.
+    /// Says of an Install that it has installed, if it has once it has moved. It takes nothing of
+    /// the list.
     fn install_again(
         &mut self,
         sender: Party,

@@ -12,8 +12,8 @@ use placement::NodeId;
 use std::alloc::Global;
 
 impl<C: Classes> GroupNode<C> {
-    /// The messages that it sent in its interval and that no answer covers, members in acting order (of Query those of
-    /// the interval before), places rising. It refuses by `NoMemory` alone.
+    /// The messages that it sent in its interval and that no answer covers, members in acting order
+    /// (of Query those of the interval before), places rising. It refuses by `NoMemory` alone.
     #[tactic(auto, using(crate::proofs::Raising::reps_same))]
     pub fn resend(&self) -> Result<Messages, HandleError>
         ensures ok { IfOk result (λ sent. sent ≡ unanswered self.now.number self.now.state) }
@@ -38,7 +38,8 @@ impl<C: Classes> GroupNode<C> {
         Ok(Messages::new(sent))
     }
 
-    /// Install to the members that haven't installed, which share the list that was adopted, and AskActivate if all have.
+    /// Install to the members that haven't installed, which share the list that was adopted, and
+    /// AskActivate if all have.
     fn installs_again(&self) -> Result<Vec<Packet>, HandleError>
         ensures ok { IfOk result (λ v. v.items ≡ unanswered_in self.now.number self.now.state Status.Installing) }
         ensures err { IfErr result (λ e. e ≡ HandleError.NoMemory) }

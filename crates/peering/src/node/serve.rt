@@ -88,8 +88,8 @@ impl<C: Classes> GroupNode<C> {
         ensures err { OnErr result (self.new ≡ self.old) }
         ensures why { IfErr result (λ e. IsRefusal (request_at table.now self.old.number self.old.state request None) e) }
     {
-        // It runs before anything is sent, and each message is built before the entry is kept: so refusals 1 to 7 come
-        // before 8, and a refusal leaves the node as it was.
+        // It runs before anything is sent, and each message is built before the entry is kept: so
+        // refusals 1 to 7 come before 8, and a refusal leaves the node as it was.
         let entry = self.next(table, request)?;
         self.keep_next(table, entry)
     }
@@ -123,7 +123,8 @@ impl<C: Classes> GroupNode<C> {
         Ok(Commit { acked, point, sent })
     }
 
-    /// The entry of a new request for the others, and the Replies to what is committed with it, up to a place.
+    /// The entry of a new request for the others, and the Replies to what is committed with it, up
+    /// to a place.
     fn sent_with(
         &self,
         table: &ClassTable,
@@ -217,8 +218,8 @@ impl<C: Classes> GroupNode<C> {
         }
     }
 
-    /// Puts the request of a Rep at its place, if it has installed and the request may follow, and gives the length to
-    /// acknowledge, if any.
+    /// Puts the request of a Rep at its place, if it has installed and the request may follow, and
+    /// gives the length to acknowledge, if any.
     fn takes_rep(&mut self, table: &ClassTable, rep: Rep) -> Result<Option<usize>, HandleError>
         requires { IsPrefix table.now C.classes }
         ensures number { OnOk result (self.new.number ≡ self.old.number) }

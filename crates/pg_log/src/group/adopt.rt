@@ -21,13 +21,15 @@ use std::mem;
 use txn::undo;
 
 impl<C: Classes> Group<C> {
-    /// Makes the log this list: gives the length of the beginning that the old log and the list have in common.
-    /// What the log has past it is undone, the last entry first, and only the list's rest is run. It refuses as
-    /// `replay` refuses the list, by a request of the rest. A refusal leaves the group as it was.
+    /// Makes the log this list: gives the length of the beginning that the old log and the list
+    /// have in common. What the log has past it is undone, the last entry first, and only the
+    /// list's rest is run. It refuses as `replay` refuses the list, by a request of the rest. A
+    /// refusal leaves the group as it was.
     ///
-    /// The table is that of the earlier calls, or that one with classes added. It costs a comparison of the lists,
-    /// and what the entries past the common beginning and the requests of the rest cost: a copy of the objects is a
-    /// pointer, and entries and index of the common beginning stay where they are.
+    /// The table is that of the earlier calls, or that one with classes added. It costs a
+    /// comparison of the lists, and what the entries past the common beginning and the requests of
+    /// the rest cost: a copy of the objects is a pointer, and entries and index of the common
+    /// beginning stay where they are.
     pub fn adopt(&mut self, table: &ClassTable, list: &[Request]) -> Result<usize, LogError>
         requires { IsPrefix table.now C.classes }
         ensures common { IfOk result (λ k. IsCommonBeginning self.old list.now k) }
@@ -134,7 +136,8 @@ impl<C: Classes> Group<C> {
         Ok(())
     }
 
-    /// Runs the requests of a list from a place on, after those before it. At a refusal those run stay.
+    /// Runs the requests of a list from a place on, after those before it. At a refusal those run
+    /// stay.
     fn extend(
         log: &mut Log,
         table: &ClassTable,

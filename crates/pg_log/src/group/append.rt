@@ -24,16 +24,17 @@ use std::alloc::Global;
 use txn::apply;
 
 impl<C: Classes> Group<C> {
-    /// Runs a request and logs it: gives its place. A logged pair of client and number gives its old place and changes
-    /// nothing, whatever else the request holds, also on a full log. It refuses by, the first that applies: `LogFull`
-    /// at 65,536 entries; `StaleNumber` if a greater number of the client is logged; `NoClass`, `NoMethod` and
-    /// `InputTooLong` by the given table; `NoMemory`. A refusal leaves the group as it was.
+    /// Runs a request and logs it: gives its place. A logged pair of client and number gives its
+    /// old place and changes nothing, whatever else the request holds, also on a full log. It
+    /// refuses by, the first that applies: `LogFull` at 65,536 entries; `StaleNumber` if a greater
+    /// number of the client is logged; `NoClass`, `NoMethod` and `InputTooLong` by the given table;
+    /// `NoMemory`. A refusal leaves the group as it was.
     ///
     /// The table is that of the earlier calls, or that one with classes added.
     ///
-    /// It costs the call that it runs, a logarithm of the number of clients and one of the number of objects; no object
-    /// is copied. A logged pair runs nothing, and costs a logarithm of the number of clients and one of the client's
-    /// requests.
+    /// It costs the call that it runs, a logarithm of the number of clients and one of the number
+    /// of objects; no object is copied. A logged pair runs nothing, and costs a logarithm of the
+    /// number of clients and one of the client's requests.
     pub fn append(&mut self, table: &ClassTable, request: Request) -> Result<usize, LogError>
         requires { IsPrefix table.now C.classes }
         // The answer by the list; want of memory only where the request would be added.
@@ -68,9 +69,9 @@ impl<C: Classes> Group<C> {
         self.keep(entry)
     }
 
-    /// The entry that a request would be, with its reply and what it would do to its object. It changes nothing, and
-    /// refuses as `append` does if the request's pair isn't logged; a pair that is logged is `StaleNumber`, on a full
-    /// log `LogFull`. It costs the call.
+    /// The entry that a request would be, with its reply and what it would do to its object. It
+    /// changes nothing, and refuses as `append` does if the request's pair isn't logged; a pair
+    /// that is logged is `StaleNumber`, on a full log `LogFull`. It costs the call.
     ///
     /// The table is that of the earlier calls, or that one with classes added.
     pub fn next_entry(&self, table: &ClassTable, request: Request) -> Result<Entry, LogError>
@@ -107,8 +108,9 @@ impl<C: Classes> Group<C> {
         run_after(&self.log, table, request)
     }
 
-    /// Adds an entry that may follow the log, as `next_entry` gives it, and gives its place. It refuses by `NoMemory`
-    /// alone, and then leaves the group as it was: what grows comes first, the log, the index and the objects.
+    /// Adds an entry that may follow the log, as `next_entry` gives it, and gives its place. It
+    /// refuses by `NoMemory` alone, and then leaves the group as it was: what grows comes first,
+    /// the log, the index and the objects.
     pub fn keep(&mut self, entry: Entry) -> Result<usize, LogError>
         requires { IsNextEntry C.classes self.old entry }
         ensures ok { IfOk result (λ place. (place ≡ length self.old) × (self.new ≡ self.old ++ entry.request ∷ [])) }
@@ -134,7 +136,8 @@ impl<C: Classes> Group<C> {
         Ok(())
     }
 
-    /// Makes room for an entry that may follow a log, and changes the log's objects and index to those with it.
+    /// Makes room for an entry that may follow a log, and changes the log's objects and index to
+    /// those with it.
     fn admit(log: &mut Log, entry: &Entry) -> Result<(), LogError>
         requires kept { KeepsLog C.classes log.old }
         requires next { IsNextEntry C.classes (requests_of log.old.entries.items) entry.now }
@@ -174,7 +177,8 @@ impl<C: Classes> Group<C> {
     }
 }
 
-/// What a request that may follow a log makes of its object. The list is any one of the log's length and index.
+/// What a request that may follow a log makes of its object. The list is any one of the log's
+/// length and index.
 pub(crate) fn run_after(
     log: &Log,
     table: &ClassTable,

@@ -1,4 +1,5 @@
-//! A session that comes to its last number. Nobody serves it: what it calls is taken by a queue and isn't answered.
+//! A session that comes to its last number. Nobody serves it: what it calls is taken by a queue and
+//! isn't answered.
 
 use crate::{ClassId, Cluster, ClusterName, Config, ExecError, Reply, Running, Scenario, Session};
 use object_store::ObjectName;
@@ -41,8 +42,8 @@ impl Scenario for LastNumber {
     }
 }
 
-/// Whether a new session, told that it has used up all numbers but one, makes one call more, repeats it, and makes no
-/// other.
+/// Whether a new session, told that it has used up all numbers but one, makes one call more,
+/// repeats it, and makes no other.
 fn uses_up<N: ClusterName, R: Wait>(
     session: &mut Session<'_, N, R>,
     alloc: Global,

@@ -1,4 +1,5 @@
--- Where a message that is sent again is looked for: the numbers of all messages lie in buckets, equal messages' in one.
+-- Where a message that is sent again is looked for: the numbers of all messages lie in buckets,
+-- equal messages' in one.
 use Rattle.std.specs.Prelude.{◌≡◌, ◌&&◌, ℕ, suc, ◌<◌, ◌%◌, ◌==◌, Bool, false, List, [], ◌∷◌, length, Option, Some, None, if◌then◌else◌, slice_index_or}
 use Rattle.group_world.specs.declared.event.Event.{Event}
 use Rattle.group_world.specs.declared.event.Event.TheVariants.{Request as ARequest, Map as AMap, Message as AMessage}
@@ -34,7 +35,8 @@ kept_number_from number p (k ∷ ks) = if is_kept_as p k then number else kept_n
 abbrev pub kept_number : List KeptMessage → Packet → ℕ
 kept_number sent p = kept_number_from 1 p sent
 
--- the bucket of a message: by its interval or, of a request, by its place; the last is for those that are never sent again
+-- the bucket of a message: by its interval or, of a request, by its place; the last is for those
+-- that are never sent again
 abbrev pub bucket : MessageKind → ℕ
 bucket (Query m) = m.interval % 1024
 bucket (Install m list) = m.interval % 1024

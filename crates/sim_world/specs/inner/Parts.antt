@@ -1,5 +1,5 @@
--- The parts of a played world, and what a line makes of them. Nothing here need be believed: by `Holds`, it is what a line
--- makes of the group's world.
+-- The parts of a played world, and what a line makes of them. Nothing here need be believed: by
+-- `Holds`, it is what a line makes of the group's world.
 use Rattle.std.specs.Prelude.{◌≡◌, Result, Ok, Err, ℕ, zero, suc, ◌-◌, nat_lt, Bool, List, [], ◌∷◌, ◌++◌, length, drop, map, Option, Some, None, if◌then◌else◌, slice_get, slice_set, slice_index_or, replicate, true, false, codes}
 use Rattle.pg_log.specs.Log.{Classes}
 use Rattle.carried.specs.Carried.{carried_as, unpacked_as}

@@ -25,7 +25,8 @@ fn put_methods(rt: &impl Abort, image: &mut Vec<u8>, movs: &[u8]) {
     }
 }
 
-/// The image of 32 methods of the longest names and of 4,096 slots: `mov r0, 0`, and `exit` at the end.
+/// The image of 32 methods of the longest names and of 4,096 slots: `mov r0, 0`, and `exit` at the
+/// end.
 fn largest(rt: &impl Abort, alloc: Global) -> Vec<u8> {
     let movs = [0xb7, 0, 0, 0, 0, 0, 0, 0]
         .repeat(alloc, 4095)

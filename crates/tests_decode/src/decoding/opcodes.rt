@@ -6,7 +6,8 @@ use bpf_decode::{
 use std::alloc::Global;
 use std::process::Abort;
 
-/// Each operation's opcodes: ALU with an immediate and a register, ALU64 with an immediate and a register; its offset.
+/// Each operation's opcodes: ALU with an immediate and a register, ALU64 with an immediate and a
+/// register; its offset.
 const ARITHMETIC: [(Arithmetic, u8, u8, u8, u8, u8); 13] = [
     (Arithmetic::Add, 0x04, 0x0c, 0x07, 0x0f, 0),
     (Arithmetic::Sub, 0x14, 0x1c, 0x17, 0x1f, 0),
@@ -23,7 +24,8 @@ const ARITHMETIC: [(Arithmetic, u8, u8, u8, u8, u8); 13] = [
     (Arithmetic::Arsh, 0xc4, 0xcc, 0xc7, 0xcf, 0),
 ];
 
-/// Each comparison's opcodes: JMP with an immediate and a register, JMP32 with an immediate and a register.
+/// Each comparison's opcodes: JMP with an immediate and a register, JMP32 with an immediate and a
+/// register.
 const COMPARISONS: [(Comparison, u8, u8, u8, u8); 11] = [
     (Comparison::Equal, 0x15, 0x1d, 0x16, 0x1e),
     (Comparison::Greater, 0x25, 0x2d, 0x26, 0x2e),
@@ -38,7 +40,8 @@ const COMPARISONS: [(Comparison, u8, u8, u8, u8); 11] = [
     (Comparison::SignedLessEqual, 0xd5, 0xdd, 0xd6, 0xde),
 ];
 
-/// The first four bytes of an instruction of register 3, and of registers 3 and 9, with an offset's low byte.
+/// The first four bytes of an instruction of register 3, and of registers 3 and 9, with an offset's
+/// low byte.
 fn of_one(opcode: u8, offset: u8) -> [u8; 4] {
     [opcode, 0x03, offset, 0]
 }
@@ -311,7 +314,8 @@ fn no_other_opcode(rt: HostRuntime) {
     }
 }
 
-/// Whether the instruction of an opcode, without other fields than it needs, is written as the same bytes.
+/// Whether the instruction of an opcode, without other fields than it needs, is written as the same
+/// bytes.
 fn is_inverted(alloc: Global, opcode: u8) -> bool {
     let mut bytes = [0; 16];
     bytes[0] = opcode;
@@ -324,8 +328,8 @@ fn is_inverted(alloc: Global, opcode: u8) -> bool {
     }
 }
 
-/// What the table by opcode reads, the table by instruction writes. Opcodes of arithmetic are 11 times 4, of comparisons
-/// 11 times 4, and there are 29 others.
+/// What the table by opcode reads, the table by instruction writes. Opcodes of arithmetic are 11
+/// times 4, of comparisons 11 times 4, and there are 29 others.
 #[test]
 fn tables_invert_each_other(rt: HostRuntime) {
     let mut count = 0u64;
@@ -338,7 +342,8 @@ fn tables_invert_each_other(rt: HostRuntime) {
     assert!(rt; count == 117);
 }
 
-/// Whether an instruction may have the destination 2, the source 2, the offset 4, another immediate.
+/// Whether an instruction may have the destination 2, the source 2, the offset 4, another
+/// immediate.
 type Fields = (bool, bool, bool, bool);
 
 /// Opcodes, and which fields an instruction of theirs may have.
@@ -404,7 +409,8 @@ fn allowed(is_allowed: bool) -> Result<usize, DecodeError> {
     }
 }
 
-/// Whether a slot of those fields is read where that is allowed, and else refused for a field that isn't zero.
+/// Whether a slot of those fields is read where that is allowed, and else refused for a field that
+/// isn't zero.
 fn is_read_if(is_allowed: bool, opcode: u8, registers: u8, offset: u16, imm: u8) -> bool {
     read(opcode, registers, offset, imm) == allowed(is_allowed)
 }

@@ -1,8 +1,8 @@
 use super::lines::{byte, ends_with, is_row, word};
 use std::alloc::Global;
 
-/// The destinations, and the operands in registers: 0, 1, -1, the least and the greatest signed number, 2^31, 2^32 - 1,
-/// 2^31 - 1.
+/// The destinations, and the operands in registers: 0, 1, -1, the least and the greatest signed
+/// number, 2^31, 2^32 - 1, 2^31 - 1.
 const VALUES: [u64; 8] = [
     0,
     1,
@@ -17,8 +17,8 @@ const VALUES: [u64; 8] = [
 /// The immediates: 0, 1, -1, the least and the greatest.
 const IMMEDIATES: [u64; 5] = [0, 1, 0xffff_ffff, 0x8000_0000, 0x7fff_ffff];
 
-/// The comparisons. A line has the opcode, a word for each destination, and in it a digit for each operand: 1 where the
-/// jump is taken.
+/// The comparisons. A line has the opcode, a word for each destination, and in it a digit for each
+/// operand: 1 where the jump is taken.
 const ROWS: &str = "
 1d 10000000 01000000 00100000 00010000 00001000 00000100 00000010 00000001
 15 10000 01000 00100 00000 00000 00000 00000 00001

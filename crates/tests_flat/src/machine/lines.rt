@@ -30,7 +30,8 @@ struct Start<'a> {
     input: &'a [u8],
 }
 
-/// Whether the output and the object after a run are those that two words tell; no words tell of neither.
+/// Whether the output and the object after a run are those that two words tell; no words tell of
+/// neither.
 fn is_left(output: &[u8], object: Option<&Object>, words: &mut SplitWhitespace<'_>) -> bool {
     match words.next() {
         None | Some(";") => output.is_empty() && object.is_none(),
@@ -38,7 +39,8 @@ fn is_left(output: &[u8], object: Option<&Object>, words: &mut SplitWhitespace<'
     }
 }
 
-/// Whether a run ended so: `stuck`, `unfinished`, or the code, the number of steps, the output and the object.
+/// Whether a run ended so: `stuck`, `unfinished`, or the code, the number of steps, the output and
+/// the object.
 fn is_told(ending: &Ending, words: &mut SplitWhitespace<'_>) -> bool {
     let first = word(words);
     match ending {
@@ -96,7 +98,8 @@ fn runs_so(
     }
 }
 
-/// The stack ends at 2^64 - 1; the regions touch, the stack first; they touch, the stack last, from address 0 on.
+/// The stack ends at 2^64 - 1; the regions touch, the stack first; they touch, the stack last, from
+/// address 0 on.
 pub fn three_layouts(caps: Caps) -> [Layout; 3] {
     let (input, output) = (u64::from(caps.in_cap), u64::from(caps.out_cap));
     [
@@ -163,7 +166,8 @@ fn code_and_steps(ending: &Ending) -> Option<(u64, usize)> {
     }
 }
 
-/// Whether the run of code without an object ends with a number in register 0, after that many steps.
+/// Whether the run of code without an object ends with a number in register 0, after that many
+/// steps.
 pub fn ends_with(alloc: Global, code: &[u8], value: u64, counted: usize) -> bool {
     match run_in(alloc, &plain(&INPUT), None, &apart(), code) {
         None => false,
@@ -210,7 +214,8 @@ pub fn short_run(
     }
 }
 
-/// Whether the code of a line, run without an object where no region touches another, comes to what the next words say.
+/// Whether the code of a line, run without an object where no region touches another, comes to what
+/// the next words say.
 fn runs(alloc: Global, line: &str) -> bool {
     let mut words = line.split_whitespace();
     let mut code = [0u8; CODE_ROOM];
@@ -222,8 +227,8 @@ fn capacity(text: &str) -> u16 {
     (number(text) % 65_536) as u16
 }
 
-/// The same beside an object, in three layouts; before the code stand in_cap, out_cap, `w` for a method that may write
-/// or `r`, the object, and the input.
+/// The same beside an object, in three layouts; before the code stand in_cap, out_cap, `w` for a
+/// method that may write or `r`, the object, and the input.
 fn runs_beside(alloc: Global, line: &str) -> bool {
     let mut words = line.split_whitespace();
     let in_cap = capacity(word(&mut words));

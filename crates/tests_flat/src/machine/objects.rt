@@ -1,6 +1,7 @@
 use super::lines::run_all_beside;
 
-/// The helpers `stat`, `truncate`, `remove`, `create` and `caller`. A failed method leaves the object.
+/// The helpers `stat`, `truncate`, `remove`, `create` and `caller`. A failed method leaves the
+/// object.
 const PLAIN: &str = "
 # the length of the data, and none of an absent object
 # call 1; exit

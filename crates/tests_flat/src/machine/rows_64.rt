@@ -1,5 +1,5 @@
-/// The operations on 64 bits. A line has the operation's name, the opcode, the offset field, the destination, and the
-/// result for each operand; all numbers but the offset are hexadecimal.
+/// The operations on 64 bits. A line has the operation's name, the opcode, the offset field, the
+/// destination, and the result for each operand; all numbers but the offset are hexadecimal.
 pub const ROWS: &str = "
 ADD 0f 0 0 0 1 ffffffffffffffff 8000000000000000 7fffffffffffffff 80000000 ffffffff
 ADD 0f 0 1 1 2 0 8000000000000001 8000000000000000 80000001 100000000

@@ -126,7 +126,8 @@ const STORES_BELOW: [u8; 16] = [
     0x7b, 0x2a, 0xf8, 0xfd, 0, 0, 0, 0, 0x95, 0, 0, 0, 0, 0, 0, 0,
 ];
 
-// The output lies right below the stack: the store is done, and the exit is stuck at the unset register 0.
+// The output lies right below the stack: the store is done, and the exit is stuck at the unset
+// register 0.
 #[test]
 fn stores_into_what_lies_below(rt: HostRuntime) {
     let caps = capacities(0, 8, false);

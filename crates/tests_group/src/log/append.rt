@@ -1,6 +1,7 @@
 use super::check;
 
-/// Two clients, the same pair again, and each refusal but a full log; and then what is logged, and the object.
+/// Two clients, the same pair again, and each refusal but a full log; and then what is logged, and
+/// the object.
 const ROWS: &str = "append 1 5 0 f | 0
 append 1 5 0 f | 0
 append 1 5 64 g abcd | 0

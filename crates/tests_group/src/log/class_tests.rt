@@ -4,8 +4,8 @@ use super::super::words::halves;
 use super::table;
 use pg_log::{ClassTable, Request, class_refusal};
 
-/// A request, and why the classes can't run it. A class that isn't loaded comes before a method that there isn't, and
-/// that before a long input.
+/// A request, and why the classes can't run it. A class that isn't loaded comes before a method
+/// that there isn't, and that before a long input.
 const ROWS: &str = "1 1 0 f |
 1 1 0 f abc |
 1 1 2 f abc |

@@ -4,8 +4,8 @@ use super::SUCCEED;
 use std::alloc::Global;
 use std::process::Abort;
 
-/// Fills a group by `append`, by `copy`, and by `replay`. The log is full: it takes no request, and still gives the
-/// place of a logged pair.
+/// Fills a group by `append`, by `copy`, and by `replay`. The log is full: it takes no request, and
+/// still gives the place of a logged pair.
 const FULL: &str = "fill full 1 | 65536
 length | 65536
 append 1 65537 0 f | LogFull

@@ -3,8 +3,8 @@ use super::super::script::go_through;
 use bpf_asm::assemble_class;
 use verifier::verify;
 
-/// `drop` removes the object; `key` sets the omap's key `k` to its input, `xattr` the xattr `k`; `unkey` removes the
-/// key; `write` writes its input at 0.
+/// `drop` removes the object; `key` sets the omap's key `k` to its input, `xattr` the xattr `k`;
+/// `unkey` removes the key; `write` writes its input at 0.
 const TEXT: &str = ".method drop w 0 0
 call 5
 exit
@@ -49,8 +49,9 @@ exit
 const OLD: &str = "1 1 0 write abc; 1 2 0 xattr one; 1 3 0 key two; 1 4 0 key three; 1 5 0 unkey; \
 1 6 0 drop; 1 7 0 key four; 1 8 0 write xyz; 1 9 0 xattr five";
 
-/// Adopts the log before, and then a list that has that many of its entries and what client 2 calls after them; and the
-/// object after, by its data and the values of its xattr and of its key. Worked out by hand.
+/// Adopts the log before, and then a list that has that many of its entries and what client 2 calls
+/// after them; and the object after, by its data and the values of its xattr and of its key. Worked
+/// out by hand.
 const ROWS: &str = "adopt 9 | 0
 adopt 8 | 8
 object | xyz - four

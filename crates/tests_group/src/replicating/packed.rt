@@ -9,8 +9,8 @@ use std::process::Abort;
 /// The list that is packed, of three requests.
 const LIST: &str = "1 1 0 f; 2 1 0 f; 1 2 0 f";
 
-/// What the receiver told and has; and how many requests are left out, how many are packed, and whether the list is
-/// unpacked.
+/// What the receiver told and has; and how many requests are left out, how many are packed, and
+/// whether the list is unpacked.
 const ROWS: &str = "0 | 0 3 unpacked
 1 1 1 0 f | 1 2 unpacked
 2 1 1 0 f; 2 1 0 f; 3 1 0 f | 2 1 unpacked

@@ -9,7 +9,8 @@ use std::alloc::Global;
 use std::process::Abort;
 use verifier::VerifiedClass;
 
-/// An argument of a helper: none, a number, that many bytes from a place of the input on, or of the output.
+/// An argument of a helper: none, a number, that many bytes from a place of the input on, or of the
+/// output.
 #[derive(Clone, Copy)]
 enum Argument {
     Nothing,
@@ -20,8 +21,8 @@ enum Argument {
 
 use Argument::{Input, Nothing, Number, Output};
 
-/// What a call leaves: what it was beside, or nothing, or an object with other data, xattrs or keys. One that it
-/// creates has nothing else.
+/// What a call leaves: what it was beside, or nothing, or an object with other data, xattrs or
+/// keys. One that it creates has nothing else.
 #[derive(Clone, Copy)]
 enum After {
     Same,
@@ -33,7 +34,8 @@ enum After {
 
 use After::{Data, Keys, Removed, Xattrs};
 
-/// A call of a helper beside the object `THERE` or none, its answer, the output and the object afterwards.
+/// A call of a helper beside the object `THERE` or none, its answer, the output and the object
+/// afterwards.
 #[derive(Clone, Copy)]
 struct Row {
     is_there: bool,
@@ -215,7 +217,8 @@ static OTHER_ROWS: [Row; 5] = [
     absent!(15, [Nothing; 2], 7),
 ];
 
-/// That many bytes from a place of a region on, to which the register in the upper half of `base` points.
+/// That many bytes from a place of a region on, to which the register in the upper half of `base`
+/// points.
 #[derive(Clone, Copy)]
 struct Range {
     base: u8,

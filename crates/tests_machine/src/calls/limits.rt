@@ -1,4 +1,5 @@
-//! A call at all limits at once: input and output of 4,096 bytes, and an object that is written to 65,536 bytes.
+//! A call at all limits at once: input and output of 4,096 bytes, and an object that is written to
+//! 65,536 bytes.
 
 use crate::answers::{Expected, Given, answers_once};
 use crate::classes::{Declared, class_of};
@@ -7,8 +8,8 @@ use object_store::{DATA_LIMIT, Object, calls};
 use std::alloc::Global;
 use std::process::Abort;
 
-/// Copies the input's last byte to the output's last, writes the input to the object's last 4,096 bytes, and answers
-/// with all of the output.
+/// Copies the input's last byte to the output's last, writes the input to the object's last 4,096
+/// bytes, and answers with all of the output.
 const LONGEST: [u8; 88] = [
     0x71, 0x14, 0xff, 0x0f, 0, 0, 0, 0, // ldxb r4, [r1+4095]
     0x73, 0x43, 0xff, 0x0f, 0, 0, 0, 0, // stxb [r3+4095], r4
@@ -89,7 +90,8 @@ fn a_call_has_all_output(rt: HostRuntime) {
     assert!(rt; answers(&rt, rt.alloc(), None, Longest::Output));
 }
 
-/// Whether an object has 65,536 bytes, which begin by that many of the one byte, and the rest are of the other.
+/// Whether an object has 65,536 bytes, which begin by that many of the one byte, and the rest are
+/// of the other.
 fn is_full(
     rt: &impl Abort,
     alloc: Global,

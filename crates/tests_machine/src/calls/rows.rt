@@ -8,8 +8,8 @@ use std::alloc::Global;
 use std::process::Abort;
 use verifier::VerifiedClass;
 
-/// A call: the code's slots, what the method declares, the object's data, the input, and the answer: code, output, the
-/// data after, and steps.
+/// A call: the code's slots, what the method declares, the object's data, the input, and the
+/// answer: code, output, the data after, and steps.
 #[derive(Clone, Copy)]
 struct Row {
     name: &'static str,

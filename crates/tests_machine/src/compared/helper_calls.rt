@@ -1,4 +1,5 @@
-//! Programs that call every helper beside every kind of object, with ranges that overlap and ranges of no bytes.
+//! Programs that call every helper beside every kind of object, with ranges that overlap and ranges
+//! of no bytes.
 
 use super::random::Random;
 use super::{PlainRun, verified};
@@ -115,7 +116,8 @@ const NUMBERS: [i32; 8] = [0, 1, 3, 7, 65_535, 65_536, 65_537, -1];
 /// How long the output is; one is too long.
 const OUTPUT_LENGTHS: [i32; 8] = [0, 1, 2, 8, 16, 39, 40, 41];
 
-/// Registers that point to regions which are read, and to those which are written; from the input nothing is accepted.
+/// Registers that point to regions which are read, and to those which are written; from the input
+/// nothing is accepted.
 const READ: [u8; 8] = [6, 6, 6, 7, 7, 10, 10, 6];
 
 const WRITTEN: [u8; 8] = [7, 10, 7, 10, 7, 10, 7, 6];
@@ -216,8 +218,8 @@ fn program(rt: &impl Abort, alloc: Global, seed: u64, id: u32) -> Vec<u8> {
     code
 }
 
-/// Puts the trace and some of the stack into the output, most often puts all of it out, and answers the trace, most
-/// often with no sign.
+/// Puts the trace and some of the stack into the output, most often puts all of it out, and answers
+/// the trace, most often with no sign.
 fn end(rt: &impl Abort, random: &mut Random, code: &mut Vec<u8>) {
     put(
         rt,
@@ -238,7 +240,8 @@ fn end(rt: &impl Abort, random: &mut Random, code: &mut Vec<u8>) {
     put(rt, code, &[slot(0x95, 0, 0, 0)]);
 }
 
-/// Whether a call of the method answers as the plain run does, beside no object and beside each of those.
+/// Whether a call of the method answers as the plain run does, beside no object and beside each of
+/// those.
 fn agrees_beside_all(
     rt: &impl Abort,
     alloc: Global,

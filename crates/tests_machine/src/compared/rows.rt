@@ -256,7 +256,8 @@ fn program(rt: &impl Abort, alloc: Global, seed: u64) -> Vec<u8> {
     code
 }
 
-/// Puts every number into the output, and answers with the whole of it and a code that is zero or positive.
+/// Puts every number into the output, and answers with the whole of it and a code that is zero or
+/// positive.
 fn end(rt: &impl Abort, code: &mut Vec<u8>) {
     put(
         rt,

@@ -1,4 +1,5 @@
-//! Methods that keep numbers and pointers in the stack, overwrite parts of them, and load them again.
+//! Methods that keep numbers and pointers in the stack, overwrite parts of them, and load them
+//! again.
 
 use super::random::Random;
 use super::{DECLARED, PlainRun};
@@ -151,7 +152,8 @@ impl Program {
     }
 }
 
-/// A method of forty steps. It answers with the output and what it added up, as a code that is zero or positive.
+/// A method of forty steps. It answers with the output and what it added up, as a code that is zero
+/// or positive.
 fn code_of(rt: &impl Abort, alloc: Global, seed: u64) -> Vec<u8> {
     let mut random = Random::new(seed);
     let mut program = Program::new(rt, alloc);

@@ -7,7 +7,8 @@ const MONITOR: u64 = 100;
 
 const CLIENT: u64 = 201;
 
-/// Sender, receiver and kind; the interval, of a Reply the request's number; and a length or a place.
+/// Sender, receiver and kind; the interval, of a Reply the request's number; and a length or a
+/// place.
 type Line = (u64, u64, &'static str, u32, usize);
 
 #[rattlefmt::skip]

@@ -240,8 +240,8 @@ fn copy_node<C: Classes>(alloc: Global, node: &GroupNode<C>) -> Option<GroupNode
     }
 }
 
-/// An event at a node, and the same again if memory was refused. None if the node changed then, or is refused
-/// otherwise.
+/// An event at a node, and the same again if memory was refused. None if the node changed then, or
+/// is refused otherwise.
 fn handled<C: Classes>(
     alloc: Global,
     table: &ClassTable,

@@ -1,4 +1,5 @@
-//! A class whose answers are worked out by hand: an object is an account, its first eight bytes are the balance.
+//! A class whose answers are worked out by hand: an object is an account, its first eight bytes are
+//! the balance.
 use bpf_asm::assemble_class;
 use object_store::ObjectName;
 use pg_log::{ClassTable, ClientId, Request, RequestNumber, RequestParts};
@@ -6,8 +7,8 @@ use std::alloc::Global;
 use std::process::Abort;
 use verifier::{VerifiedClass, verify};
 
-/// `put` adds the input's byte to the balance, `take` takes it away; both answer the new balance, as code and as
-/// output. `take` of more than there is answers -28, after it wrote.
+/// `put` adds the input's byte to the balance, `take` takes it away; both answer the new balance,
+/// as code and as output. `take` of more than there is answers -28, after it wrote.
 const CLASS: &str = "
 .method put rw 1 8
 ldxb r6, [r1+0]     ; the amount

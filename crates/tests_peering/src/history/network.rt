@@ -140,7 +140,8 @@ impl<C: Classes> Network<C> {
         self.note_answer(&taken, is_same);
     }
 
-    /// Counts a request that is refused as a stale one, or one that is answered though the log is as it was.
+    /// Counts a request that is refused as a stale one, or one that is answered though the log is
+    /// as it was.
     fn note_answer(&mut self, taken: &Taken, is_same: bool) {
         if let Taken::Sent(sent) = taken {
             count_if(&mut self.reached.answered_again, is_same && *sent > 0);
@@ -211,7 +212,8 @@ impl<C: Classes> Network<C> {
         false
     }
 
-    /// A node sends again what is unanswered: each message is one that was sent before, and is on its way again.
+    /// A node sends again what is unanswered: each message is one that was sent before, and is on
+    /// its way again.
     pub(super) fn send_again<R: Abort>(&mut self, rt: &R, table: &ClassTable, at: usize)
         requires { table.now ≡ C.classes }
     {

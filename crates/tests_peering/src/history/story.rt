@@ -104,7 +104,8 @@ impl<C: Classes> Story<C> {
         self.network.see(rt, table, at, place);
     }
 
-    /// A node stops, unless it is the last one that runs. At times all that is on its way is lost with it.
+    /// A node stops, unless it is the last one that runs. At times all that is on its way is lost
+    /// with it.
     fn stop<R: Abort>(&mut self, rt: &R, table: &ClassTable)
         requires { table.now ≡ C.classes }
     {
@@ -125,8 +126,8 @@ impl<C: Classes> Story<C> {
         }
     }
 
-    /// A client asks: something new, something that was asked before, or, where it is at fault, something else by a
-    /// number that it has used.
+    /// A client asks: something new, something that was asked before, or, where it is at fault,
+    /// something else by a number that it has used.
     fn ask<R: Abort>(&mut self, rt: &R, table: &ClassTable)
         requires { table.now ≡ C.classes }
     {
@@ -136,7 +137,8 @@ impl<C: Classes> Story<C> {
         self.network.ask(rt, table, at, asked);
     }
 
-    /// A message comes, or is lost: the one that is longest on its way, another of these, or any that was ever sent.
+    /// A message comes, or is lost: the one that is longest on its way, another of these, or any
+    /// that was ever sent.
     fn deliver<R: Abort>(&mut self, rt: &R, table: &ClassTable)
         requires { table.now ≡ C.classes }
     {
@@ -274,7 +276,8 @@ impl<R: Abort> GroupWork for History<'_, R> {
     }
 }
 
-/// Makes the history of a seed, on that many nodes and of that many events, and says what it reached.
+/// Makes the history of a seed, on that many nodes and of that many events, and says what it
+/// reached.
 pub(super) fn go_through<R: Abort>(
     rt: &R,
     alloc: Global,

@@ -1,4 +1,5 @@
-//! A plain program that sees nodes and messages after each event, and keeps the one list that all agree on.
+//! A plain program that sees nodes and messages after each event, and keeps the one list that all
+//! agree on.
 use crate::history::account::{Asked, Balances, Said, plain};
 use crate::history::network::Network;
 use crate::history::reached::{Reached, count_if};
@@ -108,8 +109,8 @@ impl Agreed {
         }
     }
 
-    /// One more request is agreed on: an event brought it, and each of its client's before it has a lower number, so
-    /// that no pair of client and number comes twice.
+    /// One more request is agreed on: an event brought it, and each of its client's before it has a
+    /// lower number, so that no pair of client and number comes twice.
     fn agree<R: Abort>(&mut self, rt: &R, request: Asked, interval: u32, brought: &[Asked]) {
         assert!(rt; brought.contains(&request));
         assert!(rt; goes_on(&self.requests, request));
@@ -133,8 +134,8 @@ impl Agreed {
         assert!(rt; is_output(output, wanted.output));
     }
 
-    /// A Reply names a place of the agreed list at which its client's request of that number stands, and says its
-    /// answer.
+    /// A Reply names a place of the agreed list at which its client's request of that number
+    /// stands, and says its answer.
     fn look_at_message<R: Abort>(&self, rt: &R, message: &Message) {
         if let MessageKind::Reply(client, number, place, answer) = &message.kind {
             let agreed = self.requests.get(*place).copied().expect(rt, "a place");
@@ -166,7 +167,8 @@ impl Witness {
         }
     }
 
-    /// Looks at all nodes and at the messages that it hasn't seen yet. `brought` are the requests of all events.
+    /// Looks at all nodes and at the messages that it hasn't seen yet. `brought` are the requests
+    /// of all events.
     pub(super) fn look<C: Classes, R: Abort>(
         &mut self,
         rt: &R,
@@ -185,8 +187,8 @@ impl Witness {
         self.read = sent.len();
     }
 
-    /// A node's committed list is a beginning of the agreed one, or goes on from it; its answers are the plain ones;
-    /// and it never falls.
+    /// A node's committed list is a beginning of the agreed one, or goes on from it; its answers
+    /// are the plain ones; and it never falls.
     fn look_at_list<C: Classes, R: Abort>(
         &mut self,
         rt: &R,

@@ -74,7 +74,8 @@ fn picos(rt: HostRuntime) {
     assert!(rt; picos_each(7, 2) == 3500 && picos_each(u128::MAX, 1) == u64::MAX);
 }
 
-/// The times of 26 calls of 4,000 steps, each in a millisecond at least, and of 3 passes over 4,000 slots.
+/// The times of 26 calls of 4,000 steps, each in a millisecond at least, and of 3 passes over 4,000
+/// slots.
 fn call_and_pass<R: Abort>(rt: &R, alloc: Global, clock: &Ticks) -> (u64, u64) {
     let ready = WORKLOADS[2].ready(alloc).expect(rt, "a class");
     let call = time_call(alloc, clock, &ready, 3).expect(rt, "a time");
@@ -97,8 +98,9 @@ fn least_times(rt: HostRuntime) {
     assert!(rt; append(&rt, rt.alloc(), &clock) == 244_140);
 }
 
-/// The timed table by that clock, computed from the counts: 100,000 by the steps and 10,000 by the slots, and one more,
-/// are the calls and the passes of a measurement, which takes a millisecond at least.
+/// The timed table by that clock, computed from the counts: 100,000 by the steps and 10,000 by the
+/// slots, and one more, are the calls and the passes of a measurement, which takes a millisecond at
+/// least.
 const TIMED: &str = "\
 method     slots  steps    ns/call    ns/step    ns/slot
 call           4      4      39.99       9.99      99.96

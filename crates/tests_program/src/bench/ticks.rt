@@ -2,8 +2,8 @@ use std::cell::Cell;
 use std::io;
 use std::time::{Clock, Duration};
 
-/// A clock of which every other reading is 3 and 1 milliseconds after the one before, in turn, and each other 7. So
-/// what is measured takes 3 milliseconds and 1, in turn.
+/// A clock of which every other reading is 3 and 1 milliseconds after the one before, in turn, and
+/// each other 7. So what is measured takes 3 milliseconds and 1, in turn.
 #[derive(Drop)]
 pub struct Ticks {
     readings: Cell<u64>,

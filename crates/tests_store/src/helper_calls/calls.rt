@@ -1,5 +1,5 @@
-//! Calls as lines of text: a helper's name, its first and second argument, its answer with a sign, and the bytes that it
-//! copies.
+//! Calls as lines of text: a helper's name, its first and second argument, its answer with a sign,
+//! and the bytes that it copies.
 
 use crate::words::{Call, Line, bytes, line_of, number};
 use helpers::{
@@ -78,7 +78,8 @@ fn answers(alloc: Global, staged: &mut Staged, line: Line<'_>) -> bool {
     }
 }
 
-/// How many of the calls of these lines, made one after the other, come before the first that answers otherwise.
+/// How many of the calls of these lines, made one after the other, come before the first that
+/// answers otherwise.
 pub fn right_answers(alloc: Global, staged: &mut Staged, text: &str) -> usize {
     let mut count = 0usize;
     for line in text.lines() {

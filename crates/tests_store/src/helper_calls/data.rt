@@ -35,8 +35,8 @@ create 0 - 0
 create 1 - 0
 ";
 
-/// One after the other, beside an object that is absent at first: what was cut off is not seen again, nor what a
-/// removed object had, in a new one of the same call.
+/// One after the other, beside an object that is absent at first: what was cut off is not seen
+/// again, nor what a removed object had, in a new one of the same call.
 const DATA: &str = "create 1 - 0
 create 1 - -17
 create 18446744073709551615 - -17
@@ -90,8 +90,8 @@ getxattr n 9 -61
 getxattr @64 9 1 w
 ";
 
-/// A value; the next key from the beginning, between keys, at one, past the last; a key before a longer one, which a
-/// byte too little has no room for.
+/// A value; the next key from the beginning, between keys, at one, past the last; a key before a
+/// longer one, which a byte too little has no room for.
 const OMAP: &str = "map_set d four 0
 map_set b two 0
 map_get d 4 4 four

@@ -6,9 +6,9 @@ use helpers::{Span, getxattr, map_get, map_next};
 use std::str::SplitWhitespace;
 use txn::Staged;
 
-/// A line is a helper that looks up bytes and copies what it finds, twelve bytes of memory, the ranges of a name and of
-/// a value as place and length, the answer, and the memory after. The value comes to stand over its name, and a key
-/// over the one before. No bytes lie anywhere.
+/// A line is a helper that looks up bytes and copies what it finds, twelve bytes of memory, the
+/// ranges of a name and of a value as place and length, the answer, and the memory after. The value
+/// comes to stand over its name, and a key over the one before. No bytes lie anywhere.
 ///
 /// Beside the xattr `lock` and the keys `bb` and `lock`.
 const COPIES: &str = "getxattr ..lock...... 2 4 1 9 8 .12345678...

@@ -8,8 +8,9 @@ use std::alloc::Global;
 /// A value of one byte more than there may be.
 const LONG_VALUE: &[u8] = &[7; 4097];
 
-/// A line is a call, what it is given first and second, and its answer: a refusal's name, the length for `stat`, four
-/// bytes for `read`, which had ones before, or else a value, a key or nothing. `@4097` is a value of that many bytes.
+/// A line is a call, what it is given first and second, and its answer: a refusal's name, the
+/// length for `stat`, four bytes for `read`, which had ones before, or else a value, a key or
+/// nothing. `@4097` is a value of that many bytes.
 const ROWS: &str = "stat - - Absent
 read 0 - Absent
 truncate 0 - Absent

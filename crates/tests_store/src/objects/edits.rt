@@ -4,8 +4,8 @@ use std::alloc::Global;
 use std::process::Abort;
 use std::str::SplitWhitespace;
 
-/// A line is what edits of data `0123456789` answer, the length afterwards, a place, the bytes there, and then the
-/// edits: `w` with a place and a text, or `t` with a length.
+/// A line is what edits of data `0123456789` answer, the length afterwards, a place, the bytes
+/// there, and then the edits: `w` with a place and a text, or `t` with a length.
 const ROWS: &str = "ok 10 0 0123456789
 ok 10 0 01ab456789 w 2 ab
 ok 12 7 78abc w 9 abc

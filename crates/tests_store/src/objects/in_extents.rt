@@ -38,7 +38,8 @@ fn extents_are_at_most_4096_bytes(rt: HostRuntime) {
     }
 }
 
-/// How many extents data has that was written byte by byte, each at its end; none where it isn't so long.
+/// How many extents data has that was written byte by byte, each at its end; none where it isn't so
+/// long.
 fn extents_of_bytes<R: Abort>(rt: &R, alloc: Global, len: u64) -> usize {
     let mut data = ExtentData::new();
     for at in 0..len {

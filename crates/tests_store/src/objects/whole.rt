@@ -31,7 +31,8 @@ fn a_copy_stays_as_it_is(rt: HostRuntime) {
     assert!(rt; empty);
 }
 
-/// Puts the object of the first name under the second, and takes it away from the first. Whether it has moved then.
+/// Puts the object of the first name under the second, and takes it away from the first. Whether it
+/// has moved then.
 fn moves<R: Abort>(rt: &R, alloc: Global, pair: &mut Pair) -> bool {
     let object = pair.objects.get(&pair.one).expect(rt, "an object");
     let object = object.copy().expect(rt, "memory");

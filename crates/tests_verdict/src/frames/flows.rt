@@ -94,7 +94,8 @@ fn jumps(rt: HostRuntime) {
     assert!(rt; jumps_to(frame.flow(None, &Insn::Jump { offset: 5 }, 2), 8));
 }
 
-/// Whether the jump at slot 2 goes to slot 8, where register 2 holds 4 and not 3; after the jump it holds 3 and not 4.
+/// Whether the jump at slot 2 goes to slot 8, where register 2 holds 4 and not 3; after the jump it
+/// holds 3 and not 4.
 fn parts_at_3(edges: Edges, frame: &mut Frame) -> bool {
     match edges {
         Edges::Branches(target, fallen) => {

@@ -1,12 +1,13 @@
-//! Some thousands of pairs of small sets of numbers through every operation and comparison: what the machine computes
-//! of members must be held by what is computed of the sets.
+//! Some thousands of pairs of small sets of numbers through every operation and comparison: what
+//! the machine computes of members must be held by what is computed of the sets.
 
 use super::{ALL, LOW, TOP};
 use abstract_num::{Number, arithmetic, constant, holds, join, refine, tighten};
 use bpf_decode::arithmetic::{alu, taken};
 use bpf_decode::{Arithmetic, Comparison, OpWidth};
 
-/// Where runs of one, two and four numbers begin: at both ends of the word and at its signs and halves.
+/// Where runs of one, two and four numbers begin: at both ends of the word and at its signs and
+/// halves.
 const STARTS: [u64; 18] = [
     0,
     1,

@@ -229,7 +229,8 @@ fn exits_if_verified(alloc: Global, image: &ClassImage) -> Option<bool> {
     }
 }
 
-/// Whether the one method of an image comes to its exit; None of bytes that are no image of a class that is accepted.
+/// Whether the one method of an image comes to its exit; None of bytes that are no image of a class
+/// that is accepted.
 fn exits_if_accepted(alloc: Global, bytes: &[u8]) -> Option<bool> {
     match read_image(alloc, bytes) {
         Ok(image) => exits_if_verified(alloc, &image),

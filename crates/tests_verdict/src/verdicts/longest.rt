@@ -78,8 +78,9 @@ fn is_longest_judged(alloc: Global, first: u64, pair: u128, told: &str) -> bool 
     }
 }
 
-/// 2,047 diamonds with an arm each have 2^2047 paths, and 4,094 whose arms are empty have 2^4094: the verdict comes
-/// only from a pass that takes each slot once. The last method returns a pointer at its last slot.
+/// 2,047 diamonds with an arm each have 2^2047 paths, and 4,094 whose arms are empty have 2^4094:
+/// the verdict comes only from a pass that takes each slot once. The last method returns a pointer
+/// at its last slot.
 #[test]
 fn takes_each_slot_once(rt: HostRuntime) {
     assert!(rt; is_longest_judged(rt.alloc(), MOV_R0_0, DIAMOND, "ok"));
@@ -95,8 +96,8 @@ fn count(alloc: Global, class: &ClassImage) -> usize {
     }
 }
 
-/// How many of 32 methods of 4,096 slots, each with an input and an output of at most 4,096 bytes, are in a class that
-/// is accepted.
+/// How many of 32 methods of 4,096 slots, each with an input and an output of at most 4,096 bytes,
+/// are in a class that is accepted.
 fn largest(alloc: Global) -> usize {
     match class(alloc, NAMES, MOV_R0_0, DIAMOND) {
         Some(class) => count(alloc, &class),

@@ -1,6 +1,7 @@
 //! Methods that keep numbers and pointers in the stack.
 
-/// The verdict in rule set 2, that in rule set 1, flags, in_cap, out_cap, the slots, and the method in words.
+/// The verdict in rule set 2, that in rule set 1, flags, in_cap, out_cap, the slots, and the method
+/// in words.
 pub const SPILLS: &str = "\
 # a pointer is stored whole and loaded whole
 ok 0:9 1 0 1: 7b3af8ff00000000 b700000000000000 79a4f8ff00000000 7204000001000000 9500000000000000 | stxdw [r10-8], r3; mov r0, 0; ldxdw r4, [r10-8]; stb [r4+0], 1; exit
