@@ -10,9 +10,13 @@ mod ending;
 #[cfg(test)]
 mod gates;
 #[cfg(test)]
+mod makers;
+#[cfg(test)]
 mod pairs;
 #[cfg(test)]
 mod play;
+#[cfg(test)]
+mod sleeping;
 #[cfg(test)]
 mod turns;
 #[cfg(test)]

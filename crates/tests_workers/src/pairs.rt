@@ -59,6 +59,11 @@ impl Hold {
         self.ran_out.store(true, Ordering::SeqCst);
     }
 
+    /// Somebody is held.
+    fn is_holding(&self) -> bool {
+        self.came.load(Ordering::SeqCst) && !self.is_free.load(Ordering::SeqCst)
+    }
+
     /// Somebody was held, and let go by who was to.
     fn was_in_time(&self) -> bool {
         self.came.load(Ordering::SeqCst) && !self.ran_out.load(Ordering::SeqCst)
@@ -240,6 +245,67 @@ fn a_worker_that_skipped_a_shard_is_woken_for_it(rt: HostRuntime) {
         map: Hold::new(),
         first: Hold::new(),
         second: AtomicBool::new(false),
+    };
+    let done = played(rt, alloc, config(1, 1, 2), &calls);
+    assert!(rt; done == Some(true));
+}
+
+/// A worker is held with the answer to a request: it has the shard again since the gate let it
+/// pass. Tells whether another one comes to the gate meanwhile.
+#[derive(Drop)]
+struct Served {
+    alloc: Global,
+    fate: Hold,
+    are_two: AtomicBool,
+}
+
+impl Gate for Served {
+    fn before(&self, _number: u64) {
+        if self.fate.is_holding() {
+            self.are_two.store(true, Ordering::SeqCst);
+        }
+    }
+}
+
+impl Served {
+    fn calls<N: ClusterName, R: Wait>(&self, running: &Running<N, R>) -> bool {
+        let Some(mut held) = client_in(running, self.alloc, 0) else {
+            return false;
+        };
+        let Some(mut other) = client_in(running, self.alloc, 0) else {
+            return false;
+        };
+        if !held.calls_first(running) {
+            return false;
+        }
+        self.fate.want();
+        let has_come = held.asks_second(running) && comes(&self.fate.came);
+        let is_asked = running.ask(&mut other.opened.sends, &other.first).is_ok();
+        // The other worker finds the shard claimed.
+        pause(PAUSE);
+        self.fate.free();
+        let is_next = reply_to(running, &other.opened, &other.first) == Some(Some((2, -16)));
+        has_come && is_asked && is_next && !self.are_two.load(Ordering::SeqCst)
+    }
+}
+
+impl Play for Served {
+    fn part<N: ClusterName, R: Wait>(&self, running: &Running<N, R>, number: usize) -> bool {
+        if number < 2 {
+            running.serve_with(number, self, &self.fate);
+            return true;
+        }
+        number > 2 || ends(running, self.calls(running))
+    }
+}
+
+#[test]
+fn a_request_that_is_served_has_its_shard(rt: HostRuntime) {
+    let alloc = rt.alloc();
+    let calls = Served {
+        alloc,
+        fate: Hold::new(),
+        are_two: AtomicBool::new(false),
     };
     let done = played(rt, alloc, config(1, 1, 2), &calls);
     assert!(rt; done == Some(true));
