@@ -285,10 +285,14 @@ impl Taken {
         self.others.load(Ordering::SeqCst)
     }
 
+    /// How many clients' requests it took.
+    pub fn requests(&self) -> u64 {
+        self.requests.load(Ordering::SeqCst)
+    }
+
     /// How many operations it took.
     fn all(&self) -> u64 {
-        let requests = self.requests.load(Ordering::SeqCst);
-        self.others().wrapping_add(requests)
+        self.others().wrapping_add(self.requests())
     }
 }
 

@@ -9,6 +9,8 @@ mod fates;
 #[cfg(test)]
 mod groups;
 #[cfg(test)]
+mod held;
+#[cfg(test)]
 mod mail;
 #[cfg(test)]
 mod maps;
@@ -16,5 +18,7 @@ mod maps;
 mod modes;
 #[cfg(test)]
 mod nudges;
+#[cfg(test)]
+mod places;
 #[cfg(test)]
 mod stops;

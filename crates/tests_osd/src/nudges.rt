@@ -3,8 +3,9 @@
 
 use crate::asking::{Calls, Fence, Server, TURNS, Taken, lock, name_in, served_by};
 use crate::fates::Cut;
+use crate::held::Held;
 use group_cell::Post;
-use osd::{AskError, ClusterName, Config, Gate, Opened, PassAll, Running};
+use osd::{AskError, ClusterName, Config, Opened, PassAll, Running};
 use pg_log::ClientId;
 use placement::NodeId;
 use std::alloc::Global;
@@ -26,30 +27,6 @@ const TWO_GROUPS: Config = Config {
 /// The maps that the worker takes: the first of both groups, the one with which it is held, and
 /// those of a full queue.
 const MAPS: u64 = 2 + 1 + 1_024;
-
-/// Counts what the worker takes, and holds it with a map once that is wanted.
-#[derive(Drop)]
-struct Held {
-    taken: Taken,
-    is_wanted: AtomicBool,
-    came: AtomicBool,
-    is_free: AtomicBool,
-}
-
-impl Gate for Held {
-    fn before(&self, number: u64) {
-        if number == 0 && self.is_wanted.swap(false, Ordering::SeqCst) {
-            self.came.store(true, Ordering::SeqCst);
-            for _ in 0..TURNS {
-                if self.is_free.load(Ordering::SeqCst) {
-                    break;
-                }
-                yield_now();
-            }
-        }
-        self.taken.before(number);
-    }
-}
 
 /// The monitors' answer to a nudge is given back by a full queue.
 #[derive(Drop)]
@@ -75,18 +52,12 @@ impl GivenBack {
 
     /// Fills the queue while the worker is held: each map of group 0 takes a place.
     fn fills<N: ClusterName, R: Wait>(&self, running: &Running<N, R>) -> bool {
-        self.gate.is_wanted.store(true, Ordering::SeqCst);
-        let mut done = self.makes(running, false);
-        for _ in 0..TURNS {
-            if self.gate.came.load(Ordering::SeqCst) {
-                break;
-            }
-            yield_now();
-        }
+        self.gate.want();
+        let mut done = self.makes(running, false) && self.gate.has_come();
         for number in 0..1_100 {
             done = done && self.makes(running, number % 2 == 0);
         }
-        done && self.gate.came.load(Ordering::SeqCst)
+        done
     }
 
     /// Nudges group 1, whose primary asks the monitors again, while its queue is full.
@@ -111,7 +82,7 @@ impl GivenBack {
         running: &Running<N, R>,
         fence: &mut Fence<'_, N>,
     ) -> bool {
-        self.gate.is_free.store(true, Ordering::SeqCst);
+        self.gate.free();
         for _ in 0..TURNS {
             if self.gate.taken.others() >= MAPS {
                 break;
@@ -180,12 +151,7 @@ impl Calls for GivenBack {
 #[test]
 fn a_nudge_that_a_full_queue_gave_back_is_followed_by_another(rt: HostRuntime) {
     let alloc = rt.alloc();
-    let gate = Held {
-        taken: Taken::new(),
-        is_wanted: AtomicBool::new(false),
-        came: AtomicBool::new(false),
-        is_free: AtomicBool::new(false),
-    };
+    let gate = Held::new();
     let fate = Cut {
         is_cut: AtomicBool::new(true),
     };
