@@ -1,4 +1,5 @@
-//! Workers that have nothing to do sleep. The system tells: of the process's threads none runs then but the one that looks.
+//! Workers that have nothing to do sleep. The system tells: of the process's threads none runs then
+//! but the one that looks.
 
 use crate::asking::{answer, config, lock};
 use crate::play::{Play, ends, played, serves};
