@@ -20,7 +20,7 @@ const GROUPS: Config = Config {
 };
 
 /// How often both make a map.
-const ROUNDS: u32 = 60;
+const ROUNDS: u32 = 40;
 
 /// How often a request is sent until its primary is through with peering, at most.
 const ASKS: u32 = 100;
@@ -113,7 +113,6 @@ impl Makers {
                 return true;
             }
             running.nudge(&mut opened.sends, group);
-            yield_now();
         }
         false
     }
@@ -129,8 +128,7 @@ impl Play for Makers {
                 ends(running, done)
             }
             2 => self.second(running),
-            3..=6 => self.looks(running, number.wrapping_sub(2)),
-            _ => true,
+            _ => self.looks(running, number.wrapping_sub(2)),
         }
     }
 }
