@@ -4,7 +4,6 @@ use crate::asking::{answer, comes, config, lock, pause, reply_to};
 use crate::play::{Play, ends, played, serves};
 use osd::{ClusterName, Open, Opened, Running};
 use std::alloc::Global;
-use std::hint::spin_loop;
 use std::sync::Wait;
 use std::sync::atomic::{AtomicBool, Ordering};
 
@@ -65,53 +64,6 @@ impl Play for Woken {
 fn a_submit_wakes_a_worker_that_waits(rt: HostRuntime) {
     let alloc = rt.alloc();
     let done = played(rt, alloc, config(1, 1, 1), &Woken { alloc });
-    assert!(rt; done == Some(true));
-}
-
-/// The calls to a worker that is about to wait.
-const LATE: u32 = 4_096;
-
-/// Calls come at all times after the answer to the one before: while the worker still looks, once
-/// it waits, and between its last look and that.
-#[derive(Drop)]
-struct AboutToWait {
-    alloc: Global,
-}
-
-impl AboutToWait {
-    fn calls<N: ClusterName, R: Wait>(&self, running: &Running<N, R>) -> bool {
-        let Some(mut opened) = running.open() else {
-            return false;
-        };
-        for number in 1..=LATE {
-            for _ in 0..number % 1_024 {
-                spin_loop();
-            }
-            let Some(request) = lock(self.alloc, opened.client, number, "a") else {
-                return false;
-            };
-            if answer(running, &mut opened, &request).is_none() {
-                return false;
-            }
-        }
-        true
-    }
-}
-
-impl Play for AboutToWait {
-    fn part<N: ClusterName, R: Wait>(&self, running: &Running<N, R>, number: usize) -> bool {
-        match number {
-            0 => serves(running, number, &Open),
-            1 => ends(running, self.calls(running)),
-            _ => true,
-        }
-    }
-}
-
-#[test]
-fn a_worker_that_is_about_to_wait_misses_no_submit(rt: HostRuntime) {
-    let alloc = rt.alloc();
-    let done = played(rt, alloc, config(1, 1, 1), &AboutToWait { alloc });
     assert!(rt; done == Some(true));
 }
 
