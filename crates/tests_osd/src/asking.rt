@@ -12,12 +12,12 @@ use osd::{
 use pg_log::{ClientId, Request, RequestNumber, RequestParts};
 use std::alloc::Global;
 use std::marker::Brand;
-use std::process::Abort;
 use std::sync::Wait;
 use std::sync::atomic::{AtomicU64, Ordering};
 use std::thread::{Threads, join, yield_now};
 
-/// The turns that a test waits before it fails: so many that only a fault reaches them, however busy the machine is.
+/// The turns that a test waits before it fails: so many that only a fault reaches them, however
+/// busy the machine is.
 pub const TURNS: u32 = 30_000_000;
 
 /// The looks without an answer after which a request is sent again.
@@ -52,6 +52,21 @@ fn request(
     Request::new(alloc, parts).ok()
 }
 
+/// An object of that group.
+pub fn name_in<N: ClusterName, R: Wait>(
+    running: &Running<N, R>,
+    alloc: Global,
+    group: usize,
+) -> Option<&'static str> {
+    for name in ["a", "b", "c", "d"] {
+        let object = ObjectName::new(alloc, name).ok()?;
+        if running.group_of(&object) == group {
+            return Some(name);
+        }
+    }
+    None
+}
+
 /// The place and the code by which the newest answer answers the request, if it does.
 fn look<N: ClusterName, R: Wait>(
     running: &Running<N, R>,
@@ -78,8 +93,8 @@ fn found<N: ClusterName>(reply: Reply<N>) -> (usize, i64) {
     (reply.place(), reply.code())
 }
 
-/// The place and the code that the request is answered. None where that takes more than `TURNS` looks, as it does where
-/// the request is refused for good.
+/// The place and the code that the request is answered. None where that takes more than `TURNS`
+/// looks, as it does where the request is refused for good.
 pub fn answer<N: ClusterName, R: Wait>(
     running: &Running<N, R>,
     opened: &mut Opened<N>,
@@ -138,7 +153,7 @@ pub fn made(alloc: Global, config: Config) -> Option<(Parts, ClassTable)> {
 }
 
 /// Plays a scenario on a new cluster that has the class `lock`.
-pub fn played<S: Scenario, R: Threads + Wait + Abort + Sync + Copy + Drop>(
+pub fn played<S: Scenario, R: Threads + Wait + Sync + Drop>(
     rt: R,
     alloc: Global,
     config: Config,
@@ -148,8 +163,8 @@ pub fn played<S: Scenario, R: Threads + Wait + Abort + Sync + Copy + Drop>(
     play(alloc, rt, parts, table, scenario).ok()
 }
 
-/// What is called on a cluster before its worker serves, while it serves, and once it has ended, and whether it comes
-/// out as it should.
+/// What is called on a cluster before its worker serves, while it serves, and once it has ended,
+/// and whether it comes out as it should.
 pub trait Calls {
     fn begins<N: ClusterName, R: Wait>(&self, _running: &Running<N, R>) -> bool {
         true
@@ -270,10 +285,14 @@ impl Taken {
         self.others.load(Ordering::SeqCst)
     }
 
+    /// How many clients' requests it took.
+    pub fn requests(&self) -> u64 {
+        self.requests.load(Ordering::SeqCst)
+    }
+
     /// How many operations it took.
     fn all(&self) -> u64 {
-        let requests = self.requests.load(Ordering::SeqCst);
-        self.others().wrapping_add(requests)
+        self.others().wrapping_add(self.requests())
     }
 }
 
@@ -289,8 +308,9 @@ impl Gate for Taken {
     }
 }
 
-/// The session of client 1, whose requests a worker does nothing with but refuse them. One worker that serves one queue
-/// is done with all that was submitted before such a request once it takes it.
+/// The session of client 1, whose requests a worker does nothing with but refuse them. One worker
+/// that serves one queue is done with all that was submitted before such a request once it takes
+/// it.
 #[derive(Drop)]
 pub struct Fence<'a, N: ClusterName> {
     alloc: Global,
@@ -333,8 +353,9 @@ impl<'a, N: ClusterName> Fence<'a, N> {
         false
     }
 
-    /// Whether the worker is done with all that was submitted, and with all that comes of it: it takes nothing between
-    /// two requests of the fence, the second of which is sent when it has taken the first.
+    /// Whether the worker is done with all that was submitted, and with all that comes of it: it
+    /// takes nothing between two requests of the fence, the second of which is sent when it has
+    /// taken the first.
     pub fn settles<R: Wait>(&mut self, running: &Running<N, R>) -> bool {
         for _ in 0..TURNS {
             if !self.passes(running) {
@@ -351,7 +372,8 @@ impl<'a, N: ClusterName> Fence<'a, N> {
         false
     }
 
-    /// Sends a request of that client on object `a`, in the other session, and waits until the worker is done with it.
+    /// Sends a request of that client on object `a`, in the other session, and waits until the
+    /// worker is done with it.
     pub fn is_done<R: Wait>(
         &mut self,
         running: &Running<N, R>,

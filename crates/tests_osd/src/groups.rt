@@ -1,6 +1,7 @@
-//! Groups whose acting lists differ, before and after a map that changes some of them. With nodes 0 to 3 up and two
-//! replicas groups 0 to 3 are kept by 2 and 1, 2 and 0, 1 and 0, 3 and 2; without node 0 by 2 and 1, 2 and 1, 1 and 2,
-//! 3 and 2. So the second map begins an interval of groups 1 and 2, and keeps that of groups 0 and 3.
+//! Groups whose acting lists differ, before and after a map that changes some of them. With nodes 0
+//! to 3 up and two replicas groups 0 to 3 are kept by 2 and 1, 2 and 0, 1 and 0, 3 and 2; without
+//! node 0 by 2 and 1, 2 and 1, 1 and 2, 3 and 2. So the second map begins an interval of groups 1
+//! and 2, and keeps that of groups 0 and 3.
 
 use crate::asking::{
     Calls, Fence, Server, Taken, accepted, answer, lock, played, served, served_by,
@@ -14,7 +15,8 @@ use std::thread::Threads;
 /// An object of each group: `a` of group 0, and so on.
 const OBJECTS: [&str; 4] = ["a", "b", "c", "d"];
 
-/// How many entries each node has of each group in the end: node 0 has what it had when it was left out.
+/// How many entries each node has of each group in the end: node 0 has what it had when it was left
+/// out.
 const ENTRIES: [[usize; 4]; 4] = [[0, 2, 2, 0], [1, 2, 2, 0], [1, 2, 2, 0], [0, 0, 2, 2]];
 
 /// A cluster of those groups, served by one worker.
@@ -104,8 +106,8 @@ fn each_group_has_its_own_nodes_and_maps(rt: HostRuntime) {
     assert!(rt; done == Some(true));
 }
 
-/// The second map, and a nudge of each group, of a cluster that no worker serves. What they submit takes places of the
-/// one queue.
+/// The second map, and a nudge of each group, of a cluster that no worker serves. What they submit
+/// takes places of the one queue.
 #[derive(Drop)]
 struct Told {
     alloc: Global,
@@ -143,8 +145,8 @@ impl Scenario for Told {
     }
 }
 
-// The first map takes 8 of the 769 places that are there until requests are given back, the second 4. No node has a map yet,
-// so a nudge takes two. There is no group 4.
+// The first map takes 8 of the 769 places that are there until requests are given back, the second
+// 4. No node has a map yet, so a nudge takes two. There is no group 4.
 #[test]
 fn the_maps_of_new_intervals_are_told(rt: HostRuntime) {
     let alloc = rt.alloc();
@@ -195,8 +197,9 @@ impl LostMap {
 }
 
 impl Calls for LostMap {
-    /// Whether nudges hand on the maps of groups 1 and 2 alone: the nodes of the others have theirs. The maps of the first nudge
-    /// of group 1 were lost, and the second hands them on again.
+    /// Whether nudges hand on the maps of groups 1 and 2 alone: the nodes of the others have
+    /// theirs. The maps of the first nudge of group 1 were lost, and the second hands them on
+    /// again.
     fn calls<N: ClusterName, R: Wait>(&self, running: &Running<N, R>) -> bool {
         let Some(mut fence) = Fence::open(running, self.alloc, &self.taken) else {
             return false;
@@ -228,8 +231,8 @@ fn a_nudge_hands_on_the_map_of_its_group(rt: HostRuntime) {
     assert!(rt; done == Some(true));
 }
 
-/// A second map is made before a worker serves, by which another node acts. So the first one's interval isn't
-/// activated.
+/// A second map is made before a worker serves, by which another node acts. So the first one's
+/// interval isn't activated.
 #[derive(Drop)]
 struct TooLate {
     alloc: Global,

@@ -1,16 +1,15 @@
-//! Tests alone, of a cluster in threads. Each ends by itself: it counts its turns, and fails where they are used up.
+//! Tests alone, of a cluster in threads. Each ends by itself: it counts its turns, and fails where
+//! they are used up.
 #![tactic(auto)]
 
 #[cfg(test)]
 mod asking;
 #[cfg(test)]
-mod ending;
-#[cfg(test)]
 mod fates;
 #[cfg(test)]
-mod gates;
-#[cfg(test)]
 mod groups;
+#[cfg(test)]
+mod held;
 #[cfg(test)]
 mod mail;
 #[cfg(test)]
@@ -20,10 +19,6 @@ mod modes;
 #[cfg(test)]
 mod nudges;
 #[cfg(test)]
-mod pairs;
+mod places;
 #[cfg(test)]
 mod stops;
-#[cfg(test)]
-mod turns;
-#[cfg(test)]
-mod workers;

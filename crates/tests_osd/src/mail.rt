@@ -1,13 +1,17 @@
-//! What clients find in their mailboxes.
+//! What clients find in their mailboxes, and how many sessions there are.
 
-use crate::asking::{Calls, Fence, Server, Taken, answer, config, lock, served, served_by};
+use crate::asking::{
+    Calls, Fence, Server, Taken, accepted, answer, config, lock, played, served, served_by,
+};
 use group_cell::Post;
-use osd::{ClusterName, Opened, PassAll, Running};
+use osd::{ClusterName, Opened, PassAll, Running, Scenario};
 use pg_log::ClientId;
 use std::alloc::Global;
 use std::sync::Wait;
+use std::thread::Threads;
 
-/// A client asks twice before it looks, and a request comes in the name of a client that has no session yet.
+/// A client asks twice before it looks, and a request comes in the name of a client that has no
+/// session yet.
 #[derive(Drop)]
 struct Newest {
     alloc: Global,
@@ -126,4 +130,44 @@ fn the_64th_session_is_answered(rt: HostRuntime) {
     let alloc = rt.alloc();
     let done = served(rt, alloc, config(1, 1, 1, 1), &Last { alloc }, &PassAll);
     assert!(rt; done == Some(true));
+}
+
+/// Requests are sent that nobody takes, and sessions are opened until there are no more.
+#[derive(Drop)]
+struct Alone {
+    alloc: Global,
+}
+
+impl Alone {
+    /// How many sessions may still be opened.
+    fn sessions<N: ClusterName, R: Wait>(&self, running: &Running<N, R>) -> u32 {
+        for opened in 0..100 {
+            if running.open().is_none() {
+                return opened;
+            }
+        }
+        100
+    }
+}
+
+impl Scenario for Alone {
+    type Output = (Option<u32>, u32);
+
+    ghost gives = { λ _ _ _. Unit {0} };
+
+    fn play<N: ClusterName + Send + Sync, R: Threads + Wait + Sync>(
+        &self,
+        running: &Running<N, R>,
+    ) -> (Option<u32>, u32) {
+        (accepted(running, self.alloc), self.sessions(running))
+    }
+}
+
+// A queue has 1,024 places, one of which the group's first map takes. Requests are taken while 256
+// places are free: with the last one there are 769 operations.
+#[test]
+fn a_queue_and_the_sessions_are_used_up(rt: HostRuntime) {
+    let alloc = rt.alloc();
+    let done = played(rt, alloc, config(1, 1, 1, 1), &Alone { alloc });
+    assert!(rt; done == Some((Some(768), 63)));
 }

@@ -62,7 +62,8 @@ fn calls_refuse_by_their_limits(rt: HostRuntime) {
     assert!(rt; done == Some(true));
 }
 
-/// Maps and a nudge of a cluster that no worker serves. What they submit takes places of the one queue.
+/// Maps and a nudge of a cluster that no worker serves. What they submit takes places of the one
+/// queue.
 #[derive(Drop)]
 struct Told {
     alloc: Global,
@@ -96,9 +97,9 @@ impl Scenario for Told {
     }
 }
 
-// The first map takes one of the 769 places that are there until requests are given back. The next ones keep its interval, so
-// that nothing is told. A nudge hands on the newest map, since the node has none yet; the four nudges that come while that map
-// waits add nothing. There is no group 1.
+// The first map takes one of the 769 places that are there until requests are given back. The next
+// ones keep its interval, so that nothing is told. A nudge hands on the newest map, since the node
+// has none yet; the four nudges that come while that map waits add nothing. There is no group 1.
 #[test]
 fn a_nudge_tells_a_late_node_and_a_kept_interval_is_not_told(rt: HostRuntime) {
     let alloc = rt.alloc();
@@ -126,7 +127,8 @@ fn a_nudge_tells_a_late_node_and_a_kept_interval_is_not_told(rt: HostRuntime) {
     assert!(rt; told == Some(Some(768)) && nudged == Some(Some(767)));
 }
 
-// Two of three nodes act, and a nudge hands the map to both; by the second map one acts, and gets it alone.
+// Two of three nodes act, and a nudge hands the map to both; by the second map one acts, and gets
+// it alone.
 #[test]
 fn a_nudge_tells_each_acting_node(rt: HostRuntime) {
     let alloc = rt.alloc();
@@ -217,7 +219,8 @@ impl Stopped {
 }
 
 impl Calls for Stopped {
-    /// The other client doesn't get the lock, and both calls stand in the log of the nodes that are left.
+    /// The other client doesn't get the lock, and both calls stand in the log of the nodes that are
+    /// left.
     fn calls<N: ClusterName, R: Wait>(&self, running: &Running<N, R>) -> bool {
         self.call(running) == Some((0, 0))
             && self.leaves_out(running)
@@ -234,7 +237,8 @@ fn a_stopped_node_is_done_without(rt: HostRuntime) {
     assert!(rt; done == Some(true));
 }
 
-/// A backup, node 0, is stopped before a call, and goes on later. It gets nothing while it is stopped.
+/// A backup, node 0, is stopped before a call, and goes on later. It gets nothing while it is
+/// stopped.
 #[derive(Drop)]
 struct Paused {
     alloc: Global,
@@ -278,7 +282,8 @@ impl Paused {
             && self.has(running, 2, 1)
     }
 
-    /// The second is logged by the two that aren't stopped, and answered once the third is left out.
+    /// The second is logged by the two that aren't stopped, and answered once the third is left
+    /// out.
     fn goes_without<N: ClusterName, R: Wait>(
         &self,
         running: &Running<N, R>,

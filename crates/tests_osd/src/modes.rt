@@ -1,4 +1,5 @@
-//! What a fate does with messages, counted exactly: one worker serves one queue, and a gate counts what it takes.
+//! What a fate does with messages, counted exactly: one worker serves one queue, and a gate counts
+//! what it takes.
 
 use crate::asking::{Calls, Fence, Server, Taken, answer, config, lock, served_by};
 use group_cell::Post;
@@ -322,7 +323,8 @@ impl Calls for Overtaken {
     }
 }
 
-// Of one node that acts alone the first message asks to activate the map; those after it are answers.
+// Of one node that acts alone the first message asks to activate the map; those after it are
+// answers.
 #[test]
 fn a_late_answer_comes_after_the_next(rt: HostRuntime) {
     let alloc = rt.alloc();

@@ -1,10 +1,11 @@
-//! A nudge whose operation no queue takes, and a node that is stopped while a worker waits for its lock.
+//! A nudge whose operation no queue takes, and a node that is stopped while a worker waits for its
+//! lock.
 
-use crate::asking::{Calls, Fence, Server, TURNS, Taken, lock, served_by};
+use crate::asking::{Calls, Fence, Server, TURNS, Taken, lock, name_in, served_by};
 use crate::fates::Cut;
-use crate::turns::name_in;
+use crate::held::Held;
 use group_cell::Post;
-use osd::{AskError, ClusterName, Config, Gate, Opened, PassAll, Running};
+use osd::{AskError, ClusterName, Config, Opened, PassAll, Running};
 use pg_log::ClientId;
 use placement::NodeId;
 use std::alloc::Global;
@@ -12,7 +13,8 @@ use std::sync::Wait;
 use std::sync::atomic::{AtomicBool, Ordering};
 use std::thread::yield_now;
 
-/// Of nodes 0 and 1 node 0 alone acts for group 1, and node 1 for group 0 if it is up. Both groups have one queue.
+/// Of nodes 0 and 1 node 0 alone acts for group 1, and node 1 for group 0 if it is up. Both groups
+/// have one queue.
 const TWO_GROUPS: Config = Config {
     nodes: 2,
     replicas: 1,
@@ -22,32 +24,9 @@ const TWO_GROUPS: Config = Config {
     tries: 1000,
 };
 
-/// The maps that the worker takes: the first of both groups, the one with which it is held, and those of a full queue.
+/// The maps that the worker takes: the first of both groups, the one with which it is held, and
+/// those of a full queue.
 const MAPS: u64 = 2 + 1 + 1_024;
-
-/// Counts what the worker takes, and holds it with a map once that is wanted.
-#[derive(Drop)]
-struct Held {
-    taken: Taken,
-    is_wanted: AtomicBool,
-    came: AtomicBool,
-    is_free: AtomicBool,
-}
-
-impl Gate for Held {
-    fn before(&self, number: u64) {
-        if number == 0 && self.is_wanted.swap(false, Ordering::SeqCst) {
-            self.came.store(true, Ordering::SeqCst);
-            for _ in 0..TURNS {
-                if self.is_free.load(Ordering::SeqCst) {
-                    break;
-                }
-                yield_now();
-            }
-        }
-        self.taken.before(number);
-    }
-}
 
 /// The monitors' answer to a nudge is given back by a full queue.
 #[derive(Drop)]
@@ -58,7 +37,8 @@ struct GivenBack {
 }
 
 impl GivenBack {
-    /// Makes a map of both nodes, or of node 0 alone: group 0 goes from the one to the other, and group 1 stays.
+    /// Makes a map of both nodes, or of node 0 alone: group 0 goes from the one to the other, and
+    /// group 1 stays.
     fn makes<N: ClusterName, R: Wait>(&self, running: &Running<N, R>, has_both: bool) -> bool {
         let both = [NodeId::new(0), NodeId::new(1)];
         let one = [NodeId::new(0)];
@@ -72,18 +52,12 @@ impl GivenBack {
 
     /// Fills the queue while the worker is held: each map of group 0 takes a place.
     fn fills<N: ClusterName, R: Wait>(&self, running: &Running<N, R>) -> bool {
-        self.gate.is_wanted.store(true, Ordering::SeqCst);
-        let mut done = self.makes(running, false);
-        for _ in 0..TURNS {
-            if self.gate.came.load(Ordering::SeqCst) {
-                break;
-            }
-            yield_now();
-        }
+        self.gate.want();
+        let mut done = self.makes(running, false) && self.gate.has_come();
         for number in 0..1_100 {
             done = done && self.makes(running, number % 2 == 0);
         }
-        done && self.gate.came.load(Ordering::SeqCst)
+        done
     }
 
     /// Nudges group 1, whose primary asks the monitors again, while its queue is full.
@@ -108,7 +82,7 @@ impl GivenBack {
         running: &Running<N, R>,
         fence: &mut Fence<'_, N>,
     ) -> bool {
-        self.gate.is_free.store(true, Ordering::SeqCst);
+        self.gate.free();
         for _ in 0..TURNS {
             if self.gate.taken.others() >= MAPS {
                 break;
@@ -118,7 +92,8 @@ impl GivenBack {
         fence.settles(running) && self.gate.taken.others() == MAPS
     }
 
-    /// Whether a request of group 1 of that number is answered by a reply. It is refused where the group is in peering.
+    /// Whether a request of group 1 of that number is answered by a reply. It is refused where the
+    /// group is in peering.
     fn is_answered<N: ClusterName, R: Wait>(
         &self,
         running: &Running<N, R>,
@@ -176,12 +151,7 @@ impl Calls for GivenBack {
 #[test]
 fn a_nudge_that_a_full_queue_gave_back_is_followed_by_another(rt: HostRuntime) {
     let alloc = rt.alloc();
-    let gate = Held {
-        taken: Taken::new(),
-        is_wanted: AtomicBool::new(false),
-        came: AtomicBool::new(false),
-        is_free: AtomicBool::new(false),
-    };
+    let gate = Held::new();
     let fate = Cut {
         is_cut: AtomicBool::new(true),
     };
@@ -200,7 +170,8 @@ const STOPS: u32 = 100;
 
 const QUEUED: u32 = 20;
 
-/// A node is stopped again and again amid requests, while its log is read, so that the worker waits for its lock.
+/// A node is stopped again and again amid requests, while its log is read, so that the worker waits
+/// for its lock.
 #[derive(Drop)]
 struct StoppedAtLock {
     alloc: Global,
@@ -232,7 +203,8 @@ impl StoppedAtLock {
         true
     }
 
-    /// Whether the node has as many entries after the worker has taken all requests as when `stop` had answered.
+    /// Whether the node has as many entries after the worker has taken all requests as when `stop`
+    /// had answered.
     fn stays<N: ClusterName, R: Wait>(
         &self,
         running: &Running<N, R>,

@@ -1,4 +1,5 @@
-//! What a stopped node takes and sends: nothing. One worker serves one queue, and a gate counts what it takes.
+//! What a stopped node takes and sends: nothing. One worker serves one queue, and a gate counts
+//! what it takes.
 
 use crate::asking::{Calls, Fence, Server, Taken, answer, config, lock, served_by};
 use crate::fates::{Cut, NODES, entries, nodes_with};
@@ -86,8 +87,8 @@ impl SentAgain {
             && nodes_with(running, 1) == 2
     }
 
-    /// Whether it sends the request again to both others once it goes on, and has kept its log. Their acknowledgements are lost,
-    /// so that the next nudge sends it once more.
+    /// Whether it sends the request again to both others once it goes on, and has kept its log.
+    /// Their acknowledgements are lost, so that the next nudge sends it once more.
     fn is_heard<N: ClusterName, R: Wait>(
         &self,
         running: &Running<N, R>,

@@ -1,15 +1,15 @@
 //! In which order a worker takes operations, and what its gate gets.
 
-use crate::asking::{Calls, Server, TURNS, config, lock, served_by};
-use object_store::ObjectName;
-use osd::{ClusterName, Gate, Opened, PassAll, Running};
+use crate::asking::{TURNS, comes, config, lock, name_in};
+use crate::play::{Play, ends, played, serves};
+use osd::{ClusterName, Gate, Opened, Running};
 use std::alloc::Global;
 use std::sync::Wait;
 use std::sync::atomic::{AtomicBool, AtomicU64, Ordering};
 use std::thread::yield_now;
 
-/// Holds the worker until requests are queued. Keeps their own numbers as the digits of one, and the last number that
-/// came.
+/// Holds the worker until requests are queued. Keeps their own numbers as the digits of one to base
+/// 16, and the last number that came.
 #[derive(Drop)]
 struct Digits {
     is_free: AtomicBool,
@@ -19,47 +19,26 @@ struct Digits {
 
 impl Gate for Digits {
     fn before(&self, number: u64) {
-        for _ in 0..TURNS {
-            if self.is_free.load(Ordering::SeqCst) {
-                break;
-            }
-            yield_now();
-        }
+        let _ = comes(&self.is_free);
         if number == 0 {
             return;
         }
         let digit = number % (1 << 32);
         let digits = self.digits.load(Ordering::SeqCst);
         self.digits.store(
-            digits.wrapping_mul(10).wrapping_add(digit),
+            digits.wrapping_mul(16).wrapping_add(digit),
             Ordering::SeqCst,
         );
         self.last.store(number, Ordering::SeqCst);
     }
 }
 
-/// Eight requests are queued before a worker serves: two of each group, numbered 1 and 5 of group 1, and so on.
+/// Twelve requests are queued before a worker serves: three of each group, numbered 1, 5 and 9 of
+/// group 1, and so on.
 #[derive(Drop)]
 struct Rotation {
     alloc: Global,
     gate: Digits,
-}
-
-/// An object of that group.
-pub fn name_in<N: ClusterName, R: Wait>(
-    running: &Running<N, R>,
-    alloc: Global,
-    group: usize,
-) -> Option<&'static str> {
-    for name in [
-        "a", "b", "c", "d", "e", "f", "g", "h", "i", "j", "k", "l", "m", "n", "o", "p",
-    ] {
-        let object = ObjectName::new(alloc, name).ok()?;
-        if running.group_of(&object) == group {
-            return Some(name);
-        }
-    }
-    None
 }
 
 impl Rotation {
@@ -78,36 +57,47 @@ impl Rotation {
         }
     }
 
-    /// Whether the worker takes the eight in that order.
+    /// Whether the worker takes the twelve in that order.
     fn are_taken(&self, order: u64) -> bool {
         self.gate.is_free.store(true, Ordering::SeqCst);
         for _ in 0..TURNS {
-            if self.gate.digits.load(Ordering::SeqCst) >= 10_000_000 {
+            if self.gate.digits.load(Ordering::SeqCst) >= 0x1000_0000_0000 {
                 break;
             }
             yield_now();
         }
         self.gate.digits.load(Ordering::SeqCst) == order
     }
-}
 
-impl Calls for Rotation {
     fn calls<N: ClusterName, R: Wait>(&self, running: &Running<N, R>) -> bool {
         drop(running.open());
         let Some(mut opened) = running.open() else {
             return false;
         };
         let mut done = true;
-        for number in 1..9 {
+        for number in 1..13 {
             done = done && self.is_queued(running, &mut opened, number);
         }
-        // The last one is number 8 of client 2.
-        self.are_taken(12_345_678) && done && self.gate.last.load(Ordering::SeqCst) == 8_589_934_600
+        // The last one is number 12 of client 2.
+        self.are_taken(0x1234_5678_9abc)
+            && done
+            && self.gate.last.load(Ordering::SeqCst) == 8_589_934_604
     }
 }
 
-// Group 4 stands for group 0. Worker 1 begins at queue 1; each queue has the group's first map before its requests. A queue that
-// has another request waits until the others had their turn.
+impl Play for Rotation {
+    fn part<N: ClusterName, R: Wait>(&self, running: &Running<N, R>, number: usize) -> bool {
+        match number {
+            0 => ends(running, self.calls(running)),
+            1 => serves(running, number, &self.gate),
+            _ => true,
+        }
+    }
+}
+
+// Group 4 stands for group 0. Worker 1 begins at queue 1; each queue has the group's first map
+// before its requests. Of a queue that has more requests the worker takes none until the others had
+// their turn.
 #[test]
 fn a_worker_takes_from_all_queues_in_rotation(rt: HostRuntime) {
     let alloc = rt.alloc();
@@ -116,12 +106,6 @@ fn a_worker_takes_from_all_queues_in_rotation(rt: HostRuntime) {
         digits: AtomicU64::new(0),
         last: AtomicU64::new(0),
     };
-    let calls = Rotation { alloc, gate };
-    let server = Server {
-        worker: 1,
-        gate: &calls.gate,
-        fate: &PassAll,
-    };
-    let done = served_by(rt, alloc, config(1, 1, 4, 2), &calls, server);
+    let done = played(rt, alloc, config(1, 4, 2), &Rotation { alloc, gate });
     assert!(rt; done == Some(true));
 }

@@ -1,116 +1,20 @@
 //! Two workers side by side: what one has doesn't keep the other from the rest.
-ghost use Rattle.std.specs.Prelude.{◌≡◌};
 
-use crate::asking::{Calls, TURNS, config, lock, made};
-use crate::turns::name_in;
-use group_cell::{Post, Reply};
-use interp::ClassTable;
-use osd::{
-    ClusterName, Config, DeliveryMode, Fate, Gate, Open, Opened, Parts, PassAll, Running,
-    running_crosses,
-};
+use crate::asking::{TURNS, answer, comes, config, lock, name_in, pause, reply_to};
+use crate::play::{Play, ends, played, serves};
+use osd::{ClusterName, DeliveryMode, Fate, Gate, Open, Opened, Running};
 use pg_log::Request;
 use placement::NodeId;
 use std::alloc::Global;
-use std::marker::Brand;
 use std::sync::Wait;
 use std::sync::atomic::{AtomicBool, AtomicU64, Ordering};
-use std::thread::{Threads, join, yield_now};
+use std::thread::yield_now;
 
 /// The turns for which something is held at most.
 const HELD: u32 = 1_000_000;
 
-/// What both workers serve by.
-#[derive(Drop)]
-struct Pair<'a, G, F> {
-    gate: &'a G,
-    fate: &'a F,
-}
-
-/// Calls on a new cluster that has the class `lock`, while its two workers serve.
-fn served_by_two<C: Calls + Sync, G: Gate + Sync, F: Fate + Sync, R: Threads + Wait + Sync + Drop>(
-    rt: R,
-    alloc: Global,
-    config: Config,
-    calls: &C,
-    pair: &Pair<'_, G, F>,
-) -> Option<bool> {
-    let (parts, table) = made(alloc, config)?;
-    served_by_two_on::<Brand, C, G, F, R>(rt, alloc, parts, table, calls, pair)
-}
-
-fn served_by_two_on<
-    N: ClusterName + Send + Sync,
-    C: Calls + Sync,
-    G: Gate + Sync,
-    F: Fate + Sync,
-    R: Threads + Wait + Sync + Drop,
->(
-    rt: R,
-    alloc: Global,
-    parts: Parts,
-    table: ClassTable,
-    calls: &C,
-    pair: &Pair<'_, G, F>,
-) -> Option<bool>
-    requires board { parts.board ≡ N.board }
-    requires queues { parts.queues ≡ N.queues }
-    requires config { parts.config ≡ N.config }
-    requires table { table ≡ N.classes }
-{
-    let running = Running::<N, R>::named(alloc, rt, parts, table).ok()?;
-    if !calls.begins(&running) {
-        return Some(false);
-    }
-    Some(while_both_serve(&running, calls, pair))
-}
-
-fn while_both_serve<
-    N: ClusterName + Send + Sync,
-    C: Calls + Sync,
-    G: Gate + Sync,
-    F: Fate + Sync,
-    R: Threads + Wait + Sync,
->(running: &Running<N, R>, calls: &C, pair: &Pair<'_, G, F>) -> bool {
-    running_crosses::<N, R>();
-    let (_, done) = join(
-        running.runtime(),
-        || running.serve_with(0, pair.gate, pair.fate),
-        || while_second_serves(running, calls, pair),
-    );
-    done
-}
-
-fn while_second_serves<
-    N: ClusterName + Send + Sync,
-    C: Calls + Sync,
-    G: Gate + Sync,
-    F: Fate + Sync,
-    R: Threads + Wait + Sync,
->(running: &Running<N, R>, calls: &C, pair: &Pair<'_, G, F>) -> bool {
-    running_crosses::<N, R>();
-    let (_, done) = join(
-        running.runtime(),
-        || running.serve_with(1, pair.gate, pair.fate),
-        || {
-            let done = calls.calls(running);
-            running.finish();
-            done
-        },
-    );
-    done
-}
-
-/// Whether that comes true.
-fn comes(flag: &AtomicBool) -> bool {
-    for _ in 0..TURNS {
-        if flag.load(Ordering::SeqCst) {
-            return true;
-        }
-        yield_now();
-    }
-    false
-}
+/// The turns in which a worker skips a shard and waits.
+const PAUSE: u32 = 2_000;
 
 /// Something that is held once, until it is let go.
 #[derive(Drop)]
@@ -155,55 +59,15 @@ impl Hold {
         self.ran_out.store(true, Ordering::SeqCst);
     }
 
+    /// Somebody is held.
+    fn is_holding(&self) -> bool {
+        self.came.load(Ordering::SeqCst) && !self.is_free.load(Ordering::SeqCst)
+    }
+
     /// Somebody was held, and let go by who was to.
     fn was_in_time(&self) -> bool {
         self.came.load(Ordering::SeqCst) && !self.ran_out.load(Ordering::SeqCst)
     }
-}
-
-/// Whether a request that was sent once is answered by a reply: its place and its code. `Some(None)` where it is refused.
-fn reply_to<N: ClusterName, R: Wait>(
-    running: &Running<N, R>,
-    opened: &Opened<N>,
-    request: &Request,
-) -> Option<Option<(usize, i64)>> {
-    for _ in 0..TURNS {
-        match running.mail(opened.client) {
-            Some(post) if post.answers(request) => return Some(found(post)),
-            _ => yield_now(),
-        }
-    }
-    None
-}
-
-/// The place and the code of a reply.
-fn found<N: ClusterName>(post: Post<N>) -> Option<(usize, i64)> {
-    match post {
-        Post::Reply(reply) => Some(place_and_code(&reply)),
-        Post::Refused(refused) => {
-            drop(refused);
-            None
-        }
-    }
-}
-
-fn place_and_code<N: ClusterName>(reply: &Reply<N>) -> (usize, i64) {
-    (reply.place(), reply.code())
-}
-
-/// The place and the code of a request that is sent again only once it is refused. So nothing of it is under way afterwards.
-fn quiet_answer<N: ClusterName, R: Wait>(
-    running: &Running<N, R>,
-    opened: &mut Opened<N>,
-    request: &Request,
-) -> Option<(usize, i64)> {
-    for _ in 0..TURNS {
-        running.ask(&mut opened.sends, request).ok()?;
-        if let Some(answer) = reply_to(running, opened, request)? {
-            return Some(answer);
-        }
-    }
-    None
 }
 
 /// Holds a message of the nodes.
@@ -212,13 +76,6 @@ impl Fate for Hold {
         self.pass();
         DeliveryMode::Pass
     }
-}
-
-/// A worker is held with the answer to a request of group 0, until a request of group 1 is answered.
-#[derive(Drop)]
-struct HeldAnswer {
-    alloc: Global,
-    fate: Hold,
 }
 
 /// A client, and two requests of an object.
@@ -247,11 +104,11 @@ fn client_in<N: ClusterName, R: Wait>(
 
 impl<N: ClusterName> Client<N> {
     fn calls_first<R: Wait>(&mut self, running: &Running<N, R>) -> bool {
-        quiet_answer(running, &mut self.opened, &self.first) == Some((0, 0))
+        answer(running, &mut self.opened, &self.first) == Some((0, 0))
     }
 
     fn calls_second<R: Wait>(&mut self, running: &Running<N, R>) -> bool {
-        quiet_answer(running, &mut self.opened, &self.second) == Some((1, 0))
+        answer(running, &mut self.opened, &self.second) == Some((1, 0))
     }
 
     fn asks_second<R: Wait>(&mut self, running: &Running<N, R>) -> bool {
@@ -263,7 +120,15 @@ impl<N: ClusterName> Client<N> {
     }
 }
 
-impl Calls for HeldAnswer {
+/// A worker is held with the answer to a request of group 0, until a request of group 1 is
+/// answered.
+#[derive(Drop)]
+struct HeldAnswer {
+    alloc: Global,
+    fate: Hold,
+}
+
+impl HeldAnswer {
     fn calls<N: ClusterName, R: Wait>(&self, running: &Running<N, R>) -> bool {
         let Some(mut held) = client_in(running, self.alloc, 0) else {
             return false;
@@ -282,6 +147,16 @@ impl Calls for HeldAnswer {
     }
 }
 
+impl Play for HeldAnswer {
+    fn part<N: ClusterName, R: Wait>(&self, running: &Running<N, R>, number: usize) -> bool {
+        if number < 2 {
+            running.serve_with(number, &Open, &self.fate);
+            return true;
+        }
+        number > 2 || ends(running, self.calls(running))
+    }
+}
+
 // No lock is held while messages go out, nor one round all turns.
 #[test]
 fn a_message_of_one_shard_keeps_no_other_waiting(rt: HostRuntime) {
@@ -290,11 +165,7 @@ fn a_message_of_one_shard_keeps_no_other_waiting(rt: HostRuntime) {
         alloc,
         fate: Hold::new(),
     };
-    let pair = Pair {
-        gate: &Open,
-        fate: &calls.fate,
-    };
-    let done = served_by_two(rt, alloc, config(1, 1, 2, 2), &calls, &pair);
+    let done = played(rt, alloc, config(1, 2, 2), &calls);
     assert!(rt; done == Some(true));
 }
 
@@ -317,17 +188,9 @@ impl Gate for Skipped {
     }
 }
 
-/// How long a worker is given to skip a shard and to wait.
-const PAUSE: u32 = 2_000;
-
-fn pause() {
-    for _ in 0..PAUSE {
-        yield_now();
-    }
-}
-
 impl Skipped {
-    /// Whether both requests are queued while a worker is held with a map, which has nothing go out since its node is stopped.
+    /// Whether both requests are queued while a worker is held with a map, which has nothing go out
+    /// since its node is stopped.
     fn are_queued<N: ClusterName, R: Wait>(
         &self,
         running: &Running<N, R>,
@@ -341,12 +204,6 @@ impl Skipped {
                 .ask(&mut client.opened.sends, &client.second)
                 .is_ok()
     }
-}
-
-impl Calls for Skipped {
-    fn begins<N: ClusterName, R: Wait>(&self, running: &Running<N, R>) -> bool {
-        running.stop(NodeId::new(0)).is_ok()
-    }
 
     /// Whether the second request comes while the first is held.
     fn calls<N: ClusterName, R: Wait>(&self, running: &Running<N, R>) -> bool {
@@ -354,15 +211,29 @@ impl Calls for Skipped {
             return false;
         };
         // The workers lose the first map.
-        pause();
+        pause(PAUSE);
         self.first.want();
         let are_queued = self.are_queued(running, &mut client);
         // The other worker skips the shard, finds nothing else, and waits.
-        pause();
+        pause(PAUSE);
         self.map.free();
         let has_come = comes(&self.first.came) && comes(&self.second);
         self.first.free();
         are_queued && has_come && self.map.was_in_time() && self.first.was_in_time()
+    }
+}
+
+impl Play for Skipped {
+    fn begins<N: ClusterName, R: Wait>(&self, running: &Running<N, R>) -> bool {
+        running.stop(NodeId::new(0)).is_ok()
+    }
+
+    fn part<N: ClusterName, R: Wait>(&self, running: &Running<N, R>, number: usize) -> bool {
+        match number {
+            0 | 1 => serves(running, number, self),
+            2 => ends(running, self.calls(running)),
+            _ => true,
+        }
     }
 }
 
@@ -375,11 +246,68 @@ fn a_worker_that_skipped_a_shard_is_woken_for_it(rt: HostRuntime) {
         first: Hold::new(),
         second: AtomicBool::new(false),
     };
-    let pair = Pair {
-        gate: &calls,
-        fate: &PassAll,
+    let done = played(rt, alloc, config(1, 1, 2), &calls);
+    assert!(rt; done == Some(true));
+}
+
+/// A worker is held with the answer to a request: it has the shard again since the gate let it
+/// pass. Tells whether another one comes to the gate meanwhile.
+#[derive(Drop)]
+struct Served {
+    alloc: Global,
+    fate: Hold,
+    are_two: AtomicBool,
+}
+
+impl Gate for Served {
+    fn before(&self, _number: u64) {
+        if self.fate.is_holding() {
+            self.are_two.store(true, Ordering::SeqCst);
+        }
+    }
+}
+
+impl Served {
+    fn calls<N: ClusterName, R: Wait>(&self, running: &Running<N, R>) -> bool {
+        let Some(mut held) = client_in(running, self.alloc, 0) else {
+            return false;
+        };
+        let Some(mut other) = client_in(running, self.alloc, 0) else {
+            return false;
+        };
+        if !held.calls_first(running) {
+            return false;
+        }
+        self.fate.want();
+        let has_come = held.asks_second(running) && comes(&self.fate.came);
+        let is_asked = running.ask(&mut other.opened.sends, &other.first).is_ok();
+        // The other worker finds the shard claimed.
+        pause(PAUSE);
+        self.fate.free();
+        let is_next = reply_to(running, &other.opened, &other.first) == Some(Some((2, -16)));
+        has_come && is_asked && is_next && !self.are_two.load(Ordering::SeqCst)
+    }
+}
+
+impl Play for Served {
+    fn part<N: ClusterName, R: Wait>(&self, running: &Running<N, R>, number: usize) -> bool {
+        if number < 2 {
+            running.serve_with(number, self, &self.fate);
+            return true;
+        }
+        number > 2 || ends(running, self.calls(running))
+    }
+}
+
+#[test]
+fn a_request_that_is_served_has_its_shard(rt: HostRuntime) {
+    let alloc = rt.alloc();
+    let calls = Served {
+        alloc,
+        fate: Hold::new(),
+        are_two: AtomicBool::new(false),
     };
-    let done = served_by_two(rt, alloc, config(1, 1, 1, 2), &calls, &pair);
+    let done = played(rt, alloc, config(1, 1, 2), &calls);
     assert!(rt; done == Some(true));
 }
 
@@ -401,17 +329,14 @@ impl Gate for Inside {
         if self.inside.fetch_add(1, Ordering::SeqCst) != 0 {
             self.are_two.store(true, Ordering::SeqCst);
         }
-        pause();
+        pause(PAUSE);
         self.inside.fetch_sub(1, Ordering::SeqCst);
     }
 }
 
-impl Calls for Inside {
-    fn begins<N: ClusterName, R: Wait>(&self, running: &Running<N, R>) -> bool {
-        running.stop(NodeId::new(0)).is_ok() && running.stop(NodeId::new(1)).is_ok()
-    }
-
-    /// Whether the maps of the two nodes come one after the other, the first ones and those that a nudge hands on.
+impl Inside {
+    /// Whether the maps of the two nodes come one after the other, the first ones and those that a
+    /// nudge hands on.
     fn calls<N: ClusterName, R: Wait>(&self, running: &Running<N, R>) -> bool {
         let Some(mut client) = client_in(running, self.alloc, 0) else {
             return false;
@@ -423,8 +348,22 @@ impl Calls for Inside {
             running.nudge(&mut client.opened.sends, 0);
             yield_now();
         }
-        pause();
+        pause(PAUSE);
         self.came.load(Ordering::SeqCst) >= 4 && !self.are_two.load(Ordering::SeqCst)
+    }
+}
+
+impl Play for Inside {
+    fn begins<N: ClusterName, R: Wait>(&self, running: &Running<N, R>) -> bool {
+        running.stop(NodeId::new(0)).is_ok() && running.stop(NodeId::new(1)).is_ok()
+    }
+
+    fn part<N: ClusterName, R: Wait>(&self, running: &Running<N, R>, number: usize) -> bool {
+        match number {
+            0 | 1 => serves(running, number, self),
+            2 => ends(running, self.calls(running)),
+            _ => true,
+        }
     }
 }
 
@@ -437,10 +376,6 @@ fn a_shard_is_served_by_one_worker_at_a_time(rt: HostRuntime) {
         came: AtomicU64::new(0),
         are_two: AtomicBool::new(false),
     };
-    let pair = Pair {
-        gate: &calls,
-        fate: &PassAll,
-    };
-    let done = served_by_two(rt, alloc, config(2, 2, 1, 2), &calls, &pair);
+    let done = played(rt, alloc, config(2, 1, 2), &calls);
     assert!(rt; done == Some(true));
 }

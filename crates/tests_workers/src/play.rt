@@ -1,0 +1,135 @@
+//! Threads on a new cluster.
+ghost use Rattle.std.specs.Prelude.{◌≡◌};
+
+use builtin_classes::load_lock;
+use interp::ClassTable;
+use osd::{ClusterName, Config, Gate, Parts, Running, running_crosses};
+use std::alloc::Global;
+use std::marker::Brand;
+use std::sync::Wait;
+use std::thread::{Threads, join};
+
+/// What nine threads do with a cluster, each its part. A part that a play doesn't need does
+/// nothing.
+pub trait Play {
+    /// What comes before the threads, and whether it comes out as it should.
+    fn begins<N: ClusterName, R: Wait>(&self, _running: &Running<N, R>) -> bool {
+        true
+    }
+
+    /// What the thread of that number does, 0 to 8, and whether it comes out as it should.
+    fn part<N: ClusterName, R: Wait>(&self, running: &Running<N, R>, number: usize) -> bool;
+}
+
+/// Serves as the worker of that number.
+pub fn serves<N: ClusterName, R: Wait, G: Gate>(
+    running: &Running<N, R>,
+    worker: usize,
+    gate: &G,
+) -> bool {
+    running.serve(worker, gate);
+    true
+}
+
+/// Ends the workers once all calls are made, and answers how these came out.
+pub fn ends<N: ClusterName, R: Wait>(running: &Running<N, R>, done: bool) -> bool {
+    running.finish();
+    done
+}
+
+/// The parts of a new cluster, and a table that has the class `lock`.
+fn made(alloc: Global, config: Config) -> Option<(Parts, ClassTable)> {
+    let mut table = ClassTable::new(alloc);
+    let class = load_lock(alloc).ok()?;
+    table.add(class).ok()?;
+    if !config.is_within_limits() {
+        return None;
+    }
+    let parts = Parts::new(alloc, config).ok()?;
+    Some((parts, table))
+}
+
+/// Plays on a new cluster that has the class `lock`. Whether all parts come out as they should.
+pub fn played<P: Play + Sync, R: Threads + Wait + Sync + Drop>(
+    rt: R,
+    alloc: Global,
+    config: Config,
+    play: &P,
+) -> Option<bool> {
+    let (parts, table) = made(alloc, config)?;
+    played_on::<Brand, P, R>(rt, alloc, parts, table, play)
+}
+
+fn played_on<N: ClusterName + Send + Sync, P: Play + Sync, R: Threads + Wait + Sync + Drop>(
+    rt: R,
+    alloc: Global,
+    parts: Parts,
+    table: ClassTable,
+    play: &P,
+) -> Option<bool>
+    requires board { parts.board ≡ N.board }
+    requires queues { parts.queues ≡ N.queues }
+    requires config { parts.config ≡ N.config }
+    requires table { table ≡ N.classes }
+{
+    let running = Running::<N, R>::named(alloc, rt, parts, table).ok()?;
+    Some(play.begins(&running) && nine(&running, play))
+}
+
+/// Parts 0 to 8.
+fn nine<N: ClusterName + Send + Sync, P: Play + Sync, R: Threads + Wait + Sync>(
+    running: &Running<N, R>,
+    play: &P,
+) -> bool {
+    running_crosses::<N, R>();
+    let (eight, last) = join(
+        running.runtime(),
+        || eight(running, play),
+        || play.part(running, 8),
+    );
+    eight && last
+}
+
+/// Parts 0 to 7.
+fn eight<N: ClusterName + Send + Sync, P: Play + Sync, R: Threads + Wait + Sync>(
+    running: &Running<N, R>,
+    play: &P,
+) -> bool {
+    running_crosses::<N, R>();
+    let (low, high) = join(
+        running.runtime(),
+        || four(running, play, 0),
+        || four(running, play, 4),
+    );
+    low && high
+}
+
+/// Four parts from a number on.
+fn four<N: ClusterName + Send + Sync, P: Play + Sync, R: Threads + Wait + Sync>(
+    running: &Running<N, R>,
+    play: &P,
+    first: usize,
+) -> bool {
+    running_crosses::<N, R>();
+    let (low, high) = join(
+        running.runtime(),
+        || two(running, play, first),
+        || two(running, play, first.wrapping_add(2)),
+    );
+    low && high
+}
+
+/// Two parts.
+fn two<N: ClusterName + Send + Sync, P: Play + Sync, R: Threads + Wait + Sync>(
+    running: &Running<N, R>,
+    play: &P,
+    first: usize,
+) -> bool {
+    running_crosses::<N, R>();
+    let (low, high) = join(
+        running.runtime(),
+        || play.part(running, first),
+        || play.part(running, first.wrapping_add(1)),
+    );
+    low && high
+}

@@ -1,0 +1,161 @@
+//! Workers that wait, that are woken, and that end.
+
+use crate::asking::{answer, comes, config, lock, pause, reply_to};
+use crate::play::{Play, ends, played, serves};
+use osd::{ClusterName, Open, Opened, Running};
+use std::alloc::Global;
+use std::sync::Wait;
+use std::sync::atomic::{AtomicBool, Ordering};
+
+/// The calls to a worker that waits.
+const CALLS: u32 = 5;
+
+/// The turns after which a worker that has nothing to do waits.
+const IDLE: u32 = 50;
+
+/// A worker is left alone before each call.
+#[derive(Drop)]
+struct Woken {
+    alloc: Global,
+}
+
+impl Woken {
+    /// Whether a request that is sent once is answered.
+    fn is_served<N: ClusterName, R: Wait>(
+        &self,
+        running: &Running<N, R>,
+        opened: &mut Opened<N>,
+        number: u32,
+    ) -> bool {
+        let Some(request) = lock(self.alloc, opened.client, number, "a") else {
+            return false;
+        };
+        running.ask(&mut opened.sends, &request).is_ok()
+            && matches!(reply_to(running, opened, &request), Some(Some(_)))
+    }
+
+    fn calls<N: ClusterName, R: Wait>(&self, running: &Running<N, R>) -> bool {
+        let Some(mut opened) = running.open() else {
+            return false;
+        };
+        let Some(request) = lock(self.alloc, opened.client, 1, "a") else {
+            return false;
+        };
+        let mut done = answer(running, &mut opened, &request).is_some();
+        for number in 2..=CALLS {
+            pause(IDLE);
+            done = done && self.is_served(running, &mut opened, number);
+        }
+        done
+    }
+}
+
+impl Play for Woken {
+    fn part<N: ClusterName, R: Wait>(&self, running: &Running<N, R>, number: usize) -> bool {
+        match number {
+            0 => serves(running, number, &Open),
+            1 => ends(running, self.calls(running)),
+            _ => true,
+        }
+    }
+}
+
+#[test]
+fn a_submit_wakes_a_worker_that_waits(rt: HostRuntime) {
+    let alloc = rt.alloc();
+    let done = played(rt, alloc, config(1, 1, 1), &Woken { alloc });
+    assert!(rt; done == Some(true));
+}
+
+/// Three workers that have nothing to do are ended in a while.
+struct Idle;
+
+impl Play for Idle {
+    fn part<N: ClusterName, R: Wait>(&self, running: &Running<N, R>, number: usize) -> bool {
+        match number {
+            0..=2 => serves(running, number, &Open),
+            3 => {
+                pause(IDLE);
+                ends(running, true)
+            }
+            _ => true,
+        }
+    }
+}
+
+#[test]
+fn finish_ends_all_workers(rt: HostRuntime) {
+    let alloc = rt.alloc();
+    let done = played(rt, alloc, config(1, 2, 3), &Idle);
+    assert!(rt; done == Some(true));
+}
+
+/// A number is served twice, and one is that of no worker.
+#[derive(Drop)]
+struct Twice {
+    alloc: Global,
+}
+
+impl Twice {
+    fn calls<N: ClusterName, R: Wait>(&self, running: &Running<N, R>) -> bool {
+        let Some(mut opened) = running.open() else {
+            return false;
+        };
+        let Some(request) = lock(self.alloc, opened.client, 1, "a") else {
+            return false;
+        };
+        let done = answer(running, &mut opened, &request).is_some();
+        // The worker is served, and these two would wait for the end that comes after them.
+        running.serve(0, &Open);
+        running.serve(1, &Open);
+        done
+    }
+}
+
+impl Play for Twice {
+    fn part<N: ClusterName, R: Wait>(&self, running: &Running<N, R>, number: usize) -> bool {
+        match number {
+            0 => serves(running, number, &Open),
+            1 => ends(running, self.calls(running)),
+            _ => true,
+        }
+    }
+}
+
+#[test]
+fn a_number_is_served_once(rt: HostRuntime) {
+    let alloc = rt.alloc();
+    let done = played(rt, alloc, config(1, 1, 1), &Twice { alloc });
+    assert!(rt; done == Some(true));
+}
+
+/// A second worker serves of a cluster that has one, which doesn't serve. Then the cluster is
+/// ended.
+#[derive(Drop)]
+struct NoWorker {
+    has_returned: AtomicBool,
+}
+
+impl Play for NoWorker {
+    fn part<N: ClusterName, R: Wait>(&self, running: &Running<N, R>, number: usize) -> bool {
+        match number {
+            0 => ends(running, comes(&self.has_returned)),
+            1 => {
+                running.serve(number, &Open);
+                self.has_returned.store(true, Ordering::SeqCst);
+                true
+            }
+            _ => true,
+        }
+    }
+}
+
+#[test]
+fn a_number_of_no_worker_is_not_served(rt: HostRuntime) {
+    let alloc = rt.alloc();
+    let calls = NoWorker {
+        has_returned: AtomicBool::new(false),
+    };
+    let done = played(rt, alloc, config(1, 1, 1), &calls);
+    assert!(rt; done == Some(true));
+}
