@@ -145,7 +145,7 @@ impl<N: ClusterName, R: Wait> AtWork<'_, N, R> {
                 refused = refused.saturating_add(1);
             }
             made.push(call)?;
-            if refused >= REFUSALS {
+            if refused >= REFUSALS || self.trouble.is_over() {
                 break;
             }
         }

@@ -119,9 +119,9 @@ impl Shape {
         self.callers <= 8 || client % self.objects.max(1) == object
     }
 
-    /// Whether calls have so few tries that others have to nudge.
-    pub fn is_impatient(&self) -> bool {
-        self.config.tries < PATIENT
+    /// Whether callers go on until a log is full.
+    pub fn is_full(&self) -> bool {
+        self.number >= FULL
     }
 
     /// The numbers of its maps, stops and nudges.

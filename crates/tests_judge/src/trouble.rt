@@ -81,6 +81,11 @@ impl Trouble {
         self.is_calm.store(true, Ordering::SeqCst);
     }
 
+    /// Whether callers make no more calls in the trouble, since it is over. Where a log is to be full they go on.
+    pub fn is_over(&self) -> bool {
+        self.is_calm.load(Ordering::SeqCst) && !self.shape.is_full()
+    }
+
     /// Waits until the trouble is over. False where that doesn't come.
     pub fn waits_for_calm<C: Clock>(&self, clock: &C) -> bool {
         for _ in 0..LOOKS {
@@ -108,9 +113,12 @@ impl Trouble {
     }
 }
 
-/// Which messages are lost, doubled and late.
+/// Which messages are lost, doubled and late. After the trouble all pass.
 impl Fate for Trouble {
     fn of(&self, worker: usize, n: u64) -> DeliveryMode {
+        if self.is_over() {
+            return DeliveryMode::Pass;
+        }
         let shares = self.shape.shares;
         let chance = self.chance(worker as u64, n);
         let doubled = shares.dropped.saturating_add(shares.doubled);

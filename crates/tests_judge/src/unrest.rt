@@ -10,7 +10,7 @@ use std::sync::Wait;
 use std::thread::sleep;
 use std::time::{Clock, Duration};
 
-/// How long who nudges in place of impatient callers waits between two nudges.
+/// How long who nudges after the trouble waits between two nudges.
 const NUDGE_MICROSECONDS: u64 = 200;
 
 /// How many nudges there are at most after the trouble.
@@ -91,7 +91,8 @@ impl Unrest {
         }
         self.calm(running);
         trouble.be_calm();
-        if trouble.shape.is_impatient() {
+        // Where other programs use the processors, a thousand looks of a session take long.
+        if !trouble.shape.is_full() {
             nudge_on(running, &mut opened, trouble);
         }
     }
