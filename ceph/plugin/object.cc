@@ -178,12 +178,10 @@ int read_flat(cls_method_context_t context, unsigned needs, bytes &flat) {
         return result;
     if (needs & NEEDS_KEYS && (result = read_keys(context, keys)) < 0)
         return result;
-    flat.reserve(size + 4096);
+    flat.reserve(data.length() + 4096);
     flat.push_back(1);
-    put_number(flat, size, 4);
+    put_number(flat, data.length(), 4);
     put_bytes(flat, slice_of(data));
-    if (!(needs & NEEDS_DATA))
-        flat.resize(flat.size() + size, 0);
     put_entries(flat, xattrs);
     put_entries(flat, keys);
     return 0;

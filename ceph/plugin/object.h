@@ -21,9 +21,8 @@ using values = std::map<std::string, ceph::bufferlist>;
 // Whether a name is the plug-in's own.
 bool is_own(const std::string &name);
 
-// Puts the object in the flat form of `sillarnica.h`. Of parts that aren't needed nothing is read:
-// the data is zeros, of its length, and there are no entries. Refused: DATA_TOO_LONG; TOO_MUCH of a
-// part that is read.
+// Puts the object in the flat form of `sillarnica.h`. Parts that aren't needed are empty, and
+// nothing of them is read. Refused: DATA_TOO_LONG; TOO_MUCH of a part that is read.
 int read_flat(cls_method_context_t context, unsigned needs, bytes &flat);
 
 // Makes the library's edits, in their order. All are read and tested before the first is made.
