@@ -69,7 +69,11 @@ static WORKED: [(&str, &str, u8); 15] = [
         "line 3: refused 2 Limit\n",
         1,
     ),
-    ("client 1 a lock lock -\nmap\nmap 3\n", "line 3: refused 1 NoneUp\n", 1),
+    (
+        "client 1 a lock lock -\nmap\nmap 3\n",
+        "line 3: refused 1 NoneUp\n",
+        1,
+    ),
     // the node that was up alone has the log
     (
         "map 1\nclient 1 a lock lock -\nmap 0 1 2\nclient 1 a lock lock -\nclient 1 a lock unlock -\n",
