@@ -24,7 +24,8 @@ use Rattle.object_bytes.proofs.Entries.{R, Rows, got_at}
 use Rattle.object_bytes.proofs.Maps.{AreAmong, fewer_among, among_set, among_empty, set_fits, inserted, inserted_all}
 use Rattle.object_bytes.proofs.Fields.{entry_again, number_again_2, number_again_4, bytes_again}
 
--- ---- a set of an entry that is within the limits, into names among those of a map within the limits
+-- ---- a set of an entry that is within the limits, into names among those of a map within the
+-- limits
 
 abbrev pub with_names : Part → Content → Attributes → Content
 with_names Xattrs c m = record c { xattrs = m }

@@ -29,7 +29,8 @@ const TAKES_LOCK: Call = Call {
     input: b"",
 };
 
-/// The place and the code of the reply to a call of an object, or the number of the refusal and 1,000.
+/// The place and the code of the reply to a call of an object, or the number of the refusal and
+/// 1,000.
 fn outcome<N: ClusterName, R: Wait>(
     session: &mut Session<'_, N, R>,
     alloc: Global,
@@ -228,8 +229,8 @@ const LONG_INPUT: Call = Call {
     ..TAKES_LOCK
 };
 
-/// Refusals: a class that isn't loaded, a method that isn't there, an input that is too long; and the answer again by
-/// `retry`.
+/// Refusals: a class that isn't loaded, a method that isn't there, an input that is too long; and
+/// the answer again by `retry`.
 #[derive(Drop)]
 struct Refusals;
 
@@ -272,8 +273,8 @@ fn refusals_by_class_method_and_input(rt: HostRuntime) {
     );
 }
 
-/// With one try a call submits its request and doesn't look for the answer: it stands in the log, and neither it nor a
-/// repeat is answered.
+/// With one try a call submits its request and doesn't look for the answer: it stands in the log,
+/// and neither it nor a repeat is answered.
 #[derive(Drop)]
 struct OneTry;
 
@@ -440,8 +441,9 @@ fn a_session_that_heard_of_a_call_finds_its_own_behind_it(rt: HostRuntime) {
     );
 }
 
-/// With one try and no worker a call is unanswered, until fewer than 256 of the queue's 1,024 places are free; then none is
-/// taken any more. One place has the first map, so 768 requests are taken, the first two of them before the calls are counted.
+/// With one try and no worker a call is unanswered, until fewer than 256 of the queue's 1,024
+/// places are free; then none is taken any more. One place has the first map, so 768 requests are
+/// taken, the first two of them before the calls are counted.
 #[derive(Drop)]
 struct Unserved;
 

@@ -1,5 +1,5 @@
-//! A session hands on that its group's log is full. It takes a second as `rt test` builds it; `rt try --test` checks
-//! each access, and wants `--seconds 300`.
+//! A session hands on that its group's log is full. It takes a second as `rt test` builds it; `rt
+//! try --test` checks each access, and wants `--seconds 300`.
 
 use crate::served::{Part, config, is_so};
 use object_store::ObjectName;
@@ -14,8 +14,8 @@ use std::thread::yield_now;
 
 const LOCK: usize = 0;
 
-/// Client 2 takes the lock, and requests of client 1 fill the log, without a wait for their answers. Then client 2
-/// calls, and asks again.
+/// Client 2 takes the lock, and requests of client 1 fill the log, without a wait for their
+/// answers. Then client 2 calls, and asks again.
 #[derive(Drop)]
 struct Full(Global);
 
@@ -102,7 +102,8 @@ fn asks_again<N: ClusterName, R: Wait>(session: &mut Session<'_, N, R>) -> Resul
     Ok(())
 }
 
-/// Whether the log has 65,536 entries: the lock's, and those of client 1, all refused the lock, by rising numbers.
+/// Whether the log has 65,536 entries: the lock's, and those of client 1, all refused the lock, by
+/// rising numbers.
 fn is_full<N: ClusterName, R: Wait>(running: &Running<N, R>) -> bool {
     match running.logged(NodeId::new(0), 0) {
         Ok(log) => log.len() == 65_536 && are_in_order(&log),

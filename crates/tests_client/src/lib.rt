@@ -1,5 +1,5 @@
-//! A cluster as its users see it: sessions and workers in threads of their own. Each test ends by itself: workers stop
-//! when the calls are made, and a call has that many tries.
+//! A cluster as its users see it: sessions and workers in threads of their own. Each test ends by
+//! itself: workers stop when the calls are made, and a call has that many tries.
 #![tactic(auto)]
 
 #[cfg(test)]

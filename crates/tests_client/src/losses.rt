@@ -50,8 +50,8 @@ fn lock<N: ClusterName, R: Wait>(
     Some((reply.place(), reply.code()))
 }
 
-/// After the first client's lock the primary is stopped and left out of a new map. The second client's lock stands
-/// after the first.
+/// After the first client's lock the primary is stopped and left out of a new map. The second
+/// client's lock stands after the first.
 #[derive(Drop)]
 struct StoppedPrimary(Global);
 
@@ -138,8 +138,9 @@ struct Locked<'a, N: ClusterName, R> {
     object: &'a ObjectName,
 }
 
-/// Four clients with ten locks each on one object, under losses. A call has few tries, so that a lost message doesn't
-/// cost the thousand looks after which a session nudges: a sender of its own nudges after each call that is unanswered.
+/// Four clients with ten locks each on one object, under losses. A call has few tries, so that a
+/// lost message doesn't cost the thousand looks after which a session nudges: a sender of its own
+/// nudges after each call that is unanswered.
 #[derive(Drop)]
 struct Lossy<C> {
     alloc: Global,
@@ -284,8 +285,8 @@ fn is_unanswered(answer: &Result<Reply, ExecError>) -> bool {
     }
 }
 
-/// Whether each answered call stands in the primary's log at its place, with its code, and no pair of client and number
-/// stands there twice.
+/// Whether each answered call stands in the primary's log at its place, with its code, and no pair
+/// of client and number stands there twice.
 fn are_logged<N: ClusterName, R: Wait>(
     alloc: Global,
     running: &Running<N, R>,
@@ -354,7 +355,8 @@ fn answered_calls_stand_in_the_log_under_losses(rt: HostRuntime) {
     assert!(rt; is_so_under(&rt, rt.alloc(), config(3, 16), &Losing, &lossy));
 }
 
-/// The reply to a session's call is lost. The session nudges, asks again, and is answered from the log.
+/// The reply to a session's call is lost. The session nudges, asks again, and is answered from the
+/// log.
 #[derive(Drop)]
 struct LostReply {
     alloc: Global,
@@ -451,8 +453,8 @@ fn a_lost_reply_is_sent_again(rt: HostRuntime) {
     assert!(rt; is_so_under(&rt, rt.alloc(), config(1, 100_000_000), &lost.fate, &lost));
 }
 
-/// A session is dropped with its call unanswered, since the node is stopped. The next session's call is answered all
-/// the same, and by its own answer.
+/// A session is dropped with its call unanswered, since the node is stopped. The next session's
+/// call is answered all the same, and by its own answer.
 #[derive(Drop)]
 struct Abandoned(Global);
 
@@ -468,7 +470,8 @@ fn abandons<N: ClusterName, R: Wait>(alloc: Global, running: &Running<N, R>) -> 
     session.client().get() == 1 && is_unanswered(&answer)
 }
 
-/// Whether the second session's lock stands in the log at the place and with the code of its answer.
+/// Whether the second session's lock stands in the log at the place and with the code of its
+/// answer.
 fn goes_on<N: ClusterName, R: Wait>(alloc: Global, running: &Running<N, R>) -> bool {
     let Ok(object) = ObjectName::new(alloc, "a") else {
         return false;
@@ -482,7 +485,8 @@ fn goes_on<N: ClusterName, R: Wait>(alloc: Global, running: &Running<N, R>) -> b
     }
 }
 
-/// The place and the code of a lock, which is asked for until it is answered, 100,000 times at most.
+/// The place and the code of a lock, which is asked for until it is answered, 100,000 times at
+/// most.
 fn insisted<N: ClusterName, R: Wait>(
     session: &mut Session<'_, N, R>,
     alloc: Global,
@@ -499,7 +503,8 @@ fn insisted<N: ClusterName, R: Wait>(
     Some((reply.place(), reply.code()))
 }
 
-/// Whether the second client's first call stands at that place with that code, and no pair stands twice.
+/// Whether the second client's first call stands at that place with that code, and no pair stands
+/// twice.
 fn is_seconds<N: ClusterName, R: Wait>(running: &Running<N, R>, place: usize, code: i64) -> bool {
     let own = Answered {
         client: 2,
@@ -527,7 +532,8 @@ fn a_session_is_dropped_with_its_call_unanswered(rt: HostRuntime) {
     assert!(rt; is_so(&rt, rt.alloc(), config(1, 50), &Abandoned(rt.alloc())));
 }
 
-/// No message between nodes passes, so the primary stays in peering, and refuses each request by that.
+/// No message between nodes passes, so the primary stays in peering, and refuses each request by
+/// that.
 #[derive(Drop)]
 pub struct Silent;
 
@@ -537,8 +543,8 @@ impl Fate for Silent {
     }
 }
 
-/// A call that is refused since the primary is in peering nudges at once. It has fewer tries than the thousand looks
-/// after which any call nudges.
+/// A call that is refused since the primary is in peering nudges at once. It has fewer tries than
+/// the thousand looks after which any call nudges.
 #[derive(Drop)]
 struct Refused(Global);
 

@@ -1,5 +1,5 @@
-//! What a refused allocation leaves. `rt try --test --fail-alloc N` refuses the Nth; the test holds whichever that is,
-//! and where none is refused.
+//! What a refused allocation leaves. `rt try --test --fail-alloc N` refuses the Nth; the test holds
+//! whichever that is, and where none is refused.
 
 use crate::limits::IMAGE;
 use crate::served::{Alone, Part, UnderFate, config, play};
@@ -24,7 +24,8 @@ fn cluster(alloc: Global, tries: u32) -> Option<Cluster> {
     }
 }
 
-/// Whether a class is loaded and gets the id 2. Where memory is refused the first time, it is loaded the second.
+/// Whether a class is loaded and gets the id 2. Where memory is refused the first time, it is
+/// loaded the second.
 fn loads(cluster: &mut Cluster) -> bool {
     match cluster.load_class(&IMAGE) {
         Ok(id) => id.get() == 2,
@@ -36,8 +37,8 @@ fn loads_again(cluster: &mut Cluster) -> bool {
     cluster.load_class(&IMAGE).is_ok_and(|id| id.get() == 2)
 }
 
-/// A session's call. Where memory is refused to it before it sends the request, its next call has the same number;
-/// where to the node, it asks again with that number.
+/// A session's call. Where memory is refused to it before it sends the request, its next call has
+/// the same number; where to the node, it asks again with that number.
 #[derive(Drop)]
 struct Kept(Global);
 
@@ -128,8 +129,8 @@ fn what_a_refused_allocation_leaves(rt: HostRuntime) {
     assert!(rt; loaded && played != Some(false));
 }
 
-/// A call without a worker. No node refuses it, so want of memory is the session's: nothing was sent, and the number is
-/// kept.
+/// A call without a worker. No node refuses it, so want of memory is the session's: nothing was
+/// sent, and the number is kept.
 #[derive(Drop)]
 struct Unsent(Global);
 

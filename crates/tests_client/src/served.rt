@@ -87,8 +87,8 @@ pub struct UnderFate<'a, P, F> {
     pub fate: &'a F,
 }
 
-/// Plays a part on the cluster of these parts and classes beside one worker. None where memory for its nodes is
-/// refused.
+/// Plays a part on the cluster of these parts and classes beside one worker. None where memory for
+/// its nodes is refused.
 pub fn play<P: Part + Sync, F: Fate + Sync, R: Threads + Wait + Sync + Drop>(
     alloc: Global,
     rt: R,

@@ -1,5 +1,5 @@
-//! How a call uses its tries: each submit and each look is one, and a session nudges before each repeat. Where no worker
-//! serves, the counts are exact.
+//! How a call uses its tries: each submit and each look is one, and a session nudges before each
+//! repeat. Where no worker serves, the counts are exact.
 
 use crate::losses::Silent;
 use crate::served::{Alone, Part, config, is_so, is_so_alone, is_so_under};
@@ -103,9 +103,10 @@ fn is_row_so<R: Threads + Wait + Sync + Abort>(
     is_so_alone(rt, alloc, config(1, tries), part)
 }
 
-/// The tries of a call, whether its queue is full, how it is refused, and how often it nudges. Where the queue took the
-/// request, 1,000 looks come before the first nudge, and the submit after it is one more try. Where the queue is full, each
-/// nudge and submit comes after one look: of eleven tries the first is a submit, and five looks and five submits follow.
+/// The tries of a call, whether its queue is full, how it is refused, and how often it nudges.
+/// Where the queue took the request, 1,000 looks come before the first nudge, and the submit after
+/// it is one more try. Where the queue is full, each nudge and submit comes after one look: of
+/// eleven tries the first is a submit, and five looks and five submits follow.
 #[rattlefmt::skip]
 const UNSERVED: [(u32, bool, ExecError, u64); 7] = [
     (1, false, ExecError::Unanswered, 0),
@@ -160,7 +161,8 @@ impl Part for OneGroup {
     }
 }
 
-// Each queue has its group's first map. That of group 1 has also the request twice, and the map that the nudge hands on.
+// Each queue has its group's first map. That of group 1 has also the request twice, and the map
+// that the nudge hands on.
 #[test]
 fn a_session_nudges_the_group_of_its_request(rt: HostRuntime) {
     let config = Config {
@@ -190,9 +192,9 @@ impl Part for Refused {
     }
 }
 
-// After the first refusal comes one look, after the next one two, and so on up to 1,000 from the eleventh on. So ten nudges
-// cost at least 1,044 of 20,000 tries (the first submit; 1,023 looks; and a submit, and the look that finds the refusal, each
-// time), and each further one 1,001.
+// After the first refusal comes one look, after the next one two, and so on up to 1,000 from the
+// eleventh on. So ten nudges cost at least 1,044 of 20,000 tries (the first submit; 1,023 looks;
+// and a submit, and the look that finds the refusal, each time), and each further one 1,001.
 #[test]
 fn who_is_refused_again_and_again_nudges_less_and_less(rt: HostRuntime) {
     let config = config(3, 20_000);
@@ -220,7 +222,8 @@ fn has_entry(log: &[LoggedEntry], client: u32, number: u32) -> bool {
     false
 }
 
-/// Whether a call of the session is answered some time. What was asked for before it is served then.
+/// Whether a call of the session is answered some time. What was asked for before it is served
+/// then.
 fn is_answered<N: ClusterName, R: Wait>(
     session: &mut Session<'_, N, R>,
     alloc: Global,
@@ -238,7 +241,8 @@ fn is_answered<N: ClusterName, R: Wait>(
     false
 }
 
-/// Calls until a call is logged whose answer the session hasn't taken. None where there is no such call.
+/// Calls until a call is logged whose answer the session hasn't taken. None where there is no such
+/// call.
 fn call_unheard<N: ClusterName, R: Wait>(
     running: &Running<N, R>,
     first: &mut Session<'_, N, R>,

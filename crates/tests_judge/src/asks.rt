@@ -8,7 +8,8 @@ pub const NAMES: usize = 5;
 /// Their names. The last one is the owner of the lock.
 const XATTRS: [&str; NAMES] = ["a", "b", "c", "d", "lock"];
 
-/// A call of a class on an object. Numbers that it takes are limited by who makes it, so that calls are cheap.
+/// A call of a class on an object. Numbers that it takes are limited by who makes it, so that calls
+/// are cheap.
 #[derive(Clone, Copy, Debug, PartialEq, Eq, Drop)]
 pub enum Asks {
     Lock,

@@ -168,7 +168,8 @@ impl<N: ClusterName, R: Wait> AtWork<'_, N, R> {
         Ok(())
     }
 
-    /// A call, which is repeated some times where it is unanswered, and now and then where it is answered.
+    /// A call, which is repeated some times where it is unanswered, and now and then where it is
+    /// answered.
     fn call(&mut self, random: &mut Random, object: u32) -> Result<Made, AllocError> {
         let mut made = self.begin(random, object)?;
         for _ in 0..REPEATS {
@@ -261,7 +262,8 @@ fn wrong(random: &mut Random) -> Asks {
     }
 }
 
-/// Where a write begins: near the beginning of the data, or at its limit, which is refused for any byte.
+/// Where a write begins: near the beginning of the data, or at its limit, which is refused for any
+/// byte.
 fn offset(random: &mut Random) -> u32 {
     if random.is_one_in(16) {
         65_536

@@ -7,15 +7,19 @@ use std::fmt;
 pub enum Fault {
     /// A thread says so.
     Said(&'static str),
-    /// No node keeps the group, or a node keeps another list than the primary, or lacks an answered call.
+    /// No node keeps the group, or a node keeps another list than the primary, or lacks an answered
+    /// call.
     Replicas(usize),
-    /// The entry at that place of the group is nobody's call, or one of another group, or one that is refused by each node.
+    /// The entry at that place of the group is nobody's call, or one of another group, or one that
+    /// is refused by each node.
     Nobodys(usize, usize),
-    /// The entry at that place of the group stands after it already, or after a later call of its client.
+    /// The entry at that place of the group stands after it already, or after a later call of its
+    /// client.
     Order(usize, usize),
     /// The entry at that place of the group has another code than the list gives.
     Code(usize, usize),
-    /// The client's call of that number was answered at another place than it stands at, or stands nowhere.
+    /// The client's call of that number was answered at another place than it stands at, or stands
+    /// nowhere.
     Place(u32, usize),
     /// It was answered by another code or output than the list gives.
     Answer(u32, usize),
@@ -25,7 +29,8 @@ pub enum Fault {
     Refusal(u32, usize),
     /// It was made after the trouble, and isn't answered.
     Unanswered(u32, usize),
-    /// The entry at that place of the group began after a call had been answered that stands behind it.
+    /// The entry at that place of the group began after a call had been answered that stands behind
+    /// it.
     Time(usize, usize),
 }
 

@@ -35,7 +35,8 @@ pub struct History {
 /// How many entries a log has at most.
 const LIMIT: usize = 65_536;
 
-/// What a run leaves, in which all nodes are up by the newest map. None where memory is refused, or a node doesn't tell.
+/// What a run leaves, in which all nodes are up by the newest map. None where memory is refused, or
+/// a node doesn't tell.
 pub fn history_of<N: ClusterName, R: Wait>(
     alloc: Global,
     running: &Running<N, R>,

@@ -60,7 +60,8 @@ fn is_of(history: &History, group: usize, made: &Made) -> bool {
     group_of(history, made) == Some(group)
 }
 
-/// Whether all nodes that act for a group keep one list, as far as each has come, and all have what was answered.
+/// Whether all nodes that act for a group keep one list, as far as each has come, and all have what
+/// was answered.
 fn are_replicas(history: &History, group: usize, list: &[LoggedEntry]) -> bool {
     let least = answered_in(history, group);
     let Some(kept) = history.kept.get(group) else {
@@ -120,7 +121,8 @@ impl Places {
         *self.of.get(client)?.get(call)?
     }
 
-    /// Notes where a call stands. False where it, or a later call of its client, stands in the group already.
+    /// Notes where a call stands. False where it, or a later call of its client, stands in the
+    /// group already.
     fn put(&mut self, client: usize, call: usize, place: usize) -> bool {
         let Some(calls) = self.of.get_mut(client) else {
             return false;
@@ -153,7 +155,8 @@ impl Run {
         })
     }
 
-    /// Whether the call comes after all of its client's that stand here. If so, it stands here from now on.
+    /// Whether the call comes after all of its client's that stand here. If so, it stands here from
+    /// now on.
     fn follows(&mut self, client: usize, call: usize) -> bool {
         match self.used.get_mut(client) {
             Some(used) if *used <= call => {
@@ -281,7 +284,8 @@ impl Entry {
     }
 }
 
-/// The first entry of a list, from its end, that began after a call was answered that stands behind it.
+/// The first entry of a list, from its end, that began after a call was answered that stands behind
+/// it.
 fn wrong_time(history: &History, group: usize, list: &[LoggedEntry]) -> Option<Fault> {
     let mut answered = u64::MAX;
     for (place, entry) in list.iter().enumerate().rev() {
@@ -342,8 +346,8 @@ fn may_be_refused(history: &History, places: &Places, made: &Made, why: ExecErro
     }
 }
 
-/// Whether the log of a call's group may have been full: with what stands in no list any more it has as many entries as a
-/// log has at most.
+/// Whether the log of a call's group may have been full: with what stands in no list any more it
+/// has as many entries as a log has at most.
 fn is_full(history: &History, places: &Places, made: &Made) -> bool {
     let Some(group) = group_of(history, made) else {
         return false;

@@ -139,7 +139,8 @@ impl Run {
         Ok(Some(line_of(alloc, call, place, &answer)?))
     }
 
-    /// Whether the call comes after all of its client's that stand here. If so, it stands here from now on.
+    /// Whether the call comes after all of its client's that stand here. If so, it stands here from
+    /// now on.
     fn follows(&mut self, call: &Planned) -> bool {
         match self.made.get_mut(call.client.wrapping_sub(1) as usize) {
             Some(made) if *made <= call.number => {
@@ -170,7 +171,8 @@ fn line_of(
     Ok(line)
 }
 
-/// Runs the list of those lines in the order of their places, and tells which line it doesn't give, if one.
+/// Runs the list of those lines in the order of their places, and tells which line it doesn't give,
+/// if one.
 fn wrong_in(
     alloc: Global,
     plan: &Plan,

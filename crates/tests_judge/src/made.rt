@@ -21,7 +21,8 @@ pub enum End {
 pub struct Made {
     pub object: u32,
     pub asks: Asks,
-    /// When it began, and when it was first answered, as ticks of the run; the greatest number if it wasn't.
+    /// When it began, and when it was first answered, as ticks of the run; the greatest number if
+    /// it wasn't.
     pub began: u64,
     pub ended: u64,
     pub end: End,
@@ -62,8 +63,8 @@ impl Made {
         )
     }
 
-    /// Notes how it, or a repeat, ended. A repeat of an answered call may be unanswered, or be refused by a node that
-    /// came to know the call late; an answer is the same again.
+    /// Notes how it, or a repeat, ended. A repeat of an answered call may be unanswered, or be
+    /// refused by a node that came to know the call late; an answer is the same again.
     pub fn note(&mut self, end: End, tick: u64) {
         let is_reply = matches!(end, End::Replied(_, _));
         match &self.end {

@@ -1,24 +1,27 @@
-//! `tests_judge` plays clusters with many clients by the command `cluster` of `radoscls`, and judges what it prints:
+//! `tests_judge` plays clusters with many clients by the command `cluster` of `radoscls`, and
+//! judges what it prints:
 //!
 //! - each call has its line, in the stated order, and is answered;
-//! - the places of each group are 0, 1, 2, .. of one list, in which each client's calls stand in their order, and calls
-//!   before a map above those after it;
+//! - the places of each group are 0, 1, 2, .. of one list, in which each client's calls stand in
+//!   their order, and calls before a map above those after it;
 //! - each line says what that list gives, run in the order of its places.
 //!
-//! And it thrashes clusters of random shapes: sessions call without pause, nodes are stopped and let go, maps of all shapes
-//! are made, messages are lost, doubled and late, and some logs grow to their limit. Each run has to end. Then:
+//! And it thrashes clusters of random shapes: sessions call without pause, nodes are stopped and
+//! let go, maps of all shapes are made, messages are lost, doubled and late, and some logs grow to
+//! their limit. Each run has to end. Then:
 //!
-//! - each answered call stands in its group's list at its place, with its answer, which the list gives, run in the order
-//!   of its places;
-//! - each call stands there once, each client's calls in their order, and none before a call that was answered before it
-//!   began;
+//! - each answered call stands in its group's list at its place, with its answer, which the list
+//!   gives, run in the order of its places;
+//! - each call stands there once, each client's calls in their order, and none before a call that
+//!   was answered before it began;
 //! - all nodes that act for the group keep that list, and what was answered whole;
 //! - refusals are deserved, a full log's too, and each call after the trouble is answered.
 //!
-//! `tests_judge` plays some small clusters, and judges the first one's lines also with changes that make them wrong; then
-//! it judges a small history with changes, and thrashes for ten seconds.
-//! `tests_judge CLIENTS CALLS GROUPS` plays one, in which each client makes that many calls before, between and after
-//! three maps. `tests_judge thrash SECONDS SEED [FIRST]` thrashes, from run FIRST on, and prints what the runs came to.
+//! `tests_judge` plays some small clusters, and judges the first one's lines also with changes that
+//! make them wrong; then it judges a small history with changes, and thrashes for ten seconds.
+//! `tests_judge CLIENTS CALLS GROUPS` plays one, in which each client makes that many calls before,
+//! between and after three maps. `tests_judge thrash SECONDS SEED [FIRST]` thrashes, from run FIRST
+//! on, and prints what the runs came to.
 #![tactic(auto)]
 
 mod asks;
@@ -73,8 +76,8 @@ const SIZES: [Size; 3] = [
     },
 ];
 
-/// What is changed in what the first cluster prints, one at a time: a line is lost, a place is taken, a place is none,
-/// codes are others, and a call is refused.
+/// What is changed in what the first cluster prints, one at a time: a line is lost, a place is
+/// taken, a place is none, codes are others, and a call is refused.
 const CHANGES: [(&str, &str); 5] = [
     ("call 0 place 0 code -2 output -\n", ""),
     ("place 3 ", "place 2 "),

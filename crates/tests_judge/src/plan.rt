@@ -10,7 +10,8 @@ pub const OBJECTS: u32 = 6;
 /// The nodes that are up from the first, second and third map on. All three are up at first.
 const MAPS: [&str; 3] = ["0 1", "1 2", "0 1 2"];
 
-/// How many clients there are, how often each calls between two maps, and how many groups there are.
+/// How many clients there are, how often each calls between two maps, and how many groups there
+/// are.
 #[derive(Clone, Copy)]
 pub struct Size {
     pub clients: u32,

@@ -1,4 +1,5 @@
-//! A small history, and how it is judged as it is, and with each of some changes that make it wrong.
+//! A small history, and how it is judged as it is, and with each of some changes that make it
+//! wrong.
 
 use crate::asks::Asks;
 use crate::fault::Fault;

@@ -3,7 +3,8 @@
 use crate::random::Random;
 use osd::Config;
 
-/// Which streams of a seed a run has: its own shape, its maps, and those from `FIRST_CALLER` on its callers.
+/// Which streams of a seed a run has: its own shape, its maps, and those from `FIRST_CALLER` on its
+/// callers.
 const STREAMS: u64 = 128;
 
 const FIRST_CALLER: u64 = 2;
@@ -14,11 +15,12 @@ pub const FULL: u64 = 1_000_000;
 /// One run of so many has many callers.
 const MANY: u64 = 8;
 
-/// A session gives up a call after that many looks at least, so that it nudges before. Where it has fewer tries, others
-/// nudge.
+/// A session gives up a call after that many looks at least, so that it nudges before. Where it has
+/// fewer tries, others nudge.
 const PATIENT: u32 = 2_000;
 
-/// The shares of messages, of 1,024, that are lost, doubled and late; and of requests that a gate keeps for a while.
+/// The shares of messages, of 1,024, that are lost, doubled and late; and of requests that a gate
+/// keeps for a while.
 #[derive(Clone, Copy, Debug)]
 pub struct Shares {
     pub dropped: u32,
@@ -114,7 +116,8 @@ impl Shape {
         }
     }
 
-    /// Whether a client calls that object after the trouble: all where there are few clients, else one of them.
+    /// Whether a client calls that object after the trouble: all where there are few clients, else
+    /// one of them.
     pub fn is_last(&self, client: u32, object: u32) -> bool {
         self.callers <= 8 || client % self.objects.max(1) == object
     }

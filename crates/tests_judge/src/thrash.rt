@@ -19,7 +19,8 @@ pub struct Asked {
     pub first: u64,
 }
 
-/// After how many seconds a log grows to its limit, and then after how many again. These runs are long.
+/// After how many seconds a log grows to its limit, and then after how many again. These runs are
+/// long.
 const FULL_AFTER: u64 = 20;
 
 const FULL_EVERY: u64 = 60;
@@ -80,8 +81,8 @@ pub fn thrash<R: Threads + Wait + Clock + Sync + AllocGlobal>(
     Ok(None)
 }
 
-/// Plays runs, prints what they came to, and fails where one is wrong. With the memory that the process had, a reader can
-/// tell whether it stays within twice what the entries take.
+/// Plays runs, prints what they came to, and fails where one is wrong. With the memory that the
+/// process had, a reader can tell whether it stays within twice what the entries take.
 pub fn tell_thrash<R: Threads + Wait + Clock + Sync + Files + Print + AllocGlobal>(
     rt: &R,
     asked: Asked,

@@ -81,7 +81,8 @@ impl Trouble {
         self.is_calm.store(true, Ordering::SeqCst);
     }
 
-    /// Whether callers make no more calls in the trouble, since it is over. Where a log is to be full they go on.
+    /// Whether callers make no more calls in the trouble, since it is over. Where a log is to be
+    /// full they go on.
     pub fn is_over(&self) -> bool {
         self.is_calm.load(Ordering::SeqCst) && !self.shape.is_full()
     }

@@ -71,7 +71,8 @@ impl Unrest {
         })
     }
 
-    /// Goes on for as long as callers call in the trouble, but not for ever, and then makes all calm.
+    /// Goes on for as long as callers call in the trouble, but not for ever, and then makes all
+    /// calm.
     pub fn play<N: ClusterName, R: Wait + Clock>(
         &mut self,
         running: &Running<N, R>,

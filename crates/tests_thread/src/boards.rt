@@ -97,7 +97,8 @@ struct TwoWriters {
     second: Writer,
 }
 
-/// Whether two rows have counts of their own, once the second was committed five times and the first twice.
+/// Whether two rows have counts of their own, once the second was committed five times and the
+/// first twice.
 fn are_apart<R: Abort>(
     rt: &R,
     alloc: Global,

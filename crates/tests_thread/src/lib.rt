@@ -1,4 +1,5 @@
-//! Tests alone, of what threads share: a group under a lock, queues of operations, the board of what is committed.
+//! Tests alone, of what threads share: a group under a lock, queues of operations, the board of
+//! what is committed.
 #![tactic(auto)]
 
 #[cfg(test)]

@@ -103,7 +103,8 @@ fn is_held_by_first(entries: &[Entry]) -> bool {
     true
 }
 
-/// Whether all entries are there, each client's in their order, and the first one's client alone got the lock.
+/// Whether all entries are there, each client's in their order, and the first one's client alone
+/// got the lock.
 fn are_right(entries: &[Entry]) -> bool {
     let mut all = entries.len() == 800;
     for client in 1..=THREADS {

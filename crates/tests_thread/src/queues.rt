@@ -63,7 +63,8 @@ fn send_all<R: Wait>(rt: &R, shards: &OpShards<Job>, mut pass: SendPass<Job>, se
     }
 }
 
-/// Takes of each shard in turn, until all takers together have taken all. Answers what it took, in its order.
+/// Takes of each shard in turn, until all takers together have taken all. Answers what it took, in
+/// its order.
 fn take_all<R: Wait + Abort>(
     rt: &R,
     alloc: Global,
@@ -124,7 +125,8 @@ fn send_two<R: Threads + Wait + Sync>(
     );
 }
 
-/// The passes of two senders, the first of them with the number `sender`, and of a taker beside them.
+/// The passes of two senders, the first of them with the number `sender`, and of a taker beside
+/// them.
 #[derive(Drop)]
 struct Crew {
     first: SendPass<Job>,
@@ -200,7 +202,8 @@ fn run_crews<R: Threads + Wait + Abort + Sync>(
     )
 }
 
-/// Whether an operation is no earlier than what is due of its sender and shard; the one after it is due then.
+/// Whether an operation is no earlier than what is due of its sender and shard; the one after it is
+/// due then.
 fn is_due(next: &mut [usize], job: &Job) -> bool {
     let place = job
         .sender
@@ -340,7 +343,8 @@ fn taken_of<R: Wait>(
     }
 }
 
-/// Whether the second of two operations of one shard comes back, and one of the other shard doesn't.
+/// Whether the second of two operations of one shard comes back, and one of the other shard
+/// doesn't.
 fn gives_back_nine<R: Wait>(rt: &R, shards: &OpShards<Job>, mut send: SendPass<Job>) -> bool
     requires { send.queues ≡ shards.now.queues }
 {
@@ -357,8 +361,8 @@ fn a_full_queue_gives_back(rt: HostRuntime) {
     assert!(rt; gives_back_nine(&rt, &shards, send));
 }
 
-/// Sends an operation of the group, and before each time one of group 1, until it is accepted or comes back so often.
-/// Whether it was accepted.
+/// Sends an operation of the group, and before each time one of group 1, until it is accepted or
+/// comes back so often. Whether it was accepted.
 fn is_sent_within<R: Wait>(
     rt: &R,
     shards: &OpShards<Job>,
@@ -391,7 +395,8 @@ fn a_loop_says_what_it_sent(rt: HostRuntime) {
     assert!(rt; first && !again);
 }
 
-/// Whether an operation of group 7 that was sent is taken once of shard 1 of two, and not of shard 0.
+/// Whether an operation of group 7 that was sent is taken once of shard 1 of two, and not of shard
+/// 0.
 fn takes_seven_once<R: Wait>(
     rt: &R,
     shards: &OpShards<Job>,
@@ -419,7 +424,8 @@ fn an_empty_queue_gives_none(rt: HostRuntime) {
     assert!(rt; takes_seven_once(&rt, &shards, send, take));
 }
 
-/// Whether two takers take operations of groups 1 and 2 that were sent, one before and one after they are put together.
+/// Whether two takers take operations of groups 1 and 2 that were sent, one before and one after
+/// they are put together.
 fn take_one_each<R: Wait>(
     rt: &R,
     shards: &OpShards<Job>,
