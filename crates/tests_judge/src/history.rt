@@ -1,6 +1,7 @@
 //! What a run leaves to be judged.
 
 use crate::caller::{Caller, names};
+use crate::history_judge::is_one_list;
 use crate::made::Made;
 use crate::trouble::Trouble;
 use crate::unrest::{acting_of, all_nodes};
@@ -20,6 +21,21 @@ pub struct Client {
 #[derive(Drop)]
 pub struct Kept {
     pub lists: Vec<Vec<LoggedEntry>>,
+}
+
+impl Kept {
+    /// Whether all have the primary's list, to its end.
+    pub fn is_one_list(&self) -> bool {
+        let Some(list) = self.lists.first() else {
+            return true;
+        };
+        for other in &self.lists {
+            if other.len() != list.len() || !is_one_list(list, other) {
+                return false;
+            }
+        }
+        true
+    }
 }
 
 /// The clients with their calls, the group of each object, and what the nodes keep of each group.
@@ -70,7 +86,7 @@ fn clients(alloc: Global, callers: Vec<Caller>) -> Option<Vec<Client>> {
 }
 
 /// What the nodes have that act for a group.
-fn kept_of<N: ClusterName, R: Wait>(
+pub fn kept_of<N: ClusterName, R: Wait>(
     alloc: Global,
     running: &Running<N, R>,
     trouble: &Trouble,

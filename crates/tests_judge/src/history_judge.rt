@@ -76,7 +76,7 @@ fn are_replicas(history: &History, group: usize, list: &[LoggedEntry]) -> bool {
 }
 
 /// Whether two lists are the same as far as both go.
-fn is_one_list(one: &[LoggedEntry], other: &[LoggedEntry]) -> bool {
+pub fn is_one_list(one: &[LoggedEntry], other: &[LoggedEntry]) -> bool {
     for (one, other) in one.iter().zip(other) {
         if *one != *other {
             return false;

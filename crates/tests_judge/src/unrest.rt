@@ -1,5 +1,6 @@
 //! Maps of all shapes, and nodes that are stopped and let go.
 
+use crate::history::kept_of;
 use crate::random::Random;
 use crate::trouble::Trouble;
 use map_book::MapError;
@@ -15,6 +16,12 @@ const NUDGE_MICROSECONDS: u64 = 200;
 
 /// How many nudges there are at most after the trouble.
 const NUDGES: u32 = 3_000_000;
+
+/// How often the nodes' lists are looked at after the last call, at most, and how long it waits
+/// between two looks.
+const LOOKS: u32 = 10_000;
+
+const LOOK_MICROSECONDS: u64 = 2_000;
 
 /// What comes of the unrest.
 #[derive(Drop)]
@@ -92,10 +99,8 @@ impl Unrest {
         }
         self.calm(running);
         trouble.be_calm();
-        // Where other programs use the processors, a thousand looks of a session take long.
-        if !trouble.shape.is_full() {
-            nudge_on(running, &mut opened, trouble);
-        }
+        wait_for_callers(running, &mut opened, trouble);
+        settle(self.alloc, running, &mut opened, trouble);
     }
 
     /// Does one thing.
@@ -225,8 +230,8 @@ pub fn acting_of(alloc: Global, trouble: &Trouble, up: Vec<NodeId>, group: u64) 
     }
 }
 
-/// Nudges all groups until all callers are done.
-fn nudge_on<N: ClusterName, R: Wait + Clock>(
+/// Waits for the last call, and nudges the groups meanwhile where callers are impatient.
+fn wait_for_callers<N: ClusterName, R: Wait + Clock>(
     running: &Running<N, R>,
     opened: &mut Opened<N>,
     trouble: &Trouble,
@@ -235,9 +240,53 @@ fn nudge_on<N: ClusterName, R: Wait + Clock>(
         if !trouble.is_ending() {
             break;
         }
-        for group in 0..running.config().groups.min(64) as usize {
-            running.nudge(&mut opened.sends, group);
+        // Where other programs use the processors, a thousand looks of a session take long.
+        if !trouble.shape.is_full() {
+            nudge_all(running, opened);
         }
         sleep(running.runtime(), Duration::from_micros(NUDGE_MICROSECONDS));
+    }
+}
+
+/// Nudges until the nodes that act for each group keep one list. A last call may be answered in an
+/// interval before that of the newest map, if a full queue lost the map: the nodes that this map
+/// brings back get what was answered after a nudge.
+fn settle<N: ClusterName, R: Wait + Clock>(
+    alloc: Global,
+    running: &Running<N, R>,
+    opened: &mut Opened<N>,
+    trouble: &Trouble,
+) {
+    for _ in 0..LOOKS {
+        if is_settled(alloc, running, trouble) {
+            break;
+        }
+        nudge_all(running, opened);
+        sleep(running.runtime(), Duration::from_micros(LOOK_MICROSECONDS));
+    }
+}
+
+/// Whether the nodes that act for each group keep one list.
+fn is_settled<N: ClusterName, R: Wait>(
+    alloc: Global,
+    running: &Running<N, R>,
+    trouble: &Trouble,
+) -> bool {
+    for group in 0..trouble.shape.config.groups {
+        match kept_of(alloc, running, trouble, group) {
+            Some(kept) => {
+                if !kept.is_one_list() {
+                    return false;
+                }
+            }
+            None => return false,
+        }
+    }
+    true
+}
+
+fn nudge_all<N: ClusterName, R: Wait>(running: &Running<N, R>, opened: &mut Opened<N>) {
+    for group in 0..running.config().groups.min(64) as usize {
+        running.nudge(&mut opened.sends, group);
     }
 }
