@@ -1,7 +1,5 @@
 //! A client that calls without pause.
 
-use crate::asks::{Asks, NAMES};
-use crate::made::{End, Made, end_of};
 use crate::random::Random;
 use crate::trouble::Trouble;
 use object_store::ObjectName;
@@ -10,6 +8,7 @@ use rados_client::{ClassId, ExecError, Reply, Session};
 use std::alloc::{AllocError, Global};
 use std::sync::Wait;
 use std::time::Clock;
+use tests_history::{Asks, End, Made, NAMES, end_of};
 
 /// How often a call is made again at most while the trouble goes on.
 const REPEATS: u32 = 3;

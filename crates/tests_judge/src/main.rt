@@ -24,31 +24,20 @@
 //! on, and prints what the runs came to.
 #![tactic(auto)]
 
-mod asks;
 mod caller;
 mod crossing;
-mod fault;
 mod history;
-mod history_judge;
-mod judge;
-mod made;
 mod memory;
-mod object;
 mod peak;
-mod plan;
 mod random;
 mod run;
-mod samples;
 mod shape;
 mod thrash;
 mod totals;
 mod trouble;
 mod unrest;
 
-use crate::judge::{Verdict, judge};
 use crate::memory::played;
-use crate::plan::{Plan, Size};
-use crate::samples::tell_of_samples;
 use crate::thrash::{Asked, tell_thrash, tell_thrash_alone};
 use anyhow::{Context, Error, Result};
 use std::alloc::Global;
@@ -56,6 +45,7 @@ use std::env;
 use std::sync::Wait;
 use std::thread::Threads;
 use std::time::Clock;
+use tests_history::{Plan, Size, Verdict, judge, tell_of_samples};
 
 /// The clusters that are played where none is asked for.
 const SIZES: [Size; 3] = [

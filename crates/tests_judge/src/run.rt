@@ -3,9 +3,7 @@ ghost use Rattle.std.specs.Prelude.{◌≡◌};
 
 use crate::caller::Caller;
 use crate::crossing::{caller_crosses, trouble_crosses, unrest_crosses};
-use crate::fault::Fault;
-use crate::history::{History, history_of};
-use crate::history_judge::fault_of;
+use crate::history::history_of;
 use crate::shape::Shape;
 use crate::totals::Totals;
 use crate::trouble::Trouble;
@@ -18,6 +16,7 @@ use std::marker::Brand;
 use std::sync::Wait;
 use std::thread::{Threads, for_each_mut, join};
 use std::time::Clock;
+use tests_history::{Fault, History, fault_of};
 
 /// The workers and the callers of a run, at most.
 const WORKERS: usize = 4;

@@ -1,6 +1,5 @@
 //! Run after run, until the time is over.
 
-use crate::fault::Fault;
 use crate::peak::peak;
 use crate::run::run;
 use crate::shape::{FULL, Shape};
@@ -10,6 +9,7 @@ use std::rt::Files;
 use std::sync::Wait;
 use std::thread::Threads;
 use std::time::{Clock, Instant};
+use tests_history::Fault;
 
 /// For how long runs are played, by which seed, and from which number on.
 #[derive(Clone, Copy)]

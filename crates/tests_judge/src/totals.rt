@@ -1,10 +1,9 @@
 //! What runs came to.
 
-use crate::history::History;
-use crate::made::{End, Made};
 use crate::unrest::Unrest;
 use rados_client::ExecError;
 use std::fmt;
+use tests_history::{End, History, Made};
 
 /// What runs came to, modulo 2^64.
 #[derive(Drop)]
