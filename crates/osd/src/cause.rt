@@ -1,7 +1,8 @@
-/// By what an operation comes into a queue.
+/// What an operation goes back to. What a node sends goes back to what the operation that it handled
+/// goes back to.
 #[derive(Clone, Copy, Debug, PartialEq, Eq)]
 pub(crate) enum Cause {
-    /// A client's request, a new map, or what a node or a monitor sends.
+    /// A client's request, or a new map.
     Event,
     /// A nudge, which hands on a map or has a node send again.
     Nudge,

@@ -1,3 +1,4 @@
+use crate::cause::Cause;
 use crate::name::ClusterName;
 use group_cell::{Outgoing, Post};
 use placement::NodeId;
@@ -6,6 +7,7 @@ use std::alloc::Global;
 /// What a node of a group sends, on its way.
 #[derive(Drop)]
 pub(crate) struct Delivery<N: ClusterName> {
+    pub cause: Cause,
     pub group: usize,
     pub sender: NodeId,
     pub outgoing: Outgoing<N>,
@@ -25,6 +27,7 @@ impl<N: ClusterName> Delivery<N> {
             Outgoing::ToClient(_, _) => return None,
         };
         Some(Delivery {
+            cause: self.cause,
             group: self.group,
             sender: self.sender,
             outgoing,

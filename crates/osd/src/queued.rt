@@ -6,7 +6,7 @@ use op_shards::Op;
 use std::marker::Model;
 
 /// An operation in a queue. A place of a queue holds its box, so that queues are small. Contracts
-/// see the operation; by what it came is for the count of nudges alone.
+/// see the operation; what it goes back to is for the count of nudges alone.
 #[derive(Drop)]
 pub struct Queued {
     operation: Box<Operation>,
@@ -37,7 +37,7 @@ impl Queued {
         Queued { operation, cause }
     }
 
-    /// By what it came into the queue.
+    /// What it goes back to.
     pub fn cause(&self) -> Cause {
         self.cause
     }

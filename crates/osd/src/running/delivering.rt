@@ -16,10 +16,11 @@ use std::sync::Wait;
 impl<N: ClusterName, R: Wait> Running<N, R> {
     /// Brings what a node sends to whom it is for. It is lost where a queue is full, or memory is
     /// refused.
-    pub(crate) fn deliver(&self, sends: &mut Sends<N>, cause: Cause, delivery: Delivery<N>)
+    pub(crate) fn deliver(&self, sends: &mut Sends<N>, delivery: Delivery<N>)
         ensures { OnlySent sends.old sends.new (IsOf delivery.group delivery.outgoing) }
     {
         let Delivery {
+            cause,
             group,
             sender,
             outgoing,

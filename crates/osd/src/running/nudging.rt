@@ -19,8 +19,9 @@ impl<N: ClusterName, R: Wait> Running<N, R> {
     /// group, and no request of a client.
     ///
     /// It does nothing where there is no such group, where another nudge of the group is under way,
-    /// and where an operation that the last one submitted isn't served yet. What goes to a node
-    /// isn't submitted where fewer than 256 places of the queue are free.
+    /// and where an operation isn't served yet that goes back to the last one: what that submitted,
+    /// what nodes sent on it, and so on. What goes to a node isn't submitted where fewer than 256
+    /// places of the queue are free.
     pub fn nudge(&self, sends: &mut Sends<N>, group: usize)
         ensures grew { Grew sends.old sends.new }
         ensures only { OnlySent sends.old sends.new (IsInternalTo group) }
@@ -160,10 +161,11 @@ impl<N: ClusterName, R: Wait> Running<N, R> {
             return;
         }
         let delivery = Delivery {
+            cause: Cause::Nudge,
             group,
             sender,
             outgoing,
         };
-        self.deliver(sends, Cause::Nudge, delivery);
+        self.deliver(sends, delivery);
     }
 }

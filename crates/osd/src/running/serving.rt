@@ -158,7 +158,7 @@ impl<N: ClusterName, R: Wait> Running<N, R> {
         let operation = queued.into_operation();
         let group = operation.group;
         self.ask_gate(gate, shard, gate_number(&operation.carried));
-        self.turn(worker, fate, operation);
+        self.turn(worker, fate, cause, operation);
         self.nudges.remove(group, cause);
         true
     }
@@ -178,7 +178,7 @@ impl<N: ClusterName, R: Wait> Running<N, R> {
     }
 
     /// Serves one operation.
-    fn turn<F: Fate>(&self, worker: &mut Worker<N>, fate: &F, operation: Operation)
+    fn turn<F: Fate>(&self, worker: &mut Worker<N>, fate: &F, cause: Cause, operation: Operation)
         ensures { OnlySent worker.old.sends worker.new.sends IsAny }
     {
         let Operation {
@@ -187,7 +187,7 @@ impl<N: ClusterName, R: Wait> Running<N, R> {
             carried,
         } = operation;
         for outgoing in self.handle(group, node, carried) {
-            self.send_some(worker, fate, group, node, outgoing);
+            self.send_some(worker, fate, cause, group, node, outgoing);
         }
     }
 
@@ -196,6 +196,7 @@ impl<N: ClusterName, R: Wait> Running<N, R> {
         &self,
         worker: &mut Worker<N>,
         fate: &F,
+        cause: Cause,
         group: usize,
         sender: NodeId,
         outgoing: Option<Outgoing<N>>,
@@ -206,6 +207,7 @@ impl<N: ClusterName, R: Wait> Running<N, R> {
             return;
         };
         let delivery = Delivery {
+            cause,
             group,
             sender,
             outgoing,
@@ -243,7 +245,7 @@ impl<N: ClusterName, R: Wait> Running<N, R> {
         ensures { OnlySent worker.old.sends worker.new.sends IsAny }
     {
         if delivery.is_refusal() {
-            self.deliver(&mut worker.sends, Cause::Event, delivery);
+            self.deliver(&mut worker.sends, delivery);
             return;
         }
         let mode = fate.of(worker.number, worker.messages);
@@ -270,7 +272,7 @@ impl<N: ClusterName, R: Wait> Running<N, R> {
         ensures { OnlySent sends.old sends.new IsAny }
     {
         if let Some(delivery) = delivery {
-            self.deliver(sends, Cause::Event, delivery);
+            self.deliver(sends, delivery);
         }
     }
 }
