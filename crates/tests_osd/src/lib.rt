@@ -6,6 +6,7 @@
 mod asking;
 #[cfg(test)]
 mod fates;
+mod following;
 #[cfg(test)]
 mod groups;
 #[cfg(test)]
