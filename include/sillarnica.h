@@ -1,10 +1,11 @@
 /*
  * Sillarnica's verified classes for a host that keeps the objects itself. Calls 1, library 0.4.0.
  *
- * Memory: the caller owns all of it, before and after. Nothing is kept, and no pointer comes back. `malloc` and `free` are
- * used within a call alone. What is written (refusal, answer, numbers, text, out) is apart from all else that is handed in.
- * A null pointer is allowed for a slice of length 0, and for nothing else.
- * Threads: there is no state and nothing to initialise. Any number of calls may run at once, on one image too.
+ * Memory: the caller owns all of it, before and after. Nothing is kept, and `malloc` and `free` are used within a call alone:
+ * but for a handle, which holds memory of its own from open to close. What is written (refusal, answer, numbers, text, out,
+ * handle) is apart from all else that is handed in. A null pointer is allowed for a slice of length 0, and for nothing else.
+ * Threads: there is no state and nothing to initialise. Any number of calls may run at once, on one image too; on one handle
+ * one at a time.
  *
  * An object's flat form has one spelling. Numbers are little-endian:
  *
@@ -46,7 +47,8 @@ enum {
 	SILLARNICA_INPUT_TOO_LONG = -7,  /* the input is longer than the method takes */
 	SILLARNICA_MALFORMED = -22,      /* the bytes are no object's flat form */
 	SILLARNICA_NO_MEMORY = -12,      /* memory was refused; the call may be made again */
-	SILLARNICA_NO_ROOM = -34         /* the buffer is too small; the answer says what is needed */
+	SILLARNICA_NO_ROOM = -34,        /* the buffer is too small; the answer says what is needed */
+	SILLARNICA_CLOSED = -9           /* the handle is closed */
 };
 
 /*
@@ -65,7 +67,16 @@ struct sillarnica_answer {
 	uint64_t steps, output_len, edits_len;
 };
 
-/* 1. The calls, structs, flat form and edits change only with this number. */
+/*
+ * A handle of a verified class, so that a host verifies once and calls many times. Zeroed it is closed. The fields are the
+ * library's. Copy it only to give the other one up. It may go from thread to thread, as long as one call at a time is on it.
+ */
+struct sillarnica_verified {
+	void *held;
+	uint32_t is_open;
+};
+
+/* 1. What is declared here, the flat form and the edits change only with this number; further calls leave it as it is. */
 uint32_t sillarnica_version(void);
 
 /*
@@ -109,6 +120,25 @@ int32_t sillarnica_needs(const uint8_t *image, size_t image_len, const uint8_t *
 int32_t sillarnica_call(const uint8_t *image, size_t image_len, const uint8_t *method, size_t method_len,
 	const uint8_t *object, size_t object_len, uint32_t caller, const uint8_t *input, size_t input_len,
 	struct sillarnica_refusal *refusal, struct sillarnica_answer *answer, uint8_t *out, size_t out_len);
+
+/*
+ * Verifies a class and holds it, whatever becomes of the image. 0: *verified is open, and who opened it closes it once.
+ * 1, 2, -12: as of sillarnica_verify, and *verified is closed. *refusal is written at 1 and 2 alone. What *verified held
+ * isn't looked at: close it before it is opened again.
+ */
+int32_t sillarnica_verified_open(const uint8_t *image, size_t image_len, struct sillarnica_refusal *refusal,
+	struct sillarnica_verified *verified);
+
+/*
+ * Calls a method of the class that is held: what sillarnica_call answers of its image, -12 apart, and *verified holds the class
+ * afterwards too, whatever the answer. There is no 1 and no 2. -9: *verified is closed, and nothing is written.
+ */
+int32_t sillarnica_verified_call(struct sillarnica_verified *verified, const uint8_t *method, size_t method_len,
+	const uint8_t *object, size_t object_len, uint32_t caller, const uint8_t *input, size_t input_len,
+	struct sillarnica_answer *answer, uint8_t *out, size_t out_len);
+
+/* Frees the class that is held. *verified is closed then; closing it again does nothing. */
+void sillarnica_verified_close(struct sillarnica_verified *verified);
 
 #ifdef __cplusplus
 }

@@ -1,7 +1,8 @@
 /* Makes the calls of a file on the library, and prints what each gives: `embed FILE THREADS`. tools/embed.sh compiles it.
  * A call is five fields, each four bytes of length and its bytes: image, method, object, caller (four bytes), input.
- * Each call is also made with too little room, on the parts that the method needs alone, and every sixteenth with memory
- * refused at each growth in turn, and its answer compared with what the header says. Then so many threads make all calls at once, and each answer is compared again.
+ * Each call is also made by a handle, with too little room, on the parts that the method needs alone, and every sixteenth with
+ * memory refused at each growth in turn, and its answer compared with what the header says. Then so many threads make all calls
+ * at once, each by a handle of its own too, and each answer is compared again.
  * `malloc` and `realloc` of the library go through here (-Wl,--wrap), where REFUSE is asked for at link time. */
 #include "sillarnica.h"
 #include <pthread.h>
@@ -12,6 +13,8 @@
 struct slice { const uint8_t *at; size_t len; };
 struct call { struct slice image, method, object, input; uint32_t caller; };
 struct found { int32_t result; struct sillarnica_refusal why; struct sillarnica_answer said; uint8_t *out; };
+/* a handle, and the image whose class it holds, if it is open */
+struct holder { struct sillarnica_verified verified; struct slice image; int is_open; };
 
 static struct call *calls;
 static struct found *founds;
@@ -41,6 +44,19 @@ static void want(int is, size_t n, const char *what) {
 static int32_t make(const struct call *c, struct found *f, size_t room) {
 	return sillarnica_call(c->image.at, c->image.len, c->method.at, c->method.len, c->object.at, c->object.len, c->caller,
 		c->input.at, c->input.len, &f->why, &f->said, f->out, room);
+}
+
+/* The same by a handle, which is opened where it holds the class of no image or of another one. */
+static int32_t make_held(struct holder *h, const struct call *c, struct found *f, size_t room) {
+	if (!h->is_open || h->image.len != c->image.len
+		|| (h->image.at != c->image.at && memcmp(h->image.at, c->image.at, c->image.len))) {
+		if (h->is_open) sillarnica_verified_close(&h->verified);
+		int32_t result = sillarnica_verified_open(c->image.at, c->image.len, &f->why, &h->verified);
+		h->image = c->image, h->is_open = result == 0;
+		if (result) return result;
+	}
+	return sillarnica_verified_call(&h->verified, c->method.at, c->method.len, c->object.at, c->object.len, c->caller,
+		c->input.at, c->input.len, &f->said, f->out, room);
 }
 
 static void fill(struct found *f, uint8_t *out, size_t room) {
@@ -108,42 +124,81 @@ static void on_parts(size_t n, uint8_t *out) {
 	free(form);
 }
 
-/* With too little room, and with memory refused. */
-static void again(size_t n, uint8_t *out) {
+/* With too little room. */
+static void in_little_room(size_t n, uint8_t *out, struct holder *held) {
 	const struct found *first = &founds[n];
 	struct found f;
 	size_t used = first->result == 0 ? first->said.output_len + first->said.edits_len : 0;
 	/* each size below of small answers, and of others the least and the largest */
 	for (size_t room = 0; room < used; room += used <= 64 || !room ? 1 : used - 1 > room ? used - 1 - room : 1) {
 		fill(&f, out, most);
-		f.result = make(&calls[n], &f, room);
+		f.result = held ? make_held(held, &calls[n], &f, room) : make(&calls[n], &f, room);
 		want(f.result == -34 && !memcmp(&f.said, &first->said, sizeof f.said), n, "-34 says something else");
 		check(&f, most, n);
 	}
+}
+
 #ifdef REFUSE
-	for (long k = 0; n % 16 == 0; k++) {
+/* With memory refused; a handle that is open then holds its class afterwards too. */
+static void refused_memory(size_t n, uint8_t *out, int by_handle) {
+	const struct found *first = &founds[n];
+	for (long k = 0, met = 1; met; k++) {
+		struct found f;
+		struct holder held;
+		memset(&held, 0, sizeof held);
 		fill(&f, out, most);
 		growths = k;
-		f.result = make(&calls[n], &f, most);
-		int met = growths == 0;
+		f.result = by_handle ? make_held(&held, &calls[n], &f, most) : make(&calls[n], &f, most);
+		met = growths == 0 || f.result == -12;
 		growths = -1;
 		check(&f, most, n);
-		if (f.result != -12) {
-			want(is_same(first, &f), n, "another answer after a refusal of memory");
-			if (!met) break;
+		if (f.result == -12 && held.is_open) {
+			fill(&f, out, most);
+			f.result = make_held(&held, &calls[n], &f, most);
 		}
+		if (f.result != -12) want(is_same(first, &f), n, "another answer after a refusal of memory");
+		sillarnica_verified_close(&held.verified);
 	}
+}
 #endif
+
+/* By a handle, that is new or was closed, and by a closed one. */
+static void by_handle(size_t n, uint8_t *out) {
+	struct holder held;
+	struct found f;
+	memset(&held, 0, sizeof held);
+	for (int i = 0; i < 2; i++) {
+		for (int j = 0; j < 2; j++) {
+			fill(&f, out, most);
+			f.result = make_held(&held, &calls[n], &f, most);
+			want(is_same(&founds[n], &f), n, "another answer of a handle");
+			check(&f, most, n);
+		}
+		in_little_room(n, out, &held);
+		sillarnica_verified_close(&held.verified);
+		sillarnica_verified_close(&held.verified);
+		fill(&f, out, most);
+		held.image = calls[n].image, held.is_open = 1;
+		f.result = make_held(&held, &calls[n], &f, most);
+		want(f.result == -9, n, "a closed handle answers");
+		check(&f, most, n);
+		memset(&held, 0xa5, sizeof held), held.is_open = 0; /* what it held isn't looked at */
+	}
 }
 
 static void *all(void *nothing) {
 	uint8_t *out = (uint8_t *)malloc(most);
+	struct holder held;
+	memset(&held, 0, sizeof held);
 	for (size_t n = 0; out && n < count; n++) {
 		struct found f;
-		fill(&f, out, most);
-		f.result = make(&calls[n], &f, most);
-		want(is_same(&founds[n], &f), n, "another answer in a thread");
+		for (int by = 0; by < 2; by++) {
+			fill(&f, out, most);
+			f.result = by ? make_held(&held, &calls[n], &f, most) : make(&calls[n], &f, most);
+			want(is_same(&founds[n], &f), n, "another answer in a thread");
+		}
 	}
+	sillarnica_verified_close(&held.verified);
 	free(out);
 	return nothing;
 }
@@ -193,7 +248,11 @@ int main(int argc, char **argv) {
 		print(f);
 		f->out = (uint8_t *)memcpy(malloc(most), out, most);
 		uint8_t *other = (uint8_t *)malloc(most);
-		again(count, other);
+		in_little_room(count, other, NULL);
+		by_handle(count, other);
+#ifdef REFUSE
+		if (count % 16 == 0) refused_memory(count, other, 0), refused_memory(count, other, 1);
+#endif
 		on_parts(count, other);
 		free(other);
 		size_t used = f->result == 0 ? f->said.output_len + f->said.edits_len : 0;

@@ -160,15 +160,22 @@ def judge(path, printed, radoscls):
 
 
 def python(path, printed, library):
-    library, wrong = host.Library(library), 0
+    library, wrong, handles = host.Library(library), 0, {}
     calls, lines = calls_of(path), open(printed).read().splitlines()
     for n, (call, line) in enumerate(zip(calls, lines)):
-        result, answer, output, edits = library.call(*call[:3], struct.unpack("<I", call[3])[0], call[4], 1 << (n % 14))
-        told = f"0 {answer.code} {answer.steps} {output.hex()} {edits.hex()}" if result == 0 else str(result)
-        if told != line and not (result > 0 and line.split()[0] == told):
-            wrong += 1
-            print(f"call {n}: {told}, not {line}")
-    print(f"{len(calls)} calls from Python")
+        image, *asked, caller, text = call
+        if image not in handles:
+            handles[image] = library.open(image)
+        refused, verified = handles[image]
+        for of in (image,) if refused else (image, verified):
+            result, answer, output, edits = library.call(of, *asked, struct.unpack("<I", caller)[0], text, 1 << (n % 14))
+            told = f"0 {answer.code} {answer.steps} {output.hex()} {edits.hex()}" if result == 0 else str(result)
+            if told != line and not (result > 0 and line.split()[0] == told == str(refused)):
+                wrong += 1
+                print(f"call {n}: {told}, not {line}")
+    for _, verified in handles.values():
+        library.close(verified)
+    print(f"{len(calls)} calls from Python, {len(handles)} handles")
     return wrong != 0
 
 

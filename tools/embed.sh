@@ -10,8 +10,8 @@
 #   get; so does examples/embed/host.py by a shared object;
 # - random calls, some of hostile images and flat forms, give the program's code, output, steps and refusals, and their edits
 #   make of the object before the program's object after;
-# - each is made with too little room, on the parts that its method needs alone, and with memory refused at each growth; eight
-#   threads make all of them at once;
+# - each is made by a handle too, with too little room, on the parts that its method needs alone, and with memory refused at each
+#   growth; eight threads make all of them at once, each with a handle of its own;
 # - the same under the address and undefined-behavior sanitizers.
 set -u
 top=$(cd "$(dirname "$0")/.." && pwd)

@@ -11,6 +11,10 @@ class Answer(ctypes.Structure):
     _fields_ = [("code", ctypes.c_int64), ("steps", ctypes.c_uint64), ("output_len", ctypes.c_uint64), ("edits_len", ctypes.c_uint64)]
 
 
+class Verified(ctypes.Structure):
+    _fields_ = [("held", ctypes.c_void_p), ("is_open", ctypes.c_uint32)]
+
+
 def flatten(object):
     """The flat form of an object."""
     if object is None:
@@ -63,22 +67,31 @@ class Library:
     def slices(*texts):
         return [word for text in texts for word in (text, ctypes.c_size_t(len(text)))]
 
-    def verify(self, image):
-        refusal = Refusal()
-        return self.calls.sillarnica_verify(*self.slices(image), ctypes.byref(refusal)), refusal
+    def open(self, image):
+        """The result, and a handle of the image's class, which is to be closed."""
+        verified = Verified()
+        return self.calls.sillarnica_verified_open(*self.slices(image), ctypes.byref(Refusal()), ctypes.byref(verified)), verified
+
+    def close(self, verified):
+        self.calls.sillarnica_verified_close(ctypes.byref(verified))
 
     def explain(self, image):
         text = ctypes.create_string_buffer(256)
         length = self.calls.sillarnica_explain(*self.slices(image), text, ctypes.c_size_t(256))
         return text.raw[:max(0, length)].decode()
 
-    def call(self, image, method, form, caller, text, room=1 << 16):
-        """The result, the answer, the output and the edits; with a larger buffer where the first is too small."""
-        refusal, answer, out = Refusal(), Answer(), ctypes.create_string_buffer(room)
-        result = self.calls.sillarnica_call(*self.slices(image, method, form), ctypes.c_uint32(caller), *self.slices(text),
-                                            ctypes.byref(refusal), ctypes.byref(answer), out, ctypes.c_size_t(room))
+    def call(self, of, method, form, caller, text, room=1 << 16):
+        """The result, the answer, the output and the edits of a call of an image or of a handle; with a larger buffer where
+        the first is too small."""
+        answer, out = Answer(), ctypes.create_string_buffer(room)
+        asked = [*self.slices(method, form), ctypes.c_uint32(caller), *self.slices(text)]
+        told = [ctypes.byref(answer), out, ctypes.c_size_t(room)]
+        if isinstance(of, Verified):
+            result = self.calls.sillarnica_verified_call(ctypes.byref(of), *asked, *told)
+        else:
+            result = self.calls.sillarnica_call(*self.slices(of), *asked, ctypes.byref(Refusal()), *told)
         if result == -34:
-            return self.call(image, method, form, caller, text, answer.output_len + answer.edits_len)
+            return self.call(of, method, form, caller, text, answer.output_len + answer.edits_len)
         end = answer.output_len + answer.edits_len
         return result, answer, out.raw[:answer.output_len], out.raw[answer.output_len:end]
 
@@ -86,20 +99,22 @@ class Library:
 def main(path, image, *words):
     library, objects = Library(path), {}
     image = open(image, "rb").read()
-    if library.verify(image)[0]:
+    result, verified = library.open(image)
+    if result:
         print(library.explain(image) or "no memory")
         return 1
     for name, method, text in zip(*[iter(words)] * 3):
         before = objects.get(name)
         method, _, caller = method.partition("@")
         text = b"" if text == "-" else bytes.fromhex(text)
-        result, answer, output, edits = library.call(image, method.encode(), flatten(before), int(caller or 1), text)
+        result, answer, output, edits = library.call(verified, method.encode(), flatten(before), int(caller or 1), text)
         if result:
             print(f"refused {result}")
             continue
         after = objects[name] = edited(before, edits)
         shown = "absent" if after is None else " ".join(str(len(part)) for part in after)
         print(f"code {answer.code} output {output.hex() or '-'} steps {answer.steps} object {shown}")
+    library.close(verified)
     return 0
 
 

@@ -217,7 +217,7 @@ module _ (one : (bytes : List ℕ) (c d : Class) → IsImage bytes c → IsImage
 
     module _ (given whole : PlainObject) (alike : AreAlike (needed method.instructions) given whole) (form : List ℕ) (is_given : Spells form given) (caller : ℕ) (input : List ℕ) (asked : IsAsked caller input) (answer : Answer) (a : IsAnswered image name form caller input answer) where
       abbrev m : ClassMethod
-      m = a.answers.method
+      m = a.by.answers.method
 
       abbrev kept : Parts
       kept = needed m.instructions
@@ -226,31 +226,31 @@ module _ (one : (bytes : List ℕ) (c d : Class) → IsImage bytes c → IsImage
       covers = record { bytes = λ e. e; xattrs = λ e. e; keys = λ e. e }
 
       same : method ≡ m
-      same = method_is a.class m a.loaded a.answers.named
+      same = method_is a.class m a.loaded a.by.answers.named
 
       is_method : IsMethod m
       is_method = subst IsMethod same (named_has IsMethod written.methods name method spells.class.methods named)
 
       is_safe : IsSafe m
-      is_safe = named_has IsSafe a.class name m a.loaded.safe a.answers.named
+      is_safe = named_has IsSafe a.class name m a.loaded.safe a.by.answers.named
 
       are_alike : reduced kept given ≡ reduced kept whole
       are_alike = subst (λ (n : ClassMethod). AreAlike (needed n.instructions) given whole) same alike
 
-      run : AnswersMethod m given caller input a.outcome
+      run : AnswersMethod m given caller input a.by.outcome
       run =
-          let plain = one_object a.plain given a.spelled.within is_given.within (a.spelled.flat ∙ sym is_given.flat) in
-          subst (λ (o : PlainObject). AnswersMethod m o caller input a.outcome) plain a.answers.answers
+          let plain = one_object a.by.plain given a.by.spelled.within is_given.within (a.by.spelled.flat ∙ sym is_given.flat) in
+          subst (λ (o : PlainObject). AnswersMethod m o caller input a.by.outcome) plain a.by.answers.answers
 
       -- on the needed parts alone
       abbrev low_outcome : Outcome
-      low_outcome = lowered chains layouts frame m is_method is_safe kept covers given is_given.within caller input asked a.answers.short a.outcome run
+      low_outcome = lowered chains layouts frame m is_method is_safe kept covers given is_given.within caller input asked a.by.answers.short a.by.outcome run
 
       low_run : AnswersMethod m (reduced kept whole) caller input low_outcome
-      low_run = subst (λ (o : PlainObject). AnswersMethod m o caller input low_outcome) are_alike (answers_low chains layouts frame m is_method is_safe kept covers given is_given.within caller input asked a.answers.short a.outcome run)
+      low_run = subst (λ (o : PlainObject). AnswersMethod m o caller input low_outcome) are_alike (answers_low chains layouts frame m is_method is_safe kept covers given is_given.within caller input asked a.by.answers.short a.by.outcome run)
 
       low_says : Says low_outcome answer
-      low_says = says_low chains layouts frame m is_method is_safe kept covers given is_given.within caller input asked a.answers.short a.outcome run answer a.says
+      low_says = says_low chains layouts frame m is_method is_safe kept covers given is_given.within caller input asked a.by.answers.short a.by.outcome run answer a.by.says
 
       low_within : IsObject (reduced kept whole)
       low_within = subst IsObject are_alike (reduced_within kept given is_given.within)
@@ -260,9 +260,9 @@ module _ (one : (bytes : List ℕ) (c d : Class) → IsImage bytes c → IsImage
         class = a.class;
         loaded = a.loaded;
         method = m;
-        named = a.answers.named;
-        short = a.answers.short;
-        bounded = subst (λ (k : ℕ). k ≤ length m.instructions) (sym a.says.steps) run.bounded;
+        named = a.by.answers.named;
+        short = a.by.answers.short;
+        bounded = subst (λ (k : ℕ). k ≤ length m.instructions) (sym a.by.says.steps) run.bounded;
         after = restored kept whole low_outcome.change.after;
         runs = whole_runs frame m is_method kept covers whole low_within caller input low_outcome low_run answer low_says;
         lead = whole_lead frame m is_method kept covers whole low_within caller input low_outcome low_run answer low_says;
@@ -272,23 +272,25 @@ module _ (one : (bytes : List ℕ) (c d : Class) → IsImage bytes c → IsImage
       answered whole_form is_whole = record {
         class = a.class;
         loaded = a.loaded;
-        plain = whole;
-        spelled = is_whole;
-        outcome = lifted kept whole low_outcome;
-        answers = record {
-          method = m;
-          named = a.answers.named;
-          short = a.answers.short;
-          answers = answers_whole frame m is_method kept covers whole low_within caller input low_outcome low_run is_whole.within;
+        by = record {
+          plain = whole;
+          spelled = is_whole;
+          outcome = lifted kept whole low_outcome;
+          answers = record {
+            method = m;
+            named = a.by.answers.named;
+            short = a.by.answers.short;
+            answers = answers_whole frame m is_method kept covers whole low_within caller input low_outcome low_run is_whole.within;
+          };
+          says = says_whole frame m is_method kept covers whole low_within caller input low_outcome low_run answer low_says;
         };
-        says = says_whole frame m is_method kept covers whole low_within caller input low_outcome low_run answer low_says;
       }
 
     refused : (given whole : PlainObject) (form whole_form : List ℕ) → Spells form given → Spells whole_form whole → (input : List ℕ) (error : AnswerError) → RefusesCall image name form input error → RefusesCall image name whole_form input error
     refused given whole form whole_form g w input (ask.Class e) r = r
     refused given whole form whole_form g w input ask.NoMethod r = r
     refused given whole form whole_form g w input ask.InputTooLong r = r
-    refused given whole form whole_form g w input ask.Malformed r = absurd (r.none given g)
+    refused given whole form whole_form g w input ask.Malformed r = absurd (r.gets.none given g)
     refused given whole form whole_form g w input ask.NoMemory r = r
 
   pub enough : NeededAreEnough

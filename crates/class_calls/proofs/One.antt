@@ -54,9 +54,9 @@ module _ (one : (bytes : List ℕ) (c d : Class) → IsImage bytes c → IsImage
   answered_not image name object input caller answer (ask.Class (load.Image x)) a b = image_not image a.loaded.written x a.loaded.spelled b
   answered_not image name object input caller answer (ask.Class (load.Verdict r)) a b = loaded_not image a.class r a.loaded b
   answered_not image name object input caller answer (ask.Class load.NoMemory) a b = tt
-  answered_not image name object input caller answer ask.NoMethod a b = none_named image name b.class a.class a.answers.method b.loaded a.loaded b.none a.answers.named
-  answered_not image name object input caller answer ask.InputTooLong a b = both_lengths image name input b.class a.class b.passes.method a.answers.method b.loaded a.loaded b.passes.named a.answers.named b.passes.long a.answers.short
-  answered_not image name object input caller answer ask.Malformed a b = b.none a.plain a.spelled
+  answered_not image name object input caller answer ask.NoMethod a b = none_named image name b.class a.class a.by.answers.method b.loaded a.loaded b.none a.by.answers.named
+  answered_not image name object input caller answer ask.InputTooLong a b = both_lengths image name input b.class a.class b.passes.method a.by.answers.method b.loaded a.loaded b.passes.named a.by.answers.named b.passes.long a.by.answers.short
+  answered_not image name object input caller answer ask.Malformed a b = b.gets.none a.by.plain a.by.spelled
   answered_not image name object input caller answer ask.NoMemory a b = tt
 
   abbrev OneOf : AnswerError → AnswerError → Type 0
@@ -88,19 +88,19 @@ module _ (one : (bytes : List ℕ) (c d : Class) → IsImage bytes c → IsImage
   one_refusal image name object input ask.NoMethod (ask.Class load.NoMemory) a b = inr (inl tt)
   one_refusal image name object input ask.NoMethod ask.NoMethod a b = same ask.NoMethod
   one_refusal image name object input ask.NoMethod ask.InputTooLong a b = absurd (none_named image name a.class b.class b.passes.method a.loaded b.loaded a.none b.passes.named)
-  one_refusal image name object input ask.NoMethod ask.Malformed a b = absurd (none_named image name a.class b.class b.method a.loaded b.loaded a.none b.named)
+  one_refusal image name object input ask.NoMethod ask.Malformed a b = absurd (none_named image name a.class b.class b.gets.method a.loaded b.loaded a.none b.gets.named)
   one_refusal image name object input ask.NoMethod ask.NoMemory a b = inr (inl tt)
   one_refusal image name object input ask.InputTooLong (ask.Class (load.Image y)) a b = absurd (image_not image a.loaded.written y a.loaded.spelled b)
   one_refusal image name object input ask.InputTooLong (ask.Class (load.Verdict s)) a b = absurd (loaded_not image a.class s a.loaded b)
   one_refusal image name object input ask.InputTooLong (ask.Class load.NoMemory) a b = inr (inl tt)
   one_refusal image name object input ask.InputTooLong ask.NoMethod a b = absurd (none_named image name b.class a.class a.passes.method b.loaded a.loaded b.none a.passes.named)
   one_refusal image name object input ask.InputTooLong ask.InputTooLong a b = same ask.InputTooLong
-  one_refusal image name object input ask.InputTooLong ask.Malformed a b = absurd (both_lengths image name input a.class b.class a.passes.method b.method a.loaded b.loaded a.passes.named b.named a.passes.long b.short)
+  one_refusal image name object input ask.InputTooLong ask.Malformed a b = absurd (both_lengths image name input a.class b.class a.passes.method b.gets.method a.loaded b.loaded a.passes.named b.gets.named a.passes.long b.gets.short)
   one_refusal image name object input ask.InputTooLong ask.NoMemory a b = inr (inl tt)
   one_refusal image name object input ask.Malformed (ask.Class (load.Image y)) a b = absurd (image_not image a.loaded.written y a.loaded.spelled b)
   one_refusal image name object input ask.Malformed (ask.Class (load.Verdict s)) a b = absurd (loaded_not image a.class s a.loaded b)
   one_refusal image name object input ask.Malformed (ask.Class load.NoMemory) a b = inr (inl tt)
-  one_refusal image name object input ask.Malformed ask.NoMethod a b = absurd (none_named image name b.class a.class a.method b.loaded a.loaded b.none a.named)
-  one_refusal image name object input ask.Malformed ask.InputTooLong a b = absurd (both_lengths image name input b.class a.class b.passes.method a.method b.loaded a.loaded b.passes.named a.named b.passes.long a.short)
+  one_refusal image name object input ask.Malformed ask.NoMethod a b = absurd (none_named image name b.class a.class a.gets.method b.loaded a.loaded b.none a.gets.named)
+  one_refusal image name object input ask.Malformed ask.InputTooLong a b = absurd (both_lengths image name input b.class a.class b.passes.method a.gets.method b.loaded a.loaded b.passes.named a.gets.named b.passes.long a.gets.short)
   one_refusal image name object input ask.Malformed ask.Malformed a b = same ask.Malformed
   one_refusal image name object input ask.Malformed ask.NoMemory a b = inr (inl tt)

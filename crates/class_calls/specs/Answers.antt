@@ -20,6 +20,8 @@ use Rattle.class_calls.specs.declared.class.ClassError.TheVariants as load
 use Rattle.object_bytes.specs.declared.flat.FlatError.{FlatError}
 use Rattle.object_bytes.specs.declared.flat.FlatError.TheVariants as flat
 use Rattle.class_calls.specs.declared.answer.Answer.{Answer}
+use Rattle.class_calls.specs.declared.answer.MethodError.{MethodError}
+use Rattle.class_calls.specs.declared.answer.MethodError.TheVariants as method
 use Rattle.class_calls.specs.declared.answer.AnswerError.{AnswerError}
 use Rattle.class_calls.specs.declared.answer.AnswerError.TheVariants as ask
 
@@ -63,10 +65,10 @@ pub record Says (outcome : Outcome) (answer : Answer) : Type 0 where
   pub lead : Leads outcome.change.before outcome.change.after answer.edits.items
   pub edits : answer.edits.items ≡ spelled (edits outcome.change.before outcome.change.after)
 
--- what the image's class answers on the object that is spelled
-pub record IsAnswered (image name object : List ℕ) (caller : ℕ) (input : List ℕ) (answer : Answer) : Type 0 where
-  pub class : List ClassMethod
-  pub loaded : IsLoaded image class
+-- ---- a call on a verified class
+
+-- what a class answers on the object that is spelled
+pub record IsAnsweredBy (class : List ClassMethod) (name object : List ℕ) (caller : ℕ) (input : List ℕ) (answer : Answer) : Type 0 where
   pub plain : PlainObject
   pub spelled : Spells object plain
   pub outcome : Outcome
@@ -74,9 +76,31 @@ pub record IsAnswered (image name object : List ℕ) (caller : ℕ) (input : Lis
   pub says : Says outcome answer
 
 -- what a refusal of a flat form is here
-abbrev pub IsOfFlat : FlatError → AnswerError → Type 0
-IsOfFlat flat.Malformed e = e ≡ ask.Malformed
-IsOfFlat flat.NoMemory e = e ≡ ask.NoMemory
+abbrev pub IsOfFlat : FlatError → MethodError → Type 0
+IsOfFlat flat.Malformed e = e ≡ method.Malformed
+IsOfFlat flat.NoMemory e = e ≡ method.NoMemory
+
+-- the method of that name takes the input, and no object is spelled
+pub record GetsNoObject (class : List ClassMethod) (name object input : List ℕ) : Type 0 where
+  pub method : ClassMethod
+  pub named : method_named class name ≡ Some method
+  pub short : length input ≤ method.in_cap
+  pub none : (plain : PlainObject) → Spells object plain → ⊥
+
+-- why a class gives no answer: the first that applies
+abbrev pub RefusesMethod : List ClassMethod → List ℕ → List ℕ → List ℕ → MethodError → Type 0
+RefusesMethod class name object input method.NoMethod = method_named class name ≡ None
+RefusesMethod class name object input method.InputTooLong = InputPasses class name input
+RefusesMethod class name object input method.Malformed = GetsNoObject class name object input
+RefusesMethod class name object input method.NoMemory = Unit {0}
+
+-- ---- a call on an image
+
+-- what the image's class answers on the object that is spelled
+pub record IsAnswered (image name object : List ℕ) (caller : ℕ) (input : List ℕ) (answer : Answer) : Type 0 where
+  pub class : List ClassMethod
+  pub loaded : IsLoaded image class
+  pub by : IsAnsweredBy class name object caller input answer
 
 -- the class has no method of that name
 pub record HasNoMethod (image name : List ℕ) : Type 0 where
@@ -94,12 +118,16 @@ pub record TakesNoInput (image name input : List ℕ) : Type 0 where
 pub record HasNoObject (image name object input : List ℕ) : Type 0 where
   pub class : List ClassMethod
   pub loaded : IsLoaded image class
-  pub method : ClassMethod
-  pub named : method_named class name ≡ Some method
-  pub short : length input ≤ method.in_cap
-  pub none : (plain : PlainObject) → Spells object plain → ⊥
+  pub gets : GetsNoObject class name object input
 
--- why there is no answer: the first that applies
+-- what a refusal of a class is for an image of it
+abbrev pub answer_error : MethodError → AnswerError
+answer_error method.NoMethod = ask.NoMethod
+answer_error method.InputTooLong = ask.InputTooLong
+answer_error method.Malformed = ask.Malformed
+answer_error method.NoMemory = ask.NoMemory
+
+-- why an image gives no answer: the first that applies
 abbrev pub RefusesCall : List ℕ → List ℕ → List ℕ → List ℕ → AnswerError → Type 0
 RefusesCall image name object input (ask.Class e) = RefusesImage image e
 RefusesCall image name object input ask.NoMethod = HasNoMethod image name

@@ -1,14 +1,28 @@
 //! A call on bytes.
 
-ghost use Rattle.std.specs.Prelude.{◌≡◌, ◌≤◌, IfOk, IfErr, Some, length};
-ghost use Rattle.class_calls.specs.Answers.{IsAnswered, IsOfFlat, RefusesCall, Says};
+ghost use Rattle.std.specs.Prelude.{◌≡◌, IfOk, IfErr};
+ghost use Rattle.class_calls.specs.Answers.{IsAnswered, IsAnsweredBy, IsOfFlat, RefusesCall, RefusesMethod, Says, answer_error};
 
 use crate::class::{ClassError, load, method_of};
-use interp::{CallError, Outcome, call_method};
+use interp::{Outcome, call_method};
 use object_bytes::{FlatError, edits_of, read_object};
 use std::alloc::{AllocError, Global};
+use verifier::VerifiedClass;
 
-/// Why there is no answer: the first that applies.
+/// Why a verified class gives no answer: the first that applies.
+#[derive(Clone, Copy, Debug)]
+pub enum MethodError {
+    /// The class has no method of that name.
+    NoMethod,
+    /// The input is longer than the method's in_cap.
+    InputTooLong,
+    /// The bytes are no object's flat form.
+    Malformed,
+    /// Memory was refused.
+    NoMemory,
+}
+
+/// Why an image gives no answer: the first that applies.
 #[derive(Clone, Copy, Debug)]
 pub enum AnswerError {
     /// The image gives no verified class.
@@ -56,16 +70,59 @@ fn said(alloc: Global, outcome: Outcome) -> Result<Answer, AllocError>
 }
 
 /// What a refusal of the flat form is here.
-fn of_flat(error: FlatError) -> AnswerError
+fn of_flat(error: FlatError) -> MethodError
     ensures { IsOfFlat error result }
 {
     match error {
-        FlatError::Malformed => AnswerError::Malformed,
-        FlatError::NoMemory => AnswerError::NoMemory,
+        FlatError::Malformed => MethodError::Malformed,
+        FlatError::NoMemory => MethodError::NoMemory,
     }
 }
 
-/// Calls a method of an image's class on an object in its flat form.
+/// Calls a method of a verified class on an object in its flat form.
+pub fn call_on(
+    alloc: Global,
+    class: &VerifiedClass,
+    name: &[u8],
+    object: &[u8],
+    caller: u32,
+    input: &[u8],
+) -> Result<Answer, MethodError>
+    ensures ok { IfOk result (IsAnsweredBy class.now name.now object.now caller input.now) }
+    ensures refused { IfErr result (RefusesMethod class.now name.now object.now input.now) }
+{
+    let Some(method) = method_of(class, name) else {
+        return Err(MethodError::NoMethod);
+    };
+    if input.len() > usize::from(method.caps().in_cap) {
+        return Err(MethodError::InputTooLong);
+    }
+    let object = match read_object(alloc, object) {
+        Ok(object) => object,
+        Err(error) => return Err(of_flat(error)),
+    };
+    let Ok(outcome) = call_method(alloc, method, object.as_ref(), caller, input) else {
+        return Err(MethodError::NoMemory);
+    };
+    match said(alloc, outcome) {
+        Ok(answer) => Ok(answer),
+        Err(_) => Err(MethodError::NoMemory),
+    }
+}
+
+/// What a refusal of a class is for an image of it.
+fn of_method(error: MethodError) -> AnswerError
+    ensures { result ≡ answer_error error }
+{
+    match error {
+        MethodError::NoMethod => AnswerError::NoMethod,
+        MethodError::InputTooLong => AnswerError::InputTooLong,
+        MethodError::Malformed => AnswerError::Malformed,
+        MethodError::NoMemory => AnswerError::NoMemory,
+    }
+}
+
+/// Calls a method of an image's class on an object in its flat form: verifies the class, and calls.
 pub fn answer_on(
     alloc: Global,
     image: &[u8],
@@ -81,21 +138,8 @@ pub fn answer_on(
         Ok(class) => class,
         Err(error) => return Err(AnswerError::Class(error)),
     };
-    let Some(method) = method_of(&class, name) else {
-        return Err(AnswerError::NoMethod);
-    };
-    if input.len() > usize::from(method.caps().in_cap) {
-        return Err(AnswerError::InputTooLong);
-    }
-    let object = match read_object(alloc, object) {
-        Ok(object) => object,
-        Err(error) => return Err(of_flat(error)),
-    };
-    let Ok(outcome) = call_method(alloc, method, object.as_ref(), caller, input) else {
-        return Err(AnswerError::NoMemory);
-    };
-    match said(alloc, outcome) {
+    match call_on(alloc, &class, name, object, caller, input) {
         Ok(answer) => Ok(answer),
-        Err(_) => Err(AnswerError::NoMemory),
+        Err(error) => Err(of_method(error)),
     }
 }

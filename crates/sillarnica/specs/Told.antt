@@ -6,10 +6,11 @@ use Rattle.bpf_decode.specs.ImageReading.{image_of}
 use Rattle.bpf_decode.specs.Refusal.{number_of, slot_of, image_text_of}
 use Rattle.bpf_decode.specs.declared.image_error.ImageError.{ImageError}
 use Rattle.verifier.specs.Verified.{method_named}
+use Rattle.interp.specs.Plain.{InputPasses}
 use Rattle.verifier.specs.RuleNumber.{rule_number, refusal_text}
 use Rattle.verifier.specs.declared.refusal.Refusal.{Refusal}
 use Rattle.object_store.specs.Edits.{overlaid}
-use Rattle.class_calls.specs.Answers.{IsLoaded, RefusesClass, IsAnswered, HasNoMethod, TakesNoInput, HasNoObject}
+use Rattle.class_calls.specs.Answers.{IsLoaded, RefusesClass, IsAnsweredBy, GetsNoObject}
 use Rattle.class_calls.specs.Needs.{AreEnough}
 use Rattle.class_calls.specs.declared.answer.Answer.{Answer}
 use Rattle.footprint.specs.Parts as footprint
@@ -134,11 +135,10 @@ TellsNeeds image name result =
     ⊎ (((result ≡ negsuc 94) × (SpellsNoClass image ⊎ SpellsNoMethod image name))
     ⊎ (result ≡ negsuc 11))
 
--- ---- a call
+-- ---- a call of a class
 
--- what is behind the three pointers
+-- what is behind the two pointers
 pub record Memory : Type 0 where
-  pub refusal : ToldRefusal
   pub answer : ToldAnswer
   pub out : List ℕ
 
@@ -159,39 +159,56 @@ HasRoom answer old new true = (length (written answer) ≤ length old) × (new �
 HasRoom answer old new false = (length old < length (written answer)) × (new ≡ old)
 
 -- 0: the answer, and the buffer begins with what it has to say
-pub record IsCalled (image name object : List ℕ) (caller : ℕ) (input : List ℕ) (old new : Memory) : Type 0 where
+pub record IsCalled (class : List ClassMethod) (name object : List ℕ) (caller : ℕ) (input : List ℕ) (old new : Memory) : Type 0 where
   pub answer : Answer
-  pub answered : IsAnswered image name object caller input answer
+  pub answered : IsAnsweredBy class name object caller input answer
   pub told : TellsAnswer answer new.answer
   pub room : length (written answer) ≤ length old.out
   pub out : new.out ≡ overlaid (written answer) old.out
-  pub refusal : new.refusal ≡ old.refusal
 
 -- -34: the answer, which the buffer has no room for
-pub record HasNoRoom (image name object : List ℕ) (caller : ℕ) (input : List ℕ) (old new : Memory) : Type 0 where
+pub record HasNoRoom (class : List ClassMethod) (name object : List ℕ) (caller : ℕ) (input : List ℕ) (old new : Memory) : Type 0 where
   pub answer : Answer
-  pub answered : IsAnswered image name object caller input answer
+  pub answered : IsAnsweredBy class name object caller input answer
   pub told : TellsAnswer answer new.answer
   pub small : length old.out < length (written answer)
   pub out : new.out ≡ old.out
-  pub refusal : new.refusal ≡ old.refusal
 
--- why there is no answer: 1, 2, -95, -7, -22 or -12
-abbrev pub TellsRefused : List ℕ → List ℕ → List ℕ → List ℕ → ToldRefusal → ToldRefusal → ℤ → Type 0
-TellsRefused image name object input old new result =
-    TellsClass image old new result
-    ⊎ (((result ≡ negsuc 94) × HasNoMethod image name × (new ≡ old))
-    ⊎ (((result ≡ negsuc 6) × TakesNoInput image name input × (new ≡ old))
-    ⊎ ((result ≡ negsuc 21) × HasNoObject image name object input × (new ≡ old))))
+-- why the class gives no answer: -95, -7, -22 or -12
+abbrev pub TellsNoAnswer : List ClassMethod → List ℕ → List ℕ → List ℕ → ℤ → Type 0
+TellsNoAnswer class name object input result =
+    ((result ≡ negsuc 94) × (method_named class name ≡ None))
+    ⊎ (((result ≡ negsuc 6) × InputPasses class name input)
+    ⊎ (((result ≡ negsuc 21) × GetsNoObject class name object input)
+    ⊎ (result ≡ negsuc 11)))
 
--- such an answer, and nothing else is written
-pub record IsRefused (image name object input : List ℕ) (old new : Memory) (result : ℤ) : Type 0 where
-  pub told : TellsRefused image name object input old.refusal new.refusal result
-  pub answer : new.answer ≡ old.answer
-  pub out : new.out ≡ old.out
+-- 0, -34, or such an answer, and then nothing is written
+abbrev pub TellsClassCall : List ClassMethod → List ℕ → List ℕ → ℕ → List ℕ → Memory → Memory → ℤ → Type 0
+TellsClassCall class name object caller input old new result =
+    ((result ≡ pos 0) × IsCalled class name object caller input old new)
+    ⊎ (((result ≡ negsuc 33) × HasNoRoom class name object caller input old new)
+    ⊎ (TellsNoAnswer class name object input result × (new ≡ old)))
 
-abbrev pub TellsCall : List ℕ → List ℕ → List ℕ → ℕ → List ℕ → Memory → Memory → ℤ → Type 0
-TellsCall image name object caller input old new result =
-    ((result ≡ pos 0) × IsCalled image name object caller input old new)
-    ⊎ (((result ≡ negsuc 33) × HasNoRoom image name object caller input old new)
-    ⊎ IsRefused image name object input old new result)
+-- ---- a call of an image's class
+pub record CallsClass (image name object : List ℕ) (caller : ℕ) (input : List ℕ) (old new : Memory) (result : ℤ) : Type 0 where
+  pub class : List ClassMethod
+  pub loaded : IsLoaded image class
+  pub told : TellsClassCall class name object caller input old new result
+
+-- as the class answers; or why there is none, and nothing else is written
+abbrev pub TellsCall : List ℕ → List ℕ → List ℕ → ℕ → List ℕ → ToldRefusal → ToldRefusal → Memory → Memory → ℤ → Type 0
+TellsCall image name object caller input why told old new result =
+    (CallsClass image name object caller input old new result × (told ≡ why))
+    ⊎ (TellsClass image why told result × (new ≡ old))
+
+-- ---- a class that a handle holds, if it is open
+
+-- 0: it holds the image's class. Else it is closed, and the answer says why
+abbrev pub TellsOpen : List ℕ → ToldRefusal → ToldRefusal → Option (List ClassMethod) → ℤ → Type 0
+TellsOpen image old new None result = TellsClass image old new result
+TellsOpen image old new (Some class) result = (result ≡ pos 0) × IsLoaded image class × (new ≡ old)
+
+-- as the class answers; -9 if the handle is closed, and nothing is written
+abbrev pub TellsHeldCall : Option (List ClassMethod) → List ℕ → List ℕ → ℕ → List ℕ → Memory → Memory → ℤ → Type 0
+TellsHeldCall None name object caller input old new result = (result ≡ negsuc 8) × (new ≡ old)
+TellsHeldCall (Some class) name object caller input old new result = TellsClassCall class name object caller input old new result

@@ -1,14 +1,15 @@
 //! A call.
 
-ghost use Rattle.class_calls.specs.Answers.{RefusesCall};
-ghost use Rattle.sillarnica.specs.Told.{HasRoom, TellsRefused, TellsCall};
+ghost use Rattle.class_calls.specs.Answers.{RefusesMethod};
+ghost use Rattle.sillarnica.specs.Told.{HasRoom, TellsNoAnswer, TellsClassCall, TellsCall};
 
 use crate::told::{
     INPUT_TOO_LONG, MALFORMED, NO_MEMORY, NO_METHOD, NO_ROOM, ToldAnswer, ToldRefusal, tell_answer,
     tell_class,
 };
-use class_calls::{Answer, AnswerError, answer_on};
+use class_calls::{Answer, MethodError, call_on, load};
 use std::alloc::Global;
+use verifier::VerifiedClass;
 
 /// Writes the output and then the edits, if there is room for both. If there isn't, nothing is
 /// written.
@@ -30,24 +31,44 @@ fn write_out(answer: &Answer, out: &mut [u8]) -> bool
     true
 }
 
-/// Says why there is no answer.
-fn tell_refused(
-    image: &[u8],
+/// The number of a refusal.
+fn number(
+    class: &VerifiedClass,
     name: &[u8],
     object: &[u8],
     input: &[u8],
-    why: &mut ToldRefusal,
-    error: AnswerError,
+    error: MethodError,
 ) -> i32
-    requires { RefusesCall image.now name.now object.now input.now error }
-    ensures { TellsRefused image.now name.now object.now input.now why.old why.new result }
+    requires { RefusesMethod class.now name.now object.now input.now error }
+    ensures { TellsNoAnswer class.now name.now object.now input.now result }
 {
     match error {
-        AnswerError::Class(error) => tell_class(image, why, error),
-        AnswerError::NoMethod => NO_METHOD,
-        AnswerError::InputTooLong => INPUT_TOO_LONG,
-        AnswerError::Malformed => MALFORMED,
-        AnswerError::NoMemory => NO_MEMORY,
+        MethodError::NoMethod => NO_METHOD,
+        MethodError::InputTooLong => INPUT_TOO_LONG,
+        MethodError::Malformed => MALFORMED,
+        MethodError::NoMemory => NO_MEMORY,
+    }
+}
+
+/// Calls a method of a verified class on an object in its flat form.
+pub(crate) fn call_class(
+    alloc: Global,
+    class: &VerifiedClass,
+    name: &[u8],
+    object: &[u8],
+    caller: u32,
+    input: &[u8],
+    answer: &mut ToldAnswer,
+    out: &mut [u8],
+) -> i32
+    ensures { TellsClassCall class.now name.now object.now caller input.now (record { answer = answer.old; out = out.old }) (record { answer = answer.new; out = out.new }) result }
+{
+    match call_on(alloc, class, name, object, caller, input) {
+        Ok(found) => {
+            tell_answer(answer, &found);
+            if write_out(&found, out) { 0 } else { NO_ROOM }
+        }
+        Err(error) => number(class, name, object, input, error),
     }
 }
 
@@ -63,13 +84,10 @@ pub(crate) fn call(
     answer: &mut ToldAnswer,
     out: &mut [u8],
 ) -> i32
-    ensures { TellsCall image.now name.now object.now caller input.now (record { refusal = refusal.old; answer = answer.old; out = out.old }) (record { refusal = refusal.new; answer = answer.new; out = out.new }) result }
+    ensures { TellsCall image.now name.now object.now caller input.now refusal.old refusal.new (record { answer = answer.old; out = out.old }) (record { answer = answer.new; out = out.new }) result }
 {
-    match answer_on(alloc, image, name, object, caller, input) {
-        Ok(found) => {
-            tell_answer(answer, &found);
-            if write_out(&found, out) { 0 } else { NO_ROOM }
-        }
-        Err(error) => tell_refused(image, name, object, input, refusal, error),
+    match load(alloc, image) {
+        Ok(class) => call_class(alloc, &class, name, object, caller, input, answer, out),
+        Err(error) => tell_class(image, refusal, error),
     }
 }

@@ -1,18 +1,24 @@
 //! The calls of verified classes for C; `include/sillarnica.h` declares them. Each is a function of
 //! its arguments: the caller owns all memory before and after, nothing is kept, and there is no
-//! state, so any number of calls may run at once.
+//! state, so any number of calls may run at once. But for a handle that the caller opens: it holds
+//! a verified class until it is closed, and is for one call at a time.
 #![tactic(auto)]
 
-ghost use Rattle.std.specs.Prelude.{◌≡◌, pos};
-ghost use Rattle.sillarnica.specs.Told.{TellsVerify, TellsExplain, TellsMethod, TellsNeeds, TellsCall};
+ghost use Rattle.std.specs.Prelude.{◌≡◌, pos, None};
+ghost use Rattle.sillarnica.specs.Told.{TellsVerify, TellsExplain, TellsMethod, TellsNeeds, TellsCall, TellsOpen, TellsHeldCall};
 
 mod call;
 mod method;
+mod parts;
+mod pointer;
 mod told;
+mod verified;
 mod verify;
 
+pub use pointer::ClassPointer;
 use std::alloc::Global;
 pub use told::{ToldAnswer, ToldRefusal};
+pub use verified::Verified;
 
 /// The version of these calls, of the flat form, of the edits and of the structs: 1.
 #[unsafe(no_mangle)]
@@ -82,9 +88,50 @@ pub extern "C" fn sillarnica_call(
     answer: &mut ToldAnswer,
     out: &mut [u8],
 ) -> i32
-    ensures { TellsCall image.now method.now object.now caller input.now (record { refusal = refusal.old; answer = answer.old; out = out.old }) (record { refusal = refusal.new; answer = answer.new; out = out.new }) result }
+    ensures { TellsCall image.now method.now object.now caller input.now refusal.old refusal.new (record { answer = answer.old; out = out.old }) (record { answer = answer.new; out = out.new }) result }
 {
     call::call(
         alloc, image, method, object, caller, input, refusal, answer, out,
     )
+}
+
+/// Verifies the image's class and holds it in the handle until it is closed: 0; 1 or 2 with the
+/// reason; or -12. But for 0 the handle is closed then. What it held before isn't looked at.
+#[unsafe(no_mangle)]
+pub extern "C" fn sillarnica_verified_open(
+    alloc: Global,
+    image: &[u8],
+    refusal: &mut ToldRefusal,
+    verified: &mut Verified,
+) -> i32
+    ensures { TellsOpen image.now refusal.old refusal.new verified.new.pointer.class result }
+{
+    verified::open(alloc, image, refusal, verified)
+}
+
+/// Calls a method of the class that the handle holds, which it holds afterwards too: what
+/// `sillarnica_call` answers for an image of that class, but for 1 and 2; or -9, if it is closed.
+#[unsafe(no_mangle)]
+pub extern "C" fn sillarnica_verified_call(
+    alloc: Global,
+    verified: &mut Verified,
+    method: &[u8],
+    object: &[u8],
+    caller: u32,
+    input: &[u8],
+    answer: &mut ToldAnswer,
+    out: &mut [u8],
+) -> i32
+    ensures told { TellsHeldCall verified.old.pointer.class method.now object.now caller input.now (record { answer = answer.old; out = out.old }) (record { answer = answer.new; out = out.new }) result }
+    ensures held { verified.new.pointer.class ≡ verified.old.pointer.class }
+{
+    verified::call(alloc, verified, method, object, caller, input, answer, out)
+}
+
+/// Frees the class that the handle holds. It is closed then, and closing it again does nothing.
+#[unsafe(no_mangle)]
+pub extern "C" fn sillarnica_verified_close(alloc: Global, verified: &mut Verified)
+    ensures { verified.new.pointer.class ≡ None }
+{
+    verified::close(alloc, verified)
 }

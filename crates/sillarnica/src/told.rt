@@ -53,6 +53,9 @@ pub(crate) const MALFORMED: i32 = -22;
 /// The buffer is too small.
 pub(crate) const NO_ROOM: i32 = -34;
 
+/// The handle is closed.
+pub(crate) const CLOSED: i32 = -9;
+
 /// A slot as C sees it, -1 where there is none. No slot is past what fits: a method has far fewer.
 fn slot_number(slot: Option<usize>) -> i64
     ensures { result ≡ slot_number slot }

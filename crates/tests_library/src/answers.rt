@@ -1,19 +1,22 @@
 //! Each answer of a call on bytes.
 
 use crate::images::{LEAST, UNSET, WRITE};
-use class_calls::{AnswerError, ClassError, answer_on, load};
+use class_calls::{Answer, AnswerError, ClassError, MethodError, answer_on, call_on, load};
 use std::alloc::Global;
+use verifier::VerifiedClass;
 
-/// An answer's number as C has it; of an answer whether it is 0, has those steps and those edits.
+/// Whether an answer has the code, the steps and the edits of a row.
+fn is_answer(answer: &Answer, call: &Call) -> bool {
+    answer.code == call.5
+        && answer.steps == call.6
+        && answer.output.is_empty()
+        && answer.edits.as_slice() == call.7
+}
+
+/// The number of a call of an image's class as C has it; 99 if the answer is another one.
 fn number(alloc: Global, call: &Call) -> i32 {
     match answer_on(alloc, call.0, call.1, call.2, 7, call.3) {
-        Ok(answer) => {
-            let is_same = answer.code == call.5
-                && answer.steps == call.6
-                && answer.output.is_empty()
-                && answer.edits.as_slice() == call.7;
-            if is_same { 0 } else { 99 }
-        }
+        Ok(answer) => if is_answer(&answer, call) { 0 } else { 99 },
         Err(AnswerError::Class(ClassError::Image(_))) => 1,
         Err(AnswerError::Class(ClassError::Verdict(_))) => 2,
         Err(AnswerError::Class(ClassError::NoMemory)) => -12,
@@ -21,6 +24,29 @@ fn number(alloc: Global, call: &Call) -> i32 {
         Err(AnswerError::InputTooLong) => -7,
         Err(AnswerError::Malformed) => -22,
         Err(AnswerError::NoMemory) => -12,
+    }
+}
+
+/// The same of a call of a verified class.
+fn number_on(alloc: Global, class: &VerifiedClass, call: &Call) -> i32 {
+    match call_on(alloc, class, call.1, call.2, 7, call.3) {
+        Ok(answer) => if is_answer(&answer, call) { 0 } else { 99 },
+        Err(MethodError::NoMethod) => -95,
+        Err(MethodError::InputTooLong) => -7,
+        Err(MethodError::Malformed) => -22,
+        Err(MethodError::NoMemory) => -12,
+    }
+}
+
+/// Whether a class that is verified once answers a row's number twice; and else why there is none.
+fn is_answered_twice(alloc: Global, call: &Call) -> bool {
+    match load(alloc, call.0) {
+        Ok(class) => {
+            number_on(alloc, &class, call) == call.4 && number_on(alloc, &class, call) == call.4
+        }
+        Err(ClassError::Image(_)) => call.4 == 1,
+        Err(ClassError::Verdict(_)) => call.4 == 2,
+        Err(ClassError::NoMemory) => false,
     }
 }
 
@@ -60,6 +86,7 @@ const CALLS: [Call; 13] = [
 fn each_answer(rt: HostRuntime) {
     for call in &CALLS {
         assert!(rt; number(rt.alloc(), call) == call.4);
+        assert!(rt; is_answered_twice(rt.alloc(), call));
     }
 }
 

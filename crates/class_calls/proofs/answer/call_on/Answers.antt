@@ -1,16 +1,14 @@
 use Rattle.std.proofs.Common.{sym, subst}
 use Rattle.interp.specs.Plain.{AnswersMethod}
-use Rattle.class_calls.proofs.answer.answer_on.Goals as goal
+use Rattle.class_calls.proofs.answer.call_on.Goals as goal
 
 pub returns-in-Ok-said-clause-ok : goal.returns-in-Ok-said-clause-ok
 returns-in-Ok-said-clause-ok c =
     let run = c.in-Ok-call_method in
     let method = c.in-Some.method.now in
     record {
-      class = c.in-Ok.class;
-      loaded = c.in-Ok.ensures.found;
-      plain = c.in-Ok-read_object.object;
-      spelled = c.in-Ok-read_object.ensures.found;
+      plain = c.in-Ok.object;
+      spelled = c.in-Ok.ensures.found;
       outcome = run.outcome;
       answers = record {
         method = method;

@@ -1,0 +1,64 @@
+//! A verified class behind a pointer that C keeps.
+
+ghost use Rattle.std.specs.Prelude.{◌≡◌, ℕ, List, Option, Some, None};
+ghost use Rattle.bpf_decode.specs.Class.{ClassMethod};
+ghost use Rattle.sillarnica.specs.Held.{IsHeld};
+ghost use Rattle.sillarnica.specs.inner.Owned.{pointer_owns, coded_class};
+
+use crate::parts::BoxParts;
+use std::alloc::Global;
+use std::marker::Model;
+use verifier::VerifiedClass;
+
+/// The pointer to a class on the heap, which it owns; or null.
+///
+/// C sees a `void *`: a `VerifiedClass` is no type of C's. A `Global` takes no bytes.
+#[repr(C)]
+#[derive(Drop)]
+pub struct ClassPointer {
+    at: *mut u8,
+    alloc: Global,
+    pub(crate) ghost class: { Option (List ClassMethod) } by { coded_class },
+}
+
+impl Model for ClassPointer {
+    ghost also_owns = { λ p. pointer_owns p.alloc p.at p.class };
+}
+
+// A class is plain data, so C may hand it from one thread to another.
+unsafe impl Send for ClassPointer {}
+
+impl ClassPointer {
+    /// Null.
+    pub(crate) fn null(alloc: Global) -> ClassPointer
+        ensures { result.class ≡ None }
+    {
+        ClassPointer {
+            at: std::ptr::null_mut(),
+            alloc,
+        }
+    }
+
+    /// The pointer of a box.
+    pub(crate) fn of(parts: BoxParts<VerifiedClass, Global>) -> ClassPointer
+        ensures { result.class ≡ Some parts.value }
+    {
+        let BoxParts { ptr, alloc } = parts;
+        ClassPointer {
+            at: ptr.cast::<u8>(),
+            alloc,
+        }
+    }
+
+    /// The box again.
+    pub(crate) fn into_parts(self) -> BoxParts<VerifiedClass, Global>
+        requires { IsHeld self.class }
+        ensures { self.class ≡ Some result.value }
+    {
+        let ClassPointer { at, alloc } = self;
+        BoxParts {
+            ptr: at.cast::<VerifiedClass>(),
+            alloc,
+        }
+    }
+}
