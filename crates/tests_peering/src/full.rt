@@ -1,5 +1,5 @@
-//! Three nodes and a log that gets full: each event that takes memory for all of its entries at once
-//! is taken.
+//! Three nodes and a log that gets full: each event that takes memory for all of its entries at
+//! once is taken.
 ghost use Rattle.std.specs.Prelude.{◌≡◌};
 
 use crate::history::account::{Asked, request, table};
