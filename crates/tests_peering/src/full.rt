@@ -102,10 +102,10 @@ fn mapped<R: Abort>(rt: &R, alloc: Global, monitor: &mut Monitor, primary: u64) 
 
 /// The monitor is asked to activate an interval, and says that it has.
 fn activated<R: Abort>(rt: &R, monitor: &mut Monitor, packet: &Packet) -> Event {
-    let asked = match &packet.message.kind {
-        MessageKind::AskActivate(interval) => Some(*interval),
-        _ => None,
-    };
+    let mut asked = None;
+    if let MessageKind::AskActivate(interval) = &packet.message.kind {
+        asked = Some(*interval);
+    }
     let interval = asked.expect(rt, "a question");
     monitor.activate(interval).expect(rt, "the newest");
     Event::Message(Message {
@@ -116,15 +116,13 @@ fn activated<R: Abort>(rt: &R, monitor: &mut Monitor, packet: &Packet) -> Event 
 
 /// Whether a message is the Rep of that place, to node 2.
 fn is_rep(packet: &Packet, place: usize) -> bool {
-    match &packet.message.kind {
-        MessageKind::Rep(interval, at, request) => {
-            packet.receiver == Party::Node(NodeId::new(2))
-                && interval.get() == 1
-                && *at == place
-                && request.number().get() as usize == place.wrapping_add(1)
-        }
-        _ => false,
+    if let MessageKind::Rep(interval, at, request) = &packet.message.kind {
+        return packet.receiver == Party::Node(NodeId::new(2))
+            && interval.get() == 1
+            && *at == place
+            && request.number().get() as usize == place.wrapping_add(1);
     }
+    false
 }
 
 /// Whether these are the Reps of all places, in their order.
@@ -138,13 +136,12 @@ fn are_reps(packets: &[Packet]) -> bool {
 
 /// Whether a message is the Reply of that place.
 fn is_reply(packet: &Packet, place: usize) -> bool {
-    match &packet.message.kind {
-        MessageKind::Reply(_, number, at, answer) => {
-            let count = place.wrapping_add(1);
-            number.get() as usize == count && *at == place && answer.code() == count as i64
-        }
-        _ => false,
+    if let MessageKind::Reply(_, number, at, answer) = &packet.message.kind {
+        return number.get() as usize == place.wrapping_add(1)
+            && *at == place
+            && answer.code() == i64::from(number.get());
     }
+    false
 }
 
 /// Whether these are the Replies of all places, in their order.
@@ -158,11 +155,13 @@ fn are_replies(packets: &[Packet]) -> bool {
 
 /// Whether a message carries a full list, as Log or as Install.
 fn has_full_list(packet: &Packet) -> bool {
-    match &packet.message.kind {
-        MessageKind::Log(_, list) => list.len() == FULL as usize,
-        MessageKind::Install(_, list) => list.len() == FULL as usize,
-        _ => false,
+    if let MessageKind::Log(_, list) = &packet.message.kind {
+        return list.len() == FULL as usize;
     }
+    if let MessageKind::Install(_, list) = &packet.message.kind {
+        return list.len() == FULL as usize;
+    }
+    false
 }
 
 /// Whether a node is active, and all of a full log is committed.

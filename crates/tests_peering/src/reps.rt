@@ -112,13 +112,12 @@ fn rep<R: Abort>(rt: &R, alloc: Global, row: &Row) -> Event {
 
 /// The length that a message acknowledges to node 1.
 fn length_in(packet: &Packet) -> Option<usize> {
-    match &packet.message.kind {
-        MessageKind::Ack(interval, length) => {
-            let is_told = interval.get() == 1 && packet.receiver == Party::Node(NodeId::new(1));
-            if is_told { Some(*length) } else { None }
+    if let MessageKind::Ack(interval, length) = &packet.message.kind {
+        if interval.get() == 1 && packet.receiver == Party::Node(NodeId::new(1)) {
+            return Some(*length);
         }
-        _ => None,
     }
+    None
 }
 
 /// The length that is acknowledged, if a message is sent.
