@@ -76,9 +76,5 @@ fn again<R: Abort + AllocGlobal>(rt: &R) -> String {
 #[test]
 fn a_log_gets_full(rt: HostRuntime) {
     let (requests, again) = (requests(&rt), again(&rt));
-    prints_long(
-        &rt,
-        &[OPENED, &requests, &again, NEXT],
-        "70,000 requests",
-    );
+    prints_long(&rt, &[OPENED, &requests, &again, NEXT], "70,000 requests");
 }

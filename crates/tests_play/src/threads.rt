@@ -3,7 +3,6 @@
 //! should, and neither waits for ever.
 
 use std::alloc::Global;
-use std::process::Abort;
 use std::rt::Files;
 use std::sync::Wait;
 use std::sync::atomic::{AtomicU64, Ordering};
@@ -39,6 +38,23 @@ struct Watched<'a, R> {
     readings: AtomicU64,
     /// Whether what was awaited came: 1, and else 0.
     met: AtomicU64,
+}
+
+impl<'a, R> Watched<'a, R> {
+    /// Of a run at whose first call that is awaited.
+    fn new(rt: &'a R, awaited: Awaited) -> Watched<'a, R> {
+        Watched {
+            rt,
+            awaited,
+            readings: AtomicU64::new(0),
+            met: AtomicU64::new(0),
+        }
+    }
+
+    /// Whether what was awaited came.
+    fn is_met(&self) -> bool {
+        self.met.load(Ordering::SeqCst) == 1
+    }
 }
 
 impl<R: Threads> Threads for Watched<'_, R> {}
@@ -108,29 +124,8 @@ impl<R: Files + Alloc<A = Global>> Clock for Watched<'_, R> {
     }
 }
 
-/// Whether a file prints that, and what is awaited at its first call comes.
-fn plays<R: Abort + Alloc<A = Global> + Files + Threads + Wait + Sync>(
-    rt: &R,
-    awaited: Awaited,
-    text: &str,
-    printed: &str,
-) -> bool {
-    let watched = Watched {
-        rt,
-        awaited,
-        readings: AtomicU64::new(0),
-        met: AtomicU64::new(0),
-    };
-    let is_done = only_prints(
-        &watched,
-        &["cluster", "text"],
-        "",
-        text.as_bytes(),
-        printed,
-        0,
-    );
-    is_done && watched.met.load(Ordering::SeqCst) == 1
-}
+/// The words of a run.
+const WORDS: [&str; 2] = ["cluster", "text"];
 
 /// Two clients, and one worker.
 const CLIENTS: &str = "cluster nodes 1 replicas 1 groups 1 shards 1 workers 1 tries 4294967295
@@ -145,7 +140,9 @@ client 2 call 0 refused 7 InputTooLong
 
 #[test]
 fn clients_call_at_once(rt: HostRuntime) {
-    assert!(rt; plays(&rt, Awaited::Call, CLIENTS, ANSWERS));
+    let watched = Watched::new(&rt, Awaited::Call);
+    let is_done = only_prints(&watched, &WORDS, "", CLIENTS.as_bytes(), ANSWERS, 0);
+    assert!(rt; is_done && watched.is_met());
 }
 
 /// One client, and four workers.
@@ -153,12 +150,15 @@ const WORKERS: &str = "cluster nodes 1 replicas 1 groups 4 shards 4 workers 4 tr
 client 1 a lock lock -
 ";
 
+/// The one client's call is logged.
+const ANSWER: &str = "client 1 call 0 place 0 code 0 output -\n";
+
 /// The thread that plays the file, and one for each worker.
 #[test]
 fn each_worker_has_a_thread(rt: HostRuntime) {
     let before = count_threads(&rt);
     assert!(rt; before > 0, "the system counts threads");
-    let answer = "client 1 call 0 place 0 code 0 output -\n";
-    let awaited = Awaited::Threads(before.saturating_add(4));
-    assert!(rt; plays(&rt, awaited, WORKERS, answer));
+    let watched = Watched::new(&rt, Awaited::Threads(before.saturating_add(4)));
+    let is_done = only_prints(&watched, &WORDS, "", WORKERS.as_bytes(), ANSWER, 0);
+    assert!(rt; is_done && watched.is_met());
 }
