@@ -57,6 +57,21 @@ fn only_groups_with_another_acting_list_are_told(rt: HostRuntime) {
     assert!(rt; is_kept_by(&rt, alloc, &book, 12, &[4, 3, 2]));
 }
 
+/// Maps of one node and of all five in turn: each begins an interval in each group.
+#[test]
+fn many_maps(rt: HostRuntime) {
+    let alloc = rt.alloc();
+    let mut book = book(&rt, alloc);
+    for epoch in 1..=1_100u32 {
+        let up: &[u64] = if epoch % 2 == 0 {
+            &[0, 1, 2, 3, 4]
+        } else {
+            &[2]
+        };
+        assert!(rt; told(&rt, alloc, &mut book, up, epoch) == Some(64));
+    }
+}
+
 /// What a map of these up nodes is refused by, as it prints.
 fn refusal<R: Abort>(rt: &R, alloc: Global, book: &mut MapBook, up: &[u64]) -> Option<MapError> {
     let up = nodes(rt, alloc, up);

@@ -1,7 +1,7 @@
 //! Long histories of a group on three, four and five nodes, made by chance from a seed, of which a
 //! plain program checks after each event what `agreement` says.
 
-mod account;
+pub(crate) mod account;
 mod dice;
 mod network;
 mod reached;

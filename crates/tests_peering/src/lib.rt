@@ -5,11 +5,15 @@
 #[cfg(test)]
 mod checks;
 #[cfg(test)]
+mod full;
+#[cfg(test)]
 mod history;
 #[cfg(test)]
 mod monitor;
 #[cfg(test)]
 mod nodes;
+#[cfg(test)]
+mod reps;
 #[cfg(test)]
 mod theorem;
 #[cfg(test)]

@@ -67,6 +67,28 @@ fn greatest_acting_list(rt: HostRuntime) {
     );
 }
 
+/// Whether that many maps are made, each of another acting list than the one before, and each
+/// activated.
+fn makes_many<R: Abort>(rt: &R, alloc: Global, monitor: &mut Monitor, count: u32) -> bool {
+    let (one, other) = (nodes(rt, alloc, "1 2"), nodes(rt, alloc, "2 1"));
+    let mut all = true;
+    for epoch in 1..=count {
+        let acting = if epoch % 2 == 0 { &one } else { &other };
+        all = all && is_made(monitor, acting, epoch, epoch) && activates(monitor, epoch).is_none();
+    }
+    all
+}
+
+#[test]
+fn many_maps(rt: HostRuntime) {
+    let mut monitor = Monitor::new(rt.alloc());
+    see(
+        &rt,
+        makes_many(&rt, rt.alloc(), &mut monitor, 70_000),
+        "70,000 maps",
+    );
+}
+
 /// What the monitor answers when it is asked to activate an interval.
 fn activates(monitor: &mut Monitor, interval: u32) -> Option<MonitorError> {
     monitor.activate(Epoch::new(interval)).err()

@@ -94,7 +94,7 @@ fn request<R: Abort>(rt: &R, alloc: Global) -> Request {
 }
 
 /// The Install.
-fn install<R: Abort>(rt: &R, alloc: Global, is_unusable: bool) -> Event {
+pub(super) fn install<R: Abort>(rt: &R, alloc: Global, is_unusable: bool) -> Event {
     let mut list = Vec::new(alloc);
     if is_unusable {
         list.push(request(rt, alloc)).expect(rt, "memory");

@@ -4,11 +4,15 @@
 #![tactic(auto)]
 
 #[cfg(test)]
+mod answers;
+#[cfg(test)]
 mod bad_lines;
 #[cfg(test)]
 mod clusters;
 #[cfg(test)]
 mod drawings;
+#[cfg(test)]
+mod full;
 #[cfg(test)]
 mod lines;
 #[cfg(test)]
@@ -19,3 +23,5 @@ mod script;
 mod stats;
 #[cfg(test)]
 mod tenants;
+#[cfg(test)]
+mod threads;

@@ -22,11 +22,13 @@ fn add<R: Abort>(rt: &R, text: &str, events: &mut String, printed: &mut String) 
     }
 }
 
-/// Whether `sim` prints of those texts' events what stands below them, ends so, and writes no file.
-pub fn prints<R: Abort + AllocGlobal + Threads + Wait + Clock + Sync>(
+/// `sim` prints of those texts' events what stands below them, ends so, and writes no file. If it
+/// doesn't, that is told.
+fn play<R: Abort + AllocGlobal + Threads + Wait + Clock + Sync>(
     rt: &R,
     texts: &[&str],
     status: u8,
+    told: Option<&str>,
 ) {
     let mut events = String::new(rt.alloc());
     let mut printed = String::new(rt.alloc());
@@ -41,5 +43,24 @@ pub fn prints<R: Abort + AllocGlobal + Threads + Wait + Clock + Sync>(
         &printed,
         status,
     );
-    assert!(rt; is_shown, "{printed}");
+    let told = told.unwrap_or(printed.as_str());
+    assert!(rt; is_shown, "{told}");
+}
+
+/// The same, and what should be printed is told.
+pub fn prints<R: Abort + AllocGlobal + Threads + Wait + Clock + Sync>(
+    rt: &R,
+    texts: &[&str],
+    status: u8,
+) {
+    play(rt, texts, status, None);
+}
+
+/// The same of a long file, of which a name is told.
+pub fn prints_long<R: Abort + AllocGlobal + Threads + Wait + Clock + Sync>(
+    rt: &R,
+    texts: &[&str],
+    name: &str,
+) {
+    play(rt, texts, 0, Some(name));
 }

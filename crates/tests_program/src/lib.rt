@@ -10,13 +10,19 @@ mod examples;
 #[cfg(test)]
 mod explained;
 #[cfg(test)]
+mod full_object;
+#[cfg(test)]
 mod images;
+#[cfg(test)]
+mod largest;
 #[cfg(test)]
 mod objects;
 #[cfg(test)]
 mod packs;
 #[cfg(test)]
 mod pages;
+#[cfg(test)]
+mod ranges;
 #[cfg(test)]
 mod refusals;
 #[cfg(test)]

@@ -1,5 +1,5 @@
 use super::super::checks::see;
-use super::super::lists::list;
+use super::super::lists::{list, list_of};
 use super::super::words::{halves, is_number, number_of};
 use pg_log::{Request, Requests, copy_requests};
 use replication::{PackedLog, UnpackError, pack_list, pack_log, unpack_log};
@@ -88,4 +88,30 @@ fn lists_packed_and_unpacked(rt: HostRuntime) {
     let all = list(&rt, rt.alloc(), LIST);
     see(&rt, all.len() == 3, LIST);
     check(&rt, rt.alloc(), &all);
+}
+
+/// How many requests of a full list a receiver told that it has.
+const TOLD: [usize; 5] = [0, 1, 32_768, 65_535, 65_536];
+
+/// Whether a packed full list has left out that many, and is unpacked by who has all of it.
+fn is_unpacked_full(alloc: Global, all: &[Request], told: usize, packed: &PackedLog) -> bool {
+    packed.common() == told
+        && packed.rest().len() == all.len().saturating_sub(told)
+        && is_unpacked(alloc, all, all, packed, "unpacked")
+}
+
+/// Whether a full list is packed and unpacked, whether it is shared or not.
+fn is_right_full<R: Abort>(rt: &R, alloc: Global, all: &[Request], told: usize) -> bool {
+    let packed = pack_log(alloc, all, told).expect(rt, "memory");
+    let shared = packed_shared(rt, alloc, all, told);
+    is_unpacked_full(alloc, all, told, &packed) & is_unpacked_full(alloc, all, told, &shared)
+}
+
+#[test]
+fn full_list_packed_and_unpacked(rt: HostRuntime) {
+    let all = list_of(&rt, rt.alloc(), "", "full 1");
+    see(&rt, all.len() == 65_536, "a full list");
+    for told in TOLD {
+        see(&rt, is_right_full(&rt, rt.alloc(), &all, told), "packed");
+    }
 }

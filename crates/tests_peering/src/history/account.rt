@@ -66,7 +66,7 @@ fn class<R: Abort>(rt: &R, alloc: Global) -> VerifiedClass {
 }
 
 /// Class 0 is the account's.
-pub(super) fn table<R: Abort>(rt: &R, alloc: Global) -> ClassTable {
+pub(crate) fn table<R: Abort>(rt: &R, alloc: Global) -> ClassTable {
     let mut table = ClassTable::new(alloc);
     table.add(class(rt, alloc)).expect(rt, "room");
     table
@@ -77,7 +77,7 @@ pub(super) const ACCOUNTS: usize = 3;
 
 /// A request in plain numbers.
 #[derive(Clone, Copy, PartialEq, Eq, Drop)]
-pub(super) struct Asked {
+pub(crate) struct Asked {
     pub client: usize,
     pub number: u32,
     pub account: usize,
@@ -94,7 +94,7 @@ fn name_of(account: usize) -> &'static str {
 }
 
 /// The request of these numbers.
-pub(super) fn request<R: Abort>(rt: &R, alloc: Global, plain: Asked) -> Request {
+pub(crate) fn request<R: Abort>(rt: &R, alloc: Global, plain: Asked) -> Request {
     let client = u32::try_from(plain.client.saturating_add(1)).unwrap_or(1);
     let method = if plain.takes { "take" } else { "put" };
     let client = ClientId::new(client).expect(rt, "a client");
