@@ -7,7 +7,7 @@ writes, how it ends and which files it leaves with tools/process_rows.py.
 RADOSCLS is the program as `rt run` or `rt ci` leaves it. Each row is one run, in a folder that has
 the rows' files, and without environment. It prints each difference and a count; the status is 0 if
 nothing differs, and 2 if there is no program."""
-import os, subprocess, sys, tempfile
+import os, resource, signal, subprocess, sys, tempfile
 
 TOP = os.path.join(os.path.dirname(os.path.abspath(__file__)), "..")
 sys.dont_write_bytecode = True
@@ -58,8 +58,11 @@ def take_written(folder, before):
     return written
 
 
-def sink_of(where):
-    """A pipe, or a stream that takes nothing. A closed one is closed in the process."""
+def sink_of(where, room=None):
+    """A pipe, a file with room for so many bytes, or a stream that takes nothing. A closed one is
+    closed in the process, which has the file's limit too."""
+    if room is not None:
+        return os.memfd_create("standard output")
     if where is None:
         return subprocess.PIPE
     if where == UNREAD:
@@ -69,22 +72,27 @@ def sink_of(where):
     return os.open(FULL, os.O_WRONLY)
 
 
-def close(row):
+def prepare(row):
+    """In the process: closes its streams, and limits its files. A write past that limit fails."""
     for number, where in (1, row.to), (2, row.err_to):
         if where == CLOSED:
             os.close(number)
+    if row.room is not None:
+        signal.signal(signal.SIGXFSZ, signal.SIG_IGN)
+        resource.setrlimit(resource.RLIMIT_FSIZE, (row.room, row.room))
 
 
 def run(program, folder, row):
     """What a row gives on standard output and error, None of one that isn't read; and its status,
     of a signal below 0."""
-    sinks = [sink_of(row.to), sink_of(row.err_to)]
+    sinks = [sink_of(row.to, row.room), sink_of(row.err_to)]
     words = (word if isinstance(word, bytes) else word.encode() for word in row.words)
     try:
         ended = subprocess.run(
             ["radoscls", *words], executable=program, cwd=folder, env={}, input=row.stdin,
-            stdout=sinks[0], stderr=sinks[1], timeout=SECONDS, preexec_fn=lambda: close(row))
-        return ended.stdout, ended.stderr, ended.returncode
+            stdout=sinks[0], stderr=sinks[1], timeout=SECONDS, preexec_fn=lambda: prepare(row))
+        out = ended.stdout if row.room is None else os.pread(sinks[0], row.room + 1, 0)
+        return out, ended.stderr, ended.returncode
     except subprocess.TimeoutExpired:
         return b"", b"", f"none after {SECONDS} seconds"
     finally:

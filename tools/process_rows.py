@@ -157,12 +157,15 @@ class Row:
     """Words after the program's name, in a text with blanks between them or in a list; what they
     print on standard output and on standard error, as a text or a test of it; the status; what
     standard input has; which files are written, and with what. `to` and `err_to` are where the two
-    streams go, if it is nowhere: then the row has None of what they get."""
+    streams go, if it is nowhere: then the row has None of what they get. `room` is how many bytes
+    standard output takes, if it is a file."""
 
-    def __init__(self, words, out="", err="", status=0, stdin=b"", wrote=(), to=None, err_to=None):
+    def __init__(self, words, out="", err="", status=0, stdin=b"", wrote=(), to=None, err_to=None,
+                 room=None):
         self.words = words.split() if isinstance(words, str) else words
         self.out, self.err, self.status = out, err, status
-        self.stdin, self.wrote, self.to, self.err_to = stdin, dict(wrote), to, err_to
+        self.stdin, self.wrote, self.room = stdin, dict(wrote), room
+        self.to, self.err_to = to, err_to
 
 
 # Streams that take nothing: a full device, a pipe that nobody reads, a closed one.
@@ -324,6 +327,13 @@ ROWS = [
     *(Row(words, "", None, 2, err_to=to) for to in (FULL, UNREAD, CLOSED)
       for words in ("", "--help", "erase", "verify")),
     *(Row("cluster clients --stats", CLIENTS, None, err_to=to) for to in (FULL, UNREAD, CLOSED)),
+    # standard output that takes so many bytes: it gets these
+    *(Row(words, text[:room], "", status if room == len(text) else 1, room=room)
+      for words, text, status in (
+          ("verify two.img", "f ok 2\n", 0), ("verify unset.img", UNSAFE, 1),
+          ("run two.img f", RAN, 0), ("dis two.img", TWO_TEXT, 0), ("sim locks.sim", LOCKED, 0),
+          ("cluster calls", CALLS, 0), ("cluster bad.calls", "line 3: bad\n", 1))
+      for room in (0, 5, len(text) - 1, len(text))),
     # help and the version, on standard error
     *(Row(words, "", helps("Usage: radoscls <COMMAND>", *COMMANDS, "help", *OF_ALL), 2)
       for words in ("", "--help", "-h", "help")),
