@@ -80,11 +80,11 @@ sweep_row() {
 # Whether OUT, if the command has one, is as that file.
 is_out() { [ ! -e "$work/before" ] || cmp -s "$work/$1" "$work/out"; }
 
+# Whether standard error is as with all memory; figures may differ.
+is_err() { [[ $err == "$whole_err" || (-n $has_figures && ${err//[0-9]/} == "${whole_err//[0-9]/}") ]]; }
+
 # Whether the run did what is done with all memory.
-is_whole() {
-    [ "$status" = "$wanted_status" ] && [ "$out" = "$whole" ] && is_out after || return 1
-    [[ $err == "$whole_err" || (-n $has_figures && ${err//[0-9]/} == "${whole_err//[0-9]/}") ]]
-}
+is_whole() { [[ $status == "$wanted_status" && $out == "$whole" ]] && is_err && is_out after; }
 
 # Whether a line names want of memory, and the status is the one that it has.
 names_memory() {
@@ -101,13 +101,14 @@ names_memory() {
 }
 
 # Whether the run printed whole lines of what is always printed, and then one that names want of
-# memory; lines of `cluster` follow it, which are those of other calls.
+# memory; lines of `cluster` follow that of a refused call, which are those of other calls.
 is_refused() {
     local lines line begun=
     mapfile -t lines <<< "${out%$'\n'}"
     for line in "${lines[@]}"; do
         if names_memory "$line"; then
-            [[ $status == 0 || ($out == "$begun$line"$'\n' && -z $err) ]] && is_out before
+            if [ "$status" = 0 ]; then is_err; else [[ $out == "$begun$line"$'\n' && -z $err ]]; fi &&
+                is_out before
             return
         fi
         begun+=$line$'\n'
