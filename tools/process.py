@@ -1,0 +1,156 @@
+#!/usr/bin/env python3
+"""Runs `radoscls` as a process, on words, files and streams of the system, and compares what it
+writes, how it ends and which files it leaves with tools/process_rows.py.
+
+    tools/process.py [RADOSCLS]
+
+RADOSCLS is the program as `rt run` or `rt ci` leaves it. Each row is one run, in a folder that has
+the rows' files, and without environment. It prints each difference and a count; the status is 0 if
+nothing differs, and 2 if there is no program."""
+import os, resource, signal, subprocess, sys, tempfile
+
+TOP = os.path.join(os.path.dirname(os.path.abspath(__file__)), "..")
+sys.dont_write_bytecode = True
+from process_rows import CLOSED, FILES, FULL, ROWS, UNREAD
+
+# A run has five minutes: the largest class takes seconds.
+SECONDS = 300
+
+
+def make_file(folder, name):
+    """Makes a file anew, with a time that no run has."""
+    path, content = os.path.join(folder, name), FILES[name]
+    with open(path, "wb") as file:
+        file.write(content if isinstance(content, bytes) else content.encode())
+    os.utime(path, (0, 0))
+
+
+def make_folder(folder):
+    for name in FILES:
+        make_file(folder, name)
+    os.mkdir(os.path.join(folder, "folder"))
+    os.utime(os.path.join(folder, "folder"), (0, 0))
+
+
+def state_of(folder):
+    """What tells a file that is written, or a folder where one is, from one that isn't."""
+    found = {}
+    for entry in os.scandir(folder):
+        status = entry.stat()
+        found[entry.name] = status.st_ino, status.st_size, status.st_mtime_ns
+    return found
+
+
+def take_written(folder, before):
+    """The files that were written or are gone, with what they hold; makes all as it was."""
+    after, written = state_of(folder), {}
+    for name in {*before, *after}:
+        if before.get(name) == after.get(name):
+            continue
+        path = os.path.join(folder, name)
+        written[name] = None
+        if os.path.isfile(path):
+            with open(path, "rb") as file:
+                written[name] = file.read()
+            os.remove(path)
+        if name in FILES:
+            make_file(folder, name)
+    return written
+
+
+def sink_of(where, room=None):
+    """A pipe, a file with room for so many bytes, or a stream that takes nothing. A closed one is
+    closed in the process, which has the file's limit too."""
+    if room is not None:
+        return os.memfd_create("standard output")
+    if where is None:
+        return subprocess.PIPE
+    if where == UNREAD:
+        read, write = os.pipe()
+        os.close(read)
+        return write
+    return os.open(FULL, os.O_WRONLY)
+
+
+def prepare(row):
+    """In the process: closes its streams, and limits its files. A write past that limit fails."""
+    for number, where in (1, row.to), (2, row.err_to):
+        if where == CLOSED:
+            os.close(number)
+    if row.room is not None:
+        signal.signal(signal.SIGXFSZ, signal.SIG_IGN)
+        resource.setrlimit(resource.RLIMIT_FSIZE, (row.room, row.room))
+
+
+def run(program, folder, row):
+    """What a row gives on standard output and error, None of one that isn't read; and its status,
+    of a signal below 0."""
+    sinks = [sink_of(row.to, row.room), sink_of(row.err_to)]
+    words = (word if isinstance(word, bytes) else word.encode() for word in row.words)
+    try:
+        ended = subprocess.run(
+            ["radoscls", *words], executable=program, cwd=folder, env={}, input=row.stdin,
+            stdout=sinks[0], stderr=sinks[1], timeout=SECONDS, preexec_fn=lambda: prepare(row))
+        out = ended.stdout if row.room is None else os.pread(sinks[0], row.room + 1, 0)
+        return out, ended.stderr, ended.returncode
+    except subprocess.TimeoutExpired:
+        return b"", b"", f"none after {SECONDS} seconds"
+    finally:
+        for sink in sinks:
+            if sink != subprocess.PIPE:
+                os.close(sink)
+
+
+def is_as(wanted, found):
+    """Whether a stream has what is wanted."""
+    if wanted is None or found is None:
+        return wanted is found
+    text = found.decode("utf-8", "backslashreplace")
+    return bool(wanted(text)) if callable(wanted) else wanted == text
+
+
+def differences(row, found, written):
+    """The names of what differs from a row."""
+    out, err, status = found
+    checks = {
+        "standard output": is_as(row.out, out),
+        "standard error": is_as(row.err, err),
+        "status": status == row.status,
+        "files": written == row.wrote,
+    }
+    return [name for name, holds in checks.items() if not holds]
+
+
+def tell(row, found, written, names):
+    words = " ".join(map(repr, row.words))[:200]
+    print(f"differs in {', '.join(names)}: {words}: status {found[2]}, files {sorted(written)}")
+    for name, text in ("1", found[0]), ("2", found[1]):
+        for line in (text or b"")[:2000].decode("utf-8", "backslashreplace").splitlines():
+            print(f"  {name}> {line}")
+
+
+def count_differences(program, folder):
+    bad = 0
+    for row in ROWS:
+        before = state_of(folder)
+        found = run(program, folder, row)
+        written = take_written(folder, before)
+        names = differences(row, found, written)
+        if names:
+            bad += 1
+            tell(row, found, written, names)
+    return bad
+
+
+def main(program):
+    if not os.path.isfile(program):
+        print(f"no program: {program}")
+        return 2
+    with tempfile.TemporaryDirectory() as folder:
+        make_folder(folder)
+        bad = count_differences(os.path.abspath(program), folder)
+    print(f"{len(ROWS)} rows, {bad} differ")
+    return 1 if bad else 0
+
+
+sys.exit(main(sys.argv[1] if len(sys.argv) > 1 else f"{TOP}/crates/radoscls/out/radoscls"))
