@@ -179,7 +179,7 @@ fn check_both<R: Abort>(rt: &R, alloc: Global, rows: &str, wanted: usize) {
 
 #[test]
 fn judges_spills(rt: HostRuntime) {
-    check_both(&rt, rt.alloc(), spills::SPILLS, 55);
+    check_both(&rt, rt.alloc(), spills::SPILLS, 69);
 }
 
 #[test]
