@@ -9,6 +9,7 @@ mod methods;
 mod ranges;
 mod spills;
 
+use crate::slots_as_numbers;
 use bpf_decode::{ClassImage, Method, RuleSet, decode};
 use std::alloc::Global;
 use std::process::Abort;
@@ -179,6 +180,7 @@ fn check_both<R: Abort>(rt: &R, alloc: Global, rows: &str, wanted: usize) {
 
 #[test]
 fn judges_spills(rt: HostRuntime) {
+    slots_as_numbers();
     check_both(&rt, rt.alloc(), spills::SPILLS, 69);
 }
 
