@@ -1,15 +1,16 @@
 #!/usr/bin/env bash
-# Tries the wrong edits that the gate leaves out: those of crates/NAME/wrong/, of the form of must-fail/. The prover must
-# refuse each. Whoever changes the crate NAME runs it.
+# Tries the wrong edits that the gate leaves out: those of crates/NAME/wrong/, of the form of
+# must-fail/. The prover must refuse each. Whoever changes the crate NAME runs it.
 #
 #     tools/wrong.sh [NAME ..]
 #
-# Without a NAME it tries those of each crate that has some. It runs `rt must-fail` in a copy of the tree, in a folder that is
-# deleted, where wrong/ stands in the place of must-fail/. What `rt check` left of the crate, and `rt lib` of those below it,
-# is copied along: what isn't there is proved first.
+# Without a NAME it tries those of each crate that has some. It runs `rt must-fail` in a copy of the
+# tree, in a folder that is deleted, where wrong/ stands in the place of must-fail/. What `rt check`
+# left of the crate, and `rt lib` of those below it, is copied along: what isn't there is proved
+# first.
 #
-# It prints what became of each edit, and counts. The status is 0 if each was refused; 1 if one is still proved, can't be
-# applied or wasn't tried; 2 if a NAME has no such edit.
+# It prints what became of each edit, and counts. The status is 0 if each was refused; 1 if one is
+# still proved, can't be applied or wasn't tried; 2 if a NAME has no such edit.
 set -u
 top=$(cd "$(dirname "$0")/.." && pwd)
 work=$(mktemp -d)
