@@ -3,9 +3,10 @@ use super::checks::see;
 use super::printed::prints;
 use super::script::go_through;
 use super::words::{is_number, next};
+use bpf_asm::{assemble_class, disassemble_class};
 use builtin_classes::{BuiltInFailure, LOCK, OBJ, load_all, load_lock, load_obj};
 use interp::{ClassTable, Outcome, call};
-use object_store::Object;
+use object_store::{Object, calls};
 use std::alloc::Global;
 use std::process::Abort;
 use std::str::SplitWhitespace;
@@ -33,7 +34,13 @@ const LOCKS: &str = "1 a lock unlock - | -2 -
 1 c lock unlock - | 0 -
 1 c obj setxattr 046c6f636b | 0 -
 1 c lock lock - | -16 -
-1 c lock unlock - | -16 -";
+1 c lock unlock - | -16 -
+1 d obj setxattr 046c6f636b0100000001000000 | 0 -
+1 d lock lock - | -16 -
+1 d lock unlock - | -16 -
+1 d obj setxattr 046c6f636b0100000000000000 | 0 -
+1 d lock lock - | 0 -
+1 d lock unlock - | 0 -";
 
 const TURNS: &str = "1 a lock lock - | 0 -
 2 a lock lock - | -16 -
@@ -130,6 +137,39 @@ const FULL: &str = "1 a obj setxattr 0110 | 0 -
 1 a obj setxattr 011061 | 0 -
 1 a lock lock - | -28 -
 1 a lock unlock - | -61 -";
+
+/// A value of 4,096 bytes, which `setxattr` has no input for: of 3, and the last of 9.
+fn longest_value<R: Abort>(rt: &R, alloc: Global) -> Vec<u8> {
+    let mut value = Vec::from_elem(alloc, 3u8, 4095).expect(rt, "memory");
+    value.push(9).expect(rt, "memory");
+    value
+}
+
+/// Whether a call answers with that value, in the eight steps of `getxattr`.
+fn answers_with(outcome: &Outcome, value: &[u8]) -> bool {
+    outcome.code == 4096
+        && outcome.steps == 8
+        && outcome.output.as_slice() == value
+        && has_one_xattr(outcome.change.after())
+}
+
+/// Whether `getxattr` of the name `x` answers with the value that an object has of that name.
+fn gets<R: Abort>(rt: &R, alloc: Global, class: &VerifiedClass, value: &[u8]) -> bool {
+    let object = calls::set_xattr(alloc, None, b"x", value).expect(rt, "an object");
+    let outcome = call(alloc, class, "getxattr", Some(&object), 1, b"x").expect(rt, "an answer");
+    let is_value = answers_with(&outcome, value);
+    drop(outcome);
+    drop(object);
+    is_value
+}
+
+#[test]
+fn gets_the_longest_xattr(rt: HostRuntime) {
+    let class = load_obj(rt.alloc()).expect(&rt, "a class");
+    let value = longest_value(&rt, rt.alloc());
+    see(&rt, gets(&rt, rt.alloc(), &class, &value), "4,096 bytes");
+    drop(class);
+}
 
 /// The table of both classes.
 fn table<R: Abort>(rt: &R, alloc: Global) -> ClassTable {
@@ -301,6 +341,49 @@ fn are_both(classes: &[VerifiedClass]) -> bool {
 fn loads_each_class(rt: HostRuntime) {
     let classes = load_all(rt.alloc()).expect(&rt, "classes");
     see(&rt, are_both(&classes), "both classes");
+}
+
+/// The first method of the class `lock` as it is disassembled, and the line after it: each label is
+/// a distance, and the name of the xattr, its four letters from the lowest byte on, is decimal.
+const LOCK_LISTED: &str = ".method lock rw 0 0
+call 15
+mov r6, r0
+stw [r10-4], 1801678700
+mov r1, r10
+add r1, -4
+mov r2, 4
+mov r3, r10
+add r3, -16
+mov r4, 8
+call 6
+jsge r0, 0, +9
+stxdw [r10-16], r6
+mov r1, r10
+add r1, -4
+mov r2, 4
+mov r3, r10
+add r3, -16
+mov r4, 8
+call 7
+exit
+ldxdw r1, [r10-16]
+mov r0, 0
+jeq r1, r6, +1
+mov r0, -16
+exit
+.method unlock rw 0 0
+";
+
+/// Whether the class of a text is disassembled to a text that begins so.
+fn is_listed<R: Abort>(rt: &R, alloc: Global, text: &str, listed: &str) -> bool {
+    let image = assemble_class(alloc, text).expect(rt, "a class");
+    let plain = disassemble_class(alloc, &image).expect(rt, "memory");
+    plain.starts_with(listed)
+}
+
+#[test]
+fn lists_the_method_lock(rt: HostRuntime) {
+    assert!(rt; is_listed(&rt, rt.alloc(), LOCK, LOCK_LISTED));
 }
 
 /// Whether the text of each class begins with its first method.

@@ -21,6 +21,7 @@ pub enum Row {
     AssembleClass,
     DisassembleClass,
     Verify,
+    VerifySpills,
     ObjectName,
     Objects(Deed),
     EditFlat,
@@ -43,7 +44,7 @@ pub enum Row {
 
 /// Each row with its name.
 #[rattlefmt::skip]
-pub const ROWS: [(&str, Row); 44] = [
+pub const ROWS: [(&str, Row); 45] = [
     ("decode", Row::Decode),
     ("encode", Row::Encode),
     ("read_image", Row::ReadImage),
@@ -53,6 +54,7 @@ pub const ROWS: [(&str, Row); 44] = [
     ("assemble_class", Row::AssembleClass),
     ("disassemble_class", Row::DisassembleClass),
     ("verify", Row::Verify),
+    ("verify_spills", Row::VerifySpills),
     ("object_name", Row::ObjectName),
     ("objects_put", Row::Objects(Deed::Put)),
     ("objects_store", Row::Objects(Deed::Store)),
@@ -114,6 +116,7 @@ impl Row {
             Row::AssembleClass => texts::class_assembled(alloc),
             Row::DisassembleClass => texts::class_disassembled(alloc),
             Row::Verify => verdicts::verified(alloc),
+            Row::VerifySpills => verdicts::verified_spills(alloc),
             Row::ObjectName => named(alloc),
             Row::Objects(deed) => stored(alloc, deed),
             Row::EditFlat => flat_edited(alloc),

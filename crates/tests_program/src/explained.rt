@@ -1,7 +1,7 @@
 //! What `--explain` adds to a failure.
 
 use crate::pages::prints_of;
-use tests_folder::{TWO, only_prints};
+use tests_folder::{TWO, only_prints, with_repeated};
 
 /// Methods' texts, and what `verify --explain` prints of the class.
 static REFUSED: [(&str, &str); 8] = [
@@ -61,6 +61,24 @@ fn a_refusal_is_explained(rt: HostRuntime) {
     for (text, printed) in &REFUSED {
         prints_of(&rt, text, &["verify", "image", "--explain"], printed, 1);
     }
+}
+
+/// What is explained of the last of 4,096 slots.
+const LAST: &str =
+    "refused method 0 slot 4095: 15 ReturnsPointer\n  method f, IN 4096, OUT 4096\n  exit\n  r0 = input + 0\n  wanted: a number in register 0\n  see docs/VERIFIER.md, 15 ReturnsPointer\n";
+
+/// By rule set 2, what register 0 points to goes 2,047 times through a slot of the stack.
+#[test]
+fn the_last_slot_is_explained(rt: HostRuntime) {
+    let text = with_repeated(
+        rt.alloc(),
+        ".rules 2\n.method f r 4096 4096\nmov r0, r1\n",
+        "stxdw [r10-8], r0\nldxdw r0, [r10-8]\n",
+        2047,
+        "exit\n",
+    )
+    .expect(&rt, "memory");
+    prints_of(&rt, &text, &["verify", "image", "--explain"], LAST, 1);
 }
 
 #[test]

@@ -9,6 +9,7 @@ mod methods;
 mod ranges;
 mod spills;
 
+use crate::slots_as_numbers;
 use bpf_decode::{ClassImage, Method, RuleSet, decode};
 use std::alloc::Global;
 use std::process::Abort;
@@ -179,7 +180,8 @@ fn check_both<R: Abort>(rt: &R, alloc: Global, rows: &str, wanted: usize) {
 
 #[test]
 fn judges_spills(rt: HostRuntime) {
-    check_both(&rt, rt.alloc(), spills::SPILLS, 55);
+    slots_as_numbers();
+    check_both(&rt, rt.alloc(), spills::SPILLS, 69);
 }
 
 #[test]

@@ -109,6 +109,55 @@ fn finds_the_first_method(rt: HostRuntime) {
     assert!(rt; found);
 }
 
+/// A method that spills a pointer, one that stores through what it loads from the same slot, and
+/// one that moves a pointer by it.
+const SPILLING: &str =
+    "1 0 1: 7b3af8ff00000000 b700000000000000 79a4f8ff00000000 7204000001000000 9500000000000000 | stxdw [r10-8], r3; mov r0, 0; ldxdw r4, [r10-8]; stb [r4+0], 1; exit";
+
+const STORING: &str =
+    "1 0 1: 79a4f8ff00000000 7204000001000000 b700000000000000 9500000000000000 | ldxdw r4, [r10-8]; stb [r4+0], 1; mov r0, 0; exit";
+
+const MOVING: &str =
+    "1 0 1: 79a4f8ff00000000 0f43000000000000 7203000001000000 b700000000000000 9500000000000000 | ldxdw r4, [r10-8]; add r3, r4; stb [r3+0], 1; mov r0, 0; exit";
+
+/// A rule set, two methods, and which of them is refused at which slot by which rule, or `ok`.
+type Two = (RuleSet, &'static str, &'static str, usize, &'static str);
+
+/// Each method begins with the number 0 in every slot of the stack, whatever the one before it
+/// spilled.
+const TWOS: [Two; 6] = [
+    (RuleSet::Two, SPILLING, MOVING, 0, "ok"),
+    (RuleSet::Two, MOVING, SPILLING, 0, "ok"),
+    (RuleSet::Two, SPILLING, STORING, 1, "1:10"),
+    (RuleSet::Two, STORING, SPILLING, 0, "1:10"),
+    (RuleSet::One, SPILLING, MOVING, 0, "0:9"),
+    (RuleSet::One, SAFE, SPILLING, 1, "0:9"),
+];
+
+/// Puts a row's two methods; whether both could be.
+fn put_two(alloc: Global, methods: &mut Vec<Method>, row: &Two) -> bool {
+    put(methods, method_of(alloc, "f", row.1)) && put(methods, method_of(alloc, "g", row.2))
+}
+
+/// Whether `verify` says so of a class of a row's rule set and two methods.
+fn is_two_judged(alloc: Global, row: &Two) -> bool {
+    let mut methods = Vec::new(alloc);
+    if !put_two(alloc, &mut methods, row) {
+        return false;
+    }
+    match ClassImage::new(methods, row.0) {
+        Ok(class) => is_judged(alloc, &class, row.3, row.4),
+        Err(_) => false,
+    }
+}
+
+#[test]
+fn judges_each_method_by_itself(rt: HostRuntime) {
+    for row in &TWOS {
+        assert!(rt; is_two_judged(rt.alloc(), row), "{}", row.4);
+    }
+}
+
 /// Whether a method has the writer's name, caps and number of instructions.
 fn is_declared(found: &VerifiedMethod) -> bool {
     let caps = Caps {

@@ -1,9 +1,10 @@
 //! The longest methods and the largest class.
 
 use super::{Declared, is_judged, method, put};
-use bpf_decode::{ClassImage, Method, RuleSet};
+use abstract_regs::{Frame, Kind};
+use bpf_decode::{ClassImage, Insn, Method, Region, RuleSet};
 use std::alloc::{AllocError, Global};
-use verifier::verify;
+use verifier::{RefusedSlot, Rule, refused_slot, verify};
 
 const MOV_R0_0: u64 = 0xb700000000000000;
 
@@ -16,6 +17,12 @@ const DIAMOND: u128 = 0x1502010000000000_b700000000000000;
 
 /// `jeq r2, 0, +0`, twice
 const EMPTY_ARMS: u128 = 0x1502000000000000_1502000000000000;
+
+/// `stxdw [r10-8], r0`, `ldxdw r0, [r10-8]`
+const SPILL: u128 = 0x7b0af8ff00000000_79a0f8ff00000000;
+
+/// `jeq r2, 0, +1`, `stxdw [r10-8], r3`
+const SPILLING_ARM: u128 = 0x1502010000000000_7b3af8ff00000000;
 
 /// The names of 32 methods.
 const NAMES: &str = "m10 m11 m12 m13 m14 m15 m16 m17 m18 m19 m20 m21 m22 m23 m24 m25 \
@@ -61,31 +68,103 @@ fn put_longest(
     all
 }
 
-/// A class of such methods, one for each name.
-fn class(alloc: Global, names: &str, first: u64, pair: u128) -> Option<ClassImage> {
+/// A class of that rule set and such methods, one for each name.
+fn class(alloc: Global, rules: RuleSet, names: &str, first: u64, pair: u128) -> Option<ClassImage> {
     let mut methods = Vec::new(alloc);
     if !put_longest(alloc, &mut methods, names, first, pair) {
         return None;
     }
-    ClassImage::new(methods, RuleSet::One).ok()
+    ClassImage::new(methods, rules).ok()
 }
 
-/// Whether `verify` says so of a class of one such method.
-fn is_longest_judged(alloc: Global, first: u64, pair: u128, told: &str) -> bool {
-    match class(alloc, "f", first, pair) {
+/// A rule set, a first slot and a pair, and the verdict on the method of them. In rule set 2 the
+/// frame that a branch keeps has the slots of the stack.
+type Row = (RuleSet, u64, u128, &'static str);
+
+#[rattlefmt::skip]
+const ROWS: [Row; 12] = [
+    (RuleSet::One, MOV_R0_0, DIAMOND, "ok"),
+    (RuleSet::Two, MOV_R0_0, DIAMOND, "ok"),
+    (RuleSet::One, MOV_R0_0, EMPTY_ARMS, "ok"),
+    (RuleSet::Two, MOV_R0_0, EMPTY_ARMS, "ok"),
+    (RuleSet::One, MOV_R0_R1, EMPTY_ARMS, "4095:15"),
+    (RuleSet::Two, MOV_R0_R1, EMPTY_ARMS, "4095:15"),
+    (RuleSet::One, MOV_R0_0, SPILL, "ok"),
+    (RuleSet::Two, MOV_R0_0, SPILL, "ok"),
+    (RuleSet::One, MOV_R0_R1, SPILL, "1:9"),
+    (RuleSet::Two, MOV_R0_R1, SPILL, "4095:15"),
+    (RuleSet::One, MOV_R0_0, SPILLING_ARM, "2:9"),
+    (RuleSet::Two, MOV_R0_0, SPILLING_ARM, "ok"),
+];
+
+/// Whether `verify` says so of a class of a row's method.
+fn is_longest_judged(alloc: Global, row: &Row) -> bool {
+    match class(alloc, row.0, "f", row.1, row.2) {
         None => false,
-        Some(class) => is_judged(alloc, &class, 0, told),
+        Some(class) => is_judged(alloc, &class, 0, row.3),
     }
 }
 
 /// 2,047 diamonds with an arm each have 2^2047 paths, and 4,094 whose arms are empty have 2^4094:
-/// the verdict comes only from a pass that takes each slot once. The last method returns a pointer
-/// at its last slot.
+/// the verdict comes only from a pass that takes each slot once. `MOV_R0_R1` returns a pointer at
+/// its last slot, where it comes so far: by rule set 2 through a slot of the stack 2,047 times.
 #[test]
 fn takes_each_slot_once(rt: HostRuntime) {
-    assert!(rt; is_longest_judged(rt.alloc(), MOV_R0_0, DIAMOND, "ok"));
-    assert!(rt; is_longest_judged(rt.alloc(), MOV_R0_0, EMPTY_ARMS, "ok"));
-    assert!(rt; is_longest_judged(rt.alloc(), MOV_R0_R1, EMPTY_ARMS, "4095:15"));
+    for row in &ROWS {
+        assert!(rt; is_longest_judged(rt.alloc(), row), "{}", row.3);
+    }
+}
+
+/// Whether `exit` is refused at the last of 4,096 slots, and before it register 0 and the highest
+/// slot of the stack point to the input's first byte.
+fn is_last(refused: &RefusedSlot) -> bool {
+    match &refused.known {
+        None => false,
+        Some(known) => {
+            refused.slot == 4095
+                && refused.rule == Rule::ReturnsPointer
+                && matches!(refused.insn, Insn::Exit)
+                && is_input(known.kind(0))
+                && has_input(known)
+        }
+    }
+}
+
+/// Whether the highest slot of the stack points to the input's first byte.
+fn has_input(known: &Frame) -> bool {
+    match known.slot(known.kind(10), (-8i64).cast_unsigned(), 8) {
+        None => false,
+        Some(kind) => is_input(kind),
+    }
+}
+
+/// Whether it points to the input's first byte.
+fn is_input(kind: Kind) -> bool {
+    match kind {
+        Kind::Ptr(Region::Input, at) => at.unsigned().low == 0 && at.unsigned().high == 0,
+        _ => false,
+    }
+}
+
+/// Whether what the rule saw at the last slot is told of the one method of a class.
+fn tells_last(alloc: Global, class: &ClassImage) -> bool {
+    match class.methods().get(0) {
+        None => false,
+        Some(method) => match refused_slot(alloc, class.rules(), method) {
+            Ok(Some(refused)) => is_last(&refused),
+            Ok(None) => false,
+            Err(_) => false,
+        },
+    }
+}
+
+#[test]
+fn tells_what_is_known_at_the_last_slot(rt: HostRuntime) {
+    let is_told = match class(rt.alloc(), RuleSet::Two, "f", MOV_R0_R1, SPILL) {
+        Some(class) => tells_last(rt.alloc(), &class),
+        None => false,
+    };
+    assert!(rt; is_told);
 }
 
 /// How many methods a class has that is accepted; none of one that isn't.
@@ -97,9 +176,9 @@ fn count(alloc: Global, class: &ClassImage) -> usize {
 }
 
 /// How many of 32 methods of 4,096 slots, each with an input and an output of at most 4,096 bytes,
-/// are in a class that is accepted.
-fn largest(alloc: Global) -> usize {
-    match class(alloc, NAMES, MOV_R0_0, DIAMOND) {
+/// are in a class of that rule set that is accepted.
+fn largest(alloc: Global, rules: RuleSet, pair: u128) -> usize {
+    match class(alloc, rules, NAMES, MOV_R0_0, pair) {
         Some(class) => count(alloc, &class),
         None => 0,
     }
@@ -107,5 +186,6 @@ fn largest(alloc: Global) -> usize {
 
 #[test]
 fn verifies_the_largest_class(rt: HostRuntime) {
-    assert!(rt; largest(rt.alloc()) == 32);
+    assert!(rt; largest(rt.alloc(), RuleSet::One, DIAMOND) == 32);
+    assert!(rt; largest(rt.alloc(), RuleSet::Two, SPILL) == 32);
 }

@@ -67,4 +67,32 @@ ok 0:9 1 0 1: 7b3af8ff00000000 b701000000000000 bfa2000000000000 07020000fcfffff
 ok 0:9 1 0 1: 7b3af8ff00000000 b701000000000000 bfa2000000000000 07020000f0ffffff b703000008000000 8500000002000000 79a4f8ff00000000 7204000001000000 b700000000000000 9500000000000000 | stxdw [r10-8], r3; mov r1, 0; mov r2, r10; add r2, -16; mov r3, 8; call 2; ldxdw r4, [r10-8]; stb [r4+0], 1; mov r0, 0; exit
 9:10 9:10 1 0 1: 7a0af8ff00000000 b701000000000000 bfa2000000000000 07020000f8ffffff bf36000000000000 b703000001000000 8500000002000000 79a4f8ff00000000 0f46000000000000 7206000001000000 b700000000000000 9500000000000000 | stdw [r10-8], 0; mov r1, 0; mov r2, r10; add r2, -8; mov r6, r3; mov r3, 1; call 2; ldxdw r4, [r10-8]; add r6, r4; stb [r6+0], 1; mov r0, 0; exit
 ok 9:10 1 0 1: 7a0af8ff00000000 b701000000000000 bfa2000000000000 07020000f0ffffff bf36000000000000 b703000008000000 8500000002000000 79a4f8ff00000000 0f46000000000000 7206000001000000 b700000000000000 9500000000000000 | stdw [r10-8], 0; mov r1, 0; mov r2, r10; add r2, -16; mov r6, r3; mov r3, 8; call 2; ldxdw r4, [r10-8]; add r6, r4; stb [r6+0], 1; mov r0, 0; exit
+# a whole store and a whole load tighten nothing: unsigned 3 to 10 and signed 0 to 10 stay so
+9:10 9:10 1 8 8: 7914000000000000 b700000000000000 a504070003000000 650406000a000000 c504050000000000 7b4af8ff00000000 79a4f8ff00000000 07040000fdffffff 0f43000000000000 7203000001000000 9500000000000000 | ldxdw r4, [r1+0]; mov r0, 0; jlt r4, 3, +7; jsgt r4, 10, +6; jslt r4, 0, +5; stxdw [r10-8], r4; ldxdw r4, [r10-8]; add r4, -3; add r3, r4; stb [r3+0], 1; exit
+# nor does a join of slots, where a comparison's edges meet
+10:10 10:10 1 8 8: 7914000000000000 b700000000000000 a504080003000000 650407000a000000 c504060000000000 7b4af8ff00000000 1502000000000000 79a4f8ff00000000 07040000fdffffff 0f43000000000000 7203000001000000 9500000000000000 | ldxdw r4, [r1+0]; mov r0, 0; jlt r4, 3, +8; jsgt r4, 10, +7; jslt r4, 0, +6; stxdw [r10-8], r4; jeq r2, 0, +0; ldxdw r4, [r10-8]; add r4, -3; add r3, r4; stb [r3+0], 1; exit
+# a range with a pointer, and a helper that the method may not call: the lower number
+5:14 0:9 1 0 1: 7b3af8ff00000000 b701000000000000 bfa2000000000000 07020000f8ffffff b703000008000000 8500000003000000 9500000000000000 | stxdw [r10-8], r3; mov r1, 0; mov r2, r10; add r2, -8; mov r3, 8; call 3; exit
+# a load that leaves the stack is refused for that, though it may touch an unset slot
+2:10 0:9 1 0 1: 7b3af8ff00000000 720af8ff00000000 79a0fcff00000000 9500000000000000 | stxdw [r10-8], r3; stb [r10-8], 0; ldxdw r0, [r10-4]; exit
+# each range by itself: the first leaves the stack, the second is over an unset slot
+8:5 0:9 2 0 1: 7b3af8ff00000000 720af8ff00000000 bfa1000000000000 07010000fcffffff b702000008000000 bfa3000000000000 07030000f8ffffff b704000008000000 8500000007000000 9500000000000000 | stxdw [r10-8], r3; stb [r10-8], 0; mov r1, r10; add r1, -4; mov r2, 8; mov r3, r10; add r3, -8; mov r4, 8; call 7; exit
+# the first range is over a number, the second over a pointer
+7:17 0:9 2 0 1: 7b3af8ff00000000 bfa1000000000000 07010000f0ffffff b702000004000000 bfa3000000000000 07030000f8ffffff b704000008000000 8500000007000000 9500000000000000 | stxdw [r10-8], r3; mov r1, r10; add r1, -16; mov r2, 4; mov r3, r10; add r3, -8; mov r4, 8; call 7; exit
+# a range that is written may be over an unset slot
+ok 0:9 1 0 1: 7b3af8ff00000000 720af8ff00000000 b701000000000000 bfa2000000000000 07020000f8ffffff b703000008000000 8500000002000000 b700000000000000 9500000000000000 | stxdw [r10-8], r3; stb [r10-8], 0; mov r1, 0; mov r2, r10; add r2, -8; mov r3, 8; call 2; mov r0, 0; exit
+# no slot begins at the stack's end, so that a pointer isn't stored whole there
+0:9 0:9 1 0 1: 7b3a000000000000 b700000000000000 9500000000000000 | stxdw [r10+0], r3; mov r0, 0; exit
+# a jump keeps slots
+ok 0:9 1 0 1: 7b3af8ff00000000 b700000000000000 0500000000000000 79a4f8ff00000000 7204000001000000 9500000000000000 | stxdw [r10-8], r3; mov r0, 0; ja +0; ldxdw r4, [r10-8]; stb [r4+0], 1; exit
+# so does a wide load
+ok 0:9 1 0 1: 7b3af8ff00000000 1800000005000000 0000000000000000 79a4f8ff00000000 7204000001000000 9500000000000000 | stxdw [r10-8], r3; lddw r0, 5; ldxdw r4, [r10-8]; stb [r4+0], 1; exit
+# a range of length 0 or 8 may read a pointer
+4:17 0:9 2 8 1: 7b3af8ff00000000 5702000008000000 bfa1000000000000 07010000f8ffffff 8500000008000000 9500000000000000 | stxdw [r10-8], r3; and r2, 8; mov r1, r10; add r1, -8; call 8; exit
+# a helper that reads a range and writes another overwrites the second
+8:5 0:9 1 0 1: 7b3af8ff00000000 bfa1000000000000 07010000f0ffffff b702000004000000 bfa3000000000000 07030000f8ffffff b704000008000000 8500000006000000 79a0f8ff00000000 9500000000000000 | stxdw [r10-8], r3; mov r1, r10; add r1, -16; mov r2, 4; mov r3, r10; add r3, -8; mov r4, 8; call 6; ldxdw r0, [r10-8]; exit
+# a range of 0 to 8 bytes in the slot below leaves this slot's pointer
+ok 0:9 1 8 1: 7b3af8ff00000000 7b3af0ff00000000 570200000f000000 bf26000000000000 b701000000000000 bfa2000000000000 07020000f0ffffff bf63000000000000 8500000002000000 79a4f8ff00000000 9500000000000000 | stxdw [r10-8], r3; stxdw [r10-16], r3; and r2, 15; mov r6, r2; mov r1, 0; mov r2, r10; add r2, -16; mov r3, r6; call 2; ldxdw r4, [r10-8]; exit
+# one of 8 bytes, in this slot or in the one below, doesn't
+9:5 0:9 1 8 1: 7b3af8ff00000000 5702000008000000 bf26000000000000 b701000000000000 bfa2000000000000 07020000f0ffffff 0f62000000000000 b703000008000000 8500000002000000 79a4f8ff00000000 9500000000000000 | stxdw [r10-8], r3; and r2, 8; mov r6, r2; mov r1, 0; mov r2, r10; add r2, -16; add r2, r6; mov r3, 8; call 2; ldxdw r4, [r10-8]; exit
 ";

@@ -1,0 +1,2 @@
+-- What a frame says of the stack's bytes.
+pub mod FlatSlots
