@@ -37,7 +37,8 @@ ends_so classes names text printed ending result old new failed fails comes (inl
     subst (λ (e : Ending). EndsSo classes names text old new failed fails e) (sym p.0)
     (was_printed classes names text printed ending old new failed fails comes p.1 p.2)
 ends_so classes names text printed ending result old new failed fails comes (inr p) =
-    subst (λ (e : Ending). EndsSo classes names text old new failed fails e) (sym p.0) p.1
+    subst (λ (e : Ending). EndsSo classes names text old new failed fails e) (sym p.0)
+    (record { printed = printed; ending = ending; comes = comes; begun = p.1; failed = p.2 })
 
 -- what was read is the plan, or the line
 pub read_as : (classes : Classes) (r : Result FilePlan ℕ) (plan : FilePlan) (printed : List ℕ) (ending : Ending) → IsReading r (APlan plan) → IsPrintoutOf classes (Ok plan) printed ending → IsPrintoutOf classes r printed ending

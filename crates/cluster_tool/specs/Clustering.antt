@@ -3,6 +3,7 @@ use Rattle.std.specs.Prelude.{◌≡◌, ◌⊎◌, ℕ, List, Option, Some, Non
 use Rattle.std.specs.Io.KnownBytes.{Appends}
 use Rattle.class_tool.specs.Assembly.{TextFails}
 use Rattle.class_tool.specs.Files.{Disk, Holds}
+use Rattle.class_tool.specs.Output.{Begins}
 use Rattle.class_tool.specs.declared.failure.Failure.{Failure}
 use Rattle.pg_log.specs.Log.{Classes}
 use Rattle.cluster_file.specs.Plan.{FilePlan, plan_of}
@@ -76,19 +77,28 @@ pub record IsShown (classes : Classes) (names : List (List ℕ)) (text : List �
   pub grew : Appends old new printed
   pub well : fails ≡ failed
 
--- a text was printed and that is how it ended; or a write or a flush failed
+-- a beginning of that was printed, and a write or a flush failed
+pub record IsBegun (classes : Classes) (names : List (List ℕ)) (text : List ℕ) (old new : Option (List ℕ)) (fails : Bool) : Type 0 where
+  pub printed : List ℕ
+  pub ending : Ending
+  pub comes : IsPrintoutOf classes (plan_of names text) printed ending
+  pub begun : Begins old new printed
+  pub failed : fails ≡ true
+
+-- a text was printed and that is how it ended; or a beginning of it was, and a write or a flush
+-- failed
 abbrev pub Prints : List ℕ → Ending → Option (List ℕ) → Option (List ℕ) → Bool → Bool → Ending → Type 0
 Prints printed ending old new failed fails result =
-    ((result ≡ ending) × Appends old new printed × (fails ≡ failed)) ⊎ ((result ≡ Unprinted) × (fails ≡ true))
+    ((result ≡ ending) × Appends old new printed × (fails ≡ failed)) ⊎ ((result ≡ Unprinted) × Begins old new printed × (fails ≡ true))
 
--- how a file ends: that was printed; or nothing was, for want of memory; or a write or a flush
--- failed
+-- how a file ends: that was printed; or nothing was, for want of memory; or a beginning of it was,
+-- and a write or a flush failed
 abbrev pub EndsSo : Classes → List (List ℕ) → List ℕ → Option (List ℕ) → Option (List ℕ) → Bool → Bool → Ending → Type 0
 EndsSo classes names text old new failed fails Done = IsShown classes names text old new failed fails Done
 EndsSo classes names text old new failed fails Bad = IsShown classes names text old new failed fails Bad
 EndsSo classes names text old new failed fails Refused = IsShown classes names text old new failed fails Refused
 EndsSo classes names text old new failed fails NoMemory = (new ≡ old) × (fails ≡ failed)
-EndsSo classes names text old new failed fails Unprinted = fails ≡ true
+EndsSo classes names text old new failed fails Unprinted = IsBegun classes names text old new fails
 
 -- WHAT A CLUSTER FILE COMES TO: with the built-in classes and those of the tenants' files, the text
 -- that the file holds.

@@ -46,7 +46,7 @@ pub record AreDone (classes : Classes) (config : Config) (steps : List Step) (al
 
 -- HOW A PLAN ENDS on a cluster of these numbers, with these classes: each call of each client has
 -- its true end, and each map was made; or a map of the plan was refused, the first that is; or
--- memory was refused.
+-- memory was refused, or a thread for the workers.
 abbrev pub Plays : Classes → Config → List Step → Played → Type 0
 Plays classes config steps (Done all) = AreDone classes config steps (map (λ v. v.items) all.items)
 Plays classes config steps (MapRefused line why) = IsMapRefused config steps line why

@@ -8,6 +8,6 @@ pub enum Played {
     Done(Vec<Vec<Result<Reply, ExecError>>>),
     /// The map of that line, from 1, was refused; nothing after it was done.
     MapRefused(usize, MapError),
-    /// Memory was refused.
+    /// Memory was refused, or a thread for the workers.
     NoMemory,
 }

@@ -14,7 +14,7 @@ use pg_log::ClassTable;
 use rados_client::{ExecError, Reply, Session};
 use std::alloc::{AllocError, Global};
 use std::sync::Wait;
-use std::thread::{Threads, for_each_mut, join};
+use std::thread::{Threads, for_each_mut, scope, scope_env};
 use std::time::Clock;
 
 /// How many workers a cluster has at most.
@@ -41,7 +41,8 @@ pub(crate) fn play<N: ClusterName + Send + Sync, R: Threads + Wait + Clock + Syn
     Ok(play_while_served(alloc, &running, plan, figures))
 }
 
-/// Plays a plan while all workers serve.
+/// Plays a plan while all workers serve. Where the thread that they start from can't be had, nothing
+/// is played: no call would be answered.
 fn play_while_served<N: ClusterName + Send + Sync, R: Threads + Wait + Clock + Sync>(
     alloc: Global,
     running: &Running<N, R>,
@@ -50,14 +51,20 @@ fn play_while_served<N: ClusterName + Send + Sync, R: Threads + Wait + Clock + S
 ) -> Played
     ensures { Plays N.classes N.config plan.now.steps result }
 {
-    running_crosses::<N, R>();
-    figures_cross();
-    let (_, played) = join(
+    scope(
+        scope_env(),
         running.runtime(),
-        || serve_all(running, figures),
-        || play_and_finish(alloc, running, plan, figures),
-    );
-    played
+        |threads| -> Played
+            ensures { Plays N.classes N.config plan.entry.now.steps result }
+        {
+            running_crosses::<N, R>();
+            figures_cross();
+            match threads.spawn(|| serve_all(running, figures)) {
+                Ok(_) => play_and_finish(alloc, running, plan, figures),
+                Err(_) => Played::NoMemory,
+            }
+        },
+    )
 }
 
 /// Serves by all workers until the cluster is told to finish.

@@ -31,9 +31,9 @@ pub enum Ending {
     Bad,
     /// The cluster or a map is refused; a line that says so was printed alone.
     Refused,
-    /// Memory was refused; nothing was printed.
+    /// Memory was refused, for the thread of the workers too; nothing was printed.
     NoMemory,
-    /// A write or a flush failed.
+    /// A write or a flush failed; a beginning of the lines was printed.
     Unprinted,
 }
 

@@ -13,7 +13,7 @@ use Rattle.cluster_tool.specs.declared.asked.Clustering.{Clustering}
 use Rattle.radoscls_program.specs.Clustered.{ClusterEnds}
 use Rattle.radoscls_program.specs.CommandLine.{AsksTask, command_line}
 use Rattle.radoscls_program.specs.Playing.{SimEnds}
-use Rattle.radoscls_program.specs.Streams.{Stream, Took, IsPrinted, failure_line}
+use Rattle.radoscls_program.specs.Streams.{Stream, Took, Lost, IsPrinted, failure_line}
 use Rattle.radoscls_program.specs.declared.status.ExitStatus.{ExitStatus}
 use Rattle.radoscls_program.specs.declared.status.ExitStatus.TheVariants.{Done, Refused, Usage}
 use Rattle.radoscls_program.specs.declared.task.Task.{Task}
@@ -54,14 +54,15 @@ pub record IsFailed (before after : Storage) (old new : Stream) (words : List Te
   pub noted : IsNoteAsked is_explained before.disk action failure note
   pub printed : IsPrinted old new (failure_line failure ++ note)
 
--- There was a true answer, and a write or a flush of standard output failed.
-pub record IsUnprinted (before after : Storage) (new : Stream) (words : List Text) : Type 0 where
+-- There was a true answer, a beginning of its lines was printed, and a write or a flush of standard
+-- output failed.
+pub record IsUnprinted (before after : Storage) (old new : Stream) (words : List Text) : Type 0 where
   pub action : Action
   pub is_explained : Bool
   pub named : AreFor words (Class action is_explained)
   pub answer : Answer
   pub settles : Settles before after action answer
-  pub unprinted : new.failed ≡ true
+  pub unprinted : Lost old new (answer_text answer)
 
 -- Memory was refused before the words were known, nothing was done, and a line says so.
 abbrev pub IsUnread : Storage → Storage → Stream → Stream → Type 0
@@ -90,7 +91,7 @@ IsDone before after old new words =
 -- why the program ended with 1
 abbrev pub IsRefused : Storage → Storage → Stream → Stream → List Text → Type 0
 IsRefused before after old new words =
-    IsFailed before after old new words ⊎ IsUnprinted before after new words ⊎ IsUnread before after old new
+    IsFailed before after old new words ⊎ IsUnprinted before after old new words ⊎ IsUnread before after old new
     ⊎ IsPlayed before after old new words Refused ⊎ IsRun before after old new words Refused
 
 -- The words are at fault or ask for help; nothing was done or printed on standard output.
@@ -105,22 +106,21 @@ Ends before after old new words Done = IsDone before after old new words
 Ends before after old new words Refused = IsRefused before after old new words
 Ends before after old new words Usage = IsUsage before after old new words
 
--- The words could not be read; nothing was done, and a line says why.
-pub record IsUnstarted (before after : Storage) (old new : Stream) (status : ExitStatus) : Type 0 where
-  pub refused : status ≡ Refused
-  pub left : after ≡ before
-  pub failure : Failure
-  pub printed : IsPrinted old new (failure_line failure)
+-- The words could not be read, and nothing was done: memory was refused, and a line says so; or one
+-- of them is no text, and nothing was printed on standard output.
+abbrev pub IsUnstarted : Storage → Storage → Stream → Stream → ExitStatus → Type 0
+IsUnstarted before after old new Done = ⊥
+IsUnstarted before after old new Refused = IsUnread before after old new
+IsUnstarted before after old new Usage = (after ≡ before) × (new ≡ old)
 
 -- how a process ends: as words ask, or without words
 abbrev pub Starts : Storage → Storage → Stream → Stream → ExitStatus → Type 0
 Starts before after old new status = ((words : List Text) × Ends before after old new words status) ⊎ IsUnstarted before after old new status
 
--- an answer was printed, or a write or a flush failed; a failure's line was printed, or a write or
--- a flush failed
+-- an answer or a failure's line was printed; or a beginning of it was, and a write or a flush failed
 abbrev pub Responds : Stream → Stream → Result Answer Failure → List ℕ → ExitStatus → Type 0
 Responds old new (Ok answer) note Done = Took old new (answer_text answer)
-Responds old new (Ok answer) note Refused = new.failed ≡ true
+Responds old new (Ok answer) note Refused = Lost old new (answer_text answer)
 Responds old new (Ok answer) note Usage = ⊥
 Responds old new (Err failure) note Done = ⊥
 Responds old new (Err failure) note Refused = IsPrinted old new (failure_line failure ++ note)

@@ -2,6 +2,7 @@
 use Rattle.std.specs.Prelude.{◌≡◌, ◌⊎◌, ◌++◌, ℕ, List, Option, Bool, true, codes}
 use Rattle.std.specs.Io.KnownBytes.{Appends}
 use Rattle.class_tool.specs.Failure.{failure_text}
+use Rattle.class_tool.specs.Output.{Begins}
 use Rattle.class_tool.specs.declared.failure.Failure.{Failure}
 
 -- What was printed on it, and whether a write or a flush of it failed.
@@ -17,9 +18,14 @@ pub record Took (old new : Stream) (text : List ℕ) : Type 0 where
   pub grew : Appends old.printed new.printed text
   pub well : new.failed ≡ old.failed
 
--- a text was printed; or a write or a flush failed
+-- what was printed grew by a beginning of that text, and a write or a flush failed
+pub record Lost (old new : Stream) (text : List ℕ) : Type 0 where
+  pub begun : Begins old.printed new.printed text
+  pub failed : new.failed ≡ true
+
+-- a text was printed; or a beginning of it was, and a write or a flush failed
 abbrev pub IsPrinted : Stream → Stream → List ℕ → Type 0
-IsPrinted old new text = Took old new text ⊎ (new.failed ≡ true)
+IsPrinted old new text = Took old new text ⊎ Lost old new text
 
 -- a failure's line
 abbrev pub failure_line : Failure → List ℕ

@@ -180,10 +180,11 @@ pub(crate) fn perform<
 /// printed on `out`, a line each; usage and help on `err`.
 ///
 /// The answer is what the process ends with: 0 where it was done and printed, 1 where it was
-/// refused, or a write or a flush of `out` failed, 2 after usage or help, where the words name no
-/// task without a fault. No file is written but the one that `asm` or `pack` names for the image,
-/// and that one only where the text or the raw code is right. `sim` prints of each line of its file
-/// what it comes to before the next is done; `cluster` prints its lines once all calls have ended.
+/// refused, or a write or a flush of `out` failed, and then a beginning of it was printed; 2 after
+/// usage or help, where the words name no task without a fault. No file is written but the one that
+/// `asm` or `pack` names for the image, and that one only where the text or the raw code is right.
+/// `sim` prints of each line of its file what it comes to before the next is done; `cluster` prints
+/// its lines once all calls have ended.
 ///
 /// `cluster` starts threads by `rt` and waits for them: nothing is said of when it ends. With
 /// `--stats` what the run took is written to `err`.

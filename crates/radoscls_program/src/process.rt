@@ -1,4 +1,5 @@
-ghost use Rattle.std.specs.Prelude.{◌≡◌, IfOk, IfErr, map, string_bytes};
+ghost use Rattle.std.specs.IoError.{error_kind};
+ghost use Rattle.std.specs.Prelude.{◌≡◌, ◌↔◌, IfOk, IfErr, map, string_bytes};
 ghost use Rattle.std.specs.Process.{exit_status};
 ghost use Rattle.radoscls_program.specs.Program.{Ends, IsUnstarted, Starts};
 ghost use Rattle.class_tool.specs.Files.{Storage, storage, unwritten};
@@ -10,7 +11,7 @@ use crate::perform::{perform, refuse};
 use crate::status::ExitStatus;
 use class_tool::{Failure, Output, SystemFiles};
 use std::alloc::Global;
-use std::io::Input;
+use std::io::{ErrorKind, Input};
 use std::process::ExitCode;
 use std::rt::{Env, Files};
 use std::sync::Wait;
@@ -18,9 +19,27 @@ use std::thread::Threads;
 use std::time::Clock;
 use std::{env, io};
 
+/// What is said of words that are no text.
+const NO_TEXT: &[u8] = b"error: invalid UTF-8 was detected in one or more arguments\n";
+
 /// The words of the command line, of which the first is the program's own name.
 fn words<R: Env + AllocGlobal>(rt: &R) -> io::Result<Vec<String>> {
     Ok(env::args(rt)?.collect(rt.alloc())?)
+}
+
+/// Says why there are no words: on `out` where memory for them was refused, and on `err`, as of
+/// wrong words, where one of them is no text.
+fn unstarted<O: Output, E: io::Write>(error: &io::Error, out: &mut O, err: &mut E) -> ExitStatus
+    ensures unstarted { (files : Storage) → IsUnstarted files files (stream O.printed O.failed out.old) (stream O.printed O.failed out.new) result }
+    ensures memory { (result ≡ ExitStatus.Refused) ↔ (error_kind error.now ≡ ErrorKind.OutOfMemory) }
+{
+    match error.kind() {
+        ErrorKind::OutOfMemory => refuse(Failure::NoMemory, out),
+        _ => {
+            let _ = err.write_all(NO_TEXT);
+            ExitStatus::Usage
+        }
+    }
 }
 
 /// Runs the program on those words, or says why there are none: `program`, on words that may be
@@ -35,15 +54,17 @@ pub fn end_of<R: Threads + Wait + Clock + Sync, F: class_tool::Files, O: Output,
 ) -> ExitStatus
     ensures asked { IfOk words.now (λ all. Ends (storage F.disk F.failed files.old) (storage F.disk F.failed files.new) (stream O.printed O.failed out.old) (stream O.printed O.failed out.new) (map string_bytes all.items) result) }
     ensures unread { IfErr words.now (λ _. IsUnstarted (storage F.disk F.failed files.old) (storage F.disk F.failed files.new) (stream O.printed O.failed out.old) (stream O.printed O.failed out.new) result) }
+    ensures memory { IfErr words.now (λ e. (result ≡ ExitStatus.Refused) ↔ (error_kind e ≡ ErrorKind.OutOfMemory)) }
 {
     match words {
         Ok(words) => perform(alloc, rt, words, files, out, err),
-        Err(error) => refuse(Failure::of_read(error), out),
+        Err(error) => unstarted(error, out, err),
     }
 }
 
 /// Runs `end_of` on the process's own words and files, and gives the number of its status:
-/// `program`'s answer, or 1 where the words could not be read, of which a line is printed.
+/// `program`'s answer, or where the words could not be read 1 for want of memory, of which a line is
+/// printed, and 2 for a word that is no text, which a line on `err` says.
 pub fn start<
     R: Env + Files + AllocGlobal + Input + Threads + Wait + Clock + Sync,
     O: Output,
