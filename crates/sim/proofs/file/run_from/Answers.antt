@@ -15,13 +15,13 @@ returns-then-is_bad g c =
     let grew = subst P c.as_str.ensures.value (printed_if c.print.result c.is_err.result _ c.is_err.ensures.value c.if-is_err.false c.print.ensures.printed) in
     let well = c.print.ensures.took (ok_if c.print.result c.is_err.result c.is_err.ensures.value c.if-is_err.false) in
     rw c.requires.classes
-    (bad_end c.reached_worlds_agree.ensures _ _ c.args.lines.now c.loop-line.line-index _ c.loop-line.number (c.loop-line.number + 1) _ _ _ _ _ _ _ _ _ _ c.loop-line-test.true (omega arith) c.loop-line.invariant.going
+    (bad_end _ _ c.args.lines.now c.loop-line.line-index _ c.loop-line.number (c.loop-line.number + 1) _ _ _ _ _ _ _ _ _ _ c.loop-line-test.true (omega arith) c.loop-line.invariant.going
     c.in-Ok.ensures c.if-is_bad.true grew well)
 
 pub returns-in-Err : goal.returns-in-Err
 returns-in-Err g c =
     rw c.requires.classes
-    (stops c.reached_worlds_agree.ensures _ _ c.args.lines.now c.loop-line.line-index c.loop-line.number c.loop-line.world _ _ _ _ (omega arith) c.loop-line.invariant.going)
+    (stops _ _ c.args.lines.now c.loop-line.line-index c.loop-line.number c.loop-line.world _ _ _ _ (omega arith) c.loop-line.invariant.going)
 
 pub loop-line-preserved : goal.loop-line-preserved
 loop-line-preserved g c =
@@ -37,4 +37,4 @@ loop-line-preserved g c =
 pub returns : goal.returns
 returns g c =
     rw c.requires.classes
-    (all_done c.reached_worlds_agree.ensures _ _ c.args.lines.now c.loop-line.line-index c.loop-line.number c.loop-line.world _ _ _ _ (omega arith) c.loop-line.invariant.going)
+    (all_done _ _ c.args.lines.now c.loop-line.line-index c.loop-line.number c.loop-line.world _ _ _ _ (omega arith) c.loop-line.invariant.going)
