@@ -1,7 +1,8 @@
 -- A reader must believe Files (what files hold, and what a write changes), Image, Assembly,
 -- Packing, Run and Answer (what each command answers, and why it fails), Given (the object that
 -- words spell), Log and Reply (which call a reply is of, and what is printed of it), Shown,
--- Failure, Note and Explained (the other texts). Output and System name two fields for contracts.
+-- Failure, Note and Explained (the other texts), and Output (what a print that failed left). System
+-- names a field for contracts; Window says what a window on a text shows, which no command cites.
 pub mod Answer
 pub mod Assembly
 pub mod Explained
@@ -17,3 +18,4 @@ pub mod Reply
 pub mod Run
 pub mod Shown
 pub mod System
+pub mod Window

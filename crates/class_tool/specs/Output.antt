@@ -1,5 +1,6 @@
--- What a printer knows.
-use Rattle.std.specs.Prelude.{Bool}
+-- What a printer knows, and what a print that failed left.
+use Rattle.std.specs.Prelude.{◌≡◌, ℕ, List, Option, Bool, take}
+use Rattle.std.specs.Io.KnownBytes.{Appends}
 use Rattle.class_tool.specs.declared.output.Printer.{Printer}
 
 abbrev pub writer_of : {W : Type 0} → Printer W → W
@@ -8,3 +9,8 @@ writer_of p = p.writer
 -- a write or a flush failed
 abbrev pub has_failed : {W : Type 0} → Printer W → Bool
 has_failed p = p.failed
+
+-- What was printed grew by a beginning of that text, where it was known.
+pub record Begins (old new : Option (List ℕ)) (text : List ℕ) : Type 0 where
+  pub count : ℕ
+  pub grew : Appends old new (take count text)

@@ -22,6 +22,7 @@ mod reply;
 mod run;
 mod shown;
 mod tool;
+mod window;
 
 pub use action::{Action, Call, Entry, Packing, RawMethod};
 pub use answer::Answer;

@@ -1,6 +1,11 @@
-ghost use Rattle.std.specs.Prelude.{◌≡◌, ℕ, List, Option, None, Bool, true, false, OnOk, IfSome, IsOk, IsErr};
+ghost use Rattle.std.specs.Prelude.{◌≡◌, ℕ, List, Option, None, Bool, true, false, OnOk, OnErr, IfOk, IfSome, IsOk, IsErr, take, drop};
 ghost use Rattle.std.specs.Io.KnownBytes.{Appends};
+ghost use Rattle.class_tool.specs.Output.{Begins};
+ghost use Rattle.class_tool.specs.Window.{shown};
 
+use crate::window::{ROOM, Window};
+use std::fmt::Write;
+use std::io::ErrorKind;
 use std::{fmt, io};
 
 /// Where lines are printed.
@@ -12,9 +17,10 @@ pub trait Output {
     ghost failed: { Self → Bool };
 
     /// Prints a whole text, and lets nothing of it wait. It fails exactly where a write or a flush
-    /// does, which `failed` tells from then on.
+    /// does, which `failed` tells from then on; then a beginning of the text was printed.
     fn print<D: fmt::Display + Drop>(&mut self, text: D) -> io::Result<()>
         ensures printed { OnOk result (IfSome (D.output text) (Appends (printed self.old) (printed self.new))) }
+        ensures begun { OnErr result (IfSome (D.output text) (Begins (printed self.old) (printed self.new))) }
         ensures took { IsOk result → failed self.new ≡ failed self.old }
         ensures lost { IsErr result → failed self.new ≡ true };
 }
@@ -64,10 +70,56 @@ impl<W: io::Write> Output for Printer<W> {
     }
 }
 
-/// Writes a whole text, and flushes it.
-fn print_whole<W: io::Write, D: fmt::Display + Drop>(writer: &mut W, text: D) -> io::Result<()>
-    ensures { OnOk result (IfSome (D.output text) (Appends (W.contents writer.old) (W.contents writer.new))) }
+/// Writes bytes. Where a write fails, a beginning of them was written.
+fn write_bytes<W: io::Write>(writer: &mut W, bytes: &[u8]) -> io::Result<()>
+    ensures all { OnOk result (Appends (W.contents writer.old) (W.contents writer.new) bytes.now) }
+    ensures begun { OnErr result (Begins (W.contents writer.old) (W.contents writer.new) bytes.now) }
 {
-    writer.write_fmt(text)?;
-    writer.flush()
+    let mut at = 0;
+    for _ in 0..u64::MAX {
+        if at == bytes.len() {
+            return Ok(());
+        }
+        match writer.write(&bytes[at..]) {
+            Ok(0) => return Err(io::Error::from(ErrorKind::WriteZero)),
+            Ok(count) => at += count,
+            Err(error) => {
+                if error.kind() != ErrorKind::Interrupted {
+                    return Err(error);
+                }
+            }
+        }
+    }
+    Err(io::Error::from(ErrorKind::TimedOut))
+}
+
+/// What a text has after that many bytes, as far as a window shows it.
+fn window_of<D: fmt::Display>(text: &D, skip: usize) -> Result<Window, fmt::Error>
+    ensures { IfOk result (λ w. IfSome (D.output text.now) (λ t. shown w ≡ take 1024 (drop skip t))) }
+{
+    let mut window = Window::after(skip);
+    window.write(text)?;
+    Ok(window)
+}
+
+/// Writes a whole text, a window of it after the other, and flushes it. Where that fails, a
+/// beginning of it was written. A text that fits into a window is formatted once; a longer one once
+/// for each, so that nothing is written of one whose formatting fails midway.
+fn print_whole<W: io::Write, D: fmt::Display + Drop>(writer: &mut W, text: D) -> io::Result<()>
+    ensures all { OnOk result (IfSome (D.output text) (Appends (W.contents writer.old) (W.contents writer.new))) }
+    ensures begun { OnErr result (IfSome (D.output text) (Begins (W.contents writer.old) (W.contents writer.new))) }
+{
+    let mut written = 0;
+    for _ in 0..u64::MAX {
+        let window = window_of(&text, written)?;
+        write_bytes(writer, window.shown())?;
+        if window.shown().len() < ROOM {
+            return writer.flush();
+        }
+        match written.checked_add(ROOM) {
+            Some(more) => written = more,
+            None => return Err(io::Error::from(ErrorKind::FileTooLarge)),
+        }
+    }
+    Err(io::Error::from(ErrorKind::TimedOut))
 }
