@@ -1,13 +1,16 @@
 -- Lines that were done, and how the run of a file goes on from there.
-use Rattle.std.proofs.Common.{◌≡◌, ◌<◌, ◌≤◌, ℕ, zero, suc, List, [], ◌∷◌, ◌++◌, length, map, Bor, Bool, true, false, if◌then◌else◌, Option, Some, None, refl, sym, ap, subst, ◌∙◌, append_assoc, append-nil, take, drop, arith, get_or}
+use Rattle.std.proofs.Common.{◌≡◌, ◌<◌, ◌≤◌, ℕ, zero, suc, List, [], ◌∷◌, ◌++◌, length, map, Bor, Bool, true, false, if◌then◌else◌, Option, Some, None, refl, sym, ap, subst, ◌∙◌, append_assoc, append-nil, take, drop, min, ◌+◌, arith, get_or}
 use Rattle.std.specs.Io.KnownBytes.{Appends}
-use Rattle.std.specs.Prelude.{OnOk, IsOk, Result, Ok, Err, is_err}
+use Rattle.std.proofs.lemmas.List.{take-append-le, take_min}
+use Rattle.std.proofs.Math.Seq.{take-append-add}
+use Rattle.std.specs.Prelude.{OnErr, OnOk, IsErr, IsOk, Result, Ok, Err, is_err}
+use Rattle.class_tool.specs.Output.{Begins}
 use Rattle.pg_log.specs.Log.{Classes}
 use Rattle.sim_text.specs.Lines.{line_of}
 use Rattle.sim_text.specs.Texts.{is_bad, taken_text}
 use Rattle.sim_text.specs.declared.line.Line.{Line}
 use Rattle.sim_text.specs.declared.taken.Taken.{Taken}
-use Rattle.sim.specs.Run.{Printed, SaysOf, Takes, bad_line, before_rest, line_text, run_from, run_lines, Grew, Prints, Stops}
+use Rattle.sim.specs.Run.{Printed, SaysOf, Takes, bad_line, before_rest, line_text, run_from, run_lines, BreaksOff, Grew, Prints, Stops}
 use Rattle.sim_world.specs.Step.{Played, beginning, step}
 use Rattle.sim_world.specs.Holds.{Holds, IsStep, Says, Steps}
 use Rattle.sim_world.specs.inner.Parts.{Parts}
@@ -83,6 +86,17 @@ appends_more (Some s) None c x y p q = absurd p
 appends_more (Some s) (Some t) None x y p q = absurd q
 appends_more (Some s) (Some t) (Some u) x y p q = q ∙ ap (λ z. z ++ y) p ∙ append_assoc s x y
 
+-- a text that was begun after another
+begun_more : (old mid new : Option (List ℕ)) (text said more : List ℕ) → Appends old mid text → Begins mid new said → Begins old new (text ++ (said ++ more))
+begun_more old mid new text said more first begun =
+    let count = min begun.count (length said) in
+    let front : take count (said ++ more) ≡ take begun.count said = take-append-le count said more (omega arith) ∙ take_min begun.count said in
+    record {
+      count = length text + count;
+      grew = subst (Appends old new) (ap (λ (t : List ℕ). text ++ t) (sym front) ∙ sym (take-append-add text (said ++ more) count))
+          (appends_more old mid new text (take begun.count said) first begun.grew);
+    }
+
 -- where a run stands: some lines were done, and what they print was printed
 pub record Going (classes : Classes) (names above : List (List ℕ)) (number : ℕ) (w : Parts) (old new : Option (List ℕ)) (failed fails : Bool) : Type 0 where
   pub played : Played
@@ -98,6 +112,28 @@ prints printed text bad p old new failed fails is shown = record {
   shown = record { grew = subst (λ (t : List ℕ). Appends old new t) (sym (ap (λ (r : Printed). r.text) is)) shown.grew; well = shown.well };
   is = ap (λ (r : Printed). r.bad) is;
 }
+
+-- the next one was begun
+said_first : (said : List ℕ) (p : Played) (rest : Printed) (b : Bool)
+    → (more : List ℕ) × ((if b then record { text = said; bad = true; played = p } else before_rest said rest).text ≡ said ++ more)
+said_first said p rest true = ([], sym (append-nil said))
+said_first said p rest false = (rest.text, refl)
+
+going_broken : (classes : Classes) (names above : List (List ℕ)) (number : ℕ) (w : Parts) (old new : Option (List ℕ)) (failed fails : Bool)
+    (line : List ℕ) (rest : List (List ℕ)) (v : Parts) (text : List ℕ) (bad : Bool) (next : Option (List ℕ)) (fails_now : Bool)
+    → Going classes names above number w old new failed fails → Takes classes names line (suc number) w v text bad
+    → Begins new next text → fails_now ≡ true → BreaksOff (run_lines classes names (above ++ line ∷ rest)) old next fails_now
+going_broken classes names above number w old new failed fails line rest v text bad next fails_now going takes begun lost =
+    let is = takes going.played going.held in
+    let h = step going.played (line_of names line) in
+    let said = said_of names (suc number) going.played line in
+    let all = said_first said h.played (run_from names (suc number) h.played rest) (is_bad h.taken) in
+    let whole : (run_lines classes names (above ++ line ∷ rest)).text ≡ going.text ++ (said ++ all.0) =
+    ap (λ (r : Printed). r.text) (going.reached.goes_on (line ∷ rest)) ∙ ap (λ (t : List ℕ). going.text ++ t) all.1 in
+    record {
+      begun = subst (Begins old next) (sym whole) (begun_more old new next going.text said all.0 going.shown.grew (subst (λ (t : List ℕ). Begins new next t) is.says begun));
+      failed = lost;
+    }
 
 -- all of them were done
 going_all : (classes : Classes) (names above : List (List ℕ)) (number : ℕ) (w : Parts) (old new : Option (List ℕ)) (failed fails : Bool)
@@ -214,6 +250,17 @@ bad_end classes names ws i d number m w v old new next failed fails fails_now te
     subst Q (split_at ws i d h)
     (going_bad classes names (take i (map (λ l. l.now) ws)) number w old new failed fails (get_or ws i d).now (drop (suc i) (map (λ l. l.now) ws)) v text bad next fails_now going (subst P e is) was more well)
 
+-- a line couldn't be printed whole
+pub broken_off : (classes : Classes) (names : List (List ℕ)) (ws : List (Bor (List ℕ))) (i : ℕ) (d : Bor (List ℕ)) (number m : ℕ) (w v : Parts) (old new next : Option (List ℕ)) (failed fails fails_now : Bool) (text : List ℕ) (bad : Bool)
+    → i < length ws → m ≡ suc number → Going classes names (take i (map (λ (l : Bor (List ℕ)). l.now) ws)) number w old new failed fails
+    → Takes classes names (get_or ws i d).now m w v text bad → Begins new next text → fails_now ≡ true
+    → BreaksOff (run_lines classes names (map (λ (l : Bor (List ℕ)). l.now) ws)) old next fails_now
+broken_off classes names ws i d number m w v old new next failed fails fails_now text bad h e going is begun lost =
+    let P : ℕ → Type 0 = λ n. Takes classes names (get_or ws i d).now n w v text bad in
+    let Q : List (List ℕ) → Type 0 = λ ls. BreaksOff (run_lines classes names ls) old next fails_now in
+    subst Q (split_at ws i d h)
+    (going_broken classes names (take i (map (λ l. l.now) ws)) number w old new failed fails (get_or ws i d).now (drop (suc i) (map (λ l. l.now) ws)) v text bad next fails_now going (subst P e is) begun lost)
+
 -- all lines were done
 pub all_done : (classes : Classes) (names : List (List ℕ)) (ws : List (Bor (List ℕ))) (i number : ℕ) (w : Parts) (old new : Option (List ℕ)) (failed fails : Bool) → i ≡ length ws
     → Going classes names (take i (map (λ (l : Bor (List ℕ)). l.now) ws)) number w old new failed fails → Prints (run_lines classes names (map (λ l. l.now) ws)) false old new failed fails
@@ -233,3 +280,12 @@ printed_if (Err x) b P e f p = absurd (apart f e)
 pub ok_if : {T E : Type 0} (r : Result T E) (b : Bool) → b ≡ is_err r → b ≡ false → IsOk r
 ok_if (Ok x) b e f = refl
 ok_if (Err x) b e f = absurd (apart f e)
+
+-- where one is, what it promises of that
+pub broken_if : {T E : Type 0} (r : Result T E) (b : Bool) (P : Type 0) → b ≡ is_err r → b ≡ true → OnErr r P → P
+broken_if (Ok x) b P e f p = absurd (apart e f)
+broken_if (Err x) b P e f p = p
+
+pub err_if : {T E : Type 0} (r : Result T E) (b : Bool) → b ≡ is_err r → b ≡ true → IsErr r
+err_if (Ok x) b e f = absurd (apart e f)
+err_if (Err x) b e f = refl

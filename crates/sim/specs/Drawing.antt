@@ -1,8 +1,9 @@
 -- The run of a file as it is drawn: what each line makes happen, and every message. What a line
 -- comes to is `step`, as where the lines are printed; how steps and messages look is sim_trace's
 -- `drawn`.
-use Rattle.std.specs.Prelude.{◌≡◌, ℕ, suc, min, Bool, List, [], ◌∷◌, ◌++◌, map, Option, Some, None, is_some, if◌then◌else◌, codes, string_bytes}
+use Rattle.std.specs.Prelude.{◌≡◌, ℕ, suc, min, Bool, true, List, [], ◌∷◌, ◌++◌, map, Option, Some, None, is_some, if◌then◌else◌, codes, string_bytes}
 use Rattle.std.specs.Fmt.{decimal}
+use Rattle.class_tool.specs.Output.{Begins}
 use Rattle.pg_log.specs.Log.{Classes}
 use Rattle.group_world.specs.declared.party.Party.{Party}
 use Rattle.group_world.specs.declared.party.Party.TheVariants.{Node as ANode, Monitor as TheMonitor, Client as AClient}
@@ -166,6 +167,14 @@ pub record Shows (run : Course) (bad : Bool) (old new : Option (List ℕ)) (fail
   pub text : List ℕ
   pub drawing : Draws run text bad
   pub shown : Grew old new failed fails text
+
+-- A write or a flush failed: what was printed is a beginning of the drawing.
+pub record BreaksDrawing (run : Course) (old new : Option (List ℕ)) (fails : Bool) : Type 0 where
+  pub text : List ℕ
+  pub bad : Bool
+  pub drawing : Draws run text bad
+  pub begun : Begins old new text
+  pub failed : fails ≡ true
 
 -- Drawn lines lead to the same played world as printed ones.
 abbrev pub DrawnIsPlayed : Classes → List (List ℕ) → List (List ℕ) → Type 0

@@ -10,6 +10,7 @@ use Rattle.group_world.specs.World.{IsUncut, brought}
 use Rattle.group_world.specs.declared.message.Packet.{Packet}
 use Rattle.sim.specs.declared.file.Ending.{Ending}
 use Rattle.sim.specs.declared.file.Ending.TheVariants.{Done, Bad, NoMemory, Unprinted}
+use Rattle.class_tool.specs.Output.{Begins}
 use Rattle.verifier.specs.Verified.{IsVerifiedClass}
 use Rattle.sim.specs.Replies.{ReplyHasRun}
 use Rattle.sim_text.specs.Lines.{line_of}
@@ -94,12 +95,17 @@ pub record Stops (classes : Classes) (names lines : List (List ℕ)) (old new : 
   pub within : above ≤ length lines
   pub printed : Prints (run_lines classes names (take above lines)) false old new failed fails
 
+-- A write or a flush failed: what was printed is a beginning of what all lines come to.
+pub record BreaksOff (printed : Printed) (old new : Option (List ℕ)) (fails : Bool) : Type 0 where
+  pub begun : Begins old new printed.text
+  pub failed : fails ≡ true
+
 -- How a run ended.
 abbrev pub EndsBy : Classes → List (List ℕ) → List (List ℕ) → Option (List ℕ) → Option (List ℕ) → Bool → Bool → Ending → Type 0
 EndsBy classes names lines old new failed fails Done = Prints (run_lines classes names lines) false old new failed fails
 EndsBy classes names lines old new failed fails Bad = Prints (run_lines classes names lines) true old new failed fails
 EndsBy classes names lines old new failed fails NoMemory = Stops classes names lines old new failed fails
-EndsBy classes names lines old new failed fails Unprinted = fails ≡ true
+EndsBy classes names lines old new failed fails Unprinted = BreaksOff (run_lines classes names lines) old new fails
 
 -- a line was done: what is held after it, what is printed of it, and whether it is bad
 pub record IsLine (classes : Classes) (h : Happened) (number : ℕ) (new : Parts) (text : List ℕ) (bad : Bool) : Type 0 where

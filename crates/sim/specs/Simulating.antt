@@ -6,7 +6,7 @@ use Rattle.class_tool.specs.Files.{Disk, Holds}
 use Rattle.class_tool.specs.declared.failure.Failure.{Failure}
 use Rattle.pg_log.specs.Log.{Classes}
 use Rattle.sim_text.specs.Lines.{lines_of}
-use Rattle.sim.specs.Drawing.{Course, DrawnIsPlayed, Shows, course}
+use Rattle.sim.specs.Drawing.{BreaksDrawing, Course, DrawnIsPlayed, Shows, course}
 use Rattle.sim.specs.Run.{EndsBy, IsAgreedRun}
 pub use Rattle.sim.specs.declared.file.Ending.{Ending}
 pub use Rattle.sim.specs.declared.file.Ending.TheVariants.{Done, Bad, NoMemory, Unprinted}
@@ -15,12 +15,12 @@ use Rattle.tenant_classes.specs.Classes.{AreClasses, ClassesFail, names_of}
 use Rattle.sim.specs.declared.asked.Simulation.{Simulation}
 
 -- Of a drawing: it was printed whole, with no bad line or one, or nothing was for want of memory,
--- or a write or a flush failed.
+-- or a write or a flush failed and a beginning of it was.
 abbrev pub IsDrawn : Course → Option (List ℕ) → Option (List ℕ) → Bool → Bool → Ending → Type 0
 IsDrawn run old new failed fails Done = Shows run false old new failed fails
 IsDrawn run old new failed fails Bad = Shows run true old new failed fails
 IsDrawn run old new failed fails NoMemory = (new ≡ old) × (fails ≡ failed)
-IsDrawn run old new failed fails Unprinted = fails ≡ true
+IsDrawn run old new failed fails Unprinted = BreaksDrawing run old new fails
 
 -- A text was played: its lines were done and printed as they are defined to be, or their run was
 -- drawn.

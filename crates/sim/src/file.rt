@@ -21,7 +21,7 @@ pub enum Ending {
     Bad,
     /// Memory was refused at a line; those above it were done.
     NoMemory,
-    /// A write or a flush failed.
+    /// A write or a flush failed; a beginning of what was to be printed was.
     Unprinted,
 }
 
