@@ -1,5 +1,5 @@
 -- The played worlds after the lines of a file: each is an agreed one.
-use Rattle.std.proofs.Common.{◌≡◌, ◌⊎◌, inl, inr, ℕ, zero, suc, Bool, true, false, if◌then◌else◌, List, [], ◌∷◌, ◌++◌, length, Option, Some, None, take, refl, sym, ap, ◌∙◌, subst, arith, append_assoc, append-nil}
+use Rattle.std.proofs.Common.{◌≡◌, ◌⊎◌, inl, inr, ℕ, zero, suc, Bool, true, false, if◌then◌else◌, List, [], ◌∷◌, ◌++◌, Some, take, refl, sym, subst, arith, append_assoc, append-nil}
 use Rattle.std.proofs.lemmas.List.Elements.{Contains-append_left, Contains-append_right, Contains-append_cases}
 use Rattle.std.specs.List.{Contains}
 use Rattle.pg_log.specs.Requests.{ClientRequest}
@@ -7,7 +7,7 @@ use Rattle.pg_log.specs.Log.{Classes}
 use Rattle.pg_log.specs.Runs.{RepliesRun}
 use Rattle.group_world.proofs.Lists.{prefix_refl}
 use Rattle.group_world.specs.Node.{committed_list}
-use Rattle.group_world.specs.World.{IsUncut, WorldEvent, brought}
+use Rattle.group_world.specs.World.{IsUncut, brought}
 use Rattle.sim_text.specs.Lines.{line_of}
 use Rattle.sim_text.specs.Texts.{is_bad}
 use Rattle.sim_text.specs.declared.line.Line.{Line}
@@ -16,8 +16,8 @@ use Rattle.sim_text.specs.declared.taken.Taken.{Taken}
 use Rattle.sim_text.specs.declared.taken.Taken.TheVariants as taken
 use Rattle.sim_world.specs.Step.{Played, Happened, beginning, step}
 use Rattle.sim_world.specs.Agreed.{EventsGrew, EventsLead, IsAgreedPlayed, WorldsAgree, taken_by}
-use Rattle.sim.specs.Run.{IsAgreedRun, Printed, asked, asked_in, before_rest, line_text, run_from, run_lines}
-use Rattle.sim.specs.Drawing.{Course, DrawnIsPlayed, ahead, course, course_from, noted}
+use Rattle.sim.specs.Run.{IsAgreedRun, Printed, asked, asked_in, before_rest, line_text, run_from}
+use Rattle.sim.specs.Drawing.{Course, ahead, course_from, noted}
 use Rattle.sim.specs.Simulating.{AllWorldsKnown}
 use Rattle.sim.proofs.Replying.{replies_ran}
 use Rattle.sim.proofs.Typed.{asked_typed}

@@ -1,5 +1,5 @@
 -- Of verified classes, each reply that was sent in an agreed world is its method's run.
-use Rattle.std.proofs.Common.{◌≡◌, ℕ, zero, suc, cond, true, false, List, [], ◌∷◌, Option, Some, None, sym, ◌∙◌, subst}
+use Rattle.std.proofs.Common.{◌≡◌, ℕ, zero, suc, cond, true, false, List, [], ◌∷◌, Some, sym, ◌∙◌, subst}
 use Rattle.std.specs.List.{AllByRecursion, Contains, slice_get}
 use Rattle.std.specs.Str.{bytes_eq}
 use Rattle.std.proofs.lemmas.Option.{none-some, same_Some}
@@ -7,11 +7,11 @@ use Rattle.bpf_decode.specs.Class.{ClassMethod, IsClass}
 use Rattle.bpf_machine.specs.Safe.{IsSafe}
 use Rattle.verifier.specs.Verified.{IsVerifiedClass, method_named}
 use Rattle.pg_log.specs.Requests.{ClientRequest}
-use Rattle.pg_log.specs.Log.{Classes, Legal, Reply, method_in, method_of}
-use Rattle.pg_log.specs.Entries.{AreSafe, IsSafeRequest}
+use Rattle.pg_log.specs.Log.{Classes, Legal, Reply, method_in}
+use Rattle.pg_log.specs.Entries.{AreSafe}
 use Rattle.pg_log.specs.Runs.{RanAt, RepliesRun}
 use Rattle.pg_log.specs.Within.{IsRequest}
-use Rattle.group_world.specs.World.{IsAgreed, IsTrueOf, brought}
+use Rattle.group_world.specs.World.{IsTrueOf, brought}
 use Rattle.group_world.specs.declared.message.MessageKind.{MessageKind}
 use Rattle.group_world.specs.declared.message.MessageKind.TheVariants.{Query, Log as LogOf, Install, Installed as InstalledIn, AskActivate, Activated, Rep, Ack, Reply as ReplyTo}
 use Rattle.group_world.specs.declared.message.Packet.{Packet}

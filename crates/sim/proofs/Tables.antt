@@ -1,9 +1,8 @@
 -- The classes of a table are verified, one after the other.
-use Rattle.std.proofs.Common.{◌≡◌, ◌<◌, ◌≤◌, ◌+◌, ℕ, zero, suc, List, [], ◌∷◌, length, Option, Some, None, refl, sym, subst, arith, ◌⊎◌, inl, inr}
+use Rattle.std.proofs.Common.{◌<◌, ◌≤◌, ◌+◌, ℕ, suc, [], ◌∷◌, length, sym, subst, arith, inl, inr}
 use Rattle.std.specs.Prelude.{IfSome, slice_get}
 use Rattle.std.specs.List.{AllByRecursion}
 use Rattle.std.proofs.lemmas.Bool.{cases_eq}
-use Rattle.bpf_decode.specs.Class.{ClassMethod}
 use Rattle.pg_log.specs.Log.{Classes}
 use Rattle.verifier.specs.Verified.{IsVerifiedClass}
 
@@ -15,8 +14,8 @@ none_verified classes k low = absurd (omega (arith, low))
 
 pub one_verified : (classes : Classes) (id : ℕ) → IfSome (slice_get classes id) IsVerifiedClass → AreVerifiedUpTo classes id → AreVerifiedUpTo classes (id + 1)
 one_verified classes id is all k low = elim (cases_eq k id) as (λ w. IfSome (slice_get classes k) IsVerifiedClass) [
-    | inl same ↦ subst (λ (n : ℕ). IfSome (slice_get classes n) IsVerifiedClass) (sym same) is
-    | inr other ↦ all k (omega (arith, low, other))
+  | inl same ↦ subst (λ (n : ℕ). IfSome (slice_get classes n) IsVerifiedClass) (sym same) is
+  | inr other ↦ all k (omega (arith, low, other))
 ]
 
 each_verified : (classes : Classes) → ((k : ℕ) → k < length classes → IfSome (slice_get classes k) IsVerifiedClass) → AllByRecursion IsVerifiedClass classes

@@ -1,5 +1,5 @@
 -- The requests of `req` lines are as their type holds them: clients below 2 ^ 32, and bytes.
-use Rattle.std.proofs.Common.{◌≡◌, ◌<◌, ◌^◌, ◌&&◌, ◌==◌, ◌⊎◌, inl, inr, ℕ, zero, suc, Bool, true, false, if◌then◌else◌, List, [], ◌∷◌, ◌++◌, Option, Some, None, Result, Ok, Err, refl, sym, ap, ◌∙◌, subst, arith}
+use Rattle.std.proofs.Common.{◌≡◌, ◌<◌, ◌^◌, ◌&&◌, ◌==◌, inl, inr, ℕ, zero, suc, Bool, true, false, if◌then◌else◌, List, [], ◌∷◌, Option, Some, None, Result, Ok, Err, refl, subst, arith}
 use Rattle.std.specs.Prelude.{IfSome, nat_le, nat_lt, slice_index, codes}
 use Rattle.std.specs.Option.{option_map, option_and_then}
 use Rattle.std.specs.Result.{result_ok}
@@ -16,7 +16,7 @@ use Rattle.pg_log.specs.Within.{IsRequest}
 use Rattle.file_words.specs.Words.{words, number_in, numbers_in, id_in, object_in, bytes_in, class_of}
 use Rattle.sim_text.specs.Lines.{ask_at, asks, ids_in, line_of, of_one, one_in, or_bad, request_with_client, request_with_method, request_with_object, says, two_in}
 use Rattle.sim_text.specs.declared.line.Line.{Line}
-use Rattle.sim_text.specs.declared.line.Line.TheVariants.{Empty, Map, See, Ask, Deliver, Show, Stop, Go, Resend, Bad}
+use Rattle.sim_text.specs.declared.line.Line.TheVariants.{Empty, Map, See, Deliver, Show, Stop, Go, Resend, Bad}
 use Rattle.sim.specs.Run.{asked, asked_in}
 
 -- OPTIONS
@@ -98,8 +98,8 @@ asks_at : (n : Option ℕ) (o : Option ClientRequest) → IfSome o IsRequest →
 asks_at None o h = none_in
 asks_at (Some n) None h = none_in
 asks_at (Some n) (Some q) h = λ r at. elim (Contains-push_cases [] q r at) as (λ w. IsRequest r) [
-    | inl none ↦ none_in r none
-    | inr same ↦ subst IsRequest same h
+  | inl none ↦ none_in r none
+  | inr same ↦ subst IsRequest same h
 ]
 
 asks_words : (names args : List (List ℕ)) → Asks (asks names args)
@@ -136,6 +136,6 @@ asks_line names line = asks_if (slice_index line 0 == 35) Empty (says names (wor
 pub asked_typed : (names ls : List (List ℕ)) (r : ClientRequest) → Contains (asked names ls) r → IsRequest r
 asked_typed names [] r h = none_in r h
 asked_typed names (line ∷ ls) r h = elim (Contains-append_cases (asked_in (line_of names line)) (asked names ls) r h) as (λ w. IsRequest r) [
-    | inl own ↦ asks_line names line r own
-    | inr rest ↦ asked_typed names ls r rest
+  | inl own ↦ asks_line names line r own
+  | inr rest ↦ asked_typed names ls r rest
 ]

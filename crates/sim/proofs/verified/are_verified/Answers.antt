@@ -1,4 +1,4 @@
-use Rattle.std.proofs.Common.{◌+◌, arith}
+use Rattle.std.proofs.Common.{arith}
 use Rattle.sim.proofs.Tables.{all_verified, none_verified, one_verified}
 use Rattle.sim.proofs.verified.are_verified.Goals as goal
 
