@@ -1,8 +1,12 @@
 -- What a call promises of its reply or its refusal.
 use Rattle.std.specs.Prelude.{◌≡◌, ◌⊎◌, ◌↔◌, ⊤, ℕ, suc, ◌-◌, ◌^◌, List, Option, Some, None, Result, Err, IfOk, IfErr, slice_get}
+use Rattle.std.specs.List.{AllByRecursion}
 use mathlib.Core.List.{IsPrefix}
+use Rattle.verifier.specs.Verified.{IsVerifiedClass}
 use Rattle.pg_log.specs.Requests.{ClientRequest}
 use Rattle.pg_log.specs.Log.{Classes}
+use Rattle.pg_log.specs.Runs.{RanAt}
+use Rattle.pg_log.specs.Within.{IsRequest}
 use Rattle.pg_log.specs.Refusals.{refusal_of_class}
 use Rattle.pg_log.specs.declared.log_error.LogError.TheVariants as log
 use Rattle.group_world.specs.declared.event.Event.TheVariants.{Request as ARequest}
@@ -28,6 +32,20 @@ pub record IsAnswered (classes : Classes) (lists : List (List ClientRequest)) (r
 pub record IsAnswerIn (classes : Classes) (r : ClientRequest) (reply : PlacedReply) : Type 0 where
   pub list : List ClientRequest
   pub stands : Stands classes list reply.place r reply.answer
+
+-- The whole request ran at the reply's place of a list: wherever its memory lies, its method's
+-- bytes end so on the object that the requests before it left, in at most as many steps as the
+-- method has instructions; code and output are the answer's.
+pub record HasRun (classes : Classes) (list : List ClientRequest) (r : ClientRequest) (reply : PlacedReply) : Type 0 where
+  pub ran : RanAt classes list reply.place r
+  pub answered : reply.answer ≡ record { code = ran.outcome.code; output = ran.outcome.output }
+
+-- So it did of verified classes, where the requests of the answer's list are as their type holds
+-- them.
+abbrev pub AnswersHaveRun : Type 0
+AnswersHaveRun =
+    (classes : Classes) (lists : List (List ClientRequest)) (r : ClientRequest) (reply : PlacedReply) → AllByRecursion IsVerifiedClass classes → (answer : IsAnswered classes lists r reply) →
+    AllByRecursion IsRequest answer.begun → HasRun classes answer.begun r reply
 
 -- from the one state of a pass to the other a queue took the whole request
 abbrev pub WasAsked : Sender Operation → Sender Operation → ClientRequest → Type 0

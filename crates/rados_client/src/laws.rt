@@ -1,12 +1,23 @@
-//! What follows from a promise, for the crates above. The function does nothing.
+//! What follows from a promise, for the crates above. The functions do nothing.
 ghost use Rattle.std.specs.Prelude.{List};
 ghost use Rattle.pg_log.specs.Requests.{ClientRequest};
 ghost use Rattle.pg_log.specs.Log.{Classes};
 ghost use Rattle.rados_client.specs.Session.{PlacedReply};
-ghost use Rattle.rados_client.specs.Promise.{IsAnswered, IsAnswerIn};
+ghost use Rattle.rados_client.specs.Promise.{AnswersHaveRun, IsAnswered, IsAnswerIn};
+
+use pg_log::replies_run;
 
 /// What a session may believe of a reply is so, whoever knows it: the reply is true in some legal
 /// list of these classes.
 pub fn replies_are_true()
     ensures { (classes : Classes) (lists : List (List ClientRequest)) (r : ClientRequest) (reply : PlacedReply) → IsAnswered classes lists r reply → IsAnswerIn classes r reply }
 {}
+
+/// An answer that `exec` or `retry` gives is its method's run, of verified classes: wherever its
+/// memory lies, the bytes of the request's method end so on the object that the requests before it
+/// left, in at most as many steps as the method has instructions, with the reply's code and output.
+pub fn answers_have_run()
+    ensures { AnswersHaveRun }
+{
+    replies_run();
+}

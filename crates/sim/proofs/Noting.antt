@@ -6,13 +6,13 @@ use Rattle.std.specs.Prelude.{is_some}
 use Rattle.sim_text.specs.Texts.{is_bad}
 use Rattle.sim_text.specs.declared.line.Line.{Line}
 use Rattle.sim_text.specs.declared.taken.Taken.{Taken}
-use Rattle.sim.specs.Drawing.{Course, Courses, DrawsRun, Noted, Notes, IsCourse, ahead, bad_of, course, course_from, done_if, drawn_as, drawn_of, follow, meant_by, noted, noted_as, noted_if}
+use Rattle.sim.specs.Drawing.{Course, Courses, Draws, Noted, Notes, IsCourse, ahead, bad_of, course, course_from, done_if, drawn_as, drawn_of, follow, meant_by, noted, noted_as, noted_if}
 use Rattle.sim_trace.specs.Drawing.{drawn}
 use Rattle.sim_trace.specs.declared.message.Message.{Message}
 use Rattle.sim_trace.specs.declared.step.Step.{Step}
 use Rattle.sim_trace.specs.declared.step.What.{What}
 use Rattle.sim_world.specs.Step.{Played, beginning, step}
-use Rattle.sim_world.specs.Holds.{AreShown, Holds, IsAgreedWorld, IsStep, ReachedAgree, Steps, kept_shown, message_shown}
+use Rattle.sim_world.specs.Holds.{AreShown, Holds, IsStep, Steps, kept_shown, message_shown}
 use Rattle.sim_world.specs.declared.kept.KeptMessage.{KeptMessage}
 use Rattle.sim_world.specs.inner.Parts.{Parts}
 
@@ -54,23 +54,20 @@ line_unnoted classes names line old new l taken before bad e steps b was = λ p 
 
 -- the drawing of a course that was gone through from the first line on
 pub run_drawn : (classes : Classes) (names lines : List (List ℕ)) (first new : Parts) (kept : List KeptMessage) (messages : List Message) (steps : List Step) (bad : Option ℕ) (text : List ℕ) (is_bad : Bool)
-    → ReachedAgree → Holds classes first (beginning classes) → Courses classes names lines first new [] (map noted_as steps) bad → AreShown classes new kept
+    → Holds classes first (beginning classes) → Courses classes names lines first new [] (map noted_as steps) bad → AreShown classes new kept
     → map drawn_as messages ≡ map drawn_of (map kept_shown kept) → text ≡ drawn messages steps ++ bad_of bad → is_bad ≡ is_some bad
-    → DrawsRun classes (course classes names lines) text is_bad
-run_drawn classes names lines first new kept messages steps bad text is_bad agree held courses shown sent t b =
+    → Draws (course classes names lines) text is_bad
+run_drawn classes names lines first new kept messages steps bad text is_bad held courses shown sent t b =
     let run = course classes names lines in
     let is = courses (beginning classes) held in
     let same : record { steps = map noted_as steps; played = is.played; bad = bad } ≡ run = is.same in
     record {
-      drawing = record {
-        messages = messages;
-        steps = steps;
-        sent = sent ∙ ap (map drawn_of) (shown is.played is.held) ∙ ap (λ (r : Course). map drawn_of (map message_shown r.played.world.sent)) same;
-        lines = ap (λ (r : Course). r.steps) same;
-        text_is = t ∙ ap (λ (r : Course). drawn messages steps ++ bad_of r.bad) same;
-        bad_is = b ∙ ap (λ (r : Course). is_some r.bad) same;
-      };
-      agreed = subst (λ (r : Course). IsAgreedWorld classes r.played.world) same (agree classes is.played.world is.held.reached);
+      messages = messages;
+      steps = steps;
+      sent = sent ∙ ap (map drawn_of) (shown is.played is.held) ∙ ap (λ (r : Course). map drawn_of (map message_shown r.played.world.sent)) same;
+      lines = ap (λ (r : Course). r.steps) same;
+      text_is = t ∙ ap (λ (r : Course). drawn messages steps ++ bad_of r.bad) same;
+      bad_is = b ∙ ap (λ (r : Course). is_some r.bad) same;
     }
 
 -- where a course stands: the steps so far, and what is left from here, are the whole

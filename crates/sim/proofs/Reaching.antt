@@ -1,16 +1,18 @@
 -- Lines that were done, and how the run of a file goes on from there.
-use Rattle.std.proofs.Common.{◌≡◌, ◌<◌, ◌≤◌, ℕ, zero, suc, List, [], ◌∷◌, ◌++◌, length, map, Bor, Bool, true, false, if◌then◌else◌, Option, Some, None, refl, sym, ap, subst, ◌∙◌, append_assoc, append-nil, take, drop, arith, get_or}
+use Rattle.std.proofs.Common.{◌≡◌, ◌<◌, ◌≤◌, ℕ, zero, suc, List, [], ◌∷◌, ◌++◌, length, map, Bor, Bool, true, false, if◌then◌else◌, Option, Some, None, refl, sym, ap, subst, ◌∙◌, append_assoc, append-nil, take, drop, min, ◌+◌, arith, get_or}
 use Rattle.std.specs.Io.KnownBytes.{Appends}
-use Rattle.std.specs.Prelude.{OnOk, IsOk, Result, Ok, Err, is_err}
+use Rattle.std.proofs.lemmas.List.{take-append-le, take_min}
+use Rattle.std.proofs.Math.Seq.{take-append-add}
+use Rattle.std.specs.Prelude.{OnErr, OnOk, IsErr, IsOk, Result, Ok, Err, is_err}
+use Rattle.class_tool.specs.Output.{Begins}
 use Rattle.pg_log.specs.Log.{Classes}
-use Rattle.group_world.specs.World.{World}
 use Rattle.sim_text.specs.Lines.{line_of}
 use Rattle.sim_text.specs.Texts.{is_bad, taken_text}
 use Rattle.sim_text.specs.declared.line.Line.{Line}
 use Rattle.sim_text.specs.declared.taken.Taken.{Taken}
-use Rattle.sim.specs.Run.{Printed, SaysOf, Takes, bad_line, before_rest, line_text, run_from, run_lines, Grew, Prints, Stops}
+use Rattle.sim.specs.Run.{Printed, SaysOf, Takes, bad_line, before_rest, line_text, run_from, run_lines, BreaksOff, Grew, Prints, Stops}
 use Rattle.sim_world.specs.Step.{Played, beginning, step}
-use Rattle.sim_world.specs.Holds.{Holds, IsAgreedWorld, IsStep, ReachedAgree, Says, Steps}
+use Rattle.sim_world.specs.Holds.{Holds, IsStep, Says, Steps}
 use Rattle.sim_world.specs.inner.Parts.{Parts}
 
 -- what came of a line is printed, by whether it is bad
@@ -84,6 +86,17 @@ appends_more (Some s) None c x y p q = absurd p
 appends_more (Some s) (Some t) None x y p q = absurd q
 appends_more (Some s) (Some t) (Some u) x y p q = q ∙ ap (λ z. z ++ y) p ∙ append_assoc s x y
 
+-- a text that was begun after another
+begun_more : (old mid new : Option (List ℕ)) (text said more : List ℕ) → Appends old mid text → Begins mid new said → Begins old new (text ++ (said ++ more))
+begun_more old mid new text said more first begun =
+    let count = min begun.count (length said) in
+    let front : take count (said ++ more) ≡ take begun.count said = take-append-le count said more (omega arith) ∙ take_min begun.count said in
+    record {
+      count = length text + count;
+      grew = subst (Appends old new) (ap (λ (t : List ℕ). text ++ t) (sym front) ∙ sym (take-append-add text (said ++ more) count))
+          (appends_more old mid new text (take begun.count said) first begun.grew);
+    }
+
 -- where a run stands: some lines were done, and what they print was printed
 pub record Going (classes : Classes) (names above : List (List ℕ)) (number : ℕ) (w : Parts) (old new : Option (List ℕ)) (failed fails : Bool) : Type 0 where
   pub played : Played
@@ -92,21 +105,42 @@ pub record Going (classes : Classes) (names above : List (List ℕ)) (number : �
   pub reached : Reached classes names above number played text
   pub shown : Grew old new failed fails text
 
--- what was printed is of the agreed world that was reached
-prints : (classes : Classes) (printed : Printed) (text : List ℕ) (bad : Bool) (p : Played) (old new : Option (List ℕ)) (failed fails : Bool)
-    → printed ≡ record { text = text; bad = bad; played = p } → Grew old new failed fails text → IsAgreedWorld classes p.world → Prints classes printed bad old new failed fails
-prints classes printed text bad p old new failed fails is shown agreed = record {
+-- what was printed is of the lines that were done
+prints : (printed : Printed) (text : List ℕ) (bad : Bool) (p : Played) (old new : Option (List ℕ)) (failed fails : Bool)
+    → printed ≡ record { text = text; bad = bad; played = p } → Grew old new failed fails text → Prints printed bad old new failed fails
+prints printed text bad p old new failed fails is shown = record {
   shown = record { grew = subst (λ (t : List ℕ). Appends old new t) (sym (ap (λ (r : Printed). r.text) is)) shown.grew; well = shown.well };
   is = ap (λ (r : Printed). r.bad) is;
-  agreed = subst (λ (w : World). IsAgreedWorld classes w) (sym (ap (λ (r : Printed). r.played.world) is)) agreed;
 }
 
+-- the next one was begun
+said_first : (said : List ℕ) (p : Played) (rest : Printed) (b : Bool)
+    → (more : List ℕ) × ((if b then record { text = said; bad = true; played = p } else before_rest said rest).text ≡ said ++ more)
+said_first said p rest true = ([], sym (append-nil said))
+said_first said p rest false = (rest.text, refl)
+
+going_broken : (classes : Classes) (names above : List (List ℕ)) (number : ℕ) (w : Parts) (old new : Option (List ℕ)) (failed fails : Bool)
+    (line : List ℕ) (rest : List (List ℕ)) (v : Parts) (text : List ℕ) (bad : Bool) (next : Option (List ℕ)) (fails_now : Bool)
+    → Going classes names above number w old new failed fails → Takes classes names line (suc number) w v text bad
+    → Begins new next text → fails_now ≡ true → BreaksOff (run_lines classes names (above ++ line ∷ rest)) old next fails_now
+going_broken classes names above number w old new failed fails line rest v text bad next fails_now going takes begun lost =
+    let is = takes going.played going.held in
+    let h = step going.played (line_of names line) in
+    let said = said_of names (suc number) going.played line in
+    let all = said_first said h.played (run_from names (suc number) h.played rest) (is_bad h.taken) in
+    let whole : (run_lines classes names (above ++ line ∷ rest)).text ≡ going.text ++ (said ++ all.0) =
+    ap (λ (r : Printed). r.text) (going.reached.goes_on (line ∷ rest)) ∙ ap (λ (t : List ℕ). going.text ++ t) all.1 in
+    record {
+      begun = subst (Begins old next) (sym whole) (begun_more old new next going.text said all.0 going.shown.grew (subst (λ (t : List ℕ). Begins new next t) is.says begun));
+      failed = lost;
+    }
+
 -- all of them were done
-going_all : ReachedAgree → (classes : Classes) (names above : List (List ℕ)) (number : ℕ) (w : Parts) (old new : Option (List ℕ)) (failed fails : Bool)
-    → Going classes names above number w old new failed fails → Prints classes (run_lines classes names above) false old new failed fails
-going_all agree classes names above number w old new failed fails going =
-    prints classes (run_lines classes names above) going.text false going.played old new failed fails
-    (reached_all classes names above number going.played going.text going.reached) going.shown (agree classes going.played.world going.held.reached)
+going_all : (classes : Classes) (names above : List (List ℕ)) (number : ℕ) (w : Parts) (old new : Option (List ℕ)) (failed fails : Bool)
+    → Going classes names above number w old new failed fails → Prints (run_lines classes names above) false old new failed fails
+going_all classes names above number w old new failed fails going =
+    prints (run_lines classes names above) going.text false going.played old new failed fails
+    (reached_all classes names above number going.played going.text going.reached) going.shown
 
 -- a line was done, and what it comes to was printed
 going_more : (classes : Classes) (names above : List (List ℕ)) (number : ℕ) (w : Parts) (old new : Option (List ℕ)) (failed fails : Bool)
@@ -128,21 +162,20 @@ going_more classes names above number w old new failed fails line v text bad nex
     }
 
 -- or it is bad, and that was printed
-going_bad : ReachedAgree → (classes : Classes) (names above : List (List ℕ)) (number : ℕ) (w : Parts) (old new : Option (List ℕ)) (failed fails : Bool)
+going_bad : (classes : Classes) (names above : List (List ℕ)) (number : ℕ) (w : Parts) (old new : Option (List ℕ)) (failed fails : Bool)
     (line : List ℕ) (rest : List (List ℕ)) (v : Parts) (text : List ℕ) (bad : Bool) (next : Option (List ℕ)) (fails_now : Bool)
     → Going classes names above number w old new failed fails → Takes classes names line (suc number) w v text bad → bad ≡ true
-    → Appends new next text → fails_now ≡ fails → Prints classes (run_lines classes names (above ++ line ∷ rest)) true old next failed fails_now
-going_bad agree classes names above number w old new failed fails line rest v text bad next fails_now going takes was more well =
+    → Appends new next text → fails_now ≡ fails → Prints (run_lines classes names (above ++ line ∷ rest)) true old next failed fails_now
+going_bad classes names above number w old new failed fails line rest v text bad next fails_now going takes was more well =
     let is = takes going.played going.held in
     let h = step going.played (line_of names line) in
     let said = said_of names (suc number) going.played line in
-    prints classes (run_lines classes names (above ++ line ∷ rest)) (going.text ++ said) true h.played old next failed fails_now
+    prints (run_lines classes names (above ++ line ∷ rest)) (going.text ++ said) true h.played old next failed fails_now
     (reached_bad classes names above number going.played going.text line rest going.reached (sym is.is ∙ was))
     (record {
       grew = appends_more old new next going.text said going.shown.grew (subst (λ (t : List ℕ). Appends new next t) is.says more);
       well = well ∙ going.shown.well;
     })
-    (agree classes h.played.world is.held.reached)
 
 -- the lines up to one, and all of them around it
 front_more : (ws : List (Bor (List ℕ))) (i : ℕ) (d : Bor (List ℕ)) → i < length ws → take (suc i) (map (λ (l : Bor (List ℕ)). l.now) ws) ≡ take i (map (λ l. l.now) ws) ++ (get_or ws i d).now ∷ []
@@ -176,21 +209,21 @@ starts classes names ws w old failed held = record {
 }
 
 -- memory was refused at a line
-pub stops : ReachedAgree → (classes : Classes) (names : List (List ℕ)) (ws : List (Bor (List ℕ))) (i number : ℕ) (w : Parts) (old new : Option (List ℕ)) (failed fails : Bool) → i ≤ length ws
+pub stops : (classes : Classes) (names : List (List ℕ)) (ws : List (Bor (List ℕ))) (i number : ℕ) (w : Parts) (old new : Option (List ℕ)) (failed fails : Bool) → i ≤ length ws
     → Going classes names (take i (map (λ (l : Bor (List ℕ)). l.now) ws)) number w old new failed fails → Stops classes names (map (λ l. l.now) ws) old new failed fails
-stops agree classes names ws i number w old new failed fails h going = record {
+stops classes names ws i number w old new failed fails h going = record {
   above = i;
   within = rw (length_lines ws) h;
-  printed = going_all agree classes names (take i (map (λ l. l.now) ws)) number w old new failed fails going;
+  printed = going_all classes names (take i (map (λ l. l.now) ws)) number w old new failed fails going;
 }
 
 -- or before the first
-pub stops_first : ReachedAgree → (classes : Classes) (names lines : List (List ℕ)) (old : Option (List ℕ)) (failed : Bool) → Stops classes names lines old old failed failed
-stops_first agree classes names lines old failed = record {
+pub stops_first : (classes : Classes) (names lines : List (List ℕ)) (old : Option (List ℕ)) (failed : Bool) → Stops classes names lines old old failed failed
+stops_first classes names lines old failed = record {
   above = 0;
   within = omega arith;
-  printed = prints classes (run_lines classes names []) [] false (beginning classes) old old failed failed refl
-      (record { grew = appends_none old; well = refl }) (agree classes (beginning classes).world (record { events = []; leads = refl }));
+  printed = prints (run_lines classes names []) [] false (beginning classes) old old failed failed refl
+      (record { grew = appends_none old; well = refl });
 }
 
 -- a line was done
@@ -207,23 +240,34 @@ next_line classes names ws i j d number m w v old new next failed fails fails_no
     (going_more classes names (take i (map (λ l. l.now) ws)) number w old new failed fails (get_or ws i d).now v text bad next fails_now going (subst P e is) good more well)))
 
 -- a line is bad
-pub bad_end : ReachedAgree → (classes : Classes) (names : List (List ℕ)) (ws : List (Bor (List ℕ))) (i : ℕ) (d : Bor (List ℕ)) (number m : ℕ) (w v : Parts) (old new next : Option (List ℕ)) (failed fails fails_now : Bool) (text : List ℕ) (bad : Bool)
+pub bad_end : (classes : Classes) (names : List (List ℕ)) (ws : List (Bor (List ℕ))) (i : ℕ) (d : Bor (List ℕ)) (number m : ℕ) (w v : Parts) (old new next : Option (List ℕ)) (failed fails fails_now : Bool) (text : List ℕ) (bad : Bool)
     → i < length ws → m ≡ suc number → Going classes names (take i (map (λ (l : Bor (List ℕ)). l.now) ws)) number w old new failed fails
     → Takes classes names (get_or ws i d).now m w v text bad → bad ≡ true → Appends new next text → fails_now ≡ fails
-    → Prints classes (run_lines classes names (map (λ (l : Bor (List ℕ)). l.now) ws)) true old next failed fails_now
-bad_end agree classes names ws i d number m w v old new next failed fails fails_now text bad h e going is was more well =
+    → Prints (run_lines classes names (map (λ (l : Bor (List ℕ)). l.now) ws)) true old next failed fails_now
+bad_end classes names ws i d number m w v old new next failed fails fails_now text bad h e going is was more well =
     let P : ℕ → Type 0 = λ n. Takes classes names (get_or ws i d).now n w v text bad in
-    let Q : List (List ℕ) → Type 0 = λ ls. Prints classes (run_lines classes names ls) true old next failed fails_now in
+    let Q : List (List ℕ) → Type 0 = λ ls. Prints (run_lines classes names ls) true old next failed fails_now in
     subst Q (split_at ws i d h)
-    (going_bad agree classes names (take i (map (λ l. l.now) ws)) number w old new failed fails (get_or ws i d).now (drop (suc i) (map (λ l. l.now) ws)) v text bad next fails_now going (subst P e is) was more well)
+    (going_bad classes names (take i (map (λ l. l.now) ws)) number w old new failed fails (get_or ws i d).now (drop (suc i) (map (λ l. l.now) ws)) v text bad next fails_now going (subst P e is) was more well)
+
+-- a line couldn't be printed whole
+pub broken_off : (classes : Classes) (names : List (List ℕ)) (ws : List (Bor (List ℕ))) (i : ℕ) (d : Bor (List ℕ)) (number m : ℕ) (w v : Parts) (old new next : Option (List ℕ)) (failed fails fails_now : Bool) (text : List ℕ) (bad : Bool)
+    → i < length ws → m ≡ suc number → Going classes names (take i (map (λ (l : Bor (List ℕ)). l.now) ws)) number w old new failed fails
+    → Takes classes names (get_or ws i d).now m w v text bad → Begins new next text → fails_now ≡ true
+    → BreaksOff (run_lines classes names (map (λ (l : Bor (List ℕ)). l.now) ws)) old next fails_now
+broken_off classes names ws i d number m w v old new next failed fails fails_now text bad h e going is begun lost =
+    let P : ℕ → Type 0 = λ n. Takes classes names (get_or ws i d).now n w v text bad in
+    let Q : List (List ℕ) → Type 0 = λ ls. BreaksOff (run_lines classes names ls) old next fails_now in
+    subst Q (split_at ws i d h)
+    (going_broken classes names (take i (map (λ l. l.now) ws)) number w old new failed fails (get_or ws i d).now (drop (suc i) (map (λ l. l.now) ws)) v text bad next fails_now going (subst P e is) begun lost)
 
 -- all lines were done
-pub all_done : ReachedAgree → (classes : Classes) (names : List (List ℕ)) (ws : List (Bor (List ℕ))) (i number : ℕ) (w : Parts) (old new : Option (List ℕ)) (failed fails : Bool) → i ≡ length ws
-    → Going classes names (take i (map (λ (l : Bor (List ℕ)). l.now) ws)) number w old new failed fails → Prints classes (run_lines classes names (map (λ l. l.now) ws)) false old new failed fails
-all_done agree classes names ws i number w old new failed fails e going =
-    let Q : List (List ℕ) → Type 0 = λ ls. Prints classes (run_lines classes names ls) false old new failed fails in
+pub all_done : (classes : Classes) (names : List (List ℕ)) (ws : List (Bor (List ℕ))) (i number : ℕ) (w : Parts) (old new : Option (List ℕ)) (failed fails : Bool) → i ≡ length ws
+    → Going classes names (take i (map (λ (l : Bor (List ℕ)). l.now) ws)) number w old new failed fails → Prints (run_lines classes names (map (λ l. l.now) ws)) false old new failed fails
+all_done classes names ws i number w old new failed fails e going =
+    let Q : List (List ℕ) → Type 0 = λ ls. Prints (run_lines classes names ls) false old new failed fails in
     subst Q (ap (λ k. take k (map (λ (l : Bor (List ℕ)). l.now) ws)) e ∙ all_lines ws)
-    (going_all agree classes names (take i (map (λ l. l.now) ws)) number w old new failed fails going)
+    (going_all classes names (take i (map (λ l. l.now) ws)) number w old new failed fails going)
 
 apart : {b : Bool} → b ≡ false → b ≡ true → ⊥
 apart p q = let bad : false ≡ true = sym p ∙ q in absurd cc
@@ -236,3 +280,12 @@ printed_if (Err x) b P e f p = absurd (apart f e)
 pub ok_if : {T E : Type 0} (r : Result T E) (b : Bool) → b ≡ is_err r → b ≡ false → IsOk r
 ok_if (Ok x) b e f = refl
 ok_if (Err x) b e f = absurd (apart f e)
+
+-- where one is, what it promises of that
+pub broken_if : {T E : Type 0} (r : Result T E) (b : Bool) (P : Type 0) → b ≡ is_err r → b ≡ true → OnErr r P → P
+broken_if (Ok x) b P e f p = absurd (apart e f)
+broken_if (Err x) b P e f p = p
+
+pub err_if : {T E : Type 0} (r : Result T E) (b : Bool) → b ≡ is_err r → b ≡ true → IsErr r
+err_if (Ok x) b e f = absurd (apart e f)
+err_if (Err x) b e f = refl

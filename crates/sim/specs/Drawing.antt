@@ -1,12 +1,13 @@
 -- The run of a file as it is drawn: what each line makes happen, and every message. What a line
 -- comes to is `step`, as where the lines are printed; how steps and messages look is sim_trace's
 -- `drawn`.
-use Rattle.std.specs.Prelude.{◌≡◌, ℕ, suc, min, Bool, List, [], ◌∷◌, ◌++◌, map, Option, Some, None, is_some, if◌then◌else◌, codes, string_bytes}
+use Rattle.std.specs.Prelude.{◌≡◌, ℕ, suc, min, Bool, true, List, [], ◌∷◌, ◌++◌, map, Option, Some, None, is_some, if◌then◌else◌, codes, string_bytes}
 use Rattle.std.specs.Fmt.{decimal}
+use Rattle.class_tool.specs.Output.{Begins}
 use Rattle.pg_log.specs.Log.{Classes}
 use Rattle.group_world.specs.declared.party.Party.{Party}
 use Rattle.group_world.specs.declared.party.Party.TheVariants.{Node as ANode, Monitor as TheMonitor, Client as AClient}
-use Rattle.sim.specs.Run.{bad_line, Grew}
+use Rattle.sim.specs.Run.{bad_line, run_lines, Grew}
 use Rattle.sim_text.specs.Lines.{line_of}
 use Rattle.sim_text.specs.Texts.{is_bad, said_text}
 use Rattle.sim_text.specs.declared.line.Line.{Line}
@@ -21,7 +22,7 @@ use Rattle.sim_trace.specs.declared.step.What.{What}
 use Rattle.sim_trace.specs.declared.step.What.TheVariants.{At, Asked, Arrived, Bounced}
 use Rattle.sim_trace.specs.declared.step.Step.{Step}
 use Rattle.sim_world.specs.Step.{Played, Happened, beginning, step}
-use Rattle.sim_world.specs.Holds.{Holds, IsAgreedWorld, MessageShown, message_shown}
+use Rattle.sim_world.specs.Holds.{Holds, MessageShown, message_shown}
 use Rattle.sim_world.specs.inner.Parts.{Parts}
 
 -- WHO HAS A COLUMN: each party; a node's number past 255, which no node has, counts as that.
@@ -161,16 +162,23 @@ pub record Draws (run : Course) (text : List ℕ) (bad : Bool) : Type 0 where
   pub text_is : text ≡ drawn messages steps ++ bad_of run.bad
   pub bad_is : bad ≡ is_some run.bad
 
--- and the group's world after its lines is an agreed one
-pub record DrawsRun (classes : Classes) (run : Course) (text : List ℕ) (bad : Bool) : Type 0 where
-  pub drawing : Draws run text bad
-  pub agreed : IsAgreedWorld classes run.played.world
-
 -- It was printed, with a bad line or none, and no write or flush failed.
-pub record Shows (classes : Classes) (run : Course) (bad : Bool) (old new : Option (List ℕ)) (failed fails : Bool) : Type 0 where
+pub record Shows (run : Course) (bad : Bool) (old new : Option (List ℕ)) (failed fails : Bool) : Type 0 where
   pub text : List ℕ
-  pub drawing : DrawsRun classes run text bad
+  pub drawing : Draws run text bad
   pub shown : Grew old new failed fails text
+
+-- A write or a flush failed: what was printed is a beginning of the drawing.
+pub record BreaksDrawing (run : Course) (old new : Option (List ℕ)) (fails : Bool) : Type 0 where
+  pub text : List ℕ
+  pub bad : Bool
+  pub drawing : Draws run text bad
+  pub begun : Begins old new text
+  pub failed : fails ≡ true
+
+-- Drawn lines lead to the same played world as printed ones.
+abbrev pub DrawnIsPlayed : Classes → List (List ℕ) → List (List ℕ) → Type 0
+DrawnIsPlayed classes names lines = (course classes names lines).played ≡ (run_lines classes names lines).played
 
 -- THE CODE'S OWN: a line was done, and the steps grew by its own
 pub record IsNoted (classes : Classes) (names : List (List ℕ)) (line : List ℕ) (h : Happened) (new : Parts) (before after : List Noted) (bad : Bool) : Type 0 where

@@ -3,15 +3,24 @@
 use Rattle.std.specs.Prelude.{◌≡◌, ℕ, suc, ◌≤◌, List, [], ◌∷◌, ◌++◌, length, take, Bool, true, false, Option, if◌then◌else◌, codes}
 use Rattle.std.specs.Fmt.{decimal}
 use Rattle.std.specs.Io.KnownBytes.{Appends}
+use Rattle.std.specs.List.{AllByRecursion, Contains}
+use Rattle.pg_log.specs.Requests.{ClientRequest}
 use Rattle.pg_log.specs.Log.{Classes}
+use Rattle.group_world.specs.World.{IsUncut, brought}
 use Rattle.group_world.specs.declared.message.Packet.{Packet}
 use Rattle.sim.specs.declared.file.Ending.{Ending}
 use Rattle.sim.specs.declared.file.Ending.TheVariants.{Done, Bad, NoMemory, Unprinted}
+use Rattle.class_tool.specs.Output.{Begins}
+use Rattle.verifier.specs.Verified.{IsVerifiedClass}
+use Rattle.sim.specs.Replies.{ReplyHasRun}
 use Rattle.sim_text.specs.Lines.{line_of}
 use Rattle.sim_text.specs.Texts.{is_bad, taken_text}
+use Rattle.sim_text.specs.declared.line.Line.{Line}
+use Rattle.sim_text.specs.declared.line.Line.TheVariants.{Ask}
 use Rattle.sim_text.specs.declared.taken.Taken.{Taken}
 use Rattle.sim_world.specs.Step.{Played, Happened, beginning, step}
-use Rattle.sim_world.specs.Holds.{Holds, IsAgreedWorld}
+use Rattle.sim_world.specs.Agreed.{EventsGrew, IsAgreedPlayed}
+use Rattle.sim_world.specs.Holds.{Holds}
 use Rattle.sim_world.specs.inner.Parts.{Parts}
 
 -- a line that can't be done, by its number from 1
@@ -45,30 +54,58 @@ run_from names number p (line ∷ lines) = go_on (suc number) (λ q. run_from na
 abbrev pub run_lines : Classes → List (List ℕ) → List (List ℕ) → Printed
 run_lines classes names lines = run_from names 0 (beginning classes) lines
 
+-- THE WORLDS ON THE WAY: the played world after the first lines, as many as that number.
+abbrev pub played_after : Classes → List (List ℕ) → List (List ℕ) → ℕ → Played
+played_after classes names lines above = (run_lines classes names (take above lines)).played
+
+-- the requests of the `req` lines
+abbrev pub asked_in : Line → List ClientRequest
+asked_in (Ask n r) = r ∷ []
+asked_in _ = []
+
+abbrev pub asked : List (List ℕ) → List (List ℕ) → List ClientRequest
+asked names [] = []
+asked names (line ∷ lines) = asked_in (line_of names line) ++ asked names lines
+
+-- EACH WORLD ON THE WAY IS AGREED, by the events that happened up to it. A line's own events come
+-- after those before; the requests that they brought are of the `req` lines above; no committed
+-- list is cut between two lines; and where the classes are verified, each reply that was sent is
+-- its method's run in every layout.
+pub record IsAgreedRun (classes : Classes) (names lines : List (List ℕ)) : Type 0 where
+  pub agreed : (above : ℕ) → IsAgreedPlayed classes (played_after classes names lines above)
+  pub brought : (above : ℕ) (r : ClientRequest) → Contains (brought (played_after classes names lines above).events) r → Contains (asked names (take above lines)) r
+  pub events : (above : ℕ) → EventsGrew (played_after classes names lines above).events (played_after classes names lines (suc above)).events
+  pub uncut : (above : ℕ) → IsUncut (played_after classes names lines above).world (played_after classes names lines (suc above)).world
+  pub replies : AllByRecursion IsVerifiedClass classes → (above : ℕ) (q : Packet) → Contains (played_after classes names lines above).world.sent q
+      → ReplyHasRun classes (agreed above).agreed.list q.message.kind
+
 -- what is known of what was printed grew by that text, and no write or flush failed
 pub record Grew (old new : Option (List ℕ)) (failed fails : Bool) (text : List ℕ) : Type 0 where
   pub grew : Appends old new text
   pub well : fails ≡ failed
 
--- All lines were printed that the lines of the file come to, and none is bad, or one is; and the
--- group's world after them is an agreed one.
-pub record Prints (classes : Classes) (printed : Printed) (bad : Bool) (old new : Option (List ℕ)) (failed fails : Bool) : Type 0 where
+-- All lines were printed that the lines of the file come to, and none is bad, or one is.
+pub record Prints (printed : Printed) (bad : Bool) (old new : Option (List ℕ)) (failed fails : Bool) : Type 0 where
   pub shown : Grew old new failed fails printed.text
   pub is : printed.bad ≡ bad
-  pub agreed : IsAgreedWorld classes printed.played.world
 
 -- Memory was refused at a line: those above it were done and printed, and none of them is bad.
 pub record Stops (classes : Classes) (names lines : List (List ℕ)) (old new : Option (List ℕ)) (failed fails : Bool) : Type 0 where
   pub above : ℕ
   pub within : above ≤ length lines
-  pub printed : Prints classes (run_lines classes names (take above lines)) false old new failed fails
+  pub printed : Prints (run_lines classes names (take above lines)) false old new failed fails
+
+-- A write or a flush failed: what was printed is a beginning of what all lines come to.
+pub record BreaksOff (printed : Printed) (old new : Option (List ℕ)) (fails : Bool) : Type 0 where
+  pub begun : Begins old new printed.text
+  pub failed : fails ≡ true
 
 -- How a run ended.
 abbrev pub EndsBy : Classes → List (List ℕ) → List (List ℕ) → Option (List ℕ) → Option (List ℕ) → Bool → Bool → Ending → Type 0
-EndsBy classes names lines old new failed fails Done = Prints classes (run_lines classes names lines) false old new failed fails
-EndsBy classes names lines old new failed fails Bad = Prints classes (run_lines classes names lines) true old new failed fails
+EndsBy classes names lines old new failed fails Done = Prints (run_lines classes names lines) false old new failed fails
+EndsBy classes names lines old new failed fails Bad = Prints (run_lines classes names lines) true old new failed fails
 EndsBy classes names lines old new failed fails NoMemory = Stops classes names lines old new failed fails
-EndsBy classes names lines old new failed fails Unprinted = fails ≡ true
+EndsBy classes names lines old new failed fails Unprinted = BreaksOff (run_lines classes names lines) old new fails
 
 -- a line was done: what is held after it, what is printed of it, and whether it is bad
 pub record IsLine (classes : Classes) (h : Happened) (number : ℕ) (new : Parts) (text : List ℕ) (bad : Bool) : Type 0 where

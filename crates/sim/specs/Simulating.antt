@@ -1,39 +1,53 @@
 -- What a simulation prints, and why it was not begun.
 use Rattle.std.specs.Prelude.{◌≡◌, ◌⊎◌, ℕ, List, Option, Bool, true, false}
+use Rattle.std.specs.List.{AllByRecursion}
 use Rattle.class_tool.specs.Assembly.{TextFails}
 use Rattle.class_tool.specs.Files.{Disk, Holds}
 use Rattle.class_tool.specs.declared.failure.Failure.{Failure}
 use Rattle.pg_log.specs.Log.{Classes}
 use Rattle.sim_text.specs.Lines.{lines_of}
-use Rattle.sim.specs.Drawing.{Course, Shows, course}
-use Rattle.sim.specs.Run.{EndsBy}
+use Rattle.sim.specs.Drawing.{BreaksDrawing, Course, DrawnIsPlayed, Shows, course}
+use Rattle.sim.specs.Run.{EndsBy, IsAgreedRun}
 pub use Rattle.sim.specs.declared.file.Ending.{Ending}
 pub use Rattle.sim.specs.declared.file.Ending.TheVariants.{Done, Bad, NoMemory, Unprinted}
+use Rattle.verifier.specs.Verified.{IsVerifiedClass}
 use Rattle.tenant_classes.specs.Classes.{AreClasses, ClassesFail, names_of}
 use Rattle.sim.specs.declared.asked.Simulation.{Simulation}
 
 -- Of a drawing: it was printed whole, with no bad line or one, or nothing was for want of memory,
--- or a write or a flush failed.
-abbrev pub IsDrawn : Classes → Course → Option (List ℕ) → Option (List ℕ) → Bool → Bool → Ending → Type 0
-IsDrawn classes run old new failed fails Done = Shows classes run false old new failed fails
-IsDrawn classes run old new failed fails Bad = Shows classes run true old new failed fails
-IsDrawn classes run old new failed fails NoMemory = (new ≡ old) × (fails ≡ failed)
-IsDrawn classes run old new failed fails Unprinted = fails ≡ true
+-- or a write or a flush failed and a beginning of it was.
+abbrev pub IsDrawn : Course → Option (List ℕ) → Option (List ℕ) → Bool → Bool → Ending → Type 0
+IsDrawn run old new failed fails Done = Shows run false old new failed fails
+IsDrawn run old new failed fails Bad = Shows run true old new failed fails
+IsDrawn run old new failed fails NoMemory = (new ≡ old) × (fails ≡ failed)
+IsDrawn run old new failed fails Unprinted = BreaksDrawing run old new fails
 
 -- A text was played: its lines were done and printed as they are defined to be, or their run was
 -- drawn.
 abbrev pub Plays : Bool → Classes → List (List ℕ) → List ℕ → Option (List ℕ) → Option (List ℕ) → Bool → Bool → Ending → Type 0
-Plays true classes names text old new failed fails ending = IsDrawn classes (course classes names (lines_of text)) old new failed fails ending
+Plays true classes names text old new failed fails ending = IsDrawn (course classes names (lines_of text)) old new failed fails ending
 Plays false classes names text old new failed fails ending = EndsBy classes names (lines_of text) old new failed fails ending
 
+-- WHAT IS KNOWN OF THE WORLDS of lines: each on the way is an agreed one, and drawn lines lead to
+-- the same as printed ones.
+pub record AreWorldsKnown (classes : Classes) (names lines : List (List ℕ)) : Type 0 where
+  pub agreed : IsAgreedRun classes names lines
+  pub drawn : DrawnIsPlayed classes names lines
+
+-- so it is of all lines
+abbrev pub AllWorldsKnown : Type 0
+AllWorldsKnown = (classes : Classes) (names lines : List (List ℕ)) → AreWorldsKnown classes names lines
+
 -- WHAT A SIMULATION IS: with the built-in classes and those of the tenants' files, the text that
--- the file of events holds was played.
+-- the file of events holds was played, in agreed worlds.
 pub record Simulates (disk : Option Disk) (s : Simulation) (old new : Option (List ℕ)) (failed fails : Bool) (ending : Ending) : Type 0 where
   pub classes : Classes
   pub loaded : AreClasses disk s.tenants.items classes
+  pub verified : AllByRecursion IsVerifiedClass classes
   pub text : List ℕ
   pub held : Holds disk s.file.now text
   pub played : Plays s.is_drawn classes (names_of s.tenants.items) text old new failed fails ending
+  pub worlds : AreWorldsKnown classes (names_of s.tenants.items) (lines_of text)
 
 -- the classes were had, and the file of events can't be read or is no text; or memory was refused
 pub record FileFails (disk : Option Disk) (s : Simulation) (failure : Failure) : Type 0 where

@@ -1,7 +1,7 @@
 //! The same run as a message sequence.
 ghost use Rattle.std.specs.Prelude.{◌≡◌, ◌++◌, IfOk, OnOk, is_some, map, string_bytes};
 ghost use Rattle.sim.specs.Run.{bad_line};
-ghost use Rattle.sim.specs.Drawing.{Courses, DrawsRun, Notes, bad_of, course, drawn_as, drawn_of, noted_as};
+ghost use Rattle.sim.specs.Drawing.{Courses, Draws, Notes, bad_of, course, drawn_as, drawn_of, noted_as};
 ghost use Rattle.sim_text.specs.Lines.{lines_of};
 ghost use Rattle.sim_trace.specs.Drawing.{drawn};
 ghost use Rattle.sim_world.specs.Holds.{Holds, kept_shown};
@@ -12,7 +12,7 @@ use crate::note::{column, meant, note};
 use pg_log::{ClassTable, Classes};
 use sim_text::{carried_text, lines, read_line, sender_of};
 use sim_trace::{Message, Step, draw};
-use sim_world::{KeptMessage, World, reached_worlds_agree};
+use sim_world::{KeptMessage, World};
 use std::alloc::{AllocError, Global};
 use std::marker::Brand;
 
@@ -129,9 +129,8 @@ fn trace_from<C: Classes>(
 ) -> Result<Traced, AllocError>
     requires classes { table.now ≡ C.classes }
     requires first { Holds C.classes world.old (beginning C.classes) }
-    ensures { IfOk result (λ t. DrawsRun C.classes (course C.classes (map (λ n. n.now) names.now) (map (λ l. l.now) lines.now)) (string_bytes t.text) t.bad) }
+    ensures { IfOk result (λ t. Draws (course C.classes (map (λ n. n.now) names.now) (map (λ l. l.now) lines.now)) (string_bytes t.text) t.bad) }
 {
-    reached_worlds_agree();
     let mut steps = Vec::new(alloc);
     let bad = take_lines(alloc, table, names, lines, world, &mut steps)?;
     let messages = messages(alloc, world.sent())?;
@@ -146,7 +145,7 @@ fn trace_lines<C: Classes>(
     lines: &[&str],
 ) -> Result<Traced, AllocError>
     requires { table.now ≡ C.classes }
-    ensures { IfOk result (λ t. DrawsRun table.now (course table.now (map (λ n. n.now) names.now) (map (λ l. l.now) lines.now)) (string_bytes t.text) t.bad) }
+    ensures { IfOk result (λ t. Draws (course table.now (map (λ n. n.now) names.now) (map (λ l. l.now) lines.now)) (string_bytes t.text) t.bad) }
 {
     let mut world = World::<C>::new(alloc)?;
     trace_from(alloc, table, names, lines, &mut world)
@@ -160,7 +159,7 @@ pub(crate) fn trace(
     names: &[&str],
     text: &str,
 ) -> Result<Traced, AllocError>
-    ensures { IfOk result (λ t. DrawsRun table.now (course table.now (map (λ n. n.now) names.now) (lines_of text.now)) (string_bytes t.text) t.bad) }
+    ensures { IfOk result (λ t. Draws (course table.now (map (λ n. n.now) names.now) (lines_of text.now)) (string_bytes t.text) t.bad) }
 {
     let lines = lines(alloc, text)?;
     // The call picks the classes: they are the table's.

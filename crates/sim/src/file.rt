@@ -8,7 +8,7 @@ use crate::bad_line::bad_line;
 use class_tool::Output;
 use pg_log::{ClassTable, Classes};
 use sim_text::{Taken, lines, read_line};
-use sim_world::{World, reached_worlds_agree};
+use sim_world::World;
 use std::alloc::{AllocError, Global};
 use std::marker::Brand;
 
@@ -21,7 +21,7 @@ pub enum Ending {
     Bad,
     /// Memory was refused at a line; those above it were done.
     NoMemory,
-    /// A write or a flush failed.
+    /// A write or a flush failed; a beginning of what was to be printed was.
     Unprinted,
 }
 
@@ -81,7 +81,6 @@ fn run_from<C: Classes, O: Output>(
     requires first { Holds C.classes world.old (beginning C.classes) }
     ensures { EndsBy table.now (map (λ n. n.now) names.now) (map (λ l. l.now) lines.now) (O.printed out.old) (O.printed out.new) (O.failed out.old) (O.failed out.new) result }
 {
-    reached_worlds_agree();
     let mut number = 0;
     for line in lines {
         number += 1;
@@ -112,7 +111,6 @@ fn run_lines<C: Classes, O: Output>(
     requires { table.now ≡ C.classes }
     ensures { EndsBy table.now (map (λ n. n.now) names.now) (map (λ l. l.now) lines.now) (O.printed out.old) (O.printed out.new) (O.failed out.old) (O.failed out.new) result }
 {
-    reached_worlds_agree();
     match World::<C>::new(alloc) {
         Ok(mut world) => run_from(alloc, table, names, lines, &mut world, out),
         Err(_) => Ending::NoMemory,
@@ -134,7 +132,6 @@ pub(crate) fn run<O: Output>(
 ) -> Ending
     ensures { EndsBy table.now (map (λ n. n.now) names.now) (lines_of text.now) (O.printed out.old) (O.printed out.new) (O.failed out.old) (O.failed out.new) result }
 {
-    reached_worlds_agree();
     match lines(alloc, text) {
         // The call picks the classes: they are the table's.
         Ok(lines) => run_lines::<Brand, O>(alloc, table, names, &lines, out),

@@ -1,18 +1,22 @@
 //! What the command `radoscls sim` does once its words are read: `simulate` loads the built-in
 //! classes and the tenants', reads a file of events, and plays it: it prints what each line comes
 //! to, or draws the whole. What is printed of a file is `specs/Run.antt`, its drawing
-//! `specs/Drawing.antt`, both of the group's world, and that world is an agreed one. A failure says
-//! why nothing was done, the first reason in a stated order.
+//! `specs/Drawing.antt`, both of the group's worlds after its lines; each of them is an agreed one
+//! by the events that happened up to it, and no line cuts a committed list (`worlds_are_known`). A
+//! failure says why nothing was done, the first reason in a stated order.
 #![tactic(auto)]
 
 mod asked;
 mod bad_line;
 mod drawing;
 mod file;
+mod laws;
 mod note;
 mod play;
 mod tool;
+mod verified;
 
 pub use asked::Simulation;
 pub use file::Ending;
+pub use laws::worlds_are_known;
 pub use tool::simulate;

@@ -17,7 +17,7 @@ fn draw<O: Output>(
     text: &str,
     out: &mut O,
 ) -> Ending
-    ensures { IsDrawn table.now (course table.now (map (λ n. n.now) names.now) (lines_of text.now)) (O.printed out.old) (O.printed out.new) (O.failed out.old) (O.failed out.new) result }
+    ensures { IsDrawn (course table.now (map (λ n. n.now) names.now) (lines_of text.now)) (O.printed out.old) (O.printed out.new) (O.failed out.old) (O.failed out.new) result }
 {
     let Ok(traced) = trace(alloc, table, names, text) else {
         return Ending::NoMemory;

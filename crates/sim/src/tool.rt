@@ -3,7 +3,9 @@ ghost use Rattle.sim.specs.Simulating.{Simulates, SimulationFails};
 
 use crate::asked::Simulation;
 use crate::file::Ending;
+use crate::laws::worlds_are_known;
 use crate::play::play;
+use crate::verified::are_verified;
 use class_tool::{Failure, Output, Reads, read_text};
 use std::alloc::Global;
 use tenant_classes::{class_names, classes};
@@ -25,7 +27,9 @@ pub fn simulate<F: Reads, O: Output>(
     ensures fails { IfErr result (SimulationFails (F.disk files.now) simulation.now) }
     ensures silent { OnErr result (out.new ≡ out.old) }
 {
+    worlds_are_known();
     let table = classes(alloc, files, &simulation.tenants)?;
+    are_verified(&table);
     let names = class_names(alloc, &simulation.tenants)?;
     let text = read_text(alloc, files, simulation.file)?;
     Ok(play(alloc, &table, &names, &text, simulation.is_drawn, out))

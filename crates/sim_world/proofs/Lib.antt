@@ -1,5 +1,6 @@
 mod Bucketing
 pub mod Equal
+pub mod Going
 pub mod Grown
 pub mod Messages
 pub mod Reaching

@@ -16,18 +16,17 @@ use Rattle.group_world.specs.declared.message.Message.{Message}
 use Rattle.group_world.specs.declared.message.Packet.{Packet}
 use Rattle.group_world.specs.declared.event.Event.{Event}
 use Rattle.group_world.specs.declared.event.Event.TheVariants.{Request as ARequest, Map as AMap, Message as AMessage}
-use Rattle.sim_world.specs.Holds.{IsReached, IsAgreedWorld}
+use Rattle.sim_world.specs.Step.{Played}
+use Rattle.sim_world.specs.Agreed.{EventsLead, IsAgreedPlayed}
 
 run_more : (events : List WorldEvent) (event : WorldEvent) (w : World) → run (events ++ event ∷ []) w ≡ happens (run events w) event
 run_more [] event w = refl
 run_more (e ∷ es) event w = run_more es event (happens w e)
 
 -- one event more
-pub reached_more : (classes : Classes) (w : World) (event : WorldEvent) → IsReached classes w → IsReached classes (happens w event)
-reached_more classes w event r = record {
-  events = r.events ++ event ∷ [];
-  leads = ap (λ (v : World). happens v event) r.leads ∙ sym (run_more r.events event (opening classes));
-}
+pub leads_more : (classes : Classes) (p : Played) (event : WorldEvent) (v : World) → EventsLead classes p → happens p.world event ≡ v → v ≡ run (p.events ++ event ∷ []) (opening classes)
+leads_more classes p event v leads is =
+    sym is ∙ ap (λ (w : World). happens w event) leads ∙ sym (run_more p.events event (opening classes))
 
 -- one of two, as a test says
 pub either : {A : Type 0} (P : A → Type 0) (b : Bool) (s t : A) → P s → P t → P (if b then s else t)
@@ -86,17 +85,18 @@ sound_run : (classes : Classes) → StepsCutNothing → (events : List WorldEven
 sound_run classes cut [] w h = h
 sound_run classes cut (event ∷ events) w h = sound_run classes cut events (happens w event) (sound_after classes cut event w h)
 
-pub sound : (classes : Classes) → StepsCutNothing → (w : World) → IsReached classes w → Sound classes w
-sound classes cut w r =
-    subst (Sound classes) (sym r.leads) (sound_run classes cut r.events (opening classes) (record { named = refl; within = λ n. omega arith }))
+pub sound : (classes : Classes) → StepsCutNothing → (p : Played) → EventsLead classes p → Sound classes p.world
+sound classes cut p leads =
+    subst (Sound classes) (sym leads) (sound_run classes cut p.events (opening classes) (record { named = refl; within = λ n. omega arith }))
 
 -- and it is an agreed one
-pub agreed_world : AllAgree → (classes : Classes) (w : World) → IsReached classes w → IsAgreedWorld classes w
-agreed_world all classes w r = record {
-  reached = r;
-  agreed = subst (λ (v : World). IsAgreed r.events v) (sym r.leads) (all classes r.events);
+pub agreed_played : AllAgree → StepsCutNothing → (classes : Classes) (p : Played) → EventsLead classes p → IsAgreedPlayed classes p
+agreed_played all cut classes p leads = record {
+  leads = leads;
+  named = (sound classes cut p leads).named;
+  agreed = subst (λ (v : World). IsAgreed p.events v) (sym leads) (all classes p.events);
 }
 
 -- what a node would take keeps what it has committed
-pub keeps : AllAgree → (classes : Classes) (w : World) → IsReached classes w → (n : ℕ) (p : Packet) → Contains w.sent p → KeepsCommitted (w.nodes n) p.message.kind
-keeps all classes w r n p there = (agreed_world all classes w r).agreed.kept n p there
+pub keeps : AllAgree → (classes : Classes) (p : Played) → EventsLead classes p → (n : ℕ) (q : Packet) → Contains p.world.sent q → KeepsCommitted (p.world.nodes n) q.message.kind
+keeps all classes p leads n q there = (subst (λ (v : World). IsAgreed p.events v) (sym leads) (all classes p.events)).kept n q there

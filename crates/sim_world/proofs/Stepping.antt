@@ -14,7 +14,7 @@ use Rattle.group_world.specs.Node.{NodeState, Outcome, committed_list, nothing, 
 use Rattle.group_world.specs.Monitor.{MonitorState, map_refusal, next_map, activation_refusal, with_activated, with_map}
 use Rattle.group_world.specs.Rules.{local_step, adopt, is_usable}
 use Rattle.group_world.specs.Unanswered.{unanswered}
-use Rattle.group_world.specs.World.{World, WorldEvent, RequestAt, MapMade, MapSeen, Delivered, happens, at_node, activate_for, activated_for, deliver, deliver_to, show_map, with_node, StepsCutNothing, AllAgree, KeepsCommitted}
+use Rattle.group_world.specs.World.{World, WorldEvent, RequestAt, MapMade, MapSeen, Delivered, happens, at_node, activate_for, activated_for, deliver, deliver_to, show_map, with_node, StepsCutNothing, NoneIsCut, AllAgree, KeepsCommitted}
 use Rattle.group_world.specs.declared.status.Status.{Status}
 use Rattle.group_world.specs.declared.status.Status.TheVariants.{Out, Waiting, Installed, Asking, Installing, Active}
 use Rattle.group_world.specs.declared.monitor_error.MonitorError.{MonitorError}
@@ -34,18 +34,20 @@ use Rattle.sim_text.specs.declared.line.Line.{Line}
 use Rattle.sim_text.specs.declared.line.Line.TheVariants as lines
 use Rattle.sim_text.specs.declared.taken.Taken.{Taken}
 use Rattle.sim_text.specs.declared.taken.Taken.TheVariants.{Bad, Skipped, Stopped, Sent, Refused, MonitorRefused, Made, Shown, Again}
-use Rattle.sim_world.specs.Holds.{HasCommitted, Holds, IsKept, IsReached, IsStep}
+use Rattle.sim_world.specs.Holds.{HasCommitted, Holds, IsKept, IsStep}
 use Rattle.sim_world.specs.Step.{Played, Happened, beginning, stays, happened, unless_stopped, unless_refused, outcome_at, makes, activates, see, set_stopped, show, resend, step}
 use Rattle.sim_world.specs.Step as steps
 use Rattle.sim_world.specs.declared.kept.KeptMessage.{KeptMessage}
 use Rattle.sim_world.specs.inner.Parts.{Parts, Turn, rests, committed_at, committed_of, nth_node, after_outcome, with_outcome, local_outcome, handled, unless_held, arrived, arrives, map_made, activated, delivery_to, at_monitor, delivered, delivered_at, seen, with_stopped, stop_set, shown, sent_again, resent, turn, fresh_nodes, first_parts}
 use Rattle.sim_world.specs.inner.Buckets.{kept_number}
-use Rattle.sim_world.proofs.Reaching.{Sound, sound, reached_more, keeps}
+use Rattle.sim_world.proofs.Going.{goes_on}
+use Rattle.sim_world.proofs.Reaching.{Sound, sound, leads_more, keeps}
 use Rattle.sim_world.proofs.Messages.{Both, both_numbered, numbered_at, contains_at, more_kept, still_kept, numbers_among}
 
 -- the laws of the crates below
 pub record Laws : Type 0 where
   pub agreed : AllAgree
+  pub kept : NoneIsCut
   pub uncut : StepsCutNothing
   pub packed : CommittedIsEnough
 
@@ -153,10 +155,10 @@ node_after w next n s low number m false e is =
 
 holds_after : Laws → (classes : Classes) (w : Parts) (p : Played) → Holds classes w p → (n : ℕ) → n < 16 → (event : WorldEvent) (coming : Event)
     → happens p.world event ≡ at_node p.world n coming
-    → Holds classes (after_outcome w n (outcome_at p.world n coming)) (record { world = happens p.world event; stopped = p.stopped })
+    → Holds classes (after_outcome w n (outcome_at p.world n coming)) (record { world = happens p.world event; stopped = p.stopped; events = p.events ++ event ∷ [] })
 holds_after laws classes w p held n low event coming is =
     let o = outcome_at p.world n coming in
-    let ok = sound classes laws.uncut p.world held.reached in
+    let ok = sound classes laws.uncut p held.reached in
     let list = set w.nodes n (record { number = (nth_node w.nodes n).number; state = o.node }) in
     let next = with_node p.world.nodes n o.node in
     let inside : n < length w.nodes = subst (λ (l : ℕ). n < l) (sym held.count) low in
@@ -164,10 +166,9 @@ holds_after laws classes w p held n low event coming is =
     let count : length list ≡ 16 = length-set w.nodes n (record { number = (nth_node w.nodes n).number; state = o.node }) ∙ held.count in
     let nodes : (m : ℕ) → m < 16 → nth_node list m ≡ record { number = m; state = next m } =
     λ m h. node_after w p.world.nodes n o.node inside number m (m == n) refl (held.nodes m h) in
-    let reached : IsReached classes (at_node p.world n coming) = subst (IsReached classes) is (reached_more classes p.world event held.reached) in
-    subst (λ (v : World). Holds classes (after_outcome w n o) (record { world = v; stopped = p.stopped })) (sym is)
+    subst (λ (v : World). Holds classes (after_outcome w n o) (record { world = v; stopped = p.stopped; events = p.events ++ event ∷ [] })) (sym is)
     (record {
-      reached = reached;
+      reached = leads_more classes p event (at_node p.world n coming) held.reached is;
       maps = held.maps;
       monitor = held.monitor;
       count = count;
@@ -190,7 +191,7 @@ fits_handled : Laws → (classes : Classes) (w : Parts) (p : Played) → Holds c
     → happens p.world event ≡ at_node p.world n coming → local_step classes n (p.world.nodes n) taken ≡ local_step classes n (p.world.nodes n) coming
     → Fits classes (handled classes w n taken) (unless_refused p event (outcome_at p.world n coming) (outcome_at p.world n coming).refusal)
 fits_handled laws classes w p held n low event taken coming is same =
-    let ok = sound classes laws.uncut p.world held.reached in
+    let ok = sound classes laws.uncut p held.reached in
     let o = outcome_at p.world n coming in
     let all : local_outcome classes w n taken ≡ o =
     ap (λ (x : NumberedNode). local_step classes x.number x.state taken) (held.nodes n low) ∙ same
@@ -262,7 +263,7 @@ fits_arrived : Laws → (classes : Classes) (w : Parts) (p : Played) → Holds c
     (unless_refused p event (outcome_at p.world n (AMessage m)) (outcome_at p.world n (AMessage m)).refusal)
 fits_arrived laws classes w p held n low event m committed reported enough keeps is =
     let s = p.world.nodes n in
-    let ok = sound classes laws.uncut p.world held.reached in
+    let ok = sound classes laws.uncut p held.reached in
     let all = arrives_whole laws classes n s m.sender m.kind committed reported (ok.within n) enough keeps in
     let h = unless_refused p event (outcome_at p.world n (AMessage m)) (outcome_at p.world n (AMessage m)).refusal in
     subst (λ (x : NumberedNode). Fits classes (arrived classes w n (unpacked_as x.state.log (carried_as committed reported m.sender m.kind))) h) (sym (held.nodes n low))
@@ -278,8 +279,8 @@ fits_activated classes w p held event asker interval is None e =
     let after : happens p.world event ≡ v = is ∙ ap (λ (r : Option MonitorError). if is_none r then v else p.world) e in
     let t = activated w asker interval None in
     record {
-      held = subst (λ (x : World). Holds classes t.parts (record { world = x; stopped = p.stopped })) (sym after) (record {
-        reached = subst (IsReached classes) after (reached_more classes p.world event held.reached);
+      held = subst (λ (x : World). Holds classes t.parts (record { world = x; stopped = p.stopped; events = p.events ++ event ∷ [] })) (sym after) (record {
+        reached = leads_more classes p event v held.reached after;
         maps = held.maps;
         monitor = ap with_activated held.monitor;
         count = held.count;
@@ -331,7 +332,7 @@ fits_kept laws classes w p held number k q at is =
     let h = steps.deliver p number (Some q) in
     subst (λ (x : KeptMessage). Fits classes (delivered_at classes w (Some x)) h) (sym is.same)
     (fits_to laws classes w p held (Delivered (number - 1)) q.receiver q.message is.committed is.reported is.enough
-    (λ n. keeps laws.agreed classes p.world held.reached n q (contains_at p.world.sent (number - 1) q at))
+    (λ n. keeps laws.agreed classes p held.reached n q (contains_at p.world.sent (number - 1) q at))
     (ap (deliver p.world) at))
 
 fits_both_kept : Laws → (classes : Classes) (w : Parts) (p : Played) → Holds classes w p → (number : ℕ) (o : Option KeptMessage) (q : Option Packet)
@@ -356,8 +357,8 @@ fits_made classes w p held acting None e =
     let after : happens p.world (MapMade acting) ≡ v = ap (λ (r : Option MonitorError). if is_none r then v else p.world) e in
     let t = map_made w acting None in
     record {
-      held = subst (λ (x : World). Holds classes t.parts (record { world = x; stopped = p.stopped })) (sym after) (record {
-        reached = subst (IsReached classes) after (reached_more classes p.world (MapMade acting) held.reached);
+      held = subst (λ (x : World). Holds classes t.parts (record { world = x; stopped = p.stopped; events = p.events ++ MapMade acting ∷ [] })) (sym after) (record {
+        reached = leads_more classes p (MapMade acting) v held.reached after;
         maps = ap (λ (ms : List GroupMap). ms ++ next_map w.monitor acting ∷ []) held.maps ∙ ap (λ (m : MonitorState). p.world.maps ++ next_map m acting ∷ []) held.monitor;
         monitor = ap (λ (m : MonitorState). with_map m acting) held.monitor;
         count = held.count;
@@ -391,7 +392,7 @@ fits_see laws classes w p held n epoch =
 -- NO EVENTS
 fits_set : (classes : Classes) (w : Parts) (p : Played) → Holds classes w p → (n : ℕ) (b : Bool) → Fits classes (stop_set w n b) (set_stopped p n b)
 fits_set classes w p held n b =
-    fits_there classes w p held n (record { parts = with_stopped w n b; taken = Sent 0 }) (record { played = record { world = p.world; stopped = set p.stopped n b }; taken = Sent 0 })
+    fits_there classes w p held n (record { parts = with_stopped w n b; taken = Sent 0 }) (record { played = record { world = p.world; stopped = set p.stopped n b; events = p.events }; taken = Sent 0 })
     (λ low. record {
       held = record {
         reached = held.reached;
@@ -439,7 +440,7 @@ pub line_done : Laws → (classes : Classes) (old new : Parts) (taken : Taken) (
 line_done laws classes old new taken line p held is =
     let all : Fits classes (record { parts = new; taken = taken }) (step p line) =
     subst (λ (t : Turn). Fits classes t (step p line)) (sym is) (fits laws classes old p held line) in
-    record { held = all.held; came = all.came }
+    record { held = all.held; came = all.came; goes_on = goes_on laws.kept classes p line held.reached }
 
 -- BEFORE THE FIRST LINE
 length_fresh : (k : ℕ) → length (fresh_nodes k) ≡ k
@@ -460,7 +461,7 @@ fresh_node (suc k) n =
 
 held_first : (classes : Classes) → Holds classes first_parts (beginning classes)
 held_first classes = record {
-  reached = record { events = []; leads = refl };
+  reached = refl;
   maps = refl;
   monitor = refl;
   count = length_fresh 16;

@@ -4,7 +4,6 @@ use Rattle.std.specs.Prelude.{◌≡◌, ℕ, ◌≤◌, ◌<◌, List, [], ◌�
 use Rattle.pg_log.specs.Log.{Classes}
 use Rattle.carried.specs.Carried.{carried_as}
 use Rattle.group_world.specs.Node.{NodeState}
-use Rattle.group_world.specs.World.{World, WorldEvent, IsAgreed, opening, run}
 use Rattle.group_world.specs.declared.party.Party.{Party}
 use Rattle.group_world.specs.declared.party.Party.TheVariants.{Node as ANode, Monitor as TheMonitor, Client as AClient}
 use Rattle.group_world.specs.declared.message.Packet.{Packet}
@@ -13,6 +12,7 @@ use Rattle.sim_text.specs.Kept.{carried_text, sender_of}
 use Rattle.sim_text.specs.Texts.{kind_text, taken_text}
 use Rattle.sim_text.specs.declared.line.Line.{Line}
 use Rattle.sim_text.specs.declared.taken.Taken.{Taken}
+use Rattle.sim_world.specs.Agreed.{EventsLead, GoesOn}
 use Rattle.sim_world.specs.Step.{Played, is_node, step}
 use Rattle.sim_world.specs.inner.Parts.{Parts, nth_node}
 use Rattle.sim_world.specs.declared.kept.KeptMessage.{KeptMessage}
@@ -40,14 +40,9 @@ AreKept nodes [] (p ∷ ps) = ⊥
 AreKept nodes (k ∷ ks) [] = ⊥
 AreKept nodes (k ∷ ks) (p ∷ ps) = IsKept nodes k p × AreKept nodes ks ps
 
--- the events of a list lead to the group's world
-pub record IsReached (classes : Classes) (w : World) : Type 0 where
-  pub events : List WorldEvent
-  pub leads : w ≡ run events (opening classes)
-
--- these are the parts of a played world, which is reached by events
+-- These are the parts of a played world, to which its events lead.
 pub record Holds (classes : Classes) (parts : Parts) (p : Played) : Type 0 where
-  pub reached : IsReached classes p.world
+  pub reached : EventsLead classes p
   pub maps : parts.maps ≡ p.world.maps
   pub monitor : parts.monitor ≡ p.world.monitor
   pub count : length parts.nodes ≡ 16
@@ -60,10 +55,12 @@ pub record Holds (classes : Classes) (parts : Parts) (p : Played) : Type 0 where
 abbrev pub IsPlayed : Classes → Parts → Type 0
 IsPlayed classes parts = (p : Played) × Holds classes parts p
 
--- A LINE WAS DONE: what was held is what the line makes of it, and that came of it.
+-- A LINE WAS DONE: what was held is what the line makes of it, that came of it, and nothing is
+-- taken back.
 pub record IsStep (classes : Classes) (new : Parts) (p : Played) (line : Line) (taken : Taken) : Type 0 where
   pub held : Holds classes new (step p line).played
   pub came : taken ≡ (step p line).taken
+  pub goes_on : GoesOn p line
 
 abbrev pub Steps : Classes → Parts → Parts → Line → Taken → Type 0
 Steps classes old new line taken = (p : Played) → Holds classes old p → IsStep classes new p line taken
@@ -78,15 +75,6 @@ node_at p n = if is_node p n then Some (record { number = n; state = p.world.nod
 
 abbrev pub IsNodeAt : Classes → Parts → ℕ → Option NumberedNode → Type 0
 IsNodeAt classes parts n node = (p : Played) → Holds classes parts p → node ≡ node_at p n
-
--- AN AGREED WORLD: events lead to it, and of those it is agreed.
-pub record IsAgreedWorld (classes : Classes) (w : World) : Type 0 where
-  pub reached : IsReached classes w
-  pub agreed : IsAgreed reached.events w
-
--- each world that events lead to is one
-abbrev pub ReachedAgree : Type 0
-ReachedAgree = (classes : Classes) (w : World) → IsReached classes w → IsAgreedWorld classes w
 
 -- A MESSAGE AS IT IS SHOWN: between whom, and what it says; of one that was sent, and of one as it
 -- is kept.

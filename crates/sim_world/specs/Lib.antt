@@ -1,6 +1,7 @@
--- A reader must believe Step (what a line does in the group's world, and what comes of it) and Same
--- (which messages are equal). Holds says how the program holds a played world; inner is the code's
--- own.
+-- A reader must believe Step (what a line does in the group's world, and what comes of it), Same
+-- (which messages are equal) and Agreed (what holds of the worlds that lines lead to). Holds says
+-- how the program holds a played world; inner is the code's own.
+pub mod Agreed
 pub mod Holds
 pub mod Same
 pub mod Step

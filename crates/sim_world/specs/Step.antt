@@ -1,6 +1,6 @@
 -- What a line does in the world of a group, and what comes of it. What happens there is
 -- group_world's: its events, its nodes' steps, its monitor.
-use Rattle.std.specs.Prelude.{ℕ, ◌-◌, nat_lt, Bool, true, false, List, length, map, Option, Some, None, if◌then◌else◌, slice_set, slice_index_or, replicate}
+use Rattle.std.specs.Prelude.{ℕ, ◌-◌, nat_lt, Bool, true, false, List, [], ◌∷◌, ◌++◌, length, map, Option, Some, None, if◌then◌else◌, slice_set, slice_index_or, replicate}
 use Rattle.pg_log.specs.Log.{Classes}
 use Rattle.group_world.specs.Maps.{GroupMap}
 use Rattle.group_world.specs.Node.{Outcome}
@@ -26,14 +26,16 @@ use Rattle.sim_text.specs.declared.taken.Taken.{Taken}
 use Rattle.sim_text.specs.declared.taken.Taken.TheVariants.{Bad, Skipped, Stopped, Sent, Refused, MonitorRefused, Made, Shown, Again}
 use Rattle.sim_world.specs.Same.{number_of}
 
--- A PLAYED WORLD: the world of the group, and which of the nodes 0 to 15 are stopped.
+-- A PLAYED WORLD: the world of the group, which of the nodes 0 to 15 are stopped, and the events of
+-- the group that happened, in their order.
 pub record Played : Type 0 where
   pub world : World
   pub stopped : List Bool
+  pub events : List WorldEvent
 
 -- before the first line
 abbrev pub beginning : Classes → Played
-beginning classes = record { world = opening classes; stopped = replicate 16 false }
+beginning classes = record { world = opening classes; stopped = replicate 16 false; events = [] }
 
 -- What a line comes to: the played world after it, and what comes of it.
 pub record Happened : Type 0 where
@@ -44,9 +46,9 @@ pub record Happened : Type 0 where
 abbrev pub stays : Played → Taken → Happened
 stays p taken = record { played = p; taken = taken }
 
--- an event happens in the group's world
+-- an event happens in the group's world, after those before it
 abbrev pub happened : Played → WorldEvent → Taken → Happened
-happened p event taken = record { played = record { world = happens p.world event; stopped = p.stopped }; taken = taken }
+happened p event taken = record { played = record { world = happens p.world event; stopped = p.stopped; events = p.events ++ event ∷ [] }; taken = taken }
 
 -- AT A NODE. Where it is stopped nothing happens; a node that isn't there is bad.
 abbrev pub is_node : Played → ℕ → Bool
@@ -103,7 +105,7 @@ see p n number (Some m) = at_node p (MapSeen n (number - 1)) n (AMap m)
 -- messages what it would send again.
 abbrev pub set_stopped : Played → ℕ → Bool → Happened
 set_stopped p n b = if is_node p n
-    then record { played = record { world = p.world; stopped = slice_set p.stopped n b }; taken = Sent 0 } else stays p Bad
+    then record { played = record { world = p.world; stopped = slice_set p.stopped n b; events = p.events }; taken = Sent 0 } else stays p Bad
 
 abbrev pub show : Played → ℕ → Happened
 show p n = if is_node p n then stays p (Shown (shown_of n (p.world.nodes n))) else stays p Bad

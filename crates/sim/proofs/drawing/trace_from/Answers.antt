@@ -19,6 +19,6 @@ returns g c =
     subst (λ (b : List Noted). Courses classes names lines first new b (map noted_as steps) bad) (ap (λ (s : List Step). map noted_as s) c.new-steps.ensures.items)
     (subst (λ (s : List Step). Courses classes names lines first new (map noted_as c.new-steps.result.items) (map noted_as s) bad) (sym c.deref-2.ensures.value) c.in_ok-bad.ensures) in
     IfOk-weaker c.drawn.result _ _
-    (λ t is. run_drawn classes names lines first new c.sent.result.now c.deref.result.now steps bad _ _ c.reached_worlds_agree.ensures c.requires.first courses c.sent.ensures.shown
+    (λ t is. run_drawn classes names lines first new c.sent.result.now c.deref.result.now steps bad _ _ c.requires.first courses c.sent.ensures.shown
     (ap (λ (ms : List Message). map drawn_as ms) c.deref.ensures.value ∙ c.in_ok-messages.ensures) is.0 is.1)
     c.drawn.ensures

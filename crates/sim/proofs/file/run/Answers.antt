@@ -2,4 +2,4 @@ use Rattle.sim.proofs.Reaching.{stops_first}
 use Rattle.sim.proofs.file.run.Goals as goal
 
 pub returns-in-Err : goal.returns-in-Err
-returns-in-Err g c = stops_first c.reached_worlds_agree.ensures _ _ _ _ _
+returns-in-Err g c = stops_first _ _ _ _ _

@@ -8,7 +8,7 @@ use Rattle.sim_world.proofs.world.World.take.Goals as goal
 
 pub invariant_of-self-2 : goal.invariant_of-self-2
 invariant_of-self-2 g c = λ e.
-    let laws : Laws = record { agreed = c.agreement.ensures.agreed; uncut = c.nothing_is_cut.ensures; packed = c.packed_lists.ensures.committed } in
+    let laws : Laws = record { agreed = c.agreement.ensures.agreed; kept = c.agreement.ensures.kept; uncut = c.nothing_is_cut.ensures; packed = c.packed_lists.ensures.committed } in
     let classes = g.C.Classes.classes in
     let old = c.self.invariant c.if-self.false in
     let is = c.in_ok-taken.ensures ∙ ap (λ (t : Classes). turn t c.self.inside.parts c.args.line) c.requires in
@@ -17,7 +17,7 @@ invariant_of-self-2 g c = λ e.
 
 pub returns : goal.returns
 returns g c = λ p held.
-    let laws : Laws = record { agreed = c.agreement.ensures.agreed; uncut = c.nothing_is_cut.ensures; packed = c.packed_lists.ensures.committed } in
+    let laws : Laws = record { agreed = c.agreement.ensures.agreed; kept = c.agreement.ensures.kept; uncut = c.nothing_is_cut.ensures; packed = c.packed_lists.ensures.committed } in
     let classes = g.C.Classes.classes in
     let is = c.in_ok-taken.ensures ∙ ap (λ (t : Classes). turn t c.self.inside.parts c.args.line) c.requires in
     line_done laws classes c.self.inside.parts c.take.new.self c.in_ok-taken.taken c.args.line p (subst (λ (w : Parts). Holds classes w p) (sym c.self.view_is) held) is
