@@ -6,6 +6,7 @@
 mod asking;
 #[cfg(test)]
 mod fates;
+#[cfg(test)]
 mod following;
 #[cfg(test)]
 mod groups;
