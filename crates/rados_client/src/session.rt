@@ -83,8 +83,9 @@ impl<'a, N: ClusterName, R: Wait> Session<'a, N, R> {
     /// Each call of a session makes the same promise (`IsCall`), of the request that it would send
     /// next. A reply is true: among the lists that the session knows then is one, of some row of
     /// the board, with a legal beginning in which the whole request stands once, at the reply's
-    /// place, and is answered there by its method as the reply says. That list begins with all that
-    /// the session had seen or been told of the row.
+    /// place, and is answered there by its method as the reply says, wherever its memory lies
+    /// (`answers_have_run`). That list begins with all that the session had seen or been told of
+    /// the row.
     ///
     /// Refused, the first that applies: `NumbersUsedUp` where the client has sent number 2^32 - 1,
     /// and `NoMemory` where memory for the request is refused; then the session is as it was. After
