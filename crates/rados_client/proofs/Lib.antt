@@ -1,4 +1,4 @@
 pub mod Asking
 pub mod Calling
 pub mod Crosses
-pub mod Running
+pub mod MethodRuns

@@ -1,4 +1,4 @@
-use Rattle.rados_client.proofs.Running.{answers_have_run}
+use Rattle.rados_client.proofs.MethodRuns.{answers_have_run}
 use Rattle.rados_client.proofs.laws.answers_have_run.Goals as goal
 
 pub returns : goal.returns
