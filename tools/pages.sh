@@ -370,17 +370,13 @@ try_tools() {
     try_trust
 }
 
-# Want of memory: of one row, and of all but clusters: where memory for the workers' thread is
-# refused, a call looks through all its tries.
+# Want of memory: of one row, and of all.
 try_refusals() {
-    local names page
-    names="$(cut -d ' ' -f 1 "$top/crates/tests_memory_rows/stdout") verify stdin unsafe missing run"
-    names+=" object method hex asm wrong_text unwritten pack wrong_code dis sim wrong_sim trace"
-    names+=" usage no_method no_class no_words help help_run version"
+    local page
     on docs/CONTRIBUTING.md "$top"
     needs "$rows" "$program" cc
     instead="tools/refuse.sh '$rows' - decode" runs 'tools/refuse.sh ROWS - ROW'
-    instead="tools/refuse.sh '$rows' '$program' ${names//$'\n'/ }" runs 'tools/refuse.sh'
+    instead="tools/refuse.sh '$rows' '$program'" runs 'tools/refuse.sh'
     for page in README.md docs/PROVED.md; do knows 'tools/refuse.sh'; done
 }
 

@@ -15,6 +15,9 @@ from process_rows import CLOSED, FILES, FULL, ROWS, UNREAD
 
 # A run has five minutes: the largest class takes seconds.
 SECONDS = 300
+MEGABYTE = 1 << 20
+# The stack of a thread, in a row that limits memory.
+STACK = 256 * MEGABYTE
 
 
 def make_file(folder, name):
@@ -73,13 +76,17 @@ def sink_of(where, room=None):
 
 
 def prepare(row):
-    """In the process: closes its streams, and limits its files. A write past that limit fails."""
+    """In the process: closes its streams, and limits its files and its memory. A write past that
+    limit fails, and so does a new thread whose stack has no place."""
     for number, where in (1, row.to), (2, row.err_to):
         if where == CLOSED:
             os.close(number)
     if row.room is not None:
         signal.signal(signal.SIGXFSZ, signal.SIG_IGN)
         resource.setrlimit(resource.RLIMIT_FSIZE, (row.room, row.room))
+    if row.space is not None:
+        resource.setrlimit(resource.RLIMIT_STACK, (STACK, STACK))
+        resource.setrlimit(resource.RLIMIT_AS, (row.space * MEGABYTE, row.space * MEGABYTE))
 
 
 def run(program, folder, row):

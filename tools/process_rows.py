@@ -111,9 +111,8 @@ OF_ALL = "--help", "--version"
 OPTIONS = sorted({option for _, options in COMMANDS.values() for option in options})
 
 
-def usage(first=""):
+def usage(first="", last="\nFor more information, try '--help'.\n"):
     """Whether a text is clap's of wrong words: an error that begins so, and where to look."""
-    last = "\nFor more information, try '--help'.\n"
     return lambda text: text.startswith(f"error: {first}") and text.endswith(last)
 
 
@@ -158,13 +157,14 @@ class Row:
     print on standard output and on standard error, as a text or a test of it; the status; what
     standard input has; which files are written, and with what. `to` and `err_to` are where the two
     streams go, if it is nowhere: then the row has None of what they get. `room` is how many bytes
-    standard output takes, if it is a file."""
+    standard output takes, if it is a file; `space` is how many megabytes the process has, if each
+    of its threads wants 256."""
 
     def __init__(self, words, out="", err="", status=0, stdin=b"", wrote=(), to=None, err_to=None,
-                 room=None):
+                 room=None, space=None):
         self.words = words.split() if isinstance(words, str) else words
         self.out, self.err, self.status = out, err, status
-        self.stdin, self.wrote, self.room = stdin, dict(wrote), room
+        self.stdin, self.wrote, self.room, self.space = stdin, dict(wrote), room, space
         self.to, self.err_to = to, err_to
 
 
@@ -296,6 +296,13 @@ ROWS = [
     Row("verify \u00e9.img", "f ok 2\n"),
     Row("cluster two.calls --class two=a=b", CALLED),
     Row("pack out f:r:0:0:a:b", wrote={"out": TWO}),
+    # words that are no UTF-8, as wrong words
+    *(Row(words, "", usage("invalid UTF-8 was detected in one or more arguments\n", "\n"), 2)
+      for words in (
+          [b"\xff"], ["verify", b"\xff"], ["verify", "two.img", b"\xc3\x28"],
+          ["verify", b"\xe9.img"], ["run", "keep.img", "keep", b"--input=\xff"],
+          ["run", "keep.img", "keep", "--input", "726f6f74", "--caller", "9", "--show", "--xattr",
+           "a=00", "--key", b"\xed\xa0\x80=00"])),
     # long words (Linux hands over 131,071 bytes at most), many words, large files
     Row("verify " + "0" * 5000, "cannot read\n", "", 1),
     Row(["run", "two.img", "f", "--object", "6f" * 65535, "--show"],
@@ -334,6 +341,11 @@ ROWS = [
           ("run two.img f", RAN, 0), ("dis two.img", TWO_TEXT, 0), ("sim locks.sim", LOCKED, 0),
           ("cluster calls", CALLS, 0), ("cluster bad.calls", "line 3: bad\n", 1))
       for room in (0, 5, len(text) - 1, len(text))),
+    # no memory for a thread; for one of them alone, which serves for all workers
+    Row("cluster calls", "no memory\n", "", 1, space=200),
+    Row("cluster clients --stats", "no memory\n", "", 1, space=200),
+    Row("cluster bad.calls", "line 3: bad\n", "", 1, space=200),
+    Row("cluster clients", CLIENTS, space=400),
     # help and the version, on standard error
     *(Row(words, "", helps("Usage: radoscls <COMMAND>", *COMMANDS, "help", *OF_ALL), 2)
       for words in ("", "--help", "-h", "help")),
