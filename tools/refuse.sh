@@ -7,12 +7,12 @@
 # are run. For each it prints how many growths there are, and how many runs told of want of memory; and each difference:
 #
 # - a row answers, or is refused by its call's own number, leaves its state as it was, and answers when it is called again;
-# - a command prints what it always prints, up to a line that names want of memory, and ends with 0 or 1. Where memory for a
-#   thread is refused, its part runs after the other: the client of `cluster` is unanswered then;
+# - a command prints what it always prints, up to a line that names want of memory, and ends with 0 or 1. So does `cluster`
+#   where memory for the thread of its workers is refused: it doesn't wait for answers that nobody will give;
 # - OUT of a command that writes it is as it was, or whole.
 #
 # A row that met no refusal doesn't pass. The status is 0 where all passed. It takes a minute on a machine that does nothing
-# else; on a busy one a client of `cluster` looks longer than that.
+# else.
 set -u
 top=$(cd "$(dirname "$0")/.." && pwd)
 rows=${1:-$top/crates/tests_memory_rows/out/tests_memory_rows}
@@ -60,7 +60,7 @@ sweep_row() {
     tell "$1" $((n - 1)) "$refused"
 }
 
-# Whether what was printed is `whole`, up to a line that names want of memory or an answer that never came, if there is one.
+# Whether what was printed is `whole`, up to a line that names want of memory, if there is one.
 is_begun() {
     local line k=0
     [ "$printed" = "$whole" ] && return 0
@@ -110,8 +110,8 @@ fi
 
 if [ "$radoscls" != - ]; then
     cp "$top"/examples/*.img "$top"/examples/*.txt "$top"/examples/*.sim "$work"
-    # One client and one worker, so that a run can be repeated.
-    printf 'cluster nodes 2 replicas 2 groups 1 shards 1 workers 1 tries 20000\nclient 1 a lock lock -\n' > "$work/one.cluster"
+    # One client and one worker, so that a run can be repeated; with no worker a client would look for hours.
+    printf 'cluster nodes 2 replicas 2 groups 1 shards 1 workers 1 tries 4294967295\nclient 1 a lock lock -\n' > "$work/one.cluster"
     printf '\xb7\0\0\0\0\0\0\0\x95\0\0\0\0\0\0\0' > "$work/code"
     commands=(
         'verify verify two.img'
