@@ -4,6 +4,8 @@
 #![tactic(auto)]
 
 #[cfg(test)]
+mod beginnings;
+#[cfg(test)]
 mod bench;
 #[cfg(test)]
 mod examples;
