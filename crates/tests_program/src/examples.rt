@@ -4,7 +4,7 @@
 use crate::pages::{HELLO, prints_of};
 
 /// The examples of docs/VERIFIER.md, with their methods' heads, and their verdicts.
-static JUDGED: [(&str, &str, u8); 18] = [
+static JUDGED: [(&str, &str, u8); 19] = [
     (
         ".method f r 16 0\nand r2, 15\nadd r1, r2\nldxb r0, [r1+0]\nexit\n",
         "f ok 4\n",
@@ -43,6 +43,11 @@ static JUDGED: [(&str, &str, u8); 18] = [
     ),
     (
         ".method f r 0 0\nmov r1, 0\ncall 13\nmov r0, r1\nexit\n",
+        "refused method 0 slot 2: 5 UnsetRead\n",
+        1,
+    ),
+    (
+        ".rules 2\n.method f r 0 0\nstxdw [r10-8], r3\nstw [r10-8], 0\nldxdw r0, [r10-8]\nexit\n",
         "refused method 0 slot 2: 5 UnsetRead\n",
         1,
     ),
