@@ -1,6 +1,6 @@
-use Rattle.std.proofs.Common.{sym, subst, map, string_bytes, IfOk}
+use Rattle.std.proofs.Common.{sym, subst, map, string_bytes, IfOk, IfErr}
 use Rattle.class_tool.specs.Files.{storage}
-use Rattle.radoscls_program.specs.Program.{Ends}
+use Rattle.radoscls_program.specs.Program.{Ends, IsUnstarted}
 use Rattle.radoscls_program.specs.Streams.{stream}
 use Rattle.radoscls_program.proofs.process.end_of.Goals as goal
 
@@ -11,3 +11,10 @@ returns-in-Ok-clause-asked g c =
     let Ended = Ends (files c.args.files.now) (files c.perform.new.files) (out c.args.out.now) (out c.perform.new.out) in
     let ends = subst (λ ws. Ended (map string_bytes ws) c.perform.result) c.deref.ensures.value c.perform.ensures in
     subst (λ r. IfOk r (λ all. Ended (map string_bytes all.items) c.perform.result)) (sym c.in-Ok.is) ends
+
+pub returns-in-Err-clause-unread : goal.returns-in-Err-clause-unread
+returns-in-Err-clause-unread g c =
+    let files = storage g.F.Reads.disk g.F.Files.failed c.args.files.now in
+    let out = stream g.O.Output.printed g.O.Output.failed in
+    let why = c.unstarted.ensures.unstarted files in
+    subst (λ r. IfErr r (λ _. IsUnstarted files files (out c.args.out.now) (out c.unstarted.new.out) c.unstarted.result)) (sym c.in-Err.is) why
