@@ -9,7 +9,6 @@ ghost use Rattle.sillarnica.specs.Told.{TellsVerify, TellsExplain, TellsMethod, 
 
 mod call;
 mod method;
-mod parts;
 mod pointer;
 mod told;
 mod verified;

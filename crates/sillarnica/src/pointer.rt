@@ -5,7 +5,6 @@ ghost use Rattle.bpf_decode.specs.Class.{ClassMethod};
 ghost use Rattle.sillarnica.specs.Held.{IsHeld};
 ghost use Rattle.sillarnica.specs.inner.Owned.{pointer_owns, coded_class};
 
-use crate::parts::BoxParts;
 use std::alloc::Global;
 use std::marker::Model;
 use verifier::VerifiedClass;
@@ -39,26 +38,23 @@ impl ClassPointer {
         }
     }
 
-    /// The pointer of a box.
-    pub(crate) fn of(parts: BoxParts<VerifiedClass, Global>) -> ClassPointer
-        ensures { result.class ≡ Some parts.value }
+    /// The pointer of a box, which is taken apart.
+    pub(crate) fn of(whole: Box<VerifiedClass, Global>) -> ClassPointer
+        ensures { result.class ≡ Some whole.value }
     {
-        let BoxParts { ptr, alloc } = parts;
+        let (ptr, alloc) = Box::into_raw_with_allocator(whole);
         ClassPointer {
             at: ptr.cast::<u8>(),
             alloc,
         }
     }
 
-    /// The box again.
-    pub(crate) fn into_parts(self) -> BoxParts<VerifiedClass, Global>
+    /// The box again, of the class that is held.
+    pub(crate) fn into_box(self) -> Box<VerifiedClass, Global>
         requires { IsHeld self.class }
         ensures { self.class ≡ Some result.value }
     {
         let ClassPointer { at, alloc } = self;
-        BoxParts {
-            ptr: at.cast::<VerifiedClass>(),
-            alloc,
-        }
+        unsafe { Box::from_raw(alloc, at.cast::<VerifiedClass>()) }
     }
 }

@@ -5,7 +5,6 @@ ghost use Rattle.sillarnica.specs.Told.{TellsOpen, TellsHeldCall};
 ghost use Rattle.sillarnica.specs.Held.{IsHeld, open_number};
 
 use crate::call::call_class;
-use crate::parts::BoxParts;
 use crate::pointer::ClassPointer;
 use crate::told::{CLOSED, NO_MEMORY, ToldAnswer, ToldRefusal, tell_class};
 use class_calls::load;
@@ -36,7 +35,7 @@ fn opened(class: Box<VerifiedClass, Global>) -> Verified
     ensures { result.pointer.class ≡ Some class.value }
 {
     Verified {
-        pointer: ClassPointer::of(BoxParts::of(class)),
+        pointer: ClassPointer::of(class),
         is_open: 1,
     }
 }
@@ -51,7 +50,7 @@ fn take(alloc: Global, verified: &mut Verified) -> Box<VerifiedClass, Global>
         pointer,
         is_open: _,
     } = replace(verified, closed(alloc));
-    pointer.into_parts().into_box()
+    pointer.into_box()
 }
 
 /// Verifies an image's class and holds it. What was held before isn't looked at, so C may hand in

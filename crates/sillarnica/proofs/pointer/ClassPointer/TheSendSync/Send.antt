@@ -15,12 +15,15 @@ use Rattle.verifier.specs.contracts.verified.VerifiedClass as Class
 use Rattle.verifier.proofs.verified.VerifiedClass.TheSendSync.{the_send as class}
 use Rattle.sillarnica.specs.contracts.pointer.ClassPointer.{the_row, the_type}
 
-keyless : (alloc : Global) (p : Ptr) (held : Option Class.the_row.Denot) → Keyless (pointer_owns alloc p held)
-keyless alloc p None = tt
-keyless alloc p (Some x) = (lies Class.the_row class p x, heap.frees.frees alloc (raw (lone Class.the_row.mir)) p)
+-- what a pointer owns goes to another thread: nothing, or a class and the right to free its block
+owned_goes : (alloc : Global) (p : Ptr) (held : Option Class.the_row.Denot) → Keyless (pointer_owns alloc p held)
+owned_goes alloc p None = tt
+owned_goes alloc p (Some x) = (lies Class.the_row class p x, heap.frees.frees alloc (raw (lone Class.the_row.mir)) p)
+
+-- and so do its two fields
+fields_go : AllSend (fields the_type)
+fields_go = (search sendable, (handle.the_field_send, tt))
 
 pub send : IsSend the_row
-send =
-    let all : AllSend (fields the_type) = (search sendable, (handle.the_field_send, tt)) in
-    owning_send the_type all (λ d. keyless d.alloc d.at d.class)
-    (λ k. quiet (to the_type) (exits_of k (fields the_type)) ((struct_send (shape the_type) all).leaving k))
+send = owning_send the_type fields_go (λ d. owned_goes d.alloc d.at d.class)
+    (λ kept. quiet (to the_type) (exits_of kept (fields the_type)) ((struct_send (shape the_type) fields_go).leaving kept))

@@ -1,75 +1,46 @@
--- `null` holds a null pointer, and owns nothing.
-use mathlib.Core.Path.{refl, sym, subst}
-use mathlib.Core.List.{List, [], ◌∷◌, ◌++◌}
-use Rattle.std.specs.Prelude.{None}
-use Rattle.std.proofs.Common.{lit<}
-use seplogic.Ra.Ura.{Ura}
-use mir.Val.{Val, vint, vstruct, vcons, vnil, has_ty}
-use mir.Syntax.{w64}
-use base.Logic.{SProp, ent, emp, id⊢}
+-- `null` writes the null address beside the handle. Such a pointer owns nothing at its address.
+use mathlib.Core.Path.{refl}
+use mathlib.Core.List.{[], ◌∷◌}
 use base.Fml.{ftrue, fsep}
-use prog.Memory.{Memory}
-use prog.Routine.{Routine}
-use prog.Wp.{WpFn, Tables}
-use types.Logic.{Logic}
-use contract.Monad.{Fun}
-use contract.Running.{tables, tables_of}
-use sound.WpLaws.{WpFn-mono}
-use types.Kit.{Item, ‵, raw, ◌⊛◌, ◌$◌, ◌∵◌, !, qed, by, move, drop, use1, join, split, fsplit, fjoin, feq_i, fpack, suffices, done}
+use base.Logic.{id⊢}
+use types.ByLocal.{alloc_all, pass_all, free_all, look_at, get, sets}
+use types.Kit.{‵, ◌⊛◌, ◌$◌, ◌∵◌, !, qed, drop, use0, use1, split, join, fjoin, suffices, done}
 use types.Part.{agg}
 use types.Run.{no_more, and_then, lit, returns, enter}
-use types.ByLocal.{alloc_all, pass_all, free_all, look_at, get, sets}
 use denote.Exit.{yes}
-use denote.RawPtr.{null_ptr, RawPtr}
-use denote.RattleType.{Valss}
-use denote.Signature.{plain, type_at}
+use denote.RawPtr.{null_ptr}
+use denote.Signature.{plain}
 use denote.Steps.{nothing}
-use denote.Struct.Struct.{within}
 use denote.Struct.Owning.{shape, to}
-use denote.Triple.Spec.{triple_of}
-use denote.Triple.Table.{entered}
-use denote.Triple.Walked.{says, Stays, stay_dropped, walk_of, ends_at, Goes-dropped, walk_Meets}
-use Rattle.core.proofs.alloc.Calls.{handle_tells, α}
-use Rattle.std_alloc.proofs.BoxSteps.Form.{P}
-use Rattle.std_alloc.proofs.ResultValues.{and_tt}
-use Rattle.std.specs.contracts.alloc.Global as Heap
-use Rattle.sillarnica.proofs.AsBox.{E}
+use denote.Struct.Struct.{Struct}
+use denote.Triple.Walked.{Stays, stay_dropped, Goes-dropped, walk_of, says, ends_at}
+use Rattle.std.proofs.raw_atomic.Walks.{proved}
+use Rattle.std.specs.Prelude.{None}
+use Rattle.std_heap.specs.contracts.Global as Heap
+use Rattle.std_heap.proofs.Handle.{heap_val, heap_Tells}
 use Rattle.sillarnica.specs.contracts.pointer.ClassPointer as Pointer
-use Rattle.sillarnica.specs.contracts.pointer.ClassPointer.null as F
-use Rattle.sillarnica.specs.contracts.pointer.ClassPointer.null.Key.{name as #self}
-use Rattle.sillarnica.proofs.pointer.ClassPointer.null.Statement as stated
+use Rattle.sillarnica.specs.contracts.pointer.ClassPointer.null as f
+use Rattle.sillarnica.proofs.Words.{word, word_fits, handle_fits, pointer_made}
+use Rattle.sillarnica.proofs.pointer.ClassPointer.null.Statement.{statement}
 use Rattle.sillarnica.proofs.pointer.ClassPointer.null.Code as code
 
-abbrev stayed : Stays (F.ended).signature.params (F.ended).kept
-stayed = (stay_dropped (plain (λ _. Heap.the_row)) yes, tt)
+abbrev stayed : Stays f.ended.signature.params f.ended.kept
+stayed = (stay_dropped _ yes, tt)
 
-module _ {M : Type 1} {𝓤 : Ura M} (𝓛 : Logic 𝓤) (at_mem : Memory → SProp 𝓤) (run : Routine → Fun 𝓤) (𝓣 : Tables 𝓤 𝓛.H) where
-  open 𝓛 use {H}
-
-  walk : (z : (walk_of 𝓛 F.ended stayed (F.clauses 𝓛 at_mem run)).Ghost)
-      → ent 𝓤 ((walk_of 𝓛 F.ended stayed (F.clauses 𝓛 at_mem run)).pre z) (WpFn 𝓤 H 𝓣.C 𝓣.Λ code.function (z.0.4.0 ++ []) ((walk_of 𝓛 F.ended stayed (F.clauses 𝓛 at_mem run)).post z))
-  walk z =
-      let Post = (walk_of 𝓛 F.ended stayed (F.clauses 𝓛 at_mem run)).post z in
-      let a = z.0.3.0 in
-      let To = type_at (F.signature).result tt in
-      let made : To.Denot = record { at = null_ptr; alloc = a; class = None } in
-      qed 𝓛 ((‵ ftrue ⊛ ‵ (fsep (Heap.the_row.own_val a z.0.4.0) ftrue)) ∷ raw (emp 𝓤) ∷ []) ∵ split ! $ drop ! $ fsplit ! $
-      handle_tells E.al ! a z.0.4.0 (λ hv ea fa.
-      let Γ : List (Item 𝓤) = ‵ ((P E).own_val a (hv ∷ [])) ∷ ‵ ftrue ∷ raw (emp 𝓤) ∷ [] in
-      by ! (subst (λ (us : List Val). ent 𝓤 (types.Kit.⋆ 𝓛 Γ) (WpFn 𝓤 H 𝓣.C 𝓣.Λ code.function (us ++ []) Post)) (sym ea)
-      (qed 𝓛 Γ ∵ move ! (1 ∷ 2 ∷ []) $ drop ! $ drop ! $ enter ! 𝓣.C 𝓣.Λ code.function (hv ∷ []) _ $ alloc_all ! (λ ls. pass_all ! refl (fa, tt) $
-      sets ! (agg ! (and_then ! (lit ! tt) (and_then ! (get ! refl) (no_more !)))) refl (and_tt (has_ty (α E.al) hv) fa.0, (record { fits = lit< tt }, (fa.1, tt))) $ returns ! (look_at ! 0 refl) $ free_all ! refl $
-      let w : Val = vstruct (vcons (vint w64 0) (vcons hv vnil)) in
-      nothing ! $ move ! (1 ∷ 0 ∷ []) $ fjoin ! $ feq_i ! (List Val) (vint w64 0 ∷ []) (vint w64 0 ∷ []) refl $ fjoin ! $ feq_i ! (List Val) (w ∷ []) (w ∷ []) refl $ fjoin ! $
-      fpack ! (Valss (RawPtr ∷ P E ∷ [])) (within (shape Pointer.the_type) (to Pointer.the_type made) (w ∷ [])) (vint w64 0 ∷ [], (hv ∷ [], tt)) $ nothing ! $ move ! (1 ∷ 0 ∷ []) $ fjoin ! $
-      use1 𝓛 (‵ (To.own_val made (w ∷ []))) (id⊢ 𝓤 _) $
-      suffices ! _ (ends_at 𝓛 F.ended stayed (F.clauses 𝓛 at_mem run) z w made (tt, tt) (tt, tt)) $ says ! refl $
-      nothing ! $ nothing ! $ fjoin ! $ join ! $ nothing ! $ join ! $ done !))))
-
-pub null_spec : {M : Type 1} → stated.statement M
-unfolding tables_of
+pub null_spec : {M : Type 1} → statement M
 null_spec 𝓤 𝓛 𝓜 𝓡 wired =
-    let 𝓣 : Tables 𝓤 𝓛.H = tables_of 𝓤 𝓛.H 𝓜 (tables 𝓤 𝓛.H 𝓜 𝓡 𝓡.env) in
-    entered 𝓤 𝓛.H (triple_of 𝓛 F.signature (F.spec 𝓛 𝓜.mem 𝓡.returns)) 𝓣.C 𝓣.Λ #self code.function (code.unfolded 𝓤 𝓛.H 𝓜 𝓡 wired)
-    (walk_Meets 𝓛 F.ended stayed (Goes-dropped 𝓛 0 (plain (λ _. Heap.the_row)) yes (λ κs x f. refl), tt) (F.clauses 𝓛 𝓜.mem 𝓡.returns) (WpFn 𝓤 𝓛.H 𝓣.C 𝓣.Λ code.function) (WpFn-mono 𝓤 𝓛.H 𝓛.laws 𝓣 code.function)
-    (walk 𝓛 𝓜.mem 𝓡.returns 𝓣))
+    let c = f.clauses 𝓛 𝓜.mem 𝓡.returns in
+    proved 𝓛 f.ended stayed c 𝓜 𝓡 (Goes-dropped 𝓛 0 (plain (λ _. Heap.the_row)) yes (λ κs d w. refl), tt) f.Key.name code.function (code.unfolded 𝓤 𝓛.H 𝓜 𝓡 wired)
+    (λ κs. ((λ _. heap_val ∷ []), tt)) (λ κs. (heap_Tells, tt)) (λ κs qs bounds a _ are.
+    let y : (walk_of 𝓛 f.ended stayed c).Ghost = ((κs, qs, bounds, a, (heap_val ∷ [], tt)), tt) in
+    let made : Pointer.the_row.Denot = record { at = null_ptr; alloc = a.0; class = None } in
+    -- the handle that is passed is a fact, and is let go
+    qed 𝓛 ((‵ ftrue ⊛ ‵ (fsep (Heap.the_row.own_val a.0 (heap_val ∷ [])) ftrue)) ∷ ‵ ftrue ∷ []) ∵ split ! $ drop ! $ drop ! $ drop ! $
+    enter ! _ _ _ _ _ $ alloc_all ! (λ l. pass_all ! refl (handle_fits, tt) $
+    sets ! (agg ! (and_then ! (lit ! tt) (and_then ! (get ! refl) (no_more !)))) refl (word_fits null_ptr) $
+    returns ! (look_at ! 0 refl) $ free_all ! refl $
+    -- nothing at the address, and the two fields
+    nothing ! $ use0 𝓛 (‵ ((Struct (shape Pointer.the_type)).own_val (to Pointer.the_type made) (word null_ptr ∷ []))) (pointer_made 𝓛 made) $ fjoin ! $
+    use1 𝓛 (‵ (Pointer.the_row.own_val made (word null_ptr ∷ []))) (id⊢ 𝓤 _) $
+    suffices ! _ (ends_at 𝓛 f.ended stayed c y (word null_ptr) made (tt, tt) (tt, tt)) $ says ! refl $
+    nothing ! $ nothing ! $ fjoin ! $ join ! $ nothing ! $ join ! $ done !))
