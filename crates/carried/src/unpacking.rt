@@ -5,7 +5,7 @@ ghost use Rattle.carried.specs.Carried.{unpacked_as, whole_list};
 
 use crate::operation::{Carried, ShortLog};
 use group_world::{Event, Message, MessageKind, Requests};
-use pg_log::{Entry, NoMemory, Request, copy_log, copy_requests};
+use pg_log::{Entry, NoMemory, Request, copy_log};
 use replication::PackedLog;
 use std::alloc::Global;
 
@@ -25,14 +25,7 @@ fn spread(alloc: Global, local: &[Entry], log: &PackedLog) -> Result<Vec<Request
     requires { log.now.common ≤ length local.now }
     ensures { IfOk result (λ v. v.items ≡ spread (requests_of local.now) log.now) }
 {
-    let mut list = beginning(alloc, local, log.common())?;
-    let Ok(mut rest) = copy_requests(alloc, log.rest()) else {
-        return Err(NoMemory);
-    };
-    match list.append(&mut rest) {
-        Ok(()) => Ok(list),
-        Err(_) => Err(NoMemory),
-    }
+    log.after(alloc, beginning(alloc, local, log.common())?)
 }
 
 /// The message of a list, whole; nothing if the local log is too short.

@@ -13,9 +13,10 @@ pub fn replies_are_true()
     ensures { (classes : Classes) (lists : List (List ClientRequest)) (r : ClientRequest) (reply : PlacedReply) → IsAnswered classes lists r reply → IsAnswerIn classes r reply }
 {}
 
-/// An answer that `exec` or `retry` gives is its method's run, of verified classes: wherever its
-/// memory lies, the bytes of the request's method end so on the object that the requests before it
-/// left, in at most as many steps as the method has instructions, with the reply's code and output.
+/// An answer that `exec` or `retry` gives is its method's run, if the classes are verified and the
+/// list's requests are as their type holds them: wherever its memory lies, the bytes of the
+/// request's method end so on the object that the requests before it left, in at most as many steps
+/// as the method has instructions, with the reply's code and output.
 pub fn answers_have_run()
     ensures { AnswersHaveRun }
 {

@@ -83,7 +83,8 @@ impl<'a, N: ClusterName, R: Wait> Session<'a, N, R> {
     /// Each call of a session makes the same promise (`IsCall`), of the request that it would send
     /// next. A reply is true: among the lists that the session knows then is one, of some row of
     /// the board, with a legal beginning in which the whole request stands once, at the reply's
-    /// place, and is answered there by its method as the reply says, wherever its memory lies
+    /// place, and is answered there by its method as the reply says; wherever its memory lies, if
+    /// the classes are verified and the list's requests are as their type holds them
     /// (`answers_have_run`). That list begins with all that the session had seen or been told of
     /// the row.
     ///

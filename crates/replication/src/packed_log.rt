@@ -1,4 +1,4 @@
-ghost use Rattle.std.specs.Prelude.{◌≡◌, ◌≤◌, ◌<◌, ◌↔◌, ◌⊎◌, Err, IfOk, IfErr, length};
+ghost use Rattle.std.specs.Prelude.{◌≡◌, ◌≤◌, ◌<◌, ◌↔◌, ◌⊎◌, ◌++◌, Err, IfOk, IfErr, length};
 ghost use Rattle.replication.specs.Packed.{packed, spread};
 ghost use Rattle.replication.specs.declared.unpack_error.UnpackError.TheVariants.{TooShort, NoMemory as NoRoom};
 
@@ -50,6 +50,21 @@ impl PackedLog {
             rest: self.rest.copy()?,
         })
     }
+
+    /// The list that was packed, of which the receiver hands over the beginning that was left out.
+    /// It costs a count and a pointer for each request of the rest.
+    pub fn after(&self, alloc: Global, beginning: Vec<Request>) -> Result<Vec<Request>, NoMemory>
+        ensures { IfOk result (λ list. list.items ≡ beginning.items ++ self.now.rest) }
+    {
+        let mut list = beginning;
+        let Ok(mut rest) = copy_requests(alloc, self.rest()) else {
+            return Err(NoMemory);
+        };
+        match list.append(&mut rest) {
+            Ok(()) => Ok(list),
+            Err(_) => Err(NoMemory),
+        }
+    }
 }
 
 /// Leaves out of a list, which it takes, the first `reported` requests, which the receiver says
@@ -85,14 +100,8 @@ fn unpacked(alloc: Global, local: &[Request], log: &PackedLog) -> Result<Vec<Req
     requires { log.now.common ≤ length local.now }
     ensures { IfOk result (λ list. list.items ≡ spread local.now log.now) }
 {
-    let Ok(mut list) = copy_requests(alloc, &local[..log.common]) else {
-        return Err(NoMemory);
-    };
-    let Ok(mut rest) = copy_requests(alloc, log.rest()) else {
-        return Err(NoMemory);
-    };
-    match list.append(&mut rest) {
-        Ok(()) => Ok(list),
+    match copy_requests(alloc, &local[..log.common]) {
+        Ok(beginning) => log.after(alloc, beginning),
         Err(_) => Err(NoMemory),
     }
 }
