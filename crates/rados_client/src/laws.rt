@@ -1,9 +1,11 @@
 //! What follows from a promise, for the crates above. The functions do nothing.
-ghost use Rattle.std.specs.Prelude.{List};
+ghost use Rattle.std.specs.Prelude.{◌≡◌, ◌×◌, ◌-◌, ◌^◌, List, Result, Err};
 ghost use Rattle.pg_log.specs.Requests.{ClientRequest};
 ghost use Rattle.pg_log.specs.Log.{Classes};
-ghost use Rattle.rados_client.specs.Session.{PlacedReply};
-ghost use Rattle.rados_client.specs.Promise.{AnswersHaveRun, IsAnswered, IsAnswerIn};
+ghost use Rattle.rados_client.specs.Session.{PlacedReply, SessionState};
+ghost use Rattle.rados_client.specs.Promise.{AnswersHaveRun, IsAnswered, IsAnswerIn, IsCall};
+ghost use Rattle.rados_client.specs.declared.exec_error.ExecError.{ExecError};
+ghost use Rattle.rados_client.specs.declared.exec_error.ExecError.TheVariants.{NumbersUsedUp};
 
 use pg_log::replies_run;
 
@@ -22,3 +24,9 @@ pub fn answers_have_run()
 {
     replies_run();
 }
+
+/// No number comes after the last, 2^32 - 1: a session that has used it up refuses each further
+/// call, and stays as it is, so `retry` asks again for the request with the last number.
+pub fn no_number_comes_after_the_last()
+    ensures { (classes : Classes) (old new : SessionState) (r : ClientRequest) (result : Result PlacedReply ExecError) → IsCall classes old new r result → old.used ≡ 2 ^ 32 - 1 → (result ≡ Err NumbersUsedUp) × (new ≡ old) }
+{}

@@ -30,7 +30,7 @@ pub use cluster::Cluster;
 pub use config_error::ConfigError;
 pub use crossing::session_crosses;
 pub use exec_error::ExecError;
-pub use laws::{answers_have_run, replies_are_true};
+pub use laws::{answers_have_run, no_number_comes_after_the_last, replies_are_true};
 pub use load_error::LoadError;
 pub use open_error::OpenError;
 pub use osd::{ClusterName, Config, Running, Scenario};

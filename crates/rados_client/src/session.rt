@@ -2,9 +2,6 @@ ghost use Rattle.std.specs.Prelude.{◌≡◌, ◌^◌, ◌-◌, ◌≤◌, ◌+
 ghost use Rattle.rados_client.specs.Session.{KnowsMore, next_request};
 ghost use Rattle.rados_client.specs.Promise.{IsCall, IsRepeat};
 
-#[cfg(test)]
-mod numbers_used_up;
-
 use crate::call::Call;
 use crate::class_id::ClassId;
 use crate::connection::Connection;
