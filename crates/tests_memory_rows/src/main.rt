@@ -4,12 +4,17 @@
 //! answers. A call that does otherwise `differs`, and the status is 1.
 #![tactic(auto)]
 
+mod cells;
+mod clusters;
+mod running;
+mod table;
+
 use std::alloc::Global;
 use std::process::ExitCode;
 use std::sync::Wait;
 use std::thread::Threads;
 use std::{env, io};
-use tests_memory_clusters::{CLUSTER_ROWS, ClusterRow};
+use table::{CLUSTER_ROWS, ClusterRow};
 use tests_memory_table::{Ending, ROWS, Row};
 
 fn main(rt: HostRuntime) -> ExitCode {

@@ -1,4 +1,4 @@
-use Rattle.tests_memory_clusters.proofs.cells.turned_on.Given as goal
+use Rattle.tests_memory_rows.proofs.cells.turned_on.Given as goal
 
 abbrev pub ghosts-turned-N-BoardName : goal.ghosts-turned-N-BoardName
 ghosts-turned-N-BoardName a = record { board = a.board.now }
