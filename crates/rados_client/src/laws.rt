@@ -1,5 +1,5 @@
 //! What follows from a promise, for the crates above. The functions do nothing.
-ghost use Rattle.std.specs.Prelude.{◌≡◌, ◌×◌, ◌-◌, ◌^◌, List, Result, Err};
+ghost use Rattle.std.specs.Prelude.{◌≡◌, ◌-◌, ◌^◌, List, Result, Err};
 ghost use Rattle.pg_log.specs.Requests.{ClientRequest};
 ghost use Rattle.pg_log.specs.Log.{Classes};
 ghost use Rattle.rados_client.specs.Session.{PlacedReply, SessionState};
