@@ -8,8 +8,8 @@
 # A command that a page has and no line below names is a difference too. The status is 0 if nothing differs and nothing was
 # left out.
 #
-# The program is what `rt ci` or `rt run` left. If it isn't there, commands that a test runs too are left out, and the others
-# go through `rt try`, which takes a minute each. Files are copies, in a folder that is deleted.
+# The program is what `rt ci` or `rt run` left. If it isn't there, it is what tools/try.sh compiles without a proof, which one
+# command of README.md has it do anyway. Files are copies, in a folder that is deleted.
 set -u
 top=$(cd "$(dirname "$0")/.." && pwd)
 kit=$(dirname "$(rt doc)")
@@ -66,7 +66,7 @@ plain() {
     if [ -n "${any_code-}" ]; then sed -E 's/^(steps|[a-z]+ ok) [0-9]+$/\1 N/' <<< "$1"; else printf '%s\n' "$1"; fi
 }
 
-# Whether the lines `wanted` stand in `printed` in their order.
+# True if the lines `wanted` are in `printed`, in their order.
 is_among() {
     local line rest=$'\n'$printed$'\n'
     while IFS= read -r line; do
@@ -75,7 +75,7 @@ is_among() {
     done <<< "$wanted"
 }
 
-# Whether `printed` is as HOW says.
+# True if `printed` is as HOW says.
 is_as() {
     case $1 in
         all) [ "$(plain "$printed")" = "$(plain "$wanted")" ] ;;
@@ -136,7 +136,7 @@ by() {
     fi
 }
 
-# What `run` answers of an image in the folder, but for the steps.
+# Compares the answer of a command in the folder, without its steps.
 answers() {
     local command=$1 wanted
     shift
@@ -167,38 +167,28 @@ make_copies() {
         ln -s "$kit/toolchain/bin/clang" "$work/kit/$tool"
         "$work/kit/$tool" --version > "$work/errors" 2>&1 || rm "$work/kit/$tool"
     done
-    # What the pages call FILE.
-    printf 'map 1\nsee 1 1\ndeliver 1\ndeliver 2\nreq 1 1 1 a %s -\n' 'hello hello' > "$work/docs/FILE"
-    sed 's/hello hello/count count/' "$work/docs/FILE" > "$work/examples/FILE"
+    # The pages' FILE.
+    printf 'map 1\nsee 1 1\ndeliver 1\ndeliver 2\nreq 1 1 1 a count count -\n' > "$work/examples/FILE"
 }
 
-# `radoscls` as it was built, else by `rt try` with whole paths.
+# `radoscls` as it was built, else as tools/try.sh leaves it.
 make_program() {
-    if [ -x "$program" ]; then
-        ln -s "$program" "$work/crates/radoscls/out/radoscls"
-    else
-        cat > "$work/crates/radoscls/out/radoscls" << END
-#!/usr/bin/env bash
-words=()
-for word; do
-    words+=("\$(sed -E "s#(^|[:=])([^:=/][^:=]*[.](img|bin))\\\$#\\1\$PWD/\\2#" <<< "\$word")")
-done
-cd "$top/crates/radoscls" && exec rt try -- "\${words[@]}"
-END
-        chmod +x "$work/crates/radoscls/out/radoscls"
+    if ! [ -x "$program" ]; then
+        "$top/tools/try.sh" <<< true
+        program=$top/crates/radoscls/out/tried/radoscls
     fi
+    ln -s "$program" "$work/crates/radoscls/out/radoscls"
     ln -s ../crates/radoscls/out/radoscls "$work/bin/radoscls"
 }
 
-# README.md: what needs no built program, and what does.
+# README.md.
 try_readme() {
-    on README.md "$top/crates/radoscls"
-    by "the next line" 'cd crates/radoscls'
-    prints 1 4 'rt try --data keep.img=../../examples/keep.img -- run keep.img keep --input 726f6f74'
-    by "the line above, with other words" 'rt try --'
-    by "rt ci, with other words" 'rt run -- run ../../examples/keep.img keep --input 726f6f74'
     on README.md "$work/examples"
-    needs "$program"
+    by "the next line" 'cd examples'
+    by "the next line" 'tools/try.sh'
+    instead="'$top/tools/try.sh' <<< 'radoscls run keep.img keep --input 726f6f74'" \
+        prints 1 4 'radoscls run keep.img keep --input 726f6f74'
+    by "rt ci, with other words" 'cd crates/radoscls && rt run -- verify ../../examples/keep.img'
     silent 'radoscls asm hello.txt hello.img'
     prints 1 1 'radoscls verify hello.img'
     prints 2 5 'radoscls run hello.img hello'
@@ -217,7 +207,6 @@ assembles() {
 # examples/README.md.
 try_examples() {
     on examples/README.md "$work/examples"
-    by "README.md's line, with other words" 'rt try --'
     assembles two
     prints 1 4 'radoscls run two.img f'
     assembles hello
@@ -235,8 +224,12 @@ try_examples() {
     ends 1 7 'radoscls sim survive.sim'
     runs 'radoscls sim --trace survive.sim'
     prints 1 2 'radoscls cluster lost_primary.cluster'
-    runs 'radoscls sim --trace lost_ack.sim'
-    asks_count
+    prints 1 20 'radoscls sim --trace lost_ack.sim'
+    silent 'radoscls asm queue.txt queue.img'
+    prints 1 5 'radoscls cluster queue.cluster --class queue=queue.img'
+    silent 'radoscls asm swap.txt swap.img'
+    prints 1 4 'radoscls run swap.img swap --object 0500 --input 05000000000000000700000000000000'
+    ends 1 6 'radoscls sim one_node.sim --class queue=queue.img'
 }
 
 # A tenant's class is asked, and counts.
@@ -247,30 +240,26 @@ asks_count() {
 
 # The other pages' commands of classes and groups.
 try_docs() {
-    cp "$work/examples/hello.txt" "$work/docs"
-    on docs/WRITING.md "$work/docs"
+    on docs/WRITING.md "$work/examples"
     silent 'radoscls asm hello.txt hello.img'
     prints 1 1 'radoscls verify hello.img'
     prints 2 5 'radoscls run hello.img hello'
-    instead="radoscls sim --class hello=hello.img FILE | grep 'Reply 1 0 0 68656c6c6f'" \
-        runs 'radoscls sim --class hello=hello.img FILE'
-    by "README.md's line, with other words" 'rt try --'
+    by "README.md's line" 'tools/try.sh'
+    silent 'radoscls asm swap.txt swap.img'
+    prints 1 5 'radoscls run swap.img swap --object 0500 --input 05000000000000000700000000000000 --show'
+    silent 'radoscls asm queue.txt queue.img'
+    prints 1 5 'radoscls cluster queue.cluster --class queue=queue.img'
+    has 1 3 'radoscls sim one_node.sim --class queue=queue.img'
     on docs/SIM.md "$work/examples"
     asks_count
-    instead='radoscls sim --trace lost_ack.sim' prints 1 20 'has three nodes, a request'
-    instead='radoscls sim --trace survive.sim' has 1 13 'The middle of its drawing'
 }
 
-# The script of docs/FROM_C.md, by one class and by all. README.md's line has `rt try`, which compiles for a minute.
-try_script_of_one() {
-    on docs/FROM_C.md "$top/crates/radoscls"
-    instead="sh ../../examples/c/build.sh '$work/bin/radoscls' '$work/c' sum | grep 'sum ok'" \
-        runs "sh ../../examples/c/build.sh 'rt try --' /tmp sum"
-}
+# The script of docs/FROM_C.md.
 try_script() {
     on docs/FROM_C.md "$work"
-    instead="sh examples/c/build.sh crates/radoscls/out/radoscls '$work/c'" \
-        runs 'sh examples/c/build.sh crates/radoscls/out/radoscls /tmp'
+    by "README.md's line" 'tools/try.sh'
+    instead="sh examples/c/build.sh crates/radoscls/out/radoscls '$work/c' examples/c/*.c" \
+        runs 'sh examples/c/build.sh crates/radoscls/out/radoscls /tmp examples/c/*.c'
     folder=$work/c
     if [ -z "$lacking" ]; then try_answers; fi
 }
@@ -281,14 +270,14 @@ try_c() {
     any_code=yes
     case $(PATH="$tools:$PATH" clang --version 2> "$work/errors") in *'clang version 14.'*) any_code= ;; esac
     silent 'clang -target bpf -O2 -mcpu=v3 -c sum.c -o sum.o'
-    silent 'llvm-objcopy -O binary --only-section=method.sum sum.o sum.bin'
+    silent 'llvm-objcopy -O binary --only-section=method.sum.r.16.8 sum.o sum.bin'
     silent 'radoscls pack sum.img sum:r:16:8:sum.bin'
     prints 1 1 'radoscls verify sum.img'
     prints 2 5 'radoscls run sum.img sum --input 010203'
     runs 'llvm-readelf -r sum.o'
     runs 'llvm-objdump -d sum.o'
     silent 'clang -target bpf -O0 -mcpu=v3 -c counter.c -o counter.o'
-    silent 'llvm-objcopy -O binary --only-section=method.inc counter.o inc.bin'
+    silent 'llvm-objcopy -O binary --only-section=method.inc.rw.0.8 counter.o inc.bin'
     silent 'radoscls pack --rules 2 inc.img inc:rw:0:8:inc.bin'
     prints 1 1 'radoscls verify inc.img'
     prints 2 5 'radoscls run inc.img inc'
@@ -304,10 +293,8 @@ try_c() {
 try_all_c() {
     local its='clang llvm-objcopy llvm-readelf llvm-objdump'
     folder=$work
-    needs $its
-    try_script_of_one
-    try_c
     needs $its "$program"
+    try_c
     try_script
     tools=$work/bin
     needs $its "$program"
@@ -317,7 +304,8 @@ try_all_c() {
     fi
 }
 
-# What the three classes in C answer, by hand: a first count; a swap that is made, one of another number, one of a short input.
+# The answers of the classes in C, worked out by hand: a first count; a swap that is made, one of another number, one of a short input; a
+# queue as its text has it.
 try_answers() {
     local one=0100000000000000 none=0000000000000000 seven=0700000000000000
     answers 'radoscls run counter.img inc' 'code 0' "output $one" 'object 0 1 0'
@@ -325,9 +313,13 @@ try_answers() {
     answers "radoscls run swap.img swap --input $one$seven" 'code -16' 'output -' 'object absent'
     answers 'radoscls run swap.img swap --input 00' 'code -22' 'output -' 'object absent'
     answers 'radoscls run sum.img sum --input 010203' 'code 0' 'output 0600000000000000' 'object absent'
+    answers 'radoscls cluster ../examples/queue.cluster --class queue=queue.img' \
+        'client 1 call 0 place 0 code 0 output -' 'client 1 call 1 place 1 code 0 output -' \
+        'client 1 call 2 place 2 code 0 output 6162' 'client 1 call 3 place 3 code 0 output 6364' \
+        'client 1 call 4 place 4 code -61 output -'
 }
 
-# Whether the tables of docs/TRUST.md are those that `tools/trust.py` prints.
+# The tables of docs/TRUST.md are those that `tools/trust.py` prints.
 try_trust() {
     local command wanted
     on docs/TRUST.md "$top"
@@ -343,7 +335,7 @@ try_trust() {
     if [ "$printed" = "$wanted" ]; then ok=$((ok + 1)) && echo "ok $command"; else differs "$command" "$wanted"; fi
 }
 
-# What maintainers call: on one crate, on one row, once.
+# Commands of maintainers: on one crate, on one row, once.
 try_tools() {
     lacking=
     on docs/GATE.md "$work/one/crates/placement"
@@ -364,6 +356,8 @@ try_tools() {
     instead=./out/bench runs 'for i in 1 2 3 4 5 6 7 8; do ./out/bench; done'
     needs out/bench
     runs './out/bench memory'
+    needs "$top/crates/radoscls/out/radoscls"
+    instead="'$top/tools/worst_case.py'" runs 'tools/worst_case.py'
     needs cc
     runs 'cc -O2 baseline.c -o baseline && ./baseline'
     needs python3
@@ -388,6 +382,7 @@ try_library() {
         by tools/embed.sh "$command"
     done
     on docs/CONTRIBUTING.md "$top"
+    by "README.md's line" 'tools/try.sh'
     by tools/embed.sh 'tools/library.sh'
     for page in docs/CONTRIBUTING.md docs/GATE.md; do by "the gate" 'tools/embed.sh'; done
 }
@@ -430,7 +425,7 @@ know_forms() {
     by tests_play 'radoscls sim --trace FILE'
 }
 
-# Whether there is a command that nothing above names.
+# Tells of commands that nothing above names.
 find_others() {
     local other
     while IFS= read -r other; do

@@ -5,10 +5,14 @@ typedef unsigned int u32;
 typedef unsigned long long u64;
 typedef long long s64;
 
-/* A method: IN bytes of input (padded with zeros), how long the input is, and OUT bytes of output.
-   It returns its code; a negative one is an error, and drops all that the method did. */
-#define METHOD(name) \
-    __attribute__((section("method." #name), used)) s64 name(const u8 *in, u64 in_len, u8 *out)
+/* A method with FLAGS r, w or rw gets IN bytes of input (padded with zeros), how long the input is, and OUT bytes of
+   output. It returns its code; a negative one is an error, and drops all that the method did. The section's name has
+   all of this, for build.sh. */
+#define METHOD(name, flags, in_cap, out_cap) \
+    METHOD_IN("method." #name "." #flags "." METHOD_TEXT(in_cap) "." METHOD_TEXT(out_cap), name)
+#define METHOD_TEXT(number) #number
+#define METHOD_IN(where, name) \
+    __attribute__((section(where), used)) s64 name(const u8 *in, u64 in_len, u8 *out)
 
 #define ENOENT 2
 #define EIO 5

@@ -1,9 +1,9 @@
 #include "class.h"
 
 /* Adds 1 to the 8-byte counter in the xattr "count", and gives the new number as output. */
-METHOD(inc)
+METHOD(inc, rw, 0, 8)
 {
-    char name[5] = {'c', 'o', 'u', 'n', 't'};
+    char name[5] = "count";
     u64 count = 0;
     s64 got = cls_getxattr(name, sizeof name, &count, sizeof count);
     if (got < 0 && got != -ENOENT && got != -ENODATA)

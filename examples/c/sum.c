@@ -1,7 +1,7 @@
 #include "class.h"
 
 /* The sum of the first 16 bytes of input, as 8 bytes of output. No jump goes back, so the loop is unrolled. */
-METHOD(sum)
+METHOD(sum, r, 16, 8)
 {
     u64 total = 0;
 #pragma clang loop unroll(full)

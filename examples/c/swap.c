@@ -1,7 +1,7 @@
 #include "class.h"
 
 /* Compare and swap of the data's first 8 bytes: the input is what they should be, and what they become. */
-METHOD(swap)
+METHOD(swap, rw, 16, 0)
 {
     u64 now = 0;
     if (in_len != 16)

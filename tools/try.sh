@@ -1,0 +1,56 @@
+#!/usr/bin/env bash
+# Compiles `radoscls` once, without any proof, and runs commands by it.
+#
+#     tools/try.sh [FILE]
+#
+# The commands are a shell's, of FILE or of standard input; on a terminal it asks for them. They run
+# in the caller's folder, and `radoscls` in them is the program. The status is the last one's, or 2 if
+# the program doesn't compile.
+#
+# Compiling takes a minute or two and 1.5 GB. The program is kept, in crates/radoscls/out/tried, until
+# a source or the kit is another. It is built with checks of memory, so it is slower than `rt run`'s.
+set -eu
+top=$(cd "$(dirname "$0")/.." && pwd)
+kept=$top/crates/radoscls/out/tried
+
+# Names the kit and sums the sources: all that the program is made of.
+made_of() {
+    rt version
+    cd "$top" && find crates.txt crates/*/src -type f -print0 | sort -z | xargs -0 sha256sum
+}
+
+# `rt try` keeps no file, but a program that reads a pipe waits for it, and can be copied meanwhile.
+compile() {
+    local work program
+    work=$(mktemp -d)
+    trap "rm -rf '$work'" EXIT
+    chmod 755 "$work"
+    mkfifo -m 644 "$work/pipe"
+    echo "compiling radoscls, without a proof" >&2
+    # the last part lets the pipe be opened below if the program was never run
+    { cd "$top/crates/radoscls"; TMPDIR=$work rt try -- verify "$work/pipe" > "$work/told" 2>&1 || true; : <> "$work/pipe"; } &
+    exec 3> "$work/pipe"
+    program=$(find "$work" -type f -name program -perm -u+x -print -quit)
+    if [ -n "$program" ]; then
+        mkdir -p "$kept"
+        cp "$program" "$kept/radoscls"
+        printf '%s\n' "$1" > "$kept/sum"
+    fi
+    exec 3>&-
+    wait
+    if [ -z "$program" ]; then
+        cat "$work/told" >&2
+        exit 2
+    fi
+    rm -rf "$work"
+    trap - EXIT
+}
+
+sum=$(made_of | sha256sum)
+if [ "$(cat "$kept/sum" 2> /dev/null)" != "$sum" ]; then compile "$sum"; fi
+export PATH="$kept:$PATH"
+if [ $# = 0 ] && [ -t 0 ]; then
+    echo "radoscls is compiled, and not proved; exit leaves" >&2
+    PS1='try> ' exec bash --norc
+fi
+exec bash "$@"
