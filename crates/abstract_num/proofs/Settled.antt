@@ -1,14 +1,19 @@
 -- What tightening leaves as it is: every number, and a constant.
-use Rattle.std.proofs.Common.{◌≡◌, ℕ, ℤ, pos, ◌+◌, ◌+ℤ◌, ◌≤ℤ◌, ◌<ℤ◌, ◌^◌, ◌<◌, ◌≤◌, Some, None, true, false, cond, Option, refl, ap, sym, subst, ◌∙◌, arith, eq-eqb}
+use Rattle.std.proofs.Common.{◌≡◌, ℕ, ℤ, pos, ◌+◌, ◌+ℤ◌, ◌≤ℤ◌, ◌<ℤ◌, ◌^◌, ◌<◌, ◌≤◌, Some, None, true, false, cond, refl, ap, sym, subst, ◌∙◌, arith, eq-eqb}
 use Rattle.std.specs.Prelude.{max, min, Bool, ◌==◌, ◌&&◌, nat_lt, nat_le, int_le, int_lt}
 use Rattle.std.specs.Int.{int_max, int_min}
 use Rattle.std.proofs.lemmas.Int.{ints, clamps}
 use Rattle.abstract_num.specs.Signed.{signed}
-use Rattle.abstract_num.specs.Masks.{clear}
 use Rattle.abstract_num.specs.proved.BitsRows.{clear_zero}
 use Rattle.abstract_num.specs.proved.Cases.{cond_dec, cond_both}
 use Rattle.abstract_num.specs.Plain.{Plain, any, constant}
 use Rattle.abstract_num.specs.Tighten.{natural, less_all, plus_all, meet_unsigned, meet_signed, by_bits, by_unsigned, by_signed, by_constant, tighten}
+use Rattle.abstract_num.specs.Transfer.{is_constant, finished64, transferred}
+use Rattle.abstract_num.specs.declared.row.Row.TheVariants as row
+use Rattle.abstract_num.specs.declared.row.RowAnswer.TheVariants.{Exact, By}
+use Rattle.bpf_decode.specs.Arithmetic.{alu_value}
+use Rattle.bpf_decode.specs.declared.operation.OpWidth.TheVariants.{Bits64}
+use Rattle.bpf_decode.specs.declared.operation.Arithmetic.TheVariants as op
 use Rattle.abstract_num.proofs.Tight.{signed_high, signed_low, sign_of, sign_below, meets_low, meets_high, one_number}
 use Rattle.abstract_num.proofs.Steps.{from_first, from_second, first_step}
 
@@ -92,3 +97,11 @@ pub tighten-constant : (n : ℕ) → n < 2 ^ 64 → tighten (constant n) ≡ Som
 tighten-constant n h =
     settled (constant n) (met_range n n (n + 0) refl (no_more n)) (unsigned_stays n h) (signed_stays n h) (nat_same n) (int_same (signed n))
     ∙ one_number (constant n) (signed n) (signed n) (signed n) refl refl refl refl (clear_zero n) (itself (signed n)) (itself (signed n))
+
+-- the sum of two constants
+pub offset-constant : (x : Plain) (d v : ℕ) → is_constant x ≡ true → v ≡ alu_value Bits64 op.Add x.low d → v < 2 ^ 64 → transferred Bits64 op.Add x (constant d) ≡ Some (constant v)
+offset-constant x d v e f h =
+    ap (λ (b : Bool). finished64 (cond (b && (d == d)) (Exact (alu_value Bits64 op.Add x.low d)) (By row.Add)) x (constant d)) e
+    ∙ ap (λ (b : Bool). finished64 (cond b (Exact (alu_value Bits64 op.Add x.low d)) (By row.Add)) x (constant d)) (eq-eqb d d refl)
+    ∙ ap (λ (n : ℕ). tighten (constant n)) (sym f)
+    ∙ tighten-constant v h

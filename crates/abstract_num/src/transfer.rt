@@ -178,6 +178,26 @@ pub fn arithmetic(bits: OpWidth, operation: Arithmetic, x: Number, y: Number) ->
     transferred(bits, operation, x, y)
 }
 
+/// The sum of a number and a distance, modulo `2^64`. None where no number is left.
+// Most places are constants: their sum is made where it is asked for, and nothing is called.
+#[inline(always)]
+pub fn offset_by(x: &Number, distance: u64) -> Option<Number>
+    ensures { Gives (transferred Bits64 Arithmetic.Add (view x.now) (constant distance)) result }
+{
+    let place = *x;
+    if is_constant(place) {
+        let moved = exact::alu(
+            OpWidth::Bits64,
+            Arithmetic::Add,
+            place.unsigned().low,
+            distance,
+        );
+        Some(constant(moved))
+    } else {
+        arithmetic(OpWidth::Bits64, Arithmetic::Add, place, constant(distance))
+    }
+}
+
 /// The negative: 0 less the number.
 #[inline(always)]
 pub fn negative(bits: OpWidth, x: Number) -> Option<Number>
