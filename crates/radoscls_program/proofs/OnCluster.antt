@@ -16,7 +16,11 @@ use Rattle.radoscls_program.proofs.Unasked.{other}
 -- the values by the rows
 same_taken : (f : ArgMatches) (c : Clustering) → TakesCluster (first_value (found_of f)) (λ id. all_of id (rows_of (found_of f))) c
     → TakesCluster (λ id. first_of id (rows_of (found_of f))) (λ id. all_of id (rows_of (found_of f))) c
-same_taken f c takes = record { file = sym (first_value-rows (found_of f) (codes "FILE")) ∙ takes.file; tenants = takes.tenants }
+same_taken f c takes = record {
+  file = sym (first_value-rows (found_of f) (codes "FILE")) ∙ takes.file;
+  tenants = takes.tenants;
+  shown = takes.shown ∙ ap is_set (first_value-rows (found_of f) (codes "show"));
+}
 
 -- what `cluster` asks for
 pub asks_cluster : (m found : ArgMatches) → subcommand_name_of m ≡ Some (codes "cluster")

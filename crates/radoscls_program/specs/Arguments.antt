@@ -114,11 +114,12 @@ pub record NamesSim (value : List ℕ → Option (List ℕ)) (values : List ℕ 
   pub file : IsSome (value (codes "FILE"))
   pub tenants : are_tenants (texts_of (values (codes "class"))) ≡ true
 
--- What `cluster` takes from the values: the file of calls and maps FILE, and a tenant's class of
--- each --class.
+-- What `cluster` takes from the values: the file of calls and maps FILE, a tenant's class of each
+-- --class, and whether --show is there.
 pub record TakesCluster (value : List ℕ → Option (List ℕ)) (values : List ℕ → Option (List (List ℕ))) (c : Clustering) : Type 0 where
   pub file : value (codes "FILE") ≡ Some c.file.now
   pub tenants : SpellsTenants (texts_of (values (codes "class"))) c.tenants.items
+  pub shown : c.is_shown ≡ is_set (value (codes "show"))
 
 -- a file of calls and maps is named, and each --class spells a tenant's class
 pub record NamesCluster (value : List ℕ → Option (List ℕ)) (values : List ℕ → Option (List (List ℕ))) : Type 0 where

@@ -306,7 +306,10 @@ fn cluster_command<'a>(alloc: Global) -> Result<Command<'a>, AllocError>
 {
     let about = "Plays clients' calls on a cluster in threads";
     let of_calls = file_command(alloc, "cluster", about, "FILE", CLUSTER_FILE);
-    with_arg(with_arg(of_calls, class_option(alloc)), stats_flag(alloc))
+    let help = "Shows in each line what the call asked: its object's group, and the request";
+    let show = flag(alloc, "show", help);
+    let of_classes = with_arg(with_arg(of_calls, class_option(alloc)), show);
+    with_arg(of_classes, stats_flag(alloc))
 }
 
 /// The command without its subcommands, of which one has to be there.
@@ -593,7 +596,11 @@ fn cluster_of<'a>(
         return Ok(None);
     };
     match tenants_of(alloc, matches)? {
-        Some(tenants) => Ok(Some(Clustering { file, tenants })),
+        Some(tenants) => Ok(Some(Clustering {
+            file,
+            tenants,
+            is_shown: is_set(matches, "show"),
+        })),
         None => Ok(None),
     }
 }
