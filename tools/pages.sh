@@ -167,8 +167,9 @@ make_copies() {
         ln -s "$kit/toolchain/bin/clang" "$work/kit/$tool"
         "$work/kit/$tool" --version > "$work/errors" 2>&1 || rm "$work/kit/$tool"
     done
-    # The pages' FILE.
+    # The pages' FILE, and the class that they show refused.
     printf 'map 1\nsee 1 1\ndeliver 1\ndeliver 2\nreq 1 1 1 a count count -\n' > "$work/examples/FILE"
+    sed 's/hello r 0 5/hello r 0 4/' "$work/examples/hello.txt" > "$work/refused.txt"
 }
 
 # `radoscls` as it was built, else as tools/try.sh leaves it.
@@ -186,72 +187,74 @@ try_readme() {
     on README.md "$work/examples"
     by "the next line" 'cd examples'
     by "the next line" 'tools/try.sh'
-    instead="'$top/tools/try.sh' <<< 'radoscls run keep.img keep --input 726f6f74'" \
-        prints 1 4 'radoscls run keep.img keep --input 726f6f74'
-    by "rt ci, with other words" 'cd crates/radoscls && rt run -- verify ../../examples/keep.img'
-    silent 'radoscls asm hello.txt hello.img'
-    prints 1 1 'radoscls verify hello.img'
-    prints 2 5 'radoscls run hello.img hello'
-    sed 's/hello r 0 5/hello r 0 4/' "$work/examples/hello.txt" > "$work/refused.txt"
-    instead='radoscls asm ../refused.txt ../refused.img && radoscls verify ../refused.img' as=1 \
-        prints 1 1 '.method hello r 0 4'
+    instead="'$top/tools/try.sh' <<< 'radoscls run keep.txt keep --input 726f6f74'" \
+        prints 1 4 'radoscls run keep.txt keep --input 726f6f74'
+    by "rt ci, with other words" 'cd crates/radoscls && rt run -- verify ../../examples/keep.txt'
+    prints 1 1 'radoscls verify hello.txt'
+    prints 2 5 'radoscls run hello.txt hello'
+    instead='radoscls verify ../refused.txt' as=1 prints 1 1 '.method hello r 0 4'
     has 1 5 'radoscls sim --trace survive.sim'
     prints 1 2 'radoscls cluster lost_primary.cluster'
-}
-
-# Assembles an example, to the image that stands beside it.
-assembles() {
-    instead="radoscls asm $1.txt $1.img && cmp $1.img '$top/examples/$1.img'" silent "radoscls asm $1.txt $1.img"
 }
 
 # examples/README.md.
 try_examples() {
     on examples/README.md "$work/examples"
-    assembles two
-    prints 1 4 'radoscls run two.img f'
-    assembles hello
-    prints 1 4 'radoscls run hello.img hello'
-    assembles keep
-    prints 1 4 'radoscls run keep.img keep --input 726f6f74'
-    assembles count
-    prints 1 4 'radoscls run count.img count'
-    silent 'radoscls asm patterns.txt patterns.img'
-    prints 1 5 'radoscls verify patterns.img'
-    prints 6 9 'radoscls run patterns.img sum --input 01020304'
-    prints 1 1 'radoscls verify keep.img'
+    # to the images that stand beside the texts
+    instead="for it in two hello keep count; do radoscls asm \$it.txt \$it.img && cmp \$it.img '$top/examples/'\$it.img || exit; done" \
+        silent 'radoscls asm hello.txt hello.img'
+    prints 1 4 'radoscls run two.txt f'
+    prints 1 4 'radoscls run hello.txt hello'
+    prints 1 4 'radoscls run keep.txt keep --input 726f6f74'
+    prints 1 4 'radoscls run count.txt count'
+    prints 1 5 'radoscls verify patterns.txt'
+    prints 6 9 'radoscls run patterns.txt sum --input 01020304'
+    prints 1 1 'radoscls verify keep.txt'
     prints 1 6 'radoscls dis hello.img'
     runs 'cat survive.sim'
     ends 1 7 'radoscls sim survive.sim'
     runs 'radoscls sim --trace survive.sim'
     prints 1 2 'radoscls cluster lost_primary.cluster'
     prints 1 20 'radoscls sim --trace lost_ack.sim'
-    silent 'radoscls asm queue.txt queue.img'
-    prints 1 5 'radoscls cluster queue.cluster --class queue=queue.img'
-    silent 'radoscls asm swap.txt swap.img'
-    prints 1 4 'radoscls run swap.img swap --object 0500 --input 05000000000000000700000000000000'
-    ends 1 6 'radoscls sim one_node.sim --class queue=queue.img'
+    prints 1 5 'radoscls cluster queue.cluster --class queue=queue.txt'
+    prints 1 4 'radoscls run swap.txt swap --object 0500 --input 05000000000000000700000000000000'
+    ends 1 6 'radoscls sim one_node.sim --class queue=queue.txt'
 }
 
 # A tenant's class is asked, and counts.
 asks_count() {
-    instead="radoscls sim --class count=count.img FILE | grep 'Reply 1 0 1 0100000000000000'" \
-        runs 'radoscls sim --class count=count.img FILE'
+    instead="radoscls sim --class count=count.txt FILE | grep 'Reply 1 0 1 0100000000000000'" \
+        runs 'radoscls sim --class count=count.txt FILE'
 }
 
 # The other pages' commands of classes and groups.
 try_docs() {
     on docs/WRITING.md "$work/examples"
-    silent 'radoscls asm hello.txt hello.img'
-    prints 1 1 'radoscls verify hello.img'
-    prints 2 5 'radoscls run hello.img hello'
+    prints 1 1 'radoscls verify hello.txt'
+    prints 2 5 'radoscls run hello.txt hello'
     by "README.md's line" 'tools/try.sh'
-    silent 'radoscls asm swap.txt swap.img'
-    prints 1 5 'radoscls run swap.img swap --object 0500 --input 05000000000000000700000000000000 --show'
-    silent 'radoscls asm queue.txt queue.img'
-    prints 1 5 'radoscls cluster queue.cluster --class queue=queue.img'
-    has 1 3 'radoscls sim one_node.sim --class queue=queue.img'
+    instead='radoscls verify --explain ../refused.txt' as=1 prints 1 9 'radoscls verify --explain'
+    prints 1 5 'radoscls run swap.txt swap --object 0500 --input 05000000000000000700000000000000 --show'
+    has 2 2 'radoscls cluster queue.cluster --class queue=queue.txt'
+    has 1 2 'radoscls sim one_node.sim --class queue=queue.txt'
     on docs/SIM.md "$work/examples"
     asks_count
+    on docs/PROGRAM.md "$top"
+    needs python3
+    instead="tools/manual.py --check '$program'" silent 'tools/manual.py'
+    lacking=
+    instead='. tools/radoscls.bash && complete -p radoscls' runs '. tools/radoscls.bash'
+    by "who reads it" 'man tools/radoscls.1'
+}
+
+# The examples at the end of each command's help.
+try_help() {
+    local command
+    for command in verify run asm pack dis sim cluster; do "$program" "$command" --help 2>> "$work/help"; done
+    on help "$work/examples"
+    # two instructions, `mov r0, 0` and `exit`
+    printf '\267\0\0\0\0\0\0\0\225\0\0\0\0\0\0\0' > "$folder/sum.bin"
+    while IFS= read -r command; do runs "$command"; done < <(sed -n 's/^  \(radoscls .*\)/\1/p' "$work/help")
 }
 
 # The script of docs/FROM_C.md.
@@ -419,7 +422,7 @@ know_forms() {
         esac
     done < <(sed -n '/^```/,/^```/p' "$work/$page" | grep '^radoscls')
     on docs/CLUSTER.md "$work"
-    by tests_play 'radoscls cluster FILE [--class NAME=IMAGE ..] [--stats]'
+    by tests_play 'radoscls cluster FILE [--class NAME=IMAGE ..] [--show] [--stats]'
     on docs/SIM.md "$work"
     by tests_play 'radoscls sim FILE'
     by tests_play 'radoscls sim --trace FILE'
@@ -441,6 +444,7 @@ make_program
 try_readme
 try_examples
 try_docs
+try_help
 try_all_c
 try_tools
 try_refusals
