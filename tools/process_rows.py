@@ -84,6 +84,7 @@ FILES = {
     "bad.calls": NUMBERS + "client 1 a lock lock -\nclient 3 a lock lock -\n",
     "map.calls": NUMBERS + "client 1 a lock lock -\nmap\n",
     "limit.calls": NUMBERS.replace("nodes 3", "nodes 17"),
+    "full": b"o" * 65536,
     "largest.txt": LARGEST_TEXT,
     "largest.img": LARGEST,
 }
@@ -108,12 +109,19 @@ DONE = {
 }
 RIGHT = {"--input": "00", "--caller": "1", "--object": "00", "--rules": "1"}
 OF_ALL = "--help", "--version"
+VERSION = "radoscls 0.4.0\nrattle-kit-13f logic dac8208d650f15bf\n"
 OPTIONS = sorted({option for _, options in COMMANDS.values() for option in options})
 
 
 def usage(first="", last="\nFor more information, try '--help'.\n"):
     """Whether a text is clap's of wrong words: an error that begins so, and where to look."""
     return lambda text: text.startswith(f"error: {first}") and text.endswith(last)
+
+
+def mistake(words, value, argument):
+    """Whether a text says that the value isn't what the argument wants, and then the command's use."""
+    start = usage(f"invalid value '{value}' for '{argument}': expected ")
+    return lambda text: start(text) and f"\n\nUsage: radoscls {words.split()[0]} " in text
 
 
 def helps(use, *names):
@@ -199,6 +207,11 @@ ROWS = [
     Row("asm two.txt lock.img", wrote={"lock.img": TWO}),
     Row("asm two.txt two.txt", wrote={"two.txt": TWO}),
     Row("pack code f:r:0:0:code", wrote={"code": TWO}),
+    # a text in place of an image
+    Row("verify two.txt", "f ok 2\n"),
+    Row("run two.txt f", RAN),
+    Row("dis two.txt", TWO_TEXT),
+    Row("verify word.txt", "line 2: 1 Word\n", "", 1),
     # refusals, which write no file
     Row("verify missing", "cannot read\n", "", 1),
     Row("verify folder", "cannot read\n", "", 1),
@@ -254,16 +267,17 @@ ROWS = [
     Row("asm --explain two.txt out", wrote={"out": TWO}),
     Row("pack out f:r:0:0:code --explain", wrote={"out": TWO}),
     Row("verify --explain unset.img", tells(UNSAFE[:-1]), "", 1),
-    Row("run unset.img f --explain", tells(UNSAFE[:-1], 0), "", 1),
-    Row("run two.img g --explain", tells("call refused: 1 NoMethod", 0), "", 1),
-    Row("asm word.txt out --explain", tells("line 2: 1 Word", 0), "", 1),
-    Row("dis empty --explain", tells(NO_IMAGE[:-1], 0), "", 1),
+    Row("run unset.img f --explain", tells(UNSAFE[:-1]), "", 1),
+    Row("run two.img g --explain", tells("call refused: 1 NoMethod"), "", 1),
+    Row("asm word.txt out --explain", tells("line 2: 1 Word"), "", 1),
+    Row("dis empty --explain", tells(NO_IMAGE[:-1]), "", 1),
     Row("verify missing --explain", tells("cannot read"), "", 1),
     Row("asm missing out --explain", tells("cannot read"), "", 1),
     Row("asm two.txt folder --explain", tells("cannot write"), "", 1),
     Row("pack out f:r:0:0:missing --explain", tells("cannot read"), "", 1),
     # --class, --trace
     Row("sim two.sim --class two=two.img", REPLY),
+    Row("sim two.sim --class two=two.txt", REPLY),
     Row("sim two.sim", OPENED + "refused 5 NoClass\n"),
     Row("cluster two.calls --class two=two.img", CALLED),
     Row("cluster --class one=lock.img --class two=two.img two.calls", CALLED),
@@ -308,6 +322,14 @@ ROWS = [
            "a=00", "--key", b"\xed\xa0\x80=00"])),
     # long words (Linux hands over 131,071 bytes at most), many words, large files
     Row("verify " + "0" * 5000, "cannot read\n", "", 1),
+    Row("run two.img f --object @full", ran(0, "-", 2, "65536 0 0")),
+    Row("run two.img f --object @largest.txt", "object refused: 4 TooBig\n", "", 1),
+    Row("run two.img f --object @- --show", ran(0, "-", 2, "2 0 0", "data 6162"), stdin=b"ab"),
+    Row("run two.img f --input - --object - --xattr a=- --xattr b=@empty --key k=@code --show",
+        ran(0, "-", 2, "0 2 1", "data -", "xattr a -", "xattr b -", "key k " + CODE.hex())),
+    *(Row(f"run two.img f {value}", "cannot read\n", "", 1) for value in (
+        "--input @missing", "--object @folder", "--object g --xattr a=@missing", "--key a=@")),
+    Row("run two.img f --object @missing --explain", tells("cannot read"), "", 1),
     Row(["run", "two.img", "f", "--object", "6f" * 65535, "--show"],
         ran(0, "-", 2, "65535 0 0", "data " + "6f" * 65535)),
     Row("run keep.img keep --input 726f6f74 --caller 9 --object 6162 --xattr a=01 --xattr b= "
@@ -356,8 +378,8 @@ ROWS = [
                            *(option + value for option, value in options.items())), 2)
       for name, (places, options) in COMMANDS.items()
       for words in (f"{name} --help", f"{name} -h", f"help {name}", f"{DONE[name]} --help")),
-    Row("--version", "", "radoscls 0.4.0\n", 2),
-    Row("-V", "", "radoscls 0.4.0\n", 2),
+    Row("--version", "", VERSION, 2),
+    Row("-V", "", VERSION, 2),
     # wrong words, by clap: commands, places
     Row("erase two.img", "", usage("unrecognized subcommand 'erase'\n"), 2),
     Row([""], "", usage("unrecognized subcommand ''\n"), 2),
@@ -387,11 +409,24 @@ ROWS = [
     *(Row(f"run two.img f --caller {number}", "",
           usage(f"invalid value '{number}' for '--caller <N>': "), 2)
       for number in ("0", "4294967296", "18446744073709551616", "one", "1.0", "0x1")),
-    # wrong words, by the program
-    *(Row(words, "", usage(), 2) for words in (
-        "pack out f", "pack out f:r:0:0", "pack out f:x:0:0:code", "pack out f:r:65536:0:code",
-        "pack out f:r:0:-1:code", "pack out f:r:0:0:code g", "pack --rules 3 out f:r:0:0:code",
-        "run two.img f --xattr a", "run two.img f --key a", "sim locks.sim --class two",
-        "sim locks.sim --class =two.img", "sim locks.sim --class lock=two.img",
-        "cluster calls --class obj=two.img", "cluster calls --class a=two.img --class a=two.img")),
+    # wrong words, by the program: the value, its argument, what it wants, and the command's usage
+    *(Row(words, "", mistake(words, value, argument), 2) for words, value, argument in (
+        *((f"pack out {method}", method.split()[-1], "<METHOD>...") for method in (
+            "f", "f:r:0:0", "f:x:0:0:code", "f:r:65536:0:code", "f:r:0:-1:code", "f:r:00:0:code",
+            "f:r:0:+1:code", "f:r:0:0:code g")),
+        ("pack --rules 3 out f:r:0:0:code", "3", "--rules <N>"),
+        *((f"run two.img f --caller {number}", number, "--caller <N>")
+          for number in ("+7", "007")),
+        ("run two.img f --xattr a", "a", "--xattr <NAME=HEX>"),
+        ("run two.img f --key a", "a", "--key <KEY=HEX>"),
+        *((f"sim locks.sim --class {value}", value, "--class <NAME=IMAGE>")
+          for value in ("two", "=two.img", "lock=two.img")),
+        ("cluster calls --class obj=two.img", "obj=two.img", "--class <NAME=IMAGE>"),
+        ("cluster calls --class a=two.img --class a=empty", "a=empty", "--class <NAME=IMAGE>"),
+        ("asm two.txt -", "-", "<OUT>"), ("pack - f:r:0:0:code", "-", "<OUT>"))),
+    # standard input, read twice
+    *(Row(words, "", usage("standard input ('-') can be read by one argument alone\n\nUsage: "), 2)
+      for words in ("pack out f:r:0:0:- g:r:0:0:-", "sim - --class two=-", "run - f --input @-",
+                    "run two.img f --object @- --key a=@-",
+                    "cluster calls --class a=- --class b=-")),
 ]

@@ -9,7 +9,9 @@ mod advise;
 mod known;
 mod note;
 mod read;
+mod source;
 mod touched;
 
 pub use advice::{Advice, Last};
 pub use note::refusal_note;
+pub use source::{fault_text, source_text};

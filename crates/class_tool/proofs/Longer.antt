@@ -1,19 +1,118 @@
--- What the beginning of a file says as an image, the whole file says.
-use Rattle.std.proofs.Common.{◌≡◌, ◌+◌, ℕ, List, Option, Some, None, Err, take, sym, ap, subst, ◌∙◌}
-use Rattle.std.specs.Prelude.{◌↔◌}
+-- What the beginning of a file says as a class, the whole file says.
+use Rattle.std.proofs.Common.{◌≡◌, ◌+◌, ◌≤◌, ◌⊎◌, inl, inr, ℕ, List, Option, Some, None, Result, Ok, Err, take, length, min, sym, ap, subst, ◌∙◌, arith, length-take}
+use Rattle.std.specs.Prelude.{◌↔◌, IfErr, string_bytes}
+use Rattle.std.proofs.lemmas.List.{take_all}
 use Rattle.bpf_decode.specs.Class.{Class, IsImage}
 use Rattle.bpf_decode.specs.ImageReading.{image_of}
 use Rattle.bpf_decode.specs.declared.limits.TheConstants.{IMAGE_LIMIT}
-use Rattle.bpf_decode.specs.declared.image_error.ImageError.{ImageError}
-use Rattle.class_tool.specs.Files.{Disk, IsBeginning}
-use Rattle.class_tool.specs.Image.{IsImageIn, IsRefusedIn}
+use Rattle.verifier.specs.Verdict.{class_verdict, out_of_memory}
+use Rattle.verifier.specs.declared.refusal.Refusal.{Refusal}
+use Rattle.class_tool.specs.Files.{Disk, Holds, IsBeginning}
+use Rattle.class_advice.specs.Source.{fault_text}
+use Rattle.class_tool.specs.Explained.{IsFaultNote, IsReadNote}
+use Rattle.class_tool.specs.Image.{IsClassIn, IsImageIn, IsMemory, IsRefusedIn, IsSourceOf, IsText, IsVerdictIn, ReadFails, SayNone, Says, class_of}
+use Rattle.class_tool.specs.declared.failure.Failure.{Failure}
+use Rattle.class_tool.specs.declared.failure.Failure.TheVariants as failure
+use Rattle.class_tool.specs.declared.image.Source.{Source}
+use Rattle.class_tool.specs.declared.image.Source.TheVariants as sources
 
-pub image_in : ((bytes : List ℕ) (c : Class) → IsImage (take (IMAGE_LIMIT + 1) bytes) c ↔ IsImage bytes c) → (disk : Option Disk) (name bytes : List ℕ) (class : Class) → IsBeginning disk name (IMAGE_LIMIT + 1) bytes → IsImage bytes class → IsImageIn disk name class
+abbrev pub ImageLaw : Type 0
+ImageLaw = (bytes : List ℕ) (c : Class) → IsImage (take (IMAGE_LIMIT + 1) bytes) c ↔ IsImage bytes c
+
+abbrev pub ReadLaw : Type 0
+ReadLaw = (bytes : List ℕ) → image_of (take (IMAGE_LIMIT + 1) bytes) ≡ image_of bytes
+
+pub image_in : ImageLaw → (disk : Option Disk) (name bytes : List ℕ) (class : Class) → IsBeginning disk name (IMAGE_LIMIT + 1) bytes → IsImage bytes class → IsImageIn disk name class
 image_in law None name bytes class b i = record { bytes = bytes; held = tt; image = i }
 image_in law (Some disk) name bytes class b i =
     record { bytes = b.0; held = b.1; image = (law b.0 class).0 (subst (λ (x : List ℕ). IsImage x class) b.2 i) }
 
-pub refused_in : ((bytes : List ℕ) → image_of (take (IMAGE_LIMIT + 1) bytes) ≡ image_of bytes) → (disk : Option Disk) (name bytes : List ℕ) (e : ImageError) → IsBeginning disk name (IMAGE_LIMIT + 1) bytes → image_of bytes ≡ Err e → IsRefusedIn disk name e
+-- a beginning that isn't as long as it might be is the whole
+whole : (k : ℕ) (bytes file : List ℕ) → bytes ≡ take (k + 1) file → length bytes ≤ k → bytes ≡ file
+whole k bytes file is short =
+    is ∙ take_all (k + 1) file (omega (arith, short, ap (λ (x : List ℕ). length x) is, length-take (k + 1) file))
+
+held_whole : (disk : Option Disk) (name bytes : List ℕ) → IsBeginning disk name (IMAGE_LIMIT + 1) bytes → length bytes ≤ IMAGE_LIMIT → Holds disk name bytes
+held_whole None name bytes b short = tt
+held_whole (Some disk) name bytes b short = b.1 ∙ ap (λ (x : List ℕ). Some x) (sym (whole IMAGE_LIMIT bytes b.0 b.2 short))
+
+pub source_in : ImageLaw → (disk : Option Disk) (name bytes : List ℕ) (source : Source) → IsBeginning disk name (IMAGE_LIMIT + 1) bytes → Says bytes source → IsSourceOf disk name source
+source_in law disk name bytes (sources.Image class) b says = image_in law disk name bytes class b says
+source_in law disk name bytes (sources.Text class text) b says =
+    let same : bytes ≡ string_bytes text = sym says.0 in
+    record {
+      held = subst (Holds disk name) same (held_whole disk name bytes b says.1.short);
+      is = subst IsText same says.1;
+      read = rw says.0 says.2;
+    }
+
+-- a whole file that is a text is its beginning
+text_begins : (bytes file : List ℕ) → bytes ≡ take (IMAGE_LIMIT + 1) file → IsText file → IsText bytes
+text_begins bytes file is t = subst IsText (sym (is ∙ take_all (IMAGE_LIMIT + 1) file (omega (arith, t.short)))) t
+
+pub refused_in : ReadLaw → (disk : Option Disk) (name bytes : List ℕ) (e : Failure) → IsBeginning disk name (IMAGE_LIMIT + 1) bytes → SayNone bytes e → IsRefusedIn disk name e
 refused_in law None name bytes e b r = record { bytes = bytes; held = tt; refused = r }
-refused_in law (Some disk) name bytes e b r =
-    record { bytes = b.0; held = b.1; refused = sym (law b.0) ∙ (sym (ap image_of b.2) ∙ r) }
+refused_in law (Some disk) name bytes (failure.Text error) b r =
+    record { bytes = bytes; held = held_whole (Some disk) name bytes b r.0.short; refused = r }
+refused_in law (Some disk) name bytes (failure.Image error) b r =
+    record {
+      bytes = b.0;
+      held = b.1;
+      refused = (λ t. r.0 (text_begins bytes b.0 b.2 t), sym (law b.0) ∙ (sym (ap image_of b.2) ∙ r.1));
+    }
+refused_in law (Some disk) name bytes failure.CannotRead b r = absurd r
+refused_in law (Some disk) name bytes failure.CannotWrite b r = absurd r
+refused_in law (Some disk) name bytes failure.NoMemory b r = absurd r
+refused_in law (Some disk) name bytes (failure.Verdict refusal) b r = absurd r
+refused_in law (Some disk) name bytes failure.InputNotHex b r = absurd r
+refused_in law (Some disk) name bytes failure.ObjectNotHex b r = absurd r
+refused_in law (Some disk) name bytes (failure.Object error) b r = absurd r
+refused_in law (Some disk) name bytes (failure.Call error) b r = absurd r
+
+-- why a beginning says no class, the file can't be read as one
+pub read_fails : ReadLaw → (disk : Option Disk) (name bytes : List ℕ) (e : Failure) → IsBeginning disk name (IMAGE_LIMIT + 1) bytes → IsMemory e ⊎ SayNone bytes e → ReadFails disk name e
+read_fails law disk name bytes failure.CannotRead b (inl m) = absurd m
+read_fails law disk name bytes failure.CannotRead b (inr r) = absurd r
+read_fails law disk name bytes failure.CannotWrite b o = elim o [ inl m ↦ inl m | inr r ↦ inr (refused_in law disk name bytes failure.CannotWrite b r) ]
+read_fails law disk name bytes failure.NoMemory b o = elim o [ inl m ↦ inl m | inr r ↦ inr (refused_in law disk name bytes failure.NoMemory b r) ]
+read_fails law disk name bytes (failure.Text e) b o = elim o [ inl m ↦ inl m | inr r ↦ inr (refused_in law disk name bytes (failure.Text e) b r) ]
+read_fails law disk name bytes (failure.Image e) b o = elim o [ inl m ↦ inl m | inr r ↦ inr (refused_in law disk name bytes (failure.Image e) b r) ]
+read_fails law disk name bytes (failure.Verdict e) b o = elim o [ inl m ↦ inl m | inr r ↦ inr (refused_in law disk name bytes (failure.Verdict e) b r) ]
+read_fails law disk name bytes failure.InputNotHex b o = elim o [ inl m ↦ inl m | inr r ↦ inr (refused_in law disk name bytes failure.InputNotHex b r) ]
+read_fails law disk name bytes failure.ObjectNotHex b o = elim o [ inl m ↦ inl m | inr r ↦ inr (refused_in law disk name bytes failure.ObjectNotHex b r) ]
+read_fails law disk name bytes (failure.Object e) b o = elim o [ inl m ↦ inl m | inr r ↦ inr (refused_in law disk name bytes (failure.Object e) b r) ]
+read_fails law disk name bytes (failure.Call e) b o = elim o [ inl m ↦ inl m | inr r ↦ inr (refused_in law disk name bytes (failure.Call e) b r) ]
+
+-- what was read is a class that the file holds
+pub is_class : (disk : Option Disk) (name : List ℕ) (source : Source) → IsSourceOf disk name source → IsClassIn disk name (class_of source)
+is_class disk name (sources.Image class) read = inl read
+is_class disk name (sources.Text class text) read = inr (string_bytes text, read)
+
+pub verdict_in : (disk : Option Disk) (name : List ℕ) (source : Source) (refusal : Refusal) (class : Class) → class ≡ class_of source → IsSourceOf disk name source → (refusal ≡ out_of_memory) ⊎ (class_verdict class ≡ Some refusal) → IsVerdictIn disk name refusal
+verdict_in disk name source refusal class same read verdict =
+    record {
+      class = class_of source;
+      image = is_class disk name source read;
+      verdict = subst (λ (c : Class). (refusal ≡ out_of_memory) ⊎ (class_verdict c ≡ Some refusal)) same verdict;
+    }
+
+-- the note of a beginning that says no class is that of the file
+pub note_in : (disk : Option Disk) (name bytes : List ℕ) (e : Failure) (note : List ℕ) → IsBeginning disk name (IMAGE_LIMIT + 1) bytes → IsMemory e ⊎ SayNone bytes e → IsFaultNote bytes e note → IsReadNote disk name e note
+note_in None name bytes (failure.Text error) note b o is = record { text = bytes; held = tt; same = is }
+note_in (Some disk) name bytes (failure.Text error) note b (inl lack) is =
+    record { text = b.0; held = b.1; same = is ∙ (ap (fault_text bytes) lack ∙ ap (fault_text b.0) (sym lack)) }
+note_in (Some disk) name bytes (failure.Text error) note b (inr r) is =
+    record { text = bytes; held = held_whole (Some disk) name bytes b r.0.short; same = is }
+note_in disk name bytes (failure.Image error) note b o is = is
+note_in disk name bytes failure.CannotRead note b o is = is
+note_in disk name bytes failure.CannotWrite note b o is = is
+note_in disk name bytes failure.NoMemory note b o is = is
+note_in disk name bytes (failure.Verdict refusal) note b o is = is
+note_in disk name bytes failure.InputNotHex note b o is = is
+note_in disk name bytes failure.ObjectNotHex note b o is = is
+note_in disk name bytes (failure.Object error) note b o is = is
+note_in disk name bytes (failure.Call error) note b o is = is
+
+pub if_err_both : {A E : Type 0} (r : Result A E) (P Q R : E → Type 0) → ((e : E) → P e → Q e → R e) → IfErr r P → IfErr r Q → IfErr r R
+if_err_both (Ok x) P Q R f p q = tt
+if_err_both (Err e) P Q R f p q = f e p q

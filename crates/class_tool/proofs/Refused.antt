@@ -4,7 +4,7 @@ use Rattle.bpf_decode.specs.Class.{Class}
 use Rattle.bpf_asm.specs.Classes.{AsmError, read_class_text}
 use Rattle.bpf_asm.specs.Fault.{no_memory}
 use Rattle.bpf_asm.specs.Grammar.{IsClassText}
-use Rattle.class_tool.specs.Assembly.{IsFaultOf}
+use Rattle.class_tool.specs.Image.{IsFaultOf}
 
 -- a refusal of a text that is read as no class
 pub text_refused : (text : List ℕ) (e : AsmError) → (e ≡ no_memory) ⊎ (read_class_text text ≡ Err e) → (e ≡ no_memory) ⊎ ((c : Class) → ¬ IsClassText text c) → (e ≡ no_memory) ⊎ IsFaultOf text e

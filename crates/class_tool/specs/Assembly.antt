@@ -1,12 +1,11 @@
 -- What `asm` writes and `dis` gives, and why they do not.
-use Rattle.std.specs.Prelude.{◌≡◌, ◌⊎◌, ⊤, ℕ, Bool, true, false, List, Option, Err, IsUtf8}
+use Rattle.std.specs.Prelude.{◌≡◌, ◌⊎◌, ⊤, ℕ, Bool, true, false, List, Option, IsUtf8}
 use Rattle.bpf_asm.specs.Canonical.{class_text, class_with_slots}
-use Rattle.bpf_asm.specs.Classes.{AsmError, read_class_text}
 use Rattle.bpf_asm.specs.Fault.{no_memory}
 use Rattle.bpf_asm.specs.Grammar.{IsClassText}
 use Rattle.bpf_decode.specs.Class.{Class, IsImage}
 use Rattle.class_tool.specs.Files.{Disk, FailsToWrite, Holds, IsUnreadable, Storage, Writes}
-use Rattle.class_tool.specs.Image.{IsImageIn}
+use Rattle.class_tool.specs.Image.{IsClassIn, IsFaultOf}
 use Rattle.class_tool.specs.declared.failure.Failure.{Failure}
 use Rattle.class_tool.specs.declared.failure.Failure.TheVariants.{CannotRead, CannotWrite, NoMemory, Text, Image, Verdict, InputNotHex, ObjectNotHex, Object, Call}
 
@@ -48,11 +47,6 @@ TextFails disk name ObjectNotHex = ⊥
 TextFails disk name (Object error) = ⊥
 TextFails disk name (Call error) = ⊥
 
--- the text is one of no class, and this is the first line that is refused and the least fault there
-pub record IsFaultOf (text : List ℕ) (error : AsmError) : Type 0 where
-  pub first : read_class_text text ≡ Err error
-  pub none : (class : Class) → IsClassText text class → ⊥
-
 -- Why a text has no image: memory was refused, or it is one of no class.
 abbrev pub ImageFails : List ℕ → Failure → Type 0
 ImageFails text CannotRead = ⊥
@@ -90,8 +84,8 @@ abbrev pub text_of : Bool → Class → List ℕ
 text_of false class = class_text class
 text_of true class = class_with_slots class
 
--- the text is that of the class whose image the file holds
+-- the text is that of the class that the file holds
 pub record IsTextOf (has_slots : Bool) (disk : Option Disk) (name : List ℕ) (text : List ℕ) : Type 0 where
   pub class : Class
-  pub image : IsImageIn disk name class
+  pub image : IsClassIn disk name class
   pub canonical : text ≡ text_of has_slots class

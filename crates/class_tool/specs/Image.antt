@@ -1,17 +1,60 @@
--- What a file says as an image, and why it says nothing.
-use Rattle.std.specs.Prelude.{◌≡◌, ◌⊎◌, ⊤, ℕ, List, Option, Some, None, Err}
+-- What a file says as a class, by its image or its text, and why it says nothing.
+use Rattle.std.specs.Prelude.{◌≡◌, ◌⊎◌, ◌≤◌, ◌==◌, ◌&&◌, ◌||◌, nat_lt, ⊤, ℕ, Bool, true, false, List, Option, Some, None, Err, IsUtf8, length, slice_index, string_bytes}
 use Rattle.std.specs.List.{AllByRecursion}
+use Rattle.bpf_asm.specs.Classes.{AsmError, read_class_text}
+use Rattle.bpf_asm.specs.Grammar.{IsClassText}
+use Rattle.bpf_asm.specs.Fault.{no_memory}
 use Rattle.bpf_decode.specs.Class.{ClassMethod, Class, IsImage}
 use Rattle.bpf_decode.specs.ImageReading.{image_of}
 use Rattle.bpf_decode.specs.declared.decode_error.DecodeError.TheVariants as decode
 use Rattle.bpf_decode.specs.declared.image_error.ImageError.{ImageError}
+use Rattle.bpf_decode.specs.declared.limits.TheConstants.{IMAGE_LIMIT}
 use Rattle.bpf_machine.specs.Safe.{IsSafe}
 use Rattle.verifier.specs.Verdict.{class_verdict, out_of_memory}
 use Rattle.verifier.specs.declared.refusal.Refusal.{Refusal}
-use Rattle.class_tool.specs.Files.{Disk, Holds}
+use Rattle.class_tool.specs.Files.{Disk, Holds, IsUnreadable}
 use Rattle.class_tool.specs.declared.failure.Failure.{Failure}
 use Rattle.class_tool.specs.declared.failure.Failure.TheVariants.{CannotRead, CannotWrite, NoMemory, Text, Image, Verdict, InputNotHex, ObjectNotHex, Object, Call}
-use Rattle.class_tool.specs.Files.{IsUnreadable}
+use Rattle.class_tool.specs.declared.image.Source.{Source}
+use Rattle.class_tool.specs.declared.image.Source.TheVariants as sources
+
+-- the first three bytes are `RCL`, or there are too few for a text
+abbrev pub begins_as_image : List ℕ → Bool
+begins_as_image bytes = nat_lt (length bytes) 4 || (slice_index bytes 0 == 82 && (slice_index bytes 1 == 67 && slice_index bytes 2 == 76))
+
+-- Bytes that are read as a text: they don't begin as an image does, are no more than an image may
+-- have, and are UTF-8. All others are read as an image.
+pub record IsText (bytes : List ℕ) : Type 0 where
+  pub other : begins_as_image bytes ≡ false
+  pub short : length bytes ≤ IMAGE_LIMIT
+  pub utf8 : IsUtf8 bytes
+
+-- the text is one of no class, and this is the first line that is refused and the least fault there
+pub record IsFaultOf (text : List ℕ) (error : AsmError) : Type 0 where
+  pub first : read_class_text text ≡ Err error
+  pub none : (class : Class) → IsClassText text class → ⊥
+
+abbrev pub class_of : Source → Class
+class_of (sources.Image class) = class
+class_of (sources.Text class text) = class
+
+-- bytes say the class as an image, or as a text
+abbrev pub Says : List ℕ → Source → Type 0
+Says bytes (sources.Image class) = IsImage bytes class
+Says bytes (sources.Text class text) = (string_bytes text ≡ bytes) × IsText bytes × IsClassText bytes class
+
+-- memory was refused
+abbrev pub IsMemory : Failure → Type 0
+IsMemory NoMemory = ⊤
+IsMemory (Text error) = error ≡ no_memory
+IsMemory (Image error) = error.error ≡ decode.NoMemory
+IsMemory why = ⊥
+
+-- bytes say no class: a text by its first fault, an image by the first refusal in reading order
+abbrev pub SayNone : List ℕ → Failure → Type 0
+SayNone bytes (Text error) = IsText bytes × IsFaultOf bytes error
+SayNone bytes (Image error) = (IsText bytes → ⊥) × (image_of bytes ≡ Err error)
+SayNone bytes why = ⊥
 
 -- the file holds the image of the class
 pub record IsImageIn (disk : Option Disk) (name : List ℕ) (class : Class) : Type 0 where
@@ -19,40 +62,46 @@ pub record IsImageIn (disk : Option Disk) (name : List ℕ) (class : Class) : Ty
   pub held : Holds disk name bytes
   pub image : IsImage bytes class
 
--- the methods are those of a class whose image the file holds, no rule refuses it, and each method
--- is safe
+-- the file holds that text, which is the class's
+pub record IsTextIn (disk : Option Disk) (name : List ℕ) (class : Class) (text : List ℕ) : Type 0 where
+  pub held : Holds disk name text
+  pub is : IsText text
+  pub read : IsClassText text class
+
+-- the file holds the class's image, or a text of it
+abbrev pub IsClassIn : Option Disk → List ℕ → Class → Type 0
+IsClassIn disk name class = IsImageIn disk name class ⊎ ((text : List ℕ) × IsTextIn disk name class text)
+
+-- the same, of what was read
+abbrev pub IsSourceOf : Option Disk → List ℕ → Source → Type 0
+IsSourceOf disk name (sources.Image class) = IsImageIn disk name class
+IsSourceOf disk name (sources.Text class text) = IsTextIn disk name class (string_bytes text)
+
+-- the methods are those of a class whose image or text the file holds, no rule refuses it, and each
+-- method is safe
 pub record IsSafeIn (disk : Option Disk) (name : List ℕ) (class : List ClassMethod) : Type 0 where
   pub written : Class
-  pub image : IsImageIn disk name written
+  pub image : IsClassIn disk name written
   pub methods : class ≡ written.methods
   pub accepted : class_verdict written ≡ None
   pub safe : AllByRecursion IsSafe class
 
--- the file's bytes are refused so, the first refusal in reading order
-pub record IsRefusedIn (disk : Option Disk) (name : List ℕ) (error : ImageError) : Type 0 where
+-- the file's bytes say no class
+pub record IsRefusedIn (disk : Option Disk) (name : List ℕ) (failure : Failure) : Type 0 where
   pub bytes : List ℕ
   pub held : Holds disk name bytes
-  pub refused : image_of bytes ≡ Err error
+  pub refused : SayNone bytes failure
 
--- the file holds the image of a class whose verdict is that refusal; or memory was refused
+-- the file holds a class whose verdict is that refusal; or memory was refused
 pub record IsVerdictIn (disk : Option Disk) (name : List ℕ) (refusal : Refusal) : Type 0 where
   pub class : Class
-  pub image : IsImageIn disk name class
+  pub image : IsClassIn disk name class
   pub verdict : (refusal ≡ out_of_memory) ⊎ (class_verdict class ≡ Some refusal)
 
--- Why no class was read: the file can't be read, memory was refused, or the file's bytes are
--- refused.
+-- Why no class was read: the file can't be read, memory was refused, or the file's bytes say none.
 abbrev pub ReadFails : Option Disk → List ℕ → Failure → Type 0
 ReadFails disk name CannotRead = IsUnreadable disk name
-ReadFails disk name CannotWrite = ⊥
-ReadFails disk name NoMemory = ⊤
-ReadFails disk name (Text error) = ⊥
-ReadFails disk name (Image error) = (error.error ≡ decode.NoMemory) ⊎ IsRefusedIn disk name error
-ReadFails disk name (Verdict refusal) = ⊥
-ReadFails disk name InputNotHex = ⊥
-ReadFails disk name ObjectNotHex = ⊥
-ReadFails disk name (Object error) = ⊥
-ReadFails disk name (Call error) = ⊥
+ReadFails disk name why = IsMemory why ⊎ IsRefusedIn disk name why
 
 -- the class that was read is not safe
 abbrev pub VerdictFails : Option Disk → List ℕ → Failure → Type 0

@@ -1,11 +1,12 @@
-ghost use Rattle.std.specs.Prelude.{◌≡◌, ◌⊎◌, IfErr, IfOk, string_bytes};
+ghost use Rattle.std.specs.Prelude.{◌≡◌, ◌⊎◌, [], IfErr, IfOk, OnOk, string_bytes};
 ghost use Rattle.class_tool.specs.Assembly.{Assembles, AssembleFails, IsSourceIn, IsTextOf, SourceFails, Spells, TextFails, ImageFails, text_of};
+ghost use Rattle.class_tool.specs.Explained.{IsFaultNote, IsReadNote};
 ghost use Rattle.class_tool.specs.Files.{Holds, storage};
 ghost use Rattle.class_tool.specs.Image.{ReadFails};
 
 use crate::failure::Failure;
 use crate::files::{Files, Reads};
-use crate::image::read_class;
+use crate::image::{fault_note, read_class};
 use bpf_decode::ClassImage;
 use std::alloc::Global;
 
@@ -39,27 +40,56 @@ fn image_of(alloc: Global, text: &str) -> Result<Vec<u8>, Failure>
     }
 }
 
-/// The image of the class whose text a file holds.
-fn image_in<F: Reads>(alloc: Global, files: &F, name: &str) -> Result<Vec<u8>, Failure>
+/// The image of the class that a text is, or else the note of its fault.
+fn image_noted(alloc: Global, text: &str, note: &mut String) -> Result<Vec<u8>, Failure>
+    requires { string_bytes note.old ≡ [] }
+    ensures spells { IfOk result (λ bytes. Spells text.now bytes.items) }
+    ensures fails { IfErr result (ImageFails text.now) }
+    ensures noted { IfErr result (λ e. IsFaultNote text.now e (string_bytes note.new)) }
+    ensures silent { OnOk result (string_bytes note.new ≡ []) }
+{
+    match image_of(alloc, text) {
+        Ok(bytes) => Ok(bytes),
+        Err(failure) => {
+            *note = fault_note(alloc, text, &failure)?;
+            Err(failure)
+        }
+    }
+}
+
+/// The image of the class whose text a file holds, or else the note of its fault.
+fn image_in<F: Reads>(
+    alloc: Global,
+    files: &F,
+    name: &str,
+    note: &mut String,
+) -> Result<Vec<u8>, Failure>
+    requires { string_bytes note.old ≡ [] }
     ensures source { IfOk result (λ bytes. IsSourceIn (F.disk files.now) name.now bytes.items) }
     ensures fails { IfErr result (λ e. TextFails (F.disk files.now) name.now e ⊎ SourceFails (F.disk files.now) name.now e) }
+    ensures noted { IfErr result (λ e. IsReadNote (F.disk files.now) name.now e (string_bytes note.new)) }
+    ensures silent { OnOk result (string_bytes note.new ≡ []) }
 {
     let text = read_text(alloc, files, name)?;
-    image_of(alloc, &text)
+    image_noted(alloc, &text, note)
 }
 
 /// Writes the image of the class whose text the one file holds to the other, which may be the same
-/// one. Nothing is written before the text is read whole and known to be right.
+/// one. Nothing is written before the text is read whole and known to be right. Of a text's fault
+/// the note is put into an empty text.
 pub fn assemble<F: Files>(
     alloc: Global,
     files: &mut F,
     text: &str,
     image: &str,
+    note: &mut String,
 ) -> Result<(), Failure>
+    requires { string_bytes note.old ≡ [] }
+    ensures noted { IfErr result (λ e. IsReadNote (F.disk files.old) text.now e (string_bytes note.new)) }
     ensures ok { IfOk result (λ _. Assembles (storage F.disk F.failed files.old) (storage F.disk F.failed files.new) text.now image.now) }
     ensures err { IfErr result (AssembleFails (storage F.disk F.failed files.old) (storage F.disk F.failed files.new) text.now image.now) }
 {
-    let bytes = image_in(alloc, files, text)?;
+    let bytes = image_in(alloc, files, text, note)?;
     match files.write(image, &bytes) {
         Ok(()) => Ok(()),
         // Want of memory is this failure too: this line alone says that the file may have changed.
@@ -83,17 +113,20 @@ fn text_of(alloc: Global, class: &ClassImage, has_slots: bool) -> Result<String,
     }
 }
 
-/// The canonical text of the class whose image a file holds, with each instruction's slot or
-/// without.
+/// The canonical text of the class that a file holds, with each instruction's slot or without. Of a
+/// class that can't be read the note is put into an empty text.
 pub fn disassemble<F: Reads>(
     alloc: Global,
     files: &F,
     image: &str,
     has_slots: bool,
+    note: &mut String,
 ) -> Result<String, Failure>
+    requires { string_bytes note.old ≡ [] }
+    ensures noted { IfErr result (λ e. IsReadNote (F.disk files.now) image.now e (string_bytes note.new)) }
     ensures ok { IfOk result (λ text. IsTextOf has_slots (F.disk files.now) image.now (string_bytes text)) }
     ensures err { IfErr result (ReadFails (F.disk files.now) image.now) }
 {
-    let class = read_class(alloc, files, image)?;
+    let class = read_class(alloc, files, image, note)?;
     text_of(alloc, &class, has_slots)
 }

@@ -1,25 +1,56 @@
 //! What was found, and the note below a failure's line.
-ghost use Rattle.std.specs.Prelude.{◌≡◌, [], IfOk, IfErr, OnOk, string_bytes};
+ghost use Rattle.std.specs.Prelude.{◌≡◌, ◌⊎◌, [], IfOk, IfErr, OnErr, OnOk, slice_get, string_bytes};
+ghost use Rattle.class_advice.specs.Note.{unless_memory};
+ghost use Rattle.class_advice.specs.Source.{source_text};
 ghost use Rattle.class_tool.specs.Answer.{Settles, Fails};
-ghost use Rattle.class_tool.specs.Explained.{IsFileNote, IsLoadNote, IsNote, IsRunNote, IsVerifyNote};
+ghost use Rattle.class_tool.specs.Assembly.{AssembleFails, Assembles, IsTextOf};
+ghost use Rattle.class_tool.specs.Explained.{IsCallNote, IsFileNote, IsImageFailure, IsLoadNote, IsNote, IsPackNote, IsRunNote, IsSystemNote, IsVerifyNote, call_wanted, raw_line, source_note};
 ghost use Rattle.class_tool.specs.Files.{storage};
-ghost use Rattle.class_tool.specs.Image.{IsSafeIn, LoadFails};
+ghost use Rattle.class_tool.specs.Image.{IsSafeIn, LoadFails, ReadFails};
+ghost use Rattle.class_tool.specs.Packing.{PackFails, Packs};
 ghost use Rattle.class_tool.specs.Reply.{Reports};
 ghost use Rattle.class_tool.specs.Run.{RunFails};
 
-use crate::action::{Action, Call};
+use crate::action::{Action, Call, Packing, RawMethod};
 use crate::answer::Answer;
+use crate::assembly::{assemble, disassemble};
 use crate::failure::Failure;
 use crate::files::{Files, Reads};
-use crate::image::read_class;
+use crate::image::{Source, read_source};
+use crate::packing::pack;
 use crate::reply::Reply;
 use crate::run::run_safe;
-use crate::tool::find;
-use class_advice::refusal_note;
-use std::alloc::Global;
-use verifier::{VerifiedClass, verify};
+use bpf_decode::ImageError;
+use class_advice::{refusal_note, source_text};
+use interp::CallError;
+use std::alloc::{AllocError, Global};
+use verifier::{Refusal, Rule, VerifiedClass, verify};
 
-/// The class whose image a file holds, where it is safe, and else the note of its refusal.
+/// The note of the refusal of a class that was read.
+fn source_note(alloc: Global, source: &Source, refusal: &Refusal) -> Result<String, AllocError>
+    ensures { IfOk result (λ text. string_bytes text ≡ source_note source.now refusal.now) }
+{
+    match source {
+        Source::Image(class) => refusal_note(alloc, class, refusal),
+        Source::Text(class, text) => {
+            let mut note = refusal_note(alloc, class, refusal)?;
+            note.push_str(&line_note(alloc, text, refusal)?)?;
+            Ok(note)
+        }
+    }
+}
+
+/// The line of a refused instruction in its class's text; nothing where memory was refused.
+fn line_note(alloc: Global, text: &str, refusal: &Refusal) -> Result<String, AllocError>
+    ensures { IfOk result (λ line. string_bytes line ≡ unless_memory refusal.now.rule (source_text text.now refusal.now.method refusal.now.slot)) }
+{
+    if let Rule::NoMemory = refusal.rule {
+        return Ok(String::new(alloc));
+    }
+    source_text(alloc, text, refusal.method, refusal.slot)
+}
+
+/// The class that a file holds, where it is safe, and else the note of its refusal.
 fn load_noted<F: Reads>(
     alloc: Global,
     files: &F,
@@ -32,11 +63,11 @@ fn load_noted<F: Reads>(
     ensures noted { IfErr result (λ e. IsLoadNote (F.disk files.now) image.now e (string_bytes note.new)) }
     ensures silent { OnOk result (string_bytes note.new ≡ []) }
 {
-    let class = read_class(alloc, files, image)?;
-    match verify(alloc, &class) {
+    let source = read_source(alloc, files, image, note)?;
+    match verify(alloc, source.class()) {
         Ok(verified) => Ok(verified),
         Err(refusal) => {
-            *note = refusal_note(alloc, &class, &refusal)?;
+            *note = source_note(alloc, &source, &refusal)?;
             Err(Failure::Verdict(refusal))
         }
     }
@@ -45,7 +76,7 @@ fn load_noted<F: Reads>(
 /// Adds what the files tell of a file that could not be read or written.
 fn add_fault<F: Files>(alloc: Global, files: &F, failure: Failure, note: &mut String)
     requires { string_bytes note.old ≡ [] }
-    ensures { IsFileNote failure (string_bytes note.new) }
+    ensures { IsSystemNote failure (string_bytes note.new) }
 {
     match failure {
         Failure::CannotRead | Failure::CannotWrite => {
@@ -57,7 +88,22 @@ fn add_fault<F: Files>(alloc: Global, files: &F, failure: Failure, note: &mut St
     }
 }
 
-/// `verify` on the class whose image a file holds.
+/// Adds to a note what the files tell of a file that could not be read or written, which takes its
+/// place.
+fn add_own<F: Files>(alloc: Global, files: &F, failure: Failure, note: &mut String)
+    ensures read { failure ≡ Failure.CannotRead ⊎ failure ≡ Failure.CannotWrite ⊎ string_bytes note.new ≡ string_bytes note.old }
+{
+    match failure {
+        Failure::CannotRead | Failure::CannotWrite => {
+            if let Some(fault) = files.fault(alloc) {
+                *note = fault;
+            }
+        }
+        _ => {}
+    }
+}
+
+/// `verify` on the class that a file holds.
 #[tactic(auto, using(crate::proofs::Noted::load_is_verify))]
 fn verify_noted<F: Files>(
     alloc: Global,
@@ -81,6 +127,35 @@ fn verify_noted<F: Files>(
     }
 }
 
+/// What is wanted of a call that is refused.
+#[rattlefmt::skip]
+fn call_wanted(failure: &Failure) -> &'static str
+    ensures { result.now ≡ call_wanted failure.now }
+{
+    match failure {
+        Failure::InputNotHex => "  wanted: --input in hexadecimal, two digits a byte\n",
+        Failure::ObjectNotHex => "  wanted: --object, --xattr NAME=HEX and --key KEY=HEX in hexadecimal, two digits a byte\n",
+        Failure::Object(_) => "  see docs/OBJECTS.md\n",
+        Failure::Call(CallError::NoMethod) => "  wanted: a method of the class; `radoscls verify` lists them\n",
+        Failure::Call(CallError::InputTooLong) => "  wanted: at most IN bytes of input, as `.method NAME FLAGS IN OUT` declares; `radoscls dis` shows it\n",
+        Failure::Call(CallError::NoMemory) => "",
+        Failure::CannotRead | Failure::CannotWrite | Failure::NoMemory => "",
+        Failure::Text(_) | Failure::Image(_) | Failure::Verdict(_) => "",
+    }
+}
+
+/// Puts what the files tell of a file that could not be read in the place of a call's note.
+fn add_unread<F: Files>(alloc: Global, files: &F, failure: &Failure, note: &mut String)
+    requires { string_bytes note.old ≡ call_wanted failure.now }
+    ensures { IsCallNote failure.now (string_bytes note.new) }
+{
+    if let Failure::CannotRead = failure {
+        if let Some(fault) = files.fault(alloc) {
+            *note = fault;
+        }
+    }
+}
+
 /// `run` on what the files hold; and where the class can't be had, the note of `verify`.
 fn run_noted<F: Files>(
     alloc: Global,
@@ -94,25 +169,116 @@ fn run_noted<F: Files>(
     ensures noted { IfErr result (λ e. IsRunNote (F.disk files.now) asked.now.image.now e (string_bytes note.new)) }
 {
     let class = verify_noted(alloc, files, asked.image, note)?;
-    run_safe(alloc, files, class, asked)
+    match run_safe(alloc, files, class, asked) {
+        Ok(reply) => Ok(reply),
+        Err(failure) => {
+            *note = String::from_str(alloc, call_wanted(&failure))?;
+            add_unread(alloc, files, &failure, note);
+            Err(failure)
+        }
+    }
 }
 
-/// `find`, and what the files tell of one that could not be read or written.
-fn find_with_fault<F: Files>(
+/// `asm`, and the note of a text's fault, or what the files tell of one that could not be read or
+/// written.
+fn assemble_noted<F: Files>(
     alloc: Global,
     files: &mut F,
-    action: &Action<'_>,
+    text: &str,
+    image: &str,
     note: &mut String,
-) -> Result<Answer, Failure>
+) -> Result<(), Failure>
     requires { string_bytes note.old ≡ [] }
-    ensures settles { IfOk result (Settles (storage F.disk F.failed files.old) (storage F.disk F.failed files.new) action.now) }
-    ensures fails { IfErr result (Fails (storage F.disk F.failed files.old) (storage F.disk F.failed files.new) action.now) }
-    ensures noted { IfErr result (λ e. IsFileNote e (string_bytes note.new)) }
+    ensures ok { IfOk result (λ _. Assembles (storage F.disk F.failed files.old) (storage F.disk F.failed files.new) text.now image.now) }
+    ensures err { IfErr result (AssembleFails (storage F.disk F.failed files.old) (storage F.disk F.failed files.new) text.now image.now) }
+    ensures noted { IfErr result (λ e. IsFileNote (F.disk files.old) text.now e (string_bytes note.new)) }
 {
-    match find(alloc, files, action) {
-        Ok(answer) => Ok(answer),
+    match assemble(alloc, files, text, image, note) {
+        Ok(()) => Ok(()),
         Err(failure) => {
-            add_fault(alloc, files, failure, note);
+            add_own(alloc, files, failure, note);
+            Err(failure)
+        }
+    }
+}
+
+/// `dis`, and the note of bytes that say no class, or what the files tell of a file that could not
+/// be read.
+fn disassemble_noted<F: Files>(
+    alloc: Global,
+    files: &F,
+    image: &str,
+    has_slots: bool,
+    note: &mut String,
+) -> Result<String, Failure>
+    requires { string_bytes note.old ≡ [] }
+    ensures ok { IfOk result (λ text. IsTextOf has_slots (F.disk files.now) image.now (string_bytes text)) }
+    ensures err { IfErr result (ReadFails (F.disk files.now) image.now) }
+    ensures noted { IfErr result (λ e. IsFileNote (F.disk files.now) image.now e (string_bytes note.new)) }
+{
+    match disassemble(alloc, files, image, has_slots, note) {
+        Ok(text) => Ok(text),
+        Err(failure) => {
+            add_own(alloc, files, failure, note);
+            Err(failure)
+        }
+    }
+}
+
+/// The line of the method that was not read.
+fn method_note(
+    alloc: Global,
+    raws: &[RawMethod<'_>],
+    error: &ImageError,
+) -> Result<String, AllocError>
+    ensures { IfOk result (λ line. string_bytes line ≡ raw_line (slice_get raws.now error.now.methods)) }
+{
+    let mut line = String::new(alloc);
+    if let Some(raw) = raws.get(error.methods) {
+        write!(line, "  method {}, ", raw.name)?;
+        line.push_str(raw.code)?;
+        line.push_str("\n")?;
+    }
+    Ok(line)
+}
+
+/// Puts the note of a failure of `pack` into an empty text. It fails for want of memory, and only
+/// where a method was not read.
+#[rattlefmt::skip]
+fn add_pack_note<F: Files>(alloc: Global, files: &F, raws: &[RawMethod<'_>], failure: Failure, note: &mut String) -> Result<(), AllocError>
+    requires { string_bytes note.old ≡ [] }
+    ensures noted { OnOk result (IsPackNote raws.now failure (string_bytes note.new)) }
+    ensures image { OnErr result (IsImageFailure failure) }
+    ensures silent { OnErr result (string_bytes note.new ≡ []) }
+{
+    match failure {
+        Failure::Image(error) => {
+            *note = method_note(alloc, raws, &error)?;
+        }
+        Failure::CannotRead | Failure::CannotWrite => add_fault(alloc, files, failure, note),
+        Failure::NoMemory | Failure::Text(_) | Failure::Verdict(_) => {}
+        Failure::InputNotHex | Failure::ObjectNotHex | Failure::Object(_) | Failure::Call(_) => {}
+    }
+    Ok(())
+}
+
+/// `pack`, and what the files tell of one that could not be read or written.
+#[tactic(auto, using(crate::proofs::Noted::pack_lack))]
+fn pack_noted<F: Files>(
+    alloc: Global,
+    files: &mut F,
+    asked: &Packing<'_>,
+    note: &mut String,
+) -> Result<(), Failure>
+    requires { string_bytes note.old ≡ [] }
+    ensures ok { IfOk result (λ _. Packs (storage F.disk F.failed files.old) (storage F.disk F.failed files.new) asked.now) }
+    ensures err { IfErr result (PackFails (storage F.disk F.failed files.old) (storage F.disk F.failed files.new) asked.now) }
+    ensures noted { IfErr result (λ e. IsPackNote asked.now.methods.items e (string_bytes note.new)) }
+{
+    match pack(alloc, files, asked) {
+        Ok(()) => Ok(()),
+        Err(failure) => {
+            add_pack_note(alloc, files, &asked.methods, failure, note)?;
             Err(failure)
         }
     }
@@ -139,8 +305,21 @@ pub fn find_noted<F: Files>(
             Ok(reply) => Ok(Answer::Ran(reply)),
             Err(failure) => Err(failure),
         },
-        Action::Assemble { .. } => find_with_fault(alloc, files, action, note),
-        Action::Pack(_) => find_with_fault(alloc, files, action, note),
-        Action::Disassemble { .. } => find_with_fault(alloc, files, action, note),
+        Action::Assemble { text, image } => {
+            match assemble_noted(alloc, files, text, image, note) {
+                Ok(()) => Ok(Answer::Assembled),
+                Err(failure) => Err(failure),
+            }
+        }
+        Action::Pack(asked) => match pack_noted(alloc, files, asked, note) {
+            Ok(()) => Ok(Answer::Assembled),
+            Err(failure) => Err(failure),
+        },
+        Action::Disassemble { image, has_slots } => {
+            match disassemble_noted(alloc, files, image, *has_slots, note) {
+                Ok(text) => Ok(Answer::Disassembled(text)),
+                Err(failure) => Err(failure),
+            }
+        }
     }
 }

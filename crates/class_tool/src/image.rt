@@ -1,37 +1,189 @@
-ghost use Rattle.std.specs.Prelude.{IfOk, IfErr};
-ghost use Rattle.class_tool.specs.Image.{IsImageIn, IsSafeIn, ReadFails, LoadFails};
+ghost use Rattle.std.specs.Prelude.{◌≡◌, ◌⊎◌, [], IfErr, IfNone, IfOk, IfSome, OnOk, string_bytes};
+ghost use Rattle.bpf_asm.specs.Grammar.{IsClassText};
+ghost use Rattle.class_tool.specs.Explained.{IsFaultNote, IsReadNote};
+ghost use Rattle.class_tool.specs.Image.{IsClassIn, IsMemory, IsSafeIn, IsSourceOf, IsText, LoadFails, ReadFails, SayNone, Says, begins_as_image};
 
 use crate::failure::Failure;
 use crate::files::Reads;
+use bpf_asm::assemble_class;
 use bpf_decode::{ClassImage, IMAGE_LIMIT, beginning, read_image};
-use std::alloc::Global;
+use class_advice::fault_text;
+use std::alloc::{AllocError, Global};
 use verifier::{VerifiedClass, verify};
 
-/// The class whose image a file holds. Of a file that is longer than any image, one byte more than
-/// an image may have is read, which changes no answer.
-pub fn read_class<F: Reads>(alloc: Global, files: &F, image: &str) -> Result<ClassImage, Failure>
-    ensures read { IfOk result (IsImageIn (F.disk files.now) image.now) }
-    ensures fails { IfErr result (ReadFails (F.disk files.now) image.now) }
-{
-    // What is proved of the bytes after those; the call does nothing.
-    beginning();
-    let bytes = match files.read_first(alloc, image, IMAGE_LIMIT + 1) {
-        Ok(bytes) => bytes,
-        Err(error) => return Err(Failure::of_read(&error)),
-    };
-    match read_image(alloc, &bytes) {
-        Ok(class) => Ok(class),
-        Err(error) => Err(Failure::Image(error)),
+/// A class that was read, from its image, or from a text, which is kept.
+#[derive(Drop)]
+pub(crate) enum Source {
+    Image(ClassImage),
+    Text(ClassImage, String),
+}
+
+impl Source {
+    ghost use Rattle.std.specs.Prelude.{◌≡◌};
+    ghost use Rattle.class_tool.specs.Image.{class_of};
+
+    /// The class.
+    pub(crate) fn class(&self) -> &ClassImage
+        ensures { result.now ≡ class_of self.now }
+    {
+        match self {
+            Source::Image(class) => class,
+            Source::Text(class, _) => class,
+        }
     }
 }
 
-/// The class whose image a file holds, where it is safe: each method runs to its exit on every
-/// object and input.
+/// Whether bytes begin as an image does, or are too few for a text.
+fn begins_as_image(bytes: &[u8]) -> bool
+    ensures { result ≡ begins_as_image bytes.now }
+{
+    bytes.len() < 4 || (bytes[0] == b'R' && bytes[1] == b'C' && bytes[2] == b'L')
+}
+
+/// The text that bytes are, where they are read as one.
+fn text_in(alloc: Global, bytes: &[u8]) -> Result<Option<String>, AllocError>
+    ensures some { IfOk result (λ found. IfSome found (λ text. (string_bytes text ≡ bytes.now) × IsText bytes.now)) }
+    ensures none { IfOk result (λ found. IfNone found (IsText bytes.now → ⊥)) }
+{
+    if begins_as_image(bytes) || bytes.len() > IMAGE_LIMIT {
+        return Ok(None);
+    }
+    match str::from_utf8(bytes) {
+        Ok(text) => Ok(Some(String::from_str(alloc, text)?)),
+        Err(_) => Ok(None),
+    }
+}
+
+/// The class that a text says.
+fn class_of_text(alloc: Global, text: &str) -> Result<ClassImage, Failure>
+    requires { IsText text.now }
+    ensures says { IfOk result (IsClassText text.now) }
+    ensures fails { IfErr result (λ e. IsMemory e ⊎ SayNone text.now e) }
+{
+    match assemble_class(alloc, text) {
+        Ok(class) => Ok(class),
+        Err(error) => Err(Failure::Text(error)),
+    }
+}
+
+/// What is wanted of a file that is read as an image.
+const IMAGE_WANTED: &str =
+    "  wanted: an image, which begins with RCL1 or RCL2, or a class's text in UTF-8\n  see docs/IMAGE.md\n";
+
+/// The note of a text that says no class.
+#[rattlefmt::skip]
+pub(crate) fn fault_note(alloc: Global, text: &str, failure: &Failure) -> Result<String, AllocError>
+    ensures { IfOk result (λ note. IsFaultNote text.now failure.now (string_bytes note)) }
+{
+    match failure {
+        Failure::Text(error) => fault_text(alloc, text, error),
+        Failure::Image(_) => String::from_str(alloc, IMAGE_WANTED),
+        Failure::CannotRead | Failure::CannotWrite | Failure::NoMemory | Failure::Verdict(_) => Ok(String::new(alloc)),
+        Failure::InputNotHex | Failure::ObjectNotHex | Failure::Object(_) | Failure::Call(_) => Ok(String::new(alloc)),
+    }
+}
+
+/// The class of a text, with the text, or else the note of its fault.
+fn source_of_text(alloc: Global, text: String, note: &mut String) -> Result<Source, Failure>
+    requires text { IsText (string_bytes text) }
+    requires silent { string_bytes note.old ≡ [] }
+    ensures says { IfOk result (Says (string_bytes text)) }
+    ensures fails { IfErr result (λ e. IsMemory e ⊎ SayNone (string_bytes text) e) }
+    ensures noted { IfErr result (λ e. IsFaultNote (string_bytes text) e (string_bytes note.new)) }
+    ensures silent { OnOk result (string_bytes note.new ≡ []) }
+{
+    match class_of_text(alloc, &text) {
+        Ok(class) => Ok(Source::Text(class, text)),
+        Err(failure) => {
+            *note = fault_note(alloc, &text, &failure)?;
+            Err(failure)
+        }
+    }
+}
+
+/// The class of an image's bytes.
+fn source_of_image(alloc: Global, bytes: &[u8], note: &mut String) -> Result<Source, Failure>
+    requires image { IsText bytes.now → ⊥ }
+    requires silent { string_bytes note.old ≡ [] }
+    ensures says { IfOk result (Says bytes.now) }
+    ensures fails { IfErr result (λ e. IsMemory e ⊎ SayNone bytes.now e) }
+    ensures noted { IfErr result (λ e. IsFaultNote bytes.now e (string_bytes note.new)) }
+    ensures silent { OnOk result (string_bytes note.new ≡ []) }
+{
+    match read_image(alloc, bytes) {
+        Ok(class) => Ok(Source::Image(class)),
+        Err(error) => {
+            *note = String::from_str(alloc, IMAGE_WANTED)?;
+            Err(Failure::Image(error))
+        }
+    }
+}
+
+/// The class that bytes say, or else the note of why they say none.
+fn source_of(alloc: Global, bytes: &[u8], note: &mut String) -> Result<Source, Failure>
+    requires { string_bytes note.old ≡ [] }
+    ensures says { IfOk result (Says bytes.now) }
+    ensures fails { IfErr result (λ e. IsMemory e ⊎ SayNone bytes.now e) }
+    ensures noted { IfErr result (λ e. IsFaultNote bytes.now e (string_bytes note.new)) }
+    ensures silent { OnOk result (string_bytes note.new ≡ []) }
+{
+    match text_in(alloc, bytes)? {
+        Some(text) => source_of_text(alloc, text, note),
+        None => source_of_image(alloc, bytes, note),
+    }
+}
+
+/// The class whose image or text a file holds, or else the note of why its bytes say none. Of a file
+/// that is longer than any image, one byte more than an image may have is read, which changes no
+/// answer: a longer text is read as an image.
+pub(crate) fn read_source<F: Reads>(
+    alloc: Global,
+    files: &F,
+    name: &str,
+    note: &mut String,
+) -> Result<Source, Failure>
+    requires { string_bytes note.old ≡ [] }
+    ensures read { IfOk result (IsSourceOf (F.disk files.now) name.now) }
+    ensures fails { IfErr result (ReadFails (F.disk files.now) name.now) }
+    ensures noted { IfErr result (λ e. IsReadNote (F.disk files.now) name.now e (string_bytes note.new)) }
+    ensures silent { OnOk result (string_bytes note.new ≡ []) }
+{
+    // What is proved of the bytes after those; the call does nothing.
+    beginning();
+    let bytes = match files.read_first(alloc, name, IMAGE_LIMIT + 1) {
+        Ok(bytes) => bytes,
+        Err(error) => return Err(Failure::of_read(&error)),
+    };
+    source_of(alloc, &bytes, note)
+}
+
+/// The class whose image or text a file holds, or else the note of why its bytes say none.
+pub fn read_class<F: Reads>(
+    alloc: Global,
+    files: &F,
+    image: &str,
+    note: &mut String,
+) -> Result<ClassImage, Failure>
+    requires { string_bytes note.old ≡ [] }
+    ensures read { IfOk result (IsClassIn (F.disk files.now) image.now) }
+    ensures fails { IfErr result (ReadFails (F.disk files.now) image.now) }
+    ensures noted { IfErr result (λ e. IsReadNote (F.disk files.now) image.now e (string_bytes note.new)) }
+    ensures silent { OnOk result (string_bytes note.new ≡ []) }
+{
+    match read_source(alloc, files, image, note)? {
+        Source::Image(class) => Ok(class),
+        Source::Text(class, _) => Ok(class),
+    }
+}
+
+/// The class whose image or text a file holds, where it is safe: each method runs to its exit on
+/// every object and input.
 pub fn load<F: Reads>(alloc: Global, files: &F, image: &str) -> Result<VerifiedClass, Failure>
     ensures safe { IfOk result (IsSafeIn (F.disk files.now) image.now) }
     ensures fails { IfErr result (LoadFails (F.disk files.now) image.now) }
 {
-    let class = read_class(alloc, files, image)?;
+    let mut note = String::new(alloc);
+    let class = read_class(alloc, files, image, &mut note)?;
     match verify(alloc, &class) {
         Ok(verified) => Ok(verified),
         Err(refusal) => Err(Failure::Verdict(refusal)),

@@ -1,6 +1,8 @@
-ghost use Rattle.std.specs.Prelude.{IfOk, IfErr};
+ghost use Rattle.std.specs.Prelude.{IfOk, IfErr, string_bytes};
 ghost use Rattle.class_tool.specs.Answer.{Settles, Fails};
+ghost use Rattle.class_tool.specs.Assembly.{AssembleFails, Assembles, IsTextOf};
 ghost use Rattle.class_tool.specs.Files.{storage};
+ghost use Rattle.class_tool.specs.Image.{ReadFails};
 
 use crate::action::Action;
 use crate::answer::Answer;
@@ -11,6 +13,29 @@ use crate::image::load;
 use crate::packing::pack;
 use crate::run::run;
 use std::alloc::Global;
+
+/// `asm` without a note.
+fn assembled<F: Files>(alloc: Global, files: &mut F, text: &str, image: &str) -> Result<(), Failure>
+    ensures ok { IfOk result (λ _. Assembles (storage F.disk F.failed files.old) (storage F.disk F.failed files.new) text.now image.now) }
+    ensures err { IfErr result (AssembleFails (storage F.disk F.failed files.old) (storage F.disk F.failed files.new) text.now image.now) }
+{
+    let mut note = String::new(alloc);
+    assemble(alloc, files, text, image, &mut note)
+}
+
+/// `dis` without a note.
+fn disassembled<F: Files>(
+    alloc: Global,
+    files: &F,
+    image: &str,
+    has_slots: bool,
+) -> Result<String, Failure>
+    ensures ok { IfOk result (λ text. IsTextOf has_slots (F.disk files.now) image.now (string_bytes text)) }
+    ensures err { IfErr result (ReadFails (F.disk files.now) image.now) }
+{
+    let mut note = String::new(alloc);
+    disassemble(alloc, files, image, has_slots, &mut note)
+}
 
 /// Does what is asked for. The answer is true of the files as they were. No file is written but the
 /// one that is named for the image of a text or of raw code, and that one only where it is right; a
@@ -28,7 +53,7 @@ pub fn find<F: Files>(alloc: Global, files: &mut F, action: &Action<'_>) -> Resu
             Ok(reply) => Ok(Answer::Ran(reply)),
             Err(failure) => Err(failure),
         },
-        Action::Assemble { text, image } => match assemble(alloc, files, text, image) {
+        Action::Assemble { text, image } => match assembled(alloc, files, text, image) {
             Ok(()) => Ok(Answer::Assembled),
             Err(failure) => Err(failure),
         },
@@ -37,7 +62,7 @@ pub fn find<F: Files>(alloc: Global, files: &mut F, action: &Action<'_>) -> Resu
             Err(failure) => Err(failure),
         },
         Action::Disassemble { image, has_slots } => {
-            match disassemble(alloc, files, image, *has_slots) {
+            match disassembled(alloc, files, image, *has_slots) {
                 Ok(text) => Ok(Answer::Disassembled(text)),
                 Err(failure) => Err(failure),
             }

@@ -1,27 +1,28 @@
 -- How a task's ending is the program's.
-use Rattle.std.proofs.Common.{◌≡◌, ◌≢◌, ◌∙◌, inl, inr, refl, sym, ap, arith, Bool, true, false, List, ℕ, Option, Result, Ok, Err, IfOk, IfErr}
-use Rattle.clap.specs.Words.{Text, kind_of}
-use Rattle.clap.specs.declared.error.Error.{Error}
-use Rattle.clap.specs.declared.error.kind.ErrorKind.TheVariants.{OutOfMemory}
+use Rattle.std.proofs.Common.{◌≡◌, ◌≢◌, ◌∙◌, [], inl, inr, refl, sym, ap, arith, Bool, true, false, List, ℕ, Option, Result, Ok, Err, IfOk, IfErr}
+use Rattle.command_line.specs.Parsed.{IsMemory, Text}
+use Rattle.command_line.specs.declared.unparsed.Unparsed.{Unparsed}
 use Rattle.class_tool.specs.Files.{Storage}
 use Rattle.class_tool.specs.declared.action.Action.{Action}
+use Rattle.class_tool.specs.declared.action.Action.TheVariants.{Run}
 use Rattle.class_tool.specs.declared.answer.Answer.{Answer}
 use Rattle.class_tool.specs.declared.failure.Failure.{Failure}
 use Rattle.class_tool.specs.declared.failure.Failure.TheVariants.{NoMemory}
 use Rattle.pg_log.specs.Log.{Classes}
 use Rattle.sim.specs.Simulating.{Plays}
 use Rattle.sim.specs.declared.file.Ending.TheVariants as ending
-use Rattle.radoscls_program.specs.Program.{AreFor, AreForNone, Ends, Found, IsDone, IsRefused, IsUnstarted, Responds, Starts, TaskEnds}
+use Rattle.radoscls_program.specs.Program.{Ends, Found, IsDone, IsFileNoteAsked, IsNamed, IsRefused, IsUnstarted, Responds, Starts, TaskEnds}
+use Rattle.radoscls_program.specs.Asked.{AreFor, AreForNone}
 use Rattle.radoscls_program.specs.Status.{code_of}
 use Rattle.radoscls_program.specs.Streams.{IsPrinted, Stream, failure_line}
 use Rattle.radoscls_program.specs.declared.status.ExitStatus.{ExitStatus}
 use Rattle.radoscls_program.specs.declared.status.ExitStatus.TheVariants.{Done, Refused, Usage}
 use Rattle.radoscls_program.specs.declared.task.Task.{Task}
-use Rattle.radoscls_program.specs.declared.task.Task.TheVariants.{Class, Sim, Cluster}
+use Rattle.radoscls_program.specs.declared.task.Task.TheVariants as task
 
 -- where they name an action
 class_ended : (before after : Storage) (old new : Stream) (words : List Text) (a : Action) (e : Bool) (found : Result Answer Failure) (note : List ℕ) (status : ExitStatus)
-    → AreFor words (Class a e) → Found before after a e found note → Responds old new found note status → Ends before after old new words status
+    → IsNamed before.disk words a e → Found before after a e found note → Responds old new found note status → Ends before after old new words status
 class_ended before after old new words a e (Ok answer) note Done named found took =
     inl (record { action = a; is_explained = e; named = named; answer = answer; settles = found; printed = took })
 class_ended before after old new words a e (Ok answer) note Refused named found failed =
@@ -35,21 +36,28 @@ class_ended before after old new words a e (Err failure) note Usage named found 
 -- where the words name the task
 pub ended : (before after : Storage) (old new : Stream) (words : List Text) (task : Task) (status : ExitStatus)
     → AreFor words task → TaskEnds before after old new task status → Ends before after old new words status
-ended before after old new words (Class a e) status named acts =
-    class_ended before after old new words a e acts.found acts.note status named acts.true_of acts.responds
-ended before after old new words (Sim s) Done named played = inr (inl (record { simulation = s; named = named; left = played.0; ended = played.1 }))
-ended before after old new words (Sim s) Refused named played = inr (inr (inr (inl (record { simulation = s; named = named; left = played.0; ended = played.1 }))))
-ended before after old new words (Sim s) Usage named played = absurd played.1
-ended before after old new words (Cluster c m) Done named ran =
+ended before after old new words (task.Class a e) status named acts =
+    class_ended before after old new words a e acts.found acts.note status (inl named) acts.true_of acts.responds
+ended before after old new words (task.Run call e) status named (inl on) =
+    class_ended before after old new words (Run on.filled) e on.acts.found on.acts.note status
+    (inr (record { call = call; named = named; filled = on.filled; values = on.values; same = refl })) on.acts.true_of on.acts.responds
+ended before after old new words (task.Run call e) Done named (inr un) = absurd (let bad : Done ≡ Refused = un.0 in cc)
+ended before after old new words (task.Run call e) Refused named (inr un) =
+    inr (inr (inr (inr (inr (record { call = call; is_explained = e; named = named; unfilled = un.1 })))))
+ended before after old new words (task.Run call e) Usage named (inr un) = absurd (let bad : Usage ≡ Refused = un.0 in cc)
+ended before after old new words (task.Sim s) Done named played = inr (inl (record { simulation = s; named = named; left = played.0; ended = played.1 }))
+ended before after old new words (task.Sim s) Refused named played = inr (inr (inr (inl (record { simulation = s; named = named; left = played.0; ended = played.1 }))))
+ended before after old new words (task.Sim s) Usage named played = absurd played.1
+ended before after old new words (task.Cluster c m) Done named ran =
     inr (inr (record { asked = c; is_measured = m; named = named; left = ran.0; ended = ran.1 }))
-ended before after old new words (Cluster c m) Refused named ran =
-    inr (inr (inr (inr (record { asked = c; is_measured = m; named = named; left = ran.0; ended = ran.1 }))))
-ended before after old new words (Cluster c m) Usage named ran = absurd ran.1
+ended before after old new words (task.Cluster c m) Refused named ran =
+    inr (inr (inr (inr (inl (record { asked = c; is_measured = m; named = named; left = ran.0; ended = ran.1 })))))
+ended before after old new words (task.Cluster c m) Usage named ran = absurd ran.1
 
 -- where they name none, and why was said
-pub explained : (files : Storage) (old new : Stream) (words : List Text) (e : Error) (status : ExitStatus) → (kind_of e ≢ OutOfMemory → AreForNone words)
+pub explained : (files : Storage) (old new : Stream) (words : List Text) (e : Unparsed) (status : ExitStatus) → ((IsMemory e → ⊥) → AreForNone words)
     → status ≢ Done → (status ≡ Refused → IsPrinted old new (failure_line NoMemory))
-    → (status ≡ Usage → (kind_of e ≢ OutOfMemory) × (new ≡ old)) → Ends files files old new words status
+    → (status ≡ Usage → (IsMemory e → ⊥) × (new ≡ old)) → Ends files files old new words status
 explained files old new words e Done none done refused usage = absurd (done refl)
 explained files old new words e Refused none done refused usage = inr (inr (inl (refl, refused refl)))
 explained files old new words e Usage none done refused usage = record { unasked = none (usage refl).0; left = refl; silent = (usage refl).1 }
@@ -88,3 +96,8 @@ pub started : {A B : Type 0} (words : Result A B) (texts : A → List Text) (bef
     → Starts before after old new status
 started (Ok all) texts before after old new status ends none = inl (texts all, ends)
 started (Err e) texts before after old new status none unread = inr unread
+
+-- nothing is told of memory
+pub unnoted : (is_explained : Bool) → IsFileNoteAsked is_explained NoMemory []
+unnoted true = refl
+unnoted false = refl

@@ -1,20 +1,10 @@
--- The entries that texts spell, and whether a failure is to be explained.
-use Rattle.std.proofs.Common.{◌≡◌, ◌∙◌, ◌<◌, ◌+◌, ℕ, suc, List, [], ◌∷◌, ◌++◌, Option, Some, None, ap, sym, subst, arith, length, map, take, drop, get_or, option_map}
+-- The entries that texts spell.
+use Rattle.std.proofs.Common.{◌≡◌, ◌∙◌, ◌<◌, ◌+◌, ℕ, suc, List, [], ◌∷◌, ◌++◌, ap, sym, subst, arith, length, map, take, drop, get_or}
 use Rattle.std.proofs.lemmas.List.{map-append, take-append-drop}
-use Rattle.std.proofs.lemmas.Option.{none-some, same_Some}
 use Rattle.std.proofs.Math.Seq.{drop-cons, take-suc}
-use Rattle.clap.specs.Words.{Row, Text}
+use Rattle.command_line.specs.Parsed.{Text}
 use Rattle.class_tool.specs.declared.action.Entry.{Entry}
-use Rattle.radoscls_program.specs.Arguments.{is_set}
-use Rattle.radoscls_program.specs.CommandLine.{is_explained_in}
 use Rattle.radoscls_program.specs.Entries.{AreEntries, IsEntry}
-use Rattle.clap.specs.Words.{first_of}
-use Rattle.std.specs.Prelude.{codes}
-
--- by the rows of the subcommand
-pub explained_is : (o : Option (Text × List Row)) (rows : List Row) → option_map (λ (p : Text × List Row). p.1) o ≡ Some rows → is_explained_in o ≡ is_set (first_of (codes "explain") rows)
-explained_is None rows is = absurd (none-some rows is)
-explained_is (Some p) rows is = ap (λ (rs : List Row). is_set (first_of (codes "explain") rs)) (same_Some p.1 rows is)
 
 -- one more
 one_more : (texts : List Text) (es : List Entry) (text : Text) (e : Entry) → AreEntries texts es → IsEntry text e → AreEntries (texts ++ text ∷ []) (es ++ e ∷ [])

@@ -1,12 +1,6 @@
-mod Built
-mod Calling
 mod Ended
-mod Entered
 mod Entering
-mod OnCluster
-mod Packing
-mod Parsed
+mod Filling
 mod Raws
-mod Simulated
 mod Tenants
-mod Unasked
+mod Told

@@ -3,7 +3,7 @@ use Rattle.std.proofs.Common.{◌≡◌, ◌∙◌, ◌<◌, ◌+◌, ℕ, suc, 
 use Rattle.std.specs.Prelude.{IfNone}
 use Rattle.std.proofs.lemmas.List.{map-append, take-append-drop}
 use Rattle.std.proofs.Math.Seq.{drop-cons, take-suc}
-use Rattle.clap.specs.Words.{Text}
+use Rattle.command_line.specs.Parsed.{Text}
 use Rattle.class_tool.specs.declared.action.RawMethod.{RawMethod}
 use Rattle.radoscls_program.specs.Raw.{AreRaw, IsRaw}
 

@@ -1,7 +1,7 @@
 -- The xattrs and the keys that `run` is given, each spelled `NAME=HEX`.
 use Rattle.std.specs.Prelude.{◌≡◌, ⊤, List, [], ◌∷◌, true}
 use Rattle.std.specs.List.{list_any}
-use Rattle.clap.specs.Words.{Text}
+use Rattle.command_line.specs.Parsed.{Text}
 use Rattle.class_tool.specs.declared.action.Entry.{Entry}
 use Rattle.radoscls_program.specs.Tenants.{image_in, is_equals, name_in}
 

@@ -1,38 +1,43 @@
 -- How the program ends, and what it printed and wrote.
 use Rattle.std.specs.Prelude.{◌≡◌, ◌⊎◌, ◌++◌, ℕ, Bool, List, [], Option, Result, Ok, Err, true, false}
-use Rattle.clap.specs.Words.{Text, fault_of, subcommand_of}
+use Rattle.command_line.specs.Parsed.{Text}
 use Rattle.class_tool.specs.Answer.{Settles, Fails, answer_text}
-use Rattle.class_tool.specs.Explained.{IsNote}
+use Rattle.class_tool.specs.Explained.{IsFileNote, IsNote}
 use Rattle.class_tool.specs.Files.{Disk, Storage}
 use Rattle.class_tool.specs.declared.action.Action.{Action}
+use Rattle.class_tool.specs.declared.action.Action.TheVariants.{Run}
+use Rattle.class_tool.specs.declared.action.Call.{Call}
 use Rattle.class_tool.specs.declared.answer.Answer.{Answer}
 use Rattle.class_tool.specs.declared.failure.Failure.{Failure}
 use Rattle.class_tool.specs.declared.failure.Failure.TheVariants.{NoMemory}
 use Rattle.sim.specs.declared.asked.Simulation.{Simulation}
 use Rattle.cluster_tool.specs.declared.asked.Clustering.{Clustering}
 use Rattle.radoscls_program.specs.Clustered.{ClusterEnds}
-use Rattle.radoscls_program.specs.CommandLine.{AsksTask, command_line}
+use Rattle.radoscls_program.specs.Asked.{AreFor, AreForNone}
 use Rattle.radoscls_program.specs.Playing.{SimEnds}
 use Rattle.radoscls_program.specs.Streams.{Stream, Took, Lost, IsPrinted, failure_line}
 use Rattle.radoscls_program.specs.declared.status.ExitStatus.{ExitStatus}
 use Rattle.radoscls_program.specs.declared.status.ExitStatus.TheVariants.{Done, Refused, Usage}
 use Rattle.radoscls_program.specs.declared.task.Task.{Task}
-use Rattle.radoscls_program.specs.declared.task.Task.TheVariants.{Class, Sim, Cluster}
+use Rattle.radoscls_program.specs.declared.task.Task.TheVariants as task
+use Rattle.radoscls_program.specs.Values.{FillFails, IsFilled}
 
--- The words name a task without a fault.
-pub record AreFor (words : List Text) (task : Task) : Type 0 where
-  pub faultless : fault_of command_line words ≡ []
-  pub asked : AsksTask (subcommand_of command_line words) task
+-- The words ask for that action; of a call, with its values in hexadecimal.
+pub record IsCallNamed (disk : Option Disk) (words : List Text) (action : Action) (is_explained : Bool) : Type 0 where
+  pub call : Call
+  pub named : AreFor words (task.Run call is_explained)
+  pub filled : Call
+  pub values : IsFilled disk call filled
+  pub same : action ≡ Run filled
 
--- The words name no task without a fault.
-abbrev pub AreForNone : List Text → Type 0
-AreForNone words = (task : Task) → AreFor words task → ⊥
+abbrev pub IsNamed : Option Disk → List Text → Action → Bool → Type 0
+IsNamed disk words action is_explained = AreFor words (task.Class action is_explained) ⊎ IsCallNamed disk words action is_explained
 
 -- There was a true answer to the action that the words name, and its lines were printed.
 pub record IsAnswered (before after : Storage) (old new : Stream) (words : List Text) : Type 0 where
   pub action : Action
   pub is_explained : Bool
-  pub named : AreFor words (Class action is_explained)
+  pub named : IsNamed before.disk words action is_explained
   pub answer : Answer
   pub settles : Settles before after action answer
   pub printed : Took old new (answer_text answer)
@@ -47,7 +52,7 @@ IsNoteAsked true disk action failure note = IsNote disk action failure note
 pub record IsFailed (before after : Storage) (old new : Stream) (words : List Text) : Type 0 where
   pub action : Action
   pub is_explained : Bool
-  pub named : AreFor words (Class action is_explained)
+  pub named : IsNamed before.disk words action is_explained
   pub failure : Failure
   pub fails : Fails before after action failure
   pub note : List ℕ
@@ -59,10 +64,31 @@ pub record IsFailed (before after : Storage) (old new : Stream) (words : List Te
 pub record IsUnprinted (before after : Storage) (old new : Stream) (words : List Text) : Type 0 where
   pub action : Action
   pub is_explained : Bool
-  pub named : AreFor words (Class action is_explained)
+  pub named : IsNamed before.disk words action is_explained
   pub answer : Answer
   pub settles : Settles before after action answer
   pub unprinted : Lost old new (answer_text answer)
+
+-- what is printed after the line of a value's file that can't be read, if that is asked for
+abbrev pub IsFileNoteAsked : Bool → Failure → List ℕ → Type 0
+IsFileNoteAsked false failure note = note ≡ []
+IsFileNoteAsked true failure note = IsFileNote failure note
+
+-- A call's values could not be read, and a line says so; no file changed.
+pub record IsUnfilled (before after : Storage) (old new : Stream) (call : Call) (is_explained : Bool) : Type 0 where
+  pub failure : Failure
+  pub fails : FillFails before.disk call failure
+  pub note : List ℕ
+  pub noted : IsFileNoteAsked is_explained failure note
+  pub printed : IsPrinted old new (failure_line failure ++ note)
+  pub left : after ≡ before
+
+-- The words name a call whose values could not be read.
+pub record IsValueless (before after : Storage) (old new : Stream) (words : List Text) : Type 0 where
+  pub call : Call
+  pub is_explained : Bool
+  pub named : AreFor words (task.Run call is_explained)
+  pub unfilled : IsUnfilled before after old new call is_explained
 
 -- Memory was refused before the words were known, nothing was done, and a line says so.
 abbrev pub IsUnread : Storage → Storage → Stream → Stream → Type 0
@@ -71,7 +97,7 @@ IsUnread before after old new = (after ≡ before) × IsPrinted old new (failure
 -- The words name a file of events, which was played so; no file changed.
 pub record IsPlayed (before after : Storage) (old new : Stream) (words : List Text) (status : ExitStatus) : Type 0 where
   pub simulation : Simulation
-  pub named : AreFor words (Sim simulation)
+  pub named : AreFor words (task.Sim simulation)
   pub left : after ≡ before
   pub ended : SimEnds before.disk old new simulation status
 
@@ -79,7 +105,7 @@ pub record IsPlayed (before after : Storage) (old new : Stream) (words : List Te
 pub record IsRun (before after : Storage) (old new : Stream) (words : List Text) (status : ExitStatus) : Type 0 where
   pub asked : Clustering
   pub is_measured : Bool
-  pub named : AreFor words (Cluster asked is_measured)
+  pub named : AreFor words (task.Cluster asked is_measured)
   pub left : after ≡ before
   pub ended : ClusterEnds before.disk old new asked status
 
@@ -92,7 +118,7 @@ IsDone before after old new words =
 abbrev pub IsRefused : Storage → Storage → Stream → Stream → List Text → Type 0
 IsRefused before after old new words =
     IsFailed before after old new words ⊎ IsUnprinted before after old new words ⊎ IsUnread before after old new
-    ⊎ IsPlayed before after old new words Refused ⊎ IsRun before after old new words Refused
+    ⊎ IsPlayed before after old new words Refused ⊎ IsRun before after old new words Refused ⊎ IsValueless before after old new words
 
 -- The words are at fault or ask for help; nothing was done or printed on standard output.
 pub record IsUsage (before after : Storage) (old new : Stream) (words : List Text) : Type 0 where
@@ -138,7 +164,19 @@ pub record Acts (before after : Storage) (old new : Stream) (action : Action) (i
   pub true_of : Found before after action is_explained found note
   pub responds : Responds old new found note status
 
+-- a call is made with its values in hexadecimal
+pub record ActsOn (before after : Storage) (old new : Stream) (call : Call) (is_explained : Bool) (status : ExitStatus) : Type 0 where
+  pub filled : Call
+  pub values : IsFilled before.disk call filled
+  pub acts : Acts before after old new (Run filled) is_explained status
+
+-- or a line says why not
+abbrev pub CallEnds : Storage → Storage → Stream → Stream → Call → Bool → ExitStatus → Type 0
+CallEnds before after old new call is_explained status =
+    ActsOn before after old new call is_explained status ⊎ ((status ≡ Refused) × IsUnfilled before after old new call is_explained)
+
 abbrev pub TaskEnds : Storage → Storage → Stream → Stream → Task → ExitStatus → Type 0
-TaskEnds before after old new (Class action is_explained) status = Acts before after old new action is_explained status
-TaskEnds before after old new (Sim simulation) status = (after ≡ before) × SimEnds before.disk old new simulation status
-TaskEnds before after old new (Cluster asked is_measured) status = (after ≡ before) × ClusterEnds before.disk old new asked status
+TaskEnds before after old new (task.Class action is_explained) status = Acts before after old new action is_explained status
+TaskEnds before after old new (task.Run call is_explained) status = CallEnds before after old new call is_explained status
+TaskEnds before after old new (task.Sim simulation) status = (after ≡ before) × SimEnds before.disk old new simulation status
+TaskEnds before after old new (task.Cluster asked is_measured) status = (after ≡ before) × ClusterEnds before.disk old new asked status

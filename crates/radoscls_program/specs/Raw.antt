@@ -1,10 +1,9 @@
 -- The methods that `pack` is given, each spelled `NAME:FLAGS:IN:OUT:FILE`.
-use Rattle.std.specs.Prelude.{◌≡◌, ◌==◌, ◌<◌, ◌^◌, ⊤, ℕ, Bool, true, List, [], ◌∷◌, Option, Some, None, codes, if◌then◌else◌}
+use Rattle.std.specs.Prelude.{◌≡◌, ◌==◌, ◌<◌, ◌^◌, ⊤, ℕ, Bool, true, List, [], ◌∷◌, Option, Some}
 use Rattle.std.specs.List.{after_first, before_first, list_any}
-use Rattle.std.specs.Str.{bytes_eq}
-use Rattle.std.specs.Str.Parse.{IsNumeral, digits_value, without_leading_plus}
+use Rattle.file_words.specs.Words.{number_in}
 use Rattle.asm_lines.specs.Statements.{flags_of}
-use Rattle.clap.specs.Words.{Text}
+use Rattle.command_line.specs.Parsed.{Text}
 use Rattle.class_tool.specs.declared.action.RawMethod.{RawMethod}
 
 -- a `:`
@@ -25,11 +24,14 @@ after_field text = after_first is_colon text
 abbrev pub flags_in : Text → Option ℕ
 flags_in text = flags_of text
 
--- a text is that number of 16 bits, in decimal digits
+-- a text spells that number of 16 bits
 pub record IsShort (text : Text) (n : ℕ) : Type 0 where
-  pub numeral : IsNumeral 10 (without_leading_plus text)
-  pub value : n ≡ digits_value 10 (without_leading_plus text)
+  pub number : number_in text ≡ Some n
   pub short : n < 2 ^ 16
+
+-- the file of a method's code
+abbrev pub code_in : Text → Text
+code_in text = after_field (after_field (after_field (after_field text)))
 
 -- what a text says of a capacity, and what stands after it
 pub record IsCapacity (text : Text) (n : ℕ) : Type 0 where
@@ -44,7 +46,7 @@ pub record IsRaw (text : Text) (m : RawMethod) : Type 0 where
   pub flags : flags_in (field_in (after_field text)) ≡ Some m.flags
   pub in_cap : IsCapacity (after_field (after_field text)) m.in_cap
   pub out_cap : IsCapacity (after_field (after_field (after_field text))) m.out_cap
-  pub code : m.code.now ≡ after_field (after_field (after_field (after_field text)))
+  pub code : m.code.now ≡ code_in text
 
 -- the texts spell those methods, in their order
 abbrev pub AreRaw : List Text → List RawMethod → Type 0

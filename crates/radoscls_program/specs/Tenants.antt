@@ -2,7 +2,7 @@
 use Rattle.std.specs.Prelude.{◌≡◌, ◌==◌, ◌&&◌, ℕ, nat_le, not, Bool, true, List, [], ◌∷◌, ◌++◌, length, map}
 use Rattle.std.specs.List.{after_first, before_first, list_any}
 use Rattle.std.specs.Str.{bytes_eq}
-use Rattle.clap.specs.Words.{Text}
+use Rattle.command_line.specs.Parsed.{Text}
 use Rattle.tenant_classes.specs.Classes.{names_of}
 use Rattle.tenant_classes.specs.declared.tenant_class.TenantClass.{TenantClass}
 use Rattle.tenant_classes.specs.declared.tenant_class.TheConstants.{TENANT_LIMIT}

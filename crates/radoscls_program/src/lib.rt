@@ -1,12 +1,16 @@
-//! The program `radoscls` on words, files and two writers: reads the command line, does what it
-//! asks for by `class_tool`, and prints it. `program` says what each of its endings means: what was
-//! printed, which file was written, and why not. `start` runs it on the words and files of the
-//! process, and gives what that ends with. The command `cluster` starts threads and waits for them;
-//! the others do neither.
+//! The program `radoscls` on words, files and two writers: does what a command line asks for by
+//! `class_tool`, `sim` and `cluster_tool`, and prints it. `program` says what each of its endings
+//! means: what was printed, which file was written, and why not. `start` runs it on the words and
+//! files of the process, and gives what that ends with. The command `cluster` starts threads and
+//! waits for them; the others do neither.
 #![tactic(auto)]
 
-mod arguments;
+mod actions;
+mod asked;
 mod entry;
+mod inputs;
+mod mistake;
+mod number;
 mod perform;
 mod process;
 mod raw_method;
@@ -14,6 +18,7 @@ mod status;
 mod task;
 mod tenant_class;
 mod threads;
+mod values;
 
 pub use class_tool::Printer;
 pub use perform::program;

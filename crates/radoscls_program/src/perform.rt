@@ -1,20 +1,21 @@
-ghost use Rattle.std.specs.Prelude.{◌≡◌, ◌≢◌, [], true, false, map, string_bytes};
-ghost use Rattle.clap.specs.Words.{kind_of};
+ghost use Rattle.std.specs.Prelude.{◌≡◌, ◌≢◌, ◌++◌, ℕ, List, [], true, false, map, string_bytes};
+ghost use Rattle.command_line.specs.Parsed.{IsMemory};
 ghost use Rattle.radoscls_program.specs.Clustered.{ClusterEnds};
 ghost use Rattle.radoscls_program.specs.Playing.{SimEnds};
-ghost use Rattle.radoscls_program.specs.Program.{Acts, Ends, Found, IsDone, IsRefused, IsUsage, Responds, TaskEnds};
+ghost use Rattle.radoscls_program.specs.Program.{Acts, CallEnds, Ends, Found, IsDone, IsFileNoteAsked, IsRefused, IsUsage, Responds, TaskEnds};
 ghost use Rattle.class_tool.specs.Files.{storage};
 ghost use Rattle.radoscls_program.specs.Status.{code_of};
 ghost use Rattle.radoscls_program.specs.Streams.{stream, IsPrinted, failure_line};
 ghost use Rattle.radoscls_program.specs.declared.status.ExitStatus.{ExitStatus as AStatus};
 
-use crate::arguments::parse;
+use crate::asked::asked;
 use crate::status::ExitStatus;
 use crate::task::Task;
 use crate::threads::play_cluster;
-use clap::error::{Error, ErrorKind};
-use class_tool::{Action, Answer, Failure, Files, Output, Reads, find, find_noted};
+use crate::values::{call_with, filled};
+use class_tool::{Action, Answer, Call, Failure, Files, Output, Reads, find, find_noted};
 use cluster_tool::{Clustering, Figures};
+use command_line::Unparsed;
 use sim::{Ending, Simulation, simulate};
 use std::alloc::Global;
 use std::convert::AsStr;
@@ -81,6 +82,50 @@ fn act<F: Files, O: Output>(
     respond(found, &note, out)
 }
 
+/// Prints that a value's file can't be read, and what the files tell of it, if that is asked for.
+fn refuse_value<F: Files, O: Output>(
+    alloc: Global,
+    files: &F,
+    failure: Failure,
+    is_explained: bool,
+    out: &mut O,
+) -> ExitStatus
+    ensures status { result ≡ ExitStatus.Refused }
+    ensures printed { (note : List ℕ) × IsFileNoteAsked is_explained failure note × IsPrinted (stream O.printed O.failed out.old) (stream O.printed O.failed out.new) (failure_line failure ++ note) }
+{
+    let fault = match failure {
+        Failure::CannotRead if is_explained => files.fault(alloc),
+        _ => None,
+    };
+    match fault {
+        Some(note) => {
+            let _ = out.print(format_args!("{failure}\n{note}"));
+            ExitStatus::Refused
+        }
+        None => refuse(failure, out),
+    }
+}
+
+/// Makes a call, after its values' files are read, and prints what it comes to.
+fn act_call<F: Files, O: Output>(
+    alloc: Global,
+    files: &mut F,
+    call: &Call<'_>,
+    is_explained: bool,
+    out: &mut O,
+) -> ExitStatus
+    ensures { CallEnds (storage F.disk F.failed files.old) (storage F.disk F.failed files.new) (stream O.printed O.failed out.old) (stream O.printed O.failed out.new) call.now is_explained result }
+{
+    let values = match filled(alloc, files, call) {
+        Ok(values) => values,
+        Err(failure) => return refuse_value(alloc, files, failure, is_explained, out),
+    };
+    match call_with(alloc, call, &values) {
+        Ok(made) => act(alloc, files, &Action::Run(made), is_explained, out),
+        Err(_) => refuse(Failure::NoMemory, out),
+    }
+}
+
 /// Plays a file of events, and prints why where that comes to nothing or ends for want of memory.
 fn play<F: Reads, O: Output>(
     alloc: Global,
@@ -134,18 +179,19 @@ fn do_task<R: Threads + Wait + Clock + Sync, F: Files, O: Output, E: io::Write>(
 {
     match task {
         Task::Class(action, is_explained) => act(alloc, files, action, *is_explained, out),
+        Task::Run(call, is_explained) => act_call(alloc, files, call, *is_explained, out),
         Task::Sim(simulation) => play(alloc, files, simulation, out),
         Task::Cluster(asked, is_measured) => measure(alloc, rt, files, asked, *is_measured, out, err),
     }
 }
 
-/// Prints why the words name no task: a refusal where memory ran out, else usage or help.
-fn explain<O: Output, E: io::Write>(error: &Error, out: &mut O, err: &mut E) -> ExitStatus
+/// Prints why the words name no task: a refusal if memory ran out, else usage or help.
+fn explain<O: Output, E: io::Write>(error: &Unparsed, out: &mut O, err: &mut E) -> ExitStatus
     ensures done { result ≢ ExitStatus.Done }
     ensures refused { result ≡ ExitStatus.Refused → IsPrinted (stream O.printed O.failed out.old) (stream O.printed O.failed out.new) (failure_line Failure.NoMemory) }
-    ensures usage { result ≡ ExitStatus.Usage → (kind_of error.now ≢ ErrorKind.OutOfMemory) × (stream O.printed O.failed out.new ≡ stream O.printed O.failed out.old) }
+    ensures usage { result ≡ ExitStatus.Usage → (IsMemory error.now → ⊥) × (stream O.printed O.failed out.new ≡ stream O.printed O.failed out.old) }
 {
-    if error.kind() == ErrorKind::OutOfMemory {
+    if error.is_memory() {
         return refuse(Failure::NoMemory, out);
     }
     let _ = write!(err, "{error}");
@@ -162,7 +208,7 @@ pub(crate) fn perform<
 >(alloc: Global, rt: &R, words: &[S], files: &mut F, out: &mut O, err: &mut E) -> ExitStatus
     ensures { Ends (storage F.disk F.failed files.old) (storage F.disk F.failed files.new) (stream O.printed O.failed out.old) (stream O.printed O.failed out.new) (map S.text words.now) result }
 {
-    match parse(alloc, words) {
+    match asked(alloc, words) {
         Ok(task) => {
             let status = do_task(alloc, rt, files, &task, out, err);
             drop(task);

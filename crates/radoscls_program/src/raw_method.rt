@@ -1,11 +1,13 @@
 //! The methods that `pack` is given, each spelled `NAME:FLAGS:IN:OUT:FILE`.
-ghost use Rattle.std.specs.Prelude.{◌≡◌, ℕ, List, false, true, map, IfNone, IfOk, IfSome, IsNone};
+ghost use Rattle.std.specs.Prelude.{◌≡◌, ◌≢◌, ℕ, List, false, true, map, IfErr, IfNone, IfOk, IfSome, IsNone};
 ghost use Rattle.class_tool.specs.declared.action.RawMethod.{RawMethod as ARawMethod};
-ghost use Rattle.radoscls_program.specs.Raw.{AreRaw, IsCapacity, IsRaw, IsShort, after_field, field_in, flags_in, has_field};
+ghost use Rattle.radoscls_program.specs.Raw.{AreRaw, IsCapacity, IsRaw, after_field, field_in, flags_in, has_field};
 
+use crate::mistake::{Mistake, Wanted};
+use crate::number::short_in;
 use asm_lines::flags;
 use class_tool::RawMethod;
-use std::alloc::{AllocError, Global};
+use std::alloc::Global;
 
 /// A text's first field, which ends with a `:`, and what stands after it.
 fn split<'a>(text: &'a str) -> Option<(&'a str, &'a str)>
@@ -22,24 +24,13 @@ fn flags_of(text: &str) -> Option<u8>
     flags(text.as_bytes())
 }
 
-/// The number of 16 bits that a text writes in decimal digits, with or without a plus.
-fn short_of(text: &str) -> Option<u16>
-    ensures some { IfSome result (IsShort text.now) }
-    ensures none { IsNone result → (n : ℕ) → IsShort text.now n → ⊥ }
-{
-    match text.parse::<u16>() {
-        Ok(number) => Some(number),
-        Err(_) => None,
-    }
-}
-
 /// The capacity that a text begins with, and what stands after it.
 fn capacity_of<'a>(text: &'a str) -> Option<(u16, &'a str)>
     ensures some { IfSome result (λ p. IsCapacity text.now p.0 × (p.1.now ≡ after_field text.now)) }
     ensures none { IsNone result → (n : ℕ) → IsCapacity text.now n → ⊥ }
 {
     let (digits, rest) = split(text)?;
-    let number = short_of(digits)?;
+    let number = short_in(digits)?;
     Some((number, rest))
 }
 
@@ -62,20 +53,20 @@ fn raw_method<'a>(text: &'a str) -> Option<RawMethod<'a>>
     })
 }
 
-/// The methods that texts spell, in their order; none where one of them spells none.
+/// The methods that texts spell, in their order; refused if one of them spells none.
 pub(crate) fn raw_methods<'a>(
     alloc: Global,
     texts: &[&'a str],
-) -> Result<Option<Vec<RawMethod<'a>>>, AllocError>
-    ensures some { IfOk result (λ found. IfSome found (λ ms. AreRaw (map (λ t. t.now) texts.now) ms.items)) }
-    ensures none { IfOk result (λ found. IfNone found ((ms : List ARawMethod) → AreRaw (map (λ t. t.now) texts.now) ms → ⊥)) }
+) -> Result<Vec<RawMethod<'a>>, Mistake<'a>>
+    ensures some { IfOk result (λ ms. AreRaw (map (λ t. t.now) texts.now) ms.items) }
+    ensures none { IfErr result (λ m. m ≢ Mistake.NoMemory → (ms : List ARawMethod) → AreRaw (map (λ t. t.now) texts.now) ms → ⊥) }
 {
     let mut methods = Vec::new(alloc);
     for text in texts {
         match raw_method(text) {
             Some(method) => methods.push(method)?,
-            None => return Ok(None),
+            None => return Err(Mistake::Value(Wanted::Method, text)),
         }
     }
-    Ok(Some(methods))
+    Ok(methods)
 }

@@ -1,4 +1,4 @@
-use class_tool::Action;
+use class_tool::{Action, Call};
 use cluster_tool::Clustering;
 use sim::Simulation;
 
@@ -7,6 +7,8 @@ use sim::Simulation;
 pub(crate) enum Task<'a> {
     /// Something of the class in a file, and whether a failure is explained.
     Class(Action<'a>, bool),
+    /// A call, whose values files may hold, and whether a failure is explained.
+    Run(Call<'a>, bool),
     /// A file of events, played.
     Sim(Simulation<'a>),
     /// A file of calls and maps, played on a cluster in threads.

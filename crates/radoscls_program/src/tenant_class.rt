@@ -1,12 +1,13 @@
 //! The classes of tenants that `sim` is given, each spelled `NAME=IMAGE`.
-ghost use Rattle.std.specs.Prelude.{◌≡◌, ◌≤◌, false, true, length, map, IfOk, IfNone, IfSome};
+ghost use Rattle.std.specs.Prelude.{◌≡◌, ◌≢◌, ◌≤◌, false, true, length, map, IfErr, IfOk, IfNone, IfSome};
 ghost use Rattle.std.specs.List.{list_any};
 ghost use Rattle.std.specs.Str.{bytes_eq};
 ghost use Rattle.tenant_classes.specs.Classes.{names_of};
 ghost use Rattle.tenant_classes.specs.declared.tenant_class.TheConstants.{TENANT_LIMIT};
-ghost use Rattle.radoscls_program.specs.Tenants.{SpellsTenants, are_tenants, image_in, is_equals, is_free, is_tenant, is_word, name_in};
+ghost use Rattle.radoscls_program.specs.Tenants.{SpellsTenants, are_tenants, image_in, is_equals, is_tenant, is_word, name_in};
 
-use std::alloc::{AllocError, Global};
+use crate::mistake::{Mistake, Wanted};
+use std::alloc::Global;
 use tenant_classes::{TENANT_LIMIT, TenantClass};
 
 /// Whether a word of a file of events may be that: it is not empty, and no blank stands in it.
@@ -36,13 +37,6 @@ fn is_taken(name: &str, tenants: &[TenantClass<'_>]) -> bool
     name == "lock" || name == "obj" || is_used(name, tenants)
 }
 
-/// Whether the class after those may have that name.
-fn is_free(name: &str, tenants: &[TenantClass<'_>]) -> bool
-    ensures { result ≡ is_free (names_of tenants.now) name.now }
-{
-    is_word(name) && !is_taken(name, tenants)
-}
-
 /// The class that a text spells: its name stands before the first `=`, the file of its image after
 /// it.
 fn tenant_class<'a>(text: &'a str) -> Option<TenantClass<'a>>
@@ -55,38 +49,47 @@ fn tenant_class<'a>(text: &'a str) -> Option<TenantClass<'a>>
     }
 }
 
-/// The class that a text spells, where it may stand after those.
-fn next_class<'a>(text: &'a str, tenants: &[TenantClass<'_>]) -> Option<TenantClass<'a>>
-    ensures none { IfNone result (is_tenant (names_of tenants.now) text.now ≡ false) }
-    ensures some { IfSome result (λ o. (is_tenant (names_of tenants.now) text.now ≡ true) × (o.name.now ≡ name_in text.now) × (o.image.now ≡ image_in text.now)) }
+/// The class that a text spells, if it may follow those.
+fn next_class<'a>(
+    text: &'a str,
+    tenants: &[TenantClass<'_>],
+) -> Result<TenantClass<'a>, Mistake<'a>>
+    ensures none { IfErr result (λ _. is_tenant (names_of tenants.now) text.now ≡ false) }
+    ensures some { IfOk result (λ o. (is_tenant (names_of tenants.now) text.now ≡ true) × (o.name.now ≡ name_in text.now) × (o.image.now ≡ image_in text.now)) }
 {
-    let class = tenant_class(text)?;
-    if is_free(class.name, tenants) {
-        Some(class)
-    } else {
-        None
+    let Some(class) = tenant_class(text) else {
+        return Err(Mistake::Value(Wanted::Class, text));
+    };
+    if !is_word(class.name) {
+        return Err(Mistake::Value(Wanted::ClassName, text));
     }
+    if is_taken(class.name, tenants) {
+        return Err(Mistake::Value(Wanted::FreeName, text));
+    }
+    Ok(class)
 }
 
-/// The classes that texts spell, in their order; none where a text has no `=`, a name is no word or
-/// is used before, or there are too many.
+/// The classes that texts spell, in their order, after the built-in ones. Refused is the first text
+/// that has no `=`, or whose name is no word or is used before it; of more classes than there may be
+/// the last.
 pub(crate) fn tenants_in<'a>(
     alloc: Global,
     texts: &[&'a str],
-) -> Result<Option<Vec<TenantClass<'a>>>, AllocError>
-    ensures none { IfOk result (λ found. IfNone found (are_tenants (map (λ t. t.now) texts.now) ≡ false)) }
-    ensures some { IfOk result (λ found. IfSome found (λ tenants. SpellsTenants (map (λ t. t.now) texts.now) tenants.items)) }
-    ensures room { IfOk result (λ found. IfSome found (λ tenants. length tenants.items ≤ TENANT_LIMIT)) }
+) -> Result<Vec<TenantClass<'a>>, Mistake<'a>>
+    ensures none { IfErr result (λ m. m ≢ Mistake.NoMemory → are_tenants (map (λ t. t.now) texts.now) ≡ false) }
+    ensures some { IfOk result (λ tenants. SpellsTenants (map (λ t. t.now) texts.now) tenants.items) }
+    ensures room { IfOk result (λ tenants. length tenants.items ≤ TENANT_LIMIT) }
 {
     if texts.len() > TENANT_LIMIT {
-        return Ok(None);
+        let last = texts[texts.len() - 1];
+        return Err(Mistake::Value(Wanted::FewerClasses, last));
     }
     let mut tenants = Vec::new(alloc);
     for text in texts {
         match next_class(text, &tenants) {
-            Some(class) => tenants.push(class)?,
-            None => return Ok(None),
+            Ok(class) => tenants.push(class)?,
+            Err(mistake) => return Err(mistake),
         }
     }
-    Ok(Some(tenants))
+    Ok(tenants)
 }

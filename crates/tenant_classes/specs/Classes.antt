@@ -17,7 +17,7 @@ use Rattle.tenant_classes.specs.declared.tenant_class.TenantClass.{TenantClass}
 abbrev pub names_of : List TenantClass → List (List ℕ)
 names_of tenants = codes "lock" ∷ codes "obj" ∷ map (λ o. o.name.now) tenants
 
--- each class is the one whose image the file holds, and safe, one after the other
+-- each class is the one that the file holds, and safe, one after the other
 abbrev pub AreIn : Option Disk → List TenantClass → Classes → Type 0
 AreIn disk [] [] = ⊤
 AreIn disk [] (class ∷ classes) = ⊥
@@ -47,7 +47,7 @@ failure_of (built_in.Verdict refusal) = Verdict refusal
 abbrev pub BuiltInFails : Failure → Type 0
 BuiltInFails failure = (why : BuiltInFailure) × (failure ≡ failure_of why) × (TextFails LOCK.now why ⊎ TextFails OBJ.now why)
 
--- a file holds the image of a safe class
+-- a file holds a safe class
 abbrev pub HoldsClass : Option Disk → TenantClass → Type 0
 HoldsClass disk o = (class : List ClassMethod) × IsSafeIn disk o.image.now class
 

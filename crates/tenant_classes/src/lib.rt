@@ -1,6 +1,7 @@
 //! The classes that a file of events or a cluster is run with: the built-in ones and tenants' own,
-//! each read from the file of its image (`classes`), and the words that ask them (`class_names`).
-//! Each tenant's class is the one whose image its file holds, and safe; a failure says which is the
+//! each read from the file of its image or text (`classes`), and the words that ask them
+//! (`class_names`).
+//! Each tenant's class is the one that its file holds, and safe; a failure says which is the
 //! first that can't be had, and why (`specs/Classes.antt`).
 #![tactic(auto)]
 

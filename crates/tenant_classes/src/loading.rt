@@ -74,7 +74,7 @@ fn add_tenants<F: Reads>(
 
 /// The built-in classes, `lock` 0 and `obj` 1, and the tenants' after them in their order. A
 /// failure is the first in this order: a built-in class can't be had, which memory alone is known
-/// to cause; the image of a tenant's class can't be loaded, the first one in their order.
+/// to cause; a tenant's class can't be loaded, the first one in their order.
 pub fn classes<F: Reads>(
     alloc: Global,
     files: &F,

@@ -6,6 +6,6 @@ pub const TENANT_LIMIT: usize = 62;
 pub struct TenantClass<'a> {
     /// The word that asks it.
     pub name: &'a str,
-    /// The file of its image.
+    /// The file of its image or its text.
     pub image: &'a str,
 }

@@ -61,6 +61,21 @@ fn an_image_is_written_and_read_back(rt: HostRuntime) {
 }
 
 #[test]
+fn a_text_is_a_class_as_its_image_is(rt: HostRuntime) {
+    let mut files = files_of(&rt, TEXT, b"before", true);
+    let said = printed(&rt, &mut files, &Action::Verify { image: "text" });
+    assert!(rt; said.as_str() == "f ok 2\n" && hold(&files, TEXT, b"before", false));
+    let asked = Action::Disassemble {
+        image: "text",
+        has_slots: true,
+    };
+    let said = printed(&rt, &mut files, &asked);
+    assert!(rt; said.as_str() == ".method f r 0 0\nmov r0, 0 ; slot 0\nexit ; slot 1\n");
+    let said = printed(&rt, &mut files, &Action::Verify { image: "image" });
+    assert!(rt; said.as_str() == "line 1: 1 Word");
+}
+
+#[test]
 fn a_text_becomes_its_own_image(rt: HostRuntime) {
     let mut files = files_of(&rt, TEXT, b"before", true);
     let asked = Action::Assemble {

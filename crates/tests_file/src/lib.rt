@@ -6,3 +6,5 @@
 mod answers;
 #[cfg(test)]
 mod known;
+#[cfg(test)]
+mod mistakes;

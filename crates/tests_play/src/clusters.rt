@@ -316,7 +316,7 @@ static OTHERS: [Row; 8] = [
         words: &["cluster", "--class", "hi=text", "missing"],
         image: "",
         text: "map 0\n",
-        printed: "image refused after 0 methods: 2 Magic\n",
+        printed: "line 1: 1 Word\n",
         status: 1,
     },
     Row {

@@ -95,7 +95,7 @@ static ROWS: [Row; 14] = [
         ],
         image: HELLO,
         text: "map 1\n",
-        printed: "image refused after 0 methods: 2 Magic\n",
+        printed: "line 1: 1 Word\n",
         status: 1,
     },
     // the images before the file of events
@@ -103,7 +103,7 @@ static ROWS: [Row; 14] = [
         words: &["sim", "--class", "b=out", "missing"],
         image: HELLO,
         text: "",
-        printed: "image refused after 0 methods: 2 Magic\n",
+        printed: "line 1: 1 Word\n",
         status: 1,
     },
     Row {

@@ -39,15 +39,9 @@ static REFUSED: [(&str, &str); 8] = [
     ),
 ];
 
-/// Words after which nothing is added: the class is safe, the call is refused, and the folder tells
-/// no reason.
-static UNTOLD: [(&[&str], &str, u8); 4] = [
+/// Words after which nothing is added: the class is safe, and the folder tells no reason.
+static UNTOLD: [(&[&str], &str, u8); 3] = [
     (&["verify", "image", "--explain"], "f ok 2\n", 0),
-    (
-        &["run", "image", "g", "--explain"],
-        "call refused: 1 NoMethod\n",
-        1,
-    ),
     (&["dis", "missing", "--explain"], "cannot read\n", 1),
     (
         &["pack", "full", "f:r:0:0:raw", "--explain"],
@@ -79,6 +73,33 @@ fn the_last_slot_is_explained(rt: HostRuntime) {
     )
     .expect(&rt, "memory");
     prints_of(&rt, &text, &["verify", "image", "--explain"], LAST, 1);
+}
+
+/// Words, and what is printed of them with what is added.
+static TOLD: [(&[&str], &str); 4] = [
+    (
+        &["run", "image", "g", "--explain"],
+        "call refused: 1 NoMethod\n  wanted: a method of the class; `radoscls verify` lists them\n",
+    ),
+    (
+        &["run", "image", "f", "--input", "0", "--explain"],
+        "input is not hex\n  wanted: --input in hexadecimal, two digits a byte\n",
+    ),
+    (
+        &["verify", "out", "--explain"],
+        "line 1: 1 Word\n  line 1: before\n  wanted: first an instruction's word, or a label `name:`, `.method` or `.rules`\n  see docs/ASSEMBLY.md, 1 Word\n",
+    ),
+    (
+        &["pack", "new", "f:r:0:0:out", "--explain"],
+        "image refused after 0 methods: 1 Truncated\n  method f, out\n",
+    ),
+];
+
+#[test]
+fn other_failures_are_explained(rt: HostRuntime) {
+    for (words, printed) in &TOLD {
+        assert!(rt; only_prints(&rt, words, TWO, b"", printed, 1), "{printed}");
+    }
 }
 
 #[test]

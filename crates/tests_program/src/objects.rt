@@ -36,7 +36,7 @@ static COUNTED: [(&[&str], &str); 3] = [
 ];
 
 /// Words on a method that leaves its object as it is, what they print, and the status.
-static LEFT: [(&[&str], &str, u8); 18] = [
+static LEFT: [(&[&str], &str, u8); 25] = [
     (
         &["run", "image", "f", "--show"],
         "code 0\noutput -\nsteps 2\nobject absent\n",
@@ -129,6 +129,48 @@ static LEFT: [(&[&str], &str, u8); 18] = [
         "object is not hex\n",
         1,
     ),
+    // values that are a file's bytes, and none
+    (
+        &["run", "image", "f", "--object", "@out", "--show"],
+        "code 0\noutput -\nsteps 2\nobject 6 0 0\ndata 6265666f7265\n",
+        0,
+    ),
+    (
+        &[
+            "run", "image", "f", "--xattr", "a=@out", "--key", "b=@out", "--key", "c=@text",
+            "--show",
+        ],
+        "code 0\noutput -\nsteps 2\nobject 0 1 2\ndata -\nxattr a 6265666f7265\nkey b 6265666f7265\nkey c -\n",
+        0,
+    ),
+    (
+        &[
+            "run", "image", "f", "--input", "-", "--object", "-", "--xattr", "a=-", "--show",
+        ],
+        "code 0\noutput -\nsteps 2\nobject 0 1 0\ndata -\nxattr a -\n",
+        0,
+    ),
+    (
+        &["run", "image", "f", "--input", "@out"],
+        "call refused: 2 InputTooLong\n",
+        1,
+    ),
+    (
+        &["run", "image", "f", "--object", "@none"],
+        "cannot read\n",
+        1,
+    ),
+    // before the image and what isn't hex
+    (
+        &["run", "text", "f", "--key", "a=@none"],
+        "cannot read\n",
+        1,
+    ),
+    (
+        &["run", "image", "f", "--object", "g", "--xattr", "a=@none"],
+        "cannot read\n",
+        1,
+    ),
     // before the object the image and the input, after it the call
     (
         &["run", "text", "f", "--object", "g"],
@@ -181,6 +223,21 @@ fn an_object_is_within_its_limits(rt: HostRuntime) {
     let data = with_repeated(rt.alloc(), "", "00", 65_537, "").expect(&rt, "memory");
     let words = ["run", "image", "f", "--object", data.as_str()];
     assert!(rt; only_prints(&rt, &words, TWO, b"", "object refused: 4 TooBig\n", 1));
+}
+
+/// What is printed of a call on the data that a file of that length holds.
+static FILES: [(usize, &str, u8); 2] = [
+    (65_536, "code 0\noutput -\nsteps 2\nobject 65536 0 0\n", 0),
+    (65_537, "object refused: 4 TooBig\n", 1),
+];
+
+#[test]
+fn a_file_holds_the_largest_object(rt: HostRuntime) {
+    for (count, printed, status) in &FILES {
+        let bytes = vec![in rt.alloc(); 7; *count].expect(&rt, "memory");
+        let words = ["run", "image", "f", "--object", "@text"];
+        assert!(rt; only_prints(&rt, &words, TWO, &bytes, printed, *status), "{printed}");
+    }
 }
 
 #[test]

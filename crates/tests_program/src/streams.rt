@@ -8,7 +8,7 @@ use std::time::Clock;
 use tests_folder::{Folder, TWO, run_on};
 
 /// Words that ask for nothing that the program does, or for help.
-static USAGES: [&[&str]; 43] = [
+static USAGES: [&[&str]; 54] = [
     &[],
     &["--help"],
     &["help"],
@@ -35,6 +35,19 @@ static USAGES: [&[&str]; 43] = [
     &["run", "image", "f", "--caller", "0"],
     &["run", "image", "f", "--caller", "4294967296"],
     &["run", "image", "f", "--caller", "one"],
+    // numbers are read as those of files: no sign, no leading zero
+    &["run", "image", "f", "--caller", "+7"],
+    &["run", "image", "f", "--caller", "007"],
+    &["pack", "out", "f:r:+0:0:image"],
+    &["pack", "out", "f:r:0:00:image"],
+    // standard input read twice, and written
+    &["pack", "out", "f:r:0:0:-", "g:r:0:0:-"],
+    &["sim", "--class", "two=-", "-"],
+    &["cluster", "--class", "two=-", "--class", "hi=-", "text"],
+    &["run", "-", "f", "--input", "@-"],
+    &["run", "image", "f", "--object", "@-", "--key", "a=@-"],
+    &["asm", "text", "-"],
+    &["pack", "-", "f:r:0:0:image"],
     // no file of events, and two
     &["sim"],
     &["sim", "--trace"],
@@ -99,7 +112,7 @@ fn explains_its_use(rt: HostRuntime) {
 
 /// Words, and what stands in the help or the usage that they get: the forms and phrases are clap's,
 /// the texts are the commands' own.
-static TOLD: [(&[&str], &str); 21] = [
+static TOLD: [(&[&str], &str); 34] = [
     (
         &["--help"],
         "RADOS object classes in verified BPF\n\nUsage: radoscls <COMMAND>\n",
@@ -121,7 +134,10 @@ static TOLD: [(&[&str], &str); 21] = [
         "  pack     Writes the image of a class from raw code\n",
     ),
     (&["--help"], "  dis      Prints the text of a class image\n"),
-    (&["--version"], "radoscls 0.4.0\n"),
+    (
+        &["--version"],
+        "radoscls 0.4.0\nrattle-kit-13f logic dac8208d650f15bf\n",
+    ),
     (
         &["--help"],
         "  sim      Plays a group of nodes from a file of events\n",
@@ -162,9 +178,68 @@ static TOLD: [(&[&str], &str); 21] = [
         &["run", "image", "f", "--caller", "0"],
         "error: invalid value '0' for '--caller <N>'",
     ),
+    // each mistake that the program itself finds, with the command's usage
+    (
+        &["run", "image", "f", "--caller", "007"],
+        "error: invalid value '007' for '--caller <N>': expected a number from 1 to 4294967295, without a sign or a leading zero\n\n\
+        Usage: radoscls run [OPTIONS] <IN> <METHOD>\n\nFor more information, try '--help'.\n",
+    ),
+    (
+        &["run", "image", "f", "--xattr", "a"],
+        "error: invalid value 'a' for '--xattr <NAME=HEX>': expected a name, '=' and the value\n\nUsage: radoscls run ",
+    ),
+    (
+        &["run", "image", "f", "--key", "a=00", "--key", "b"],
+        "error: invalid value 'b' for '--key <KEY=HEX>': expected a key, '=' and the value\n\nUsage: radoscls run ",
+    ),
+    (
+        &["pack", "out", "--rules", "3", "f:r:0:0:image"],
+        "error: invalid value '3' for '--rules <N>': expected 1 or 2\n\nUsage: radoscls pack [OPTIONS] <OUT> <METHOD>...\n",
+    ),
+    (
+        &["pack", "out", "f:r:0:0:image", "f:x:0:0:image"],
+        "error: invalid value 'f:x:0:0:image' for '<METHOD>...': expected NAME:FLAGS:IN:OUT:FILE, FLAGS r, w or rw, \
+        IN and OUT 0 to 65535\n\nUsage: radoscls pack ",
+    ),
     (
         &["sim", "--class", "two", "text"],
-        "error: no such call or class\n",
+        "error: invalid value 'two' for '--class <NAME=IMAGE>': expected a name, '=' and the file of the image\n\n\
+        Usage: radoscls sim [OPTIONS] <FILE>\n",
+    ),
+    (
+        &["sim", "--class", "=image", "text"],
+        "error: invalid value '=image' for '--class <NAME=IMAGE>': expected a name that isn't empty and has no blank\n",
+    ),
+    (
+        &["cluster", "--class", "lock=image", "text"],
+        "error: invalid value 'lock=image' for '--class <NAME=IMAGE>': expected a name that no class has: not lock, obj or an \
+        earlier one\n\nUsage: radoscls cluster [OPTIONS] <FILE>\n",
+    ),
+    (
+        &["asm", "text", "-"],
+        "error: invalid value '-' for '<OUT>': expected a file, and not standard input ('./-' is a file of that name)\n\n\
+        Usage: radoscls asm [OPTIONS] <IN> <OUT>\n",
+    ),
+    (
+        &["sim", "--class", "two=-", "-"],
+        "error: standard input ('-') can be read by one argument alone\n\nUsage: radoscls sim ",
+    ),
+    // examples end the help
+    (
+        &["run", "--help"],
+        "\n\nExamples:\n  radoscls run keep.img keep --input 726f6f74\n",
+    ),
+    (
+        &["verify", "--help"],
+        "\n\nExamples:\n  radoscls verify count.img\n",
+    ),
+    (
+        &["pack", "--help"],
+        "\n\nExamples:\n  radoscls pack sum.img sum:r:16:8:sum.bin\n",
+    ),
+    (
+        &["cluster", "--help"],
+        "\n\nExamples:\n  radoscls cluster lost_primary.cluster\n",
     ),
 ];
 

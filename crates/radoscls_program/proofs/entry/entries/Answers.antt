@@ -3,7 +3,7 @@ use Rattle.radoscls_program.proofs.Entering.{next_entered, next_enters_none}
 use Rattle.radoscls_program.proofs.entry.entries.Goals as goal
 
 pub returns-in-None-clause-none : goal.returns-in-None-clause-none
-returns-in-None-clause-none c =
+returns-in-None-clause-none c known =
     next_enters_none (λ (t : Bor (List ℕ)). t.now) c.args.texts.now c.loop-text.text-index _ (search rules)
     (λ e is. let bad : true ≡ false = sym is.ends ∙ c.in-None.ensures.none in absurd cc)
 

@@ -17,4 +17,4 @@ returns-in-Ok g c =
     let files = storage g.F.Reads.disk g.F.Files.failed in
     let out = stream g.O.Output.printed g.O.Output.failed in
     ended (files c.args.files.now) (files c.do_task-status.new.files) (out c.args.out.now) (out c.do_task-status.new.out) (map g.S.AsStr.text c.args.words.now)
-    c.in-Ok.task c.do_task-status.result (record { faultless = c.in-Ok.ensures.faultless; asked = c.in-Ok.ensures.asked }) c.do_task-status.ensures
+    c.in-Ok.task c.do_task-status.result c.in-Ok.ensures.asked c.do_task-status.ensures

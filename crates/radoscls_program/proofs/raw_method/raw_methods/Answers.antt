@@ -3,7 +3,7 @@ use Rattle.radoscls_program.proofs.Raws.{next_spelled, next_spells_none}
 use Rattle.radoscls_program.proofs.raw_method.raw_methods.Goals as goal
 
 pub returns-in-None-clause-none : goal.returns-in-None-clause-none
-returns-in-None-clause-none c =
+returns-in-None-clause-none c known =
     next_spells_none (λ (t : Bor (List ℕ)). t.now) c.args.texts.now c.loop-text.text-index _ (search rules) (c.in-None.ensures.none (search rules))
 
 pub loop-text-preserved : goal.loop-text-preserved

@@ -1,0 +1,12 @@
+use Rattle.command_line.proofs.Built.{arg_line, arg_local}
+use Rattle.command_line.proofs.commands.sim_command.Goals as goal
+
+pub returns-clause-line : goal.returns-clause-line
+returns-clause-line c =
+    let class = arg_line _ _ _ _ _ c.with_arg.ensures c.class_option.ensures.local c.class_option.ensures.rule c.file_command-of_events.ensures.line in
+    arg_line _ _ _ _ _ c.with_arg-2.ensures c.flag-trace.ensures.local c.flag-trace.ensures.rule class
+
+pub returns-clause-local : goal.returns-clause-local
+returns-clause-local c =
+    let class = arg_local _ _ _ c.with_arg.ensures c.class_option.ensures.local c.file_command-of_events.ensures.local in
+    arg_local _ _ _ c.with_arg-2.ensures c.flag-trace.ensures.local class

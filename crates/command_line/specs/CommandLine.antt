@@ -1,0 +1,109 @@
+-- The command line: `verify IN [--explain]`, `run IN METHOD [--input HEX] [--caller N] [--object
+-- HEX] [--xattr NAME=HEX ..] [--key KEY=HEX ..] [--show] [--explain]`, `asm IN OUT [--explain]`,
+-- `pack OUT METHOD .. [--rules N] [--explain]`, `dis IN [--slots] [--explain]`, `sim FILE [--class
+-- NAME=IMAGE ..] [--trace]`, and `cluster FILE [--class NAME=IMAGE ..] [--show] [--stats]`.
+use Rattle.std.specs.Prelude.{[], ◌∷◌, Option, Some, true, codes}
+use Rattle.clap.specs.Lexer.{usize_max}
+use Rattle.clap.specs.Words.{App, Rule, Text, new_app, new_rule, with_rule, with_subcommand}
+use Rattle.clap.specs.declared.builder.action.ArgAction.TheVariants as argument
+
+-- an argument that has to be there, by its place
+abbrev pub required_rule : Text → Rule
+required_rule id = record (new_rule id) { required = true }
+
+-- an option with one value and a default
+abbrev pub option_rule : Text → Text → Rule
+option_rule id default = record (new_rule id) { long = Some id; value_names = 1; defaults = default ∷ [] }
+
+-- an option with one value and no default
+abbrev pub value_rule : Text → Rule
+value_rule id = record (new_rule id) { long = Some id; value_names = 1 }
+
+-- an option that may stand more than once, each with one value
+abbrev pub each_rule : Text → Rule
+each_rule id = record (new_rule id) { long = Some id; value_names = 1; action = Some argument.Append }
+
+-- a flag
+abbrev pub flag_rule : Text → Rule
+flag_rule id = record (new_rule id) { long = Some id; action = Some argument.SetTrue }
+
+-- the number of the client that calls
+abbrev pub caller_rule : Rule
+caller_rule = option_rule (codes "caller") (codes "1")
+
+-- the flag that has a failure explained
+abbrev pub explain_rule : Rule
+explain_rule = flag_rule (codes "explain")
+
+abbrev pub verify_line : App
+verify_line = with_rule (with_rule (new_app (codes "verify")) (required_rule (codes "IN"))) explain_rule
+
+-- a call of a method
+abbrev pub call_line : App
+call_line =
+    with_rule (with_rule (with_rule (with_rule (new_app (codes "run")) (required_rule (codes "IN")))
+    (required_rule (codes "METHOD"))) (option_rule (codes "input") (codes ""))) caller_rule
+
+-- on an object
+abbrev pub run_line : App
+run_line =
+    with_rule (with_rule (with_rule (with_rule (with_rule call_line (value_rule (codes "object"))) (each_rule (codes "xattr")))
+    (each_rule (codes "key"))) (flag_rule (codes "show"))) explain_rule
+
+abbrev pub asm_line : App
+asm_line = with_rule (with_rule (with_rule (new_app (codes "asm")) (required_rule (codes "IN"))) (required_rule (codes "OUT"))) explain_rule
+
+-- the methods that are packed, one or more
+abbrev pub methods_rule : Rule
+methods_rule = record (required_rule (codes "METHOD")) { range = Some (record { start_inclusive = 1; end_inclusive = usize_max }) }
+
+-- the rule set of a packed class
+abbrev pub rules_rule : Rule
+rules_rule = option_rule (codes "rules") (codes "1")
+
+abbrev pub pack_line : App
+pack_line =
+    with_rule (with_rule (with_rule (with_rule (new_app (codes "pack")) (required_rule (codes "OUT"))) methods_rule) rules_rule) explain_rule
+
+abbrev pub dis_line : App
+dis_line = with_rule (with_rule (with_rule (new_app (codes "dis")) (required_rule (codes "IN"))) (flag_rule (codes "slots"))) explain_rule
+
+-- the option of a tenant's class, which may stand more than once
+abbrev pub class_rule : Rule
+class_rule = each_rule (codes "class")
+
+-- the flag that has the run drawn
+abbrev pub trace_rule : Rule
+trace_rule = flag_rule (codes "trace")
+
+abbrev pub sim_line : App
+sim_line = with_rule (with_rule (with_rule (new_app (codes "sim")) (required_rule (codes "FILE"))) class_rule) trace_rule
+
+-- the flag that has a run measured
+abbrev pub stats_rule : Rule
+stats_rule = flag_rule (codes "stats")
+
+abbrev pub cluster_line : App
+cluster_line =
+    with_rule (with_rule (with_rule (with_rule (new_app (codes "cluster")) (required_rule (codes "FILE"))) class_rule) (flag_rule (codes "show"))) stats_rule
+
+-- the program's name, which wants a subcommand
+abbrev pub plain_line : App
+plain_line = let named = new_app (codes "radoscls") in
+    record named { top = record named.top { has_version = true; arg_required_else_help = true; subcommand_required = true } }
+
+-- with the subcommands of images alone
+abbrev pub image_line : App
+image_line = with_subcommand (with_subcommand plain_line verify_line.top) run_line.top
+
+-- with those of texts too
+abbrev pub class_line : App
+class_line = with_subcommand (with_subcommand (with_subcommand image_line asm_line.top) pack_line.top) dis_line.top
+
+-- with that of a group too
+abbrev pub group_line : App
+group_line = with_subcommand class_line sim_line.top
+
+-- the whole of it
+abbrev pub command_line : App
+command_line = with_subcommand group_line cluster_line.top

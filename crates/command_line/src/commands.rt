@@ -1,0 +1,211 @@
+//! The subcommands.
+ghost use Rattle.std.specs.Prelude.{◌≡◌, IfOk, false};
+ghost use Rattle.clap.specs.declared.builder.command.Command.TheViews.{out-Command};
+ghost use Rattle.clap.specs.Words.{app_of, rule_of};
+ghost use Rattle.command_line.specs.CommandLine.{asm_line, call_line, class_rule, cluster_line, command_line, dis_line, explain_rule, image_line, methods_rule, pack_line, plain_line, run_line, sim_line, verify_line};
+
+use crate::forms::{
+    Heading, each, file_command, flag, option, required, value, with_arg, with_subcommand,
+};
+use crate::help;
+use clap::{Arg, Command};
+use std::alloc::{AllocError, Global};
+
+/// The flag that has a failure explained.
+fn explain_flag<'a>(alloc: Global) -> Arg<'a>
+    ensures rule { rule_of result ≡ explain_rule }
+    ensures local { result.global ≡ false }
+{
+    let help = "Says more of a failure, in lines below its own";
+    flag(alloc, "explain", help)
+}
+
+fn verify_command<'a>(alloc: Global) -> Result<Command<'a>, AllocError>
+    ensures line { IfOk result (λ c. app_of c ≡ verify_line) }
+    ensures local { IfOk result (λ c. (out-Command c).has_globals ≡ false) }
+{
+    let heading = Heading {
+        name: "verify",
+        about: "Tells whether the methods of a class image are safe",
+        examples: help::VERIFY,
+    };
+    let of_image = file_command(alloc, heading, "IN", "The file of the image");
+    with_arg(of_image, explain_flag(alloc))
+}
+
+/// The subcommand of a call, without the object.
+fn call_command<'a>(alloc: Global) -> Result<Command<'a>, AllocError>
+    ensures line { IfOk result (λ c. app_of c ≡ call_line) }
+    ensures local { IfOk result (λ c. (out-Command c).has_globals ≡ false) }
+{
+    let heading = Heading {
+        name: "run",
+        about: "Runs a method of a class image beside an object",
+        examples: help::RUN,
+    };
+    let of_image = file_command(alloc, heading, "IN", "The file of the image");
+    let method = required(alloc, "METHOD", "The name of the method");
+    let input = option(alloc, "input", "HEX", "", "The input: hexadecimal, - for none, or @FILE for the bytes of a file");
+    let help = "The number of the client that calls, 1 to 4294967295";
+    let caller = option(alloc, "caller", "N", "1", help);
+    with_arg(with_arg(with_arg(of_image, method), input), caller)
+}
+
+fn run_command<'a>(alloc: Global) -> Result<Command<'a>, AllocError>
+    ensures line { IfOk result (λ c. app_of c ≡ run_line) }
+    ensures local { IfOk result (λ c. (out-Command c).has_globals ≡ false) }
+{
+    let of_call = call_command(alloc);
+    let help = "The object's data, as the input; without it, xattrs and keys there is none";
+    let object = value(alloc, "object", "HEX", help);
+    let help = "An xattr of the object; NAME may be 0x.., and the value as the input";
+    let xattr = each(alloc, "xattr", "NAME=HEX", help);
+    let help = "A key of the object's omap; KEY may be 0x.., and the value as the input";
+    let key = each(alloc, "key", "KEY=HEX", help);
+    let show = flag(alloc, "show", "Prints all that the object holds afterwards");
+    let of_object = with_arg(with_arg(with_arg(of_call, object), xattr), key);
+    with_arg(with_arg(of_object, show), explain_flag(alloc))
+}
+
+fn asm_command<'a>(alloc: Global) -> Result<Command<'a>, AllocError>
+    ensures line { IfOk result (λ c. app_of c ≡ asm_line) }
+    ensures local { IfOk result (λ c. (out-Command c).has_globals ≡ false) }
+{
+    let heading = Heading {
+        name: "asm",
+        about: "Writes the image of a class from its text",
+        examples: help::ASM,
+    };
+    let of_text = file_command(alloc, heading, "IN", "The file of the text");
+    let image = required(alloc, "OUT", "The file of the image");
+    with_arg(with_arg(of_text, image), explain_flag(alloc))
+}
+
+/// The methods that are packed, one or more.
+fn methods_argument<'a>(alloc: Global) -> Arg<'a>
+    ensures rule { rule_of result ≡ methods_rule }
+    ensures local { result.global ≡ false }
+{
+    let help = "A method: NAME:FLAGS:IN:OUT:FILE, with FLAGS r, w or rw, and its raw code in FILE";
+    required(alloc, "METHOD", help).num_args(1..)
+}
+
+fn pack_command<'a>(alloc: Global) -> Result<Command<'a>, AllocError>
+    ensures line { IfOk result (λ c. app_of c ≡ pack_line) }
+    ensures local { IfOk result (λ c. (out-Command c).has_globals ≡ false) }
+{
+    let heading = Heading {
+        name: "pack",
+        about: "Writes the image of a class from raw code",
+        examples: help::PACK,
+    };
+    let of_image = file_command(alloc, heading, "OUT", "The file of the image");
+    let of_code = with_arg(of_image, methods_argument(alloc));
+    let help = "The rules by which the class is verified, 1 or 2";
+    let rules = option(alloc, "rules", "N", "1", help);
+    with_arg(with_arg(of_code, rules), explain_flag(alloc))
+}
+
+fn dis_command<'a>(alloc: Global) -> Result<Command<'a>, AllocError>
+    ensures line { IfOk result (λ c. app_of c ≡ dis_line) }
+    ensures local { IfOk result (λ c. (out-Command c).has_globals ≡ false) }
+{
+    let heading = Heading {
+        name: "dis",
+        about: "Prints the text of a class image",
+        examples: help::DIS,
+    };
+    let of_image = file_command(alloc, heading, "IN", "The file of the image");
+    let slots = flag(alloc, "slots", "Ends each instruction's line with its slot");
+    with_arg(with_arg(of_image, slots), explain_flag(alloc))
+}
+
+/// The option of a tenant's class, which may stand more than once.
+fn class_option<'a>(alloc: Global) -> Arg<'a>
+    ensures rule { rule_of result ≡ class_rule }
+    ensures local { result.global ≡ false }
+{
+    let help = "A class beside lock and obj: the word that asks it, and the file of its image";
+    each(alloc, "class", "NAME=IMAGE", help)
+}
+
+fn sim_command<'a>(alloc: Global) -> Result<Command<'a>, AllocError>
+    ensures line { IfOk result (λ c. app_of c ≡ sim_line) }
+    ensures local { IfOk result (λ c. (out-Command c).has_globals ≡ false) }
+{
+    let heading = Heading {
+        name: "sim",
+        about: "Plays a group of nodes from a file of events",
+        examples: help::SIM,
+    };
+    let of_events = file_command(alloc, heading, "FILE", "The file of events");
+    let trace = flag(alloc, "trace", "Draws the run as a message sequence");
+    with_arg(with_arg(of_events, class_option(alloc)), trace)
+}
+
+fn cluster_command<'a>(alloc: Global) -> Result<Command<'a>, AllocError>
+    ensures line { IfOk result (λ c. app_of c ≡ cluster_line) }
+    ensures local { IfOk result (λ c. (out-Command c).has_globals ≡ false) }
+{
+    let heading = Heading {
+        name: "cluster",
+        about: "Plays clients' calls on a cluster in threads",
+        examples: help::CLUSTER,
+    };
+    let of_calls = file_command(alloc, heading, "FILE", help::CLUSTER_FILE);
+    let show_help = "Shows in each line what the call asked: its object's group, and the request";
+    let show = flag(alloc, "show", show_help);
+    let stats = flag(alloc, "stats", "Writes what the run took to standard error");
+    with_arg(with_arg(with_arg(of_calls, class_option(alloc)), show), stats)
+}
+
+/// The command without its subcommands, one of which has to be there.
+fn plain_command<'a>(alloc: Global) -> Command<'a>
+    ensures { app_of result ≡ plain_line }
+{
+    Command::new(alloc, "radoscls")
+        .about("RADOS object classes in verified BPF")
+        .version("0.4.0\nrattle-kit-13f logic dac8208d650f15bf")
+        .subcommand_required(true)
+        .arg_required_else_help(true)
+}
+
+/// The command with the subcommands of images alone.
+fn image_command<'a>(alloc: Global) -> Result<Command<'a>, AllocError>
+    ensures { IfOk result (λ c. app_of c ≡ image_line) }
+{
+    let plain = Ok(plain_command(alloc));
+    with_subcommand(
+        with_subcommand(plain, verify_command(alloc)),
+        run_command(alloc),
+    )
+}
+
+/// The whole command.
+pub(crate) fn root_command<'a>(alloc: Global) -> Result<Command<'a>, AllocError>
+    ensures { IfOk result (λ c. app_of c ≡ command_line) }
+{
+    let of_images = image_command(alloc);
+    let of_code = with_subcommand(
+        with_subcommand(of_images, asm_command(alloc)),
+        pack_command(alloc),
+    );
+    let of_texts = with_subcommand(of_code, dis_command(alloc));
+    let of_groups = with_subcommand(of_texts, sim_command(alloc));
+    with_subcommand(of_groups, cluster_command(alloc))
+}
+
+/// The subcommand of that name; the whole command if there is none.
+#[rattlefmt::skip]
+pub(crate) fn command_named<'a>(alloc: Global, name: &str) -> Result<Command<'a>, AllocError> {
+    match name {
+        "verify"  => verify_command(alloc),
+        "run"     => run_command(alloc),
+        "asm"     => asm_command(alloc),
+        "pack"    => pack_command(alloc),
+        "dis"     => dis_command(alloc),
+        "sim"     => sim_command(alloc),
+        "cluster" => cluster_command(alloc),
+        _         => root_command(alloc),
+    }
+}

@@ -1,0 +1,35 @@
+//! The examples at the end of each subcommand's help, which run in the folder `examples`.
+
+pub(crate) const VERIFY: &str = "Examples:
+  radoscls verify count.img
+  radoscls verify count.img --explain";
+
+pub(crate) const RUN: &str = "Examples:
+  radoscls run keep.img keep --input 726f6f74
+  radoscls run count.img count --key n=0500000000000000 --show
+  radoscls run count.img count --object @count.txt --show";
+
+pub(crate) const ASM: &str = "Example:
+  radoscls asm count.txt count.img";
+
+pub(crate) const PACK: &str = "Examples:
+  radoscls pack sum.img sum:r:16:8:sum.bin
+  radoscls pack sum.img --rules 2 sum:r:16:8:sum.bin";
+
+pub(crate) const DIS: &str = "Examples:
+  radoscls dis count.img
+  radoscls dis count.img --slots";
+
+pub(crate) const SIM: &str = "Examples:
+  radoscls sim survive.sim
+  radoscls sim survive.sim --class count=count.img --trace";
+
+pub(crate) const CLUSTER: &str = "Examples:
+  radoscls cluster lost_primary.cluster
+  radoscls cluster lost_primary.cluster --class count=count.img --stats";
+
+/// A file of calls and maps, for the help of `cluster`.
+pub(crate) const CLUSTER_FILE: &str =
+    "The file: 'cluster nodes 3 replicas 3 groups 64 shards 4 workers 4 tries 100000000', then lines \
+    'client C OBJECT CLASS METHOD HEX' (- for no input; clients first appear as 1, 2, ..) and 'map N N ..' (the nodes that are \
+    up from then on)";

@@ -1,0 +1,50 @@
+-- Standard input, which `-` names.
+use Rattle.std.specs.Prelude.{◌≡◌, ◌==◌, ◌≤◌, ◌++◌, ℕ, Bool, false, List, [], ◌∷◌, Option, Some, None, codes, count_by, map, slice_index, if◌then◌else◌}
+use Rattle.std.specs.List.{after_first, flat_map, list_any}
+use Rattle.std.specs.Str.{bytes_eq}
+use Rattle.command_line.specs.Parsed.{Parsed, Text, all_in, one_in}
+use Rattle.radoscls_program.specs.Raw.{code_in}
+use Rattle.radoscls_program.specs.Tenants.{image_in}
+
+abbrev pub is_input : Text → Bool
+is_input name = bytes_eq name (codes "-")
+
+-- the text of an argument that stands once
+abbrev pub named : Option Text → List Text
+named None = []
+named (Some name) = name ∷ []
+
+-- the files of raw code: those of METHOD, which `run` has too, for the name of its method
+abbrev pub code_files : Parsed → List Text
+code_files p = if bytes_eq p.name (codes "pack") then map code_in (all_in p (codes "METHOD")) else []
+
+-- an `@`
+abbrev pub is_at : ℕ → Bool
+is_at b = b == 64
+
+abbrev pub after_at : Text → Text
+after_at text = after_first is_at text
+
+-- the file that a value names, if it begins with `@`
+abbrev pub file_of : Text → Option Text
+file_of text = if slice_index text 0 == 64 then Some (after_at text) else None
+
+-- the values of a call
+abbrev pub call_values : Parsed → List Text
+call_values p =
+    named (one_in p (codes "input")) ++ named (one_in p (codes "object")) ++ map image_in (all_in p (codes "xattr")) ++ map image_in (all_in p (codes "key"))
+
+abbrev pub value_file : Text → List Text
+value_file text = named (file_of text)
+
+-- the files that a command line has read, each as often as it names it: IN, FILE, the images of
+-- --class, raw code, and those of values
+abbrev pub files_read : Parsed → List Text
+files_read p =
+    named (one_in p (codes "IN")) ++ named (one_in p (codes "FILE")) ++ map image_in (all_in p (codes "class")) ++ code_files p
+    ++ flat_map value_file (call_values p)
+
+-- one of them at most is standard input, and OUT isn't
+pub record UsesInputWell (p : Parsed) : Type 0 where
+  pub once : count_by is_input (files_read p) ≤ 1
+  pub unwritten : list_any is_input (named (one_in p (codes "OUT"))) ≡ false

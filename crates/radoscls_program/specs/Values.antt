@@ -1,0 +1,100 @@
+-- The values of a call: digits as words have them, no byte for `-`, or after `@` a file's bytes.
+use Rattle.std.specs.Prelude.{◌≡◌, ◌⊎◌, ◌++◌, ⊤, ℕ, Bool, true, false, List, [], ◌∷◌, Option, Some, None, option_map, string_bytes, map}
+use Rattle.std.specs.Borrow.{Bor}
+use Rattle.hex.specs.Hex.{encode_lower}
+use Rattle.class_tool.specs.Files.{Disk, IsBeginning, IsUnreadable}
+use Rattle.class_tool.specs.declared.action.Call.{Call}
+use Rattle.class_tool.specs.declared.action.Entry.{Entry}
+use Rattle.class_tool.specs.declared.failure.Failure.{Failure}
+use Rattle.class_tool.specs.declared.failure.Failure.TheVariants.{CannotRead, NoMemory}
+use Rattle.command_line.specs.Parsed.{Text}
+use Rattle.radoscls_program.specs.Inputs.{file_of, is_input}
+use Rattle.radoscls_program.specs.declared.values.FilledCall.{FilledCall}
+use Rattle.radoscls_program.specs.declared.values.FilledEntry.{FilledEntry}
+
+-- the digits are those of the file's bytes; of a longer file those of the first 65,537, more than
+-- any value may have
+pub record IsFileValue (disk : Option Disk) (file digits : Text) : Type 0 where
+  pub bytes : List ℕ
+  pub begun : IsBeginning disk file 65537 bytes
+  pub spelled : digits ≡ encode_lower bytes
+
+abbrev pub IsValueBy : Bool → Option Text → Option Disk → Text → Text → Type 0
+IsValueBy true file disk text digits = digits ≡ []
+IsValueBy false (Some file) disk text digits = IsFileValue disk file digits
+IsValueBy false None disk text digits = digits ≡ text
+
+-- the digits of a value
+abbrev pub IsValue : Option Disk → Text → Text → Type 0
+IsValue disk text digits = IsValueBy (is_input text) (file_of text) disk text digits
+
+-- why there are none: memory was refused, or its file can't be read
+pub record IsUnreadIn (disk : Option Disk) (text : Text) : Type 0 where
+  pub file : Text
+  pub named : file_of text ≡ Some file
+  pub unread : IsUnreadable disk file
+
+abbrev pub ValueFails : Option Disk → Text → Failure → Type 0
+ValueFails disk text failure = (failure ≡ NoMemory) ⊎ ((failure ≡ CannotRead) × IsUnreadIn disk text)
+
+abbrev pub entry_texts : Entry → Text × Text
+entry_texts e = (e.name.now, e.value.now)
+
+abbrev pub filled_texts : FilledEntry → Text × Text
+filled_texts f = (string_bytes f.name, string_bytes f.value)
+
+-- names, and the digits of their values
+abbrev pub AreValues : Option Disk → List (Text × Text) → List (Text × Text) → Type 0
+AreValues disk [] [] = ⊤
+AreValues disk [] (f ∷ fs) = ⊥
+AreValues disk (e ∷ es) [] = ⊥
+AreValues disk (e ∷ es) (f ∷ fs) = (f.0 ≡ e.0) × IsValue disk e.1 f.1 × AreValues disk es fs
+
+-- the file of one of the values can't be read
+pub record HasUnread (disk : Option Disk) (es : List (Text × Text)) : Type 0 where
+  pub first : List (Text × Text)
+  pub next : Text × Text
+  pub rest : List (Text × Text)
+  pub split : es ≡ first ++ next ∷ rest
+  pub unread : IsUnreadIn disk next.1
+
+abbrev pub EntriesFail : Option Disk → List (Text × Text) → Failure → Type 0
+EntriesFail disk es failure = (failure ≡ NoMemory) ⊎ ((failure ≡ CannotRead) × HasUnread disk es)
+
+-- a value that may be missing
+abbrev pub IsMaybeValue : Option Disk → Option Text → Option Text → Type 0
+IsMaybeValue disk None None = ⊤
+IsMaybeValue disk None (Some digits) = ⊥
+IsMaybeValue disk (Some text) None = ⊥
+IsMaybeValue disk (Some text) (Some digits) = IsValue disk text digits
+
+abbrev pub MaybeFails : Option Disk → Option Text → Failure → Type 0
+MaybeFails disk None failure = failure ≡ NoMemory
+MaybeFails disk (Some text) failure = ValueFails disk text failure
+
+abbrev pub text_in : Option (Bor (List ℕ)) → Option Text
+text_in text = option_map (λ t. t.now) text
+
+-- the values of a call in hexadecimal
+pub record HasValues (disk : Option Disk) (call : Call) (filled : FilledCall) : Type 0 where
+  pub input : IsValue disk call.input.now (string_bytes filled.input)
+  pub data_text : IsMaybeValue disk (text_in call.data) (option_map string_bytes filled.data)
+  pub xattrs : AreValues disk (map entry_texts call.xattrs.items) (map filled_texts filled.xattrs.items)
+  pub keys : AreValues disk (map entry_texts call.keys.items) (map filled_texts filled.keys.items)
+
+-- One is the other with its values in hexadecimal.
+pub record IsFilled (disk : Option Disk) (call filled : Call) : Type 0 where
+  pub image : filled.image.now ≡ call.image.now
+  pub method : filled.method.now ≡ call.method.now
+  pub input : IsValue disk call.input.now filled.input.now
+  pub caller : filled.caller ≡ call.caller
+  pub data_text : IsMaybeValue disk (text_in call.data) (text_in filled.data)
+  pub xattrs : AreValues disk (map entry_texts call.xattrs.items) (map entry_texts filled.xattrs.items)
+  pub keys : AreValues disk (map entry_texts call.keys.items) (map entry_texts filled.keys.items)
+  pub shown : filled.is_shown ≡ call.is_shown
+
+-- Memory was refused, or a value's file can't be read.
+abbrev pub FillFails : Option Disk → Call → Failure → Type 0
+FillFails disk call failure =
+    ValueFails disk call.input.now failure ⊎ MaybeFails disk (text_in call.data) failure
+    ⊎ EntriesFail disk (map entry_texts call.xattrs.items) failure ⊎ EntriesFail disk (map entry_texts call.keys.items) failure

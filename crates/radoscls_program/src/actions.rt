@@ -1,0 +1,201 @@
+//! What the arguments of each subcommand ask for.
+ghost use Rattle.std.specs.Prelude.{◌≡◌, ◌≢◌, ◌≤◌, List, IfErr, IfOk, None, Some, codes, false, length, option_and_then};
+ghost use Rattle.command_line.specs.Parsed.{all_in, one_in, parsed_of};
+ghost use Rattle.file_words.specs.Words.{id_in};
+ghost use Rattle.tenant_classes.specs.declared.tenant_class.TheConstants.{TENANT_LIMIT};
+ghost use Rattle.class_tool.specs.declared.action.Call.{Call as ACall};
+ghost use Rattle.class_tool.specs.declared.action.Entry.{Entry as AnEntry};
+ghost use Rattle.class_tool.specs.declared.action.Packing.{Packing as APacking};
+ghost use Rattle.cluster_tool.specs.declared.asked.Clustering.{Clustering as AClustering};
+ghost use Rattle.sim.specs.declared.asked.Simulation.{Simulation as ASimulation};
+ghost use Rattle.radoscls_program.specs.declared.actions.Plain.{Plain as APlain};
+ghost use Rattle.radoscls_program.specs.Arguments.{TakesCall, TakesCluster, TakesPacking, TakesPlain, TakesSim, rules_named};
+ghost use Rattle.radoscls_program.specs.Entries.{AreEntries};
+ghost use Rattle.radoscls_program.specs.Tenants.{SpellsTenants, are_tenants};
+
+use crate::entry::entries;
+use crate::mistake::{Mistake, Wanted};
+use crate::number::caller_in;
+use crate::raw_method::raw_methods;
+use crate::tenant_class::tenants_in;
+use bpf_decode::RuleSet;
+use class_tool::{Call, Entry, Packing};
+use cluster_tool::Clustering;
+use command_line::ParsedWords;
+use pg_log::ClientId;
+use sim::Simulation;
+use std::alloc::Global;
+use tenant_classes::TenantClass;
+
+/// What `run` asks for without the object.
+#[derive(Clone, Copy)]
+pub(crate) struct Plain<'a> {
+    image: &'a str,
+    method: &'a str,
+    input: &'a str,
+    caller: ClientId,
+}
+
+/// The text of an argument that has to be there.
+pub(crate) fn wanted<'a>(words: &ParsedWords<'a>, id: &str) -> Result<&'a str, Mistake<'a>>
+    ensures some { IfOk result (λ text. one_in (parsed_of words.now) id.now ≡ Some text.now) }
+    ensures none { IfErr result (λ _. one_in (parsed_of words.now) id.now ≡ None) }
+{
+    match words.one(id) {
+        Some(text) => Ok(text),
+        None => Err(Mistake::Incomplete),
+    }
+}
+
+/// The client of `--caller`.
+fn caller_of<'a>(words: &ParsedWords<'a>) -> Result<ClientId, Mistake<'a>>
+    ensures some { IfOk result (λ caller. option_and_then id_in (one_in (parsed_of words.now) (codes "caller")) ≡ Some caller) }
+    ensures none { IfErr result (λ _. option_and_then id_in (one_in (parsed_of words.now) (codes "caller")) ≡ None) }
+{
+    let text = wanted(words, "caller")?;
+    match caller_in(text) {
+        Some(caller) => Ok(caller),
+        None => Err(Mistake::Value(Wanted::Caller, text)),
+    }
+}
+
+/// What `run` asks for without the object.
+fn plain_call<'a>(words: &ParsedWords<'a>) -> Result<Plain<'a>, Mistake<'a>>
+    ensures some { IfOk result (TakesPlain (parsed_of words.now)) }
+    ensures none { IfErr result (λ _. (plain : APlain) → TakesPlain (parsed_of words.now) plain → ⊥) }
+{
+    Ok(Plain {
+        image: wanted(words, "IN")?,
+        method: wanted(words, "METHOD")?,
+        input: wanted(words, "input")?,
+        caller: caller_of(words)?,
+    })
+}
+
+/// The entries of an option that may stand more than once.
+fn entries_of<'a>(
+    alloc: Global,
+    words: &ParsedWords<'a>,
+    id: &str,
+    wanted: Wanted,
+) -> Result<Vec<Entry<'a>>, Mistake<'a>>
+    ensures some { IfOk result (λ es. AreEntries (all_in (parsed_of words.now) id.now) es.items) }
+    ensures none { IfErr result (λ m. m ≢ Mistake.NoMemory → (es : List AnEntry) → AreEntries (all_in (parsed_of words.now) id.now) es → ⊥) }
+{
+    let texts = words.all(alloc, id)?;
+    entries(alloc, wanted, &texts)
+}
+
+/// What `run` asks for.
+pub(crate) fn call_of<'a>(alloc: Global, words: &ParsedWords<'a>) -> Result<Call<'a>, Mistake<'a>>
+    ensures some { IfOk result (TakesCall (parsed_of words.now)) }
+    ensures none { IfErr result (λ m. m ≢ Mistake.NoMemory → (call : ACall) → TakesCall (parsed_of words.now) call → ⊥) }
+{
+    let plain = match plain_call(words) {
+        Ok(plain) => plain,
+        Err(mistake) => return Err(mistake),
+    };
+    let xattrs = entries_of(alloc, words, "xattr", Wanted::Xattr)?;
+    let keys = entries_of(alloc, words, "key", Wanted::Key)?;
+    Ok(Call {
+        image: plain.image,
+        method: plain.method,
+        input: plain.input,
+        caller: plain.caller,
+        data: words.one("object"),
+        xattrs,
+        keys,
+        is_shown: words.is_set("show"),
+    })
+}
+
+/// The rule set that a text names.
+fn rules_named(text: &str) -> Option<RuleSet>
+    ensures { result ≡ rules_named text.now }
+{
+    if text == "1" {
+        return Some(RuleSet::One);
+    }
+    if text == "2" {
+        return Some(RuleSet::Two);
+    }
+    None
+}
+
+/// The rule set that `--rules` names.
+fn rules_of<'a>(words: &ParsedWords<'a>) -> Result<RuleSet, Mistake<'a>>
+    ensures some { IfOk result (λ rules. option_and_then rules_named (one_in (parsed_of words.now) (codes "rules")) ≡ Some rules) }
+    ensures none { IfErr result (λ _. option_and_then rules_named (one_in (parsed_of words.now) (codes "rules")) ≡ None) }
+{
+    let text = wanted(words, "rules")?;
+    match rules_named(text) {
+        Some(rules) => Ok(rules),
+        None => Err(Mistake::Value(Wanted::Rules, text)),
+    }
+}
+
+/// What `pack` asks for.
+pub(crate) fn packing_of<'a>(
+    alloc: Global,
+    words: &ParsedWords<'a>,
+) -> Result<Packing<'a>, Mistake<'a>>
+    ensures some { IfOk result (TakesPacking (parsed_of words.now)) }
+    ensures none { IfErr result (λ m. m ≢ Mistake.NoMemory → (asked : APacking) → TakesPacking (parsed_of words.now) asked → ⊥) }
+{
+    let image = wanted(words, "OUT")?;
+    let rules = rules_of(words)?;
+    let texts = words.all(alloc, "METHOD")?;
+    let methods = raw_methods(alloc, &texts)?;
+    Ok(Packing {
+        image,
+        rules,
+        methods,
+    })
+}
+
+/// The tenants' classes of `--class`.
+fn tenants_of<'a>(
+    alloc: Global,
+    words: &ParsedWords<'a>,
+) -> Result<Vec<TenantClass<'a>>, Mistake<'a>>
+    ensures none { IfErr result (λ m. m ≢ Mistake.NoMemory → are_tenants (all_in (parsed_of words.now) (codes "class")) ≡ false) }
+    ensures some { IfOk result (λ tenants. SpellsTenants (all_in (parsed_of words.now) (codes "class")) tenants.items) }
+    ensures room { IfOk result (λ tenants. length tenants.items ≤ TENANT_LIMIT) }
+{
+    let texts = words.all(alloc, "class")?;
+    tenants_in(alloc, &texts)
+}
+
+/// What `sim` asks for.
+pub(crate) fn simulation_of<'a>(
+    alloc: Global,
+    words: &ParsedWords<'a>,
+) -> Result<Simulation<'a>, Mistake<'a>>
+    ensures some { IfOk result (TakesSim (parsed_of words.now)) }
+    ensures none { IfErr result (λ m. m ≢ Mistake.NoMemory → (asked : ASimulation) → TakesSim (parsed_of words.now) asked → ⊥) }
+{
+    let file = wanted(words, "FILE")?;
+    let tenants = tenants_of(alloc, words)?;
+    Ok(Simulation {
+        file,
+        tenants,
+        is_drawn: words.is_set("trace"),
+    })
+}
+
+/// What `cluster` asks for.
+pub(crate) fn clustering_of<'a>(
+    alloc: Global,
+    words: &ParsedWords<'a>,
+) -> Result<Clustering<'a>, Mistake<'a>>
+    ensures some { IfOk result (TakesCluster (parsed_of words.now)) }
+    ensures none { IfErr result (λ m. m ≢ Mistake.NoMemory → (asked : AClustering) → TakesCluster (parsed_of words.now) asked → ⊥) }
+{
+    let file = wanted(words, "FILE")?;
+    let tenants = tenants_of(alloc, words)?;
+    Ok(Clustering {
+        file,
+        tenants,
+        is_shown: words.is_set("show"),
+    })
+}

@@ -1,0 +1,156 @@
+//! What words ask for.
+ghost use Rattle.std.specs.Prelude.{◌≡◌, ◌≢◌, IfErr, IfOk, codes, map};
+ghost use Rattle.command_line.specs.Parsed.{IsMemory, parsed_of};
+ghost use Rattle.radoscls_program.specs.Arguments.{Asks, Names};
+ghost use Rattle.radoscls_program.specs.Asked.{AreFor, AreForNone};
+ghost use Rattle.radoscls_program.specs.declared.task.Task.{Task as ATask};
+
+use crate::actions::{call_of, clustering_of, packing_of, simulation_of, wanted};
+use crate::inputs::check_inputs;
+use crate::mistake::Mistake;
+use crate::task::Task;
+use class_tool::Action;
+use command_line::{ParsedWords, Unparsed, misused, parse};
+use std::alloc::{AllocError, Global};
+use std::convert::AsStr;
+
+/// `verify`.
+fn verify_task<'a>(words: &ParsedWords<'a>) -> Result<Task<'a>, Mistake<'a>>
+    requires { (parsed_of words.now).name ≡ codes "verify" }
+    ensures named { IfOk result (Names (parsed_of words.now)) }
+    ensures unnamed { IfErr result (λ m. m ≢ Mistake.NoMemory → (task : ATask) → Names (parsed_of words.now) task → ⊥) }
+{
+    let image = wanted(words, "IN")?;
+    Ok(Task::Class(Action::Verify { image }, words.is_set("explain")))
+}
+
+/// `run`.
+fn run_task<'a>(alloc: Global, words: &ParsedWords<'a>) -> Result<Task<'a>, Mistake<'a>>
+    requires { (parsed_of words.now).name ≡ codes "run" }
+    ensures named { IfOk result (Names (parsed_of words.now)) }
+    ensures unnamed { IfErr result (λ m. m ≢ Mistake.NoMemory → (task : ATask) → Names (parsed_of words.now) task → ⊥) }
+{
+    let call = call_of(alloc, words)?;
+    Ok(Task::Run(call, words.is_set("explain")))
+}
+
+/// `asm`.
+fn asm_task<'a>(words: &ParsedWords<'a>) -> Result<Task<'a>, Mistake<'a>>
+    requires { (parsed_of words.now).name ≡ codes "asm" }
+    ensures named { IfOk result (Names (parsed_of words.now)) }
+    ensures unnamed { IfErr result (λ m. m ≢ Mistake.NoMemory → (task : ATask) → Names (parsed_of words.now) task → ⊥) }
+{
+    let text = wanted(words, "IN")?;
+    let image = wanted(words, "OUT")?;
+    Ok(Task::Class(Action::Assemble { text, image }, words.is_set("explain")))
+}
+
+/// `pack`.
+fn pack_task<'a>(alloc: Global, words: &ParsedWords<'a>) -> Result<Task<'a>, Mistake<'a>>
+    requires { (parsed_of words.now).name ≡ codes "pack" }
+    ensures named { IfOk result (Names (parsed_of words.now)) }
+    ensures unnamed { IfErr result (λ m. m ≢ Mistake.NoMemory → (task : ATask) → Names (parsed_of words.now) task → ⊥) }
+{
+    let packing = packing_of(alloc, words)?;
+    Ok(Task::Class(Action::Pack(packing), words.is_set("explain")))
+}
+
+/// `dis`.
+fn dis_task<'a>(words: &ParsedWords<'a>) -> Result<Task<'a>, Mistake<'a>>
+    requires { (parsed_of words.now).name ≡ codes "dis" }
+    ensures named { IfOk result (Names (parsed_of words.now)) }
+    ensures unnamed { IfErr result (λ m. m ≢ Mistake.NoMemory → (task : ATask) → Names (parsed_of words.now) task → ⊥) }
+{
+    let image = wanted(words, "IN")?;
+    let has_slots = words.is_set("slots");
+    Ok(Task::Class(
+        Action::Disassemble { image, has_slots },
+        words.is_set("explain"),
+    ))
+}
+
+/// `sim`.
+fn sim_task<'a>(alloc: Global, words: &ParsedWords<'a>) -> Result<Task<'a>, Mistake<'a>>
+    requires { (parsed_of words.now).name ≡ codes "sim" }
+    ensures named { IfOk result (Names (parsed_of words.now)) }
+    ensures unnamed { IfErr result (λ m. m ≢ Mistake.NoMemory → (task : ATask) → Names (parsed_of words.now) task → ⊥) }
+{
+    Ok(Task::Sim(simulation_of(alloc, words)?))
+}
+
+/// `cluster`.
+fn cluster_task<'a>(alloc: Global, words: &ParsedWords<'a>) -> Result<Task<'a>, Mistake<'a>>
+    requires { (parsed_of words.now).name ≡ codes "cluster" }
+    ensures named { IfOk result (Names (parsed_of words.now)) }
+    ensures unnamed { IfErr result (λ m. m ≢ Mistake.NoMemory → (task : ATask) → Names (parsed_of words.now) task → ⊥) }
+{
+    let clustering = clustering_of(alloc, words)?;
+    Ok(Task::Cluster(clustering, words.is_set("stats")))
+}
+
+/// The task that the subcommand and its arguments name.
+#[rattlefmt::skip]
+fn task_of<'a>(alloc: Global, words: &ParsedWords<'a>) -> Result<Task<'a>, Mistake<'a>>
+    ensures named { IfOk result (Names (parsed_of words.now)) }
+    ensures unnamed { IfErr result (λ m. m ≢ Mistake.NoMemory → (task : ATask) → Names (parsed_of words.now) task → ⊥) }
+{
+    match words.name() {
+        "verify"  => verify_task(words),
+        "run"     => run_task(alloc, words),
+        "asm"     => asm_task(words),
+        "pack"    => pack_task(alloc, words),
+        "dis"     => dis_task(words),
+        "sim"     => sim_task(alloc, words),
+        "cluster" => cluster_task(alloc, words),
+        _         => Err(Mistake::Incomplete),
+    }
+}
+
+/// What read words ask for.
+fn asked_by<'a>(alloc: Global, words: &ParsedWords<'a>) -> Result<Task<'a>, Mistake<'a>>
+    ensures asks { IfOk result (Asks (parsed_of words.now)) }
+    ensures asks_not { IfErr result (λ m. m ≢ Mistake.NoMemory → (task : ATask) → Asks (parsed_of words.now) task → ⊥) }
+{
+    check_inputs(alloc, words)?;
+    task_of(alloc, words)
+}
+
+/// What is said of a mistake, with the usage of the subcommand.
+fn told(alloc: Global, words: &ParsedWords<'_>, mistake: Mistake<'_>) -> Unparsed
+    ensures { mistake.entry ≡ Mistake.NoMemory → IsMemory result }
+{
+    if let Mistake::NoMemory = mistake {
+        return Unparsed::from(AllocError);
+    }
+    match mistake.message(alloc) {
+        Ok(message) => misused(alloc, words.name(), &message),
+        Err(error) => Unparsed::from(error),
+    }
+}
+
+/// What read words ask for, or what is said of them.
+fn asked_or_told<'a>(alloc: Global, words: &ParsedWords<'a>) -> Result<Task<'a>, Unparsed>
+    ensures asks { IfOk result (Asks (parsed_of words.now)) }
+    ensures asks_not { IfErr result (λ e. (IsMemory e → ⊥) → (task : ATask) → Asks (parsed_of words.now) task → ⊥) }
+{
+    match asked_by(alloc, words) {
+        Ok(task) => Ok(task),
+        Err(mistake) => Err(told(alloc, words, mistake)),
+    }
+}
+
+/// What words ask for; the first is the program's own name. Else their text for the user: usage,
+/// help, or what is wrong with them.
+pub(crate) fn asked<'a, S: AsStr>(alloc: Global, words: &'a [S]) -> Result<Task<'a>, Unparsed>
+    ensures asked { IfOk result (AreFor (map S.text words.entry.now)) }
+    ensures unasked { IfErr result (λ e. (IsMemory e → ⊥) → AreForNone (map S.text words.entry.now)) }
+{
+    match parse(alloc, words) {
+        Ok(parsed) => {
+            let task = asked_or_told(alloc, &parsed);
+            drop(parsed);
+            task
+        }
+        Err(unparsed) => Err(unparsed),
+    }
+}

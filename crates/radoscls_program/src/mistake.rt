@@ -1,0 +1,90 @@
+use std::alloc::{AllocError, AllocFailed, Global};
+
+/// Why words that have a parse ask for nothing.
+#[derive(Clone, Copy)]
+pub(crate) enum Mistake<'a> {
+    /// Memory was refused: nothing is known of the words.
+    NoMemory,
+    /// There is no such subcommand, or an argument that it needs isn't there. A parse has neither.
+    Incomplete,
+    /// That text isn't what its argument wants.
+    Value(Wanted, &'a str),
+    /// Standard input is read more than once.
+    InputTwice,
+}
+
+/// What an argument wants of its text.
+#[derive(Clone, Copy)]
+pub(crate) enum Wanted {
+    Caller,
+    Rules,
+    Xattr,
+    Key,
+    Method,
+    Class,
+    ClassName,
+    FreeName,
+    FewerClasses,
+    Output,
+}
+
+impl Wanted {
+    /// The argument, as help shows it, and the form.
+    #[rattlefmt::skip]
+    fn row(self) -> (&'static str, &'static str) {
+        match self {
+            Wanted::Caller       => ("--caller <N>", "a number from 1 to 4294967295, without a sign or a leading zero"),
+            Wanted::Rules        => ("--rules <N>", "1 or 2"),
+            Wanted::Xattr        => ("--xattr <NAME=HEX>", "a name, '=' and the value"),
+            Wanted::Key          => ("--key <KEY=HEX>", "a key, '=' and the value"),
+            Wanted::Method       => ("<METHOD>...", "NAME:FLAGS:IN:OUT:FILE, FLAGS r, w or rw, IN and OUT 0 to 65535"),
+            Wanted::Class        => ("--class <NAME=IMAGE>", "a name, '=' and the file of the image"),
+            Wanted::ClassName    => ("--class <NAME=IMAGE>", "a name that isn't empty and has no blank"),
+            Wanted::FreeName     => ("--class <NAME=IMAGE>", "a name that no class has: not lock, obj or an earlier one"),
+            Wanted::FewerClasses => ("--class <NAME=IMAGE>", "at most 62 classes"),
+            Wanted::Output       => ("<OUT>", "a file, and not standard input ('./-' is a file of that name)"),
+        }
+    }
+}
+
+impl Mistake<'_> {
+    /// What is said of it: the value, the argument and the form that it wants.
+    pub(crate) fn message(self, alloc: Global) -> Result<String, AllocError> {
+        match self {
+            Mistake::NoMemory => String::from_str(alloc, "no memory"),
+            Mistake::Incomplete => String::from_str(alloc, "an argument is wanted"),
+            Mistake::InputTwice => {
+                String::from_str(
+                    alloc,
+                    "standard input ('-') can be read by one argument alone",
+                )
+            }
+            Mistake::Value(wanted, text) => {
+                let (argument, form) = wanted.row();
+                format!(in alloc; "invalid value '{text}' for '{argument}': expected {form}")
+            }
+        }
+    }
+}
+
+impl From<AllocError> for Mistake<'_> {
+    ghost use Rattle.std.specs.Prelude.{◌≡◌};
+    ghost use Rattle.radoscls_program.specs.declared.mistake.Mistake.TheVariants.{NoMemory};
+
+    ghost from_gives = { λ _ m. m ≡ NoMemory };
+
+    fn from(_error: AllocError) -> Self {
+        Mistake::NoMemory
+    }
+}
+
+impl<T: Drop> From<AllocFailed<T>> for Mistake<'_> {
+    ghost use Rattle.std.specs.Prelude.{◌≡◌};
+    ghost use Rattle.radoscls_program.specs.declared.mistake.Mistake.TheVariants.{NoMemory};
+
+    ghost from_gives = { λ _ m. m ≡ NoMemory };
+
+    fn from(_error: AllocFailed<T>) -> Self {
+        Mistake::NoMemory
+    }
+}

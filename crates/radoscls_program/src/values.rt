@@ -1,0 +1,188 @@
+//! The values of a call: digits as words have them, no byte for `-`, or after `@` a file's bytes.
+ghost use Rattle.std.specs.Prelude.{◌≡◌, ◌⊎◌, Option, IfErr, IfOk, map, option_map, string_bytes};
+ghost use Rattle.class_tool.specs.Files.{Disk, IsUnreadable};
+ghost use Rattle.class_tool.specs.declared.failure.Failure.TheVariants.{CannotRead, NoMemory};
+ghost use Rattle.radoscls_program.specs.Values.{AreValues, EntriesFail, FillFails, HasValues, IsFileValue, IsFilled, IsMaybeValue, IsValue, MaybeFails, ValueFails, entry_texts, filled_texts};
+ghost use Rattle.radoscls_program.specs.Inputs.{after_at, file_of};
+
+use class_tool::{Call, Entry, Failure, Reads};
+use std::alloc::{AllocError, Global};
+
+/// How many bytes are read of a value's file at most: one more than an object may have.
+const VALUE_READ: usize = 65_537;
+
+/// What stands after the first `@`.
+fn after_at<'a>(text: &'a str) -> &'a str
+    ensures { result.now ≡ after_at text.now }
+{
+    match text.split_once('@') {
+        Some((_, rest)) => rest,
+        None => "",
+    }
+}
+
+/// The file that a value names, if it begins with `@`.
+pub(crate) fn file_of<'a>(text: &'a str) -> Option<&'a str>
+    ensures { option_map (λ n. n.now) result ≡ file_of text.now }
+{
+    match text.as_bytes() {
+        [b'@', ..] => Some(after_at(text)),
+        _ => None,
+    }
+}
+
+/// The bytes of a file in hexadecimal.
+fn file_digits<F: Reads>(alloc: Global, files: &F, file: &str) -> Result<String, Failure>
+    ensures ok { IfOk result (λ digits. IsFileValue (F.disk files.now) file.now (string_bytes digits)) }
+    ensures err { IfErr result (λ e. (e ≡ NoMemory) ⊎ ((e ≡ CannotRead) × IsUnreadable (F.disk files.now) file.now)) }
+{
+    match files.read_first(alloc, file, VALUE_READ) {
+        Ok(bytes) => Ok(hex::encode(alloc, &bytes)?),
+        Err(error) => Err(Failure::of_read(&error)),
+    }
+}
+
+/// A value in hexadecimal. Digits are taken as they stand, whether they are any or not.
+fn digits_of<F: Reads>(alloc: Global, files: &F, text: &str) -> Result<String, Failure>
+    ensures ok { IfOk result (λ digits. IsValue (F.disk files.now) text.now (string_bytes digits)) }
+    ensures err { IfErr result (ValueFails (F.disk files.now) text.now) }
+{
+    if text == "-" {
+        return Ok(String::new(alloc));
+    }
+    match file_of(text) {
+        Some(file) => file_digits(alloc, files, file),
+        None => Ok(String::from_str(alloc, text)?),
+    }
+}
+
+/// A name and its value, in hexadecimal.
+#[derive(Drop)]
+pub(crate) struct FilledEntry {
+    name: String,
+    value: String,
+}
+
+/// A name and its value.
+fn filled_entry<F: Reads>(
+    alloc: Global,
+    files: &F,
+    entry: &Entry<'_>,
+) -> Result<FilledEntry, Failure>
+    ensures name { IfOk result (λ f. string_bytes f.name ≡ entry.now.name.now) }
+    ensures value { IfOk result (λ f. IsValue (F.disk files.now) entry.now.value.now (string_bytes f.value)) }
+    ensures err { IfErr result (ValueFails (F.disk files.now) entry.now.value.now) }
+{
+    let value = digits_of(alloc, files, entry.value)?;
+    let name = String::from_str(alloc, entry.name)?;
+    Ok(FilledEntry { name, value })
+}
+
+/// Names and their values, in their order.
+fn filled_entries<F: Reads>(
+    alloc: Global,
+    files: &F,
+    entries: &[Entry<'_>],
+) -> Result<Vec<FilledEntry>, Failure>
+    ensures ok { IfOk result (λ filled. AreValues (F.disk files.now) (map entry_texts entries.now) (map filled_texts filled.items)) }
+    ensures err { IfErr result (EntriesFail (F.disk files.now) (map entry_texts entries.now)) }
+{
+    let mut filled = Vec::new(alloc);
+    for entry in entries {
+        match filled_entry(alloc, files, entry) {
+            Ok(one) => filled.push(one)?,
+            Err(failure) => return Err(failure),
+        }
+    }
+    Ok(filled)
+}
+
+/// A call's values, in hexadecimal.
+#[derive(Drop)]
+pub(crate) struct FilledCall {
+    input: String,
+    data: Option<String>,
+    xattrs: Vec<FilledEntry>,
+    keys: Vec<FilledEntry>,
+}
+
+/// A value that may be missing, in hexadecimal.
+fn maybe_digits<F: Reads>(
+    alloc: Global,
+    files: &F,
+    text: Option<&str>,
+) -> Result<Option<String>, Failure>
+    ensures ok { IfOk result (λ digits. IsMaybeValue (F.disk files.now) (option_map (λ t. t.now) text.entry) (option_map string_bytes digits)) }
+    ensures err { IfErr result (MaybeFails (F.disk files.now) (option_map (λ t. t.now) text.entry)) }
+{
+    match text {
+        Some(text) => Ok(Some(digits_of(alloc, files, text)?)),
+        None => Ok(None),
+    }
+}
+
+/// A call's values in hexadecimal. The first file that can't be read is refused: the input's, then
+/// the data's, then those of xattrs and of keys, each in order.
+pub(crate) fn filled<F: Reads>(
+    alloc: Global,
+    files: &F,
+    call: &Call<'_>,
+) -> Result<FilledCall, Failure>
+    ensures ok { IfOk result (HasValues (F.disk files.now) call.now) }
+    ensures err { IfErr result (FillFails (F.disk files.now) call.now) }
+{
+    let input = digits_of(alloc, files, call.input)?;
+    let data = maybe_digits(alloc, files, call.data)?;
+    let xattrs = filled_entries(alloc, files, &call.xattrs)?;
+    let keys = filled_entries(alloc, files, &call.keys)?;
+    Ok(FilledCall {
+        input,
+        data,
+        xattrs,
+        keys,
+    })
+}
+
+/// The names and values, as a call has them.
+fn entries_of<'b>(alloc: Global, filled: &'b [FilledEntry]) -> Result<Vec<Entry<'b>>, AllocError>
+    ensures { IfOk result (λ entries. map entry_texts entries.items ≡ map filled_texts filled.entry.now) }
+{
+    let mut entries = Vec::new(alloc);
+    for one in filled {
+        entries.push(Entry {
+            name: one.name.as_str(),
+            value: one.value.as_str(),
+        })?;
+    }
+    Ok(entries)
+}
+
+/// A missing or present text.
+fn text_of<'b>(text: &'b Option<String>) -> Option<&'b str>
+    ensures { option_map (λ t. t.now) result ≡ option_map string_bytes text.entry.now }
+{
+    match text {
+        Some(text) => Some(text.as_str()),
+        None => None,
+    }
+}
+
+/// The call with those values.
+pub(crate) fn call_with<'a: 'b, 'b>(
+    alloc: Global,
+    call: &Call<'a>,
+    filled: &'b FilledCall,
+) -> Result<Call<'b>, AllocError>
+    ensures { IfOk result (λ made. (disk : Option Disk) → HasValues disk call.now filled.entry.now → IsFilled disk call.now made) }
+{
+    Ok(Call {
+        image: call.image,
+        method: call.method,
+        input: filled.input.as_str(),
+        caller: call.caller,
+        data: text_of(&filled.data),
+        xattrs: entries_of(alloc, &filled.xattrs)?,
+        keys: entries_of(alloc, &filled.keys)?,
+        is_shown: call.is_shown,
+    })
+}
