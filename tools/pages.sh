@@ -239,12 +239,6 @@ try_docs() {
     has 1 2 'radoscls sim one_node.sim --class queue=queue.txt'
     on docs/SIM.md "$work/examples"
     asks_count
-    on docs/PROGRAM.md "$top"
-    needs python3
-    instead="tools/manual.py --check '$program'" silent 'tools/manual.py'
-    lacking=
-    instead='. tools/radoscls.bash && complete -p radoscls' runs '. tools/radoscls.bash'
-    by "who reads it" 'man tools/radoscls.1'
 }
 
 # The examples at the end of each command's help.
