@@ -99,7 +99,7 @@ COMMANDS = {
     "pack": (["<OUT>", "<METHOD>..."], {"--rules": " <N>", "--explain": ""}),
     "dis": (["<IN>"], {"--slots": "", "--explain": ""}),
     "sim": (["<FILE>"], {"--class": " <NAME=IMAGE>", "--trace": ""}),
-    "cluster": (["<FILE>"], {"--class": " <NAME=IMAGE>", "--stats": ""}),
+    "cluster": (["<FILE>"], {"--class": " <NAME=IMAGE>", "--show": "", "--stats": ""}),
 }
 # Words that each command does, and a value of each option that is right.
 DONE = {
@@ -276,6 +276,9 @@ ROWS = [
     Row("cluster two.calls --class two=two.img", CALLED),
     Row("cluster --class one=lock.img --class two=two.img two.calls", CALLED),
     Row("cluster two.calls", NO_CLASS),
+    Row("cluster two.calls --show --class two=two.img",
+        CALLED.replace("call 0", "call 0 group 12 request a two f -")),
+    Row("cluster --show two.calls", NO_CLASS.replace("call 0", "call 0 group 12 request a two f -")),
     Row("cluster two.calls --class two=missing", "cannot read\n", "", 1),
     Row("sim --trace locks.sim", lambda text: re.match("c1 +c2 +1 +mon +event\n", text)),
     Row("sim bad.sim --trace", lambda text: text.endswith("\nline 3: bad\n"), "", 1),

@@ -4,6 +4,7 @@ mod Order
 mod Pairs
 mod Results
 mod Same
+mod Settled
 mod SignedEnds
 mod Steps
 mod Tight

@@ -23,16 +23,16 @@ unfolding tighten
 none_first x h = rw (lt_yes _ _ h)
 
 -- the steps after the first, of what it left
-abbrev from_first : Plain → Option Plain
+abbrev pub from_first : Plain → Option Plain
 from_first y =
     cond (int_lt (by_unsigned y).greatest (by_unsigned y).least) None
     (cond (nat_lt (by_signed (by_unsigned y)).high (by_signed (by_unsigned y)).low) None
     (by_constant (by_signed (by_unsigned y))))
 
-abbrev from_second : Plain → Option Plain
+abbrev pub from_second : Plain → Option Plain
 from_second z = cond (nat_lt (by_signed z).high (by_signed z).low) None (by_constant (by_signed z))
 
-first_step : (x : Plain) → tighten x ≡ cond (nat_lt (by_bits x).high (by_bits x).low) None (from_first (by_bits x))
+pub first_step : (x : Plain) → tighten x ≡ cond (nat_lt (by_bits x).high (by_bits x).low) None (from_first (by_bits x))
 unfolding tighten
 first_step x = refl
 

@@ -64,11 +64,11 @@ mask_sound x n h =
     let a : clear n x.unknown ≡ x.value = h.agrees in
     record { fits = h.fits; above = omega arith; below = omega arith; at_least = h.at_least; at_most = h.at_most; agrees = h.agrees }
 
-signed_high : (n : ℕ) → 2 ^ 63 ≤ n → n < 2 ^ 64 → signed n ≡ less_all n
+pub signed_high : (n : ℕ) → 2 ^ 63 ≤ n → n < 2 ^ 64 → signed n ≡ less_all n
 signed_high n p q =
     cond_both (λ z. z ≡ less_all n) (nat_lt n (2 ^ 63)) _ _ (λ e. absurd (grind arith)) (λ e. omega (arith, ints))
 
-signed_low : (n : ℕ) → n < 2 ^ 63 → signed n ≡ pos n
+pub signed_low : (n : ℕ) → n < 2 ^ 63 → signed n ≡ pos n
 signed_low n p = omega (arith, ints)
 
 below_natural : (z : ℤ) (n : ℕ) → z ≤ℤ pos n → natural z ≤ n
@@ -131,11 +131,11 @@ sign_sound x n h =
     record { fits = h.fits; above = h.above; below = h.below; agrees = h.agrees; at_least = high_least x.least (signed n) x.low n s h.at_least h.above; at_most = high_most x.greatest (signed n) x.high n s h.at_most h.below })
     (λ f. h))
 
-sign_of : (n : ℕ) → pos 0 ≤ℤ signed n → n < 2 ^ 64 → n < 2 ^ 63
+pub sign_of : (n : ℕ) → pos 0 ≤ℤ signed n → n < 2 ^ 64 → n < 2 ^ 63
 sign_of n p q =
     by_cases (2 ^ 63) n (λ l. let s : signed n ≡ less_all n = signed_high n l q in absurd (negative_high (signed n) n s p q)) (λ l. l)
 
-sign_below : (n : ℕ) → signed n <ℤ pos 0 → n < 2 ^ 64 → 2 ^ 63 ≤ n
+pub sign_below : (n : ℕ) → signed n <ℤ pos 0 → n < 2 ^ 64 → 2 ^ 63 ≤ n
 sign_below n p q =
     by_cases (2 ^ 63) n (λ l. l) (λ l. let s : signed n ≡ pos n = signed_low n l in absurd (positive_low (signed n) n s p))
 

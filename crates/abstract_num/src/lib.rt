@@ -36,5 +36,5 @@ pub use refining::refine;
 pub use row::Row;
 pub use srange::SRange;
 pub use tightening::tighten;
-pub use transfer::{arithmetic, copied, negative, ordered, sign_extended};
+pub use transfer::{arithmetic, copied, negative, offset_by, ordered, sign_extended};
 pub use urange::URange;

@@ -127,6 +127,8 @@ fn stepped(x: Number) -> Option<Number>
 /// Passes once what each part knows to the others, in the order of the table: bits to the unsigned
 /// range, that to the signed one and back, and a single number to all parts. A second time may
 /// tighten further. None where no number is left.
+// Inlined, so that the compiler tightens a named range whose ends are constants, as a load's.
+#[inline(always)]
 pub fn tighten(x: Number) -> Option<Number>
     ensures table { Gives (tighten (view x)) result }
     ensures keeps { (n : ℕ) → Holds (view x) n → Kept result n }

@@ -3,7 +3,7 @@ ghost use Rattle.bpf_decode.specs.Arithmetic.{alu_value, neg_value, mov_value, s
 ghost use Rattle.bpf_decode.specs.Instruction.{signed_move_bits};
 ghost use Rattle.bpf_decode.specs.declared.operation.OpWidth.TheVariants.{Bits32, Bits64};
 ghost use Rattle.abstract_num.specs.Plain.{Gives, Holds, Kept, constant, view};
-ghost use Rattle.abstract_num.specs.Transfer.{answer32, answer64, answered, copied, count_of, cut, extended_of, finished32, is_constant, moved, ordered, row_of, row_of_32, sign_extended, transferred};
+ghost use Rattle.abstract_num.specs.Transfer.{answer32, answer64, copied, count_of, cut, extended_of, finished32, finished64, is_constant, moved, ordered, row_of, row_of_32, sign_extended, transferred};
 
 use crate::domain::Domain;
 use crate::number::{Number, any, constant};
@@ -112,15 +112,16 @@ fn moved(row: Row, x: Number, y: Number) -> Number
     Number::transfer(row, x, y)
 }
 
-/// The number that answers, not tightened.
+/// The number that answers an operation of 64 bits: the row, tightened.
+// An exact number and any number are what tightening leaves of them.
 #[inline(always)]
-fn answered(answer: RowAnswer, x: Number, y: Number) -> Number
-    ensures { view result ≡ answered answer (view x) (view y) }
+fn finished64(answer: RowAnswer, x: Number, y: Number) -> Option<Number>
+    ensures { Gives (finished64 answer (view x) (view y)) result }
 {
     match answer {
-        RowAnswer::Exact(n) => constant(n),
-        RowAnswer::By(row) => moved(row, x, y),
-        RowAnswer::All => any(),
+        RowAnswer::Exact(n) => Some(constant(n)),
+        RowAnswer::By(row) => tighten(moved(row, x, y)),
+        RowAnswer::All => Some(any()),
     }
 }
 
@@ -163,7 +164,7 @@ fn transferred(bits: OpWidth, operation: Arithmetic, x: Number, y: Number) -> Op
     ensures { Gives (transferred bits operation (view x) (view y)) result }
 {
     match bits {
-        OpWidth::Bits64 => tighten(answered(answer64(operation, x, y), x, y)),
+        OpWidth::Bits64 => finished64(answer64(operation, x, y), x, y),
         OpWidth::Bits32 => arithmetic32(operation, x, y),
     }
 }
@@ -175,6 +176,26 @@ pub fn arithmetic(bits: OpWidth, operation: Arithmetic, x: Number, y: Number) ->
     ensures keeps { (m n : ℕ) → Holds (view x) m → Holds (view y) n → Kept result (alu_value bits operation m n) }
 {
     transferred(bits, operation, x, y)
+}
+
+/// The sum of a number and a distance, modulo `2^64`. None where no number is left.
+// Most places are constants: their sum is made where it is asked for, and nothing is called.
+#[inline(always)]
+pub fn offset_by(x: &Number, distance: u64) -> Option<Number>
+    ensures { Gives (transferred Bits64 Arithmetic.Add (view x.now) (constant distance)) result }
+{
+    let place = *x;
+    if is_constant(place) {
+        let moved = exact::alu(
+            OpWidth::Bits64,
+            Arithmetic::Add,
+            place.unsigned().low,
+            distance,
+        );
+        Some(constant(moved))
+    } else {
+        arithmetic(OpWidth::Bits64, Arithmetic::Add, place, constant(distance))
+    }
 }
 
 /// The negative: 0 less the number.

@@ -2,8 +2,7 @@ ghost use Rattle.std.specs.Prelude.{◌≡◌};
 ghost use Rattle.abstract_num.specs.Plain.{view};
 ghost use Rattle.abstract_regs.specs.Kind.{access_fits, range_fits};
 
-use abstract_num::{Number, arithmetic, constant, highest};
-use bpf_decode::{Arithmetic, OpWidth};
+use abstract_num::{Number, highest, offset_by};
 
 /// Whether all of the bytes at that distance from an offset are among the first `size`, by the
 /// upper bound of the sum; so are those of a sum that has no value.
@@ -11,7 +10,7 @@ use bpf_decode::{Arithmetic, OpWidth};
 pub fn access_fits(at: Number, distance: u64, bytes: u64, size: u64) -> bool
     ensures { result ≡ access_fits (view at) distance bytes size }
 {
-    match arithmetic(OpWidth::Bits64, Arithmetic::Add, at, constant(distance)) {
+    match offset_by(&at, distance) {
         // No number is left, so no run comes here: the rule of bounds does not refuse, and the edge
         // after it lives.
         None => true,

@@ -1,7 +1,8 @@
-use crate::kind::Kinds;
 use bpf_decode::{Operand, Register};
 
 /// Where an instruction goes on. The frame that flowed is the one along its first edge.
+// What a comparison leaves along its second edge is as large as all the rest: it is written into a
+// place that the caller lends, and the edges of other instructions don't carry it.
 #[derive(Clone, Copy)]
 pub enum Edges {
     /// Nowhere.
@@ -10,14 +11,14 @@ pub enum Edges {
     Falls,
     /// To a jump's target.
     Jumps(usize),
-    /// To a jump's target; else to the instruction after it, with other kinds of what was compared.
-    Branches(usize, Refined),
+    /// To a jump's target; else to the instruction after it, with the kinds in the lent place of
+    /// what was compared.
+    Branches(usize, Compared),
 }
 
-/// The kinds of what a comparison compared, along one of its edges.
+/// What a comparison compares.
 #[derive(Clone, Copy)]
-pub struct Refined {
+pub struct Compared {
     pub(crate) dst: Register,
     pub(crate) source: Operand,
-    pub(crate) kinds: Kinds,
 }

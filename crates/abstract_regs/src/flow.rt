@@ -6,16 +6,18 @@ ghost use Rattle.abstract_num.specs.Tighten.{tighten};
 ghost use Rattle.abstract_num.specs.Transfer.{ranged, load_high};
 ghost use Rattle.abstract_regs.specs.Kind as plain;
 ghost use Rattle.abstract_regs.specs.Seen.{seen, seen_both};
-ghost use Rattle.abstract_regs.specs.Frame.{kind_at, kept_kind};
+ghost use Rattle.abstract_regs.specs.Frame.{kind_at, kept_kind, operand_kind};
+ghost use Rattle.abstract_regs.specs.Kind.{alu_kind};
 ghost use Rattle.abstract_regs.specs.Flow.{edge_to, computed, same_register, with_operand, with_both, along_edge, loaded_kind, flow};
 ghost use Rattle.abstract_regs.specs.Moves.{EachFits, Keeps};
 ghost use Rattle.abstract_regs.specs.Edged.{with_edges, refined};
+ghost use Rattle.abstract_regs.specs.declared.kind.Kinds.{Kinds};
 
-use crate::edges::{Edges, Refined};
+use crate::edges::{Compared, Edges};
 use crate::frame::Frame;
 use crate::kind::{Kind, Kinds};
 use abstract_num::{constant, keeping_laws, loaded, loaded_signed};
-use bpf_decode::{Comparison, Insn, OpWidth, Operand, Register, Width, jump_target};
+use bpf_decode::{Arithmetic, Comparison, Insn, OpWidth, Operand, Register, Width, jump_target};
 
 /// Whether a comparison is of a register with itself.
 #[inline(always)]
@@ -31,27 +33,28 @@ fn is_same_register(dst: Register, source: &Operand) -> bool
 impl Frame {
     /// Goes on from the instruction at a slot, which no rule refuses, to the frame after it, and
     /// gives its edges. Of a call the first register of the range that its helper writes is given.
-    pub fn flow(&mut self, room: Option<u8>, insn: &Insn, slot: usize) -> Edges
+    /// Where a comparison has both edges, `fallen` gets the kinds along the second.
+    pub fn flow(&mut self, room: Option<u8>, insn: &Insn, slot: usize, fallen: &mut Kinds) -> Edges
         requires { slot < 2 ^ 62 }
-        ensures table { flow room insn.now slot self.old ≡ with_edges result (slot + slot_count insn.now) self.new }
+        ensures table { flow room insn.now slot self.old ≡ with_edges result fallen.new (slot + slot_count insn.now) self.new }
         // What was held before it, a frame along an edge holds after it.
         ensures keeps { Keeps room insn.now slot self.old }
         ensures fits { EachFits self.old.registers }
     {
         keeping_laws();
         self.fits();
-        self.flow_on(room, insn, slot)
+        self.flow_on(room, insn, slot, fallen)
     }
 
     /// The same, by the table alone.
     #[rattlefmt::skip]
-    fn flow_on(&mut self, room: Option<u8>, insn: &Insn, slot: usize) -> Edges
+    fn flow_on(&mut self, room: Option<u8>, insn: &Insn, slot: usize, fallen: &mut Kinds) -> Edges
         requires { slot < 2 ^ 62 }
-        ensures { flow room insn.now slot self.old ≡ with_edges result (slot + slot_count insn.now) self.new }
+        ensures { flow room insn.now slot self.old ≡ with_edges result fallen.new (slot + slot_count insn.now) self.new }
     {
         match *insn {
             Insn::Alu { bits, operation, dst, source } => {
-                self.compute(dst, Kind::alu(bits, operation, self.at(dst), self.operand(source)))
+                self.compute(dst, self.alu(bits, operation, dst, source))
             }
             Insn::Neg { bits, dst } => self.compute(dst, self.at(dst).neg(bits)),
             Insn::Mov { bits, dst, source } => self.compute(dst, self.operand(source).mov(bits)),
@@ -61,14 +64,13 @@ impl Frame {
             Insn::Load { width, dst, base, offset } => self.compute(dst, Some(self.loaded(width, base, offset))),
             Insn::LoadSigned { width, dst, .. } => self.compute(dst, Some(Kind::Num(loaded_signed(width)))),
             Insn::Store { width, base, offset, source } => {
-                let (to, kind) = (self.at(base), self.operand(source));
-                self.store(to, i64::from(offset).cast_unsigned(), width.bytes(), kind);
+                self.store(base, i64::from(offset).cast_unsigned(), width.bytes(), source);
                 Edges::Falls
             }
             Insn::Jump { offset } => Edges::Jumps(jump_target(slot, i64::from(offset))),
             Insn::JumpLong { distance } => Edges::Jumps(jump_target(slot, i64::from(distance))),
             Insn::Branch { bits, comparison, dst, source, offset } => {
-                self.branch(bits, comparison, dst, &source, jump_target(slot, i64::from(offset)))
+                self.branch(bits, comparison, dst, &source, jump_target(slot, i64::from(offset)), fallen)
             }
             Insn::Call { .. } => {
                 self.end_call(room);
@@ -78,14 +80,36 @@ impl Frame {
         }
     }
 
+    /// What arithmetic that no rule refuses computes. None where no number is left.
+    #[inline(always)]
+    fn alu(
+        &self,
+        bits: OpWidth,
+        operation: Arithmetic,
+        dst: Register,
+        source: Operand,
+    ) -> Option<Kind>
+        ensures { option_map seen result ≡ alu_kind bits operation (kind_at self.now dst) (operand_kind self.now source) }
+    {
+        match source {
+            Operand::Immediate(_) => {
+                Kind::alu(bits, operation, self.peek(dst), &self.operand(source))
+            }
+            Operand::Register(src) => Kind::alu(bits, operation, self.peek(dst), self.peek(src)),
+        }
+    }
+
     /// What a load gives: what is known of the slot that it is, or else a number of that many
     /// bytes.
     #[inline(always)]
     fn loaded(&self, width: Width, base: Register, offset: i16) -> Kind
         ensures { Some (seen result) ≡ loaded_kind (kept_kind self.now (kind_at self.now base) (extended offset) (byte_count width)) (option_map plain.Num (tighten (ranged 0 (load_high width)))) }
     {
-        let from = self.at(base);
-        match self.slot(from, i64::from(offset).cast_unsigned(), width.bytes()) {
+        match self.slot(
+            self.peek(base),
+            i64::from(offset).cast_unsigned(),
+            width.bytes(),
+        ) {
             Some(kind) => kind,
             None => Kind::Num(loaded(width)),
         }
@@ -95,7 +119,7 @@ impl Frame {
     /// nowhere.
     #[inline(always)]
     fn compute(&mut self, dst: Register, kind: Option<Kind>) -> Edges
-        ensures { (next : ℕ) → computed next self.old dst (option_map seen kind) ≡ with_edges result next self.new }
+        ensures { (next : ℕ) (kinds : Kinds) → computed next self.old dst (option_map seen kind) ≡ with_edges result kinds next self.new }
     {
         match kind {
             None => Edges::Leaves,
@@ -114,18 +138,20 @@ impl Frame {
         dst: Register,
         source: &Operand,
         target: usize,
+        place: &mut Kinds,
     ) -> Edges
-        ensures { (next : ℕ) → edge_to target (along_edge bits comparison true dst source.now self.old) ++ edge_to next (along_edge bits comparison false dst source.now self.old) ≡ with_edges result next self.new }
+        ensures { (next : ℕ) → edge_to target (along_edge bits comparison true dst source.now self.old) ++ edge_to next (along_edge bits comparison false dst source.now self.old) ≡ with_edges result place.new next self.new }
     {
         let same = is_same_register(dst, source);
         let x = self.at(dst);
         let y = self.compared(bits, source);
-        let taken = Kind::along(bits, comparison, true, same, x, y);
-        let fallen = Kind::along(bits, comparison, false, same, x, y);
-        self.fork(dst, source, target, taken, fallen)
+        let taken = Kind::along(bits, comparison, true, same, &x, &y);
+        let fallen = Kind::along(bits, comparison, false, same, &x, &y);
+        self.fork(dst, source, target, taken, fallen, place)
     }
 
-    /// Both edges, by what they leave of both kinds.
+    /// Both edges, by what they leave of both kinds. Where both live, the place gets the kinds along
+    /// the second.
     #[inline(always)]
     fn fork(
         &mut self,
@@ -134,8 +160,9 @@ impl Frame {
         target: usize,
         taken: Option<Kinds>,
         fallen: Option<Kinds>,
+        place: &mut Kinds,
     ) -> Edges
-        ensures { (next : ℕ) → edge_to target (option_map (with_both self.old dst source.now) (option_map seen_both taken)) ++ edge_to next (option_map (with_both self.old dst source.now) (option_map seen_both fallen)) ≡ with_edges result next self.new }
+        ensures { (next : ℕ) → edge_to target (option_map (with_both self.old dst source.now) (option_map seen_both taken)) ++ edge_to next (option_map (with_both self.old dst source.now) (option_map seen_both fallen)) ≡ with_edges result place.new next self.new }
     {
         match taken {
             None => match fallen {
@@ -152,12 +179,12 @@ impl Frame {
                 }
                 Some(others) => {
                     self.put_both(dst, source, kinds);
+                    *place = others;
                     Edges::Branches(
                         target,
-                        Refined {
+                        Compared {
                             dst,
                             source: *source,
-                            kinds: others,
                         },
                     )
                 }
@@ -166,10 +193,10 @@ impl Frame {
     }
 
     /// Gives what a comparison compared the kinds that it has along another edge.
-    pub fn refine(&mut self, edge: &Refined)
-        ensures { self.new ≡ refined self.old edge.now }
+    pub fn refine(&mut self, compared: &Compared, kinds: &Kinds)
+        ensures { self.new ≡ refined self.old compared.now kinds.now }
     {
-        self.put_both(edge.dst, &edge.source, edge.kinds);
+        self.put_both(compared.dst, &compared.source, *kinds);
     }
 
     /// Gives the registers of a comparison other kinds.

@@ -1,4 +1,4 @@
-ghost use Rattle.std.specs.Prelude.{◌≡◌, IfOk, slice_get, slice_set};
+ghost use Rattle.std.specs.Prelude.{◌≡◌, IfOk, OnOk, slice_get, slice_set};
 ghost use Rattle.std.specs.Option.{option_map};
 ghost use Rattle.abstract_regs.specs.Frame.{kind_at, or_unset, with_kind, join, entry_frame, after_call, after_answer, after_store, kept_kind, room_span, operand_kind, compared_kind, with_slots};
 ghost use Rattle.abstract_regs.specs.Slots.{stack_place, stack_range, access_span, spoiled, meets};
@@ -59,6 +59,16 @@ impl Frame {
         })
     }
 
+    /// Becomes an equal frame, in its own memory where that has room for as many slots.
+    pub fn copy_from(&mut self, other: &Frame) -> Result<(), AllocError>
+        ensures { OnOk result (self.new ≡ other.now) }
+    {
+        self.slots.clear();
+        self.slots.extend_from_slice(&other.slots)?;
+        self.registers = other.registers;
+        Ok(())
+    }
+
     /// Its numbers are below `2^64`. It does nothing.
     pub(crate) fn fits(&self)
         ensures { EachFits self.now.registers }
@@ -80,6 +90,14 @@ impl Frame {
         ensures { seen result ≡ kind_at self.now register }
     {
         self.kind(usize::from(register.number()))
+    }
+
+    /// The kind of a register, where it is.
+    #[inline(always)]
+    pub fn peek(&self, register: Register) -> &Kind
+        ensures { seen result.now ≡ kind_at self.now register }
+    {
+        kind_of(&self.registers, register)
     }
 
     /// Gives a register another kind.
@@ -143,8 +161,8 @@ impl Frame {
     /// The kind of the slot that an access is, at a distance from what a kind points to, where it
     /// is one that is known.
     #[inline(always)]
-    pub fn slot(&self, base: Kind, distance: u64, bytes: usize) -> Option<Kind>
-        ensures { option_map seen result ≡ kept_kind self.now (seen base) distance bytes }
+    pub fn slot(&self, base: &Kind, distance: u64, bytes: usize) -> Option<Kind>
+        ensures { option_map seen result ≡ kept_kind self.now (seen base.now) distance bytes }
     {
         if self.slots.is_empty() {
             None
@@ -158,8 +176,8 @@ impl Frame {
 
     /// Whether a slot that the bytes of an access may touch has it.
     #[inline(always)]
-    pub fn access_meets(&self, content: Content, base: Kind, distance: u64, bytes: usize) -> bool
-        ensures { result ≡ meets content (access_span (stack_place (seen base) distance) bytes) 0 self.now.slots }
+    pub fn access_meets(&self, content: Content, base: &Kind, distance: u64, bytes: usize) -> bool
+        ensures { result ≡ meets content (access_span (stack_place (seen base.now) distance) bytes) 0 self.now.slots }
     {
         !self.slots.is_empty()
             && meets(
@@ -177,15 +195,18 @@ impl Frame {
         !self.slots.is_empty() && meets(content, &self.slots, stack_range(pointer, length))
     }
 
-    /// After a store of a kind through another.
-    pub(crate) fn store(&mut self, base: Kind, distance: u64, bytes: usize, kind: Kind)
-        ensures { self.new ≡ after_store self.old (seen base) distance bytes (seen kind) }
+    /// After a store of an operand through a register.
+    pub(crate) fn store(&mut self, base: Register, distance: u64, bytes: usize, source: Operand)
+        ensures { self.new ≡ after_store self.old (kind_at self.old base) distance bytes (operand_kind self.old source) }
     {
         if !self.slots.is_empty() {
-            let place = stack_place(base, distance);
+            let place = stack_place(self.peek(base), distance);
             match whole_slot(place, bytes) {
                 None => spoil(&mut self.slots, access_span(place, bytes)),
-                Some(slot) => self.set_slot(slot, kind),
+                Some(slot) => {
+                    let kind = self.operand(source);
+                    self.set_slot(slot, kind)
+                }
             }
         }
     }
@@ -231,4 +252,11 @@ fn kind_in(registers: &[Kind; 11], register: usize) -> Kind
         None => Kind::Unset,
         Some(kind) => *kind,
     }
+}
+
+#[inline(always)]
+fn kind_of(registers: &[Kind; 11], register: Register) -> &Kind
+    ensures { seen result.now ≡ or_unset (slice_get (seen_each registers.now) register) }
+{
+    &registers[usize::from(register.number())]
 }

@@ -21,9 +21,21 @@ pub enum Kind {
 
 /// The kinds of what a comparison compares: its destination, and its source.
 #[derive(Clone, Copy)]
-pub(crate) struct Kinds {
-    pub dst: Kind,
-    pub source: Kind,
+pub struct Kinds {
+    pub(crate) dst: Kind,
+    pub(crate) source: Kind,
+}
+
+impl Kinds {
+    /// Of nothing that is known: a place for `Frame::flow` to write into.
+    pub fn unset() -> Kinds
+        ensures { result ≡ record { dst = Kind.Unset; source = Kind.Unset } }
+    {
+        Kinds {
+            dst: Kind::Unset,
+            source: Kind::Unset,
+        }
+    }
 }
 
 impl Kind {
@@ -81,13 +93,15 @@ impl Kind {
     }
 
     /// What arithmetic that no rule refuses computes. None where no number is left.
-    pub(crate) fn alu(bits: OpWidth, operation: Arithmetic, x: Kind, y: Kind) -> Option<Kind>
-        ensures { option_map seen result ≡ alu_kind bits operation (seen x) (seen y) }
+    #[rattlefmt::skip]
+    #[inline(always)]
+    pub(crate) fn alu(bits: OpWidth, operation: Arithmetic, x: &Kind, y: &Kind) -> Option<Kind>
+        ensures { option_map seen result ≡ alu_kind bits operation (seen x.now) (seen y.now) }
     {
         match (x, y) {
-            (Kind::Num(a), Kind::Num(b)) => Kind::number(arithmetic(bits, operation, a, b)),
-            (Kind::Ptr(r, a), Kind::Num(b)) => Kind::pointer(r, arithmetic(bits, operation, a, b)),
-            (Kind::Num(a), Kind::Ptr(r, b)) => Kind::pointer(r, arithmetic(bits, operation, a, b)),
+            (Kind::Num(a), Kind::Num(b)) => Kind::number(arithmetic(bits, operation, *a, *b)),
+            (Kind::Ptr(r, a), Kind::Num(b)) => Kind::pointer(*r, arithmetic(bits, operation, *a, *b)),
+            (Kind::Num(a), Kind::Ptr(r, b)) => Kind::pointer(*r, arithmetic(bits, operation, *a, *b)),
             (Kind::Ptr(_, _), Kind::Ptr(_, _)) => Some(Kind::Unset),
             (Kind::Unset, _) => Some(Kind::Unset),
             (Kind::Num(_) | Kind::Ptr(_, _), Kind::Unset) => Some(Kind::Unset),
@@ -148,22 +162,31 @@ impl Kind {
         comparison: Comparison,
         taken: bool,
         same: bool,
-        x: Kind,
-        y: Kind,
+        x: &Kind,
+        y: &Kind,
     ) -> Option<Kinds>
-        ensures { option_map seen_both result ≡ along_kinds bits comparison taken same (seen x) (seen y) }
+        ensures { option_map seen_both result ≡ along_kinds bits comparison taken same (seen x.now) (seen y.now) }
     {
         match (x, y) {
             (Kind::Num(a), Kind::Num(b)) => {
                 if same {
-                    Kind::twice(tighten(a))
+                    Kind::twice(tighten(*a))
                 } else {
-                    Kind::both(refine(bits, comparison, taken, a, b))
+                    Kind::both(refine(bits, comparison, taken, *a, *b))
                 }
             }
-            (Kind::Unset, _) => Some(Kinds { dst: x, source: y }),
-            (Kind::Num(_), Kind::Unset | Kind::Ptr(_, _)) => Some(Kinds { dst: x, source: y }),
-            (Kind::Ptr(_, _), _) => Some(Kinds { dst: x, source: y }),
+            (Kind::Unset, _) => Some(Kinds {
+                dst: *x,
+                source: *y,
+            }),
+            (Kind::Num(_), Kind::Unset | Kind::Ptr(_, _)) => Some(Kinds {
+                dst: *x,
+                source: *y,
+            }),
+            (Kind::Ptr(_, _), _) => Some(Kinds {
+                dst: *x,
+                source: *y,
+            }),
         }
     }
 

@@ -21,8 +21,8 @@ mod stack_span;
 
 pub use bounds::{access_fits, range_fits};
 pub use content::Content;
-pub use edges::{Edges, Refined};
+pub use edges::{Compared, Edges};
 pub use flat_laws::registers_as_numbers;
 pub use frame::Frame;
-pub use kind::Kind;
+pub use kind::{Kind, Kinds};
 pub use laws::{holding_laws, join_laws, slots_known, slots_stay};

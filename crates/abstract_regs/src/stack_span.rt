@@ -6,8 +6,8 @@ ghost use Rattle.abstract_regs.specs.Kind.{last_place};
 ghost use Rattle.abstract_regs.specs.Slots.{stack_place, stack_range, access_span, range_span, whole_slot};
 
 use crate::kind::Kind;
-use abstract_num::{Number, arithmetic, constant};
-use bpf_decode::{Arithmetic, OpWidth, Region};
+use abstract_num::{Number, offset_by};
+use bpf_decode::Region;
 use std::marker::Model;
 
 /// Bytes of the stack: as many as `bytes`, from a place between `low` and `high` on.
@@ -49,13 +49,11 @@ impl StackSpan {
 
 /// Where an access at a distance from what a kind points to may be in the stack.
 #[inline(always)]
-pub(crate) fn stack_place(kind: Kind, distance: u64) -> Option<Number>
-    ensures { option_map view result ≡ stack_place (seen kind) distance }
+pub(crate) fn stack_place(kind: &Kind, distance: u64) -> Option<Number>
+    ensures { option_map view result ≡ stack_place (seen kind.now) distance }
 {
     match kind {
-        Kind::Ptr(Region::Stack, at) => {
-            arithmetic(OpWidth::Bits64, Arithmetic::Add, at, constant(distance))
-        }
+        Kind::Ptr(Region::Stack, at) => offset_by(at, distance),
         Kind::Ptr(Region::Input | Region::Output, _) => None,
         Kind::Unset | Kind::Num(_) => None,
     }

@@ -3,10 +3,10 @@ ghost use mathlib.Core.List.{IsPrefix};
 ghost use Rattle.bench_table.specs.Measure.{picos_each};
 
 use crate::subject::{Beside, Subject};
-use crate::workload::{Ready, steps};
+use crate::workload::Ready;
 use anyhow::{Context, Result};
 use bpf_decode::ClassImage;
-use interp::ClassTable;
+use interp::{ClassTable, Room};
 use object_store::ObjectName;
 use pg_log::{
     Classes, ClientId, Group, GroupWork, LogError, Request, RequestNumber, RequestParts, with_group,
@@ -66,11 +66,13 @@ pub trait Work {
     fn run(&self, alloc: Global, count: usize) -> Result<()>;
 }
 
-/// A call of the class's method.
+/// A call of the class's method `f`, found before, in one room, beside no object.
 impl Work for VerifiedClass {
     fn run(&self, alloc: Global, count: usize) -> Result<()> {
+        let method = self.method("f").context("a method")?;
+        let mut room = Room::new(alloc);
         for _ in 0..count {
-            let _ = steps(alloc, self)?;
+            let _ = room.call_method(method, None, 1, &[])?;
         }
         Ok(())
     }
@@ -86,11 +88,12 @@ impl Work for ClassImage {
     }
 }
 
-/// A call beside the object.
+/// A call beside the object, in one room.
 impl Work for Beside {
     fn run(&self, alloc: Global, count: usize) -> Result<()> {
+        let mut room = Room::new(alloc);
         for _ in 0..count {
-            let _ = self.call(alloc)?;
+            let _ = self.call(&mut room)?;
         }
         Ok(())
     }

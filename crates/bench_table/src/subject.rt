@@ -4,7 +4,7 @@ ghost use Rattle.bench_table.specs.Subject.{subject_text};
 use crate::workload::class_of;
 use anyhow::Result;
 use bpf_decode::RuleSet;
-use interp::call;
+use interp::Room;
 use object_store::{DATA_LIMIT, KEY_LIMIT, Object, StoreError, XATTR_LIMIT, calls};
 use std::alloc::Global;
 use verifier::{VerifiedClass, verify};
@@ -112,9 +112,9 @@ pub struct Beside {
 }
 
 impl Beside {
-    /// Calls the method, and gives its code.
-    pub fn call(&self, alloc: Global) -> Result<i64> {
-        Ok(call(alloc, &self.class, "f", self.object.as_ref(), 1, &INPUT)?.code)
+    /// Calls the method in a room, and gives its code.
+    pub fn call(&self, room: &mut Room) -> Result<i64> {
+        Ok(room.call(&self.class, "f", self.object.as_ref(), 1, &INPUT)?.code)
     }
 }
 

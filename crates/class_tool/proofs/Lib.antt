@@ -5,7 +5,6 @@ mod Packed
 mod Printable
 mod Printed
 mod Refused
-mod Registers
 mod Reported
 mod Windows
 pub mod Longer

@@ -1,7 +1,7 @@
 -- A reader must believe Files (what files hold, and what a write changes), Image, Assembly,
 -- Packing, Run and Answer (what each command answers, and why it fails), Given (the object that
 -- words spell), Log and Reply (which call a reply is of, and what is printed of it), Shown,
--- Failure, Note and Explained (the other texts), and Output (what a print that failed left). System
+-- Failure and Explained (the other texts), and Output (what a print that failed left). System
 -- names a field for contracts; Window says what a window on a text shows, which no command cites.
 pub mod Answer
 pub mod Assembly
@@ -11,7 +11,6 @@ pub mod Files
 pub mod Given
 pub mod Image
 pub mod Log
-pub mod Note
 pub mod Output
 pub mod Packing
 pub mod Reply

@@ -1,17 +1,21 @@
 //! What was found, and the note below a failure's line.
-ghost use Rattle.std.specs.Prelude.{◌≡◌, [], IfOk, IfErr, string_bytes};
+ghost use Rattle.std.specs.Prelude.{◌≡◌, [], IfOk, IfErr, OnOk, string_bytes};
 ghost use Rattle.class_tool.specs.Answer.{Settles, Fails};
-ghost use Rattle.class_tool.specs.Explained.{IsFileNote, IsLoadNote, IsNote, IsVerifyNote};
+ghost use Rattle.class_tool.specs.Explained.{IsFileNote, IsLoadNote, IsNote, IsRunNote, IsVerifyNote};
 ghost use Rattle.class_tool.specs.Files.{storage};
 ghost use Rattle.class_tool.specs.Image.{IsSafeIn, LoadFails};
+ghost use Rattle.class_tool.specs.Reply.{Reports};
+ghost use Rattle.class_tool.specs.Run.{RunFails};
 
-use crate::action::Action;
+use crate::action::{Action, Call};
 use crate::answer::Answer;
 use crate::failure::Failure;
 use crate::files::{Files, Reads};
 use crate::image::read_class;
-use crate::note::refusal_note;
+use crate::reply::Reply;
+use crate::run::run_safe;
 use crate::tool::find;
+use class_advice::refusal_note;
 use std::alloc::Global;
 use verifier::{VerifiedClass, verify};
 
@@ -26,6 +30,7 @@ fn load_noted<F: Reads>(
     ensures safe { IfOk result (IsSafeIn (F.disk files.now) image.now) }
     ensures fails { IfErr result (LoadFails (F.disk files.now) image.now) }
     ensures noted { IfErr result (λ e. IsLoadNote (F.disk files.now) image.now e (string_bytes note.new)) }
+    ensures silent { OnOk result (string_bytes note.new ≡ []) }
 {
     let class = read_class(alloc, files, image)?;
     match verify(alloc, &class) {
@@ -64,6 +69,7 @@ fn verify_noted<F: Files>(
     ensures safe { IfOk result (IsSafeIn (F.disk files.now) image.now) }
     ensures fails { IfErr result (LoadFails (F.disk files.now) image.now) }
     ensures noted { IfErr result (λ e. IsVerifyNote (F.disk files.now) image.now e (string_bytes note.new)) }
+    ensures silent { OnOk result (string_bytes note.new ≡ []) }
 {
     match load_noted(alloc, files, image, note) {
         Ok(class) => Ok(class),
@@ -73,6 +79,22 @@ fn verify_noted<F: Files>(
         }
         Err(failure) => Err(failure),
     }
+}
+
+/// `run` on what the files hold; and where the class can't be had, the note of `verify`.
+fn run_noted<F: Files>(
+    alloc: Global,
+    files: &F,
+    asked: &Call<'_>,
+    note: &mut String,
+) -> Result<Reply, Failure>
+    requires { string_bytes note.old ≡ [] }
+    ensures ok { IfOk result (Reports (F.disk files.now) asked.now) }
+    ensures err { IfErr result (RunFails (F.disk files.now) asked.now) }
+    ensures noted { IfErr result (λ e. IsRunNote (F.disk files.now) asked.now.image.now e (string_bytes note.new)) }
+{
+    let class = verify_noted(alloc, files, asked.image, note)?;
+    run_safe(alloc, files, class, asked)
 }
 
 /// `find`, and what the files tell of one that could not be read or written.
@@ -113,7 +135,10 @@ pub fn find_noted<F: Files>(
             Ok(class) => Ok(Answer::Accepted(class)),
             Err(failure) => Err(failure),
         },
-        Action::Run(_) => find_with_fault(alloc, files, action, note),
+        Action::Run(asked) => match run_noted(alloc, files, asked, note) {
+            Ok(reply) => Ok(Answer::Ran(reply)),
+            Err(failure) => Err(failure),
+        },
         Action::Assemble { .. } => find_with_fault(alloc, files, action, note),
         Action::Pack(_) => find_with_fault(alloc, files, action, note),
         Action::Disassemble { .. } => find_with_fault(alloc, files, action, note),

@@ -15,7 +15,6 @@ mod given;
 mod image;
 mod input;
 mod log;
-mod note;
 mod output;
 mod packing;
 mod reply;

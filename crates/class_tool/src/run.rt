@@ -3,6 +3,7 @@ ghost use Rattle.std.specs.Option.{option_copied};
 ghost use Rattle.std.specs.Int.{w64};
 ghost use Rattle.interp.specs.Plain.{Answers};
 ghost use Rattle.interp.specs.declared.outcome.Outcome.{Outcome as AnOutcome};
+ghost use Rattle.class_tool.specs.Image.{IsSafeIn};
 ghost use Rattle.class_tool.specs.Log.{IsLogged, LogFails, first_request};
 ghost use Rattle.class_tool.specs.Reply.{IsOneOutcome, IsReplyOf, Reports};
 ghost use Rattle.class_tool.specs.Run.{RunFails};
@@ -108,16 +109,30 @@ fn call_beside(
     Ok(reply_beside(alloc, asked, &outcome)?)
 }
 
-/// Makes the call on the object that is spelled. If there is none, it appends the same request to
-/// an empty group, and code and output are those of the log's entry.
-pub fn run<F: Reads>(alloc: Global, files: &F, asked: &Call<'_>) -> Result<Reply, Failure>
-    ensures ok { IfOk result (Reports (F.disk files.now) asked.now) }
-    ensures err { IfErr result (RunFails (F.disk files.now) asked.now) }
+/// Makes the call of a safe class on the object that is spelled. If there is none, it appends the
+/// same request to an empty group, and code and output are those of the log's entry.
+pub(crate) fn run_safe<F: Reads>(
+    alloc: Global,
+    _files: &F,
+    class: VerifiedClass,
+    asked: &Call<'_>,
+) -> Result<Reply, Failure>
+    requires { IsSafeIn (F.disk _files.now) asked.now.image.now class }
+    ensures ok { IfOk result (Reports (F.disk _files.now) asked.now) }
+    ensures err { IfErr result (RunFails (F.disk _files.now) asked.now) }
 {
-    let class = load(alloc, files, asked.image)?;
     let input = decode_input(alloc, asked.input)?;
     match object_before(alloc, asked)? {
         None => call_and_log(alloc, class, asked, input),
         Some(object) => call_beside(alloc, &class, asked, &object, &input),
     }
+}
+
+/// Loads the class and makes the call.
+pub fn run<F: Reads>(alloc: Global, files: &F, asked: &Call<'_>) -> Result<Reply, Failure>
+    ensures ok { IfOk result (Reports (F.disk files.now) asked.now) }
+    ensures err { IfErr result (RunFails (F.disk files.now) asked.now) }
+{
+    let class = load(alloc, files, asked.image)?;
+    run_safe(alloc, files, class, asked)
 }

@@ -48,7 +48,7 @@ client_in clients word = option_and_then (λ n. if nat_le n (suc clients) && nat
 abbrev pub call_of : List (List ℕ) → ℕ → List (List ℕ) → Option PlannedCall
 call_of names client (object ∷ class ∷ method ∷ input ∷ []) =
     option_and_then
-    (λ o. option_map (λ bytes. record { client = client; object = o; class = class_of 0 names class; method = method; input = bytes }) (bytes_in input))
+    (λ o. option_map (λ bytes. record { client = client; object = o; class = class_of 0 names class; word = class; method = method; input = bytes }) (bytes_in input))
     (object_in object)
 call_of names client _ = None
 

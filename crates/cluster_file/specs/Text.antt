@@ -1,8 +1,12 @@
 -- What is printed of a cluster file.
-use Rattle.std.specs.Prelude.{ℕ, suc, List, [], ◌∷◌, ◌++◌, codes}
+use Rattle.std.specs.Prelude.{ℕ, suc, List, [], ◌∷◌, ◌++◌, Option, Some, None, codes}
 use Rattle.std.specs.Fmt.{decimal, signed_decimal}
 use Rattle.std.specs.Int.{w64, cast_signed}
 use Rattle.hex.specs.Hex.{encode_lower}
+use Rattle.placement.specs.Placement.{group_of}
+use Rattle.cluster_file.specs.Plan.{calls_of}
+use Rattle.cluster_file.specs.Planned.{PlannedCall}
+use Rattle.cluster_file.specs.declared.step.Step.{Step}
 
 -- How a call ended: with its place, code and output, or refused, for a reason as it is printed.
 pub data CallEnd : Type 0 where
@@ -14,26 +18,42 @@ abbrev pub digits_or_dash : List ℕ → List ℕ
 digits_or_dash [] = codes "-"
 digits_or_dash (digit ∷ digits) = digit ∷ digits
 
--- after the client's and the call's number: `place 0 code 0 output -`, or `refused 7 InputTooLong`
+-- how it ended: ` place 0 code 0 output -`, or ` refused 7 InputTooLong`
 abbrev pub end_text : CallEnd → List ℕ
 end_text (Replied place code output) =
-    codes "place " ++ (decimal place ++ (codes " code " ++ (signed_decimal (cast_signed w64 code) ++ (codes " output " ++ digits_or_dash (encode_lower output)))))
-end_text (Refused reason) = codes "refused " ++ reason
+    codes " place " ++ (decimal place ++ (codes " code " ++ (signed_decimal (cast_signed w64 code) ++ (codes " output " ++ (digits_or_dash (encode_lower output) ++ codes "\n")))))
+end_text (Refused reason) = codes " refused " ++ (reason ++ codes "\n")
 
--- THE LINE OF A CALL: `client 1 call 0 place 0 code 0 output -`.
-abbrev pub call_line : ℕ → ℕ → CallEnd → List ℕ
-call_line client number end =
-    codes "client " ++ (decimal client ++ (codes " call " ++ (decimal number ++ (codes " " ++ (end_text end ++ codes "\n")))))
+-- what was asked, where it is shown: the group of the object, and the request in the words of the
+-- file, ` group 12 request a lock lock -`
+abbrev pub asked_text : ℕ → PlannedCall → List ℕ
+asked_text groups call =
+    codes " group " ++ (decimal (group_of call.object groups) ++ (codes " request " ++ (call.object ++ (codes " " ++ (call.word
+    ++ (codes " " ++ (call.method ++ (codes " " ++ digits_or_dash (encode_lower call.input)))))))))
+
+abbrev pub asked_if : Option ℕ → PlannedCall → List ℕ
+asked_if None call = []
+asked_if (Some groups) call = asked_text groups call
+
+-- whose call it is: `client 1 call 0`
+abbrev pub head_text : ℕ → ℕ → List ℕ
+head_text client number = codes "client " ++ (decimal client ++ (codes " call " ++ decimal number))
+
+-- THE LINE OF A CALL: `client 1 call 0 place 0 code 0 output -`. Where the number of groups is
+-- given, what was asked stands in it.
+abbrev pub call_line : Option ℕ → ℕ → ℕ → PlannedCall → CallEnd → List ℕ
+call_line groups client number call end = head_text client number ++ (asked_if groups call ++ end_text end)
 
 -- the lines of a client's calls, from a number on
-abbrev pub call_lines : ℕ → ℕ → List CallEnd → List ℕ
-call_lines client number [] = []
-call_lines client number (end ∷ ends) = call_line client number end ++ call_lines client (suc number) ends
+abbrev pub call_lines : Option ℕ → ℕ → ℕ → List PlannedCall → List CallEnd → List ℕ
+call_lines groups client number [] ends = []
+call_lines groups client number (call ∷ calls) [] = []
+call_lines groups client number (call ∷ calls) (end ∷ ends) = call_line groups client number call end ++ call_lines groups client (suc number) calls ends
 
--- ALL LINES, by client from one on: the calls of each from 0 on.
-abbrev pub all_lines : ℕ → List (List CallEnd) → List ℕ
-all_lines client [] = []
-all_lines client (ends ∷ others) = call_lines client 0 ends ++ all_lines (suc client) others
+-- ALL LINES of these steps, by client from one on: the calls of each from 0 on.
+abbrev pub all_lines : Option ℕ → List Step → ℕ → List (List CallEnd) → List ℕ
+all_lines groups steps client [] = []
+all_lines groups steps client (ends ∷ others) = call_lines groups client 0 (calls_of client steps) ends ++ all_lines groups steps (suc client) others
 
 -- A LINE THAT IS MALFORMED, and one that is refused, each alone: `line 3: bad`, `line 3: refused 1
 -- NoneUp`.

@@ -5,12 +5,13 @@ use pg_log::ClientId;
 use std::marker::Model;
 
 /// A call as a file plans it: which client makes it, on which object, of which class and method,
-/// with which input.
+/// with which input. It keeps the class's word too, which a class that isn't loaded has alone.
 #[derive(Drop)]
 pub struct Call {
     client: ClientId,
     object: ObjectName,
     class: usize,
+    word: String,
     method: String,
     input: Vec<u8>,
 }
@@ -21,7 +22,7 @@ impl Model for Call {
 
     ghost Value = { PlannedCall };
 
-    ghost view = { λ c. record { client = c.client; object = c.object; class = c.class; method = string_bytes c.method; input = c.input.items } };
+    ghost view = { λ c. record { client = c.client; object = c.object; class = c.class; word = string_bytes c.word; method = string_bytes c.method; input = c.input.items } };
 }
 
 impl Call {
@@ -29,15 +30,17 @@ impl Call {
         client: ClientId,
         object: ObjectName,
         class: usize,
+        word: String,
         method: String,
         input: Vec<u8>,
     ) -> Call
-        ensures { result ≡ record { client = client; object = object; class = class; method = string_bytes method; input = input.items } }
+        ensures { result ≡ record { client = client; object = object; class = class; word = string_bytes word; method = string_bytes method; input = input.items } }
     {
         Call {
             client,
             object,
             class,
+            word,
             method,
             input,
         }
@@ -62,6 +65,13 @@ impl Call {
         ensures { result ≡ self.now.class }
     {
         self.class
+    }
+
+    /// The word that names its class.
+    pub fn word(&self) -> &str
+        ensures { result.now ≡ self.now.word }
+    {
+        &self.word
     }
 
     /// The name of its method.

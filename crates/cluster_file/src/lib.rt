@@ -1,7 +1,8 @@
 //! Cluster files as text: `read_plan` reads a file whole, its cluster, its clients' calls and its
-//! maps, or finds its first malformed line; `call_lines`, `bad_line` and `refused_line` give what
-//! is printed. The rules are `specs/Plan.antt` and `specs/Text.antt`; each call's result is pinned
-//! by them, and it fails for want of memory alone. What a plan does in threads is `cluster_tool`'s.
+//! maps, or finds its first malformed line; `push_head`, `push_asked`, `push_replied`,
+//! `push_refused`, `bad_line` and `refused_line` give what is printed. The rules are
+//! `specs/Plan.antt` and `specs/Text.antt`; each call's result is pinned by them, and it fails for
+//! want of memory alone. What a plan does in threads is `cluster_tool`'s.
 #![tactic(auto)]
 
 mod call;
@@ -14,4 +15,4 @@ pub use call::Call;
 pub use config::Numbers;
 pub use plan::{Plan, Reading, read_plan};
 pub use step::Step;
-pub use text::{bad_line, push_refused, push_replied, refused_line};
+pub use text::{bad_line, push_asked, push_head, push_refused, push_replied, refused_line};

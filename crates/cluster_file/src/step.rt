@@ -48,9 +48,11 @@ fn call_of(
             let Some(input) = bytes_in(alloc, *input)? else {
                 return Ok(None);
             };
+            let word = String::from_str(alloc, *class)?;
             let method = String::from_str(alloc, *method)?;
             let class = class_of(names, *class);
-            Ok(Some(Call::new(client, object, class, method, input.into_items())))
+            let input = input.into_items();
+            Ok(Some(Call::new(client, object, class, word, method, input)))
         }
         _ => Ok(None),
     }

@@ -1,7 +1,10 @@
-ghost use Rattle.std.specs.Prelude.{◌≡◌, ◌++◌, IfOk, IfSome, OnOk, string_bytes};
+ghost use Rattle.std.specs.Prelude.{◌≡◌, ◌++◌, IfOk, IfSome, IsTrue, OnOk, string_bytes};
 ghost use Rattle.std.specs.Int.{w64, cast_unsigned};
-ghost use Rattle.cluster_file.specs.Text.{Replied, Refused, bad_line, call_line, digits_or_dash, refused_line};
+ghost use Rattle.placement.specs.Placement.{is_group_count};
+ghost use Rattle.cluster_file.specs.Text.{Replied, Refused, asked_text, bad_line, digits_or_dash, end_text, head_text, refused_line};
 
+use crate::call::Call;
+use placement::group_of;
 use std::alloc::{AllocError, Global};
 use std::fmt::Display;
 
@@ -30,36 +33,57 @@ fn or_dash(digits: &str) -> &str
     if digits.is_empty() { "-" } else { digits }
 }
 
-/// Adds the line of a call that was replied to: place, code and output.
+/// Adds whose call it is, and which of its client's.
+pub fn push_head(text: &mut String, client: usize, number: usize) -> Result<(), AllocError>
+    ensures { OnOk result (string_bytes text.new ≡ string_bytes text.old ++ head_text client number) }
+{
+    write!(text, "client {client} call {number}")
+}
+
+/// Adds what a call asked: the group of its object, of that many groups, and the request in the
+/// words of the file.
+pub fn push_asked(
+    alloc: Global,
+    text: &mut String,
+    groups: u64,
+    call: &Call,
+) -> Result<(), AllocError>
+    requires { IsTrue (is_group_count groups) }
+    ensures { OnOk result (string_bytes text.new ≡ string_bytes text.old ++ asked_text groups call.now) }
+{
+    let object = call.object().text();
+    let group = group_of(object.as_bytes(), groups);
+    let (class, method) = (call.word(), call.method());
+    let digits = hex::encode(alloc, call.input())?;
+    let input = or_dash(&digits);
+    let asked = format!(in alloc; " group {group} request {object} {class} {method} {input}")?;
+    text.push_str(&asked)
+}
+
+/// Adds the end of a call that was replied to: place, code and output.
 pub fn push_replied(
     alloc: Global,
     text: &mut String,
-    client: usize,
-    number: usize,
     place: usize,
     code: i64,
     output: &[u8],
 ) -> Result<(), AllocError>
-    ensures { OnOk result (string_bytes text.new ≡ string_bytes text.old ++ call_line client number (Replied place (cast_unsigned w64 code) output.now)) }
+    ensures { OnOk result (string_bytes text.new ≡ string_bytes text.old ++ end_text (Replied place (cast_unsigned w64 code) output.now)) }
 {
     let digits = hex::encode(alloc, output)?;
     let shown = or_dash(&digits);
-    let line = format!(in alloc;
-        "client {client} call {number} place {place} code {code} output {shown}\n"
-    )?;
+    let line = format!(in alloc; " place {place} code {code} output {shown}\n")?;
     text.push_str(&line)
 }
 
-/// Adds the line of a call that was refused.
+/// Adds the end of a call that was refused.
 pub fn push_refused<E: Display + Drop>(
     alloc: Global,
     text: &mut String,
-    client: usize,
-    number: usize,
     why: E,
 ) -> Result<(), AllocError>
-    ensures { OnOk result (IfSome (E.output why) (λ reason. string_bytes text.new ≡ string_bytes text.old ++ call_line client number (Refused reason))) }
+    ensures { OnOk result (IfSome (E.output why) (λ reason. string_bytes text.new ≡ string_bytes text.old ++ end_text (Refused reason))) }
 {
-    let line = format!(in alloc; "client {client} call {number} refused {why}\n")?;
+    let line = format!(in alloc; " refused {why}\n")?;
     text.push_str(&line)
 }

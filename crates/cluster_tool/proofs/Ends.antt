@@ -13,7 +13,7 @@ use Rattle.rados_client.specs.declared.exec_error.ExecError.{ExecError}
 use Rattle.cluster_tool.specs.Answers.{AreCalls, AreEndsOf, AreAllEnds}
 use Rattle.cluster_tool.specs.Callers.{AllCalled, AreNew, CallerState, HasCalled, IsNewCaller}
 use Rattle.osd.specs.declared.config.Config.{Config}
-use Rattle.cluster_tool.specs.Played.{AreDone, AreMapsMade, IsStepMade}
+use Rattle.cluster_tool.specs.Played.{AreDone, AreMapsMade}
 
 -- a client whose calls ended so
 record IsThere (callers : List CallerState) (at : ℕ) (ends : List (Result PlacedReply ExecError)) : Type 0 where

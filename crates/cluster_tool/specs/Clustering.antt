@@ -1,5 +1,5 @@
 -- What is printed of a cluster file, and why nothing was done.
-use Rattle.std.specs.Prelude.{◌≡◌, ◌⊎◌, ℕ, List, Option, Some, None, Ok, Err, Result, Bool, true, map}
+use Rattle.std.specs.Prelude.{◌≡◌, ◌⊎◌, ℕ, List, Option, Some, None, Ok, Err, Result, Bool, true, map, if◌then◌else◌}
 use Rattle.std.specs.Io.KnownBytes.{Appends}
 use Rattle.class_tool.specs.Assembly.{TextFails}
 use Rattle.class_tool.specs.Files.{Disk, Holds}
@@ -34,11 +34,15 @@ pub record IsWithin (plan : FilePlan) (P : Config → Type 0) : Type 0 where
   pub is : config_of plan.numbers ≡ Some config
   pub comes : P config
 
+-- how many groups there are, where the lines of calls show what was asked
+abbrev pub groups_if : Bool → Config → Option ℕ
+groups_if is_shown config = if is_shown then Some config.groups else None
+
 -- Each call and each map was made: the lines of the calls' ends, which are true.
-pub record IsMade (classes : Classes) (plan : FilePlan) (printed : List ℕ) (config : Config) : Type 0 where
+pub record IsMade (is_shown : Bool) (classes : Classes) (plan : FilePlan) (printed : List ℕ) (config : Config) : Type 0 where
   pub all : List (List (Result PlacedReply ExecError))
   pub done : AreDone classes config plan.steps all
-  pub lines : printed ≡ all_lines 1 (map (map shown) all)
+  pub lines : printed ≡ all_lines (groups_if is_shown config) plan.steps 1 (map (map shown) all)
 
 -- A map of the file was refused.
 pub record IsMapLine (plan : FilePlan) (printed : List ℕ) (config : Config) : Type 0 where
@@ -58,30 +62,30 @@ IsRefused plan printed = IsLimit plan printed ⊎ IsWithin plan (λ config. IsNo
 
 -- WHAT COMES of a file's text, where memory lasts: what its plan comes to; or, before anything is
 -- done, the line that is malformed first alone.
-abbrev pub IsPrintoutOf : Classes → Result FilePlan ℕ → List ℕ → Ending → Type 0
-IsPrintoutOf classes (Ok plan) printed Done = IsWithin plan (λ config. IsMade classes plan printed config)
-IsPrintoutOf classes (Ok plan) printed Bad = ⊥
-IsPrintoutOf classes (Ok plan) printed Refused = IsRefused plan printed
-IsPrintoutOf classes (Ok plan) printed NoMemory = ⊥
-IsPrintoutOf classes (Ok plan) printed Unprinted = ⊥
-IsPrintoutOf classes (Err line) printed Done = ⊥
-IsPrintoutOf classes (Err line) printed Bad = printed ≡ bad_line line
-IsPrintoutOf classes (Err line) printed Refused = ⊥
-IsPrintoutOf classes (Err line) printed NoMemory = ⊥
-IsPrintoutOf classes (Err line) printed Unprinted = ⊥
+abbrev pub IsPrintoutOf : Bool → Classes → Result FilePlan ℕ → List ℕ → Ending → Type 0
+IsPrintoutOf is_shown classes (Ok plan) printed Done = IsWithin plan (λ config. IsMade is_shown classes plan printed config)
+IsPrintoutOf is_shown classes (Ok plan) printed Bad = ⊥
+IsPrintoutOf is_shown classes (Ok plan) printed Refused = IsRefused plan printed
+IsPrintoutOf is_shown classes (Ok plan) printed NoMemory = ⊥
+IsPrintoutOf is_shown classes (Ok plan) printed Unprinted = ⊥
+IsPrintoutOf is_shown classes (Err line) printed Done = ⊥
+IsPrintoutOf is_shown classes (Err line) printed Bad = printed ≡ bad_line line
+IsPrintoutOf is_shown classes (Err line) printed Refused = ⊥
+IsPrintoutOf is_shown classes (Err line) printed NoMemory = ⊥
+IsPrintoutOf is_shown classes (Err line) printed Unprinted = ⊥
 
 -- that was printed, whole, and no write or flush failed
-pub record IsShown (classes : Classes) (names : List (List ℕ)) (text : List ℕ) (old new : Option (List ℕ)) (failed fails : Bool) (ending : Ending) : Type 0 where
+pub record IsShown (is_shown : Bool) (classes : Classes) (names : List (List ℕ)) (text : List ℕ) (old new : Option (List ℕ)) (failed fails : Bool) (ending : Ending) : Type 0 where
   pub printed : List ℕ
-  pub comes : IsPrintoutOf classes (plan_of names text) printed ending
+  pub comes : IsPrintoutOf is_shown classes (plan_of names text) printed ending
   pub grew : Appends old new printed
   pub well : fails ≡ failed
 
 -- a beginning of that was printed, and a write or a flush failed
-pub record IsBegun (classes : Classes) (names : List (List ℕ)) (text : List ℕ) (old new : Option (List ℕ)) (fails : Bool) : Type 0 where
+pub record IsBegun (is_shown : Bool) (classes : Classes) (names : List (List ℕ)) (text : List ℕ) (old new : Option (List ℕ)) (fails : Bool) : Type 0 where
   pub printed : List ℕ
   pub ending : Ending
-  pub comes : IsPrintoutOf classes (plan_of names text) printed ending
+  pub comes : IsPrintoutOf is_shown classes (plan_of names text) printed ending
   pub begun : Begins old new printed
   pub failed : fails ≡ true
 
@@ -93,12 +97,12 @@ Prints printed ending old new failed fails result =
 
 -- how a file ends: that was printed; or nothing was, for want of memory; or a beginning of it was,
 -- and a write or a flush failed
-abbrev pub EndsSo : Classes → List (List ℕ) → List ℕ → Option (List ℕ) → Option (List ℕ) → Bool → Bool → Ending → Type 0
-EndsSo classes names text old new failed fails Done = IsShown classes names text old new failed fails Done
-EndsSo classes names text old new failed fails Bad = IsShown classes names text old new failed fails Bad
-EndsSo classes names text old new failed fails Refused = IsShown classes names text old new failed fails Refused
-EndsSo classes names text old new failed fails NoMemory = (new ≡ old) × (fails ≡ failed)
-EndsSo classes names text old new failed fails Unprinted = IsBegun classes names text old new fails
+abbrev pub EndsSo : Bool → Classes → List (List ℕ) → List ℕ → Option (List ℕ) → Option (List ℕ) → Bool → Bool → Ending → Type 0
+EndsSo is_shown classes names text old new failed fails Done = IsShown is_shown classes names text old new failed fails Done
+EndsSo is_shown classes names text old new failed fails Bad = IsShown is_shown classes names text old new failed fails Bad
+EndsSo is_shown classes names text old new failed fails Refused = IsShown is_shown classes names text old new failed fails Refused
+EndsSo is_shown classes names text old new failed fails NoMemory = (new ≡ old) × (fails ≡ failed)
+EndsSo is_shown classes names text old new failed fails Unprinted = IsBegun is_shown classes names text old new fails
 
 -- WHAT A CLUSTER FILE COMES TO: with the built-in classes and those of the tenants' files, the text
 -- that the file holds.
@@ -107,7 +111,7 @@ pub record Clusters (disk : Option Disk) (c : Clustering) (old new : Option (Lis
   pub loaded : AreClasses disk c.tenants.items classes
   pub text : List ℕ
   pub held : Holds disk c.file.now text
-  pub ends : EndsSo classes (names_of c.tenants.items) text old new failed fails ending
+  pub ends : EndsSo c.is_shown classes (names_of c.tenants.items) text old new failed fails ending
 
 -- the classes were had, and the file can't be read or is no text; or memory was refused
 pub record FileFails (disk : Option Disk) (c : Clustering) (failure : Failure) : Type 0 where

@@ -10,5 +10,7 @@ pub struct Clustering<'a> {
     pub file: &'a str,
     /// The tenants' classes, by their ids from 2.
     pub tenants: Vec<TenantClass<'a>>,
+    /// Whether the line of each call shows what it asked: the group of its object, and its request.
+    pub is_shown: bool,
     ghost room: { length tenants.items ≤ TENANT_LIMIT },
 }

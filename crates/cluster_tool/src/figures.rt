@@ -1,9 +1,9 @@
 //! What a run took. Nothing is proved of these numbers.
 
 use osd::{DeliveryMode, Fate, Gate};
-use std::fmt;
-use std::sync::atomic::{AtomicU64, Ordering};
+use std::sync::atomic::{AtomicBool, AtomicU64, Ordering};
 use std::time::{Clock, Instant};
+use std::{fmt, thread};
 
 /// Nanoseconds of a second.
 const SECOND: u64 = 1_000_000_000;
@@ -11,17 +11,28 @@ const SECOND: u64 = 1_000_000_000;
 /// Nanoseconds of a microsecond.
 const MICROSECOND: u64 = 1_000;
 
-/// What a run took. All threads that play it add to it; it is shown as seven lines. Counts are
-/// modulo 2^64.
+/// How many turns in a row workers have nothing to do before the first call is made. They begin with
+/// the first maps, so what they take first is no quiet.
+const QUIET_TURNS: u64 = 1_000;
+
+/// How many turns the first call waits for that at most.
+const TURN_LIMIT: u64 = 100_000;
+
+/// What a run took, from its first call on. All threads that play it add to it; it is shown as seven
+/// lines. Counts are modulo 2^64.
 #[derive(Drop)]
 pub struct Figures {
+    /// Whether the first call has begun, and when that was, in nanoseconds of the clock.
+    has_begun: AtomicBool,
+    start: AtomicU64,
     calls: AtomicU64,
     /// The nanoseconds of all calls, and of the longest.
     nanoseconds: AtomicU64,
     worst: AtomicU64,
     /// The nanoseconds of the run.
     whole: AtomicU64,
-    /// How many requests workers took, and what nodes sent.
+    /// How many operations workers took, how many of them are requests, and what nodes sent.
+    operations: AtomicU64,
     requests: AtomicU64,
     messages: AtomicU64,
     nudges: AtomicU64,
@@ -48,6 +59,14 @@ fn since<C: Clock>(clock: &C, start: Option<Instant>) -> u64 {
     }
 }
 
+/// The nanoseconds that the clock shows; 0 if it can't be read.
+fn shown_by<C: Clock>(clock: &C) -> u64 {
+    match clock.monotonic() {
+        Ok(time) => time.as_nanos().min(u128::from(u64::MAX)) as u64,
+        Err(_) => 0,
+    }
+}
+
 /// How many of that many in those nanoseconds fit into a second; 0 if these are none.
 fn rate(count: u64, nanoseconds: u64) -> u128 {
     if nanoseconds == 0 {
@@ -60,13 +79,47 @@ impl Figures {
     /// Of no run.
     pub fn new() -> Figures {
         Figures {
+            has_begun: AtomicBool::new(false),
+            start: AtomicU64::new(0),
             calls: AtomicU64::new(0),
             nanoseconds: AtomicU64::new(0),
             worst: AtomicU64::new(0),
             whole: AtomicU64::new(0),
+            operations: AtomicU64::new(0),
             requests: AtomicU64::new(0),
             messages: AtomicU64::new(0),
             nudges: AtomicU64::new(0),
+        }
+    }
+
+    /// Notes that the first call begins, where none has begun: what was sent up to it isn't counted.
+    /// So that this is all that the groups' first maps take, it waits until workers have had nothing
+    /// to do for a while, and not without end.
+    pub fn begin<C: Clock>(&self, clock: &C) {
+        if self.has_begun.load(Ordering::SeqCst) {
+            return;
+        }
+        self.wait_until_quiet();
+        self.start.store(shown_by(clock), Ordering::SeqCst);
+        self.has_begun.store(true, Ordering::SeqCst);
+    }
+
+    /// Gives the other threads turns until workers took nothing in many of them.
+    fn wait_until_quiet(&self) {
+        let mut seen = self.operations.load(Ordering::SeqCst);
+        let mut quiet = 0;
+        for _ in 0..TURN_LIMIT {
+            if quiet == QUIET_TURNS {
+                return;
+            }
+            thread::yield_now();
+            let taken = self.operations.load(Ordering::SeqCst);
+            quiet = if taken == seen && taken > 0 {
+                quiet.saturating_add(1)
+            } else {
+                0
+            };
+            seen = taken;
         }
     }
 
@@ -83,25 +136,30 @@ impl Figures {
         add(&self.nudges, nudges);
     }
 
-    /// Notes that the run began then, and has ended.
-    pub fn note_whole<C: Clock>(&self, clock: &C, start: Option<Instant>) {
-        self.whole.store(since(clock, start), Ordering::SeqCst);
+    /// Notes that the run has ended.
+    pub fn note_whole<C: Clock>(&self, clock: &C) {
+        let start = self.start.load(Ordering::SeqCst);
+        let whole = shown_by(clock).saturating_sub(start);
+        self.whole.store(whole, Ordering::SeqCst);
     }
 }
 
-/// Counts the clients' requests that workers take.
+/// Counts what workers take, and the clients' requests among it.
 impl Gate for Figures {
     fn before(&self, number: u64) {
+        add(&self.operations, 1);
         if number != 0 {
             add(&self.requests, 1);
         }
     }
 }
 
-/// Counts what nodes send, and lets it pass.
+/// Counts what nodes send from the first call on, and lets all pass.
 impl Fate for Figures {
     fn of(&self, _worker: usize, _n: u64) -> DeliveryMode {
-        add(&self.messages, 1);
+        if self.has_begun.load(Ordering::SeqCst) {
+            add(&self.messages, 1);
+        }
         DeliveryMode::Pass
     }
 }

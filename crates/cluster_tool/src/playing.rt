@@ -5,7 +5,7 @@ ghost use Rattle.cluster_tool.specs.Played.{AreMapsMade, IsMapRefused, Plays};
 
 use crate::caller::Caller;
 use crate::crossing::{caller_crosses, figures_cross};
-use crate::figures::{Figures, now};
+use crate::figures::Figures;
 use crate::played::Played;
 use cluster_file::{Plan, Step};
 use map_book::MapError;
@@ -96,9 +96,8 @@ fn play_and_finish<N: ClusterName + Send + Sync, R: Threads + Wait + Clock + Syn
 ) -> Played
     ensures { Plays N.classes N.config plan.now.steps result }
 {
-    let start = now(running.runtime());
     let played = play_plan(alloc, running, plan, figures);
-    figures.note_whole(running.runtime(), start);
+    figures.note_whole(running.runtime());
     running.finish();
     played
 }
@@ -148,6 +147,16 @@ fn callers<'a, N: ClusterName, R: Wait>(
     Ok(callers)
 }
 
+/// Whether one of these steps is a call.
+fn has_call(steps: &[Step]) -> bool {
+    for step in steps {
+        if let Step::Call(_) = step {
+            return true;
+        }
+    }
+    false
+}
+
 /// Makes the calls of these steps, each client in a thread of its own.
 fn call_all<'a, N: ClusterName + Send + Sync, R: Threads + Wait + Clock + Sync>(
     alloc: Global,
@@ -162,6 +171,9 @@ fn call_all<'a, N: ClusterName + Send + Sync, R: Threads + Wait + Clock + Sync>(
     figures_cross();
     let threads = callers.len().max(1);
     let clock = running.runtime();
+    if has_call(steps) {
+        figures.begin(clock);
+    }
     for_each_mut(
         running.runtime(),
         callers.as_mut_slice(),

@@ -8,7 +8,7 @@ use crate::config::config_of;
 use crate::figures::Figures;
 use crate::played::Played;
 use crate::playing::play;
-use crate::shown::lines_of;
+use crate::shown::{groups_if, lines_of};
 use class_tool::{Failure, Output, Reads, read_text};
 use cluster_file::{Plan, Reading, bad_line, read_plan, refused_line};
 use osd::Parts;
@@ -35,6 +35,14 @@ pub enum Ending {
     NoMemory,
     /// A write or a flush failed; a beginning of the lines was printed.
     Unprinted,
+}
+
+/// What else is asked for of a file: to where it is measured, and whether the line of each call shows
+/// what was asked.
+#[derive(Clone, Copy)]
+struct Extras<'a> {
+    figures: &'a Figures,
+    is_shown: bool,
 }
 
 /// What is printed of a file, and how it ended.
@@ -68,7 +76,11 @@ pub fn cluster<F: Reads, O: Output, R: Threads + Wait + Clock + Sync + Drop>(
     let table = classes(alloc, files, &asked.tenants)?;
     let names = class_names(alloc, &asked.tenants)?;
     let text = read_text(alloc, files, asked.file)?;
-    match settle(alloc, rt, table, &names, &text, figures) {
+    let extras = Extras {
+        figures,
+        is_shown: asked.is_shown,
+    };
+    match settle(alloc, rt, table, &names, &text, extras) {
         Ok(printout) => Ok(print(printout, out)),
         Err(_) => Ok(Ending::NoMemory),
     }
@@ -92,12 +104,12 @@ fn settle<R: Threads + Wait + Clock + Sync + Drop>(
     table: ClassTable,
     names: &[&str],
     text: &str,
-    figures: &Figures,
+    extras: Extras<'_>,
 ) -> Result<Printout, AllocError>
-    ensures { IfOk result (λ o. IsPrintoutOf table (plan_of (map (λ n. n.now) names.now) text.now) (string_bytes o.text) o.ending) }
+    ensures { IfOk result (λ o. IsPrintoutOf extras.entry.is_shown table (plan_of (map (λ n. n.now) names.now) text.now) (string_bytes o.text) o.ending) }
 {
     match read_plan(alloc, names, text)? {
-        Reading::Plan(plan) => settle_plan(alloc, rt, table, &plan, figures),
+        Reading::Plan(plan) => settle_plan(alloc, rt, table, &plan, extras),
         Reading::Bad(line) => Ok(Printout {
             text: bad_line(alloc, line)?,
             ending: Ending::Bad,
@@ -122,20 +134,21 @@ fn settle_plan<R: Threads + Wait + Clock + Sync + Drop>(
     rt: R,
     table: ClassTable,
     plan: &Plan,
-    figures: &Figures,
+    extras: Extras<'_>,
 ) -> Result<Printout, AllocError>
-    ensures { IfOk result (λ o. IsPrintoutOf table (Ok plan.now) (string_bytes o.text) o.ending) }
+    ensures { IfOk result (λ o. IsPrintoutOf extras.entry.is_shown table (Ok plan.now) (string_bytes o.text) o.ending) }
 {
     let Some(config) = config_of(plan.numbers()) else {
         return refused(alloc, 1, ConfigError::Limit);
     };
+    let groups = groups_if(extras.is_shown, &config);
     let Ok(parts) = Parts::new(alloc, config) else {
         return refused(alloc, 1, ConfigError::NoMemory);
     };
     // The call picks the cluster's names: parts and classes are there already.
-    match play::<Brand, R>(alloc, rt, parts, table, plan, figures) {
+    match play::<Brand, R>(alloc, rt, parts, table, plan, extras.figures) {
         Ok(Played::Done(ends)) => Ok(Printout {
-            text: lines_of(alloc, &ends)?,
+            text: lines_of(alloc, groups, plan.steps(), &ends)?,
             ending: Ending::Done,
         }),
         Ok(Played::MapRefused(line, why)) => refused(alloc, line, why),

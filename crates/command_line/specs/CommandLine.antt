@@ -1,7 +1,7 @@
 -- The command line: `verify IN [--explain]`, `run IN METHOD [--input HEX] [--caller N] [--object
 -- HEX] [--xattr NAME=HEX ..] [--key KEY=HEX ..] [--show] [--explain]`, `asm IN OUT [--explain]`,
 -- `pack OUT METHOD .. [--rules N] [--explain]`, `dis IN [--slots] [--explain]`, `sim FILE [--class
--- NAME=IMAGE ..] [--trace]`, and `cluster FILE [--class NAME=IMAGE ..] [--stats]`.
+-- NAME=IMAGE ..] [--trace]`, and `cluster FILE [--class NAME=IMAGE ..] [--show] [--stats]`.
 use Rattle.std.specs.Prelude.{[], ◌∷◌, Option, Some, true, codes}
 use Rattle.clap.specs.Lexer.{usize_max}
 use Rattle.clap.specs.Words.{App, Rule, Text, new_app, new_rule, with_rule, with_subcommand}
@@ -84,7 +84,8 @@ abbrev pub stats_rule : Rule
 stats_rule = flag_rule (codes "stats")
 
 abbrev pub cluster_line : App
-cluster_line = with_rule (with_rule (with_rule (new_app (codes "cluster")) (required_rule (codes "FILE"))) class_rule) stats_rule
+cluster_line =
+    with_rule (with_rule (with_rule (with_rule (new_app (codes "cluster")) (required_rule (codes "FILE"))) class_rule) (flag_rule (codes "show"))) stats_rule
 
 -- the program's name, which wants a subcommand
 abbrev pub plain_line : App

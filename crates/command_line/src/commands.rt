@@ -153,8 +153,11 @@ fn cluster_command<'a>(alloc: Global) -> Result<Command<'a>, AllocError>
         examples: help::CLUSTER,
     };
     let of_calls = file_command(alloc, heading, "FILE", help::CLUSTER_FILE);
+    let help = "Shows in each line what the call asked: its object's group, and the request";
+    let show = flag(alloc, "show", help);
     let stats = flag(alloc, "stats", "Writes what the run took to standard error");
-    with_arg(with_arg(of_calls, class_option(alloc)), stats)
+    let of_classes = with_arg(with_arg(of_calls, class_option(alloc)), show);
+    with_arg(of_classes, stats)
 }
 
 /// The command without its subcommands, one of which has to be there.

@@ -1,5 +1,5 @@
-ghost use Rattle.std.specs.Prelude.{◌≡◌, ℕ, pos, ◌<ℤ◌, IfErr, IfOk};
-ghost use Rattle.object_store.specs.Object.{IsObject};
+ghost use Rattle.std.specs.Prelude.{◌≡◌, ◌+◌, ◌≤◌, ℕ, pos, ◌<ℤ◌, length, IfErr, IfOk};
+ghost use Rattle.object_store.specs.Object.{IsObject, part};
 ghost use Rattle.std.specs.Option.{option_copied};
 ghost use Rattle.bpf_machine.specs.State.{State, outcome_of};
 ghost use Rattle.interp.specs.Plain.{outcome_of_answer};
@@ -9,7 +9,7 @@ use crate::calls::CallError;
 use crate::outcome::Outcome;
 use crate::run::Run;
 use object_store::Object;
-use std::alloc::Global;
+use std::alloc::{AllocError, Global};
 use txn::Change;
 
 /// The answer of a run that came to its exit with a code, in that many steps. A negative code keeps
@@ -42,7 +42,7 @@ pub fn answer(
         });
     }
     let start = usize::from(run.caps.in_cap);
-    let output = Vec::from_slice(alloc, &memory[start..start + run.out_len])?;
+    let output = cut(alloc, memory, start, run.out_len)?;
     let change = run.staged.finish()?;
     leads_within(&change);
     Ok(Outcome {
@@ -51,6 +51,17 @@ pub fn answer(
         change,
         steps,
     })
+}
+
+/// A copy of so many bytes from a place on. None at all are the usual output, and cost no copy.
+fn cut(alloc: Global, memory: &[u8], start: usize, len: usize) -> Result<Vec<u8>, AllocError>
+    requires { start + len ≤ length memory.now }
+    ensures { IfOk result (λ v. v.items ≡ part memory.now start len) }
+{
+    if len == 0 {
+        return Ok(Vec::new(alloc));
+    }
+    Vec::from_slice(alloc, &memory[start..start + len])
 }
 
 /// The object after a change is within the limits. It does nothing.

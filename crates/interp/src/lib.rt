@@ -1,5 +1,5 @@
-//! Calls of verified methods: `call` gives the machine's outcome and the change of the object, and
-//! the table of loaded classes.
+//! Calls of verified methods: `call` gives the machine's outcome and the change of the object, a
+//! `Room` does so for one call after the other, and the table of loaded classes.
 #![tactic(auto)]
 
 mod act;
@@ -12,6 +12,7 @@ mod limits;
 mod memory;
 mod outcome;
 mod registers;
+mod room;
 mod run;
 mod step;
 
@@ -20,4 +21,5 @@ pub use calls::{CallError, call, call_method};
 pub use class_table::{ClassTable, TableError};
 pub use limits::CLASS_LIMIT;
 pub use outcome::Outcome;
+pub use room::Room;
 pub use verifier::{VerifiedClass, VerifiedMethod};

@@ -10,6 +10,7 @@ use Rattle.object_store.specs.contracts.objects.Objects as objects
 use Rattle.pg_log.specs.contracts.entry.Entry as entry
 use Rattle.pg_log.specs.contracts.group.Group as group
 use Rattle.pg_log.specs.contracts.group.Group.TheInside as inside
+use Rattle.interp.specs.contracts.room.Room as room
 use Rattle.pg_log.specs.contracts.group.log.Log as log
 use Rattle.pg_log.specs.contracts.places.Places as places
 use Rattle.pg_log.specs.contracts.request.Request as request
@@ -22,12 +23,18 @@ entry_sends r c =
     let parts : AllSend (shape T).fields = (r, (search (crossing.crosses, sendable) depth 8, (search (crossing.crosses, sendable) depth 8, (c, tt)))) in
     recorded_send (Struct (shape T)) T.D T.to T.to_one (struct_send (shape T) parts)
 
+room_sends : IsSend (room.the_field).row
+room_sends =
+    let T = room.the_type in
+    let parts : AllSend (shape T).fields = (search (crossing.crosses, sendable) depth 8, (search (crossing.crosses, sendable) depth 8, tt)) in
+    struct_send (shape T) parts
+
 log_sends : IsSend entry.the_row → IsSend objects.the_row → IsSend (log.the_field).row
 log_sends e o =
     let T = log.the_type in
     let p : IsSend (places.the_field).row = search (maps.crosses, crossing.crosses, sendable) depth 20 in
     let v = crossing.Vec-send entry.the_row e in
-    let parts : AllSend (shape T).fields = (search (crossing.crosses, sendable) depth 8, (v, (o, (p, tt)))) in
+    let parts : AllSend (shape T).fields = (search (crossing.crosses, sendable) depth 8, (v, (o, (p, (room_sends, tt))))) in
     struct_send (shape T) parts
 
 pub group_sends : (C : RattleType) (classes : Ghosts C.Denot) → IsSend entry.the_row → IsSend objects.the_row → IsSend (group.the_row C classes)

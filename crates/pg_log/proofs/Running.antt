@@ -1,19 +1,19 @@
 -- A reply at a place is that of its method's run, in every layout.
-use Rattle.std.proofs.Common.{◌≡◌, ℕ, zero, suc, ◌+◌, ◌≤◌, List, [], ◌∷◌, ◌++◌, Option, Some, length, take, drop, refl, ap, sym, ◌∙◌, subst, arith}
+use Rattle.std.proofs.Common.{◌≡◌, ℕ, zero, suc, ◌+◌, List, [], ◌∷◌, Option, Some, take, drop, ap, sym, ◌∙◌, subst, arith}
 use Rattle.std.specs.List.{AllByRecursion, slice_get}
 use Rattle.std.specs.FinMap as map
 use Rattle.std.proofs.lemmas.Option.{none-some, same_Some}
 use Rattle.std.proofs.lemmas.List.{take-append-drop}
-use Rattle.bpf_decode.specs.Class.{ClassMethod, IsMethod, IsClass}
+use Rattle.bpf_decode.specs.Class.{ClassMethod, IsMethod}
 use Rattle.object_store.specs.Object.{PlainObject}
 use Rattle.object_store.specs.Names.{PlainObjects, stored}
 use Rattle.bpf_machine.specs.State.{Outcome}
 use Rattle.bpf_machine.specs.Safe.{IsCall, OutcomesAreOne, call_outcome}
 use Rattle.bpf_machine.specs.Within.{CallsAreWithinLimits}
 use Rattle.pg_log.specs.Requests.{ClientRequest}
-use Rattle.pg_log.specs.Log.{Classes, Reply, CanRun, Legal, method_in, method_of, outcome_of_method, after, fold, reply_to, reply_at}
+use Rattle.pg_log.specs.Log.{Classes, Reply, CanRun, Legal, method_in, method_of, outcome_of_method, fold, reply_to}
 use Rattle.pg_log.specs.Within.{IsRequest, AreWithinLimits}
-use Rattle.pg_log.specs.Runs.{RanAt, RepliesRun}
+use Rattle.pg_log.specs.Runs.{RepliesRun}
 use Rattle.pg_log.proofs.Lists.{take_get}
 use Rattle.pg_log.proofs.Legal.{legal_beginning}
 use Rattle.pg_log.proofs.Fold.{fold_from-append}

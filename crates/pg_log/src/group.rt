@@ -19,6 +19,7 @@ use crate::entry::Entry;
 use crate::group::log::Log;
 use crate::places::Places;
 use crate::request_number::RequestNumber;
+use interp::Room;
 use object_store::{Object, ObjectName, Objects};
 use std::alloc::Global;
 use std::marker::{Model, PhantomData};
@@ -67,6 +68,7 @@ impl<C: Classes> Group<C> {
                 entries: Vec::new(alloc),
                 objects: Objects::new(),
                 places: Places::new(alloc),
+                room: Room::new(alloc),
             },
         }
     }

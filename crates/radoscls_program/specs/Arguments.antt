@@ -66,10 +66,12 @@ pub record TakesSim (p : Parsed) (s : Simulation) : Type 0 where
   pub tenants : SpellsTenants (all_in p (codes "class")) s.tenants.items
   pub drawn : s.is_drawn ≡ is_set_in p (codes "trace")
 
--- What `cluster` asks for: the file of calls and maps FILE, and a tenant's class of each --class.
+-- What `cluster` asks for: the file of calls and maps FILE, a tenant's class of each --class, and
+-- whether --show is there.
 pub record TakesCluster (p : Parsed) (c : Clustering) : Type 0 where
   pub file : one_in p (codes "FILE") ≡ Some c.file.now
   pub tenants : SpellsTenants (all_in p (codes "class")) c.tenants.items
+  pub shown : c.is_shown ≡ is_set_in p (codes "show")
 
 -- a task is one of these; --explain has a failure explained, and --stats has a run measured
 abbrev pub TakesTask : Parsed → Task → Type 0

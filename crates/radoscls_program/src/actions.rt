@@ -193,5 +193,9 @@ pub(crate) fn clustering_of<'a>(
 {
     let file = wanted(words, "FILE")?;
     let tenants = tenants_of(alloc, words)?;
-    Ok(Clustering { file, tenants })
+    Ok(Clustering {
+        file,
+        tenants,
+        is_shown: words.is_set("show"),
+    })
 }

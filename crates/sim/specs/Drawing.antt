@@ -19,7 +19,7 @@ use Rattle.sim_trace.specs.declared.column.Column.{Column}
 use Rattle.sim_trace.specs.declared.column.Column.TheVariants.{Client, Node, Monitor}
 use Rattle.sim_trace.specs.declared.message.Message.{Message}
 use Rattle.sim_trace.specs.declared.step.What.{What}
-use Rattle.sim_trace.specs.declared.step.What.TheVariants.{At, Asked, Arrived, Bounced}
+use Rattle.sim_trace.specs.declared.step.What.TheVariants.{At, Asked, Arrived, Bounced, Stopped, Resumed}
 use Rattle.sim_trace.specs.declared.step.Step.{Step}
 use Rattle.sim_world.specs.Step.{Played, Happened, beginning, step}
 use Rattle.sim_world.specs.Holds.{Holds, MessageShown, message_shown}
@@ -47,7 +47,7 @@ abbrev pub drawn_of : MessageShown → Drawn
 drawn_of m = record { from = column_of m.sender; to = column_of m.receiver; text = m.text }
 
 -- WHAT A LINE IS TO MAKE HAPPEN, if anything: at the monitor, between a client and a node, at a
--- node; or a message arrives.
+-- node; a message arrives; or a node stops or goes on.
 abbrev pub meant_by : Line → Option What
 meant_by lines.Empty = None
 meant_by (lines.Map acting) = Some (At Monitor)
@@ -55,8 +55,8 @@ meant_by (lines.See n epoch) = Some (At (column_of_node n))
 meant_by (lines.Ask n r) = Some (Asked (Client r.client) (column_of_node n))
 meant_by (lines.Deliver number) = Some (Arrived number)
 meant_by (lines.Show n) = Some (At (column_of_node n))
-meant_by (lines.Stop n) = Some (At (column_of_node n))
-meant_by (lines.Go n) = Some (At (column_of_node n))
+meant_by (lines.Stop n) = Some (Stopped (column_of_node n))
+meant_by (lines.Go n) = Some (Resumed (column_of_node n))
 meant_by (lines.Resend n) = Some (At (column_of_node n))
 meant_by lines.Bad = None
 
@@ -70,6 +70,8 @@ done_of (At column) t = At column
 done_of (Asked client node) t = Asked client node
 done_of (Arrived number) t = delivery_of number t
 done_of (Bounced number) t = Bounced number
+done_of (Stopped column) t = Stopped column
+done_of (Resumed column) t = Resumed column
 
 abbrev pub done_if : Option What → Taken → Option What
 done_if None t = None
@@ -81,6 +83,8 @@ line_of_step (At column) line = line
 line_of_step (Asked client node) line = line
 line_of_step (Arrived number) line = []
 line_of_step (Bounced number) line = []
+line_of_step (Stopped column) line = line
+line_of_step (Resumed column) line = line
 
 -- and what came of it, where that is neither messages nor that there are none
 abbrev pub again_after : List ℕ → List ℕ → List ℕ

@@ -40,8 +40,8 @@ pub(crate) fn meant(line: &Line) -> Option<What>
         Line::Deliver(number) => Some(What::Arrived(*number as usize)),
         Line::See(node, _) => Some(What::At(column_of_node(*node))),
         Line::Show(node) => Some(What::At(column_of_node(*node))),
-        Line::Stop(node) => Some(What::At(column_of_node(*node))),
-        Line::Go(node) => Some(What::At(column_of_node(*node))),
+        Line::Stop(node) => Some(What::Stopped(column_of_node(*node))),
+        Line::Go(node) => Some(What::Resumed(column_of_node(*node))),
         Line::Resend(node) => Some(What::At(column_of_node(*node))),
     }
 }
@@ -65,6 +65,8 @@ fn done(meant: What, taken: &Taken) -> What
         What::Asked(_, _) => meant,
         What::Arrived(number) => delivery(number, taken),
         What::Bounced(_) => meant,
+        What::Stopped(_) => meant,
+        What::Resumed(_) => meant,
     }
 }
 
@@ -127,6 +129,8 @@ fn line_of_step(what: What, line: &str) -> &str
         What::Asked(_, _) => line,
         What::Arrived(_) => "",
         What::Bounced(_) => "",
+        What::Stopped(_) => line,
+        What::Resumed(_) => line,
     }
 }
 

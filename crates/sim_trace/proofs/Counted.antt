@@ -11,7 +11,8 @@ repeated_more n text = ap (λ m. repeated m text) (add-one n)
 pub numbers_from_more : (first k : ℕ) → numbers_from first (k + 1) ≡ numbers_from first k ++ codes " " ++ label (first + k + 1)
 numbers_from_more first k = ap (λ m. numbers_from first m) (add-one k)
 
-pub lost_rows_more : (columns : List Column) (messages : List Message) (arrived : List Bool) (first k : ℕ) →
-    lost_rows columns messages arrived first (k + 1)
-    ≡ lost_rows columns messages arrived first k ++ lost_unless (slice_index_or arrived (first + k) false) (lost_row columns (first + k + 1) (slice_get messages (first + k)))
-lost_rows_more columns messages arrived first k = ap (λ m. lost_rows columns messages arrived first m) (add-one k)
+pub lost_rows_more : (columns : List Column) (messages : List Message) (stopped arrived : List Bool) (first k : ℕ) →
+    lost_rows columns messages stopped arrived first (k + 1)
+    ≡ lost_rows columns messages stopped arrived first k
+    ++ lost_unless (slice_index_or arrived (first + k) false) (lost_row columns stopped (first + k + 1) (slice_get messages (first + k)))
+lost_rows_more columns messages stopped arrived first k = ap (λ m. lost_rows columns messages stopped arrived first m) (add-one k)

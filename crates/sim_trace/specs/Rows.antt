@@ -1,19 +1,27 @@
 -- The picture of a line: a cell of 12 characters for each column, which begins with the column's
--- bar.
-use Rattle.std.specs.Prelude.{ℕ, zero, suc, ◌-◌, nat_lt, Bool, List, [], ◌++◌, length, if◌then◌else◌, codes}
+-- bar. For each column it is given whether its node is stopped.
+use Rattle.std.specs.Prelude.{ℕ, zero, suc, ◌-◌, ◌*◌, nat_lt, nat_le, Bool, false, List, [], ◌∷◌, ◌++◌, length, take, drop, slice_index_or, if◌then◌else◌, codes}
 
 -- a text, n times
 abbrev pub repeated : ℕ → List ℕ → List ℕ
 repeated zero text = []
 repeated (suc n) text = repeated n text ++ text
 
--- columns at which nothing is drawn
-abbrev pub bars : ℕ → List ℕ
-bars n = repeated n (codes "|           ")
+-- a column's bar, dotted where its node is stopped
+abbrev pub bar : Bool → List ℕ
+bar is_stopped = if is_stopped then codes ":" else codes "|"
 
--- of n columns, something at the one of that place
-abbrev pub mark_row : ℕ → ℕ → List ℕ
-mark_row n place = bars place ++ codes "*           " ++ bars (n - place - 1)
+abbrev pub bar_at : List Bool → ℕ → List ℕ
+bar_at stopped place = bar (slice_index_or stopped place false)
+
+-- columns at which nothing is drawn
+abbrev pub bars : List Bool → List ℕ
+bars [] = []
+bars (is_stopped ∷ stopped) = bar is_stopped ++ codes "           " ++ bars stopped
+
+-- something at the column of a place
+abbrev pub mark_row : List Bool → ℕ → List ℕ
+mark_row stopped place = bars (take place stopped) ++ codes "*           " ++ bars (drop 1 (drop place stopped))
 
 -- an arrow's head; one that is lost ends before it is there
 abbrev pub right_head : Bool → List ℕ
@@ -22,27 +30,31 @@ right_head arrives = if arrives then codes ">" else codes "x  "
 abbrev pub left_head : Bool → List ℕ
 left_head arrives = if arrives then codes "<" else codes "  x"
 
--- whole cells of an arrow's shaft
-abbrev pub shaft : ℕ → List ℕ
-shaft cells = repeated cells (codes "------------")
+-- what a width has left after a bar, two dashes, the head and the label
+abbrev pub rest : ℕ → List ℕ → List ℕ → ℕ
+rest width head label = width - 3 - length head - length label
 
--- what the cell of an arrow's label has left after its bar, two dashes, the head and the label
-abbrev pub rest : List ℕ → List ℕ → ℕ
-rest head label = 9 - length head - length label
+-- the label of an arrow: the long one, where it leaves a dash before the head
+abbrev pub label_on : ℕ → List ℕ → List ℕ → List ℕ → List ℕ
+label_on width head short long = if nat_le (length long) (width - 4 - length head) then long else short
 
--- an arrow over a number of cells, to the right, to the left, and from a column to itself
-abbrev pub to_right : List ℕ → ℕ → List ℕ → List ℕ
-to_right head cells label = codes "|--" ++ label ++ repeated (rest head label) (codes "-") ++ shaft (cells - 1) ++ head
+-- an arrow of a width to the right, to the left, and from a column to itself
+abbrev pub to_right : List ℕ → List ℕ → ℕ → List ℕ → List ℕ
+to_right start head width label = start ++ codes "--" ++ label ++ repeated (rest width head label) (codes "-") ++ head
 
-abbrev pub to_left : List ℕ → ℕ → List ℕ → List ℕ
-to_left head cells label = codes "|" ++ head ++ shaft (cells - 1) ++ repeated (rest head label) (codes "-") ++ label ++ codes "--"
+abbrev pub to_left : List ℕ → List ℕ → ℕ → List ℕ → List ℕ
+to_left start head width label = start ++ head ++ repeated (rest width head label) (codes "-") ++ label ++ codes "--"
 
-abbrev pub to_itself : List ℕ → List ℕ → List ℕ
-to_itself head label = codes "|" ++ head ++ codes "--" ++ label ++ repeated (rest head label) (codes " ")
+abbrev pub to_itself : List ℕ → List ℕ → List ℕ → List ℕ
+to_itself start head label = start ++ head ++ codes "--" ++ label ++ repeated (rest 12 head label) (codes " ")
 
--- of n columns, an arrow from one place to another
-abbrev pub arrow_row : ℕ → ℕ → ℕ → Bool → List ℕ → List ℕ
-arrow_row n start end arrives label =
-    if nat_lt start end then bars start ++ to_right (right_head arrives) (end - start) label ++ bars (n - end) else
-    if nat_lt end start then bars end ++ to_left (left_head arrives) (start - end) label ++ bars (n - start) else
-    bars start ++ to_itself (left_head arrives) label ++ bars (n - start - 1)
+-- an arrow from one place to another, with a short label or a long one
+abbrev pub arrow_row : List Bool → ℕ → ℕ → Bool → List ℕ → List ℕ → List ℕ
+arrow_row stopped start end arrives short long =
+    if nat_lt start end then bars (take start stopped)
+    ++ to_right (bar_at stopped start) (right_head arrives) (12 * (end - start)) (label_on (12 * (end - start)) (right_head arrives) short long)
+    ++ bars (drop end stopped) else
+    if nat_lt end start then bars (take end stopped)
+    ++ to_left (bar_at stopped end) (left_head arrives) (12 * (start - end)) (label_on (12 * (start - end)) (left_head arrives) short long)
+    ++ bars (drop start stopped) else
+    bars (take start stopped) ++ to_itself (bar_at stopped start) (left_head arrives) (label_on 12 (left_head arrives) short long) ++ bars (drop 1 (drop start stopped))

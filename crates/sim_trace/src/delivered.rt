@@ -40,6 +40,8 @@ fn note(arrived: &mut [bool], what: What)
         What::Asked(_, _) => {}
         What::Arrived(number) => note_number(arrived, number),
         What::Bounced(number) => note_number(arrived, number),
+        What::Stopped(_) => {}
+        What::Resumed(_) => {}
     }
 }
 

@@ -1,7 +1,7 @@
 //! The drawing, line by line.
-ghost use Rattle.std.specs.Prelude.{◌≡◌, ◌≤◌, ◌<◌, ◌+◌, ◌++◌, Some, false, length, slice_get, slice_index_or, OnOk, IfOk, option_copied, string_bytes};
+ghost use Rattle.std.specs.Prelude.{◌≡◌, ◌≤◌, ◌<◌, ◌+◌, ◌++◌, Some, false, length, replicate, slice_get, slice_index_or, OnOk, IfOk, option_copied, string_bytes};
 ghost use Rattle.sim_trace.specs.Columns.{name};
-ghost use Rattle.sim_trace.specs.Drawing.{message_at, message_row, delivery, picture, sends, step_row, lost_row, lost_unless, lost_rows, delivered, sent_by, rows, heading, names, drawn};
+ghost use Rattle.sim_trace.specs.Drawing.{message_at, kind, long_label, message_row, delivery, picture, sends, step_row, lost_row, lost_unless, lost_rows, delivered, sent_by, rows, heading, names, drawn};
 
 use crate::column::Column;
 use crate::columns::{columns_of, place_of};
@@ -9,17 +9,19 @@ use crate::delivered::delivered;
 use crate::message::Message;
 use crate::rows::{Arrow, push_arrow, push_mark};
 use crate::step::{Step, What};
+use crate::stopped::note_stop;
 use crate::text::push_repeated;
 use std::alloc::{AllocError, Global};
 
-/// What a run is drawn by: the columns, the messages, and for each message whether some step
-/// delivers it.
+/// What a step is drawn by: the columns, the messages, for each message whether some step delivers
+/// it, and for each column whether its node is stopped then.
 #[derive(Drop)]
 struct Chart<'a> {
     alloc: Global,
     columns: &'a [Column],
     messages: &'a [Message],
     arrived: &'a [bool],
+    stopped: &'a [bool],
     ghost same: { length arrived.now ≡ length messages.now },
 }
 
@@ -57,16 +59,26 @@ fn push_steps(
     messages: &[Message],
     steps: &[Step],
 ) -> Result<(), AllocError>
-    ensures { OnOk result (string_bytes out.new ≡ string_bytes out.old ++ rows columns.now messages.now (delivered messages.now steps.now) 0 steps.now) }
+    ensures { OnOk result (string_bytes out.new ≡ string_bytes out.old ++ rows columns.now messages.now (delivered messages.now steps.now) (replicate (length columns.now) false) 0 steps.now) }
 {
     let arrived = delivered(alloc, messages, steps)?;
-    let chart = Chart {
-        alloc,
-        columns,
-        messages,
-        arrived: &arrived,
-    };
-    chart.push_rows(out, steps)
+    let mut stopped = vec![in alloc; false; columns.len()]?;
+    let mut first = 0;
+    for step in steps {
+        note_stop(columns, step.what, &mut stopped);
+        let chart = Chart {
+            alloc,
+            columns,
+            messages,
+            arrived: &arrived,
+            stopped: &stopped,
+        };
+        let count = sent_by(messages, first, step);
+        chart.push_step(out, first, count, step)?;
+        chart.push_all_lost(out, first, count)?;
+        first += count;
+    }
+    Ok(())
 }
 
 /// The names of the columns.
@@ -129,6 +141,24 @@ fn push_sends(out: &mut String, first: usize, count: usize) -> Result<(), AllocE
     Ok(())
 }
 
+/// A message's kind: the first word of what it says.
+fn kind(text: &str) -> &str
+    ensures { result.now ≡ kind text.now }
+{
+    match text.split_once(' ') {
+        Some((kind, _)) => kind,
+        None => text,
+    }
+}
+
+/// The label of a message, where its arrow is long enough.
+fn long_label(alloc: Global, number: usize, message: &Message) -> Result<String, AllocError>
+    ensures { IfOk result (λ s. string_bytes s ≡ long_label number message.now) }
+{
+    let kind = kind(message.text.as_str());
+    format!(in alloc; "m{number} {kind}")
+}
+
 fn has_arrived(arrived: &[bool], place: usize) -> bool
     requires { place < length arrived.now }
     ensures { result ≡ slice_index_or arrived.now place false }
@@ -154,15 +184,18 @@ impl Chart<'_> {
         arrives: bool,
         message: &Message,
     ) -> Result<(), AllocError>
-        ensures { OnOk result (string_bytes out.new ≡ string_bytes out.old ++ message_row self.now.columns.now number arrives message.now) }
+        ensures { OnOk result (string_bytes out.new ≡ string_bytes out.old ++ message_row self.now.columns.now self.now.stopped.now number arrives message.now) }
     {
-        let label = format!(in self.alloc; "m{number}")?;
+        let short = format!(in self.alloc; "m{number}")?;
+        let long = long_label(self.alloc, number, message)?;
         let arrow = Arrow {
             start: place_of(self.columns, message.from),
             end: place_of(self.columns, message.to),
             arrives,
+            long: long.as_str(),
+            short: short.as_str(),
         };
-        push_arrow(out, self.columns.len(), arrow, label.as_str())
+        push_arrow(out, self.stopped, arrow)
     }
 
     /// A message that is delivered, and what it says.
@@ -172,7 +205,7 @@ impl Chart<'_> {
         number: usize,
         arrives: bool,
     ) -> Result<(), AllocError>
-        ensures { OnOk result (string_bytes out.new ≡ string_bytes out.old ++ delivery self.now.columns.now number arrives (message_at self.now.messages.now number)) }
+        ensures { OnOk result (string_bytes out.new ≡ string_bytes out.old ++ delivery self.now.columns.now self.now.stopped.now number arrives (message_at self.now.messages.now number)) }
     {
         match message_at(self.messages, number) {
             Some(message) => self.push_said(out, number, arrives, message),
@@ -187,7 +220,7 @@ impl Chart<'_> {
         arrives: bool,
         message: &Message,
     ) -> Result<(), AllocError>
-        ensures { OnOk result (string_bytes out.new ≡ string_bytes out.old ++ delivery self.now.columns.now number arrives (Some message.now)) }
+        ensures { OnOk result (string_bytes out.new ≡ string_bytes out.old ++ delivery self.now.columns.now self.now.stopped.now number arrives (Some message.now)) }
     {
         self.push_message(out, number, arrives, message)?;
         out.push_str(message.text.as_str())
@@ -195,18 +228,22 @@ impl Chart<'_> {
 
     /// What happened.
     fn push_picture(&self, out: &mut String, what: What) -> Result<(), AllocError>
-        ensures { OnOk result (string_bytes out.new ≡ string_bytes out.old ++ picture self.now.columns.now self.now.messages.now what) }
+        ensures { OnOk result (string_bytes out.new ≡ string_bytes out.old ++ picture self.now.columns.now self.now.messages.now self.now.stopped.now what) }
     {
         let columns = self.columns;
         match what {
-            What::At(column) => push_mark(out, columns.len(), place_of(columns, column)),
+            What::At(column) => push_mark(out, self.stopped, place_of(columns, column)),
+            What::Stopped(column) => push_mark(out, self.stopped, place_of(columns, column)),
+            What::Resumed(column) => push_mark(out, self.stopped, place_of(columns, column)),
             What::Asked(client, node) => {
                 let arrow = Arrow {
                     start: place_of(columns, client),
                     end: place_of(columns, node),
                     arrives: true,
+                    long: "req",
+                    short: "req",
                 };
-                push_arrow(out, columns.len(), arrow, "req")
+                push_arrow(out, self.stopped, arrow)
             }
             What::Arrived(number) => self.push_delivery(out, number, true),
             What::Bounced(number) => self.push_delivery(out, number, false),
@@ -220,7 +257,7 @@ impl Chart<'_> {
         number: usize,
         message: &Message,
     ) -> Result<(), AllocError>
-        ensures { OnOk result (string_bytes out.new ≡ string_bytes out.old ++ lost_row self.now.columns.now number (Some message.now)) }
+        ensures { OnOk result (string_bytes out.new ≡ string_bytes out.old ++ lost_row self.now.columns.now self.now.stopped.now number (Some message.now)) }
     {
         let arrives = message.to.is_client();
         self.push_message(out, number, arrives, message)?;
@@ -231,7 +268,7 @@ impl Chart<'_> {
     /// The message of a place, if no step delivers it.
     fn push_if_lost(&self, out: &mut String, place: usize) -> Result<(), AllocError>
         requires within { place < length self.now.messages.now }
-        ensures { OnOk result (string_bytes out.new ≡ string_bytes out.old ++ lost_unless (slice_index_or self.now.arrived.now place false) (lost_row self.now.columns.now (place + 1) (slice_get self.now.messages.now place))) }
+        ensures { OnOk result (string_bytes out.new ≡ string_bytes out.old ++ lost_unless (slice_index_or self.now.arrived.now place false) (lost_row self.now.columns.now self.now.stopped.now (place + 1) (slice_get self.now.messages.now place))) }
     {
         if has_arrived(self.arrived, place) {
             return Ok(());
@@ -244,7 +281,7 @@ impl Chart<'_> {
     /// Of `count` messages from one on, those that no step delivers.
     fn push_all_lost(&self, out: &mut String, first: usize, count: usize) -> Result<(), AllocError>
         requires within { first + count ≤ length self.now.messages.now }
-        ensures { OnOk result (string_bytes out.new ≡ string_bytes out.old ++ lost_rows self.now.columns.now self.now.messages.now self.now.arrived.now first count) }
+        ensures { OnOk result (string_bytes out.new ≡ string_bytes out.old ++ lost_rows self.now.columns.now self.now.messages.now self.now.stopped.now self.now.arrived.now first count) }
     {
         for k in 0..count {
             self.push_if_lost(out, first + k)?;
@@ -261,25 +298,11 @@ impl Chart<'_> {
         step: &Step,
     ) -> Result<(), AllocError>
         requires { first + count ≤ length self.now.messages.now }
-        ensures { OnOk result (string_bytes out.new ≡ string_bytes out.old ++ step_row self.now.columns.now self.now.messages.now first count step.now) }
+        ensures { OnOk result (string_bytes out.new ≡ string_bytes out.old ++ step_row self.now.columns.now self.now.messages.now self.now.stopped.now first count step.now) }
     {
         self.push_picture(out, step.what)?;
         out.push_str(step.text.as_str())?;
         push_sends(out, first, count)?;
         out.push_str("\n")
-    }
-
-    /// The lines of all steps.
-    fn push_rows(&self, out: &mut String, steps: &[Step]) -> Result<(), AllocError>
-        ensures { OnOk result (string_bytes out.new ≡ string_bytes out.old ++ rows self.now.columns.now self.now.messages.now self.now.arrived.now 0 steps.now) }
-    {
-        let mut first = 0;
-        for step in steps {
-            let count = sent_by(self.messages, first, step);
-            self.push_step(out, first, count, step)?;
-            self.push_all_lost(out, first, count)?;
-            first += count;
-        }
-        Ok(())
     }
 }

@@ -1,6 +1,7 @@
 //! Draws what happened in a group as a message sequence in text: a column for each client, each
-//! node and the monitor, and an arrow for each message where it arrives. `draw` takes the messages
-//! and, step by step, what happened; what it draws is the definition `drawn`.
+//! node and the monitor, and an arrow for each message where it arrives; a stopped node's line is
+//! dotted. `draw` takes the messages and, step by step, what happened; what it draws is the
+//! definition `drawn`.
 #![tactic(auto)]
 
 mod column;
@@ -10,6 +11,7 @@ mod drawing;
 mod message;
 mod rows;
 mod step;
+mod stopped;
 mod text;
 
 pub use column::Column;

@@ -7,6 +7,6 @@ pub struct Message {
     pub from: Column,
     /// Whom it is for.
     pub to: Column,
-    /// What it says.
+    /// What it says: its kind, and after a blank more.
     pub text: String,
 }

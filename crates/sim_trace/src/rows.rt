@@ -1,26 +1,53 @@
 //! The picture of a line.
-ghost use Rattle.std.specs.Prelude.{◌≡◌, ◌<◌, ◌-◌, ◌++◌, OnOk, string_bytes};
-ghost use Rattle.sim_trace.specs.Rows.{repeated, shaft, rest, mark_row, right_head, left_head, to_right, to_left, to_itself, arrow_row};
+ghost use Rattle.std.specs.Prelude.{◌≡◌, ◌<◌, ◌-◌, ◌*◌, ◌++◌, take, drop, IfOk, OnOk, string_bytes};
+ghost use Rattle.sim_trace.specs.Rows.{repeated, rest, mark_row, bar_at, right_head, left_head, label_on, to_right, to_left, to_itself, arrow_row};
 
-use crate::text::{push_bars, push_repeated};
+use crate::text::{bar, push_bars, push_repeated};
 use std::alloc::AllocError;
 
 /// From the column of one place to that of another. One that doesn't arrive ends before it is
 /// there.
 #[derive(Clone, Copy)]
-pub(crate) struct Arrow {
+pub(crate) struct Arrow<'a> {
     pub start: usize,
     pub end: usize,
     pub arrives: bool,
+    /// What stands on it where it is long enough, and what else.
+    pub long: &'a str,
+    pub short: &'a str,
+}
+
+/// The columns before a place.
+fn before(stopped: &[bool], place: usize) -> &[bool]
+    ensures { result.now ≡ take place stopped.now }
+{
+    &stopped[..place.min(stopped.len())]
+}
+
+/// The columns from a place on.
+fn from(stopped: &[bool], place: usize) -> &[bool]
+    ensures { result.now ≡ drop place stopped.now }
+{
+    &stopped[place.min(stopped.len())..]
+}
+
+/// The bar of the column of a place.
+fn bar_at(stopped: &[bool], place: usize) -> &'static str
+    ensures { result.now ≡ bar_at stopped.now place }
+{
+    match stopped.get(place) {
+        Some(is_stopped) => bar(*is_stopped),
+        None => bar(false),
+    }
 }
 
 /// Something at the column of a place.
-pub(crate) fn push_mark(out: &mut String, n: usize, place: usize) -> Result<(), AllocError>
-    ensures { OnOk result (string_bytes out.new ≡ string_bytes out.old ++ mark_row n place) }
+pub(crate) fn push_mark(out: &mut String, stopped: &[bool], place: usize) -> Result<(), AllocError>
+    ensures { OnOk result (string_bytes out.new ≡ string_bytes out.old ++ mark_row stopped.now place) }
 {
-    push_bars(out, place)?;
+    push_bars(out, before(stopped, place))?;
     out.push_str("*           ")?;
-    push_bars(out, n.saturating_sub(place).saturating_sub(1))
+    push_bars(out, from(from(stopped, place), 1))
 }
 
 fn right_head(arrives: bool) -> &'static str
@@ -35,77 +62,132 @@ fn left_head(arrives: bool) -> &'static str
     if arrives { "<" } else { "  x" }
 }
 
-/// An arrow's shaft, `cells` columns wide.
-fn push_shaft(out: &mut String, cells: usize) -> Result<(), AllocError>
-    ensures { OnOk result (string_bytes out.new ≡ string_bytes out.old ++ shaft cells) }
+/// How many characters that many columns have. There is no memory for more than numbers go.
+fn width_of(cells: usize) -> Result<usize, AllocError>
+    ensures { IfOk result (λ n. n ≡ 12 * cells) }
 {
-    push_repeated(out, cells, "------------")
+    cells.checked_mul(12).ok_or(AllocError)
 }
 
-/// Fills what a cell has left after a head and a label.
-fn push_rest(out: &mut String, head: &str, label: &str, filler: &str) -> Result<(), AllocError>
-    ensures { OnOk result (string_bytes out.new ≡ string_bytes out.old ++ repeated (rest head.now label.now) filler.now) }
+/// The label of an arrow of that width.
+fn label_on<'a>(width: usize, head: &str, arrow: Arrow<'a>) -> &'a str
+    ensures { result.now ≡ label_on width head.now arrow.entry.short.now arrow.entry.long.now }
 {
-    let left = 9usize.saturating_sub(head.len());
+    let room = width.saturating_sub(4).saturating_sub(head.len());
+    if arrow.long.len() <= room {
+        arrow.long
+    } else {
+        arrow.short
+    }
+}
+
+/// Fills what a width has left after a head and a label.
+fn push_rest(
+    out: &mut String,
+    width: usize,
+    head: &str,
+    label: &str,
+    filler: &str,
+) -> Result<(), AllocError>
+    ensures { OnOk result (string_bytes out.new ≡ string_bytes out.old ++ repeated (rest width head.now label.now) filler.now) }
+{
+    let left = width.saturating_sub(3).saturating_sub(head.len());
     push_repeated(out, left.saturating_sub(label.len()), filler)
 }
 
-fn push_to_right(out: &mut String, head: &str, cells: usize, label: &str) -> Result<(), AllocError>
-    ensures { OnOk result (string_bytes out.new ≡ string_bytes out.old ++ to_right head.now cells label.now) }
+fn push_to_right(
+    out: &mut String,
+    start: &str,
+    head: &str,
+    width: usize,
+    label: &str,
+) -> Result<(), AllocError>
+    ensures { OnOk result (string_bytes out.new ≡ string_bytes out.old ++ to_right start.now head.now width label.now) }
 {
-    out.push_str("|--")?;
+    out.push_str(start)?;
+    out.push_str("--")?;
     out.push_str(label)?;
-    push_rest(out, head, label, "-")?;
-    push_shaft(out, cells.saturating_sub(1))?;
+    push_rest(out, width, head, label, "-")?;
     out.push_str(head)
 }
 
-fn push_to_left(out: &mut String, head: &str, cells: usize, label: &str) -> Result<(), AllocError>
-    ensures { OnOk result (string_bytes out.new ≡ string_bytes out.old ++ to_left head.now cells label.now) }
+fn push_to_left(
+    out: &mut String,
+    start: &str,
+    head: &str,
+    width: usize,
+    label: &str,
+) -> Result<(), AllocError>
+    ensures { OnOk result (string_bytes out.new ≡ string_bytes out.old ++ to_left start.now head.now width label.now) }
 {
-    out.push_str("|")?;
+    out.push_str(start)?;
     out.push_str(head)?;
-    push_shaft(out, cells.saturating_sub(1))?;
-    push_rest(out, head, label, "-")?;
+    push_rest(out, width, head, label, "-")?;
     out.push_str(label)?;
     out.push_str("--")
 }
 
-fn push_to_itself(out: &mut String, head: &str, label: &str) -> Result<(), AllocError>
-    ensures { OnOk result (string_bytes out.new ≡ string_bytes out.old ++ to_itself head.now label.now) }
+fn push_to_itself(out: &mut String, start: &str, head: &str, label: &str) -> Result<(), AllocError>
+    ensures { OnOk result (string_bytes out.new ≡ string_bytes out.old ++ to_itself start.now head.now label.now) }
 {
-    out.push_str("|")?;
+    out.push_str(start)?;
     out.push_str(head)?;
     out.push_str("--")?;
     out.push_str(label)?;
-    push_rest(out, head, label, " ")
+    push_rest(out, 12, head, label, " ")
 }
 
-/// An arrow of n columns, over a label.
+/// An arrow, where it goes to a column further right.
+fn push_right(out: &mut String, stopped: &[bool], arrow: Arrow<'_>) -> Result<(), AllocError>
+    requires { arrow.start < arrow.end }
+    ensures { OnOk result (string_bytes out.new ≡ string_bytes out.old ++ arrow_row stopped.now arrow.entry.start arrow.entry.end arrow.entry.arrives arrow.entry.short.now arrow.entry.long.now) }
+{
+    let head = right_head(arrow.arrives);
+    let width = width_of(arrow.end - arrow.start)?;
+    push_bars(out, before(stopped, arrow.start))?;
+    let label = label_on(width, head, arrow);
+    push_to_right(out, bar_at(stopped, arrow.start), head, width, label)?;
+    push_bars(out, from(stopped, arrow.end))
+}
+
+/// An arrow, where it goes to a column further left.
+fn push_left(out: &mut String, stopped: &[bool], arrow: Arrow<'_>) -> Result<(), AllocError>
+    requires { arrow.end < arrow.start }
+    ensures { OnOk result (string_bytes out.new ≡ string_bytes out.old ++ arrow_row stopped.now arrow.entry.start arrow.entry.end arrow.entry.arrives arrow.entry.short.now arrow.entry.long.now) }
+{
+    let head = left_head(arrow.arrives);
+    let width = width_of(arrow.start - arrow.end)?;
+    push_bars(out, before(stopped, arrow.end))?;
+    let label = label_on(width, head, arrow);
+    push_to_left(out, bar_at(stopped, arrow.end), head, width, label)?;
+    push_bars(out, from(stopped, arrow.start))
+}
+
+/// An arrow from a column to itself.
+fn push_round(out: &mut String, stopped: &[bool], arrow: Arrow<'_>) -> Result<(), AllocError>
+    requires { arrow.start ≡ arrow.end }
+    ensures { OnOk result (string_bytes out.new ≡ string_bytes out.old ++ arrow_row stopped.now arrow.entry.start arrow.entry.end arrow.entry.arrives arrow.entry.short.now arrow.entry.long.now) }
+{
+    let head = left_head(arrow.arrives);
+    push_bars(out, before(stopped, arrow.start))?;
+    let label = label_on(12, head, arrow);
+    push_to_itself(out, bar_at(stopped, arrow.start), head, label)?;
+    push_bars(out, from(from(stopped, arrow.start), 1))
+}
+
+/// An arrow between columns.
 pub(crate) fn push_arrow(
     out: &mut String,
-    n: usize,
-    arrow: Arrow,
-    label: &str,
+    stopped: &[bool],
+    arrow: Arrow<'_>,
 ) -> Result<(), AllocError>
-    ensures { OnOk result (string_bytes out.new ≡ string_bytes out.old ++ arrow_row n arrow.start arrow.end arrow.arrives label.now) }
+    ensures { OnOk result (string_bytes out.new ≡ string_bytes out.old ++ arrow_row stopped.now arrow.entry.start arrow.entry.end arrow.entry.arrives arrow.entry.short.now arrow.entry.long.now) }
 {
-    let Arrow {
-        start,
-        end,
-        arrives,
-    } = arrow;
-    if start < end {
-        push_bars(out, start)?;
-        push_to_right(out, right_head(arrives), end - start, label)?;
-        push_bars(out, n.saturating_sub(end))
-    } else if end < start {
-        push_bars(out, end)?;
-        push_to_left(out, left_head(arrives), start - end, label)?;
-        push_bars(out, n.saturating_sub(start))
+    if arrow.start < arrow.end {
+        push_right(out, stopped, arrow)
+    } else if arrow.end < arrow.start {
+        push_left(out, stopped, arrow)
     } else {
-        push_bars(out, start)?;
-        push_to_itself(out, left_head(arrives), label)?;
-        push_bars(out, n.saturating_sub(start).saturating_sub(1))
+        push_round(out, stopped, arrow)
     }
 }

@@ -11,6 +11,10 @@ pub enum What {
     Arrived(usize),
     /// The message of that number comes to its receiver, which is stopped.
     Bounced(usize),
+    /// A node stops: its line is dotted from then on.
+    Stopped(Column),
+    /// A node goes on: its line is whole from then on.
+    Resumed(Column),
 }
 
 /// A step of a run.

@@ -1,6 +1,6 @@
-//! Texts that are repeated, or filled to a length.
+//! Texts that are repeated, and columns at which nothing is drawn.
 ghost use Rattle.std.specs.Prelude.{◌≡◌, ◌++◌, OnOk, string_bytes};
-ghost use Rattle.sim_trace.specs.Rows.{repeated, bars};
+ghost use Rattle.sim_trace.specs.Rows.{repeated, bar, bars};
 
 use std::alloc::AllocError;
 
@@ -15,9 +15,20 @@ pub(crate) fn push_repeated(out: &mut String, n: usize, text: &str) -> Result<()
     Ok(())
 }
 
-/// Columns at which nothing is drawn.
-pub(crate) fn push_bars(out: &mut String, n: usize) -> Result<(), AllocError>
-    ensures { OnOk result (string_bytes out.new ≡ string_bytes out.old ++ bars n) }
+/// A column's line, where it is drawn.
+pub(crate) fn bar(is_stopped: bool) -> &'static str
+    ensures { result.now ≡ bar is_stopped }
 {
-    push_repeated(out, n, "|           ")
+    if is_stopped { ":" } else { "|" }
+}
+
+/// Columns at which nothing is drawn: for each, whether its node is stopped.
+pub(crate) fn push_bars(out: &mut String, stopped: &[bool]) -> Result<(), AllocError>
+    ensures { OnOk result (string_bytes out.new ≡ string_bytes out.old ++ bars stopped.now) }
+{
+    for is_stopped in stopped {
+        out.push_str(bar(*is_stopped))?;
+        out.push_str("           ")?;
+    }
+    Ok(())
 }

@@ -106,9 +106,11 @@ fn are_right(steps: &[Step]) -> bool {
             Step::Call(last),
         ] => {
             is_call(first, 1, "a", 64, "lock", &[])
+                && first.word() == "other"
                 && none.items().is_empty()
                 && two.items().len() == 2
                 && is_call(last, 2, "b", 1, "write", &[0x68, 0x65])
+                && last.word() == "obj"
         }
         _ => false,
     }

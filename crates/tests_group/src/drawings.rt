@@ -11,27 +11,44 @@ const NODE_2: Column = Column::Node(2);
 
 const CLIENT: Column = Column::Client(1);
 
-/// A reply that is never delivered reaches its client; m5 is lost; m4 comes to a stopped node; m1
-/// comes twice.
+/// A reply that is never delivered reaches its client; m5 is lost; m4 comes to a stopped node, whose
+/// line is dotted until it goes on; m1 comes twice. A kind stands on its arrow where that leaves a
+/// dash before the head: beside the number, over one column, in up to 7 characters (m6, and not m7),
+/// over two in 19 (m10, and not m11), and in two less where the message is lost (m8, and not m9).
 const DRAWN: &str = "\
 c1          1           2           mon         event
 |--req----->|           |           |           req 1 1 7 a lock lock - => m1
-|           |--m1------>|           |           Rep 1 0 => m2
-|           |--m1------>|           |           Rep 1 0
-|           |<------m2--|           |           Ack 1 1 => m3
+|           |--m1 Rep-->|           |           Rep 1 0 => m2
+|           |--m1 Rep-->|           |           Rep 1 0
+|           |<--m2 Ack--|           |           Ack 1 1 => m3
 |<------m3--|           |           |           Reply 7 0 0 -
 |           |           *           |           see 2 2 => m4 m5
 |           |           |--m5----x  |           AskActivate 2, lost
-|           |           |  x--m4    |           Query 2: stopped
+|           |           *           |           stop 2
+|           |           :  x--m4    |           Query 2: stopped
+|           *           :           |           see 1 3 => m6 m7 m8 m9
+|           |--m8 AskActivateNow-x  |           AskActivateNow 3, lost
+|           |--m9----------------x  |           AskActivateThen 3, lost
+|           |           *           |           go 2
+|           |--m6 Logs->|           |           Logs 3 => m10 m11
+|<-m10 AskActivateThen--|           |           AskActivateThen 4
+|<-----------------m11--|           |           AskActivateThere 4
+|           |--m7------>|           |           Query 3
 ";
 
 /// The messages that are sent.
-const MESSAGES: [(Column, Column, &str); 5] = [
+const MESSAGES: [(Column, Column, &str); 11] = [
     (NODE_1, NODE_2, "Rep 1 0"),
     (NODE_2, NODE_1, "Ack 1 1"),
     (NODE_1, CLIENT, "Reply 7 0 0 -"),
     (NODE_2, NODE_2, "Query 2"),
     (NODE_2, Column::Monitor, "AskActivate 2"),
+    (NODE_1, NODE_2, "Logs 3"),
+    (NODE_1, NODE_2, "Query 3"),
+    (NODE_1, Column::Monitor, "AskActivateNow 3"),
+    (NODE_1, Column::Monitor, "AskActivateThen 3"),
+    (NODE_2, CLIENT, "AskActivateThen 4"),
+    (NODE_2, CLIENT, "AskActivateThere 4"),
 ];
 
 /// The messages of a table.
@@ -47,13 +64,18 @@ fn messages<R: Abort>(rt: &R, alloc: Global, table: &[(Column, Column, &str)]) -
 }
 
 /// What happened, what is said of it, and how many messages it sent.
-const STEPS: [(What, &str, usize); 6] = [
+const STEPS: [(What, &str, usize); 11] = [
     (What::Asked(CLIENT, NODE_1), "req 1 1 7 a lock lock -", 1),
     (What::Arrived(1), "", 1),
     (What::Arrived(1), "", 0),
     (What::Arrived(2), "", 1),
     (What::At(NODE_2), "see 2 2", 2),
+    (What::Stopped(NODE_2), "stop 2", 0),
     (What::Bounced(4), ": stopped", 0),
+    (What::At(NODE_1), "see 1 3", 4),
+    (What::Resumed(NODE_2), "go 2", 0),
+    (What::Arrived(6), "", 2),
+    (What::Arrived(7), "", 0),
 ];
 
 /// The steps of a table.

@@ -4,5 +4,6 @@
 mod helper_calls;
 mod limits;
 mod operations;
+mod rooms;
 mod rows;
 mod tables;

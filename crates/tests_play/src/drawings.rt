@@ -31,20 +31,20 @@ c1          1           2           3           mon         event
 |           |           |           |           *           map 1 2 3: map 1 prev 0
 |           *           |           |           |           see 1 1 => m1 m2
 |           |--m1------>|           |           |           Install 1 0 => m3
-|           |--m2------------------>|           |           Install 1 0 => m4
+|           |--m2 Install---------->|           |           Install 1 0 => m4
 |           |<------m3--|           |           |           Installed 1
-|           |<------------------m4--|           |           Installed 1 => m5
-|           |--m5------------------------------>|           AskActivate 1 => m6
-|           |<------------------------------m6--|           Activated 1
+|           |<--------m4 Installed--|           |           Installed 1 => m5
+|           |--m5 AskActivate------------------>|           AskActivate 1 => m6
+|           |<--------------------m6 Activated--|           Activated 1
 |--req----->|           |           |           |           req 1 1 7 a lock lock - => m7 m8
-|           |--m7------>|           |           |           Rep 1 0 => m9
-|           |--m8------------------>|           |           Rep 1 0 => m10
-|           |  x---------------m10--|           |           Ack 1 1, lost
-|           |<------m9--|           |           |           Ack 1 1
+|           |--m7 Rep-->|           |           |           Rep 1 0 => m9
+|           |--m8 Rep-------------->|           |           Rep 1 0 => m10
+|           |  x-----------m10 Ack--|           |           Ack 1 1, lost
+|           |<--m9 Ack--|           |           |           Ack 1 1
 |           *           |           |           |           show 1: node 1 epoch 1 active length 1 committed 0
 |           *           |           |           |           resend 1: again m8
-|           |--m8------------------>|           |           Rep 1 0 => m11
-|           |<-----------------m11--|           |           Ack 1 1 => m12
+|           |--m8 Rep-------------->|           |           Rep 1 0 => m11
+|           |<-------------m11 Ack--|           |           Ack 1 1 => m12
 |<-----m12--|           |           |           |           Reply 7 0 0 -
 |           *           |           |           |           show 1: node 1 epoch 1 active length 1 committed 1
 ";
@@ -123,34 +123,34 @@ c1          c2          1           2           3           mon         event
 |           |           |           |           |           *           map 1 2 3: map 1 prev 0
 |           |           *           |           |           |           see 1 1 => m1 m2
 |           |           |--m1------>|           |           |           Install 1 0 => m3
-|           |           |--m2------------------>|           |           Install 1 0 => m4
+|           |           |--m2 Install---------->|           |           Install 1 0 => m4
 |           |           |<------m3--|           |           |           Installed 1
-|           |           |<------------------m4--|           |           Installed 1 => m5
-|           |           |--m5------------------------------>|           AskActivate 1 => m6
-|           |           |<------------------------------m6--|           Activated 1
+|           |           |<--------m4 Installed--|           |           Installed 1 => m5
+|           |           |--m5 AskActivate------------------>|           AskActivate 1 => m6
+|           |           |<--------------------m6 Activated--|           Activated 1
 |--req----------------->|           |           |           |           req 1 1 7 a lock lock - => m7 m8
-|           |           |--m7------>|           |           |           Rep 1 0 => m9
-|           |           |--m8------------------>|           |           Rep 1 0 => m10
-|           |           |  x---------------m10--|           |           Ack 1 1, lost
+|           |           |--m7 Rep-->|           |           |           Rep 1 0 => m9
+|           |           |--m8 Rep-------------->|           |           Rep 1 0 => m10
+|           |           |  x-----------m10 Ack--|           |           Ack 1 1, lost
 |           |           *           |           |           |           stop 1
-|           |           |  x----m9--|           |           |           Ack 1 1: stopped
-|           |           |           |           |           *           map 2 3: map 2 prev 1
-|           |           |           *           |           |           see 2 2 => m11 m12 m13
-|           |           |  x---m11--|           |           |           Query 2, lost
-|           |           |           |  x--m12   |           |           Query 2, lost
-|           |           |           |--m13----->|           |           Query 2 => m14
-|           |           |           |<-----m14--|           |           Log 2 1 => m15
-|           |           |           |--m15----->|           |           Install 2 1 => m16
-|           |           |           |<-----m16--|           |           Installed 2 => m17
-|           |           |           |--m17----------------->|           AskActivate 2 => m18
-|           |           |           |<-----------------m18--|           Activated 2
+|           |           :  x----m9--|           |           |           Ack 1 1: stopped
+|           |           :           |           |           *           map 2 3: map 2 prev 1
+|           |           :           *           |           |           see 2 2 => m11 m12 m13
+|           |           :  x---m11--|           |           |           Query 2, lost
+|           |           :           |  x--m12   |           |           Query 2, lost
+|           |           :           |--m13----->|           |           Query 2 => m14
+|           |           :           |<-m14 Log--|           |           Log 2 1 => m15
+|           |           :           |--m15----->|           |           Install 2 1 => m16
+|           |           :           |<-----m16--|           |           Installed 2 => m17
+|           |           :           |--m17 AskActivate----->|           AskActivate 2 => m18
+|           |           :           |<-------m18 Activated--|           Activated 2
 |--req----------------------------->|           |           |           req 2 1 7 a lock lock - => m19
-|<-----------------------------m19--|           |           |           Reply 7 0 0 -
+|<-----------------------m19 Reply--|           |           |           Reply 7 0 0 -
 |           |--req----------------->|           |           |           req 2 2 1 a lock lock - => m20
-|           |           |           |--m20----->|           |           Rep 2 1 => m21
-|           |           |           |<-----m21--|           |           Ack 2 2 => m22
-|           |<-----------------m22--|           |           |           Reply 1 1 -16 -
-|           |           |           *           |           |           show 2: node 2 epoch 2 active length 2 committed 2
+|           |           :           |--m20 Rep->|           |           Rep 2 1 => m21
+|           |           :           |<-m21 Ack--|           |           Ack 2 2 => m22
+|           |<-----------m22 Reply--|           |           |           Reply 1 1 -16 -
+|           |           :           *           |           |           show 2: node 2 epoch 2 active length 2 committed 2
 ";
 
 const TRACE: [&str; 3] = ["sim", "--trace", "text"];

@@ -155,7 +155,7 @@ fn one_try_is_no_repeat(rt: HostRuntime) {
     assert!(&rt; stats.nudges == 0);
 }
 
-/// Where nothing is called, all numbers are 0 but that of messages.
+/// Where nothing is called, all numbers are 0.
 #[test]
 fn no_call_is_measured(rt: HostRuntime) {
     let stats = measured(&rt, FIRST, "map 0 1\n", "");
@@ -163,8 +163,23 @@ fn no_call_is_measured(rt: HostRuntime) {
     assert!(&rt; stats.rate == 0);
     assert!(&rt; stats.mean == 0);
     assert!(&rt; stats.worst == 0);
+    assert!(&rt; stats.messages == 0);
     assert!(&rt; stats.repeats == 0);
     assert!(&rt; stats.nudges == 0);
+}
+
+/// A call makes five messages, and as many again for each repeat. What its cluster's 64 groups send
+/// for their first map, five each, is sent before it.
+#[test]
+fn a_first_map_is_not_measured(rt: HostRuntime) {
+    let stats = measured(
+        &rt,
+        FIRST,
+        "client 1 a lock lock -\n",
+        "client 1 call 0 place 0 code 0 output -\n",
+    );
+    assert!(&rt; stats.messages >= 5);
+    assert!(&rt; stats.messages < 320);
 }
 
 /// Nothing is written where a line is bad, or a map refused.
@@ -234,12 +249,16 @@ fn figures_are_shown(rt: HostRuntime) {
         next: Cell::new(0),
     };
     let figures = Figures::new();
-    let start = now(&clock);
+    // what comes before the first call isn't counted, and there is one first call
+    figures.before(0);
+    assert!(&rt; figures.of(0, 0) == DeliveryMode::Pass);
+    figures.begin(&clock);
+    figures.begin(&clock);
     for _ in 0..3 {
         let call = now(&clock);
         figures.note_call(&clock, call);
     }
-    figures.note_whole(&clock, start);
+    figures.note_whole(&clock);
     for number in [
         0,
         0x1_0000_0001,
@@ -271,7 +290,7 @@ fn figures_without_a_clock(rt: HostRuntime) {
     };
     let figures = Figures::new();
     figures.note_call(&clock, now(&clock));
-    figures.note_whole(&clock, now(&clock));
+    figures.note_whole(&clock);
     let shown = figures.to_string(rt.alloc()).expect(&rt, "memory");
     let wanted =
         "calls 1\ncalls a second 0\nmean microseconds 0\nworst microseconds 0\nmessages 0\nrepeats 0\nnudges 0\n";

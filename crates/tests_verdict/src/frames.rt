@@ -1,9 +1,11 @@
+ghost use Rattle.std.specs.Prelude.{◌<◌};
+
 mod flows;
 mod joins;
 mod parts;
 
 use abstract_num::{Number, holds, loaded};
-use abstract_regs::{Frame, Kind};
+use abstract_regs::{Edges, Frame, Kind, Kinds};
 use bpf_decode::{Insn, Register, Width};
 use std::alloc::Global;
 use std::process::Abort;
@@ -26,6 +28,13 @@ fn load(rt: &impl Abort, width: Width, dst: u8) -> Insn {
         base: register(rt, 1),
         offset: 0,
     }
+}
+
+/// Where an instruction at a slot goes, whose helper writes no range.
+fn flow(frame: &mut Frame, insn: &Insn, slot: usize) -> Edges
+    requires { slot < 1000 }
+{
+    frame.flow(None, insn, slot, &mut Kinds::unset())
 }
 
 /// Whether a register of the frame has that kind.

@@ -22,7 +22,7 @@ use Rattle.bpf_decode.specs.declared.value.Value.TheVariants as values
 use Rattle.bpf_decode.specs.Instruction.{byte_count, signed_byte_count, Fits}
 use Rattle.bpf_decode.specs.Arithmetic.{neg_value, signed_move_value, end_value, signed_load_value, is_taken}
 use Rattle.bpf_decode.specs.Jump.{branch_to}
-use Rattle.bpf_decode.specs.Values.{may_store, number, extended}
+use Rattle.bpf_decode.specs.Values.{may_store, extended}
 use Rattle.bpf_machine.specs.declared.caps.Caps.{Caps}
 use Rattle.bpf_machine.specs.State.{le_value, size, AreCapacities, set_reg, go}
 use Rattle.bpf_machine.specs.Typed.{Typed, operand_value, locate, typed_after, typed_act, typed_exit_of}

@@ -1,10 +1,9 @@
 -- In rule set 1 no frame knows a slot, so nothing that is read is a pointer's byte.
-use Rattle.std.proofs.Common.{◌≡◌, ◌≢◌, ℕ, ◌+◌, ◌<◌, List, [], ◌∷◌, Option, Some, None, Bool, true, false, refl, ap, ◌∙◌, sym, subst, arith, length}
+use Rattle.std.proofs.Common.{◌≡◌, ℕ, ◌+◌, ◌<◌, List, [], ◌∷◌, Option, Some, None, Bool, true, false, refl, ap, ◌∙◌, sym, subst, arith, length}
 use Rattle.std.specs.Prelude.{◌&&◌, ◌||◌, is_some, not}
 use Rattle.std.proofs.lemmas.Bool.{false≢true}
 use Rattle.std.proofs.lemmas.List.{length-replicate}
 use Rattle.std.proofs.lemmas.Option.{slice_get_within}
-use Rattle.bpf_decode.specs.Class.{Class}
 use Rattle.bpf_decode.specs.Instruction.{byte_count, signed_byte_count, slots}
 use Rattle.bpf_decode.specs.declared.insn.Insn.{Insn}
 use Rattle.bpf_decode.specs.declared.insn.Insn.TheVariants.{Alu, Neg, Mov, MovSigned, End, LoadWide, Load, LoadSigned, Store, Jump, JumpLong, Branch, Call, CallLocal, Exit}
@@ -23,7 +22,6 @@ use Rattle.abstract_regs.specs.declared.content.Content.{Content}
 use Rattle.abstract_regs.specs.declared.content.Content.TheVariants.{Pointer}
 use Rattle.abstract_regs.specs.Laws.{FlowsKeepSlots, JoinsKeepSlots}
 use Rattle.verifier.specs.declared.fault.Fault.TheVariants.{HasPointer}
-use Rattle.verifier.specs.declared.rule.Rule.{Rule}
 use Rattle.verifier.specs.declared.rule.Rule.TheVariants.{PointerBytes}
 use Rattle.verifier.specs.Frame.{entry, known_slots}
 use Rattle.verifier.specs.Kind.{range_leaves, stays}

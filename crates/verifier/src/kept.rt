@@ -12,6 +12,8 @@ use std::marker::Model;
 #[derive(Drop)]
 pub struct PendingFrames {
     frames: Vec<Option<Box<Frame>>>,
+    /// A frame that is done with, whose memory the next one that is kept takes over.
+    spare: Option<Box<Frame>>,
 }
 
 impl Model for PendingFrames {
@@ -28,11 +30,14 @@ impl PendingFrames {
     pub fn new(alloc: Global, slots: usize) -> Result<PendingFrames, AllocError>
         ensures { IfOk result (λ k. k ≡ replicate slots None) }
     {
-        let mut frames = Vec::new(alloc);
+        let mut frames = Vec::with_capacity(alloc, slots)?;
         for _ in 0..slots {
             frames.push(None)?;
         }
-        Ok(PendingFrames { frames })
+        Ok(PendingFrames {
+            frames,
+            spare: None,
+        })
     }
 
     /// Takes the frame that is kept for a slot, if there is one.
@@ -54,20 +59,48 @@ impl PendingFrames {
     {
         if slot < self.frames.len() {
             let kept = self.frames[slot].take();
-            self.frames[slot] = Some(met(alloc, kept, flow)?);
+            let spare = self.spare.take();
+            self.frames[slot] = Some(met(alloc, spare, kept, flow)?);
         }
         Ok(())
+    }
+
+    /// Gets a frame that is done with, if there is one.
+    #[inline(always)]
+    pub fn reuse(&mut self, frame: Option<Box<Frame>>)
+        ensures { self.new ≡ self.old }
+    {
+        self.spare = frame;
     }
 }
 
 /// A flow, joined in place with what has flowed there.
-fn met(alloc: Global, kept: Option<Box<Frame>>, flow: &Frame) -> Result<Box<Frame>, AllocError>
+fn met(
+    alloc: Global,
+    spare: Option<Box<Frame>>,
+    kept: Option<Box<Frame>>,
+    flow: &Frame,
+) -> Result<Box<Frame>, AllocError>
     ensures { IfOk result (λ b. b.value ≡ joined (unbox kept) flow.now) }
 {
     match kept {
-        None => Ok(Box::new(alloc, flow.copy(alloc)?)?),
+        None => copied(alloc, spare, flow),
         Some(mut frame) => {
             frame.join(flow);
+            Ok(frame)
+        }
+    }
+}
+
+/// An equal frame, in the memory of the spare one, if there is one.
+#[inline(always)]
+fn copied(alloc: Global, spare: Option<Box<Frame>>, flow: &Frame) -> Result<Box<Frame>, AllocError>
+    ensures { IfOk result (λ b. b.value ≡ flow.now) }
+{
+    match spare {
+        None => Ok(Box::new(alloc, flow.copy(alloc)?)?),
+        Some(mut frame) => {
+            frame.copy_from(flow)?;
             Ok(frame)
         }
     }

@@ -11,7 +11,7 @@ use crate::kept::PendingFrames;
 use crate::refused::RefusedSlot;
 use crate::rule::Rule;
 use crate::rules::refusing_rule;
-use abstract_regs::{Edges, Frame};
+use abstract_regs::{Edges, Frame, Kinds};
 use bpf_decode::{Insn, Region, RuleSet, width};
 use bpf_machine::{Caps, STACK_SIZE};
 use std::alloc::{AllocError, Global};
@@ -25,6 +25,8 @@ pub struct Pass {
     current: Option<Box<Frame>>,
     landing: usize,
     kept: PendingFrames,
+    /// The place that is lent to each flow.
+    fallen: Kinds,
 }
 
 /// The first refused slot of a method, given what begins at each slot, and the lowest rule that
@@ -123,6 +125,7 @@ impl Pass {
             current: Some(Box::new(alloc, entry)?),
             landing: 0,
             kept: PendingFrames::new(alloc, slots)?,
+            fallen: Kinds::unset(),
         })
     }
 
@@ -190,6 +193,8 @@ impl Pass {
             if let Some(fallen) = &self.current {
                 first.join(fallen);
             }
+            let joined = self.current.take();
+            self.kept.reuse(joined);
             self.current = Some(first);
         }
     }
@@ -202,16 +207,16 @@ impl Pass {
     {
         self.landing = slot + width(insn);
         if let Some(frame) = &mut self.current {
-            match frame.flow(room(insn), insn, slot) {
+            match frame.flow(room(insn), insn, slot, &mut self.fallen) {
                 Edges::Leaves => self.current = None,
                 Edges::Falls => {}
                 Edges::Jumps(target) => {
                     self.kept.keep(alloc, target, frame)?;
                     self.current = None;
                 }
-                Edges::Branches(target, fallen) => {
+                Edges::Branches(target, compared) => {
                     self.kept.keep(alloc, target, frame)?;
-                    frame.refine(&fallen);
+                    frame.refine(&compared, &self.fallen);
                 }
             }
         }

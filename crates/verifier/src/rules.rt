@@ -331,10 +331,8 @@ fn loads_part(caps: &Caps, frame: &Frame, base: Register, offset: i16, bytes: us
 fn is_slot(frame: &Frame, base: Register, offset: i16, bytes: usize) -> bool
     ensures { result ≡ is_some (kept_kind frame.now (kind_at frame.now base) (extended offset) bytes) }
 {
-    let from = frame.at(base);
-    frame
-        .slot(from, i64::from(offset).cast_unsigned(), bytes)
-        .is_some()
+    let distance = i64::from(offset).cast_unsigned();
+    frame.slot(frame.peek(base), distance, bytes).is_some()
 }
 
 /// Whether a load that stays in its region may touch a slot of the stack that has it.
@@ -349,8 +347,8 @@ fn load_meets(
 ) -> bool
     ensures { result ≡ load_meets content caps.now frame.now (kind_at frame.now base) (extended offset) bytes }
 {
-    let from = frame.at(base);
-    frame.access_meets(content, from, i64::from(offset).cast_unsigned(), bytes)
+    let distance = i64::from(offset).cast_unsigned();
+    frame.access_meets(content, frame.peek(base), distance, bytes)
         && stays(caps, frame, base, offset, bytes)
 }
 

@@ -175,22 +175,25 @@ impl<C: Classes> GroupNode<C> {
         Ok(commit.sent)
     }
 
-    /// The entry that a new request would be. It changes nothing.
-    fn next(&self, table: &ClassTable, request: Request) -> Result<Entry, HandleError>
-        requires { IsLegalBy table.now C.classes self.now.state.log }
-        ensures next { IfOk result (λ e. IsNextEntry C.classes self.now.state.log e) }
+    /// The entry that a new request would be. It leaves the node as it was.
+    fn next(&mut self, table: &ClassTable, request: Request) -> Result<Entry, HandleError>
+        requires { IsLegalBy table.now C.classes self.old.state.log }
+        ensures next { IfOk result (λ e. IsNextEntry C.classes self.old.state.log e) }
         ensures request { IfOk result (λ e. e.request ≡ request) }
-        ensures unrefused { IfOk result (λ _. refusal table.now self.now.state.log request ≡ None) }
-        ensures reply { IfOk result (λ e. IsNextReply table.now self.now.state.log e) }
-        ensures why { IfErr result (λ e. IsRefusal (request_at table.now self.now.number self.now.state request None) e) }
+        ensures unrefused { IfOk result (λ _. refusal table.now self.old.state.log request ≡ None) }
+        ensures reply { IfOk result (λ e. IsNextReply table.now self.old.state.log e) }
+        ensures same { self.new ≡ self.old }
+        ensures why { IfErr result (λ e. IsRefusal (request_at table.now self.old.number self.old.state request None) e) }
     {
         legal_lists();
         refusals();
         classes_added();
-        match self.group.next_entry(table, request) {
-            Ok(entry) => Ok(entry),
-            Err(error) => Err(HandleError::from(error)),
-        }
+        // Each answer returns by itself: what was ensured of one is lost where both join.
+        let entry = match self.group.next_entry(table, request) {
+            Ok(entry) => entry,
+            Err(error) => return Err(HandleError::from(error)),
+        };
+        Ok(entry)
     }
 }
 

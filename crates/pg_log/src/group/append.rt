@@ -18,9 +18,8 @@ use crate::group::{Group, LOG_LIMIT};
 use crate::log_error::LogError;
 use crate::request::Request;
 use bpf_machine::outcomes;
-use interp::{ClassTable, Outcome, VerifiedMethod, call_method};
+use interp::{ClassTable, Outcome, Room, VerifiedMethod};
 use object_store::Object;
-use std::alloc::Global;
 use txn::apply;
 
 impl<C: Classes> Group<C> {
@@ -70,42 +69,49 @@ impl<C: Classes> Group<C> {
     }
 
     /// The entry that a request would be, with its reply and what it would do to its object. It
-    /// changes nothing, and refuses as `append` does if the request's pair isn't logged; a pair
-    /// that is logged is `StaleNumber`, on a full log `LogFull`. It costs the call.
+    /// leaves the group as it was, and refuses as `append` does if the request's pair isn't logged;
+    /// a pair that is logged is `StaleNumber`, on a full log `LogFull`. It costs the call.
     ///
     /// The table is that of the earlier calls, or that one with classes added.
-    pub fn next_entry(&self, table: &ClassTable, request: Request) -> Result<Entry, LogError>
+    pub fn next_entry(&mut self, table: &ClassTable, request: Request) -> Result<Entry, LogError>
         requires { IsPrefix table.now C.classes }
-        ensures next { IfOk result (λ e. IsNextEntry C.classes self.now e) }
+        ensures next { IfOk result (λ e. IsNextEntry C.classes self.old e) }
         ensures request { IfOk result (λ e. e.request ≡ request) }
-        ensures unrefused { IfOk result (λ _. refusal table.now self.now request ≡ None) }
-        ensures reply { IfOk result (λ e. reply_at C.classes (self.now ++ request ∷ []) (length self.now) ≡ Some (record { code = cast_unsigned w64 e.code; output = e.output.items })) }
-        ensures err { IfErr result (λ e. Refuses (refusal table.now self.now request) e) }
+        ensures unrefused { IfOk result (λ _. refusal table.now self.old request ≡ None) }
+        ensures reply { IfOk result (λ e. reply_at C.classes (self.old ++ request ∷ []) (length self.old) ≡ Some (record { code = cast_unsigned w64 e.code; output = e.output.items })) }
+        ensures err { IfErr result (λ e. Refuses (refusal table.now self.old request) e) }
+        ensures same { self.new ≡ self.old }
     {
         let outcome = self.run(table, &request)?;
         Ok(entry_of(request, outcome))
     }
 
     /// The same of an equal request, which is copied once nothing refuses it.
-    pub fn next_entry_of(&self, table: &ClassTable, request: &Request) -> Result<Entry, LogError>
+    pub fn next_entry_of(
+        &mut self,
+        table: &ClassTable,
+        request: &Request,
+    ) -> Result<Entry, LogError>
         requires { IsPrefix table.now C.classes }
-        ensures next { IfOk result (λ e. IsNextEntry C.classes self.now e) }
+        ensures next { IfOk result (λ e. IsNextEntry C.classes self.old e) }
         ensures request { IfOk result (λ e. e.request ≡ request.now) }
-        ensures unrefused { IfOk result (λ _. refusal table.now self.now request.now ≡ None) }
-        ensures err { IfErr result (λ e. Refuses (refusal table.now self.now request.now) e) }
+        ensures unrefused { IfOk result (λ _. refusal table.now self.old request.now ≡ None) }
+        ensures err { IfErr result (λ e. Refuses (refusal table.now self.old request.now) e) }
+        ensures same { self.new ≡ self.old }
     {
         let outcome = self.run(table, request)?;
         entry_of_copy(request, outcome)
     }
 
-    /// What a request that may follow the log makes of its object. It changes nothing.
-    pub(crate) fn run(&self, table: &ClassTable, request: &Request) -> Result<Outcome, LogError>
-        ensures ok { IfOk result (λ o. (refusal table.now self.now request.now ≡ None) × IsOutcomeOn table.now (fold C.classes self.now) request.now o.code o.output.items o.change) }
-        ensures err { IfErr result (λ e. Refuses (refusal table.now self.now request.now) e) }
+    /// What a request that may follow the log makes of its object. It leaves the group as it was.
+    pub(crate) fn run(&mut self, table: &ClassTable, request: &Request) -> Result<Outcome, LogError>
+        ensures ok { IfOk result (λ o. (refusal table.now self.old request.now ≡ None) × IsOutcomeOn table.now (fold C.classes self.old) request.now o.code o.output.items o.change) }
+        ensures err { IfErr result (λ e. Refuses (refusal table.now self.old request.now) e) }
+        ensures same { self.new ≡ self.old }
         ensures safe { IfOk result (λ _. IsSafeRequest table.now request.now) }
-        ensures legal { Legal C.classes self.now }
+        ensures legal { Legal C.classes self.old }
     {
-        run_after(&self.log, table, request)
+        run_after(&mut self.log, table, request)
     }
 
     /// Adds an entry that may follow the log, as `next_entry` gives it, and gives its place. It
@@ -177,17 +183,20 @@ impl<C: Classes> Group<C> {
     }
 }
 
-/// What a request that may follow a log makes of its object. The list is any one of the log's
-/// length and index.
+/// What a request that may follow a log makes of its object. It runs in the log's room, and leaves
+/// the rest as it was. The list is any one of the log's length and index.
 pub(crate) fn run_after(
-    log: &Log,
+    log: &mut Log,
     table: &ClassTable,
     request: &Request,
 ) -> Result<Outcome, LogError>
-    ensures ok { (list : List ClientRequest) → length list ≡ length log.now.entries.items → ArePlaces log.now.places list → NumbersRise list
-        → IfOk result (λ o. (refusal table.now list request.now ≡ None) × IsOutcomeOn table.now log.now.objects request.now o.code o.output.items o.change) }
-    ensures err { (list : List ClientRequest) → length list ≡ length log.now.entries.items → ArePlaces log.now.places list → NumbersRise list
+    ensures ok { (list : List ClientRequest) → length list ≡ length log.old.entries.items → ArePlaces log.old.places list → NumbersRise list
+        → IfOk result (λ o. (refusal table.now list request.now ≡ None) × IsOutcomeOn table.now log.old.objects request.now o.code o.output.items o.change) }
+    ensures err { (list : List ClientRequest) → length list ≡ length log.old.entries.items → ArePlaces log.old.places list → NumbersRise list
         → IfErr result (λ e. Refuses (refusal table.now list request.now) e) }
+    ensures entries { log.new.entries ≡ log.old.entries }
+    ensures objects { log.new.objects ≡ log.old.objects }
+    ensures places { log.new.places ≡ log.old.places }
     ensures safe { IfOk result (λ _. IsSafeRequest table.now request.now) }
 {
     let full = log.entries.len() >= LOG_LIMIT;
@@ -199,7 +208,7 @@ pub(crate) fn run_after(
     }
     let method = method_of(table, request)?;
     let object = log.objects.get(request.object());
-    run_method(log.alloc, method, object, request)
+    run_method(&mut log.room, method, object, request)
 }
 
 /// A request with what it made.
@@ -229,9 +238,9 @@ pub(crate) fn entry_of_copy(request: &Request, outcome: Outcome) -> Result<Entry
     Ok(entry_of(copy, outcome))
 }
 
-/// Runs the method of a request on its object.
+/// Runs the method of a request on its object, in a room.
 fn run_method(
-    alloc: Global,
+    room: &mut Room,
     method: &VerifiedMethod,
     object: Option<&Object>,
     request: &Request,
@@ -243,13 +252,7 @@ fn run_method(
 {
     outcomes();
     let _ = method.ops();
-    match call_method(
-        alloc,
-        method,
-        object,
-        request.client().get(),
-        request.input(),
-    ) {
+    match room.call_method(method, object, request.client().get(), request.input()) {
         Ok(outcome) => Ok(outcome),
         Err(_) => Err(LogError::NoMemory),
     }

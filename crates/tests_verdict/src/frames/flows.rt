@@ -1,8 +1,8 @@
 //! Flows over single instructions.
 
-use super::{entry, has, load, register, tells};
+use super::{entry, flow, has, load, register, tells};
 use abstract_num::{any, constant};
-use abstract_regs::{Edges, Frame, Kind};
+use abstract_regs::{Edges, Frame, Kind, Kinds};
 use bpf_decode::{Arithmetic, Comparison, Insn, OpWidth, Operand, Region, Register, Width};
 use std::alloc::Global;
 use std::process::Abort;
@@ -55,7 +55,7 @@ fn loads_bytes(rt: HostRuntime) {
     let loaded = register(&rt, 4);
     let mut frame = entry(&rt, rt.alloc());
     assert!(rt;
-        falls(frame.flow(None, &insn, 0))
+        falls(flow(&mut frame, &insn, 0))
             && tells(frame.operand(Operand::Register(loaded)), 255, 256)
     );
 }
@@ -66,9 +66,9 @@ fn moves_pointers(rt: HostRuntime) {
     let second = add(register(&rt, 2), Operand::Register(register(&rt, 3)));
     let mut frame = entry(&rt, rt.alloc());
     assert!(rt;
-        falls(frame.flow(None, &first, 0))
+        falls(flow(&mut frame, &first, 0))
             && has(&frame, 3, Kind::Ptr(Region::Output, constant(7)))
-            && falls(frame.flow(None, &second, 1))
+            && falls(flow(&mut frame, &second, 1))
             && frame.kind(2).is_ptr()
     );
 }
@@ -85,22 +85,22 @@ fn is_forgotten(frame: &Frame) -> bool {
 #[test]
 fn forgets_at_a_call(rt: HostRuntime) {
     let mut frame = entry(&rt, rt.alloc());
-    assert!(rt; falls(frame.flow(None, &Insn::Call { helper: 1 }, 0)) && is_forgotten(&frame));
+    assert!(rt; falls(flow(&mut frame, &Insn::Call { helper: 1 }, 0)) && is_forgotten(&frame));
 }
 
 #[test]
 fn jumps(rt: HostRuntime) {
     let mut frame = entry(&rt, rt.alloc());
-    assert!(rt; jumps_to(frame.flow(None, &Insn::Jump { offset: 5 }, 2), 8));
+    assert!(rt; jumps_to(flow(&mut frame, &Insn::Jump { offset: 5 }, 2), 8));
 }
 
 /// Whether the jump at slot 2 goes to slot 8, where register 2 holds 4 and not 3; after the jump it
 /// holds 3 and not 4.
-fn parts_at_3(edges: Edges, frame: &mut Frame) -> bool {
+fn parts_at_3(edges: Edges, kinds: &Kinds, frame: &mut Frame) -> bool {
     match edges {
-        Edges::Branches(target, fallen) => {
+        Edges::Branches(target, compared) => {
             let above = target == 8 && tells(frame.kind(2), 4, 3);
-            frame.refine(&fallen);
+            frame.refine(&compared, kinds);
             above && tells(frame.kind(2), 3, 4)
         }
         Edges::Leaves | Edges::Falls | Edges::Jumps(_) => false,
@@ -112,14 +112,15 @@ fn parts_at_3(edges: Edges, frame: &mut Frame) -> bool {
 fn refines_both_edges(rt: HostRuntime) {
     let insn = jump(&rt, Comparison::Greater, Operand::Immediate(3));
     let mut frame = entry(&rt, rt.alloc());
-    let edges = frame.flow(None, &insn, 2);
-    assert!(rt; parts_at_3(edges, &mut frame));
+    let mut kinds = Kinds::unset();
+    let edges = frame.flow(None, &insn, 2, &mut kinds);
+    assert!(rt; parts_at_3(edges, &kinds, &mut frame));
 }
 
 /// Where a jump by the length, of at most 16, and that number goes.
 fn edges(rt: &impl Abort, alloc: Global, comparison: Comparison, number: i32) -> Edges {
     let insn = jump(rt, comparison, Operand::Immediate(number));
-    entry(rt, alloc).flow(None, &insn, 0)
+    flow(&mut entry(rt, alloc), &insn, 0)
 }
 
 #[test]
@@ -129,11 +130,11 @@ fn goes_past_a_dead_edge(rt: HostRuntime) {
 }
 
 /// Whether both frames know of register 2 what a kind says.
-fn keep_kind(edges: Edges, frame: &mut Frame, kind: Kind) -> bool {
+fn keep_kind(edges: Edges, kinds: &Kinds, frame: &mut Frame, kind: Kind) -> bool {
     match edges {
-        Edges::Branches(_, fallen) => {
+        Edges::Branches(_, compared) => {
             let taken = has(frame, 2, kind);
-            frame.refine(&fallen);
+            frame.refine(&compared, kinds);
             taken && has(frame, 2, kind)
         }
         Edges::Leaves | Edges::Falls | Edges::Jumps(_) => false,
@@ -145,8 +146,9 @@ fn tells_nothing(rt: &impl Abort, alloc: Global, comparison: Comparison) {
     let insn = jump(rt, comparison, Operand::Register(register(rt, 2)));
     let mut frame = entry(rt, alloc);
     let kind = frame.kind(2);
-    let edges = frame.flow(None, &insn, 0);
-    assert!(rt; keep_kind(edges, &mut frame, kind));
+    let mut kinds = Kinds::unset();
+    let edges = frame.flow(None, &insn, 0, &mut kinds);
+    assert!(rt; keep_kind(edges, &kinds, &mut frame, kind));
 }
 
 #[test]
@@ -162,7 +164,7 @@ fn leaves_at_exit(rt: HostRuntime) {
         .copy(rt.alloc())
         .expect(&rt, "memory");
     assert!(rt;
-        leaves(frame.flow(None, &Insn::Exit, 0))
+        leaves(flow(&mut frame, &Insn::Exit, 0))
             && frame.operand(Operand::Immediate(-1)) == Kind::Num(constant(u64::MAX))
     );
 }

@@ -132,7 +132,7 @@ fn is_last(refused: &RefusedSlot) -> bool {
 
 /// Whether the highest slot of the stack points to the input's first byte.
 fn has_input(known: &Frame) -> bool {
-    match known.slot(known.kind(10), (-8i64).cast_unsigned(), 8) {
+    match known.slot(&known.kind(10), (-8i64).cast_unsigned(), 8) {
         None => false,
         Some(kind) => is_input(kind),
     }

@@ -6,4 +6,4 @@ use Rattle.cluster_tool.proofs.shown.lines_of.Given as goal
 -- the lines so far and those that are left
 abbrev pub invariant-loop-before : goal.invariant-loop-before
 invariant-loop-before l =
-    string_bytes l.text ++ all_lines (suc l.before) (map (map shown) (map (λ v. v.items) (drop l.before l.ends))) ≡ all_lines 1 (map (map shown) (map (λ v. v.items) l.ends))
+    string_bytes l.text ++ all_lines l.groups l.steps (suc l.before) (map (map shown) (map (λ v. v.items) (drop l.before l.ends))) ≡ all_lines l.groups l.steps 1 (map (map shown) (map (λ v. v.items) l.ends))

@@ -8,6 +8,9 @@ use Rattle.cluster_tool.proofs.Configs.{within_limits}
 use Rattle.cluster_tool.proofs.Printed.{map_refused}
 use Rattle.cluster_tool.proofs.tool.settle_plan.Goals as goal
 
+pub groups_if-groups-requires : goal.groups_if-groups-requires
+groups_if-groups-requires g c = within_limits c.numbers.result c.in-Some.config (sym c.config_of.ensures ∙ c.in-Some.is)
+
 pub new-requires : goal.new-requires
 new-requires g c = within_limits c.numbers.result c.in-Some.config (sym c.config_of.ensures ∙ c.in-Some.is)
 
@@ -21,5 +24,5 @@ returns-in-Ok-MapRefused g c =
     let played : Plays c.args.table c.in-Ok.parts.config plan.steps c.in-Ok-MapRefused.field-0 = c.in-Ok-MapRefused.ensures in
     let refused : IsMapRefused c.in-Ok.parts.config plan.steps c.in-Ok-MapRefused.line c.in-Ok-MapRefused.why =
     subst (λ (p : Played). Plays c.args.table c.in-Ok.parts.config plan.steps p) c.in-Ok-MapRefused.field-0-is played in
-    map_refused c.args.table plan c.in-Ok.parts.config c.in-Ok-MapRefused.line c.in-Ok-MapRefused.why c.refused-in-Ok-MapRefused.result is refused
+    map_refused c.args.extras.is_shown c.args.table plan c.in-Ok.parts.config c.in-Ok-MapRefused.line c.in-Ok-MapRefused.why c.refused-in-Ok-MapRefused.result is refused
     c.refused-in-Ok-MapRefused.ensures.ending c.refused-in-Ok-MapRefused.ensures.text

@@ -6,8 +6,8 @@ use Rattle.peering_messages.specs.Sending.{IsNextReply}
 use Rattle.peering.proofs.Following.{next_reply}
 use Rattle.peering.proofs.node.GroupNode.next.Goals as goal
 
-pub returns-in-Ok-clause-reply : goal.returns-in-Ok-clause-reply
-returns-in-Ok-clause-reply g c =
+pub returns-clause-reply : goal.returns-clause-reply
+returns-clause-reply g c =
     let table = c.args.table.now in
     let P : List ClientRequest → Type 0 = λ w. IsNextReply table w c.in-Ok.entry in
     let L : List ClientRequest → Type 0 = Legal table in
@@ -15,5 +15,5 @@ returns-in-Ok-clause-reply g c =
     subst P log (next_reply c.legal_lists.ensures.append c.refusals.ensures.requests c.classes_added.ensures table g.C.Classes.classes c.self.inside.group c.args.request c.in-Ok.entry _
     c.requires.first c.in-Ok.ensures.request c.in-Ok.ensures.unrefused c.in-Ok.ensures.reply (subst L (sym log) c.requires.legal) refl)
 
-pub returns-in-Ok-clause-next : goal.returns-in-Ok-clause-next
-returns-in-Ok-clause-next g c = grind (arith, common_steps)
+pub returns-clause-next : goal.returns-clause-next
+returns-clause-next g c = grind (arith, common_steps)

@@ -1,10 +1,12 @@
-use Rattle.std.proofs.Common.{◌∙◌, ap, sym, subst, refl, arith, [], ◌∷◌, ◌++◌, inr}
+use Rattle.std.proofs.Common.{◌≡◌, ◌∙◌, ap, sym, subst, refl, arith, List, [], ◌∷◌, ◌++◌, inr, IfErr, OnOk}
 use Rattle.std.proofs.lemmas.Grind.{common_steps}
 use Rattle.std.proofs.lemmas.Result.{on_ok_weaker, IfErr-weaker, err_from_is_err_and}
 use Rattle.object_store.specs.Names.{PlainObjects}
+use Rattle.pg_log.specs.declared.entry.Entry.{Entry}
+use Rattle.pg_log.specs.declared.log_error.LogError.TheVariants.{NoMemory}
 use Rattle.pg_log.specs.Log.{fold}
 use Rattle.pg_log.specs.Refusals.{refusal, Refuses}
-use Rattle.pg_log.specs.Entries.{IsOutcomeOn, requests_of}
+use Rattle.pg_log.specs.Entries.{IsNextEntry, IsOutcomeOn, requests_of}
 use Rattle.pg_log.proofs.Kept.{requests_of-push, length-requests}
 use Rattle.pg_log.proofs.Ran.{next_legal, next_outcome, next_safe, entry_made}
 use Rattle.pg_log.proofs.Adopted.{prefix_added}
@@ -42,10 +44,12 @@ add-requires-clause-next g c =
     let ran = c.in_ok-outcome.ensures.ok xs (sym n) kept.indexed kept.legal.rise in
     let made = c.in_ok-entry.ensures in
     let O : PlainObjects → Type 0 = λ w. IsOutcomeOn table w r o.code o.output.items o.change in
-    entry_made classes xs r o c.in_ok-entry.entry made.request made.code made.output made.change
+    let N : List Entry → Type 0 = λ w. IsNextEntry classes (requests_of w) c.in_ok-entry.entry in
+    subst N (sym (ap (λ v. v.items) c.run_after.ensures.entries))
+    (entry_made classes xs r o c.in_ok-entry.entry made.request made.code made.output made.change
     (next_legal table classes xs r c.requires.table kept.legal ran.0)
     (next_safe table classes xs r c.requires.table ran.0 c.in_ok-outcome.ensures.safe)
-    (next_outcome table classes xs (fold classes xs) r o.code o.output.items o.change c.requires.table ran.0 (subst O kept.folded ran.1))
+    (next_outcome table classes xs (fold classes xs) r o.code o.output.items o.change c.requires.table ran.0 (subst O kept.folded ran.1)))
 
 pub returns-clause-ok : goal.returns-clause-ok
 returns-clause-ok g c =
@@ -54,8 +58,10 @@ returns-clause-ok g c =
     let kept = c.requires.kept in
     let n = length-requests es xs refl in
     let ran = c.in_ok-outcome.ensures.ok xs (sym n) kept.indexed kept.legal.rise in
+    let A : List Entry → Type 0 = λ w. OnOk c.add.result (c.add.new.log.entries.items ≡ w ++ c.in_ok-entry.entry ∷ []) in
     on_ok_weaker c.add.result
-    (λ h. (ap requests_of h ∙ requests_of-push es c.in_ok-entry.entry ∙ ap (λ q. xs ++ q ∷ []) c.in_ok-entry.ensures.request, ran.0)) c.add.ensures.ok
+    (λ h. (ap requests_of h ∙ requests_of-push es c.in_ok-entry.entry ∙ ap (λ q. xs ++ q ∷ []) c.in_ok-entry.ensures.request, ran.0))
+    (subst A (ap (λ v. v.items) c.run_after.ensures.entries) c.add.ensures.ok)
 
 pub returns-clause-err : goal.returns-clause-err
 returns-clause-err g c =
@@ -67,7 +73,12 @@ returns-clause-err g c =
     IfErr-weaker c.add.result _ (Refuses (refusal c.args.table.now xs c.args.request.now)) (λ e h. inr (h.0, ran.0)) c.add.ensures.err
 
 pub returns-clause-begun : goal.returns-clause-begun
-returns-clause-begun g c = prefix_added c.add.result c.args.log.now.entries.items c.add.new.log.entries.items c.in_ok-entry.entry c.add.ensures.ok c.add.ensures.err
+returns-clause-begun g c =
+    let es = c.args.log.now.entries.items in
+    let same = ap (λ v. v.items) c.run_after.ensures.entries in
+    let A : List Entry → Type 0 = λ w. OnOk c.add.result (c.add.new.log.entries.items ≡ w ++ c.in_ok-entry.entry ∷ []) in
+    let B : List Entry → Type 0 = λ w. IfErr c.add.result (λ e. (e ≡ NoMemory) × (c.add.new.log.entries.items ≡ w)) in
+    prefix_added c.add.result es c.add.new.log.entries.items c.in_ok-entry.entry (subst A same c.add.ensures.ok) (subst B same c.add.ensures.err)
 
 pub returns-clause-room : goal.returns-clause-room
 returns-clause-room g c = grind (arith, common_steps)

@@ -15,11 +15,11 @@ returns-in_ok-keep-in-Branches-clause-left c =
     let h = c.flow.new.self in
     let kept = c.args.self.now.kept in
     let next = c.args.slot + slot_count c.args.insn.now in
-    leaves_both (unbox c.args.self.now.current) f (refined h c.in-Branches.fallen) h kept _ i p c.in-Branches.target c.width.result
+    leaves_both (unbox c.args.self.now.current) f (refined h c.in-Branches.compared c.flow.new.fallen) h kept _ i p c.in-Branches.target c.width.result
     (ap unbox c.in-Some.is)
-    (ap (λ room. flow room i p f) (sym c.room.ensures) ∙ ap (flow c.room.result i p) (sym c.deref_mut.ensures.value) ∙ c.flow.ensures.table ∙ ap (λ e. with_edges e next h) c.in-Branches.is)
+    (ap (λ room. flow room i p f) (sym c.room.ensures) ∙ ap (flow c.room.result i p) (sym c.deref_mut.ensures.value) ∙ c.flow.ensures.table ∙ ap (λ e. with_edges e c.flow.new.fallen next h) c.in-Branches.is)
     c.width.ensures (c.in_ok-keep-in-Branches.ensures ∙ ap (merged kept c.in-Branches.target) c.deref-in-Branches.ensures)
-    (ap Some (c.refine.ensures ∙ ap (λ g. refined g c.in-Branches.fallen) c.deref_mut-in-Branches.ensures.value)) refl
+    (ap Some (c.refine.ensures ∙ ap (λ g. refined g c.in-Branches.compared c.flow.new.fallen) c.deref_mut-in-Branches.ensures.value)) refl
 
 pub returns-in_ok-keep-in-Jumps-clause-left : goal.returns-in_ok-keep-in-Jumps-clause-left
 returns-in_ok-keep-in-Jumps-clause-left c =
@@ -31,7 +31,7 @@ returns-in_ok-keep-in-Jumps-clause-left c =
     let next = c.args.slot + slot_count c.args.insn.now in
     leaves_one (unbox c.args.self.now.current) f h kept _ i p c.in-Jumps.target c.width.result
     (ap unbox c.in-Some.is)
-    (ap (λ room. flow room i p f) (sym c.room.ensures) ∙ ap (flow c.room.result i p) (sym c.deref_mut.ensures.value) ∙ c.flow.ensures.table ∙ ap (λ e. with_edges e next h) c.in-Jumps.is)
+    (ap (λ room. flow room i p f) (sym c.room.ensures) ∙ ap (flow c.room.result i p) (sym c.deref_mut.ensures.value) ∙ c.flow.ensures.table ∙ ap (λ e. with_edges e c.flow.new.fallen next h) c.in-Jumps.is)
     c.width.ensures (c.in_ok-keep-in-Jumps.ensures ∙ ap (merged kept c.in-Jumps.target) c.deref.ensures) refl refl
 
 pub returns-in-Leaves-clause-sound : goal.returns-in-Leaves-clause-sound

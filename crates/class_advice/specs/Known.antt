@@ -1,0 +1,54 @@
+-- What is printed of what is known of a register.
+use Rattle.std.specs.Prelude.{ℕ, ℤ, pos, negsuc, ◌+◌, ◌-◌, ◌%◌, ◌^◌, ◌==◌, ◌&&◌, ◌||◌, not, nat_le, int_lt, bit_and, Bool, true, false, List, [], ◌++◌, codes, if◌then◌else◌}
+use Rattle.std.specs.Fmt.{decimal, signed_decimal}
+use Rattle.abstract_num.specs.Plain.{Plain}
+use Rattle.abstract_regs.specs.Kind.{PlainKind, Unset, Num, Ptr}
+use Rattle.bpf_decode.specs.declared.region.Region.{Region}
+use Rattle.bpf_decode.specs.declared.region.Region.TheVariants.{Input, Output, Stack}
+
+-- the unsigned range: one number, every number, or from the least to the greatest
+abbrev pub range_text : Plain → List ℕ
+range_text n =
+    if n.low == n.high then decimal n.low
+    else (if n.low == 0 && n.high == 18446744073709551615 then codes "any number" else decimal n.low ++ codes ".." ++ decimal n.high)
+
+-- the signed range says more: a number may be negative, and not every signed number is left
+abbrev pub says_signed : Plain → Bool
+says_signed n =
+    nat_le 9223372036854775808 n.high && (int_lt (negsuc 9223372036854775807) n.least || int_lt n.greatest (pos 9223372036854775807))
+
+abbrev pub signed_text : Plain → List ℕ
+signed_text n = if says_signed n then codes ", signed " ++ signed_decimal n.least ++ codes ".." ++ signed_decimal n.greatest else []
+
+-- the known bits say more: those that are not known are not simply the lowest ones
+unfoldable pub says_bits : Plain → Bool
+says_bits n = not (bit_and n.unknown ((n.unknown + 1) % 2 ^ 64) == 0)
+
+-- the bits that are 1
+unfoldable pub ones_text : ℕ → List ℕ
+ones_text value = codes ", bits " ++ decimal value
+
+-- those that may be 1 besides
+unfoldable pub others_text : ℕ → List ℕ
+others_text unknown = codes " and any of " ++ decimal unknown
+
+abbrev pub bits_if : Bool → ℕ → ℕ → List ℕ
+bits_if false value unknown = []
+bits_if true value unknown = ones_text value ++ others_text unknown
+
+abbrev pub bits_text : Plain → List ℕ
+bits_text n = bits_if (says_bits n) n.value n.unknown
+
+abbrev pub number_text : Plain → List ℕ
+number_text n = range_text n ++ signed_text n ++ bits_text n
+
+abbrev pub region_text : Region → List ℕ
+region_text Input = codes "input"
+region_text Output = codes "output"
+region_text Stack = codes "stack"
+
+-- a pointer by its region and its distance from the region's first byte
+abbrev pub kind_text : PlainKind → List ℕ
+kind_text Unset = codes "unset"
+kind_text (Num n) = number_text n
+kind_text (Ptr r at) = region_text r ++ codes " + " ++ number_text at

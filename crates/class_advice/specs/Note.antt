@@ -1,0 +1,92 @@
+-- What is printed of a refused method below the line that refuses it.
+use Rattle.std.specs.Prelude.{ℕ, zero, suc, ◌+◌, List, [], ◌∷◌, ◌++◌, Option, Some, None, codes, slice_get, if◌then◌else◌}
+use Rattle.std.specs.Fmt.{decimal}
+use Rattle.abstract_regs.specs.Frame.{PlainFrame, kind_at}
+use Rattle.abstract_regs.specs.Kind.{PlainKind}
+use Rattle.asm_lines.specs.Canonical.{canonical_text}
+use Rattle.bpf_decode.specs.Class.{Class, ClassMethod}
+use Rattle.bpf_decode.specs.declared.rule_set.RuleSet.{RuleSet}
+use Rattle.bpf_decode.specs.Instruction.{slots}
+use Rattle.bpf_decode.specs.declared.insn.Insn.{Insn}
+use Rattle.bpf_machine.specs.Safe.{caps_of}
+use Rattle.bpf_machine.specs.Typed.{fetch}
+use Rattle.verifier.specs.RuleNumber.{rule_text}
+use Rattle.verifier.specs.Verdict.{frame_at, method_verdict, whole_table}
+use Rattle.verifier.specs.declared.refusal.Refusal.{Refusal}
+use Rattle.verifier.specs.declared.rule.Rule.{Rule}
+use Rattle.verifier.specs.declared.rule.Rule.TheVariants.{Backward, Target, FallsOff, LocalCall, UnsetRead, WritesR10, PointerArithmetic, PointerCompare, PointerStored, Bounds, ReadOnlyRegion, UnknownHelper, HelperArgument, WriteHelperInReader, ReturnsPointer, NoMemory, PointerBytes}
+use Rattle.class_advice.specs.Advice.{advised_text}
+use Rattle.class_advice.specs.Advise.{advice_for}
+use Rattle.class_advice.specs.Known.{kind_text}
+use Rattle.class_advice.specs.Read.{is_read}
+use Rattle.class_advice.specs.Touched.{touched_text}
+
+abbrev pub register_line : ℕ → PlainKind → List ℕ
+register_line r kind = codes "  r" ++ decimal r ++ codes " = " ++ kind_text kind ++ codes "\n"
+
+abbrev pub line_if_read : Insn → PlainFrame → ℕ → List ℕ
+line_if_read i f r = if is_read i r then register_line r (kind_at f r) else []
+
+-- of the n registers from r on
+abbrev pub registers_text : Insn → PlainFrame → ℕ → ℕ → List ℕ
+registers_text i f r zero = []
+registers_text i f r (suc n) = line_if_read i f r ++ registers_text i f (r + 1) n
+
+abbrev pub known_text : Insn → Option PlainFrame → List ℕ
+known_text i None = codes "  nothing leads here\n"
+known_text i (Some f) = registers_text i f 0 11
+
+-- ---- what a rule wants
+abbrev pub wanted : Rule → List ℕ
+wanted Backward = codes "a jump forward: the distance is at least 0"
+wanted Target = codes "a jump to a slot at which an instruction begins"
+wanted FallsOff = codes "exit or a jump as the last instruction"
+wanted LocalCall = codes "no call within the program"
+wanted UnsetRead = codes "each of these registers set on every way that leads here"
+wanted WritesR10 = codes "another destination than register 10"
+wanted PointerArithmetic = codes "of a pointer a copy, or a number added or subtracted, in 64 bits"
+wanted PointerCompare = codes "numbers on both sides"
+wanted PointerStored = codes "a number to store"
+wanted Bounds = codes "a pointer, and all of the bytes within its region"
+wanted ReadOnlyRegion = codes "a pointer to the output or the stack"
+wanted UnknownHelper = codes "the id of a helper, 1 to 15"
+wanted HelperArgument = codes "the arguments in the order of the helper, and an output length of at most OUT"
+wanted WriteHelperInReader = codes "flags w or rw"
+wanted ReturnsPointer = codes "a number in register 0"
+wanted NoMemory = codes "more memory"
+wanted PointerBytes = codes "a stored pointer loaded whole, 8 bytes from its place, and given to no helper"
+
+-- the method and its capacities
+abbrev pub head_text : ClassMethod → List ℕ
+head_text m = codes "  method " ++ m.name ++ codes ", IN " ++ decimal m.in_cap ++ codes ", OUT " ++ decimal m.out_cap ++ codes "\n  "
+
+-- what the rule wants, and the page
+abbrev pub wanted_text : Rule → List ℕ
+wanted_text rule = codes "  wanted: " ++ wanted rule ++ codes "\n  see docs/VERIFIER.md, " ++ rule_text rule ++ codes "\n"
+
+-- the method, the instruction, what is known of the registers that it reads, what the rule wants,
+-- the page, the slots of the stack that it may touch, and what would do
+abbrev pub slot_text : RuleSet → ClassMethod → ℕ → Rule → Insn → Option PlainFrame → List ℕ
+slot_text rules m slot rule i known =
+    head_text m ++ canonical_text (i ∷ []) ++ known_text i known ++ wanted_text rule
+    ++ touched_text rule i known ++ advised_text (advice_for rules rule m.instructions slot (caps_of m) known i)
+
+abbrev pub at_slot : RuleSet → ClassMethod → ℕ → Rule → Option Insn → Option PlainFrame → List ℕ
+at_slot rules m slot rule None known = []
+at_slot rules m slot rule (Some i) known = slot_text rules m slot rule i known
+
+abbrev pub of_verdict : RuleSet → ClassMethod → Option (ℕ × Rule) → List ℕ
+of_verdict rules m None = []
+of_verdict rules m (Some at) = at_slot rules m at.0 at.1 (fetch (slots m.instructions) at.0) (frame_at (whole_table rules (caps_of m) (slots m.instructions)) at.0)
+
+abbrev pub of_method : RuleSet → Option ClassMethod → List ℕ
+of_method rules None = []
+of_method rules (Some m) = of_verdict rules m (method_verdict rules m)
+
+abbrev pub unless_memory : Rule → List ℕ → List ℕ
+unless_memory NoMemory text = []
+unless_memory rule text = text
+
+-- What is printed of a class with that refusal; nothing where memory was refused.
+abbrev pub refusal_note : Class → Refusal → List ℕ
+refusal_note c refusal = unless_memory refusal.rule (of_method c.rules (slice_get c.methods refusal.method))

@@ -1,0 +1,70 @@
+-- The slots of the stack that an instruction may touch, and their lines.
+use Rattle.std.specs.Prelude.{ℕ, zero, suc, ◌+◌, ◌-◌, ◌*◌, ◌||◌, Bool, false, true, List, [], ◌∷◌, ◌++◌, Option, Some, None, codes, if◌then◌else◌}
+use Rattle.std.specs.Fmt.{decimal}
+use Rattle.abstract_num.specs.Plain.{constant}
+use Rattle.abstract_regs.specs.Frame.{PlainFrame, kind_at, kept_kind}
+use Rattle.abstract_regs.specs.Kind.{PlainKind, Ptr}
+use Rattle.abstract_regs.specs.Slots.{access_span, stack_place, stack_range, touches}
+use Rattle.bpf_decode.specs.Instruction.{byte_count, signed_byte_count}
+use Rattle.bpf_decode.specs.Values.{extended}
+use Rattle.bpf_decode.specs.declared.insn.Insn.{Insn}
+use Rattle.bpf_decode.specs.declared.insn.Insn.TheVariants.{Load, LoadSigned, Store, Call}
+use Rattle.bpf_decode.specs.declared.region.Region.TheVariants.{Stack}
+use Rattle.helpers.specs.Effect.{Takes}
+use Rattle.helpers.specs.Table.{signature_of}
+use Rattle.helpers.specs.declared.argument.Argument.{Argument}
+use Rattle.helpers.specs.declared.argument.Argument.TheVariants.{Number, OutputLength, Readable, Writable}
+use Rattle.verifier.specs.Rules.{register_count}
+use Rattle.verifier.specs.declared.rule.Rule.{Rule}
+use Rattle.verifier.specs.declared.rule.Rule.TheVariants.{UnsetRead, PointerStored, PointerBytes}
+use Rattle.class_advice.specs.Known.{kind_text}
+
+-- an access of w bytes may touch slot j
+abbrev pub access_touches : PlainKind → ℕ → ℕ → ℕ → Bool
+access_touches x distance w j = touches (access_span (stack_place x distance) w) j
+
+-- a range that is taken from register k on may
+abbrev pub argument_touches : PlainFrame → Argument → ℕ → ℕ → Bool
+argument_touches f Number k j = false
+argument_touches f OutputLength k j = false
+argument_touches f Readable k j = touches (stack_range (kind_at f k) (kind_at f (k + 1))) j
+argument_touches f Writable k j = touches (stack_range (kind_at f k) (kind_at f (k + 1))) j
+
+abbrev pub arguments_touch : PlainFrame → List Argument → ℕ → ℕ → Bool
+arguments_touch f [] k j = false
+arguments_touch f (a ∷ more) k j = argument_touches f a k j || arguments_touch f more (k + register_count a) j
+
+abbrev pub call_touches : PlainFrame → Option Takes → ℕ → Bool
+call_touches f None j = false
+call_touches f (Some takes) j = arguments_touch f takes.arguments 1 j
+
+abbrev pub insn_touches : PlainFrame → Insn → ℕ → Bool
+insn_touches f (Load width dst base offset) j = access_touches (kind_at f base) (extended offset) (byte_count width) j
+insn_touches f (LoadSigned width dst base offset) j = access_touches (kind_at f base) (extended offset) (signed_byte_count width) j
+insn_touches f (Store width base offset source) j = access_touches (kind_at f base) (extended offset) (byte_count width) j
+insn_touches f (Call helper) j = call_touches f (signature_of helper) j
+insn_touches f i j = false
+
+-- a slot by its place below register 10, and what is known of it; nothing in rule set 1
+abbrev pub slot_line : ℕ → Option PlainKind → List ℕ
+slot_line j None = []
+slot_line j (Some x) = codes "  [r10-" ++ decimal (512 - 8 * j) ++ codes "] = " ++ kind_text x ++ codes "\n"
+
+unfoldable pub line_if_touched : Insn → PlainFrame → ℕ → List ℕ
+line_if_touched i f j = if insn_touches f i j then slot_line j (kept_kind f (Ptr Stack (constant (8 * j))) 0 8) else []
+
+-- of the n slots from j on
+abbrev pub slots_text : Insn → PlainFrame → ℕ → ℕ → List ℕ
+slots_text i f j zero = []
+slots_text i f j (suc n) = line_if_touched i f j ++ slots_text i f (j + 1) n
+
+-- the rules that look at slots
+abbrev pub is_of_slots : Rule → Bool
+is_of_slots UnsetRead = true
+is_of_slots PointerStored = true
+is_of_slots PointerBytes = true
+is_of_slots rule = false
+
+abbrev pub touched_text : Rule → Insn → Option PlainFrame → List ℕ
+touched_text rule i None = []
+touched_text rule i (Some f) = if is_of_slots rule then slots_text i f 0 64 else []

@@ -1,0 +1,15 @@
+//! What is printed of a refused method below the line that refuses it: the method, the instruction,
+//! what is known of the registers that it reads and of the stack's slots that it touches, what the
+//! rule wants, and what would do in its place (`Advice`). `refusal_note` gives the lines of a class's
+//! refusal, and their text is exactly that of `specs/Note.antt`.
+#![tactic(auto)]
+
+mod advice;
+mod advise;
+mod known;
+mod note;
+mod read;
+mod touched;
+
+pub use advice::{Advice, Last};
+pub use note::refusal_note;

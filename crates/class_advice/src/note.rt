@@ -1,0 +1,160 @@
+//! What is printed of a refused method below the line that refuses it.
+ghost use Rattle.std.specs.Prelude.{◌≡◌, ◌++◌, ◌+◌, ◌<◌, [], ◌∷◌, IfOk, OnOk, codes, string_bytes};
+ghost use Rattle.std.specs.Fmt.{decimal};
+ghost use Rattle.abstract_regs.specs.Seen.{seen};
+ghost use Rattle.asm_lines.specs.Canonical.{canonical_text};
+ghost use Rattle.bpf_decode.specs.Class.{IsMethod};
+ghost use Rattle.class_advice.specs.Note.{head_text, known_text, of_verdict, refusal_note, register_line, registers_text, slot_text, wanted, wanted_text};
+ghost use Rattle.verifier.specs.Verdict.{method_verdict};
+
+use crate::advice::push_advised;
+use crate::advise::advice_for;
+use crate::known::push_kind;
+use crate::read::is_read;
+use crate::touched::push_touched;
+use abstract_regs::{Frame, Kind};
+use bpf_decode::{ClassImage, Insn, Method, RuleSet};
+use std::alloc::{AllocError, Global};
+use verifier::{Refusal, RefusedSlot, Rule, refused_slot};
+
+/// Adds a register's line.
+fn push_register(out: &mut String, register: usize, kind: Kind) -> Result<(), AllocError>
+    ensures { OnOk result (string_bytes out.new ≡ string_bytes out.old ++ register_line register (seen kind)) }
+{
+    write!(out, "  r{register} = ")?;
+    push_kind(out, kind)?;
+    out.push_str("\n")
+}
+
+/// Adds the lines of those that an instruction reads of the `left` registers from a number on.
+fn push_registers(
+    out: &mut String,
+    insn: &Insn,
+    frame: &Frame,
+    register: usize,
+    left: usize,
+) -> Result<(), AllocError>
+    requires { register + left < 100 }
+    ensures { OnOk result (string_bytes out.new ≡ string_bytes out.old ++ registers_text insn.now frame.now register left) }
+{
+    if left == 0 {
+        return Ok(());
+    }
+    if is_read(insn, register) {
+        push_register(out, register, frame.kind(register))?;
+    }
+    push_registers(out, insn, frame, register + 1, left - 1)
+}
+
+/// Adds what is known before an instruction.
+fn push_known(out: &mut String, insn: &Insn, known: &Option<Frame>) -> Result<(), AllocError>
+    ensures { OnOk result (string_bytes out.new ≡ string_bytes out.old ++ known_text insn.now known.now) }
+{
+    match known {
+        Some(frame) => push_registers(out, insn, frame, 0, 11),
+        None => out.push_str("  nothing leads here\n"),
+    }
+}
+
+/// What a rule wants.
+#[rattlefmt::skip]
+fn wanted(rule: Rule) -> &'static str
+    ensures { result.now ≡ wanted rule }
+{
+    match rule {
+        Rule::Backward => "a jump forward: the distance is at least 0",
+        Rule::Target => "a jump to a slot at which an instruction begins",
+        Rule::FallsOff => "exit or a jump as the last instruction",
+        Rule::LocalCall => "no call within the program",
+        Rule::UnsetRead => "each of these registers set on every way that leads here",
+        Rule::WritesR10 => "another destination than register 10",
+        Rule::PointerArithmetic => "of a pointer a copy, or a number added or subtracted, in 64 bits",
+        Rule::PointerCompare => "numbers on both sides",
+        Rule::PointerStored => "a number to store",
+        Rule::Bounds => "a pointer, and all of the bytes within its region",
+        Rule::ReadOnlyRegion => "a pointer to the output or the stack",
+        Rule::UnknownHelper => "the id of a helper, 1 to 15",
+        Rule::HelperArgument => "the arguments in the order of the helper, and an output length of at most OUT",
+        Rule::WriteHelperInReader => "flags w or rw",
+        Rule::ReturnsPointer => "a number in register 0",
+        Rule::NoMemory => "more memory",
+        Rule::PointerBytes => "a stored pointer loaded whole, 8 bytes from its place, and given to no helper",
+    }
+}
+
+/// The line of an instruction.
+fn insn_text(alloc: Global, insn: Insn) -> Result<String, AllocError>
+    ensures { IfOk result (λ text. string_bytes text ≡ canonical_text (insn ∷ [])) }
+{
+    match bpf_asm::disassemble(alloc, &[insn]) {
+        Ok(text) => Ok(text),
+        Err(_) => Err(AllocError),
+    }
+}
+
+/// The method and its capacities.
+fn push_head(out: &mut String, method: &Method) -> Result<(), AllocError>
+    ensures { OnOk result (string_bytes out.new ≡ string_bytes out.old ++ head_text method.now) }
+{
+    write!(out, "  method {}", method.name())?;
+    let in_cap = method.in_cap();
+    let out_cap = method.out_cap();
+    write!(out, ", IN {in_cap}, OUT {out_cap}\n  ")
+}
+
+/// What the rule wants, and the page.
+fn push_wanted(out: &mut String, rule: Rule) -> Result<(), AllocError>
+    ensures { OnOk result (string_bytes out.new ≡ string_bytes out.old ++ wanted_text rule) }
+{
+    out.push_str("  wanted: ")?;
+    out.push_str(wanted(rule))?;
+    write!(out, "\n  see docs/VERIFIER.md, {rule}\n")
+}
+
+/// What is printed of a refused slot of a method.
+fn slot_text(
+    alloc: Global,
+    rules: RuleSet,
+    method: &Method,
+    refused: &RefusedSlot,
+) -> Result<String, AllocError>
+    ensures { IfOk result (λ text. string_bytes text ≡ slot_text rules method.now refused.now.slot refused.now.rule refused.now.insn refused.now.known) }
+{
+    let mut text = String::new(alloc);
+    push_head(&mut text, method)?;
+    text.push_str(&insn_text(alloc, refused.insn)?)?;
+    push_known(&mut text, &refused.insn, &refused.known)?;
+    push_wanted(&mut text, refused.rule)?;
+    push_touched(&mut text, refused.rule, &refused.insn, &refused.known)?;
+    push_advised(&mut text, advice_for(rules, method, refused))?;
+    Ok(text)
+}
+
+/// What is printed of a method under a rule set: nothing where no rule refuses it.
+fn of_verdict(alloc: Global, rules: RuleSet, method: &Method) -> Result<String, AllocError>
+    requires { IsMethod method.now }
+    ensures { IfOk result (λ text. string_bytes text ≡ of_verdict rules method.now (method_verdict rules method.now)) }
+{
+    match refused_slot(alloc, rules, method)? {
+        Some(refused) => slot_text(alloc, rules, method, &refused),
+        None => Ok(String::new(alloc)),
+    }
+}
+
+/// What is printed of a class with that refusal; nothing where memory was refused. It costs what
+/// `verify` does of the method.
+pub fn refusal_note(
+    alloc: Global,
+    class: &ClassImage,
+    refusal: &Refusal,
+) -> Result<String, AllocError>
+    ensures { IfOk result (λ text. string_bytes text ≡ refusal_note class.now refusal.now) }
+{
+    if let Rule::NoMemory = refusal.rule {
+        return Ok(String::new(alloc));
+    }
+    match class.methods().get(refusal.method) {
+        Some(method) => of_verdict(alloc, class.rules(), method),
+        None => Ok(String::new(alloc)),
+    }
+}

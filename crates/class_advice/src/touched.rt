@@ -1,0 +1,225 @@
+//! The slots of the stack that an instruction may touch.
+ghost use Rattle.std.specs.Prelude.{◌≡◌, ◌++◌, ◌+◌, ◌<◌, ◌*◌, ◌&&◌, ◌≤◌, nat_lt, OnOk, length, string_bytes};
+ghost use Rattle.std.specs.Option.{option_map};
+ghost use Rattle.abstract_num.specs.Plain.{constant, view};
+ghost use Rattle.abstract_regs.specs.Frame.{kept_kind};
+ghost use Rattle.abstract_regs.specs.Kind.{Ptr as APtr};
+ghost use Rattle.abstract_regs.specs.Seen.{seen};
+ghost use Rattle.abstract_regs.specs.Slots.{stack_range, touches};
+ghost use Rattle.class_advice.specs.Touched.{access_touches, argument_touches, arguments_touch, call_touches, insn_touches, is_of_slots, line_if_touched, slot_line, slots_text, touched_text};
+ghost use Rattle.helpers.specs.Table.{signature_of};
+
+use crate::known::push_kind;
+use crate::read::count_registers;
+use abstract_num::{Number, arithmetic, constant};
+use abstract_regs::{Frame, Kind};
+use bpf_decode::{Arithmetic, Insn, OpWidth, Region};
+use helpers::{Argument, signature};
+use std::alloc::AllocError;
+use verifier::Rule;
+
+/// Whether bytes may be in a slot: as many as `bytes`, from a place between `low` and `high` on.
+fn are_in(low: u64, high: u64, bytes: u64, slot: u64) -> bool
+    requires { slot < 64 }
+    ensures { result ≡ (nat_lt (8 * slot) (high + bytes) && nat_lt low (8 * slot + 8)) }
+{
+    (8 * slot < high || 8 * slot - high < bytes) && low < 8 * slot + 8
+}
+
+/// Whether an access of bytes at a distance from what a kind points to may touch a slot.
+fn access_touches(kind: Kind, distance: u64, bytes: usize, slot: u64) -> bool
+    requires { slot < 64 }
+    ensures { result ≡ access_touches (seen kind) distance bytes slot }
+{
+    match kind {
+        Kind::Ptr(Region::Stack, at) => {
+            match arithmetic(OpWidth::Bits64, Arithmetic::Add, at, constant(distance)) {
+                None => false,
+                Some(place) => are_in(place.first.low, place.first.high, bytes as u64, slot),
+            }
+        }
+        Kind::Ptr(Region::Input | Region::Output, _) => false,
+        Kind::Unset | Kind::Num(_) => false,
+    }
+}
+
+/// Whether a range in the stack may touch a slot; one of length 0 does not.
+fn numbers_touch(at: Number, length: Number, slot: u64) -> bool
+    requires { slot < 64 }
+    ensures { result ≡ touches (stack_range (seen (Kind.Ptr Region.Stack at)) (seen (Kind.Num length))) slot }
+{
+    length.first.high != 0 && are_in(at.first.low, at.first.high, length.first.high, slot)
+}
+
+/// Whether a helper's range may touch a slot.
+fn range_touches(pointer: Kind, length: Kind, slot: u64) -> bool
+    requires { slot < 64 }
+    ensures { result ≡ touches (stack_range (seen pointer) (seen length)) slot }
+{
+    match (pointer, length) {
+        (Kind::Ptr(Region::Stack, at), Kind::Num(bytes)) => numbers_touch(at, bytes, slot),
+        (Kind::Ptr(Region::Stack, _), Kind::Unset | Kind::Ptr(_, _)) => false,
+        (Kind::Ptr(Region::Input | Region::Output, _), _) => false,
+        (Kind::Unset | Kind::Num(_), _) => false,
+    }
+}
+
+fn argument_touches(frame: &Frame, argument: Argument, register: usize, slot: u64) -> bool
+    requires slot { slot < 64 }
+    requires register { register < 100 }
+    ensures { result ≡ argument_touches frame.now argument register slot }
+{
+    match argument {
+        Argument::Number | Argument::OutputLength => false,
+        Argument::Readable | Argument::Writable => {
+            range_touches(frame.kind(register), frame.kind(register + 1), slot)
+        }
+    }
+}
+
+/// Whether one of the arguments may, which are taken from that register on.
+fn arguments_touch(frame: &Frame, arguments: &[Argument], register: usize, slot: u64) -> bool
+    requires slot { slot < 64 }
+    requires few { register + length arguments.now + length arguments.now < 100 }
+    ensures { result ≡ arguments_touch frame.now arguments.now register slot }
+{
+    match arguments {
+        [] => false,
+        [first, ..] => {
+            argument_touches(frame, *first, register, slot)
+                || arguments_touch(
+                    frame,
+                    &arguments[1..],
+                    register + count_registers(*first),
+                    slot,
+                )
+        }
+    }
+}
+
+fn call_touches(frame: &Frame, helper: u32, slot: u64) -> bool
+    requires { slot < 64 }
+    ensures { result ≡ call_touches frame.now (signature_of helper) slot }
+{
+    match signature(helper) {
+        None => false,
+        Some(takes) => arguments_touch(frame, takes.arguments, 1, slot),
+    }
+}
+
+/// Whether an instruction may touch a slot.
+#[rattlefmt::skip]
+fn insn_touches(frame: &Frame, insn: &Insn, slot: u64) -> bool
+    requires { slot < 64 }
+    ensures { result ≡ insn_touches frame.now insn.now slot }
+{
+    match *insn {
+        Insn::Load { width, base, offset, .. } => {
+            access_touches(frame.at(base), i64::from(offset).cast_unsigned(), width.bytes(), slot)
+        }
+        Insn::LoadSigned { width, base, offset, .. } => {
+            access_touches(frame.at(base), i64::from(offset).cast_unsigned(), width.bytes(), slot)
+        }
+        Insn::Store { width, base, offset, .. } => {
+            access_touches(frame.at(base), i64::from(offset).cast_unsigned(), width.bytes(), slot)
+        }
+        Insn::Call { helper } => call_touches(frame, helper, slot),
+        Insn::Alu { .. } | Insn::Neg { .. } | Insn::Mov { .. } | Insn::MovSigned { .. } | Insn::End { .. } => false,
+        Insn::LoadWide { .. } => false,
+        Insn::Jump { .. } | Insn::JumpLong { .. } | Insn::Branch { .. } | Insn::CallLocal { .. } | Insn::Exit => false,
+    }
+}
+
+/// Adds a slot's line, where something of it is known.
+fn push_slot(out: &mut String, slot: u64, kind: Option<Kind>) -> Result<(), AllocError>
+    requires { slot < 64 }
+    ensures { OnOk result (string_bytes out.new ≡ string_bytes out.old ++ slot_line slot (option_map seen kind)) }
+{
+    match kind {
+        None => Ok(()),
+        Some(kind) => {
+            write!(out, "  [r10-{}] = ", 512 - 8 * slot)?;
+            push_kind(out, kind)?;
+            out.push_str("\n")
+        }
+    }
+}
+
+/// What is known of a slot of the stack, where slots are known.
+fn slot_at(frame: &Frame, slot: u64) -> Option<Kind>
+    requires { slot < 64 }
+    ensures { option_map seen result ≡ kept_kind frame.now (APtr Region.Stack (constant (8 * slot))) 0 8 }
+{
+    frame.slot(Kind::Ptr(Region::Stack, constant(8 * slot)), 0, 8)
+}
+
+/// Adds the line of a slot, if an instruction may touch it.
+#[tactic(auto, unfolding(crate::specs::Touched::line_if_touched))]
+fn push_if_touched(
+    out: &mut String,
+    insn: &Insn,
+    frame: &Frame,
+    slot: u64,
+) -> Result<(), AllocError>
+    requires { slot < 64 }
+    ensures { OnOk result (string_bytes out.new ≡ string_bytes out.old ++ line_if_touched insn.now frame.now slot) }
+{
+    if insn_touches(frame, insn, slot) {
+        push_slot(out, slot, slot_at(frame, slot))
+    } else {
+        Ok(())
+    }
+}
+
+/// Adds the lines of those that an instruction may touch of the `left` slots from a slot on.
+fn push_slots(
+    out: &mut String,
+    insn: &Insn,
+    frame: &Frame,
+    slot: u64,
+    left: u64,
+) -> Result<(), AllocError>
+    requires { slot + left ≤ 64 }
+    ensures { OnOk result (string_bytes out.new ≡ string_bytes out.old ++ slots_text insn.now frame.now slot left) }
+{
+    if left == 0 {
+        return Ok(());
+    }
+    push_if_touched(out, insn, frame, slot)?;
+    push_slots(out, insn, frame, slot + 1, left - 1)
+}
+
+/// Whether the rule looks at slots of the stack.
+#[rattlefmt::skip]
+fn is_of_slots(rule: Rule) -> bool
+    ensures { result ≡ is_of_slots rule }
+{
+    match rule {
+        Rule::UnsetRead | Rule::PointerStored | Rule::PointerBytes => true,
+        Rule::Backward | Rule::Target | Rule::FallsOff | Rule::LocalCall | Rule::WritesR10 => false,
+        Rule::PointerArithmetic | Rule::PointerCompare | Rule::Bounds | Rule::ReadOnlyRegion => false,
+        Rule::UnknownHelper | Rule::HelperArgument | Rule::WriteHelperInReader | Rule::ReturnsPointer => false,
+        Rule::NoMemory => false,
+    }
+}
+
+/// Adds the lines of the slots that a refused instruction may touch, where the rule looks at slots.
+pub(crate) fn push_touched(
+    out: &mut String,
+    rule: Rule,
+    insn: &Insn,
+    known: &Option<Frame>,
+) -> Result<(), AllocError>
+    ensures { OnOk result (string_bytes out.new ≡ string_bytes out.old ++ touched_text rule insn.now known.now) }
+{
+    match known {
+        None => Ok(()),
+        Some(frame) => {
+            if is_of_slots(rule) {
+                push_slots(out, insn, frame, 0, 64)
+            } else {
+                Ok(())
+            }
+        }
+    }
+}

@@ -1,0 +1,30 @@
+//! Which columns' nodes are stopped.
+ghost use Rattle.std.specs.Prelude.{◌≡◌, slice_set};
+ghost use Rattle.sim_trace.specs.Drawing.{stopped_after};
+
+use crate::column::Column;
+use crate::columns::place_of;
+use crate::step::What;
+
+/// Notes at the column of a place whether its node is stopped, if there is such a column.
+fn set(stopped: &mut [bool], place: usize, is_stopped: bool)
+    ensures { stopped.new ≡ slice_set stopped.old place is_stopped }
+{
+    if place < stopped.len() {
+        stopped[place] = is_stopped;
+    }
+}
+
+/// Notes that a node stops, or goes on.
+pub(crate) fn note_stop(columns: &[Column], what: What, stopped: &mut [bool])
+    ensures { stopped.new ≡ stopped_after columns.now what stopped.old }
+{
+    match what {
+        What::At(_) => {}
+        What::Asked(_, _) => {}
+        What::Arrived(_) => {}
+        What::Bounced(_) => {}
+        What::Stopped(column) => set(stopped, place_of(columns, column), true),
+        What::Resumed(column) => set(stopped, place_of(columns, column), false),
+    }
+}
