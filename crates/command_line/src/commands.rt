@@ -45,7 +45,8 @@ fn call_command<'a>(alloc: Global) -> Result<Command<'a>, AllocError>
     };
     let of_image = file_command(alloc, heading, "IN", "The file of the image");
     let method = required(alloc, "METHOD", "The name of the method");
-    let input = option(alloc, "input", "HEX", "", "The input: hexadecimal, - for none, or @FILE for the bytes of a file");
+    let help = "The input: hexadecimal, - for none, or @FILE for the bytes of a file";
+    let input = option(alloc, "input", "HEX", "", help);
     let help = "The number of the client that calls, 1 to 4294967295";
     let caller = option(alloc, "caller", "N", "1", help);
     with_arg(with_arg(with_arg(of_image, method), input), caller)
