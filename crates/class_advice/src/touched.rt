@@ -150,7 +150,7 @@ fn slot_at(frame: &Frame, slot: u64) -> Option<Kind>
     requires { slot < 64 }
     ensures { option_map seen result ≡ kept_kind frame.now (APtr Region.Stack (constant (8 * slot))) 0 8 }
 {
-    frame.slot(Kind::Ptr(Region::Stack, constant(8 * slot)), 0, 8)
+    frame.slot(&Kind::Ptr(Region::Stack, constant(8 * slot)), 0, 8)
 }
 
 /// Adds the line of a slot, if an instruction may touch it.

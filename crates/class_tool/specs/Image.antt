@@ -1,6 +1,6 @@
 -- What a file says as a class, by its image or its text, and why it says nothing.
 use Rattle.std.specs.Prelude.{◌≡◌, ◌⊎◌, ◌≤◌, ◌==◌, ◌&&◌, ◌||◌, nat_lt, ⊤, ℕ, Bool, true, false, List, Option, Some, None, Err, IsUtf8, length, slice_index, string_bytes}
-use Rattle.std.specs.List.{AllByRecursion}
+use Rattle.std.specs.List.{AllByRecursion, list_any}
 use Rattle.bpf_asm.specs.Classes.{AsmError, read_class_text}
 use Rattle.bpf_asm.specs.Grammar.{IsClassText}
 use Rattle.bpf_asm.specs.Fault.{no_memory}
@@ -18,14 +18,18 @@ use Rattle.class_tool.specs.declared.failure.Failure.TheVariants.{CannotRead, Ca
 use Rattle.class_tool.specs.declared.image.Source.{Source}
 use Rattle.class_tool.specs.declared.image.Source.TheVariants as sources
 
--- the first three bytes are `RCL`, or there are too few for a text
-abbrev pub begins_as_image : List ℕ → Bool
-begins_as_image bytes = nat_lt (length bytes) 4 || (slice_index bytes 0 == 82 && (slice_index bytes 1 == 67 && slice_index bytes 2 == 76))
+-- a byte is zero, as in an image the second of the number of methods is
+abbrev pub has_zero : List ℕ → Bool
+has_zero bytes = list_any (λ b. b == 0) bytes
 
--- Bytes that are read as a text: they don't begin as an image does, are no more than an image may
--- have, and are UTF-8. All others are read as an image.
+-- the first three bytes are `RCL`, there are too few for a text, or one is zero
+abbrev pub is_for_image : List ℕ → Bool
+is_for_image bytes = nat_lt (length bytes) 4 || ((slice_index bytes 0 == 82 && (slice_index bytes 1 == 67 && slice_index bytes 2 == 76)) || has_zero bytes)
+
+-- Bytes that are read as a text: they are UTF-8 without a zero, don't begin as an image does, and
+-- are no more than an image may have. All others are read as an image.
 pub record IsText (bytes : List ℕ) : Type 0 where
-  pub other : begins_as_image bytes ≡ false
+  pub other : is_for_image bytes ≡ false
   pub short : length bytes ≤ IMAGE_LIMIT
   pub utf8 : IsUtf8 bytes
 

@@ -1,7 +1,7 @@
 ghost use Rattle.std.specs.Prelude.{◌≡◌, ◌⊎◌, [], IfErr, IfNone, IfOk, IfSome, OnOk, string_bytes};
 ghost use Rattle.bpf_asm.specs.Grammar.{IsClassText};
 ghost use Rattle.class_tool.specs.Explained.{IsFaultNote, IsReadNote};
-ghost use Rattle.class_tool.specs.Image.{IsClassIn, IsMemory, IsSafeIn, IsSourceOf, IsText, LoadFails, ReadFails, SayNone, Says, begins_as_image};
+ghost use Rattle.class_tool.specs.Image.{IsClassIn, IsMemory, IsSafeIn, IsSourceOf, IsText, LoadFails, ReadFails, SayNone, Says, is_for_image};
 
 use crate::failure::Failure;
 use crate::files::Reads;
@@ -33,11 +33,13 @@ impl Source {
     }
 }
 
-/// Whether bytes begin as an image does, or are too few for a text.
-fn begins_as_image(bytes: &[u8]) -> bool
-    ensures { result ≡ begins_as_image bytes.now }
+/// Whether bytes begin as an image does, are too few for a text, or have a zero among them.
+fn is_for_image(bytes: &[u8]) -> bool
+    ensures { result ≡ is_for_image bytes.now }
 {
-    bytes.len() < 4 || (bytes[0] == b'R' && bytes[1] == b'C' && bytes[2] == b'L')
+    bytes.len() < 4
+        || (bytes[0] == b'R' && bytes[1] == b'C' && bytes[2] == b'L')
+        || bytes.contains(&0)
 }
 
 /// The text that bytes are, where they are read as one.
@@ -45,7 +47,7 @@ fn text_in(alloc: Global, bytes: &[u8]) -> Result<Option<String>, AllocError>
     ensures some { IfOk result (λ found. IfSome found (λ text. (string_bytes text ≡ bytes.now) × IsText bytes.now)) }
     ensures none { IfOk result (λ found. IfNone found (IsText bytes.now → ⊥)) }
 {
-    if begins_as_image(bytes) || bytes.len() > IMAGE_LIMIT {
+    if is_for_image(bytes) || bytes.len() > IMAGE_LIMIT {
         return Ok(None);
     }
     match str::from_utf8(bytes) {

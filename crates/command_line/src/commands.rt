@@ -45,7 +45,8 @@ fn call_command<'a>(alloc: Global) -> Result<Command<'a>, AllocError>
     };
     let of_image = file_command(alloc, heading, "IN", "The file of the image");
     let method = required(alloc, "METHOD", "The name of the method");
-    let input = option(alloc, "input", "HEX", "", "The input: hexadecimal, - for none, or @FILE for the bytes of a file");
+    let help = "The input: hexadecimal, - for none, or @FILE for the bytes of a file";
+    let input = option(alloc, "input", "HEX", "", help);
     let help = "The number of the client that calls, 1 to 4294967295";
     let caller = option(alloc, "caller", "N", "1", help);
     with_arg(with_arg(with_arg(of_image, method), input), caller)
@@ -153,10 +154,11 @@ fn cluster_command<'a>(alloc: Global) -> Result<Command<'a>, AllocError>
         examples: help::CLUSTER,
     };
     let of_calls = file_command(alloc, heading, "FILE", help::CLUSTER_FILE);
-    let show_help = "Shows in each line what the call asked: its object's group, and the request";
-    let show = flag(alloc, "show", show_help);
+    let help = "Shows in each line what the call asked: its object's group, and the request";
+    let show = flag(alloc, "show", help);
     let stats = flag(alloc, "stats", "Writes what the run took to standard error");
-    with_arg(with_arg(with_arg(of_calls, class_option(alloc)), show), stats)
+    let of_classes = with_arg(with_arg(of_calls, class_option(alloc)), show);
+    with_arg(of_classes, stats)
 }
 
 /// The command without its subcommands, one of which has to be there.

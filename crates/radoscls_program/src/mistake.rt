@@ -40,7 +40,7 @@ impl Wanted {
             Wanted::Method       => ("<METHOD>...", "NAME:FLAGS:IN:OUT:FILE, FLAGS r, w or rw, IN and OUT 0 to 65535"),
             Wanted::Class        => ("--class <NAME=IMAGE>", "a name, '=' and the file of the image"),
             Wanted::ClassName    => ("--class <NAME=IMAGE>", "a name that isn't empty and has no blank"),
-            Wanted::FreeName     => ("--class <NAME=IMAGE>", "a name that no class has: not lock, obj or an earlier one"),
+            Wanted::FreeName     => ("--class <NAME=IMAGE>", "a name other than lock, obj and earlier ones"),
             Wanted::FewerClasses => ("--class <NAME=IMAGE>", "at most 62 classes"),
             Wanted::Output       => ("<OUT>", "a file, and not standard input ('./-' is a file of that name)"),
         }

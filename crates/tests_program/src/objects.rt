@@ -236,7 +236,10 @@ fn a_file_holds_the_largest_object(rt: HostRuntime) {
     for (count, printed, status) in &FILES {
         let bytes = vec![in rt.alloc(); 7; *count].expect(&rt, "memory");
         let words = ["run", "image", "f", "--object", "@text"];
-        assert!(rt; only_prints(&rt, &words, TWO, &bytes, printed, *status), "{printed}");
+        assert!(rt;
+            only_prints(&rt, &words, TWO, &bytes, printed, *status),
+            "{printed}"
+        );
     }
 }
 

@@ -212,8 +212,7 @@ static TOLD: [(&[&str], &str); 34] = [
     ),
     (
         &["cluster", "--class", "lock=image", "text"],
-        "error: invalid value 'lock=image' for '--class <NAME=IMAGE>': expected a name that no class has: not lock, obj or an \
-        earlier one\n\nUsage: radoscls cluster [OPTIONS] <FILE>\n",
+        "error: invalid value 'lock=image' for '--class <NAME=IMAGE>': expected a name other than lock, obj and earlier ones\n\nUsage: radoscls cluster [OPTIONS] <FILE>\n",
     ),
     (
         &["asm", "text", "-"],
