@@ -114,7 +114,10 @@ pub struct Beside {
 impl Beside {
     /// Calls the method in a room, and gives its code.
     pub fn call(&self, room: &mut Room) -> Result<i64> {
-        Ok(room.call(&self.class, "f", self.object.as_ref(), 1, &INPUT)?.code)
+        Ok(
+            room.call(&self.class, "f", self.object.as_ref(), 1, &INPUT)?
+                .code,
+        )
     }
 }
 

@@ -3,11 +3,19 @@
 use tests_folder::Row;
 
 /// Bytes that are no image, by the numbers of their refusals.
-static IMAGES: [Row; 8] = [
+static IMAGES: [Row; 9] = [
     // another first byte
     Row {
         words: &["verify", "image"],
         image: "53434c31 0100 0000 01 66 01 0000 0000 0200 b700000000000000 9500000000000000",
+        text: "",
+        printed: "image refused after 0 methods: 2 Magic\n",
+        status: 1,
+    },
+    // another third byte, and nothing that isn't UTF-8: its zeros tell it from a text
+    Row {
+        words: &["verify", "image"],
+        image: "52434d31 0000 0000",
         text: "",
         printed: "image refused after 0 methods: 2 Magic\n",
         status: 1,
