@@ -2,7 +2,7 @@
 use Rattle.std.specs.Prelude.{◌≡◌, ◌⊎◌, ◌++◌, ℕ, Bool, List, [], Option, Result, Ok, Err, true, false}
 use Rattle.command_line.specs.Parsed.{Text}
 use Rattle.class_tool.specs.Answer.{Settles, Fails, answer_text}
-use Rattle.class_tool.specs.Explained.{IsFileNote, IsNote}
+use Rattle.class_tool.specs.Explained.{IsSystemNote, IsNote}
 use Rattle.class_tool.specs.Files.{Disk, Storage}
 use Rattle.class_tool.specs.declared.action.Action.{Action}
 use Rattle.class_tool.specs.declared.action.Action.TheVariants.{Run}
@@ -72,7 +72,7 @@ pub record IsUnprinted (before after : Storage) (old new : Stream) (words : List
 -- what is printed after the line of a value's file that can't be read, if that is asked for
 abbrev pub IsFileNoteAsked : Bool → Failure → List ℕ → Type 0
 IsFileNoteAsked false failure note = note ≡ []
-IsFileNoteAsked true failure note = IsFileNote failure note
+IsFileNoteAsked true failure note = IsSystemNote failure note
 
 -- A call's values could not be read, and a line says so; no file changed.
 pub record IsUnfilled (before after : Storage) (old new : Stream) (call : Call) (is_explained : Bool) : Type 0 where
