@@ -5,16 +5,26 @@
 #[cfg(test)]
 mod calls;
 #[cfg(test)]
-mod first_page;
+mod fates;
 #[cfg(test)]
-mod full_log;
+mod first_page;
 #[cfg(test)]
 mod limits;
 #[cfg(test)]
+mod logs;
+#[cfg(test)]
 mod losses;
+#[cfg(test)]
+mod lossy;
 #[cfg(test)]
 mod memory;
 #[cfg(test)]
+mod primary;
+#[cfg(test)]
 mod served;
+#[cfg(test)]
+mod steps;
+#[cfg(test)]
+mod table;
 #[cfg(test)]
 mod tries;

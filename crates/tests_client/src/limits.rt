@@ -1,14 +1,11 @@
 //! What a cluster refuses: its numbers, its classes and its sessions; and how refusals print.
 
-use crate::served::{Alone, Part, config};
-use rados_client::{
-    Cluster, ClusterName, Config, ConfigError, ExecError, LoadError, OpenError, RunError, Running,
-    Session,
-};
+use crate::served::{config, run};
+use crate::steps::Step;
+use rados_client::{Cluster, Config, ConfigError, ExecError, LoadError, OpenError, RunError};
 use std::alloc::Global;
 use std::fmt::Display;
 use std::process::Abort;
-use std::sync::Wait;
 
 /// A class with the method `f`, which answers 0.
 pub const IMAGE: [u8; 33] = [
@@ -21,104 +18,31 @@ const UNSAFE: [u8; 25] = [
     0x52, 0x43, 0x4c, 0x31, 1, 0, 0, 0, 1, 0x66, 1, 0, 0, 0, 0, 1, 0, 0x95, 0, 0, 0, 0, 0, 0, 0,
 ];
 
+/// Numbers of a cluster within their limits.
+const WITHIN: Config = Config {
+    nodes: 3,
+    replicas: 3,
+    groups: 64,
+    shards: 4,
+    workers: 4,
+    tries: 1,
+};
+
 /// Numbers of a cluster, of which one is outside its limits.
+#[rattlefmt::skip]
 const OUTSIDE: [Config; 12] = [
-    Config {
-        nodes: 0,
-        replicas: 3,
-        groups: 64,
-        shards: 4,
-        workers: 4,
-        tries: 1,
-    },
-    Config {
-        nodes: 17,
-        replicas: 3,
-        groups: 64,
-        shards: 4,
-        workers: 4,
-        tries: 1,
-    },
-    Config {
-        nodes: 3,
-        replicas: 0,
-        groups: 64,
-        shards: 4,
-        workers: 4,
-        tries: 1,
-    },
-    Config {
-        nodes: 3,
-        replicas: 4,
-        groups: 64,
-        shards: 4,
-        workers: 4,
-        tries: 1,
-    },
-    Config {
-        nodes: 3,
-        replicas: 3,
-        groups: 0,
-        shards: 4,
-        workers: 4,
-        tries: 1,
-    },
-    Config {
-        nodes: 3,
-        replicas: 3,
-        groups: 3,
-        shards: 4,
-        workers: 4,
-        tries: 1,
-    },
-    Config {
-        nodes: 3,
-        replicas: 3,
-        groups: 128,
-        shards: 4,
-        workers: 4,
-        tries: 1,
-    },
-    Config {
-        nodes: 3,
-        replicas: 3,
-        groups: 64,
-        shards: 0,
-        workers: 4,
-        tries: 1,
-    },
-    Config {
-        nodes: 3,
-        replicas: 3,
-        groups: 64,
-        shards: 65,
-        workers: 4,
-        tries: 1,
-    },
-    Config {
-        nodes: 3,
-        replicas: 3,
-        groups: 64,
-        shards: 4,
-        workers: 0,
-        tries: 1,
-    },
-    Config {
-        nodes: 3,
-        replicas: 3,
-        groups: 64,
-        shards: 4,
-        workers: 17,
-        tries: 1,
-    },
-    Config {
-        nodes: 3,
-        replicas: 3,
-        groups: 64,
-        shards: 4,
-        workers: 4,
-        tries: 0,
-    },
+    Config { nodes: 0, ..WITHIN },
+    Config { nodes: 17, ..WITHIN },
+    Config { replicas: 0, ..WITHIN },
+    Config { replicas: 4, ..WITHIN },
+    Config { groups: 0, ..WITHIN },
+    Config { groups: 3, ..WITHIN },
+    Config { groups: 128, ..WITHIN },
+    Config { shards: 0, ..WITHIN },
+    Config { shards: 65, ..WITHIN },
+    Config { workers: 0, ..WITHIN },
+    Config { workers: 17, ..WITHIN },
+    Config { tries: 0, ..WITHIN },
 ];
 
 fn is_outside(alloc: Global, config: Config) -> bool {
@@ -153,33 +77,12 @@ fn load_many(cluster: &mut Cluster, end: usize) -> bool {
 }
 
 /// Opens sessions, each dropped before the next: 64, and a 65th is refused.
-#[derive(Drop)]
-struct Sessions(Global);
-
-fn opens<N: ClusterName, R: Wait>(running: &Running<N, R>, client: u32) -> bool {
-    match Session::open(running) {
-        Ok(session) => session.client().get() == client,
-        Err(_) => false,
-    }
-}
-
-impl Part for Sessions {
-    fn act<N: ClusterName, R: Wait>(&self, running: &Running<N, R>) -> bool {
-        let mut all = true;
-        for client in 1..=64 {
-            all = all && opens(running, client);
-        }
-        let more = Session::open(running).is_err_and(|e| e == OpenError::TooMany);
-        all && more
-    }
-}
+const SESSIONS: [Step; 1] = [Step::OpenAll];
 
 #[test]
 fn sixty_four_sessions_and_one_more(rt: HostRuntime) {
     let mut cluster = Cluster::new(rt.alloc(), config(1, 1)).expect(&rt, "a cluster");
-    let ran = cluster
-        .run(rt, &Alone(Sessions(rt.alloc())))
-        .expect(&rt, "a run");
+    let ran = run(rt, rt.alloc(), &mut cluster, &SESSIONS).expect(&rt, "a run");
     drop(cluster);
     assert!(rt; ran);
 }
@@ -189,11 +92,9 @@ fn classes_and_what_a_started_cluster_refuses(rt: HostRuntime) {
     let mut cluster = Cluster::new(rt.alloc(), config(1, 1)).expect(&rt, "a cluster");
     let refused = loaded(&mut cluster, b"RCL2") == 1_001 && loaded(&mut cluster, &UNSAFE) == 1_002;
     let some = load_many(&mut cluster, 63);
-    let ran = cluster.run(rt, &Alone(Sessions(rt.alloc()))).is_ok();
+    let ran = run(rt, rt.alloc(), &mut cluster, &SESSIONS).is_ok();
     let started = loaded(&mut cluster, &IMAGE) == 1_005 && loaded(&mut cluster, &UNSAFE) == 1_002;
-    let again = cluster
-        .run(rt, &Alone(Sessions(rt.alloc())))
-        .is_err_and(|e| e == RunError::Started);
+    let again = run(rt, rt.alloc(), &mut cluster, &SESSIONS).is_err_and(|e| e == RunError::Started);
     drop(cluster);
     assert!(rt; refused && some && ran && started && again);
 }
@@ -203,7 +104,7 @@ fn sixty_four_classes_and_one_more(rt: HostRuntime) {
     let mut cluster = Cluster::new(rt.alloc(), config(1, 1)).expect(&rt, "a cluster");
     let some = load_many(&mut cluster, 64);
     let more = loaded(&mut cluster, &IMAGE) == 1_003 && loaded(&mut cluster, b"RCL2") == 1_001;
-    let ran = cluster.run(rt, &Alone(Sessions(rt.alloc()))).is_ok();
+    let ran = run(rt, rt.alloc(), &mut cluster, &SESSIONS).is_ok();
     let full = loaded(&mut cluster, &IMAGE) == 1_003;
     drop(cluster);
     assert!(rt; some && more && ran && full);

@@ -1,10 +1,11 @@
 //! What a refused allocation leaves. `rt try --test --fail-alloc N` refuses the Nth; the test holds
 //! whichever that is, and where none is refused.
 
+use crate::fates::{Passing, TestFate};
 use crate::limits::IMAGE;
 use crate::served::{Alone, Part, UnderFate, config, play};
 use object_store::ObjectName;
-use osd::{LoggedEntry, LoggedError, PassAll};
+use osd::{LoggedEntry, LoggedError};
 use placement::NodeId;
 use rados_client::{
     ClassId, Cluster, ClusterName, ConfigError, ExecError, Reply, RunError, Running, Session,
@@ -121,9 +122,10 @@ fn what_a_refused_allocation_leaves(rt: HostRuntime) {
     let (parts, table) = cluster.start().expect(&rt, "its parts");
     drop(cluster);
     let kept = Kept(rt.alloc());
+    let fate = TestFate::new(Passing::Most);
     let under_none = UnderFate {
         part: &kept,
-        fate: &PassAll,
+        fate: &fate,
     };
     let played = play(rt.alloc(), rt, parts, table, &under_none);
     assert!(rt; loaded && played != Some(false));

@@ -1,9 +1,12 @@
 //! What a part of a test does with a cluster while a worker serves it.
 ghost use Rattle.std.specs.Prelude.{◌≡◌};
 
-use osd::{ClusterName, Fate, Open, Parts, PassAll, Running, running_crosses};
+use crate::fates::{Passing, TestFate};
+use crate::steps::Step;
+use crate::table::Table;
+use osd::{ClusterName, Open, Parts, Running, running_crosses};
 use pg_log::ClassTable;
-use rados_client::{Cluster, Config, Scenario};
+use rados_client::{Cluster, Config, RunError, Scenario};
 use std::alloc::Global;
 use std::marker::Brand;
 use std::process::Abort;
@@ -45,33 +48,80 @@ impl<P: Part + Sync> Scenario for Alone<P> {
     }
 }
 
-/// Plays a part on a new cluster without a worker.
-pub fn is_so_alone<P: Part + Sync + Drop, R: Threads + Wait + Sync + Abort>(
-    rt: &R,
+/// Steps, and the fate of the messages meanwhile.
+#[derive(Drop)]
+pub struct Steps<'a> {
     alloc: Global,
-    config: Config,
-    part: P,
-) -> bool {
-    let mut cluster = Cluster::new(alloc, config).expect(rt, "a cluster");
-    cluster.run(rt, &Alone(part)).expect(rt, "a run")
+    fate: &'a TestFate,
+    steps: &'a [Step],
 }
 
-/// Plays a part on a new cluster beside one worker.
-pub fn is_so<P: Part + Sync, R: Threads + Wait + Sync + Abort>(
+impl<'a> Part for Steps<'a> {
+    fn act<N: ClusterName, R: Wait>(&self, running: &Running<N, R>) -> bool {
+        let Some(mut table) = Table::new(self.alloc, running, self.fate) else {
+            return false;
+        };
+        for step in self.steps {
+            if !table.does(*step) {
+                return false;
+            }
+        }
+        true
+    }
+}
+
+/// Does the steps on that cluster, which no worker serves.
+pub fn run<R: Threads + Wait + Sync + Drop>(
+    rt: R,
+    alloc: Global,
+    cluster: &mut Cluster,
+    steps: &[Step],
+) -> Result<bool, RunError> {
+    let fate = TestFate::new(Passing::Most);
+    cluster.run(
+        rt,
+        &Alone(Steps {
+            alloc,
+            fate: &fate,
+            steps,
+        }),
+    )
+}
+
+/// Whether the steps go so on a new cluster without a worker.
+pub fn is_so_alone<R: Threads + Wait + Sync + Abort>(
     rt: &R,
     alloc: Global,
     config: Config,
-    part: &P,
+    steps: &[Step],
 ) -> bool {
-    is_so_under(rt, alloc, config, &PassAll, part)
+    let mut cluster = Cluster::new(alloc, config).expect(rt, "a cluster");
+    run(rt, alloc, &mut cluster, steps) == Ok(true)
+}
+
+/// Whether the steps go so on a new cluster that one worker serves.
+pub fn is_so<R: Threads + Wait + Sync + Abort>(
+    rt: &R,
+    alloc: Global,
+    config: Config,
+    passing: Passing,
+    steps: &[Step],
+) -> bool {
+    let fate = TestFate::new(passing);
+    let part = Steps {
+        alloc,
+        fate: &fate,
+        steps,
+    };
+    is_part_so(rt, alloc, config, &fate, &part)
 }
 
 /// Plays a part on a new cluster beside one worker, under a fate.
-pub fn is_so_under<P: Part + Sync, F: Fate + Sync, R: Threads + Wait + Sync + Abort>(
+pub fn is_part_so<P: Part + Sync, R: Threads + Wait + Sync + Abort>(
     rt: &R,
     alloc: Global,
     config: Config,
-    fate: &F,
+    fate: &TestFate,
     part: &P,
 ) -> bool {
     let mut cluster = Cluster::new(alloc, config).expect(rt, "a cluster");
@@ -82,34 +132,29 @@ pub fn is_so_under<P: Part + Sync, F: Fate + Sync, R: Threads + Wait + Sync + Ab
 
 /// A part, and the fate under which it is played.
 #[derive(Drop)]
-pub struct UnderFate<'a, P, F> {
+pub struct UnderFate<'a, P> {
     pub part: &'a P,
-    pub fate: &'a F,
+    pub fate: &'a TestFate,
 }
 
 /// Plays a part on the cluster of these parts and classes beside one worker. None where memory for
 /// its nodes is refused.
-pub fn play<P: Part + Sync, F: Fate + Sync, R: Threads + Wait + Sync + Drop>(
+pub fn play<P: Part + Sync, R: Threads + Wait + Sync + Drop>(
     alloc: Global,
     rt: R,
     parts: Parts,
     table: ClassTable,
-    played: &UnderFate<'_, P, F>,
+    played: &UnderFate<'_, P>,
 ) -> Option<bool> {
-    play_named::<Brand, P, F, R>(alloc, rt, parts, table, played)
+    play_named::<Brand, P, R>(alloc, rt, parts, table, played)
 }
 
-fn play_named<
-    N: ClusterName + Send + Sync,
-    P: Part + Sync,
-    F: Fate + Sync,
-    R: Threads + Wait + Sync + Drop,
->(
+fn play_named<N: ClusterName + Send + Sync, P: Part + Sync, R: Threads + Wait + Sync + Drop>(
     alloc: Global,
     rt: R,
     parts: Parts,
     table: ClassTable,
-    played: &UnderFate<'_, P, F>,
+    played: &UnderFate<'_, P>,
 ) -> Option<bool>
     requires board { parts.board ≡ N.board }
     requires queues { parts.queues ≡ N.queues }
@@ -117,20 +162,18 @@ fn play_named<
     requires table { table ≡ N.classes }
 {
     let running = Running::<N, R>::named(alloc, rt, parts, table).ok()?;
-    Some(act_served(&running, played.fate, played.part))
+    Some(act_served(&running, played))
 }
 
-fn act_served<
-    N: ClusterName + Send + Sync,
-    P: Part + Sync,
-    F: Fate + Sync,
-    R: Threads + Wait + Sync,
->(running: &Running<N, R>, fate: &F, part: &P) -> bool {
+fn act_served<N: ClusterName + Send + Sync, P: Part + Sync, R: Threads + Wait + Sync>(
+    running: &Running<N, R>,
+    played: &UnderFate<'_, P>,
+) -> bool {
     running_crosses::<N, R>();
     let (_, is_so) = join(
         running.runtime(),
-        || running.serve_with(0, &Open, fate),
-        || act_and_finish(running, part),
+        || running.serve_with(0, &Open, played.fate),
+        || act_and_finish(running, played.part),
     );
     is_so
 }
