@@ -1,0 +1,36 @@
+# Completions of radoscls for bash, made by tools/manual.py from the help of the program.
+_radoscls() {
+    # of NAME=FILE, bash gives FILE as the word to complete
+    local word=${2-${COMP_WORDS[COMP_CWORD]}} words="verify run asm pack dis sim cluster help"
+    COMPREPLY=()
+    if [ "$COMP_CWORD" = 1 ]; then
+        mapfile -t COMPREPLY < <(compgen -W "$words --help --version" -- "$word")
+        return
+    fi
+    case ${COMP_WORDS[1]} in
+        help)
+            mapfile -t COMPREPLY < <(compgen -W "$words" -- "$word")
+            return
+            ;;
+        verify) words="--explain --help" ;;
+        run) words="--input --caller --object --xattr --key --show --explain --help" ;;
+        asm) words="--explain --help" ;;
+        pack) words="--rules --explain --help" ;;
+        dis) words="--slots --explain --help" ;;
+        sim) words="--class --trace --help" ;;
+        cluster) words="--class --show --stats --help" ;;
+        *) return ;;
+    esac
+    case ${COMP_WORDS[COMP_CWORD - 1]} in
+        --caller | --rules) return ;;
+    esac
+    case $word in
+        -*) mapfile -t COMPREPLY < <(compgen -W "$words" -- "$word") ;;
+        @*) mapfile -t COMPREPLY < <(compgen -P @ -f -- "${word#@}") ;;
+        *)
+            mapfile -t COMPREPLY < <(compgen -f -- "$word")
+            compopt -o filenames 2> /dev/null
+            ;;
+    esac
+}
+complete -F _radoscls radoscls
