@@ -29,7 +29,12 @@ fn verify_command<'a>(alloc: Global) -> Result<Command<'a>, AllocError>
         about: "Tells whether the methods of a class image are safe",
         examples: help::VERIFY,
     };
-    let of_image = file_command(alloc, heading, "IN", "The file of the image");
+    let of_image = file_command(
+        alloc,
+        heading,
+        "IN",
+        "The file of the class: its image or text",
+    );
     with_arg(of_image, explain_flag(alloc))
 }
 
@@ -43,7 +48,12 @@ fn call_command<'a>(alloc: Global) -> Result<Command<'a>, AllocError>
         about: "Runs a method of a class image beside an object",
         examples: help::RUN,
     };
-    let of_image = file_command(alloc, heading, "IN", "The file of the image");
+    let of_image = file_command(
+        alloc,
+        heading,
+        "IN",
+        "The file of the class: its image or text",
+    );
     let method = required(alloc, "METHOD", "The name of the method");
     let help = "The input: hexadecimal, - for none, or @FILE for the bytes of a file";
     let input = option(alloc, "input", "HEX", "", help);
@@ -116,7 +126,12 @@ fn dis_command<'a>(alloc: Global) -> Result<Command<'a>, AllocError>
         about: "Prints the text of a class image",
         examples: help::DIS,
     };
-    let of_image = file_command(alloc, heading, "IN", "The file of the image");
+    let of_image = file_command(
+        alloc,
+        heading,
+        "IN",
+        "The file of the class: its image or text",
+    );
     let slots = flag(alloc, "slots", "Ends each instruction's line with its slot");
     with_arg(with_arg(of_image, slots), explain_flag(alloc))
 }
@@ -126,7 +141,7 @@ fn class_option<'a>(alloc: Global) -> Arg<'a>
     ensures rule { rule_of result ≡ class_rule }
     ensures local { result.global ≡ false }
 {
-    let help = "A class beside lock and obj: the word that asks it, and the file of its image";
+    let help = "A class beside lock and obj: the word that asks it, and its image or text";
     each(alloc, "class", "NAME=IMAGE", help)
 }
 
