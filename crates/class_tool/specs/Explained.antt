@@ -1,6 +1,8 @@
 -- The note below a failure's line, if one is asked for.
 use Rattle.std.specs.Prelude.{◌≡◌, ◌⊎◌, ⊤, ℕ, List, [], ◌++◌, Option, Some, None, codes, slice_get, string_bytes}
 use Rattle.bpf_decode.specs.Class.{ClassMethod}
+use Rattle.bpf_decode.specs.declared.decode_error.DecodeError.{DecodeError}
+use Rattle.bpf_decode.specs.declared.decode_error.DecodeError.TheVariants as decode
 use Rattle.verifier.specs.declared.refusal.Refusal.{Refusal}
 use Rattle.bpf_asm.specs.Classes.{AsmError}
 use Rattle.class_tool.specs.Files.{Disk, Holds}
@@ -31,10 +33,15 @@ pub record IsRefusalNote (disk : Option Disk) (name : List ℕ) (refusal : Refus
 abbrev pub image_wanted : List ℕ
 image_wanted = codes "  wanted: an image, which begins with RCL1 or RCL2, or a class's text in UTF-8\n  see docs/IMAGE.md\n"
 
+-- nothing where memory was refused
+abbrev pub image_note : DecodeError → List ℕ
+image_note decode.NoMemory = []
+image_note error = image_wanted
+
 -- of bytes that say no class: of a text its line and what is wanted there, of an image what is wanted
 abbrev pub IsFaultNote : List ℕ → Failure → List ℕ → Type 0
 IsFaultNote bytes (failure.Text error) note = note ≡ fault_text bytes error
-IsFaultNote bytes (failure.Image error) note = note ≡ image_wanted
+IsFaultNote bytes (failure.Image error) note = note ≡ image_note error.error
 IsFaultNote bytes why note = note ≡ []
 
 -- the file holds that text
@@ -46,7 +53,7 @@ pub record IsTextNote (disk : Option Disk) (name : List ℕ) (error : AsmError) 
 -- the same of a file's bytes
 abbrev pub IsReadNote : Option Disk → List ℕ → Failure → List ℕ → Type 0
 IsReadNote disk name (failure.Text error) note = IsTextNote disk name error note
-IsReadNote disk name (failure.Image error) note = note ≡ image_wanted
+IsReadNote disk name (failure.Image error) note = note ≡ image_note error.error
 IsReadNote disk name why note = note ≡ []
 
 -- of a failed load the note of the refusal, or of bytes that say no class
@@ -113,8 +120,7 @@ IsPackNote raws (failure.Image error) note = note ≡ raw_line (slice_get raws e
 IsPackNote raws why note = IsSystemNote why note
 
 -- The note of a failure: where and why `verify` or `run` refuses a class; the line of a text that is
--- refused; the name of a file that
--- could not be read or written, and the system's reason.
+-- refused; the name of a file that could not be read or written, and the system's reason.
 abbrev pub IsNote : Option Disk → Action → Failure → List ℕ → Type 0
 IsNote disk (action.Verify image) why note = IsVerifyNote disk image.now why note
 IsNote disk (action.Run call) why note = IsRunNote disk call.image.now why note

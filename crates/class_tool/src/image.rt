@@ -1,12 +1,12 @@
 ghost use Rattle.std.specs.Prelude.{◌≡◌, ◌⊎◌, [], IfErr, IfNone, IfOk, IfSome, OnOk, string_bytes};
 ghost use Rattle.bpf_asm.specs.Grammar.{IsClassText};
-ghost use Rattle.class_tool.specs.Explained.{IsFaultNote, IsReadNote};
+ghost use Rattle.class_tool.specs.Explained.{IsFaultNote, IsReadNote, image_note};
 ghost use Rattle.class_tool.specs.Image.{IsClassIn, IsMemory, IsSafeIn, IsSourceOf, IsText, LoadFails, ReadFails, SayNone, Says, is_for_image};
 
 use crate::failure::Failure;
 use crate::files::Reads;
 use bpf_asm::assemble_class;
-use bpf_decode::{ClassImage, IMAGE_LIMIT, beginning, read_image};
+use bpf_decode::{ClassImage, DecodeError, IMAGE_LIMIT, beginning, read_image};
 use class_advice::fault_text;
 use std::alloc::{AllocError, Global};
 use verifier::{VerifiedClass, verify};
@@ -72,6 +72,19 @@ fn class_of_text(alloc: Global, text: &str) -> Result<ClassImage, Failure>
 const IMAGE_WANTED: &str =
     "  wanted: an image, which begins with RCL1 or RCL2, or a class's text in UTF-8\n  see docs/IMAGE.md\n";
 
+/// The note of an image that says no class; nothing where memory was refused.
+#[rattlefmt::skip]
+fn image_note(error: DecodeError) -> &'static str
+    ensures { result.now ≡ image_note error }
+{
+    match error {
+        DecodeError::NoMemory => "",
+        DecodeError::Truncated | DecodeError::Magic | DecodeError::Opcode(_) | DecodeError::Register(_) => IMAGE_WANTED,
+        DecodeError::NonzeroField(_) | DecodeError::WideHalf(_) | DecodeError::Name | DecodeError::Order => IMAGE_WANTED,
+        DecodeError::Flags | DecodeError::Limit | DecodeError::Trailing => IMAGE_WANTED,
+    }
+}
+
 /// The note of a text that says no class.
 #[rattlefmt::skip]
 pub(crate) fn fault_note(alloc: Global, text: &str, failure: &Failure) -> Result<String, AllocError>
@@ -79,7 +92,7 @@ pub(crate) fn fault_note(alloc: Global, text: &str, failure: &Failure) -> Result
 {
     match failure {
         Failure::Text(error) => fault_text(alloc, text, error),
-        Failure::Image(_) => String::from_str(alloc, IMAGE_WANTED),
+        Failure::Image(error) => String::from_str(alloc, image_note(error.error)),
         Failure::CannotRead | Failure::CannotWrite | Failure::NoMemory | Failure::Verdict(_) => Ok(String::new(alloc)),
         Failure::InputNotHex | Failure::ObjectNotHex | Failure::Object(_) | Failure::Call(_) => Ok(String::new(alloc)),
     }
@@ -115,7 +128,7 @@ fn source_of_image(alloc: Global, bytes: &[u8], note: &mut String) -> Result<Sou
     match read_image(alloc, bytes) {
         Ok(class) => Ok(Source::Image(class)),
         Err(error) => {
-            *note = String::from_str(alloc, IMAGE_WANTED)?;
+            *note = String::from_str(alloc, image_note(error.error))?;
             Err(Failure::Image(error))
         }
     }
