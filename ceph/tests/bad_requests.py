@@ -5,7 +5,7 @@ refused changes nothing.
     bad_requests.py IMAGES RADOSCLS VALUES cluster CONF | stand-in PROGRAM ..
 
 VALUES is how many other values each byte takes, at most 255. Whether a changed image is accepted is what
-`radoscls verify` says; with `-` for RADOSCLS an accepted one is still run beside the model.
+`radoscls verify` says, but for bytes that it reads as a text; with `-` for RADOSCLS an accepted one is still run beside the model.
 """
 
 import struct
@@ -39,6 +39,17 @@ def loaded(data, held, accepted):
     return 0, (whole, {**classes, name: image})
 
 
+def is_text(image):
+    """Bytes that `radoscls` reads as a class's text: the plug-in reads images alone."""
+    if len(image) < 4 or image.startswith(b"RCL") or b"\0" in image:
+        return False
+    try:
+        image.decode()
+    except UnicodeDecodeError:
+        return False
+    return True
+
+
 class Trial:
     def __init__(self, backend, tally, images, radoscls):
         self.backend, self.tally, self.images, self.radoscls = backend, tally, images, radoscls
@@ -47,11 +58,14 @@ class Trial:
     def is_accepted(self, image):
         """What `radoscls` says of an image; its line is what `verify` answers."""
         if image not in self.verdicts:
-            made = subprocess.run(
-                [self.radoscls, "verify", "-"], input=image, stdout=subprocess.PIPE, timeout=60, check=False
-            )
-            self.verdicts[image] = made.returncode == 0
-            line = b"" if made.returncode == 0 else made.stdout.strip()
+            if is_text(image):
+                self.verdicts[image], line = False, b"image refused after 0 methods: 2 Magic"
+            else:
+                made = subprocess.run(
+                    [self.radoscls, "verify", "-"], input=image, stdout=subprocess.PIPE, timeout=60, check=False
+                )
+                self.verdicts[image] = made.returncode == 0
+                line = b"" if made.returncode == 0 else made.stdout.strip()
             self.tally.want(f"verify {image.hex()}", self.backend.call("bad", "verify", image), (0, line))
         return self.verdicts[image]
 
