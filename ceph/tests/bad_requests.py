@@ -5,7 +5,8 @@ refused changes nothing.
     bad_requests.py IMAGES RADOSCLS VALUES cluster CONF | stand-in PROGRAM ..
 
 VALUES is how many other values each byte takes, at most 255. Whether a changed image is accepted is what
-`radoscls verify` says, but for bytes that it reads as a text; with `-` for RADOSCLS an accepted one is still run beside the model.
+`radoscls verify` says, but for bytes that it reads as a text; with `-` for RADOSCLS an accepted one is
+still run beside the model.
 """
 
 import struct
