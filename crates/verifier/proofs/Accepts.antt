@@ -12,7 +12,7 @@ use Rattle.bpf_decode.specs.declared.rule_set.RuleSet.{RuleSet}
 use Rattle.bpf_machine.specs.Typed.{fetch, typed_entry}
 use Rattle.bpf_machine.specs.State.{AreCapacities}
 use Rattle.bpf_machine.specs.Safe.{caps_of, EndsAlways, EndsAlwaysIsSafe}
-use Rattle.verifier.specs.Pass.{IsSpaced, AllSound}
+use Rattle.verifier.specs.inner.Pass.{IsSpaced, AllSound}
 use Rattle.verifier.specs.Verified.{IsVerified}
 use Rattle.verifier.specs.Verdict.{method_verdict}
 use Rattle.verifier.proofs.Runs.{ends_at_exit, entry_is_held}

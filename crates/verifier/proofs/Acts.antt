@@ -157,8 +157,7 @@ module _ (laws : Laws) (caps : Caps) (sizes : AreCapacities caps) (code : List (
       let x = kind_at f base in
       let w = byte_count width in
       let small = extended_small16 offset fit.2 in
-      let unset = neither (is_unset x) (load_meets Nothing caps f x (extended offset) w) ok.unset in
-      let v = read f s base h unset.0 in
+      let v = read f s base h ok.unset in
       let at = found laws.accesses caps x v.value (extended offset) w small (fits_in f.registers base fits) v.holds (not_false _ ok.bounds) in
       let reads = laws.loads f x (extended offset) w (fits_in f.registers base fits) small (allowed caps code p f (Load width d base offset) ok) vs long_vs h.slots at.region at.offset at.holds in
       let l = loaded laws.slots caps sizes known few s.memory (h.within).memory (placed at.region ((at.offset + extended offset) % 2 ^ 64)) w at.inside reads in
@@ -179,8 +178,7 @@ module _ (laws : Laws) (caps : Caps) (sizes : AreCapacities caps) (code : List (
       let x = kind_at f base in
       let w = signed_byte_count width in
       let small = extended_small16 offset fit.2 in
-      let unset = neither (is_unset x) (load_meets Nothing caps f x (extended offset) w) ok.unset in
-      let v = read f s base h unset.0 in
+      let v = read f s base h ok.unset in
       let at = found laws.accesses caps x v.value (extended offset) w small (fits_in f.registers base fits) v.holds (not_false _ ok.bounds) in
       let allows = allowed caps code p f (LoadSigned width d base offset) ok in
       let reads = laws.loads f x (extended offset) w (fits_in f.registers base fits) small allows.0 vs long_vs h.slots at.region at.offset at.holds in
@@ -250,7 +248,7 @@ module _ (laws : Laws) (caps : Caps) (sizes : AreCapacities caps) (code : List (
 
   call_steps : (helper : ℕ) → Passed caps code p (Call helper) f → Steps known caps (Call helper) s
   call_steps helper ok =
-      let t = call_made laws.slots laws.ranges laws.effects caps sizes known few helper f s h ok.unknown ok.unset ok.bounds ok.read_only ok.kinds ok.parts ok.writes in
+      let t = call_made laws.slots laws.ranges laws.effects caps sizes known few helper f s h ok.unknown ok.asks_set ok.asks_bounds ok.asks_read_only ok.kinds ok.asks_parts ok.writes in
       record { to = go (s.slot + 1) t.to; act = ap (typed_after s) t.made; moves = (t.answer, t.small, refl, t.regs, t.slots); within = within_slot t.to (s.slot + 1) t.within }
 
   pub steps : (i : Insn) → Fits i → Passed caps code p i f → i ≢ Exit → Steps known caps i s

@@ -2,6 +2,8 @@
 use Rattle.std.proofs.Common.{◌≡◌, ℕ, ◌+◌, List, [], ◌∷◌, Option, Some, None, Bool, true, false, refl, sym}
 use Rattle.std.specs.Prelude.{◌&&◌, not, is_some}
 use Rattle.std.proofs.lemmas.Bool.{false≢true}
+use Rattle.bpf_decode.specs.declared.access.SignedWidth.{SignedWidth}
+use Rattle.bpf_decode.specs.declared.access.SignedWidth.TheVariants as signed
 use Rattle.bpf_decode.specs.declared.insn.Operand.TheVariants.{Immediate, Register}
 use Rattle.bpf_decode.specs.declared.insn.Insn.{Insn}
 use Rattle.bpf_decode.specs.declared.insn.Insn.TheVariants.{Alu, Neg, Mov, MovSigned, End, LoadWide, Load, LoadSigned, Store, Jump, JumpLong, Branch, Call, CallLocal, Exit}
@@ -15,7 +17,8 @@ use Rattle.helpers.specs.Table.{signature_of}
 use Rattle.abstract_regs.specs.declared.content.Content.{Content}
 use Rattle.abstract_regs.specs.declared.content.Content.TheVariants.{Nothing, Pointer}
 use Rattle.abstract_regs.specs.Kind.{PlainKind, Unset, Num, Ptr, is_unset, is_num, is_ptr}
-use Rattle.abstract_regs.specs.Slots.{stack_place, access_span, meets}
+use Rattle.abstract_num.specs.Plain.{Plain}
+use Rattle.abstract_regs.specs.Slots.{stack_place, access_span, meets, slot_kind, whole_slot}
 use Rattle.abstract_regs.specs.Frame.{PlainFrame, kind_at, kept_kind}
 use Rattle.abstract_regs.specs.Moves.{AllowsRoom, Allows}
 use Rattle.verifier.specs.declared.fault.Fault.TheVariants.{WrongKind}
@@ -46,6 +49,13 @@ pub stored_if_kept : {A : Type 0} (b : Bool) (o : Option A) → (b && not (is_so
 stored_if_kept b None e f = when_right b true e refl
 stored_if_kept b (Some x) e f = absurd cc
 
+-- a load with sign extension is shorter than a slot
+never_whole : (width : SignedWidth) (slots : List PlainKind) (place : Option Plain) → slot_kind slots (whole_slot place (signed_byte_count width)) ≡ None
+never_whole width slots None = refl
+never_whole signed.Byte slots (Some place) = refl
+never_whole signed.Half slots (Some place) = refl
+never_whole signed.Word slots (Some place) = refl
+
 module _ (caps : Caps) (code : List (Option Insn)) (p : ℕ) (f : PlainFrame) where
   -- a load's bytes meet nothing that isn't to be read
   unmet : (content : Content) (x : PlainKind) (distance w : ℕ) → stays caps x distance w ≡ true → load_meets content caps f x distance w ≡ false → meets content (access_span (stack_place x distance) w) 0 f.slots ≡ false
@@ -74,18 +84,17 @@ module _ (caps : Caps) (code : List (Option Insn)) (p : ℕ) (f : PlainFrame) wh
   allowed (LoadWide d value) ok = tt
   allowed (Load width d base offset) ok =
       let x = kind_at f base in
-      let inside = not_false _ ok.bounds in
-      let unset = neither (is_unset x) (load_meets Nothing caps f x (extended offset) (byte_count width)) ok.unset in (
+      let inside = not_false _ ok.bounds in (
         stays_by_pointer caps x (extended offset) (byte_count width) inside,
-        unmet Nothing x (extended offset) (byte_count width) inside unset.1,
+        unmet Nothing x (extended offset) (byte_count width) inside ok.loads_set,
         (λ none. unmet Pointer x (extended offset) (byte_count width) inside (none_kept (kept_kind f x (extended offset) (byte_count width)) _ ok.parts none)),
       )
   allowed (LoadSigned width d base offset) ok =
       let x = kind_at f base in
       let inside = not_false _ ok.bounds in
-      let unset = neither (is_unset x) (load_meets Nothing caps f x (extended offset) (signed_byte_count width)) ok.unset in
-      let parts = unmet Pointer x (extended offset) (signed_byte_count width) inside ok.parts in
-      ((stays_by_pointer caps x (extended offset) (signed_byte_count width) inside, unmet Nothing x (extended offset) (signed_byte_count width) inside unset.1, (λ none. parts)), parts)
+      let kept = kept_kind f x (extended offset) (signed_byte_count width) in
+      let parts = unmet Pointer x (extended offset) (signed_byte_count width) inside (none_kept kept _ ok.parts (never_whole width f.slots (stack_place x (extended offset)))) in
+      ((stays_by_pointer caps x (extended offset) (signed_byte_count width) inside, unmet Nothing x (extended offset) (signed_byte_count width) inside ok.loads_set, (λ none. parts)), parts)
   allowed (Store width base offset (Immediate imm)) ok =
       (stays_by_pointer caps (kind_at f base) (extended offset) (byte_count width) (not_false _ ok.bounds), refl, (λ none. refl))
   allowed (Store width base offset (Register r)) ok =

@@ -3,7 +3,7 @@ use Rattle.std.proofs.Common.{◌≡◌, ℕ, zero, suc, ◌<◌, ◌≤◌, Lis
 use Rattle.std.specs.Prelude.{Box, replicate, slice_set}
 use Rattle.abstract_regs.specs.Frame.{PlainFrame}
 use Rattle.verifier.specs.Verdict.{frame_at}
-use Rattle.verifier.specs.Kept.{unbox, unboxed}
+use Rattle.verifier.specs.inner.Kept.{unbox, unboxed}
 
 pub unboxed_none : (A : Type 0) (n : ℕ) → unboxed (replicate {A = Option (Box PlainFrame A)} n None) ≡ replicate n None
 unboxed_none A zero = refl

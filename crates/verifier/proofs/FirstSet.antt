@@ -74,6 +74,10 @@ module _ (caps : Caps) (f : PlainFrame) (none : f.slots ≡ []) where
   none_taken None = refl
   none_taken (Some takes) = none_of takes.arguments 1
 
+  load_reads_none : (x : PlainKind) (at w : ℕ) → ((not (is_some (kept_kind f x at w)) && load_meets Pointer caps f x at w) || false) ≡ false
+  load_reads_none x at w =
+      both_false (not (is_some (kept_kind f x at w)) && load_meets Pointer caps f x at w) false (second_false (not (is_some (kept_kind f x at w))) (load_meets Pointer caps f x at w) (load_none Pointer x at w)) refl
+
   reads_none : (i : Insn) → reads_pointer caps f i ≡ false
   reads_none (Alu bits operation dst source) = refl
   reads_none (Neg bits dst) = refl
@@ -81,12 +85,8 @@ module _ (caps : Caps) (f : PlainFrame) (none : f.slots ≡ []) where
   reads_none (MovSigned extension dst src) = refl
   reads_none (End order width dst) = refl
   reads_none (LoadWide dst value) = refl
-  reads_none (Load width dst base offset) =
-      let x = kind_at f base in
-      let at = extended offset in
-      let w = byte_count width in
-      second_false (not (is_some (kept_kind f x at w))) (load_meets Pointer caps f x at w) (load_none Pointer x at w)
-  reads_none (LoadSigned width dst base offset) = load_none Pointer (kind_at f base) (extended offset) (signed_byte_count width)
+  reads_none (Load width dst base offset) = load_reads_none (kind_at f base) (extended offset) (byte_count width)
+  reads_none (LoadSigned width dst base offset) = load_reads_none (kind_at f base) (extended offset) (signed_byte_count width)
   reads_none (Store width base offset source) = refl
   reads_none (Jump offset) = refl
   reads_none (JumpLong distance) = refl

@@ -6,8 +6,10 @@ use Rattle.std.proofs.lemmas.Option.{none-some, same_Some}
 use Rattle.bpf_decode.specs.declared.insn.Insn.{Insn}
 use Rattle.bpf_machine.specs.declared.caps.Caps.{Caps}
 use Rattle.verifier.specs.declared.rule.Rule.{Rule}
+use Rattle.verifier.specs.declared.fault.Fault.TheVariants.{NotSet, OutOfRegion, ReadOnly, HasPointer}
+use Rattle.verifier.specs.Facets.{reads_of, touches_of, callee_of}
 use Rattle.abstract_regs.specs.Frame.{PlainFrame}
-use Rattle.verifier.specs.Rules.{is_backward, misses, falls_off, is_local_call, reads_unset, writes_r10, computes_with_pointer, compares_pointer, stores_pointer, leaves_region, writes_read_only, calls_unknown, passes_wrong_kind, writes_in_reader, returns_pointer, reads_pointer, breaks_shape, breaks_frame, breaks, shape_rules, frame_rules, first_broken, shape_rule, frame_rule, else_under, rule_at}
+use Rattle.verifier.specs.Rules.{is_backward, misses, falls_off, is_local_call, writes_r10, computes_with_pointer, compares_pointer, stores_pointer, calls_unknown, passes_wrong_kind, writes_in_reader, returns_pointer, unset_among, loads_unset, loads_pointer, leaves, stores_read_only, asks, breaks_shape, breaks_frame, breaks, shape_rules, frame_rules, first_broken, shape_rule, frame_rule, else_under, rule_at}
 
 pub neither : (a b : Bool) → (a || b) ≡ false → (a ≡ false) × (b ≡ false)
 neither true b h = absurd (false≢true (sym h))
@@ -67,18 +69,23 @@ pub record Passed (caps : Caps) (code : List (Option Insn)) (p : ℕ) (i : Insn)
   pub target : misses code p i ≡ false
   pub falls : falls_off code p i ≡ false
   pub local : is_local_call i ≡ false
-  pub unset : reads_unset caps f i ≡ false
+  pub unset : unset_among f (reads_of i) ≡ false
+  pub loads_set : loads_unset caps f (touches_of i) ≡ false
+  pub asks_set : asks caps f NotSet (callee_of i) ≡ false
   pub r10 : writes_r10 i ≡ false
   pub computed : computes_with_pointer f i ≡ false
   pub compared : compares_pointer f i ≡ false
   pub stored : stores_pointer f i ≡ false
-  pub bounds : leaves_region caps f i ≡ false
-  pub read_only : writes_read_only caps f i ≡ false
+  pub bounds : leaves caps f (touches_of i) ≡ false
+  pub asks_bounds : asks caps f OutOfRegion (callee_of i) ≡ false
+  pub read_only : stores_read_only f (touches_of i) ≡ false
+  pub asks_read_only : asks caps f ReadOnly (callee_of i) ≡ false
   pub unknown : calls_unknown i ≡ false
   pub kinds : passes_wrong_kind caps f i ≡ false
   pub writes : writes_in_reader caps i ≡ false
   pub returns : returns_pointer f i ≡ false
-  pub parts : reads_pointer caps f i ≡ false
+  pub parts : loads_pointer caps f (touches_of i) ≡ false
+  pub asks_parts : asks caps f HasPointer (callee_of i) ≡ false
 
 neither_rule : (o : Option Rule) (f : PlainFrame) (rule_of : PlainFrame → Option Rule) → else_under o (Some f) rule_of ≡ None → (o ≡ None) × (rule_of f ≡ None)
 neither_rule None f rule_of h = (refl, h)
@@ -90,21 +97,31 @@ passed caps code p i f h =
     let a = all_false (breaks_shape code p i) shape_rules both.0 in
     let b = all_false (breaks_frame caps f i) frame_rules both.1 in
     let c = b.1.1.1.1 in
+    let set = neither (unset_among f (reads_of i)) (loads_unset caps f (touches_of i) || asks caps f NotSet (callee_of i)) b.0 in
+    let later = neither (loads_unset caps f (touches_of i)) (asks caps f NotSet (callee_of i)) set.1 in
+    let bounds = neither (leaves caps f (touches_of i)) (asks caps f OutOfRegion (callee_of i)) c.1.0 in
+    let read_only = neither (stores_read_only f (touches_of i)) (asks caps f ReadOnly (callee_of i)) c.1.1.0 in
+    let parts = neither (loads_pointer caps f (touches_of i)) (asks caps f HasPointer (callee_of i)) c.1.1.1.1.1.1.1.0 in
     record {
       backward = a.0;
       target = a.1.0;
       falls = a.1.1.0;
       local = a.1.1.1.0;
-      unset = b.0;
+      unset = set.0;
+      loads_set = later.0;
+      asks_set = later.1;
       r10 = b.1.0;
       computed = b.1.1.0;
       compared = b.1.1.1.0;
       stored = c.0;
-      bounds = c.1.0;
-      read_only = c.1.1.0;
+      bounds = bounds.0;
+      asks_bounds = bounds.1;
+      read_only = read_only.0;
+      asks_read_only = read_only.1;
       unknown = c.1.1.1.0;
       kinds = c.1.1.1.1.0;
       writes = c.1.1.1.1.1.0;
       returns = c.1.1.1.1.1.1.0;
-      parts = c.1.1.1.1.1.1.1.0;
+      parts = parts.0;
+      asks_parts = parts.1;
     }

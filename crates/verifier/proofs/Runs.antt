@@ -18,7 +18,7 @@ use Rattle.abstract_regs.specs.Frame.{PlainFrame, HoldsEach}
 use Rattle.abstract_regs.specs.Kind.{Num}
 use Rattle.abstract_num.specs.Plain.{constant}
 use Rattle.verifier.specs.Frame.{known_slots, entry, Holds}
-use Rattle.verifier.specs.Pass.{Sound, IsSound, AllSound}
+use Rattle.verifier.specs.inner.Pass.{Sound, IsSound, AllSound}
 use Rattle.verifier.specs.Rules.{rule_at}
 use Rattle.verifier.specs.Verdict.{frame_at, whole_table, code_verdict}
 use Rattle.verifier.proofs.Bytes.{bytes_append, bytes_zeros}

@@ -17,9 +17,9 @@ use Rattle.abstract_regs.specs.Moves.{EachFits, Keeps}
 use Rattle.verifier.specs.declared.pass.Pass.{Pass}
 use Rattle.verifier.specs.Frame.{entry}
 use Rattle.verifier.specs.Rules.{rule_at, room_of}
-use Rattle.verifier.specs.Kept.{unbox}
+use Rattle.verifier.specs.inner.Kept.{unbox}
 use Rattle.verifier.specs.Verdict.{Table, frame_at, joined, met, along, unless_refused, flow_from, start, incoming, frames, whole_table, IsTable, or_else, first_refused}
-use Rattle.verifier.specs.Pass.{merged, fallen, awaited, flown, HasLeft, IsSpaced, IsSound, Sound}
+use Rattle.verifier.specs.inner.Pass.{merged, fallen, awaited, flown, HasLeft, IsSpaced, IsSound, Sound}
 
 get_left : {A : Type 0} (xs ys : List A) (p : ℕ) → p < length xs → slice_get (xs ++ ys) p ≡ slice_get xs p
 get_left [] ys p h = absurd (omega arith)

@@ -1,11 +1,10 @@
 -- The rules: which instructions are refused, and where.
-use Rattle.std.specs.Prelude.{ℕ, ◌+◌, List, [], ◌∷◌, Option, Some, None, Bool, true, false, if◌then◌else◌, ◌==◌, ◌&&◌, ◌||◌, not, is_some}
+use Rattle.std.specs.Prelude.{ℕ, ℤ, ◌+◌, List, [], ◌∷◌, Option, Some, None, Bool, true, false, if◌then◌else◌, ◌==◌, ◌&&◌, ◌||◌, not, is_some}
 use Rattle.std.specs.Int.{is_negative}
 use Rattle.bpf_decode.specs.declared.insn.Operand.{Operand}
 use Rattle.bpf_decode.specs.declared.insn.Operand.TheVariants.{Immediate, Register}
 use Rattle.bpf_decode.specs.declared.insn.Insn.{Insn}
-use Rattle.bpf_decode.specs.declared.insn.Insn.TheVariants.{Alu, Neg, Mov, MovSigned, End, LoadWide, Load, LoadSigned, Store, Jump, JumpLong, Branch, Call, CallLocal, Exit}
-use Rattle.bpf_decode.specs.Instruction.{byte_count, signed_byte_count, slot_count}
+use Rattle.bpf_decode.specs.Instruction.{slot_count}
 use Rattle.bpf_machine.specs.declared.caps.Caps.{Caps}
 use Rattle.helpers.specs.declared.argument.Argument.{Argument}
 use Rattle.helpers.specs.declared.argument.Argument.TheVariants.{Number, OutputLength, Readable, Writable}
@@ -14,12 +13,24 @@ use Rattle.helpers.specs.Table.{signature_of}
 use Rattle.bpf_machine.specs.Typed.{extended, fetch}
 use Rattle.verifier.specs.declared.rule.Rule.{Rule}
 use Rattle.verifier.specs.declared.rule.Rule.TheVariants.{Backward, Target, FallsOff, LocalCall, UnsetRead, WritesR10, PointerArithmetic, PointerCompare, PointerStored, Bounds, ReadOnlyRegion, UnknownHelper, HelperArgument, WriteHelperInReader, ReturnsPointer, PointerBytes}
+use Rattle.verifier.specs.declared.facets.Access.{Access}
+use Rattle.verifier.specs.declared.facets.Callee.{Callee}
+use Rattle.verifier.specs.declared.facets.Callee.TheVariants as callee
+use Rattle.verifier.specs.declared.facets.Goes.{Goes}
+use Rattle.verifier.specs.declared.facets.Goes.TheVariants as goes
+use Rattle.verifier.specs.declared.facets.Reads.{Reads}
+use Rattle.verifier.specs.declared.facets.Reads.TheVariants as reads
+use Rattle.verifier.specs.declared.facets.Touches.{Touches}
+use Rattle.verifier.specs.declared.facets.Touches.TheVariants as touches
+use Rattle.verifier.specs.declared.facets.Uses.{Uses}
+use Rattle.verifier.specs.declared.facets.Uses.TheVariants as uses
 use Rattle.verifier.specs.declared.fault.Fault.{Fault}
 use Rattle.verifier.specs.declared.fault.Fault.TheVariants.{NotSet, OutOfRegion, ReadOnly, WrongKind, HasPointer}
 use Rattle.abstract_regs.specs.Kind.{PlainKind, is_unset, is_num, is_ptr}
 use Rattle.abstract_regs.specs.declared.content.Content.{Content}
 use Rattle.abstract_regs.specs.declared.content.Content.TheVariants.{Nothing, Pointer}
 use Rattle.abstract_regs.specs.Slots.{stack_place, stack_range, access_span, meets}
+use Rattle.verifier.specs.Facets.{goes_of, writes_of, reads_of, uses_of, touches_of, callee_of}
 use Rattle.verifier.specs.Kind.{alu_refused, mov_refused, stays, is_read_only, is_at_most, range_leaves, range_is_read_only}
 use Rattle.abstract_regs.specs.Frame.{PlainFrame, kind_at, operand_kind, kept_kind}
 use Rattle.abstract_regs.specs.Flow.{target}
@@ -36,29 +47,38 @@ range_meets content caps f x y = meets content (stack_range x y) 0 f.slots && no
 abbrev pub begins_at : List (Option Insn) → ℕ → Bool
 begins_at code q = is_some (fetch code q)
 
+-- a jump's distance, where it has one, passes a test
+abbrev pub jumps : (ℤ → Bool) → Goes → Bool
+jumps test goes.On = false
+jumps test (goes.To distance) = test distance
+jumps test (goes.Either distance) = test distance
+jumps test goes.Out = false
+
+-- it may go on to the instruction after it
+abbrev pub falls : Goes → Bool
+falls goes.On = true
+falls (goes.To distance) = false
+falls (goes.Either distance) = true
+falls goes.Out = false
+
+abbrev pub is_local : Callee → Bool
+is_local callee.Nothing = false
+is_local (callee.Helper helper) = false
+is_local callee.Local = true
+
 abbrev pub is_backward : Insn → Bool
-is_backward (Jump offset) = is_negative offset
-is_backward (JumpLong distance) = is_negative distance
-is_backward (Branch bits comparison dst source offset) = is_negative offset
-is_backward i = false
+is_backward i = jumps is_negative (goes_of i)
 
 -- its target is past the last slot or in a wide load's second half
 abbrev pub misses : List (Option Insn) → ℕ → Insn → Bool
-misses code p (Jump offset) = not (begins_at code (target p offset))
-misses code p (JumpLong distance) = not (begins_at code (target p distance))
-misses code p (Branch bits comparison dst source offset) = not (begins_at code (target p offset))
-misses code p i = false
+misses code p i = jumps (λ distance. not (begins_at code (target p distance))) (goes_of i)
 
 -- the last instruction, which nothing begins after, goes on to the slot after it
 abbrev pub falls_off : List (Option Insn) → ℕ → Insn → Bool
-falls_off code p (Jump offset) = false
-falls_off code p (JumpLong distance) = false
-falls_off code p Exit = false
-falls_off code p i = not (begins_at code (p + slot_count i))
+falls_off code p i = falls (goes_of i) && not (begins_at code (p + slot_count i))
 
 abbrev pub is_local_call : Insn → Bool
-is_local_call (CallLocal distance) = true
-is_local_call i = false
+is_local_call i = is_local (callee_of i)
 
 -- A helper's argument that it takes from register k on, and what may be wrong with it.
 abbrev pub has_fault : Caps → PlainFrame → Fault → Argument → ℕ → Bool
@@ -114,101 +134,151 @@ abbrev pub room_of_takes : Option Takes → Option ℕ
 room_of_takes None = None
 room_of_takes (Some takes) = room_in takes.arguments 1
 
+abbrev pub room_of_call : Callee → Option ℕ
+room_of_call callee.Nothing = None
+room_of_call (callee.Helper helper) = room_of_takes (signature_of helper)
+room_of_call callee.Local = None
+
 abbrev pub room_of : Insn → Option ℕ
-room_of (Call helper) = room_of_takes (signature_of helper)
-room_of i = None
+room_of i = room_of_call (callee_of i)
 
-abbrev pub operand_is_unset : PlainFrame → Operand → Bool
-operand_is_unset f (Immediate imm) = false
-operand_is_unset f (Register r) = is_unset (kind_at f r)
+-- The tests of the facets: a helper that is called has an argument with the fault,
+abbrev pub asks : Caps → PlainFrame → Fault → Callee → Bool
+asks caps f fault callee.Nothing = false
+asks caps f fault (callee.Helper helper) = call_fault caps f fault helper
+asks caps f fault callee.Local = false
 
-abbrev pub reads_unset : Caps → PlainFrame → Insn → Bool
-reads_unset caps f (Alu bits operation dst source) = is_unset (kind_at f dst) || operand_is_unset f source
-reads_unset caps f (Neg bits dst) = is_unset (kind_at f dst)
-reads_unset caps f (Mov bits dst source) = operand_is_unset f source
-reads_unset caps f (MovSigned extension dst src) = is_unset (kind_at f src)
-reads_unset caps f (End order width dst) = is_unset (kind_at f dst)
-reads_unset caps f (LoadWide dst value) = false
-reads_unset caps f (Load width dst from offset) = is_unset (kind_at f from) || load_meets Nothing caps f (kind_at f from) (extended offset) (byte_count width)
-reads_unset caps f (LoadSigned width dst from offset) = is_unset (kind_at f from) || load_meets Nothing caps f (kind_at f from) (extended offset) (signed_byte_count width)
-reads_unset caps f (Store width to offset source) = is_unset (kind_at f to) || operand_is_unset f source
-reads_unset caps f (Jump offset) = false
-reads_unset caps f (JumpLong distance) = false
-reads_unset caps f (Branch bits comparison dst source offset) = is_unset (kind_at f dst) || operand_is_unset f source
-reads_unset caps f (Call helper) = call_fault caps f NotSet helper
-reads_unset caps f (CallLocal distance) = false
-reads_unset caps f Exit = is_unset (kind_at f 0)
-
-abbrev pub writes_r10 : Insn → Bool
-writes_r10 (Alu bits operation dst source) = dst == 10
-writes_r10 (Neg bits dst) = dst == 10
-writes_r10 (Mov bits dst source) = dst == 10
-writes_r10 (MovSigned extension dst src) = dst == 10
-writes_r10 (End order width dst) = dst == 10
-writes_r10 (LoadWide dst value) = dst == 10
-writes_r10 (Load width dst from offset) = dst == 10
-writes_r10 (LoadSigned width dst from offset) = dst == 10
-writes_r10 i = false
-
--- arithmetic on a pointer other than a copy, or a number added to it or subtracted from it, each in
--- 64 bits
-abbrev pub computes_with_pointer : PlainFrame → Insn → Bool
-computes_with_pointer f (Alu bits operation dst source) = alu_refused bits operation (kind_at f dst) (operand_kind f source)
-computes_with_pointer f (Neg bits dst) = is_ptr (kind_at f dst)
-computes_with_pointer f (Mov bits dst source) = mov_refused bits (operand_kind f source)
-computes_with_pointer f (MovSigned extension dst src) = is_ptr (kind_at f src)
-computes_with_pointer f (End order width dst) = is_ptr (kind_at f dst)
-computes_with_pointer f i = false
-
-abbrev pub compares_pointer : PlainFrame → Insn → Bool
-compares_pointer f (Branch bits comparison dst source offset) = is_ptr (kind_at f dst) || is_ptr (operand_kind f source)
-compares_pointer f i = false
-
-abbrev pub stores_pointer : PlainFrame → Insn → Bool
-stores_pointer f (Store width to offset (Register src)) = is_ptr (kind_at f src) && not (is_some (kept_kind f (kind_at f to) (extended offset) (byte_count width)))
-stores_pointer f i = false
-
--- a load, a store or a helper's range that may leave its region; a load or store through a number
-abbrev pub leaves_region : Caps → PlainFrame → Insn → Bool
-leaves_region caps f (Load width dst from offset) = not (stays caps (kind_at f from) (extended offset) (byte_count width))
-leaves_region caps f (LoadSigned width dst from offset) = not (stays caps (kind_at f from) (extended offset) (signed_byte_count width))
-leaves_region caps f (Store width to offset source) = not (stays caps (kind_at f to) (extended offset) (byte_count width))
-leaves_region caps f (Call helper) = call_fault caps f OutOfRegion helper
-leaves_region caps f i = false
-
-abbrev pub writes_read_only : Caps → PlainFrame → Insn → Bool
-writes_read_only caps f (Store width to offset source) = is_read_only (kind_at f to)
-writes_read_only caps f (Call helper) = call_fault caps f ReadOnly helper
-writes_read_only caps f i = false
-
-abbrev pub calls_unknown : Insn → Bool
-calls_unknown (Call helper) = not (is_some (signature_of helper))
-calls_unknown i = false
-
-abbrev pub passes_wrong_kind : Caps → PlainFrame → Insn → Bool
-passes_wrong_kind caps f (Call helper) = call_fault caps f WrongKind helper
-passes_wrong_kind caps f i = false
+abbrev pub is_unknown : Callee → Bool
+is_unknown callee.Nothing = false
+is_unknown (callee.Helper helper) = not (is_some (signature_of helper))
+is_unknown callee.Local = false
 
 abbrev pub writes_object : Option Takes → Bool
 writes_object None = false
 writes_object (Some takes) = takes.writes
 
+-- may change the object,
+abbrev pub may_write : Callee → Bool
+may_write callee.Nothing = false
+may_write (callee.Helper helper) = writes_object (signature_of helper)
+may_write callee.Local = false
+
+abbrev pub operand_is_unset : PlainFrame → Operand → Bool
+operand_is_unset f (Immediate imm) = false
+operand_is_unset f (Register r) = is_unset (kind_at f r)
+
+-- a register that is read is unset,
+abbrev pub unset_among : PlainFrame → Reads → Bool
+unset_among f reads.Nothing = false
+unset_among f (reads.One x) = operand_is_unset f x
+unset_among f (reads.Two x y) = operand_is_unset f x || operand_is_unset f y
+unset_among f reads.Answer = is_unset (kind_at f 0)
+
+abbrev pub is_r10 : Option ℕ → Bool
+is_r10 None = false
+is_r10 (Some r) = r == 10
+
+-- arithmetic uses a pointer, other than a copy, or a number added to it or subtracted from it, each
+-- in 64 bits,
+abbrev pub computed_pointer : PlainFrame → Uses → Bool
+computed_pointer f uses.Nothing = false
+computed_pointer f (uses.Computes bits operation dst x) = alu_refused bits operation (kind_at f dst) (operand_kind f x)
+computed_pointer f (uses.Changes r) = is_ptr (kind_at f r)
+computed_pointer f (uses.Copies bits x) = mov_refused bits (operand_kind f x)
+computed_pointer f (uses.Compares dst x) = false
+computed_pointer f uses.Answers = false
+
+abbrev pub compared_pointer : PlainFrame → Uses → Bool
+compared_pointer f uses.Nothing = false
+compared_pointer f (uses.Computes bits operation dst x) = false
+compared_pointer f (uses.Changes r) = false
+compared_pointer f (uses.Copies bits x) = false
+compared_pointer f (uses.Compares dst x) = is_ptr (kind_at f dst) || is_ptr (operand_kind f x)
+compared_pointer f uses.Answers = false
+
+abbrev pub answered_pointer : PlainFrame → Uses → Bool
+answered_pointer f uses.Nothing = false
+answered_pointer f (uses.Computes bits operation dst x) = false
+answered_pointer f (uses.Changes r) = false
+answered_pointer f (uses.Copies bits x) = false
+answered_pointer f (uses.Compares dst x) = false
+answered_pointer f uses.Answers = is_ptr (kind_at f 0)
+
+-- an access may leave its region, or is through a number,
+abbrev pub access_leaves : Caps → PlainFrame → Access → Bool
+access_leaves caps f a = not (stays caps (kind_at f a.base) (extended a.offset) a.bytes)
+
+abbrev pub leaves : Caps → PlainFrame → Touches → Bool
+leaves caps f touches.Nothing = false
+leaves caps f (touches.Loads a) = access_leaves caps f a
+leaves caps f (touches.Stores a x) = access_leaves caps f a
+
+abbrev pub stores_read_only : PlainFrame → Touches → Bool
+stores_read_only f touches.Nothing = false
+stores_read_only f (touches.Loads a) = false
+stores_read_only f (touches.Stores a x) = is_read_only (kind_at f a.base)
+
+-- an access is one whole slot of the stack that is known,
+abbrev pub is_slot : PlainFrame → Access → Bool
+is_slot f a = is_some (kept_kind f (kind_at f a.base) (extended a.offset) a.bytes)
+
+-- a pointer is stored, other than whole in such a slot,
+abbrev pub stored_pointer : PlainFrame → Touches → Bool
+stored_pointer f touches.Nothing = false
+stored_pointer f (touches.Loads a) = false
+stored_pointer f (touches.Stores a (Immediate imm)) = false
+stored_pointer f (touches.Stores a (Register src)) = is_ptr (kind_at f src) && not (is_slot f a)
+
+-- a load may touch a slot of the stack that is unset, or, if it isn't one whole slot, a pointer
+abbrev pub loads_unset : Caps → PlainFrame → Touches → Bool
+loads_unset caps f touches.Nothing = false
+loads_unset caps f (touches.Loads a) = load_meets Nothing caps f (kind_at f a.base) (extended a.offset) a.bytes
+loads_unset caps f (touches.Stores a x) = false
+
+abbrev pub loads_pointer : Caps → PlainFrame → Touches → Bool
+loads_pointer caps f touches.Nothing = false
+loads_pointer caps f (touches.Loads a) = not (is_slot f a) && load_meets Pointer caps f (kind_at f a.base) (extended a.offset) a.bytes
+loads_pointer caps f (touches.Stores a x) = false
+
+-- The rules of the frame.
+abbrev pub reads_unset : Caps → PlainFrame → Insn → Bool
+reads_unset caps f i = unset_among f (reads_of i) || (loads_unset caps f (touches_of i) || asks caps f NotSet (callee_of i))
+
+abbrev pub writes_r10 : Insn → Bool
+writes_r10 i = is_r10 (writes_of i)
+
+abbrev pub computes_with_pointer : PlainFrame → Insn → Bool
+computes_with_pointer f i = computed_pointer f (uses_of i)
+
+abbrev pub compares_pointer : PlainFrame → Insn → Bool
+compares_pointer f i = compared_pointer f (uses_of i)
+
+abbrev pub stores_pointer : PlainFrame → Insn → Bool
+stores_pointer f i = stored_pointer f (touches_of i)
+
+-- a load, a store or a helper's range that may leave its region; a load or store through a number
+abbrev pub leaves_region : Caps → PlainFrame → Insn → Bool
+leaves_region caps f i = leaves caps f (touches_of i) || asks caps f OutOfRegion (callee_of i)
+
+abbrev pub writes_read_only : Caps → PlainFrame → Insn → Bool
+writes_read_only caps f i = stores_read_only f (touches_of i) || asks caps f ReadOnly (callee_of i)
+
+abbrev pub calls_unknown : Insn → Bool
+calls_unknown i = is_unknown (callee_of i)
+
+abbrev pub passes_wrong_kind : Caps → PlainFrame → Insn → Bool
+passes_wrong_kind caps f i = asks caps f WrongKind (callee_of i)
+
 -- a helper that may change the object, in a method that may not
 abbrev pub writes_in_reader : Caps → Insn → Bool
-writes_in_reader caps (Call helper) = writes_object (signature_of helper) && not caps.writes
-writes_in_reader caps i = false
+writes_in_reader caps i = may_write (callee_of i) && not caps.writes
 
 abbrev pub returns_pointer : PlainFrame → Insn → Bool
-returns_pointer f Exit = is_ptr (kind_at f 0)
-returns_pointer f i = false
+returns_pointer f i = answered_pointer f (uses_of i)
 
 -- a load of a part of a pointer, or a helper's range with one
 abbrev pub reads_pointer : Caps → PlainFrame → Insn → Bool
-reads_pointer caps f (Load width dst from offset) =
-    not (is_some (kept_kind f (kind_at f from) (extended offset) (byte_count width))) && load_meets Pointer caps f (kind_at f from) (extended offset) (byte_count width)
-reads_pointer caps f (LoadSigned width dst from offset) = load_meets Pointer caps f (kind_at f from) (extended offset) (signed_byte_count width)
-reads_pointer caps f (Call helper) = call_fault caps f HasPointer helper
-reads_pointer caps f i = false
+reads_pointer caps f i = loads_pointer caps f (touches_of i) || asks caps f HasPointer (callee_of i)
 
 -- a test of the frame, where there is one
 abbrev pub under : Option PlainFrame → (PlainFrame → Bool) → Bool

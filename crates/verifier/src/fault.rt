@@ -2,6 +2,7 @@ ghost use Rattle.std.specs.Prelude.{◌≡◌, ◌<◌, ◌+◌, length};
 ghost use Rattle.abstract_regs.specs.Seen.{seen};
 ghost use Rattle.verifier.specs.Rules.{has_fault, register_count, some_fault, call_fault, range_meets, room_in, room_of};
 
+use crate::facets::{Callee, callee_of};
 use crate::kind_rules::{is_at_most, range_is_read_only, range_leaves};
 use abstract_regs::{Content, Frame, Kind};
 use bpf_decode::Insn;
@@ -83,18 +84,15 @@ fn range_meets(content: Content, caps: &Caps, frame: &Frame, pointer: Kind, leng
 }
 
 /// The first register of the range that a helper writes.
-#[rattlefmt::skip]
 pub fn room(insn: &Insn) -> Option<u8>
     ensures { result ≡ room_of insn.now }
 {
-    match *insn {
-        Insn::Call { helper } => match signature(helper) {
+    match callee_of(insn) {
+        Callee::Helper(helper) => match signature(helper) {
             None => None,
             Some(takes) => room_in(takes.arguments, 1),
         },
-        Insn::Alu { .. } | Insn::Neg { .. } | Insn::Mov { .. } | Insn::MovSigned { .. } | Insn::End { .. } => None,
-        Insn::LoadWide { .. } | Insn::Load { .. } | Insn::LoadSigned { .. } | Insn::Store { .. } => None,
-        Insn::Jump { .. } | Insn::JumpLong { .. } | Insn::Branch { .. } | Insn::CallLocal { .. } | Insn::Exit => None,
+        Callee::Nothing | Callee::Local => None,
     }
 }
 

@@ -1,7 +1,7 @@
 ghost use Rattle.std.specs.Prelude.{◌≡◌, IfOk, None, replicate, slice_set};
 ghost use Rattle.verifier.specs.Verdict.{frame_at, joined};
-ghost use Rattle.verifier.specs.Pass.{merged};
-ghost use Rattle.verifier.specs.Kept.{unbox};
+ghost use Rattle.verifier.specs.inner.Pass.{merged};
+ghost use Rattle.verifier.specs.inner.Kept.{unbox};
 
 use abstract_regs::Frame;
 use std::alloc::{AllocError, Global};
@@ -18,7 +18,7 @@ pub struct PendingFrames {
 
 impl Model for PendingFrames {
     ghost use Rattle.verifier.specs.Verdict.{Table};
-    ghost use Rattle.verifier.specs.Kept.{unboxed};
+    ghost use Rattle.verifier.specs.inner.Kept.{unboxed};
 
     ghost Value = { Table };
 
@@ -65,12 +65,26 @@ impl PendingFrames {
         Ok(())
     }
 
+    /// Keeps the only flow of an instruction, in its own memory if it is the first into its slot.
+    pub fn give(&mut self, slot: usize, flow: Box<Frame>)
+        ensures { self.new ≡ merged self.old slot flow.value }
+    {
+        if slot < self.frames.len() {
+            let kept = self.frames[slot].take();
+            let (first, done) = united(kept, flow);
+            self.frames[slot] = Some(first);
+            self.reuse(done);
+        }
+    }
+
     /// Gets a frame that is done with, if there is one.
     #[inline(always)]
     pub fn reuse(&mut self, frame: Option<Box<Frame>>)
         ensures { self.new ≡ self.old }
     {
-        self.spare = frame;
+        if frame.is_some() {
+            self.spare = frame;
+        }
     }
 }
 
@@ -88,6 +102,19 @@ fn met(
         Some(mut frame) => {
             frame.join(flow);
             Ok(frame)
+        }
+    }
+}
+
+/// A flow, joined with what has flowed there, and the frame that is done with.
+fn united(kept: Option<Box<Frame>>, flow: Box<Frame>) -> (Box<Frame>, Option<Box<Frame>>)
+    ensures { result.0.value ≡ joined (unbox kept) flow.value }
+{
+    match kept {
+        None => (flow, None),
+        Some(mut frame) => {
+            frame.join(&flow);
+            (frame, Some(flow))
         }
     }
 }

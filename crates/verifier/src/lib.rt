@@ -7,6 +7,7 @@
 #![tactic(auto)]
 
 mod class;
+mod facets;
 mod fault;
 mod kept;
 mod kind_rules;
@@ -20,6 +21,10 @@ mod rules;
 mod verified;
 
 pub use class::verify;
+pub use facets::{
+    Access, Callee, Goes, Reads, Touches, Uses, callee_of, goes_of, reads_of, touches_of, uses_of,
+    writes_of,
+};
 pub use laws::{first_rule_set, one_table};
 pub use refusal::Refusal;
 pub use refused::{RefusedSlot, refused_slot};

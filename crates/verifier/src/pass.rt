@@ -3,8 +3,8 @@ ghost use Rattle.bpf_machine.specs.Typed.{fetch};
 ghost use Rattle.verifier.specs.Rules.{rule_at};
 ghost use Rattle.verifier.specs.Verdict.{IsFirstRefused, code_verdict, frame_at, whole_table};
 ghost use Rattle.verifier.specs.Frame.{known_slots, entry};
-ghost use Rattle.verifier.specs.Kept.{unbox};
-ghost use Rattle.verifier.specs.Pass.{IsSpaced, awaited, HasLeft, IsSound, AllSound};
+ghost use Rattle.verifier.specs.inner.Kept.{unbox};
+ghost use Rattle.verifier.specs.inner.Pass.{IsSpaced, awaited, HasLeft, IsSound, AllSound};
 
 use crate::fault::room;
 use crate::kept::PendingFrames;
@@ -206,17 +206,15 @@ impl Pass {
         ensures sound { IfOk result (λ _. IsSound insn.now slot (unbox self.old.current)) }
     {
         self.landing = slot + width(insn);
-        if let Some(frame) = &mut self.current {
+        if let Some(mut frame) = self.current.take() {
             match frame.flow(room(insn), insn, slot, &mut self.fallen) {
-                Edges::Leaves => self.current = None,
-                Edges::Falls => {}
-                Edges::Jumps(target) => {
-                    self.kept.keep(alloc, target, frame)?;
-                    self.current = None;
-                }
+                Edges::Leaves => self.kept.reuse(Some(frame)),
+                Edges::Falls => self.current = Some(frame),
+                Edges::Jumps(target) => self.kept.give(target, frame),
                 Edges::Branches(target, compared) => {
-                    self.kept.keep(alloc, target, frame)?;
+                    self.kept.keep(alloc, target, &frame)?;
                     frame.refine(&compared, &self.fallen);
+                    self.current = Some(frame);
                 }
             }
         }

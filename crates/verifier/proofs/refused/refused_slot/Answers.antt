@@ -1,6 +1,6 @@
 use Rattle.std.proofs.Common.{ap, ◌∙◌, sym, subst}
 use Rattle.bpf_decode.specs.Instruction.{slots}
-use Rattle.verifier.specs.Pass.{IsSpaced}
+use Rattle.verifier.specs.inner.Pass.{IsSpaced}
 use Rattle.verifier.proofs.Accepts.{slots_spaced}
 use Rattle.verifier.proofs.refused.refused_slot.Goals as goal
 

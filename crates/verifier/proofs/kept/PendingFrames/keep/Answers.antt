@@ -2,7 +2,7 @@ use Rattle.std.proofs.Common.{◌≡◌, Some, ◌<◌, ◌≤◌, length, ap, �
 use Rattle.std.specs.Prelude.{slice_set}
 use Rattle.std.proofs.lemmas.List.{set-set}
 use Rattle.verifier.specs.Verdict.{frame_at, joined}
-use Rattle.verifier.specs.Kept.{unbox, unboxed}
+use Rattle.verifier.specs.inner.Kept.{unbox, unboxed}
 use Rattle.verifier.proofs.Boxes.{unboxed_at, unboxed_set, unboxed_set_past}
 use Rattle.verifier.proofs.kept.PendingFrames.keep.Goals.{in-Some-1, in-None-1}
 use Rattle.verifier.proofs.kept.PendingFrames.keep.Goals as goal

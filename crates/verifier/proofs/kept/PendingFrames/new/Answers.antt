@@ -1,7 +1,7 @@
 use Rattle.std.proofs.Common.{◌≡◌, ◌++◌, ◌∷◌, [], None, ap, ◌∙◌, arith}
 use Rattle.std.specs.Prelude.{replicate}
 use Rattle.std.proofs.lemmas.List.{replicate-append-replicate}
-use Rattle.verifier.specs.Kept.{unboxed}
+use Rattle.verifier.specs.inner.Kept.{unboxed}
 use Rattle.verifier.proofs.Boxes.{unboxed_none}
 use Rattle.verifier.proofs.kept.PendingFrames.new.Goals as goal
 

@@ -1,6 +1,6 @@
 use Rattle.std.proofs.Common.{None, slice_set, ◌<◌, ◌≤◌, length, ap, ◌∙◌, sym, arith}
 use Rattle.verifier.specs.Verdict.{frame_at}
-use Rattle.verifier.specs.Kept.{unbox, unboxed}
+use Rattle.verifier.specs.inner.Kept.{unbox, unboxed}
 use Rattle.verifier.proofs.Boxes.{unboxed_at, unboxed_past, unboxed_set, unboxed_set_past}
 use Rattle.verifier.proofs.kept.PendingFrames.take.Goals as goal
 

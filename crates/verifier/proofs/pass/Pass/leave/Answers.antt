@@ -2,8 +2,8 @@ use Rattle.std.proofs.Common.{◌+◌, Some, refl, sym, ap, ◌∙◌}
 use Rattle.bpf_decode.specs.Instruction.{slot_count}
 use Rattle.abstract_regs.specs.Edged.{with_edges, refined}
 use Rattle.abstract_regs.specs.Flow.{flow}
-use Rattle.verifier.specs.Kept.{unbox}
-use Rattle.verifier.specs.Pass.{merged}
+use Rattle.verifier.specs.inner.Kept.{unbox}
+use Rattle.verifier.specs.inner.Pass.{merged}
 use Rattle.verifier.proofs.Tables.{is_sound, leaves_both, leaves_one}
 use Rattle.verifier.proofs.pass.Pass.leave.Goals as goal
 
@@ -16,13 +16,13 @@ returns-in_ok-keep-in-Branches-clause-left c =
     let kept = c.args.self.now.kept in
     let next = c.args.slot + slot_count c.args.insn.now in
     leaves_both (unbox c.args.self.now.current) f (refined h c.in-Branches.compared c.flow.new.fallen) h kept _ i p c.in-Branches.target c.width.result
-    (ap unbox c.in-Some.is)
+    (ap unbox (sym c.take.ensures.value ∙ c.in-Some.is))
     (ap (λ room. flow room i p f) (sym c.room.ensures) ∙ ap (flow c.room.result i p) (sym c.deref_mut.ensures.value) ∙ c.flow.ensures.table ∙ ap (λ e. with_edges e c.flow.new.fallen next h) c.in-Branches.is)
-    c.width.ensures (c.in_ok-keep-in-Branches.ensures ∙ ap (merged kept c.in-Branches.target) c.deref-in-Branches.ensures)
+    c.width.ensures (c.in_ok-keep-in-Branches.ensures ∙ ap (merged kept c.in-Branches.target) c.deref.ensures)
     (ap Some (c.refine.ensures ∙ ap (λ g. refined g c.in-Branches.compared c.flow.new.fallen) c.deref_mut-in-Branches.ensures.value)) refl
 
-pub returns-in_ok-keep-in-Jumps-clause-left : goal.returns-in_ok-keep-in-Jumps-clause-left
-returns-in_ok-keep-in-Jumps-clause-left c =
+pub returns-in-Jumps-clause-left : goal.returns-in-Jumps-clause-left
+returns-in-Jumps-clause-left c =
     let i = c.args.insn.now in
     let p = c.args.slot in
     let f = c.in-Some.frame.value in
@@ -30,22 +30,22 @@ returns-in_ok-keep-in-Jumps-clause-left c =
     let kept = c.args.self.now.kept in
     let next = c.args.slot + slot_count c.args.insn.now in
     leaves_one (unbox c.args.self.now.current) f h kept _ i p c.in-Jumps.target c.width.result
-    (ap unbox c.in-Some.is)
+    (ap unbox (sym c.take.ensures.value ∙ c.in-Some.is))
     (ap (λ room. flow room i p f) (sym c.room.ensures) ∙ ap (flow c.room.result i p) (sym c.deref_mut.ensures.value) ∙ c.flow.ensures.table ∙ ap (λ e. with_edges e c.flow.new.fallen next h) c.in-Jumps.is)
-    c.width.ensures (c.in_ok-keep-in-Jumps.ensures ∙ ap (merged kept c.in-Jumps.target) c.deref.ensures) refl refl
+    c.width.ensures c.give.ensures (ap unbox c.take.ensures.after) refl
 
 pub returns-in-Leaves-clause-sound : goal.returns-in-Leaves-clause-sound
 returns-in-Leaves-clause-sound c =
-    is_sound (unbox c.args.self.now.current) c.in-Some.frame.value c.deref_mut.result.now c.room.result c.args.insn.now c.args.slot (ap unbox c.in-Some.is) c.deref_mut.ensures.value c.room.ensures c.flow.ensures.keeps c.flow.ensures.fits
+    is_sound (unbox c.args.self.now.current) c.in-Some.frame.value c.deref_mut.result.now c.room.result c.args.insn.now c.args.slot (ap unbox (sym c.take.ensures.value ∙ c.in-Some.is)) c.deref_mut.ensures.value c.room.ensures c.flow.ensures.keeps c.flow.ensures.fits
 
 pub returns-in-Falls-clause-sound : goal.returns-in-Falls-clause-sound
 returns-in-Falls-clause-sound c =
-    is_sound (unbox c.args.self.now.current) c.in-Some.frame.value c.deref_mut.result.now c.room.result c.args.insn.now c.args.slot (ap unbox c.in-Some.is) c.deref_mut.ensures.value c.room.ensures c.flow.ensures.keeps c.flow.ensures.fits
+    is_sound (unbox c.args.self.now.current) c.in-Some.frame.value c.deref_mut.result.now c.room.result c.args.insn.now c.args.slot (ap unbox (sym c.take.ensures.value ∙ c.in-Some.is)) c.deref_mut.ensures.value c.room.ensures c.flow.ensures.keeps c.flow.ensures.fits
 
-pub returns-in_ok-keep-in-Jumps-clause-sound : goal.returns-in_ok-keep-in-Jumps-clause-sound
-returns-in_ok-keep-in-Jumps-clause-sound c =
-    is_sound (unbox c.args.self.now.current) c.in-Some.frame.value c.deref_mut.result.now c.room.result c.args.insn.now c.args.slot (ap unbox c.in-Some.is) c.deref_mut.ensures.value c.room.ensures c.flow.ensures.keeps c.flow.ensures.fits
+pub returns-in-Jumps-clause-sound : goal.returns-in-Jumps-clause-sound
+returns-in-Jumps-clause-sound c =
+    is_sound (unbox c.args.self.now.current) c.in-Some.frame.value c.deref_mut.result.now c.room.result c.args.insn.now c.args.slot (ap unbox (sym c.take.ensures.value ∙ c.in-Some.is)) c.deref_mut.ensures.value c.room.ensures c.flow.ensures.keeps c.flow.ensures.fits
 
 pub returns-in_ok-keep-in-Branches-clause-sound : goal.returns-in_ok-keep-in-Branches-clause-sound
 returns-in_ok-keep-in-Branches-clause-sound c =
-    is_sound (unbox c.args.self.now.current) c.in-Some.frame.value c.deref_mut.result.now c.room.result c.args.insn.now c.args.slot (ap unbox c.in-Some.is) c.deref_mut.ensures.value c.room.ensures c.flow.ensures.keeps c.flow.ensures.fits
+    is_sound (unbox c.args.self.now.current) c.in-Some.frame.value c.deref_mut.result.now c.room.result c.args.insn.now c.args.slot (ap unbox (sym c.take.ensures.value ∙ c.in-Some.is)) c.deref_mut.ensures.value c.room.ensures c.flow.ensures.keeps c.flow.ensures.fits

@@ -1,7 +1,7 @@
 use Rattle.std.proofs.Common.{◌≡◌, ◌+◌, ◌<◌, Some, None, refl, ap, ◌∙◌, sym, subst, arith, length}
 use Rattle.std.specs.Prelude.{slice_get}
 use Rattle.std.proofs.lemmas.Option.{none-some, slice_get_read, slice_get_within}
-use Rattle.verifier.specs.Pass.{IsSound}
+use Rattle.verifier.specs.inner.Pass.{IsSound}
 use Rattle.bpf_machine.specs.State.{◌>>=◌}
 use Rattle.verifier.proofs.Runs.{inner}
 use Rattle.verifier.proofs.Tables.{Brought, refused_at, refused_over, brought_first, brought_more, brought_over, its_frame, sound_more, sound_over}

@@ -1,7 +1,7 @@
 use Rattle.std.proofs.Common.{◌≡◌, ◌<◌, ℕ, Some, drop}
 use Rattle.bpf_decode.specs.declared.insn.Insn.{Insn}
 use Rattle.bpf_machine.specs.Typed.{fetch}
-use Rattle.verifier.specs.Pass.{IsSound}
+use Rattle.verifier.specs.inner.Pass.{IsSound}
 use Rattle.verifier.specs.Verdict.{frame_at, whole_table, first_refused, code_verdict}
 use Rattle.verifier.proofs.Tables.{Brought}
 use Rattle.verifier.proofs.pass.Pass.run.Given as goal

@@ -11,7 +11,7 @@ use Rattle.abstract_regs.specs.Moves.{EachFits, Keeps}
 use Rattle.verifier.specs.declared.pass.Pass.{Pass}
 use Rattle.bpf_machine.specs.declared.caps.Caps.{Caps}
 use Rattle.verifier.specs.Rules.{room_of}
-use Rattle.verifier.specs.Kept.{unbox}
+use Rattle.verifier.specs.inner.Kept.{unbox}
 use Rattle.verifier.specs.Verdict.{Table, frame_at, joined, met, along, whole_table}
 
 abbrev pub merged : Table → ℕ → PlainFrame → Table
