@@ -5,16 +5,19 @@ use Rattle.abstract_num.specs.Plain.{constant}
 use Rattle.abstract_regs.specs.Frame.{PlainFrame, kind_at, kept_kind}
 use Rattle.abstract_regs.specs.Kind.{PlainKind, Ptr}
 use Rattle.abstract_regs.specs.Slots.{access_span, stack_place, stack_range, touches}
-use Rattle.bpf_decode.specs.Instruction.{byte_count, signed_byte_count}
 use Rattle.bpf_decode.specs.Values.{extended}
 use Rattle.bpf_decode.specs.declared.insn.Insn.{Insn}
-use Rattle.bpf_decode.specs.declared.insn.Insn.TheVariants.{Load, LoadSigned, Store, Call}
 use Rattle.bpf_decode.specs.declared.region.Region.TheVariants.{Stack}
 use Rattle.helpers.specs.Effect.{Takes}
 use Rattle.helpers.specs.Table.{signature_of}
 use Rattle.helpers.specs.declared.argument.Argument.{Argument}
 use Rattle.helpers.specs.declared.argument.Argument.TheVariants.{Number, OutputLength, Readable, Writable}
+use Rattle.verifier.specs.Facets.{touches_of, callee_of}
 use Rattle.verifier.specs.Rules.{register_count}
+use Rattle.verifier.specs.declared.facets.Callee.{Callee}
+use Rattle.verifier.specs.declared.facets.Callee.TheVariants as callee
+use Rattle.verifier.specs.declared.facets.Touches.{Touches}
+use Rattle.verifier.specs.declared.facets.Touches.TheVariants as memory
 use Rattle.verifier.specs.declared.rule.Rule.{Rule}
 use Rattle.verifier.specs.declared.rule.Rule.TheVariants.{UnsetRead, PointerStored, PointerBytes}
 use Rattle.class_advice.specs.Known.{kind_text}
@@ -38,12 +41,18 @@ abbrev pub call_touches : PlainFrame → Option Takes → ℕ → Bool
 call_touches f None j = false
 call_touches f (Some takes) j = arguments_touch f takes.arguments 1 j
 
+abbrev pub memory_touches : PlainFrame → Touches → ℕ → Bool
+memory_touches f memory.Nothing j = false
+memory_touches f (memory.Loads a) j = access_touches (kind_at f a.base) (extended a.offset) a.bytes j
+memory_touches f (memory.Stores a x) j = access_touches (kind_at f a.base) (extended a.offset) a.bytes j
+
+abbrev pub helper_touches : PlainFrame → Callee → ℕ → Bool
+helper_touches f callee.Nothing j = false
+helper_touches f (callee.Helper helper) j = call_touches f (signature_of helper) j
+helper_touches f callee.Local j = false
+
 abbrev pub insn_touches : PlainFrame → Insn → ℕ → Bool
-insn_touches f (Load width dst base offset) j = access_touches (kind_at f base) (extended offset) (byte_count width) j
-insn_touches f (LoadSigned width dst base offset) j = access_touches (kind_at f base) (extended offset) (signed_byte_count width) j
-insn_touches f (Store width base offset source) j = access_touches (kind_at f base) (extended offset) (byte_count width) j
-insn_touches f (Call helper) j = call_touches f (signature_of helper) j
-insn_touches f i j = false
+insn_touches f i j = memory_touches f (touches_of i) j || helper_touches f (callee_of i) j
 
 -- a slot by its place below register 10, and what is known of it; nothing in rule set 1
 abbrev pub slot_line : ℕ → Option PlainKind → List ℕ

@@ -5,8 +5,11 @@ use Rattle.std.specs.List.{list_any}
 use Rattle.abstract_regs.specs.Flow.{target}
 use Rattle.bpf_decode.specs.Instruction.{slot_count}
 use Rattle.bpf_decode.specs.declared.insn.Insn.{Insn}
-use Rattle.bpf_decode.specs.declared.insn.Insn.TheVariants.{Jump, JumpLong, Branch, Exit}
 use Rattle.class_advice.specs.Read.{sets, unsets}
+use Rattle.verifier.specs.Facets.{goes_of}
+use Rattle.verifier.specs.Rules.{falls}
+use Rattle.verifier.specs.declared.facets.Goes.{Goes}
+use Rattle.verifier.specs.declared.facets.Goes.TheVariants as goes
 
 -- such a way leads to a slot: from the instruction before it, or by a jump to one of these slots
 abbrev pub arrives : Bool → List ℕ → ℕ → Bool
@@ -18,17 +21,17 @@ stays_unset before i r = not (sets i r) && (before || unsets i r)
 
 -- to the instruction after it
 abbrev pub falls_on : Insn → Bool
-falls_on (Jump offset) = false
-falls_on (JumpLong distance) = false
-falls_on Exit = false
-falls_on i = true
+falls_on i = falls (goes_of i)
 
 -- to where the instruction at a slot jumps
+abbrev pub jumps_from : Goes → ℕ → List ℕ
+jumps_from goes.On at = []
+jumps_from (goes.To distance) at = target at distance ∷ []
+jumps_from (goes.Either distance) at = target at distance ∷ []
+jumps_from goes.Out at = []
+
 abbrev pub jumps_of : Insn → ℕ → List ℕ
-jumps_of (Jump offset) at = target at offset ∷ []
-jumps_of (JumpLong distance) at = target at distance ∷ []
-jumps_of (Branch bits comparison dst source offset) at = target at offset ∷ []
-jumps_of i at = []
+jumps_of i at = jumps_from (goes_of i) at
 
 abbrev pub jumps_if : Bool → Insn → ℕ → List ℕ
 jumps_if false i at = []

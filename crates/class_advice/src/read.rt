@@ -2,13 +2,14 @@
 ghost use Rattle.std.specs.Prelude.{◌≡◌, ◌+◌, ◌<◌, length};
 ghost use Rattle.abstract_regs.specs.Seen.{seen};
 ghost use Rattle.abstract_regs.specs.Slots.{has};
-ghost use Rattle.class_advice.specs.Read.{first_read, is_read, is_source, sets, take_register, takes_register, unsets};
+ghost use Rattle.class_advice.specs.Read.{first_read, is_among, is_answer, is_read, is_source, is_taken, is_written, sets, take_register, takes_register, unsets};
 ghost use Rattle.helpers.specs.Table.{signature_of};
 ghost use Rattle.verifier.specs.Rules.{register_count};
 
 use abstract_regs::{Content, Frame, Kind};
-use bpf_decode::{Insn, Operand};
+use bpf_decode::{Insn, Operand, Register};
 use helpers::{Argument, signature};
+use verifier::{Callee, Reads, callee_of, reads_of, writes_of};
 
 /// How many registers an argument takes.
 pub(crate) fn count_registers(argument: Argument) -> usize
@@ -57,25 +58,26 @@ fn is_source(source: Operand, register: usize) -> bool
 pub(crate) fn is_read(insn: &Insn, register: usize) -> bool
     ensures { result ≡ is_read insn.now register }
 {
-    match *insn {
-        Insn::Alu { dst, source, .. } | Insn::Branch { dst, source, .. } => {
-            usize::from(dst.number()) == register || is_source(source, register)
-        }
-        Insn::Neg { dst, .. } | Insn::End { dst, .. } => usize::from(dst.number()) == register,
-        Insn::Mov { source, .. } => is_source(source, register),
-        Insn::MovSigned { src, .. } => usize::from(src.number()) == register,
-        Insn::Load { base, .. } | Insn::LoadSigned { base, .. } => {
-            usize::from(base.number()) == register
-        }
-        Insn::Store { base, source, .. } => {
-            usize::from(base.number()) == register || is_source(source, register)
-        }
-        Insn::Call { helper } => takes_register(helper, register),
-        Insn::Exit => 0 == register,
-        Insn::LoadWide { .. }
-        | Insn::Jump { .. }
-        | Insn::JumpLong { .. }
-        | Insn::CallLocal { .. } => false,
+    is_among(reads_of(insn), register) || is_taken(callee_of(insn), register)
+}
+
+fn is_among(reads: Reads, register: usize) -> bool
+    ensures { result ≡ is_among reads register }
+{
+    match reads {
+        Reads::Nothing => false,
+        Reads::One(x) => is_source(x, register),
+        Reads::Two(x, y) => is_source(x, register) || is_source(y, register),
+        Reads::Answer => 0 == register,
+    }
+}
+
+fn is_taken(callee: Callee, register: usize) -> bool
+    ensures { result ≡ is_taken callee register }
+{
+    match callee {
+        Callee::Helper(helper) => takes_register(helper, register),
+        Callee::Nothing | Callee::Local => false,
     }
 }
 
@@ -109,30 +111,37 @@ pub(crate) fn first_read(
     first_read(content, insn, frame, register + 1, left - 1)
 }
 
-/// Whether an instruction sets a register.
-#[rattlefmt::skip]
+/// Whether an instruction sets a register; a call of a helper sets register 0.
 pub(crate) fn sets(insn: &Insn, register: usize) -> bool
     ensures { result ≡ sets insn.now register }
 {
-    match *insn {
-        Insn::Alu { dst, .. } | Insn::Neg { dst, .. } | Insn::Mov { dst, .. } => usize::from(dst.number()) == register,
-        Insn::MovSigned { dst, .. } | Insn::End { dst, .. } | Insn::LoadWide { dst, .. } => usize::from(dst.number()) == register,
-        Insn::Load { dst, .. } | Insn::LoadSigned { dst, .. } => usize::from(dst.number()) == register,
-        Insn::Call { .. } => 0 == register,
-        Insn::Store { .. } | Insn::Jump { .. } | Insn::JumpLong { .. } | Insn::Branch { .. } => false,
-        Insn::CallLocal { .. } | Insn::Exit => false,
+    is_written(writes_of(insn), register) || is_answer(callee_of(insn), register)
+}
+
+fn is_written(dst: Option<Register>, register: usize) -> bool
+    ensures { result ≡ is_written dst register }
+{
+    match dst {
+        None => false,
+        Some(dst) => usize::from(dst.number()) == register,
     }
 }
 
-/// Whether an instruction leaves a register unset.
-#[rattlefmt::skip]
+fn is_answer(callee: Callee, register: usize) -> bool
+    ensures { result ≡ is_answer callee register }
+{
+    match callee {
+        Callee::Helper(_) => 0 == register,
+        Callee::Nothing | Callee::Local => false,
+    }
+}
+
+/// Whether an instruction leaves a register unset; a call of a helper does so with 1 to 5.
 pub(crate) fn unsets(insn: &Insn, register: usize) -> bool
     ensures { result ≡ unsets insn.now register }
 {
-    match *insn {
-        Insn::Call { .. } => 1 <= register && register <= 5,
-        Insn::Alu { .. } | Insn::Neg { .. } | Insn::Mov { .. } | Insn::MovSigned { .. } | Insn::End { .. } => false,
-        Insn::LoadWide { .. } | Insn::Load { .. } | Insn::LoadSigned { .. } | Insn::Store { .. } => false,
-        Insn::Jump { .. } | Insn::JumpLong { .. } | Insn::Branch { .. } | Insn::CallLocal { .. } | Insn::Exit => false,
+    match callee_of(insn) {
+        Callee::Helper(_) => 1 <= register && register <= 5,
+        Callee::Nothing | Callee::Local => false,
     }
 }

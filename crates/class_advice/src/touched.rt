@@ -6,7 +6,7 @@ ghost use Rattle.abstract_regs.specs.Frame.{kept_kind};
 ghost use Rattle.abstract_regs.specs.Kind.{Ptr as APtr};
 ghost use Rattle.abstract_regs.specs.Seen.{seen};
 ghost use Rattle.abstract_regs.specs.Slots.{stack_range, touches};
-ghost use Rattle.class_advice.specs.Touched.{access_touches, argument_touches, arguments_touch, call_touches, insn_touches, is_of_slots, line_if_touched, slot_line, slots_text, touched_text};
+ghost use Rattle.class_advice.specs.Touched.{access_touches, argument_touches, arguments_touch, call_touches, helper_touches, insn_touches, is_of_slots, line_if_touched, memory_touches, slot_line, slots_text, touched_text};
 ghost use Rattle.helpers.specs.Table.{signature_of};
 
 use crate::known::push_kind;
@@ -16,7 +16,7 @@ use abstract_regs::{Frame, Kind};
 use bpf_decode::{Arithmetic, Insn, OpWidth, Region};
 use helpers::{Argument, signature};
 use std::alloc::AllocError;
-use verifier::Rule;
+use verifier::{Callee, Rule, Touches, callee_of, touches_of};
 
 /// Whether bytes may be in a slot: as many as `bytes`, from a place between `low` and `high` on.
 fn are_in(low: u64, high: u64, bytes: u64, slot: u64) -> bool
@@ -108,25 +108,33 @@ fn call_touches(frame: &Frame, helper: u32, slot: u64) -> bool
 }
 
 /// Whether an instruction may touch a slot.
-#[rattlefmt::skip]
 fn insn_touches(frame: &Frame, insn: &Insn, slot: u64) -> bool
     requires { slot < 64 }
     ensures { result ≡ insn_touches frame.now insn.now slot }
 {
-    match *insn {
-        Insn::Load { width, base, offset, .. } => {
-            access_touches(frame.at(base), i64::from(offset).cast_unsigned(), width.bytes(), slot)
+    memory_touches(frame, touches_of(insn), slot) || helper_touches(frame, callee_of(insn), slot)
+}
+
+fn memory_touches(frame: &Frame, touches: Touches, slot: u64) -> bool
+    requires { slot < 64 }
+    ensures { result ≡ memory_touches frame.now touches slot }
+{
+    match touches {
+        Touches::Loads(access) | Touches::Stores(access, _) => {
+            let distance = i64::from(access.offset).cast_unsigned();
+            access_touches(frame.at(access.base), distance, access.bytes, slot)
         }
-        Insn::LoadSigned { width, base, offset, .. } => {
-            access_touches(frame.at(base), i64::from(offset).cast_unsigned(), width.bytes(), slot)
-        }
-        Insn::Store { width, base, offset, .. } => {
-            access_touches(frame.at(base), i64::from(offset).cast_unsigned(), width.bytes(), slot)
-        }
-        Insn::Call { helper } => call_touches(frame, helper, slot),
-        Insn::Alu { .. } | Insn::Neg { .. } | Insn::Mov { .. } | Insn::MovSigned { .. } | Insn::End { .. } => false,
-        Insn::LoadWide { .. } => false,
-        Insn::Jump { .. } | Insn::JumpLong { .. } | Insn::Branch { .. } | Insn::CallLocal { .. } | Insn::Exit => false,
+        Touches::Nothing => false,
+    }
+}
+
+fn helper_touches(frame: &Frame, callee: Callee, slot: u64) -> bool
+    requires { slot < 64 }
+    ensures { result ≡ helper_touches frame.now callee slot }
+{
+    match callee {
+        Callee::Helper(helper) => call_touches(frame, helper, slot),
+        Callee::Nothing | Callee::Local => false,
     }
 }
 

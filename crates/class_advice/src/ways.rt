@@ -7,6 +7,7 @@ ghost use Rattle.class_advice.specs.Ways.{arrives, falls_on, is_missed, jumps_if
 use crate::read::{sets, unsets};
 use bpf_decode::{Insn, width};
 use std::alloc::{AllocError, Global};
+use verifier::{Goes, goes_of};
 
 /// Whether such a way goes on past an instruction.
 fn stays_unset(before: bool, insn: &Insn, register: usize) -> bool
@@ -16,15 +17,12 @@ fn stays_unset(before: bool, insn: &Insn, register: usize) -> bool
 }
 
 /// Whether a way goes on to the instruction after one.
-#[rattlefmt::skip]
 fn falls_on(insn: &Insn) -> bool
     ensures { result ≡ falls_on insn.now }
 {
-    match *insn {
-        Insn::Jump { .. } | Insn::JumpLong { .. } | Insn::Exit => false,
-        Insn::Alu { .. } | Insn::Neg { .. } | Insn::Mov { .. } | Insn::MovSigned { .. } | Insn::End { .. } => true,
-        Insn::LoadWide { .. } | Insn::Load { .. } | Insn::LoadSigned { .. } | Insn::Store { .. } => true,
-        Insn::Branch { .. } | Insn::Call { .. } | Insn::CallLocal { .. } => true,
+    match goes_of(insn) {
+        Goes::On | Goes::Either(_) => true,
+        Goes::To(_) | Goes::Out => false,
     }
 }
 
@@ -37,20 +35,21 @@ fn target(at: usize, distance: i64) -> usize
 }
 
 /// Adds where the instruction at a slot jumps, if a way goes on past it.
-#[rattlefmt::skip]
-fn push_jumps(targets: &mut Vec<usize>, goes_on: bool, insn: &Insn, at: usize) -> Result<(), AllocError>
+fn push_jumps(
+    targets: &mut Vec<usize>,
+    goes_on: bool,
+    insn: &Insn,
+    at: usize,
+) -> Result<(), AllocError>
     ensures { OnOk result (targets.new.items ≡ targets.old.items ++ jumps_if goes_on insn.now at) }
 {
     if !goes_on {
         return Ok(());
     }
-    match *insn {
-        Insn::Jump { offset } => Ok(targets.push(target(at, i64::from(offset)))?),
-        Insn::JumpLong { distance } => Ok(targets.push(target(at, i64::from(distance)))?),
-        Insn::Branch { offset, .. } => Ok(targets.push(target(at, i64::from(offset)))?),
-        Insn::Alu { .. } | Insn::Neg { .. } | Insn::Mov { .. } | Insn::MovSigned { .. } | Insn::End { .. } => Ok(()),
-        Insn::LoadWide { .. } | Insn::Load { .. } | Insn::LoadSigned { .. } | Insn::Store { .. } => Ok(()),
-        Insn::Call { .. } | Insn::CallLocal { .. } | Insn::Exit => Ok(()),
+    match goes_of(insn) {
+        Goes::To(distance) => Ok(targets.push(target(at, i64::from(distance)))?),
+        Goes::Either(distance) => Ok(targets.push(target(at, i64::from(distance)))?),
+        Goes::On | Goes::Out => Ok(()),
     }
 }
 
