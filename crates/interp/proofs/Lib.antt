@@ -8,5 +8,6 @@ pub mod Calm
 pub mod Effects
 pub mod Helped
 pub mod Bytes
+pub mod Begun
 pub mod Runs
 pub mod Answered
