@@ -8,7 +8,7 @@ use Rattle.pg_log.specs.Log.{Classes}
 use Rattle.group_world.specs.Node.{NodeState}
 use Rattle.group_world.specs.Rules.{append_new, least_of, raised}
 use Rattle.peering.specs.declared.node.serve.Commit.{Commit}
-use Rattle.peering.specs.Arriving.{sent_with, grown}
+use Rattle.peering.specs.inner.Arriving.{sent_with, grown}
 
 -- what is acknowledged, committed and sent with one request more is what the rule says
 pub grown_is : (classes : Classes) (n k : ℕ) (s : NodeState) (r : ClientRequest) (w : Commit) → k ≡ length s.log + 1 →

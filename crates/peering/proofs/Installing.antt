@@ -22,7 +22,7 @@ use Rattle.group_world.specs.declared.message.MessageKind.TheVariants.{Query, Lo
 use Rattle.group_world.specs.declared.message.Packet.{Packet}
 use Rattle.group_world.specs.declared.handle_error.HandleError.{HandleError}
 use Rattle.peering.specs.declared.node.moves.Arrival.{Arrival}
-use Rattle.peering.specs.Arriving.{after_move, interval_after, log_after, Makes, install_first, install_again, with_log, is_memory}
+use Rattle.peering.specs.inner.Arriving.{after_move, interval_after, log_after, Makes, install_first, install_again, with_log, is_memory}
 use Rattle.peering.specs.Numbered.{NumberedNode}
 
 pub waits : (st : Status) → is_waiting st ≡ true → st ≡ Waiting

@@ -12,7 +12,7 @@ use Rattle.group_world.specs.Node.{NodeState, Outcome, nothing, and_sends, is_in
 use Rattle.group_world.specs.Rules.{and_acks, replicate}
 use Rattle.group_world.specs.declared.party.Party.{Party}
 use Rattle.group_world.specs.declared.message.MessageKind.TheVariants.{Ack}
-use Rattle.peering.specs.Arriving.{acks_if, is_memory}
+use Rattle.peering.specs.inner.Arriving.{acks_if, is_memory}
 
 -- what is made of an answer, where the place is the last or isn't
 abbrev by_answer : ℕ → Party → NodeState → ClientRequest → Bool → Result (Option ℕ) LogError → Outcome

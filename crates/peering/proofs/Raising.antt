@@ -3,7 +3,7 @@ use Rattle.std.proofs.Common.{◌≡◌, ℕ, zero, suc, ◌+◌, ◌<◌, cond,
 use Rattle.replication.specs.Places.{least_from}
 use Rattle.group_world.specs.Node.{NodeState}
 use Rattle.group_world.specs.Unanswered.{reps_unacked, reps_from}
-use Rattle.peering.specs.Arriving.{at_interval, reps_for}
+use Rattle.peering.specs.inner.Arriving.{at_interval, reps_for}
 use Rattle.group_world.specs.Rules.{raised, least_of}
 
 pub raised_end : (m k c : ℕ) (ns ks : List ℕ) → c ≡ min (length ns) (length ks) → raised m k (drop c ns) (drop c ks) ≡ drop c ks

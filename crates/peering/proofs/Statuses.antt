@@ -15,7 +15,7 @@ use Rattle.group_world.specs.Rules.{acknowledge, activate, each_at, is_usable, a
 use Rattle.group_world.specs.declared.handle_error.HandleError.{HandleError}
 use Rattle.group_world.specs.declared.party.Party.{Party}
 use Rattle.group_world.specs.declared.party.Party.TheVariants.{Node as ANode}
-use Rattle.peering.specs.Arriving.{with_log}
+use Rattle.peering.specs.inner.Arriving.{with_log}
 use Rattle.peering.specs.Numbered.{NumberedNode}
 
 pub asking_is : (st : Status) → sameb the_type st Asking ≡ is_asking st

@@ -1,5 +1,5 @@
--- A reader of the contracts must believe Numbered and Mapping. The others say what the code does on
--- the way.
+-- A reader of the contracts must believe Numbered and Mapping. What the code does on the way is
+-- inner.
 pub mod Numbered
 pub mod Mapping
-pub mod Arriving
+pub mod inner

@@ -8,7 +8,7 @@ ghost use Rattle.group_world.specs.Node.{committed_list, is_installing};
 ghost use Rattle.group_world.specs.Rules.{adopt_log, note_installed, activate, each_at, is_usable, begins};
 ghost use Rattle.peering.specs.Numbered.{IsDone};
 ghost use Rattle.peering_messages.specs.Sending.{IsLegalBy};
-ghost use Rattle.peering.specs.Arriving.{with_log, is_memory};
+ghost use Rattle.peering.specs.inner.Arriving.{with_log, is_memory};
 
 use crate::node::GroupNode;
 use crate::node::moves::installing;

@@ -6,7 +6,7 @@ ghost use Rattle.group_world.specs.contracts.status.Status.{the_type};
 ghost use Rattle.group_world.specs.Rules.{would_forget, ignores, arrive, lead, learn_map, answer_query, install};
 ghost use Rattle.peering.specs.Numbered.{IsDone};
 ghost use Rattle.peering_messages.specs.Sending.{IsLegalBy, adopted_sent};
-ghost use Rattle.peering.specs.Arriving.{after_move, Makes, log_after, interval_after, install_first, install_again};
+ghost use Rattle.peering.specs.inner.Arriving.{after_move, Makes, log_after, interval_after, install_first, install_again};
 
 use crate::node::GroupNode;
 use group_world::{Epoch, GroupMap, HandleError, MessageKind, Packet, Party, Status};

@@ -2,7 +2,7 @@
 ghost use Rattle.std.specs.Prelude.{◌≡◌, ◌++◌, drop, IfOk, IfErr, OnOk};
 ghost use Rattle.pg_log.specs.Entries.{requests_of};
 ghost use Rattle.group_world.specs.Unanswered.{unanswered, unanswered_in, reps_unacked};
-ghost use Rattle.peering.specs.Arriving.{at_interval, reps_for};
+ghost use Rattle.peering.specs.inner.Arriving.{at_interval, reps_for};
 
 use crate::node::GroupNode;
 use group_world::{Epoch, HandleError, Messages, Packet, Place, Status};

@@ -6,7 +6,7 @@ ghost use Rattle.group_world.specs.Rules.{request as request_step, request_at, a
 ghost use Rattle.pg_log.specs.Entries.{IsNextEntry};
 ghost use Rattle.peering.specs.Numbered.{IsDone, IsRefusal};
 ghost use Rattle.peering_messages.specs.Sending.{IsLegalBy, IsNextReply};
-ghost use Rattle.peering.specs.Arriving.{acks_if, sent_with, grown};
+ghost use Rattle.peering.specs.inner.Arriving.{acks_if, sent_with, grown};
 
 use crate::node::GroupNode;
 use crate::node::lead::is_memory;

@@ -5,7 +5,7 @@ use Rattle.group_world.specs.Node.{is_asking}
 use Rattle.group_world.specs.Rules.{is_usable}
 use Rattle.group_world.specs.declared.status.Status.TheVariants.{Installing}
 use Rattle.peering_messages.specs.Sending.{adopted_sent}
-use Rattle.peering.specs.Arriving.{with_log}
+use Rattle.peering.specs.inner.Arriving.{with_log}
 use Rattle.peering.proofs.Statuses.{asking_is, adopts, adopts_not}
 use Rattle.peering.proofs.node.GroupNode.adopt_log.Goals as goal
 

@@ -4,7 +4,7 @@ use Rattle.group_world.specs.Rules.{replicate}
 use Rattle.group_world.specs.declared.message.MessageKind.TheVariants.{Ack}
 use Rattle.group_world.specs.declared.message.Packet.{Packet}
 use Rattle.group_world.specs.declared.handle_error.HandleError.{HandleError}
-use Rattle.peering.specs.Arriving.{acks_if}
+use Rattle.peering.specs.inner.Arriving.{acks_if}
 use Rattle.peering.specs.Numbered.{IsDone}
 use Rattle.peering.proofs.node.GroupNode.replicate.Goals as goal
 use Rattle.peering.proofs.node.GroupNode.replicate.Goals.{in-None, in-Some}

@@ -5,7 +5,7 @@ use Rattle.group_world.specs.Node.{to_others}
 use Rattle.group_world.specs.Rules.{replies_from}
 use Rattle.group_world.specs.declared.message.MessageKind.TheVariants.{Rep}
 use Rattle.group_world.specs.declared.message.Packet.{Packet}
-use Rattle.peering.specs.Arriving.{sent_with}
+use Rattle.peering.specs.inner.Arriving.{sent_with}
 use Rattle.peering.proofs.node.GroupNode.sent_with.Goals as goal
 
 pub replies_with-requires-clause-legal : goal.replies_with-requires-clause-legal

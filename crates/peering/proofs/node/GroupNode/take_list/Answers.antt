@@ -4,7 +4,7 @@ use Rattle.peering_messages.specs.Sending.{IsLegalBy}
 use Rattle.pg_log.specs.Refusals.{first_refusal}
 use Rattle.group_world.specs.Node.{committed_list}
 use Rattle.group_world.specs.Rules.{begins}
-use Rattle.peering.specs.Arriving.{with_log}
+use Rattle.peering.specs.inner.Arriving.{with_log}
 use Rattle.peering.proofs.Installing.{and_true}
 use Rattle.peering.proofs.node.GroupNode.take_list.Goals as goal
 

@@ -7,7 +7,7 @@ use Rattle.group_world.specs.Node.{NodeState, is_installed, nothing}
 use Rattle.group_world.specs.Rules.{replicate}
 use Rattle.group_world.specs.declared.handle_error.HandleError.{HandleError}
 use Rattle.group_world.specs.declared.party.Party.{Party}
-use Rattle.peering.specs.Arriving.{acks_if}
+use Rattle.peering.specs.inner.Arriving.{acks_if}
 use Rattle.peering.proofs.Statuses.{installed_is}
 use Rattle.peering.proofs.Placing.{placed_ok, placed_not, placed_nowhere}
 use Rattle.peering.proofs.node.GroupNode.takes_rep.Goals as goal

@@ -4,7 +4,7 @@ use Rattle.pg_log.specs.Entries.{requests_of}
 use Rattle.group_world.specs.Node.{NodeState}
 use Rattle.group_world.specs.Unanswered.{reps_unacked}
 use Rattle.group_world.specs.declared.message.Packet.{Packet}
-use Rattle.peering.specs.Arriving.{at_interval, reps_for}
+use Rattle.peering.specs.inner.Arriving.{at_interval, reps_for}
 use Rattle.peering.proofs.Lists.{drop_requests}
 use Rattle.peering.proofs.Raising.{reps_step, reps_end}
 use Rattle.peering.proofs.node.resend.reps_unacked.Goals as goal

@@ -1,7 +1,7 @@
 use Rattle.std.proofs.Common.{◌≡◌, ◌++◌, drop}
 use Rattle.pg_log.specs.Entries.{requests_of}
 use Rattle.group_world.specs.Unanswered.{reps_unacked}
-use Rattle.peering.specs.Arriving.{at_interval}
+use Rattle.peering.specs.inner.Arriving.{at_interval}
 use Rattle.peering.proofs.node.resend.reps_unacked.Given as goal
 
 abbrev pub invariant-loop-place : goal.invariant-loop-place

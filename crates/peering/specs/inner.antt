@@ -1,0 +1,2 @@
+-- Steps of the code, in private contracts alone: nothing here need be believed.
+pub mod Arriving
