@@ -4,6 +4,7 @@
 mod helper_calls;
 mod limits;
 mod operations;
+mod pairs;
 mod rooms;
 mod rows;
 mod tables;

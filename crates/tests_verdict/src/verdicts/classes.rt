@@ -3,7 +3,7 @@
 use super::{class, is_judged, method_of, put};
 use bpf_decode::{ClassImage, Method, RuleSet, encode, read_image};
 use bpf_machine::Caps;
-use bpf_ops::{Op, SlotOp};
+use bpf_ops::Op;
 use flat_machine::{Ending, Layout, Machine, RunStart, flat_run, is_layout};
 use std::alloc::Global;
 use verifier::{Refusal, Rule, VerifiedClass, VerifiedMethod, first_rule_set, one_table, verify};
@@ -180,13 +180,10 @@ fn place_of(op: &Op) -> usize {
 }
 
 /// Whether operations are those of the writer's four slots.
-fn are_writers(ops: &[SlotOp]) -> bool {
+fn are_writers(ops: &[Op]) -> bool {
     match ops {
         [jump, wide, half, exit] => {
-            place_of(jump.op()) == 1
-                && place_of(wide.op()) == 2
-                && place_of(half.op()) == 3
-                && place_of(exit.op()) == 4
+            place_of(jump) == 1 && place_of(wide) == 2 && place_of(half) == 3 && place_of(exit) == 4
         }
         _ => false,
     }
