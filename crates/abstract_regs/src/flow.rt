@@ -16,7 +16,7 @@ ghost use Rattle.abstract_regs.specs.declared.kind.Kinds.{Kinds};
 use crate::edges::{Compared, Edges};
 use crate::frame::Frame;
 use crate::kind::{Kind, Kinds};
-use abstract_num::{constant, keeping_laws, loaded, loaded_signed};
+use abstract_num::{arithmetic, constant, keeping_laws, loaded, loaded_signed};
 use bpf_decode::{Arithmetic, Comparison, Insn, OpWidth, Operand, Register, Width, jump_target};
 
 /// Whether a comparison is of a register with itself.
@@ -54,15 +54,15 @@ impl Frame {
     {
         match *insn {
             Insn::Alu { bits, operation, dst, source } => {
-                self.compute(dst, self.alu(bits, operation, dst, source))
+                self.combine(bits, operation, dst, &source)
             }
             Insn::Neg { bits, dst } => self.compute(dst, self.at(dst).neg(bits)),
             Insn::Mov { bits, dst, source } => self.compute(dst, self.operand(source).mov(bits)),
             Insn::MovSigned { extension, dst, src } => self.compute(dst, self.at(src).mov_signed(extension)),
             Insn::End { order, width, dst } => self.compute(dst, self.at(dst).end(order, width)),
-            Insn::LoadWide { dst, value } => self.compute(dst, Some(Kind::Num(constant(value)))),
-            Insn::Load { width, dst, base, offset } => self.compute(dst, Some(self.loaded(width, base, offset))),
-            Insn::LoadSigned { width, dst, .. } => self.compute(dst, Some(Kind::Num(loaded_signed(width)))),
+            Insn::LoadWide { dst, value } => self.keep(dst, Kind::Num(constant(value))),
+            Insn::Load { width, dst, base, offset } => self.keep(dst, self.loaded(width, base, offset)),
+            Insn::LoadSigned { width, dst, .. } => self.keep(dst, Kind::Num(loaded_signed(width))),
             Insn::Store { width, base, offset, source } => {
                 self.store(base, i64::from(offset).cast_unsigned(), width.bytes(), source);
                 Edges::Falls
@@ -80,8 +80,44 @@ impl Frame {
         }
     }
 
-    /// What arithmetic that no rule refuses computes. None where no number is left.
+    /// Arithmetic that no rule refuses. Of two numbers the result is written where it belongs: made
+    /// as a kind first, it would be copied three times more.
     #[inline(always)]
+    fn combine(
+        &mut self,
+        bits: OpWidth,
+        operation: Arithmetic,
+        dst: Register,
+        source: &Operand,
+    ) -> Edges
+        ensures { (next : ℕ) (kinds : Kinds) → computed next self.old dst (alu_kind bits operation (kind_at self.old dst) (operand_kind self.old source.now)) ≡ with_edges result kinds next self.new }
+    {
+        let made = match (self.peek(dst), source) {
+            (Kind::Num(x), Operand::Immediate(imm)) => {
+                arithmetic(
+                    bits,
+                    operation,
+                    *x,
+                    constant(i64::from(*imm).cast_unsigned()),
+                )
+            }
+            (Kind::Num(x), Operand::Register(src)) => match self.peek(*src) {
+                Kind::Num(y) => arithmetic(bits, operation, *x, *y),
+                Kind::Unset | Kind::Ptr(_, _) => {
+                    return self.compute(dst, self.alu(bits, operation, dst, *source));
+                }
+            },
+            (Kind::Unset | Kind::Ptr(_, _), _) => {
+                return self.compute(dst, self.alu(bits, operation, dst, *source));
+            }
+        };
+        match made {
+            None => Edges::Leaves,
+            Some(number) => self.keep(dst, Kind::Num(number)),
+        }
+    }
+
+    /// What arithmetic that no rule refuses computes. None where no number is left.
     fn alu(
         &self,
         bits: OpWidth,
@@ -113,6 +149,15 @@ impl Frame {
             Some(kind) => kind,
             None => Kind::Num(loaded(width)),
         }
+    }
+
+    /// Gives a register a kind, and goes on.
+    #[inline(always)]
+    fn keep(&mut self, dst: Register, kind: Kind) -> Edges
+        ensures { (next : ℕ) (kinds : Kinds) → computed next self.old dst (Some (seen kind)) ≡ with_edges result kinds next self.new }
+    {
+        self.set(dst, kind);
+        Edges::Falls
     }
 
     /// Gives a register what an instruction computes; where no value is left the instruction goes
