@@ -1,5 +1,5 @@
 -- How advice prints: a line or two.
-use Rattle.std.specs.Prelude.{ℕ, ◌-◌, ◌==◌, nat_lt, Bool, true, false, List, [], ◌++◌, Option, Some, None, codes, if◌then◌else◌}
+use Rattle.std.specs.Prelude.{ℕ, ◌-◌, nat_lt, Bool, true, false, List, [], ◌++◌, Option, Some, None, codes, if◌then◌else◌}
 use Rattle.std.specs.Fmt.{decimal}
 use Rattle.bpf_decode.specs.declared.region.Region.{Region}
 use Rattle.bpf_decode.specs.declared.region.Region.TheVariants.{Input, Output, Stack}
@@ -20,11 +20,14 @@ place_text region at = region_text region ++ codes " + " ++ decimal at
 unfoldable pub test_text : ℕ → ℕ → List ℕ
 test_text r most = codes " `jgt " ++ register_text r ++ codes ", " ++ decimal most ++ codes ", ..` before it\n"
 
--- why a register is unset: nothing set it, ways set it unlike, or a call was the last to change it
+-- why a register is unset: nothing set it, not each way did, ways set it unlike, or a call was the
+-- last to change it
 abbrev pub unset_text : ℕ → Last → List ℕ
 unset_text r last.Never = codes "  no instruction before it sets " ++ register_text r ++ codes ": set it first\n"
 unset_text r last.Set =
-    codes "  " ++ register_text r ++ codes " is set before, but not alike: one way that leads here doesn't set it, or one sets a number and one a pointer, or pointers to two regions\n"
+    codes "  " ++ register_text r ++ codes " is set before, but not on each way that leads here: one doesn't set it, or calls a helper after that, which unsets r1 to r5\n"
+unset_text r last.Unlike =
+    codes "  each way that leads here sets " ++ register_text r ++ codes ", but not alike: one to a number and one to a pointer, or to pointers to two regions\n"
 unset_text r last.Unset = codes "  a call unsets r1 to r5: keep " ++ register_text r ++ codes " in r6 to r9 before it\n"
 
 -- where an access may begin at most, if the region is long enough

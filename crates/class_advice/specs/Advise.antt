@@ -1,6 +1,6 @@
 -- What would do in place of what a rule refuses, from the rule, the instruction, what the method
 -- declares and what is known before it.
-use Rattle.std.specs.Prelude.{ℕ, ◌+◌, ◌-◌, ◌==◌, ◌&&◌, ◌||◌, not, nat_le, Bool, true, false, List, [], ◌∷◌, Option, Some, None, if◌then◌else◌}
+use Rattle.std.specs.Prelude.{ℕ, ◌+◌, ◌-◌, ◌==◌, ◌&&◌, ◌||◌, not, nat_le, Bool, List, [], ◌∷◌, Option, Some, None, if◌then◌else◌}
 use Rattle.std.specs.Option.{option_map}
 use Rattle.abstract_num.specs.Plain.{Plain}
 use Rattle.abstract_regs.specs.Frame.{PlainFrame, kind_at}
@@ -19,11 +19,12 @@ use Rattle.helpers.specs.Effect.{Takes}
 use Rattle.helpers.specs.Table.{signature_of}
 use Rattle.helpers.specs.declared.argument.Argument.{Argument}
 use Rattle.helpers.specs.declared.argument.Argument.TheVariants.{Number, OutputLength, Readable, Writable}
-use Rattle.verifier.specs.Kind.{is_at_most, range_is_read_only}
+use Rattle.verifier.specs.Kind.{range_is_read_only}
 use Rattle.verifier.specs.Rules.{register_count}
 use Rattle.verifier.specs.declared.rule.Rule.{Rule}
 use Rattle.verifier.specs.declared.rule.Rule.TheVariants as rule
 use Rattle.class_advice.specs.Read.{first_read, sets, unsets}
+use Rattle.class_advice.specs.Ways.{is_missed}
 use Rattle.class_advice.specs.declared.advice.Advice.{Advice}
 use Rattle.class_advice.specs.declared.advice.Advice.TheVariants as advice
 use Rattle.class_advice.specs.declared.advice.Last.{Last}
@@ -32,8 +33,11 @@ use Rattle.class_advice.specs.declared.advice.Last.TheVariants as last
 -- ---- a register that is unset
 
 -- as a method begins, 1 to 3 and 10 are set
+abbrev pub is_set_first : ℕ → Bool
+is_set_first r = (nat_le 1 r && nat_le r 3) || r == 10
+
 abbrev pub at_first : ℕ → Last
-at_first r = if (nat_le 1 r && nat_le r 3) || r == 10 then last.Set else last.Never
+at_first r = if is_set_first r then last.Set else last.Never
 
 abbrev pub changed : Last → Insn → ℕ → Last
 changed before i r = if sets i r then last.Set else (if unsets i r then last.Unset else before)
@@ -43,10 +47,14 @@ abbrev pub last_of : List Insn → ℕ → ℕ → Last → Last
 last_of [] left r before = before
 last_of (i ∷ is) left r before = if left == 0 then before else last_of is (left - slot_count i) r (changed before i r)
 
+-- why it is unset: a way leads there on which it is, or each way sets it
+abbrev pub why_unset : List Insn → ℕ → ℕ → Last
+why_unset is slot r = if is_missed is slot slot r (not (is_set_first r)) [] then last_of is slot r (at_first r) else last.Unlike
+
 -- an unset register that is read, and else a slot
 abbrev pub unset_advice : List Insn → ℕ → Option ℕ → Advice
 unset_advice is slot None = advice.StoreWhole
-unset_advice is slot (Some r) = advice.Unset r (last_of is slot r (at_first r))
+unset_advice is slot (Some r) = advice.Unset r (why_unset is slot r)
 
 -- ---- an access, a range
 

@@ -15,6 +15,8 @@ pub enum Last {
     Set,
     /// It left it unset.
     Unset,
+    /// Each way that leads here set it, one to another kind than another.
+    Unlike,
 }
 
 /// What would do in place of what a rule refuses. Registers are numbers, 0 to 10.
@@ -91,7 +93,8 @@ fn push_unset(out: &mut String, register: usize, last: Last) -> Result<(), Alloc
 {
     match last {
         Last::Never => write!(out, "  no instruction before it sets r{register}: set it first\n"),
-        Last::Set => write!(out, "  r{register} is set before, but not alike: one way that leads here doesn't set it, or one sets a number and one a pointer, or pointers to two regions\n"),
+        Last::Set => write!(out, "  r{register} is set before, but not on each way that leads here: one doesn't set it, or calls a helper after that, which unsets r1 to r5\n"),
+        Last::Unlike => write!(out, "  each way that leads here sets r{register}, but not alike: one to a number and one to a pointer, or to pointers to two regions\n"),
         Last::Unset => write!(out, "  a call unsets r1 to r5: keep r{register} in r6 to r9 before it\n"),
     }
 }

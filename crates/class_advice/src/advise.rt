@@ -1,29 +1,37 @@
 //! What would do in place of what a rule refuses.
-ghost use Rattle.std.specs.Prelude.{◌≡◌, ◌+◌, ◌<◌, length};
+ghost use Rattle.std.specs.Prelude.{◌≡◌, ◌+◌, ◌<◌, IfOk, length};
 ghost use Rattle.std.specs.Option.{option_map};
 ghost use Rattle.abstract_num.specs.Plain.{view};
 ghost use Rattle.abstract_regs.specs.Kind.{last_place};
 ghost use Rattle.abstract_regs.specs.Seen.{seen};
 ghost use Rattle.bpf_machine.specs.Safe.{caps_of};
-ghost use Rattle.class_advice.specs.Advise.{access_advice, advice_for, argument_advice, arguments_advice, at_first, bounds_advice, bounds_of, call_advice, changed, helper_in, known_advice, last_of, moves, number_advice, or_else, output_advice, part_of, placed_advice, pointer_advice, range_advice, range_outside, read_only_advice, read_only_of, shape_advice, stored_by, unset_advice, wrong_kind_advice, wrong_kind_of};
+ghost use Rattle.class_advice.specs.Advise.{access_advice, advice_for, argument_advice, arguments_advice, at_first, bounds_advice, bounds_of, call_advice, changed, helper_in, known_advice, last_of, moves, number_advice, or_else, output_advice, part_of, placed_advice, pointer_advice, range_advice, range_outside, read_only_advice, read_only_of, shape_advice, stored_by, unset_advice, why_unset, wrong_kind_advice, wrong_kind_of, is_set_first};
 ghost use Rattle.class_advice.specs.Read.{first_read};
 ghost use Rattle.helpers.specs.Table.{signature_of};
 ghost use Rattle.verifier.specs.Kind.{range_is_read_only};
 
 use crate::advice::{Advice, Last};
 use crate::read::{count_registers, first_read, sets, unsets};
+use crate::ways::Read;
 use abstract_num::{Number, arithmetic, constant};
 use abstract_regs::{Content, Frame, Kind, range_fits};
 use bpf_decode::{Arithmetic, Insn, Method, OpWidth, Region, RuleSet, width};
 use bpf_machine::Caps;
 use helpers::{Argument, signature};
+use std::alloc::{AllocError, Global};
 use verifier::{RefusedSlot, Rule};
 
 /// As a method begins, 1 to 3 and 10 are set.
+fn is_set_first(register: usize) -> bool
+    ensures { result ≡ is_set_first register }
+{
+    (1 <= register && register <= 3) || register == 10
+}
+
 fn at_first(register: usize) -> Last
     ensures { result ≡ at_first register }
 {
-    if (1 <= register && register <= 3) || register == 10 {
+    if is_set_first(register) {
         Last::Set
     } else {
         Last::Never
@@ -64,15 +72,38 @@ fn last_of(insns: &[Insn], left: usize, register: usize, before: Last) -> Last
     }
 }
 
-fn unset_advice(insns: &[Insn], slot: usize, register: Option<usize>) -> Advice
-    ensures { result ≡ unset_advice insns.now slot register }
+/// Why a register is unset before a slot.
+fn why_unset(
+    alloc: Global,
+    insns: &[Insn],
+    slot: usize,
+    register: usize,
+) -> Result<Last, AllocError>
+    ensures { IfOk result (λ why. why ≡ why_unset insns.now slot register) }
+{
+    let read = Read { register, slot };
+    let mut targets = Vec::new(alloc);
+    if read.is_missed(insns, slot, !is_set_first(register), &mut targets)? {
+        Ok(last_of(insns, slot, register, at_first(register)))
+    } else {
+        Ok(Last::Unlike)
+    }
+}
+
+fn unset_advice(
+    alloc: Global,
+    insns: &[Insn],
+    slot: usize,
+    register: Option<usize>,
+) -> Result<Advice, AllocError>
+    ensures { IfOk result (λ advice. advice ≡ unset_advice insns.now slot register) }
 {
     match register {
-        None => Advice::StoreWhole,
-        Some(register) => Advice::Unset(
-            register,
-            last_of(insns, slot, register, at_first(register)),
-        ),
+        None => Ok(Advice::StoreWhole),
+        Some(register) => {
+            let why = why_unset(alloc, insns, slot, register)?;
+            Ok(Advice::Unset(register, why))
+        }
     }
 }
 
@@ -434,15 +465,16 @@ fn may_write(helper: Option<u32>) -> Option<Advice>
 
 /// By the rules 5 and up, from what is known before the instruction.
 #[rattlefmt::skip]
-fn known_advice(rules: RuleSet, method: &Method, refused: &RefusedSlot, frame: &Frame) -> Option<Advice>
-    ensures { result ≡ known_advice rules refused.now.rule method.now.instructions refused.now.slot (caps_of method.now) frame.now refused.now.insn }
+fn known_advice(alloc: Global, rules: RuleSet, method: &Method, refused: &RefusedSlot, frame: &Frame) -> Result<Option<Advice>, AllocError>
+    ensures { IfOk result (λ advice. advice ≡ known_advice rules refused.now.rule method.now.instructions refused.now.slot (caps_of method.now) frame.now refused.now.insn) }
 {
     let (caps, insn) = (Caps::of(method), &refused.insn);
-    match refused.rule {
-        Rule::UnsetRead => {
-            let register = first_read(Content::Nothing, insn, frame, 0, 11);
-            Some(unset_advice(method.instructions(), refused.slot, register))
-        }
+    if let Rule::UnsetRead = refused.rule {
+        let register = first_read(Content::Nothing, insn, frame, 0, 11);
+        return Ok(Some(unset_advice(alloc, method.instructions(), refused.slot, register)?));
+    }
+    Ok(match refused.rule {
+        Rule::UnsetRead => None,
         Rule::WritesR10 => Some(Advice::CopyOfR10),
         Rule::PointerArithmetic => numbers_first(insn, frame),
         Rule::PointerCompare => never_null(insn, frame),
@@ -455,7 +487,7 @@ fn known_advice(rules: RuleSet, method: &Method, refused: &RefusedSlot, frame: &
         Rule::ReturnsPointer => Some(Advice::CodeIsNumber),
         Rule::PointerBytes => Some(part_of(helper_of(insn))),
         Rule::Backward | Rule::Target | Rule::FallsOff | Rule::LocalCall | Rule::NoMemory => None,
-    }
+    })
 }
 
 /// By the rules 1 to 4.
@@ -476,12 +508,20 @@ fn shape_advice(rule: Rule) -> Option<Advice>
 }
 
 /// What would do in place of a refused instruction of a method.
-pub(crate) fn advice_for(rules: RuleSet, method: &Method, refused: &RefusedSlot) -> Option<Advice>
-    ensures { result ≡ advice_for rules refused.now.rule method.now.instructions refused.now.slot (caps_of method.now) refused.now.known refused.now.insn }
+pub(crate) fn advice_for(
+    alloc: Global,
+    rules: RuleSet,
+    method: &Method,
+    refused: &RefusedSlot,
+) -> Result<Option<Advice>, AllocError>
+    ensures { IfOk result (λ advice. advice ≡ advice_for rules refused.now.rule method.now.instructions refused.now.slot (caps_of method.now) refused.now.known refused.now.insn) }
 {
     let of_shape = shape_advice(refused.rule);
     match &refused.known {
-        None => of_shape,
-        Some(frame) => or_else(of_shape, known_advice(rules, method, refused, frame)),
+        None => Ok(of_shape),
+        Some(frame) => {
+            let of_frame = known_advice(alloc, rules, method, refused, frame)?;
+            Ok(or_else(of_shape, of_frame))
+        }
     }
 }

@@ -11,6 +11,7 @@ mod note;
 mod read;
 mod source;
 mod touched;
+mod ways;
 
 pub use advice::{Advice, Last};
 pub use note::refusal_note;

@@ -126,7 +126,7 @@ fn slot_text(
     push_known(&mut text, &refused.insn, &refused.known)?;
     push_wanted(&mut text, refused.rule)?;
     push_touched(&mut text, refused.rule, &refused.insn, &refused.known)?;
-    push_advised(&mut text, advice_for(rules, method, refused))?;
+    push_advised(&mut text, advice_for(alloc, rules, method, refused)?)?;
     Ok(text)
 }
 

@@ -7,7 +7,7 @@ use std::process::Abort;
 
 /// A text, what is printed of it, and the mended text.
 #[rattlefmt::skip]
-static MISTAKES: [(&str, &str, &str); 11] = [
+static MISTAKES: [(&str, &str, &str); 13] = [
     // A length from `map_next`.
     (
         ".method f r 0 64\nmov r6, r3\nmov r1, r10\nadd r1, -64\nmov r2, 0\nmov r3, r1\nmov r4, 64\ncall 12\nmov r1, r10\nadd r1, -64\nmov r2, r0\nmov r3, r6\nmov r4, 64\ncall 9\nend:\nmov r0, 0\nexit\n",
@@ -65,8 +65,20 @@ static MISTAKES: [(&str, &str, &str); 11] = [
     // Two ways set a register to different kinds.
     (
         ".method f r 8 8\njeq r2, 0, none\nmov r4, r3\nja end\nnone:\nmov r4, 0\nend:\nmov r0, r4\nexit\n",
-        "refused method 0 slot 4: 5 UnsetRead\n  method f, IN 8, OUT 8\n  mov r0, r4\n  r4 = unset\n  wanted: each of these registers set on every way that leads here\n  see docs/VERIFIER.md, 5 UnsetRead\n  r4 is set before, but not alike: one way that leads here doesn't set it, or one sets a number and one a pointer, or pointers to two regions\n  line 8: mov r0, r4\n",
+        "refused method 0 slot 4: 5 UnsetRead\n  method f, IN 8, OUT 8\n  mov r0, r4\n  r4 = unset\n  wanted: each of these registers set on every way that leads here\n  see docs/VERIFIER.md, 5 UnsetRead\n  each way that leads here sets r4, but not alike: one to a number and one to a pointer, or to pointers to two regions\n  line 8: mov r0, r4\n",
         ".method f r 8 8\njeq r2, 0, none\nmov r4, 1\nja end\nnone:\nmov r4, 0\nend:\nmov r0, r4\nexit\n",
+    ),
+    // One way doesn't set a register.
+    (
+        ".method f r 8 8\njeq r2, 0, end\nmov r4, 1\nend:\nmov r0, r4\nexit\n",
+        "refused method 0 slot 2: 5 UnsetRead\n  method f, IN 8, OUT 8\n  mov r0, r4\n  r4 = unset\n  wanted: each of these registers set on every way that leads here\n  see docs/VERIFIER.md, 5 UnsetRead\n  r4 is set before, but not on each way that leads here: one doesn't set it, or calls a helper after that, which unsets r1 to r5\n  line 5: mov r0, r4\n",
+        ".method f r 8 8\nmov r4, 0\njeq r2, 0, end\nmov r4, 1\nend:\nmov r0, r4\nexit\n",
+    ),
+    // One way sets it before a call.
+    (
+        ".method f r 8 8\nmov r6, r2\nmov r4, 1\njeq r6, 0, end\nmov r1, 0\ncall 13\nmov r6, 0\nend:\nmov r0, r4\nexit\n",
+        "refused method 0 slot 6: 5 UnsetRead\n  method f, IN 8, OUT 8\n  mov r0, r4\n  r4 = unset\n  wanted: each of these registers set on every way that leads here\n  see docs/VERIFIER.md, 5 UnsetRead\n  a call unsets r1 to r5: keep r4 in r6 to r9 before it\n  line 9: mov r0, r4\n",
+        ".method f r 8 8\nmov r6, r2\nmov r7, 1\njeq r6, 0, end\nmov r1, 0\ncall 13\nmov r6, 0\nend:\nmov r0, r7\nexit\n",
     ),
     // An output that is too short for `call 13`.
     (

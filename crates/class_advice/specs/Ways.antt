@@ -1,0 +1,43 @@
+-- Whether a way through a method leads to a slot on which a register is unset: from the method's
+-- beginning, or from a call that unsets it, past no instruction that sets it.
+use Rattle.std.specs.Prelude.{ℕ, ◌-◌, ◌==◌, ◌&&◌, ◌||◌, not, Bool, true, false, List, [], ◌∷◌, ◌++◌, if◌then◌else◌}
+use Rattle.std.specs.List.{list_any}
+use Rattle.abstract_regs.specs.Flow.{target}
+use Rattle.bpf_decode.specs.Instruction.{slot_count}
+use Rattle.bpf_decode.specs.declared.insn.Insn.{Insn}
+use Rattle.bpf_decode.specs.declared.insn.Insn.TheVariants.{Jump, JumpLong, Branch, Exit}
+use Rattle.class_advice.specs.Read.{sets, unsets}
+
+-- such a way leads to a slot: from the instruction before it, or by a jump to one of these slots
+abbrev pub arrives : Bool → List ℕ → ℕ → Bool
+arrives falls targets at = falls || list_any (λ t. t == at) targets
+
+-- it goes on past an instruction with the register unset
+abbrev pub stays_unset : Bool → Insn → ℕ → Bool
+stays_unset before i r = not (sets i r) && (before || unsets i r)
+
+-- to the instruction after it
+abbrev pub falls_on : Insn → Bool
+falls_on (Jump offset) = false
+falls_on (JumpLong distance) = false
+falls_on Exit = false
+falls_on i = true
+
+-- to where the instruction at a slot jumps
+abbrev pub jumps_of : Insn → ℕ → List ℕ
+jumps_of (Jump offset) at = target at offset ∷ []
+jumps_of (JumpLong distance) at = target at distance ∷ []
+jumps_of (Branch bits comparison dst source offset) at = target at offset ∷ []
+jumps_of i at = []
+
+abbrev pub jumps_if : Bool → Insn → ℕ → List ℕ
+jumps_if false i at = []
+jumps_if true i at = jumps_of i at
+
+-- from the instruction that begins `left` slots before a slot
+abbrev pub is_missed : List Insn → ℕ → ℕ → ℕ → Bool → List ℕ → Bool
+is_missed [] left slot r falls targets = arrives falls targets slot
+is_missed (i ∷ is) left slot r falls targets =
+    if left == 0 then arrives falls targets slot
+    else is_missed is (left - slot_count i) slot r (stays_unset (arrives falls targets (slot - left)) i r && falls_on i)
+    (targets ++ jumps_if (stays_unset (arrives falls targets (slot - left)) i r) i (slot - left))
