@@ -109,7 +109,7 @@ DONE = {
 }
 RIGHT = {"--input": "00", "--caller": "1", "--object": "00", "--rules": "1"}
 OF_ALL = "--help", "--version"
-VERSION = "radoscls 0.4.0\nrattle-kit-13f logic dac8208d650f15bf\n"
+VERSION = "radoscls 0.4.0\nlogic dac8208d650f15bf\n"
 OPTIONS = sorted({option for _, options in COMMANDS.values() for option in options})
 
 

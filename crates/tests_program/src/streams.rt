@@ -136,7 +136,7 @@ static TOLD: [(&[&str], &str); 34] = [
     (&["--help"], "  dis      Prints the text of a class image\n"),
     (
         &["--version"],
-        "radoscls 0.4.0\nrattle-kit-13f logic dac8208d650f15bf\n",
+        "radoscls 0.4.0\nlogic dac8208d650f15bf\n",
     ),
     (
         &["--help"],
