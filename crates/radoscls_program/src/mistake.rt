@@ -38,7 +38,7 @@ impl Wanted {
             Wanted::Xattr        => ("--xattr <NAME=HEX>", "a name, '=' and the value"),
             Wanted::Key          => ("--key <KEY=HEX>", "a key, '=' and the value"),
             Wanted::Method       => ("<METHOD>...", "NAME:FLAGS:IN:OUT:FILE, FLAGS r, w or rw, IN and OUT 0 to 65535"),
-            Wanted::Class        => ("--class <NAME=IMAGE>", "a name, '=' and the file of the image"),
+            Wanted::Class        => ("--class <NAME=IMAGE>", "a name, '=' and the file of the class: its image or text"),
             Wanted::ClassName    => ("--class <NAME=IMAGE>", "a name that isn't empty and has no blank"),
             Wanted::FreeName     => ("--class <NAME=IMAGE>", "a name other than lock, obj and earlier ones"),
             Wanted::FewerClasses => ("--class <NAME=IMAGE>", "at most 62 classes"),

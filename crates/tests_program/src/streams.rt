@@ -203,7 +203,7 @@ static TOLD: [(&[&str], &str); 34] = [
     ),
     (
         &["sim", "--class", "two", "text"],
-        "error: invalid value 'two' for '--class <NAME=IMAGE>': expected a name, '=' and the file of the image\n\n\
+        "error: invalid value 'two' for '--class <NAME=IMAGE>': expected a name, '=' and the file of the class: its image or text\n\n\
         Usage: radoscls sim [OPTIONS] <FILE>\n",
     ),
     (
