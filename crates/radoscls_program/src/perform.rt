@@ -9,6 +9,7 @@ ghost use Rattle.radoscls_program.specs.Streams.{stream, IsPrinted, failure_line
 ghost use Rattle.radoscls_program.specs.declared.status.ExitStatus.{ExitStatus as AStatus};
 
 use crate::asked::asked;
+use crate::judging::judge;
 use crate::status::ExitStatus;
 use crate::task::Task;
 use crate::threads::play_cluster;
@@ -179,6 +180,7 @@ fn do_task<R: Threads + Wait + Clock + Sync, F: Files, O: Output, E: io::Write>(
 {
     match task {
         Task::Class(action, is_explained) => act(alloc, files, action, *is_explained, out),
+        Task::Each(image, is_explained) => judge(alloc, files, image, *is_explained, out),
         Task::Run(call, is_explained) => act_call(alloc, files, call, *is_explained, out),
         Task::Sim(simulation) => play(alloc, files, simulation, out),
         Task::Cluster(asked, is_measured) => measure(alloc, rt, files, asked, *is_measured, out, err),
@@ -228,7 +230,8 @@ pub(crate) fn perform<
 /// The answer is what the process ends with: 0 where it was done and printed, 1 where it was
 /// refused, or a write or a flush of `out` failed, and then a beginning of it was printed; 2 after
 /// usage or help, where the words name no task without a fault. No file is written but the one that
-/// `asm` or `pack` names for the image, and that one only where the text or the raw code is right.
+/// `asm` or `pack` names for the image, and that one only where the text or the raw code is right,
+/// and the one that `run --save` names for the object.
 /// `sim` prints of each line of its file what it comes to before the next is done; `cluster` prints
 /// its lines once all calls have ended.
 ///
