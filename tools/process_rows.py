@@ -156,7 +156,7 @@ def figures(calls):
     names = ("calls a second", "mean microseconds", "worst microseconds", "messages", "repeats",
              "nudges")
     lines = f"calls {calls}\n" + "".join(f"{name} [0-9]+\n" for name in names)
-    return lambda text: re.fullmatch(lines, text) is not None
+    return lambda text: re.fullmatch(f"(answered [0-9]+ of {calls}\n)*{lines}", text) is not None
 
 
 def ran(code, output, steps, held, *more):

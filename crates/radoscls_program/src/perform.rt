@@ -15,7 +15,7 @@ use crate::task::Task;
 use crate::threads::play_cluster;
 use crate::values::{call_with, filled};
 use class_tool::{Action, Answer, Call, Failure, Files, Output, Reads, find, find_noted};
-use cluster_tool::{Clustering, Figures};
+use cluster_tool::{Clustering, Figures, Meter};
 use command_line::Unparsed;
 use sim::{Ending, Simulation, simulate};
 use std::alloc::Global;
@@ -159,7 +159,10 @@ fn measure<R: Threads + Wait + Clock + Sync, F: Reads, O: Output, E: io::Write>(
     ensures { ClusterEnds (F.disk files.now) (stream O.printed O.failed out.old) (stream O.printed O.failed out.new) asked.now result }
 {
     let figures = Figures::new();
-    let status = play_cluster(alloc, rt, files, asked, &figures, out);
+    let lines = if is_measured { Some(&mut *err) } else { None };
+    let mut meter = Meter::new(&figures, lines);
+    let status = play_cluster(alloc, rt, files, asked, &mut meter, out);
+    drop(meter);
     if is_measured && status == ExitStatus::Done {
         let _ = write!(err, "{figures}");
     }
