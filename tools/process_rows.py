@@ -84,6 +84,9 @@ FILES = {
     "bad.calls": NUMBERS + "client 1 a lock lock -\nclient 3 a lock lock -\n",
     "map.calls": NUMBERS + "client 1 a lock lock -\nmap\n",
     "limit.calls": NUMBERS.replace("nodes 3", "nodes 17"),
+    "three.txt": TWO_TEXT + ".method g r 0 0\nexit\n" + TWO_TEXT.replace(" f ", " h "),
+    "held": "data 6162\nxattr a 01\nkey k -\n",
+    "bad.held": "data 6162\nxattr a\n",
     "full": b"o" * 65536,
     "largest.txt": LARGEST_TEXT,
     "largest.img": LARGEST,
@@ -91,10 +94,11 @@ FILES = {
 
 # What each command takes, as docs/PROGRAM.md has it: places, and options with their values.
 COMMANDS = {
-    "verify": (["<IN>"], {"--explain": ""}),
+    "verify": (["<IN>"], {"--all": "", "--explain": ""}),
     "run": (["<IN>", "<METHOD>"], {
         "--input": " <HEX>", "--caller": " <N>", "--object": " <HEX>", "--xattr": " <NAME=HEX>",
-        "--key": " <KEY=HEX>", "--show": "", "--explain": ""}),
+        "--key": " <KEY=HEX>", "--load": " <FILE>", "--save": " <FILE>", "--show": "",
+        "--explain": ""}),
     "asm": (["<IN>", "<OUT>"], {"--explain": ""}),
     "pack": (["<OUT>", "<METHOD>..."], {"--rules": " <N>", "--explain": ""}),
     "dis": (["<IN>"], {"--slots": "", "--explain": ""}),
@@ -107,9 +111,10 @@ DONE = {
     "pack": "pack out f:r:0:0:code", "dis": "dis two.img", "sim": "sim locks.sim",
     "cluster": "cluster calls",
 }
-RIGHT = {"--input": "00", "--caller": "1", "--object": "00", "--rules": "1"}
+RIGHT = {"--input": "00", "--caller": "1", "--object": "00", "--rules": "1", "--load": "held",
+         "--save": "out"}
 OF_ALL = "--help", "--version"
-VERSION = "radoscls 0.4.0\nrattle-kit-13f logic dac8208d650f15bf\n"
+VERSION = "radoscls 0.4.0\nlogic dac8208d650f15bf\n"
 OPTIONS = sorted({option for _, options in COMMANDS.values() for option in options})
 
 
@@ -151,7 +156,7 @@ def figures(calls):
     names = ("calls a second", "mean microseconds", "worst microseconds", "messages", "repeats",
              "nudges")
     lines = f"calls {calls}\n" + "".join(f"{name} [0-9]+\n" for name in names)
-    return lambda text: re.fullmatch(lines, text) is not None
+    return lambda text: re.fullmatch(f"(answered [0-9]+ of {calls}\n)*{lines}", text) is not None
 
 
 def ran(code, output, steps, held, *more):
@@ -212,6 +217,25 @@ ROWS = [
     Row("run two.txt f", RAN),
     Row("dis two.txt", TWO_TEXT),
     Row("verify word.txt", "line 2: 1 Word\n", "", 1),
+    # each method's verdict
+    Row("verify --all two.img", "f ok 2\n"),
+    Row("verify three.txt --all", "f ok 2\nrefused method 1 slot 0: 5 UnsetRead\nh ok 2\n", "", 1),
+    Row("verify three.txt", "refused method 1 slot 0: 5 UnsetRead\n", "", 1),
+    Row("verify --all empty", NO_IMAGE, "", 1),
+    # an object that lasts
+    Row("run two.img f --load held --show",
+        ran(0, "-", 2, "2 1 1", "data 6162", "xattr a 01", "key k -")),
+    Row("run keep.img keep --input 726f6f74 --load held --save held",
+        ran(4, "726f6f74", 14, "4 1 1"), wrote={"held": b"data 726f6f74\nxattr a 01\nkey k -\n"}),
+    Row("run two.img f --save out", RAN, wrote={"out": b""}),
+    Row("run two.img f --load empty --show", RAN),
+    Row("run two.img f --load - --show", ran(0, "-", 2, "0 0 0", "data -"), stdin=b"data -\n"),
+    Row("run two.img f --load bad.held --save out", "object line 2: bad\n", "", 1),
+    Row("run two.img f --load missing", "cannot read\n", "", 1),
+    Row("run two.img f --load latin1", "cannot read\n", "", 1),
+    Row("run two.img f --save folder", "cannot write\n", "", 1),
+    Row("run two.img f --save missing/out --explain", tells("cannot write"), "", 1),
+    Row("run two.img f --load bad.held --explain", tells("object line 2: bad"), "", 1),
     # refusals, which write no file
     Row("verify missing", "cannot read\n", "", 1),
     Row("verify folder", "cannot read\n", "", 1),
@@ -423,10 +447,16 @@ ROWS = [
           for value in ("two", "=two.img", "lock=two.img")),
         ("cluster calls --class obj=two.img", "obj=two.img", "--class <NAME=IMAGE>"),
         ("cluster calls --class a=two.img --class a=empty", "a=empty", "--class <NAME=IMAGE>"),
+        ("run two.img f --save -", "-", "--save <FILE>"),
         ("asm two.txt -", "-", "<OUT>"), ("pack - f:r:0:0:code", "-", "<OUT>"))),
+    # an object of a file and of words
+    *(Row(f"run two.img f --load held {words}", "",
+          usage("the argument '--load <FILE>' cannot be used with '--object <HEX>', "), 2)
+      for words in ("--object -", "--xattr a=00", "--key a=00")),
     # standard input, read twice
     *(Row(words, "", usage("standard input ('-') can be read by one argument alone\n\nUsage: "), 2)
       for words in ("pack out f:r:0:0:- g:r:0:0:-", "sim - --class two=-", "run - f --input @-",
+                    "run - f --load -",
                     "run two.img f --object @- --key a=@-",
                     "cluster calls --class a=- --class b=-")),
 ]

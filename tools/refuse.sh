@@ -165,6 +165,8 @@ if [ "$radoscls" != - ]; then
     printf '\xb7\0\0\0\0\0\0\0\x95\0\0\0\0\0\0\0' > "$work/code"
     printf 'RCL1\1\0\0\0\1f\1\0\0\0\0\1\0\x95\0\0\0\0\0\0\0' > "$work/unsafe.img"
     printf '.method f r 0 0\nmov r0\nexit\n' > "$work/wrong.txt"
+    printf '.method f r 0 0\nmov r0, 0\nexit\n.method g r 0 0\nexit\n' > "$work/mixed.txt"
+    printf 'data 6162\nxattr a 01\nxattr b -\nkey c 02\n' > "$work/held"
     printf 'map 1\nmap\nsee one 1\n' > "$work/wrong.sim"
     # One client and one worker: what is printed is the same each time. A call is tried for as long
     # as a run has, also on a busy machine.
@@ -179,10 +181,16 @@ if [ "$radoscls" != - ]; then
         'stdin 0 verify -'
         'unsafe 1 verify unsafe.img --explain'
         'missing 1 verify missing.img --explain'
+        'all 0 verify two.img --all'
+        'mixed 1 verify mixed.txt --all --explain'
         'run 0 run keep.img keep --input 726f6f74 --caller 7'
         'object 0 run keep.img keep --object 6162 --xattr a=01 --xattr b= --key c=02 --show'
         'values 0 run keep.img keep --object @code --xattr a=@code --key b=- --show'
         'no_value 1 run keep.img keep --object @missing --explain'
+        'saved 0 run keep.img keep --input 726f6f74 --load held --save out'
+        'absent 0 run two.txt f --save out'
+        'wrong_load 1 run keep.img keep --load wrong.txt --explain'
+        'unsaved 1 run keep.img keep --save . --explain'
         'method 1 run keep.img none --explain'
         'hex 1 run keep.img keep --key a=0'
         'asm 0 asm keep.txt out'
@@ -199,6 +207,7 @@ if [ "$radoscls" != - ]; then
         'wrong_map 1 cluster wrong.cluster --stats'
         'usage 2 run keep.img keep --caller 0'
         'no_method 2 pack out f'
+        'two_objects 2 run keep.img keep --load held --key a=00'
         'no_class 2 sim lost_ack.sim --class lock=keep.img'
         'two_inputs 2 sim - --class keep=-'
         'no_output 2 asm keep.txt -'

@@ -1,5 +1,6 @@
 mod Called
 mod Lines
+pub mod Longer
 mod Noted
 mod Packed
 mod Printable
@@ -7,4 +8,3 @@ mod Printed
 mod Refused
 mod Reported
 mod Windows
-pub mod Longer

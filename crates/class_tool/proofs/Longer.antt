@@ -1,5 +1,5 @@
 -- What the beginning of a file says as a class, the whole file says.
-use Rattle.std.proofs.Common.{◌≡◌, ◌+◌, ◌≤◌, ◌⊎◌, inl, inr, ℕ, List, Option, Some, None, Result, Ok, Err, take, length, min, sym, ap, subst, ◌∙◌, arith, length-take}
+use Rattle.std.proofs.Common.{◌≡◌, ◌+◌, ◌≤◌, ◌⊎◌, inl, inr, ℕ, List, Option, Some, None, Result, Ok, Err, take, length, sym, ap, subst, ◌∙◌, arith, length-take}
 use Rattle.std.specs.Prelude.{◌↔◌, IfErr, string_bytes}
 use Rattle.std.proofs.lemmas.List.{take_all}
 use Rattle.bpf_decode.specs.Class.{Class, IsImage}
@@ -66,6 +66,7 @@ refused_in law (Some disk) name bytes failure.NoMemory b r = absurd r
 refused_in law (Some disk) name bytes (failure.Verdict refusal) b r = absurd r
 refused_in law (Some disk) name bytes failure.InputNotHex b r = absurd r
 refused_in law (Some disk) name bytes failure.ObjectNotHex b r = absurd r
+refused_in law (Some disk) name bytes (failure.ObjectLine line) b r = absurd r
 refused_in law (Some disk) name bytes (failure.Object error) b r = absurd r
 refused_in law (Some disk) name bytes (failure.Call error) b r = absurd r
 
@@ -80,6 +81,7 @@ read_fails law disk name bytes (failure.Image e) b o = elim o [ inl m ↦ inl m 
 read_fails law disk name bytes (failure.Verdict e) b o = elim o [ inl m ↦ inl m | inr r ↦ inr (refused_in law disk name bytes (failure.Verdict e) b r) ]
 read_fails law disk name bytes failure.InputNotHex b o = elim o [ inl m ↦ inl m | inr r ↦ inr (refused_in law disk name bytes failure.InputNotHex b r) ]
 read_fails law disk name bytes failure.ObjectNotHex b o = elim o [ inl m ↦ inl m | inr r ↦ inr (refused_in law disk name bytes failure.ObjectNotHex b r) ]
+read_fails law disk name bytes (failure.ObjectLine line) b o = elim o [ inl m ↦ inl m | inr r ↦ inr (refused_in law disk name bytes (failure.ObjectLine line) b r) ]
 read_fails law disk name bytes (failure.Object e) b o = elim o [ inl m ↦ inl m | inr r ↦ inr (refused_in law disk name bytes (failure.Object e) b r) ]
 read_fails law disk name bytes (failure.Call e) b o = elim o [ inl m ↦ inl m | inr r ↦ inr (refused_in law disk name bytes (failure.Call e) b r) ]
 
@@ -110,6 +112,7 @@ note_in disk name bytes failure.NoMemory note b o is = is
 note_in disk name bytes (failure.Verdict refusal) note b o is = is
 note_in disk name bytes failure.InputNotHex note b o is = is
 note_in disk name bytes failure.ObjectNotHex note b o is = is
+note_in disk name bytes (failure.ObjectLine line) note b o is = is
 note_in disk name bytes (failure.Object error) note b o is = is
 note_in disk name bytes (failure.Call error) note b o is = is
 

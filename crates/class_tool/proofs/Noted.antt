@@ -6,7 +6,7 @@ use Rattle.class_tool.specs.Packing.{MethodsFail, PackFails, PackedFails}
 use Rattle.class_tool.specs.declared.action.Packing.{Packing}
 use Rattle.class_tool.specs.Explained.{IsImageFailure, IsLoadNote, IsVerifyNote}
 use Rattle.class_tool.specs.declared.failure.Failure.{Failure}
-use Rattle.class_tool.specs.declared.failure.Failure.TheVariants.{CannotRead, CannotWrite, NoMemory, Text, Image, Verdict, InputNotHex, ObjectNotHex, Object, Call}
+use Rattle.class_tool.specs.declared.failure.Failure.TheVariants.{CannotRead, CannotWrite, NoMemory, Text, Image, Verdict, InputNotHex, ObjectNotHex, ObjectLine, Object, Call}
 
 pub load_is_verify : (disk : Option Disk) (name : List ℕ) (e : Failure) (note : List ℕ) → IsLoadNote disk name e note → IsVerifyNote disk name e note
 load_is_verify disk name CannotRead note is = tt
@@ -17,6 +17,7 @@ load_is_verify disk name (Image error) note is = is
 load_is_verify disk name (Verdict refusal) note is = is
 load_is_verify disk name InputNotHex note is = is
 load_is_verify disk name ObjectNotHex note is = is
+load_is_verify disk name (ObjectLine line) note is = is
 load_is_verify disk name (Object error) note is = is
 load_is_verify disk name (Call error) note is = is
 
@@ -36,6 +37,7 @@ pack_lack before after asked (Text error) fails is = absurd is
 pack_lack before after asked (Verdict refusal) fails is = absurd is
 pack_lack before after asked InputNotHex fails is = absurd is
 pack_lack before after asked ObjectNotHex fails is = absurd is
+pack_lack before after asked (ObjectLine line) fails is = absurd is
 pack_lack before after asked (Object error) fails is = absurd is
 pack_lack before after asked (Call error) fails is = absurd is
 pack_lack before after asked (Image error) (inr w) is = absurd (not_written error w.said)

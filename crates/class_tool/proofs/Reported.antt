@@ -9,7 +9,7 @@ use Rattle.object_store.specs.Object.{Content}
 use Rattle.interp.specs.declared.outcome.Outcome.{Outcome}
 use Rattle.interp.specs.Plain.{Answers}
 use Rattle.class_tool.specs.Files.{Disk}
-use Rattle.class_tool.specs.Given.{object_before}
+use Rattle.class_tool.specs.Begun.{Begins}
 use Rattle.class_tool.specs.Image.{IsSafeIn}
 use Rattle.class_tool.specs.Log.{IsLogged, first_request}
 use Rattle.class_tool.specs.Reply.{IsOneOutcome, IsReplyOf, Reports}
@@ -48,7 +48,7 @@ replies_beside is_shown o l (Err e) one said = tt
 module _ {E : Type 0} (disk : Option Disk) (call : Call) (class : List ClassMethod) (input : List ℕ) (loaded : IsSafeIn disk call.image.now class)
     (read : decode_of call.input.now ≡ Ok input) where
   -- of the class that was loaded and the input that was read, on no object
-  pub reported : (r : Result Reply E) → object_before call ≡ Ok None → IfOk r (IsMade class call input) → IfOk r (Reports disk call)
+  pub reported : (r : Result Reply E) → Begins disk call None → IfOk r (IsMade class call input) → IfOk r (Reports disk call)
   reported (Ok reply) begun m = record {
     class = class;
     input = input;
@@ -66,7 +66,7 @@ module _ {E : Type 0} (disk : Option Disk) (call : Call) (class : List ClassMeth
   reported (Err e) begun m = tt
 
   -- and on an object
-  pub reported_beside : (object : Content) (r : Result Reply E) → object_before call ≡ Ok (Some object) → IfOk r (IsMadeBeside class call object input) → IfOk r (Reports disk call)
+  pub reported_beside : (object : Content) (r : Result Reply E) → Begins disk call (Some object) → IfOk r (IsMadeBeside class call object input) → IfOk r (Reports disk call)
   reported_beside object (Ok reply) begun m = record {
     class = class;
     input = input;

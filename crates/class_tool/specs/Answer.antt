@@ -12,8 +12,8 @@ use Rattle.class_tool.specs.Assembly.{AssembleFails, Assembles, IsTextOf}
 use Rattle.class_tool.specs.Files.{Storage}
 use Rattle.class_tool.specs.Image.{IsSafeIn, LoadFails, ReadFails}
 use Rattle.class_tool.specs.Packing.{PackFails, Packs}
-use Rattle.class_tool.specs.Reply.{Reports, reply_text}
-use Rattle.class_tool.specs.Run.{RunFails}
+use Rattle.class_tool.specs.Reply.{reply_text}
+use Rattle.class_tool.specs.Run.{SavedReports, SavedRunFails}
 
 -- `f ok 2`: a method's name, and how many instructions it has
 abbrev pub method_line : ClassMethod → List ℕ
@@ -27,10 +27,10 @@ answer_text Assembled = []
 answer_text (Disassembled text) = string_bytes text
 
 -- The answer is one to that action, true of the files as they were; none was written but the one
--- that is named for the image of a text or of raw code.
+-- that is named for the image of a text or of raw code, or for a call's object.
 abbrev pub Settles : Storage → Storage → Action → Answer → Type 0
 Settles before after (Verify image) (Accepted class) = (after ≡ before) × IsSafeIn before.disk image.now class
-Settles before after (Run call) (Ran reply) = (after ≡ before) × Reports before.disk call reply
+Settles before after (Run call) (Ran reply) = SavedReports before after call reply
 Settles before after (Assemble text image) Assembled = Assembles before after text.now image.now
 Settles before after (Pack asked) Assembled = Packs before after asked
 Settles before after (Disassemble image has_slots) (Disassembled text) = (after ≡ before) × IsTextOf has_slots before.disk image.now (string_bytes text)
@@ -39,7 +39,7 @@ Settles before after action answer = ⊥
 -- Why there is no answer to an action.
 abbrev pub Fails : Storage → Storage → Action → Failure → Type 0
 Fails before after (Verify image) failure = (after ≡ before) × LoadFails before.disk image.now failure
-Fails before after (Run call) failure = (after ≡ before) × RunFails before.disk call failure
+Fails before after (Run call) failure = SavedRunFails before after call failure
 Fails before after (Assemble text image) failure = AssembleFails before after text.now image.now failure
 Fails before after (Pack asked) failure = PackFails before after asked failure
 Fails before after (Disassemble image has_slots) failure = (after ≡ before) × ReadFails before.disk image.now failure

@@ -7,7 +7,7 @@ use Rattle.bpf_decode.specs.Class.{Class, IsImage}
 use Rattle.class_tool.specs.Files.{Disk, FailsToWrite, Holds, IsUnreadable, Storage, Writes}
 use Rattle.class_tool.specs.Image.{IsClassIn, IsFaultOf}
 use Rattle.class_tool.specs.declared.failure.Failure.{Failure}
-use Rattle.class_tool.specs.declared.failure.Failure.TheVariants.{CannotRead, CannotWrite, NoMemory, Text, Image, Verdict, InputNotHex, ObjectNotHex, Object, Call}
+use Rattle.class_tool.specs.declared.failure.Failure.TheVariants.{CannotRead, CannotWrite, NoMemory, Text, Image, Verdict, InputNotHex, ObjectNotHex, ObjectLine, Object, Call}
 
 -- the bytes are the image of the class that the text is
 pub record Spells (text : List ℕ) (bytes : List ℕ) : Type 0 where
@@ -44,6 +44,7 @@ TextFails disk name (Image error) = ⊥
 TextFails disk name (Verdict refusal) = ⊥
 TextFails disk name InputNotHex = ⊥
 TextFails disk name ObjectNotHex = ⊥
+TextFails disk name (ObjectLine line) = ⊥
 TextFails disk name (Object error) = ⊥
 TextFails disk name (Call error) = ⊥
 
@@ -57,6 +58,7 @@ ImageFails text (Image error) = ⊥
 ImageFails text (Verdict refusal) = ⊥
 ImageFails text InputNotHex = ⊥
 ImageFails text ObjectNotHex = ⊥
+ImageFails text (ObjectLine line) = ⊥
 ImageFails text (Object error) = ⊥
 ImageFails text (Call error) = ⊥
 

@@ -84,6 +84,7 @@ IsVerifyNote disk name why note = IsLoadNote disk name why note
 abbrev pub call_wanted : Failure → List ℕ
 call_wanted failure.InputNotHex = codes "  wanted: --input in hexadecimal, two digits a byte\n"
 call_wanted failure.ObjectNotHex = codes "  wanted: --object, --xattr NAME=HEX and --key KEY=HEX in hexadecimal, two digits a byte\n"
+call_wanted (failure.ObjectLine line) = codes "  wanted: in the file of --load first `data HEX`, then lines `xattr NAME HEX` and `key NAME HEX`, with - for no byte\n  see docs/PROGRAM.md\n"
 call_wanted (failure.Object error) = codes "  see docs/OBJECTS.md\n"
 call_wanted (failure.Call calls.NoMethod) = codes "  wanted: a method of the class; `radoscls verify` lists them\n"
 call_wanted (failure.Call calls.InputTooLong) = codes "  wanted: at most IN bytes of input, as `.method NAME FLAGS IN OUT` declares; `radoscls dis` shows it\n"

@@ -44,9 +44,11 @@ abbrev pub set_in : Part → Content → List ℕ → List ℕ → Result Conten
 set_in Xattrs content name value = calls.set_xattr (Some content) name value
 set_in Keys content name value = calls.set_key (Some content) name value
 
+abbrev pub with_words : Part → Content → List ℕ → List ℕ → Result Content Failure
+with_words part content name value = and_then (name_in name) (λ name. and_then (bytes_in value) (λ value. of_change (set_in part content name value)))
+
 abbrev pub with_entry : Part → Content → Entry → Result Content Failure
-with_entry part content entry =
-    and_then (name_in entry.name.now) (λ name. and_then (bytes_in entry.value.now) (λ value. of_change (set_in part content name value)))
+with_entry part content entry = with_words part content entry.name.now entry.value.now
 
 -- and with several, one after the other
 abbrev pub with_entries : Part → Content → List Entry → Result Content Failure

@@ -1,5 +1,5 @@
 -- What a file says as a class, by its image or its text, and why it says nothing.
-use Rattle.std.specs.Prelude.{◌≡◌, ◌⊎◌, ◌≤◌, ◌==◌, ◌&&◌, ◌||◌, nat_lt, ⊤, ℕ, Bool, true, false, List, Option, Some, None, Err, IsUtf8, length, slice_index, string_bytes}
+use Rattle.std.specs.Prelude.{◌≡◌, ◌⊎◌, ◌≤◌, ◌==◌, ◌&&◌, ◌||◌, nat_lt, ⊤, ℕ, Bool, false, List, Option, Some, None, Err, IsUtf8, length, slice_index, string_bytes}
 use Rattle.std.specs.List.{AllByRecursion, list_any}
 use Rattle.bpf_asm.specs.Classes.{AsmError, read_class_text}
 use Rattle.bpf_asm.specs.Grammar.{IsClassText}
@@ -7,14 +7,13 @@ use Rattle.bpf_asm.specs.Fault.{no_memory}
 use Rattle.bpf_decode.specs.Class.{ClassMethod, Class, IsImage}
 use Rattle.bpf_decode.specs.ImageReading.{image_of}
 use Rattle.bpf_decode.specs.declared.decode_error.DecodeError.TheVariants as decode
-use Rattle.bpf_decode.specs.declared.image_error.ImageError.{ImageError}
 use Rattle.bpf_decode.specs.declared.limits.TheConstants.{IMAGE_LIMIT}
 use Rattle.bpf_machine.specs.Safe.{IsSafe}
 use Rattle.verifier.specs.Verdict.{class_verdict, out_of_memory}
 use Rattle.verifier.specs.declared.refusal.Refusal.{Refusal}
 use Rattle.class_tool.specs.Files.{Disk, Holds, IsUnreadable}
 use Rattle.class_tool.specs.declared.failure.Failure.{Failure}
-use Rattle.class_tool.specs.declared.failure.Failure.TheVariants.{CannotRead, CannotWrite, NoMemory, Text, Image, Verdict, InputNotHex, ObjectNotHex, Object, Call}
+use Rattle.class_tool.specs.declared.failure.Failure.TheVariants.{CannotRead, CannotWrite, NoMemory, Text, Image, Verdict, InputNotHex, ObjectNotHex, ObjectLine, Object, Call}
 use Rattle.class_tool.specs.declared.image.Source.{Source}
 use Rattle.class_tool.specs.declared.image.Source.TheVariants as sources
 
@@ -117,6 +116,7 @@ VerdictFails disk name (Image error) = ⊥
 VerdictFails disk name (Verdict refusal) = IsVerdictIn disk name refusal
 VerdictFails disk name InputNotHex = ⊥
 VerdictFails disk name ObjectNotHex = ⊥
+VerdictFails disk name (ObjectLine line) = ⊥
 VerdictFails disk name (Object error) = ⊥
 VerdictFails disk name (Call error) = ⊥
 

@@ -55,5 +55,6 @@ LogFails class method input (failure.Image error) = ⊥
 LogFails class method input (failure.Verdict refusal) = ⊥
 LogFails class method input failure.InputNotHex = ⊥
 LogFails class method input failure.ObjectNotHex = ⊥
+LogFails class method input (failure.ObjectLine line) = ⊥
 LogFails class method input (failure.Object error) = ⊥
 LogFails class method input (failure.Call error) = CallRefused class method input error

@@ -1,5 +1,5 @@
 -- What a printer knows, and what a print that failed left.
-use Rattle.std.specs.Prelude.{◌≡◌, ℕ, List, Option, Bool, take}
+use Rattle.std.specs.Prelude.{ℕ, List, Option, Bool, take}
 use Rattle.std.specs.Io.KnownBytes.{Appends}
 use Rattle.class_tool.specs.declared.output.Printer.{Printer}
 

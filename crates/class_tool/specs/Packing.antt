@@ -12,7 +12,7 @@ use Rattle.class_tool.specs.Files.{Disk, FailsToWrite, Holds, IsUnreadable, Stor
 use Rattle.class_tool.specs.declared.action.Packing.{Packing}
 use Rattle.class_tool.specs.declared.action.RawMethod.{RawMethod}
 use Rattle.class_tool.specs.declared.failure.Failure.{Failure}
-use Rattle.class_tool.specs.declared.failure.Failure.TheVariants.{CannotRead, CannotWrite, NoMemory, Text, Image, Verdict, InputNotHex, ObjectNotHex, Object, Call}
+use Rattle.class_tool.specs.declared.failure.Failure.TheVariants.{CannotRead, CannotWrite, NoMemory, Text, Image, Verdict, InputNotHex, ObjectNotHex, ObjectLine, Object, Call}
 
 -- the file holds the raw code of those instructions
 pub record IsCodeIn (disk : Option Disk) (name : List ℕ) (instructions : List Insn) : Type 0 where
@@ -64,6 +64,7 @@ CodeFails disk name done (Image error) = (error.methods ≡ done) × ((error.err
 CodeFails disk name done (Verdict refusal) = ⊥
 CodeFails disk name done InputNotHex = ⊥
 CodeFails disk name done ObjectNotHex = ⊥
+CodeFails disk name done (ObjectLine line) = ⊥
 CodeFails disk name done (Object error) = ⊥
 CodeFails disk name done (Call error) = ⊥
 
@@ -88,6 +89,7 @@ ClassFails rules methods (Image error) = class_of rules methods ≡ Err error
 ClassFails rules methods (Verdict refusal) = ⊥
 ClassFails rules methods InputNotHex = ⊥
 ClassFails rules methods ObjectNotHex = ⊥
+ClassFails rules methods (ObjectLine line) = ⊥
 ClassFails rules methods (Object error) = ⊥
 ClassFails rules methods (Call error) = ⊥
 

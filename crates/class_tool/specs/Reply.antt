@@ -9,7 +9,7 @@ use Rattle.interp.specs.Plain.{Answers}
 use Rattle.interp.specs.declared.outcome.Outcome.{Outcome}
 use Rattle.pg_log.specs.Requests.{ClientRequest}
 use Rattle.class_tool.specs.Files.{Disk}
-use Rattle.class_tool.specs.Given.{object_before}
+use Rattle.class_tool.specs.Begun.{Begins}
 use Rattle.class_tool.specs.Image.{IsSafeIn}
 use Rattle.class_tool.specs.Log.{IsLogged, first_request}
 use Rattle.class_tool.specs.Shown.{or_dash, shown_text}
@@ -40,6 +40,7 @@ pub record IsReplyOf (is_shown : Bool) (logged : Logged) (outcome : Outcome) (re
   pub steps : reply.steps ≡ outcome.steps
   pub object : reply.object ≡ option_map holdings_of outcome.change.after
   pub shown : string_bytes reply.shown ≡ shown_text is_shown outcome.change.after
+  pub after : reply.after ≡ outcome.change.after
 
 -- what was answered has the code and the output of a call's outcome
 abbrev pub IsOneOutcome : Outcome → Logged → Type 0
@@ -52,7 +53,7 @@ IsReplied None class r logged = IsLogged class r logged
 IsReplied (Some object) class r logged = ⊤
 
 -- A reply tells what the method's bytes do on the flat machine, in every layout, on the object that
--- is spelled; and where there is none, what a group whose one request is this call replies, which
+-- words or a file spell; and where there is none, what a group whose one request is this call replies, which
 -- is the same outcome. The class is safe, and is the one whose image the file holds.
 pub record Reports (disk : Option Disk) (call : Call) (reply : Reply) : Type 0 where
   pub class : List ClassMethod
@@ -62,7 +63,7 @@ pub record Reports (disk : Option Disk) (call : Call) (reply : Reply) : Type 0 w
   pub logged : Logged
   pub loaded : IsSafeIn disk call.image.now class
   pub read : decode_of call.input.now ≡ Ok input
-  pub begun : object_before call ≡ Ok object
+  pub begun : Begins disk call object
   pub ran : Answers class call.method.now object call.caller input outcome
   pub replied : IsReplied object class (first_request call.caller call.method.now input) logged
   pub one : IsOneOutcome outcome logged

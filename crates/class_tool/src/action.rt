@@ -10,7 +10,7 @@ pub struct Entry<'a> {
     pub value: &'a str,
 }
 
-/// A call of a method of an image's class, on the object that is spelled, or on none.
+/// A call of a method of an image's class, on the object that words or a file spell, or on none.
 #[derive(Drop)]
 pub struct Call<'a> {
     /// The file of the image.
@@ -28,6 +28,10 @@ pub struct Call<'a> {
     pub xattrs: Vec<Entry<'a>>,
     /// The keys of its omap, set in this order.
     pub keys: Vec<Entry<'a>>,
+    /// The file whose text spells the object before the call, in place of those.
+    pub load: Option<&'a str>,
+    /// The file that becomes the text of the object after it.
+    pub save: Option<&'a str>,
     /// Whether the reply shows what the object holds after the call.
     pub is_shown: bool,
 }

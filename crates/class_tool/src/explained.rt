@@ -9,7 +9,7 @@ ghost use Rattle.class_tool.specs.Files.{storage};
 ghost use Rattle.class_tool.specs.Image.{IsSafeIn, LoadFails, ReadFails};
 ghost use Rattle.class_tool.specs.Packing.{PackFails, Packs};
 ghost use Rattle.class_tool.specs.Reply.{Reports};
-ghost use Rattle.class_tool.specs.Run.{RunFails};
+ghost use Rattle.class_tool.specs.Run.{RunFails, SavedReports, SavedRunFails};
 
 use crate::action::{Action, Call, Packing, RawMethod};
 use crate::answer::Answer;
@@ -19,7 +19,7 @@ use crate::files::{Files, Reads};
 use crate::image::{Source, read_source};
 use crate::packing::pack;
 use crate::reply::Reply;
-use crate::run::run_safe;
+use crate::run::{keep, run_safe};
 use bpf_decode::ImageError;
 use class_advice::{refusal_note, source_text};
 use interp::CallError;
@@ -27,7 +27,11 @@ use std::alloc::{AllocError, Global};
 use verifier::{Refusal, Rule, VerifiedClass, verify};
 
 /// The note of the refusal of a class that was read.
-fn source_note(alloc: Global, source: &Source, refusal: &Refusal) -> Result<String, AllocError>
+pub(crate) fn source_note(
+    alloc: Global,
+    source: &Source,
+    refusal: &Refusal,
+) -> Result<String, AllocError>
     ensures { IfOk result (λ text. string_bytes text ≡ source_note source.now refusal.now) }
 {
     match source {
@@ -90,7 +94,7 @@ fn add_fault<F: Files>(alloc: Global, files: &F, failure: Failure, note: &mut St
 
 /// Adds to a note what the files tell of a file that could not be read or written, which takes its
 /// place.
-fn add_own<F: Files>(alloc: Global, files: &F, failure: Failure, note: &mut String)
+pub(crate) fn add_own<F: Files>(alloc: Global, files: &F, failure: Failure, note: &mut String)
     ensures read { failure ≡ Failure.CannotRead ⊎ failure ≡ Failure.CannotWrite ⊎ string_bytes note.new ≡ string_bytes note.old }
 {
     match failure {
@@ -135,6 +139,7 @@ fn call_wanted(failure: &Failure) -> &'static str
     match failure {
         Failure::InputNotHex => "  wanted: --input in hexadecimal, two digits a byte\n",
         Failure::ObjectNotHex => "  wanted: --object, --xattr NAME=HEX and --key KEY=HEX in hexadecimal, two digits a byte\n",
+        Failure::ObjectLine(_) => "  wanted: in the file of --load first `data HEX`, then lines `xattr NAME HEX` and `key NAME HEX`, with - for no byte\n  see docs/PROGRAM.md\n",
         Failure::Object(_) => "  see docs/OBJECTS.md\n",
         Failure::Call(CallError::NoMethod) => "  wanted: a method of the class; `radoscls verify` lists them\n",
         Failure::Call(CallError::InputTooLong) => "  wanted: at most IN bytes of input, as `.method NAME FLAGS IN OUT` declares; `radoscls dis` shows it\n",
@@ -167,6 +172,7 @@ fn run_noted<F: Files>(
     ensures ok { IfOk result (Reports (F.disk files.now) asked.now) }
     ensures err { IfErr result (RunFails (F.disk files.now) asked.now) }
     ensures noted { IfErr result (λ e. IsRunNote (F.disk files.now) asked.now.image.now e (string_bytes note.new)) }
+    ensures silent { OnOk result (string_bytes note.new ≡ []) }
 {
     let class = verify_noted(alloc, files, asked.image, note)?;
     match run_safe(alloc, files, class, asked) {
@@ -174,6 +180,28 @@ fn run_noted<F: Files>(
         Err(failure) => {
             *note = String::from_str(alloc, call_wanted(&failure))?;
             add_unread(alloc, files, &failure, note);
+            Err(failure)
+        }
+    }
+}
+
+/// The same, and the object is saved; or what the files tell of one that could not be written.
+fn save_noted<F: Files>(
+    alloc: Global,
+    files: &mut F,
+    asked: &Call<'_>,
+    note: &mut String,
+) -> Result<Reply, Failure>
+    requires { string_bytes note.old ≡ [] }
+    ensures ok { IfOk result (SavedReports (storage F.disk F.failed files.old) (storage F.disk F.failed files.new) asked.now) }
+    ensures err { IfErr result (SavedRunFails (storage F.disk F.failed files.old) (storage F.disk F.failed files.new) asked.now) }
+    ensures noted { IfErr result (λ e. IsRunNote (F.disk files.old) asked.now.image.now e (string_bytes note.new)) }
+{
+    let reply = run_noted(alloc, files, asked, note)?;
+    match keep(alloc, files, asked, &reply) {
+        Ok(()) => Ok(reply),
+        Err(failure) => {
+            add_fault(alloc, files, failure, note);
             Err(failure)
         }
     }
@@ -257,7 +285,7 @@ fn add_pack_note<F: Files>(alloc: Global, files: &F, raws: &[RawMethod<'_>], fai
         }
         Failure::CannotRead | Failure::CannotWrite => add_fault(alloc, files, failure, note),
         Failure::NoMemory | Failure::Text(_) | Failure::Verdict(_) => {}
-        Failure::InputNotHex | Failure::ObjectNotHex | Failure::Object(_) | Failure::Call(_) => {}
+        Failure::InputNotHex | Failure::ObjectNotHex | Failure::ObjectLine(_) | Failure::Object(_) | Failure::Call(_) => {}
     }
     Ok(())
 }
@@ -301,7 +329,7 @@ pub fn find_noted<F: Files>(
             Ok(class) => Ok(Answer::Accepted(class)),
             Err(failure) => Err(failure),
         },
-        Action::Run(asked) => match run_noted(alloc, files, asked, note) {
+        Action::Run(asked) => match save_noted(alloc, files, asked, note) {
             Ok(reply) => Ok(Answer::Ran(reply)),
             Err(failure) => Err(failure),
         },

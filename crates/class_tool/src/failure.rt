@@ -31,6 +31,8 @@ pub enum Failure {
     InputNotHex,
     /// A part of the object is not pairs of hexadecimal digits.
     ObjectNotHex,
+    /// The line of that number, from 1, of the text that spells the object.
+    ObjectLine(usize),
     /// There is no such object.
     Object(StoreError),
     /// The call was not made, or not logged.
@@ -66,6 +68,7 @@ impl fmt::Display for Failure {
             Failure::Verdict(refusal) => refusal.fmt(f),
             Failure::InputNotHex => f.write_str("input is not hex"),
             Failure::ObjectNotHex => f.write_str("object is not hex"),
+            Failure::ObjectLine(line) => write!(f, "object line {line}: bad"),
             Failure::Object(error) => write!(f, "object refused: {error}"),
             Failure::Call(error) => write!(f, "call refused: {error}"),
         }

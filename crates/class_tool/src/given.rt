@@ -3,7 +3,7 @@ ghost use Rattle.std.specs.Prelude.{Result};
 ghost use Rattle.object_store.specs.Object.{Content};
 ghost use Rattle.object_store.specs.Returned.{Gives as Answered};
 ghost use Rattle.object_store.specs.declared.store_error.StoreError.{StoreError as AStoreError};
-ghost use Rattle.class_tool.specs.Given.{Gives, bytes_in, content_in, name_in, object_before, of_change, set_in, with_data, with_entries, with_entry};
+ghost use Rattle.class_tool.specs.Given.{Gives, bytes_in, content_in, name_in, object_before, of_change, set_in, with_data, with_entries, with_words};
 
 use crate::action::{Call, Entry};
 use crate::failure::Failure;
@@ -50,17 +50,18 @@ fn changed(made: Result<Object, StoreError>) -> Result<Object, Failure>
     }
 }
 
-/// An object with one xattr, or one key, set.
-fn with_entry(
+/// An object with one xattr, or one key, set, as words spell it.
+pub(crate) fn with_words(
     alloc: Global,
     part: Part,
     object: &Object,
-    entry: &Entry<'_>,
+    name: &str,
+    value: &str,
 ) -> Result<Object, Failure>
-    ensures { Gives (λ o. o) result (with_entry part object.now entry.now) }
+    ensures { Gives (λ o. o) result (with_words part object.now name.now value.now) }
 {
-    let name = name_in(alloc, entry.name.as_bytes())?;
-    let value = bytes_in(alloc, entry.value.as_bytes())?;
+    let name = name_in(alloc, name.as_bytes())?;
+    let value = bytes_in(alloc, value.as_bytes())?;
     set(alloc, part, object, &name, &value)
 }
 
@@ -91,13 +92,13 @@ fn with_entries(
 {
     let mut object = object;
     for entry in entries {
-        object = with_entry(alloc, part, &object, entry)?;
+        object = with_words(alloc, part, &object, entry.name, entry.value)?;
     }
     Ok(object)
 }
 
 /// An object of that data.
-fn with_data(alloc: Global, text: &str) -> Result<Object, Failure>
+pub(crate) fn with_data(alloc: Global, text: &str) -> Result<Object, Failure>
     ensures { Gives (λ o. o) result (with_data text.now) }
 {
     let bytes = bytes_in(alloc, text.as_bytes())?;

@@ -94,7 +94,7 @@ pub(crate) fn fault_note(alloc: Global, text: &str, failure: &Failure) -> Result
         Failure::Text(error) => fault_text(alloc, text, error),
         Failure::Image(error) => String::from_str(alloc, image_note(error.error)),
         Failure::CannotRead | Failure::CannotWrite | Failure::NoMemory | Failure::Verdict(_) => Ok(String::new(alloc)),
-        Failure::InputNotHex | Failure::ObjectNotHex | Failure::Object(_) | Failure::Call(_) => Ok(String::new(alloc)),
+        Failure::InputNotHex | Failure::ObjectNotHex | Failure::ObjectLine(_) | Failure::Object(_) | Failure::Call(_) => Ok(String::new(alloc)),
     }
 }
 

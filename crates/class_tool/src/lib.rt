@@ -1,13 +1,14 @@
 //! What the program `radoscls` does once its words are read: `find` tells whether a class is safe,
 //! calls a method of one, writes the image of a text or of raw code, or gives the text of an image.
 //! Its answer is true of the files as they were, and a failure says why, the first reason in a
-//! stated order. Only an image is written, to the file that is named for it, and only where it is
-//! right. An answer and a failure print as the lines of `answer_text` and `failure_text`.
+//! stated order. `verify_each` tells it of each method. Only an image is written, or a call's object,
+//! to the file that is named for it, and only where it is right. An answer and a failure print as the lines of `answer_text` and `failure_text`.
 #![tactic(auto)]
 
 mod action;
 mod answer;
 mod assembly;
+mod each;
 mod explained;
 mod failure;
 mod files;
@@ -19,6 +20,7 @@ mod output;
 mod packing;
 mod reply;
 mod run;
+mod saved;
 mod shown;
 mod tool;
 mod window;
@@ -26,6 +28,7 @@ mod window;
 pub use action::{Action, Call, Entry, Packing, RawMethod};
 pub use answer::Answer;
 pub use assembly::read_text;
+pub use each::{Verdicts, verify_each};
 pub use explained::find_noted;
 pub use failure::Failure;
 pub use files::{Files, Reads, SystemFiles};

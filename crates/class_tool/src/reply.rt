@@ -25,6 +25,8 @@ pub struct Reply {
     pub object: Option<Holdings>,
     /// The lines of all that the object holds then, where they are asked for.
     pub shown: String,
+    /// The object after the call; `None` where it is absent.
+    pub(crate) after: Option<Object>,
 }
 
 /// How much an object holds.
@@ -54,6 +56,19 @@ impl Holdings {
     }
 }
 
+/// A copy of an object, if there is one, which shares all of it.
+fn copy_of(object: Option<&Object>) -> Result<Option<Object>, AllocError>
+    ensures { IfOk result (λ copy. copy ≡ option_copied object.entry) }
+{
+    match object {
+        Some(object) => match object.copy() {
+            Ok(copy) => Ok(Some(copy)),
+            Err(_) => Err(AllocError),
+        },
+        None => Ok(None),
+    }
+}
+
 impl Reply {
     /// The reply of that answer and that outcome, with what the object holds or without. It fails
     /// only for want of memory.
@@ -71,6 +86,7 @@ impl Reply {
             steps: outcome.steps,
             object: Holdings::of(outcome.change.after()),
             shown: shown_text(alloc, is_shown, outcome.change.after())?,
+            after: copy_of(outcome.change.after())?,
         })
     }
 

@@ -1,4 +1,4 @@
-ghost use Rattle.std.specs.Prelude.{FitsSigned, None, Some, IfOk, IfErr};
+ghost use Rattle.std.specs.Prelude.{◌≡◌, ◌⊎◌, FitsSigned, None, Some, IfOk, IfErr};
 ghost use Rattle.std.specs.Option.{option_copied};
 ghost use Rattle.std.specs.Int.{w64};
 ghost use Rattle.interp.specs.Plain.{Answers};
@@ -6,17 +6,23 @@ ghost use Rattle.interp.specs.declared.outcome.Outcome.{Outcome as AnOutcome};
 ghost use Rattle.class_tool.specs.Image.{IsSafeIn};
 ghost use Rattle.class_tool.specs.Log.{IsLogged, LogFails, first_request};
 ghost use Rattle.class_tool.specs.Reply.{IsOneOutcome, IsReplyOf, Reports};
-ghost use Rattle.class_tool.specs.Run.{RunFails};
+ghost use Rattle.class_tool.specs.Assembly.{TextFails};
+ghost use Rattle.class_tool.specs.Begun.{BeginFails, Begins, IsMisspelledIn, IsSpelledIn};
+ghost use Rattle.class_tool.specs.Files.{storage};
+ghost use Rattle.class_tool.specs.Saved.{SaveFails, Saves};
+ghost use Rattle.class_tool.specs.Run.{RunFails, SavedReports, SavedRunFails};
 ghost use Rattle.class_tool.specs.declared.log.Logged.{Logged as ALogged};
 
 use crate::action::Call;
+use crate::assembly::read_text;
 use crate::failure::Failure;
-use crate::files::Reads;
+use crate::files::{Files, Reads};
 use crate::given::object_before;
 use crate::image::load;
 use crate::input::decode_input;
 use crate::log::{Logged, append};
 use crate::reply::Reply;
+use crate::saved::{save, spelled_object};
 use bpf_machine::outcomes;
 use interp::Outcome;
 use object_store::Object;
@@ -109,20 +115,40 @@ fn call_beside(
     Ok(reply_beside(alloc, asked, &outcome)?)
 }
 
+/// The object before a call: that of the file that is named for it, or else that of words.
+fn begun<F: Reads>(alloc: Global, files: &F, asked: &Call<'_>) -> Result<Option<Object>, Failure>
+    ensures ok { IfOk result (Begins (F.disk files.now) asked.now) }
+    ensures err { IfErr result (BeginFails (F.disk files.now) asked.now) }
+{
+    match asked.load {
+        None => object_before(alloc, asked),
+        Some(file) => loaded(alloc, files, file),
+    }
+}
+
+/// The object that a file's text spells.
+fn loaded<F: Reads>(alloc: Global, files: &F, file: &str) -> Result<Option<Object>, Failure>
+    ensures ok { IfOk result (IsSpelledIn (F.disk files.now) file.now) }
+    ensures err { IfErr result (λ e. (e ≡ Failure.NoMemory) ⊎ TextFails (F.disk files.now) file.now e ⊎ IsMisspelledIn (F.disk files.now) file.now e) }
+{
+    let text = read_text(alloc, files, file)?;
+    spelled_object(alloc, &text)
+}
+
 /// Makes the call of a safe class on the object that is spelled. If there is none, it appends the
 /// same request to an empty group, and code and output are those of the log's entry.
 pub(crate) fn run_safe<F: Reads>(
     alloc: Global,
-    _files: &F,
+    files: &F,
     class: VerifiedClass,
     asked: &Call<'_>,
 ) -> Result<Reply, Failure>
-    requires { IsSafeIn (F.disk _files.now) asked.now.image.now class }
-    ensures ok { IfOk result (Reports (F.disk _files.now) asked.now) }
-    ensures err { IfErr result (RunFails (F.disk _files.now) asked.now) }
+    requires { IsSafeIn (F.disk files.now) asked.now.image.now class }
+    ensures ok { IfOk result (Reports (F.disk files.now) asked.now) }
+    ensures err { IfErr result (RunFails (F.disk files.now) asked.now) }
 {
     let input = decode_input(alloc, asked.input)?;
-    match object_before(alloc, asked)? {
+    match begun(alloc, files, asked)? {
         None => call_and_log(alloc, class, asked, input),
         Some(object) => call_beside(alloc, &class, asked, &object, &input),
     }
@@ -135,4 +161,33 @@ pub fn run<F: Reads>(alloc: Global, files: &F, asked: &Call<'_>) -> Result<Reply
 {
     let class = load(alloc, files, asked.image)?;
     run_safe(alloc, files, class, asked)
+}
+
+/// Saves the object after a call where a file is named for it.
+pub(crate) fn keep<F: Files>(
+    alloc: Global,
+    files: &mut F,
+    asked: &Call<'_>,
+    reply: &Reply,
+) -> Result<(), Failure>
+    ensures ok { IfOk result (λ _. Saves (storage F.disk F.failed files.old) (storage F.disk F.failed files.new) asked.now.save reply.now.after) }
+    ensures err { IfErr result (SaveFails (storage F.disk F.failed files.old) (storage F.disk F.failed files.new) asked.now.save reply.now.after) }
+{
+    save(alloc, files, asked.save, reply.after.as_ref())
+}
+
+/// The same, and the object is saved where a file is named for it.
+pub fn run_and_save<F: Files>(
+    alloc: Global,
+    files: &mut F,
+    asked: &Call<'_>,
+) -> Result<Reply, Failure>
+    ensures ok { IfOk result (SavedReports (storage F.disk F.failed files.old) (storage F.disk F.failed files.new) asked.now) }
+    ensures err { IfErr result (SavedRunFails (storage F.disk F.failed files.old) (storage F.disk F.failed files.new) asked.now) }
+{
+    let reply = run(alloc, files, asked)?;
+    match keep(alloc, files, asked, &reply) {
+        Ok(()) => Ok(reply),
+        Err(failure) => Err(failure),
+    }
 }

@@ -11,7 +11,7 @@ use crate::failure::Failure;
 use crate::files::Files;
 use crate::image::load;
 use crate::packing::pack;
-use crate::run::run;
+use crate::run::run_and_save;
 use std::alloc::Global;
 
 /// `asm` without a note.
@@ -38,8 +38,8 @@ fn disassembled<F: Files>(
 }
 
 /// Does what is asked for. The answer is true of the files as they were. No file is written but the
-/// one that is named for the image of a text or of raw code, and that one only where it is right; a
-/// failure says why, the first reason in the order of `Fails`.
+/// one that is named for the image of a text or of raw code, and that one only where it is right, or
+/// for a call's object; a failure says why, the first reason in the order of `Fails`.
 pub fn find<F: Files>(alloc: Global, files: &mut F, action: &Action<'_>) -> Result<Answer, Failure>
     ensures settles { IfOk result (Settles (storage F.disk F.failed files.old) (storage F.disk F.failed files.new) action.now) }
     ensures fails { IfErr result (Fails (storage F.disk F.failed files.old) (storage F.disk F.failed files.new) action.now) }
@@ -49,7 +49,7 @@ pub fn find<F: Files>(alloc: Global, files: &mut F, action: &Action<'_>) -> Resu
             Ok(class) => Ok(Answer::Accepted(class)),
             Err(failure) => Err(failure),
         },
-        Action::Run(asked) => match run(alloc, files, asked) {
+        Action::Run(asked) => match run_and_save(alloc, files, asked) {
             Ok(reply) => Ok(Answer::Ran(reply)),
             Err(failure) => Err(failure),
         },

@@ -60,7 +60,7 @@ fn since<C: Clock>(clock: &C, start: Option<Instant>) -> u64 {
 }
 
 /// The nanoseconds that the clock shows; 0 if it can't be read.
-fn shown_by<C: Clock>(clock: &C) -> u64 {
+pub(crate) fn shown_by<C: Clock>(clock: &C) -> u64 {
     match clock.monotonic() {
         Ok(time) => time.as_nanos().min(u128::from(u64::MAX)) as u64,
         Err(_) => 0,
@@ -129,6 +129,11 @@ impl Figures {
         add(&self.calls, 1);
         add(&self.nanoseconds, nanoseconds);
         self.worst.fetch_max(nanoseconds, Ordering::SeqCst);
+    }
+
+    /// How many calls have ended.
+    pub(crate) fn calls(&self) -> u64 {
+        self.calls.load(Ordering::SeqCst)
     }
 
     /// Notes the nudges of a client.

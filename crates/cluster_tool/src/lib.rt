@@ -12,6 +12,7 @@ mod caller;
 mod config;
 mod crossing;
 mod figures;
+mod meter;
 mod played;
 mod playing;
 mod shown;
@@ -19,4 +20,5 @@ mod tool;
 
 pub use asked::Clustering;
 pub use figures::Figures;
+pub use meter::Meter;
 pub use tool::{Ending, cluster};

@@ -6,6 +6,7 @@ ghost use Rattle.cluster_tool.specs.Played.{AreMapsMade, IsMapRefused, Plays};
 use crate::caller::Caller;
 use crate::crossing::{caller_crosses, figures_cross};
 use crate::figures::Figures;
+use crate::meter::Meter;
 use crate::played::Played;
 use cluster_file::{Plan, Step};
 use map_book::MapError;
@@ -13,6 +14,7 @@ use osd::{ClusterName, NoMemory, Parts, Running, running_crosses};
 use pg_log::ClassTable;
 use rados_client::{ExecError, Reply, Session};
 use std::alloc::{AllocError, Global};
+use std::io;
 use std::sync::Wait;
 use std::thread::{Threads, for_each_mut, scope, scope_env};
 use std::time::Clock;
@@ -23,13 +25,17 @@ const WORKER_LIMIT: usize = 16;
 /// Plays a plan on a cluster of these parts, with these classes: each client and each worker in a
 /// thread of its own. It is not played if memory for the nodes is refused. The caller picks the
 /// names, which are those of the parts and classes.
-pub(crate) fn play<N: ClusterName + Send + Sync, R: Threads + Wait + Clock + Sync + Drop>(
+pub(crate) fn play<
+    N: ClusterName + Send + Sync,
+    R: Threads + Wait + Clock + Sync + Drop,
+    E: io::Write,
+>(
     alloc: Global,
     rt: R,
     parts: Parts,
     table: ClassTable,
     plan: &Plan,
-    figures: &Figures,
+    meter: &mut Meter<'_, E>,
 ) -> Result<Played, NoMemory>
     requires board { parts.board ≡ N.board }
     requires queues { parts.queues ≡ N.queues }
@@ -38,19 +44,20 @@ pub(crate) fn play<N: ClusterName + Send + Sync, R: Threads + Wait + Clock + Syn
     ensures { IfOk result (Plays table parts.config plan.now.steps) }
 {
     let running = Running::<N, R>::named(alloc, rt, parts, table)?;
-    Ok(play_while_served(alloc, &running, plan, figures))
+    Ok(play_while_served(alloc, &running, plan, meter))
 }
 
 /// Plays a plan while all workers serve. Where the thread that they start from can't be had, nothing
 /// is played: no call would be answered.
-fn play_while_served<N: ClusterName + Send + Sync, R: Threads + Wait + Clock + Sync>(
+fn play_while_served<N: ClusterName + Send + Sync, R: Threads + Wait + Clock + Sync, E: io::Write>(
     alloc: Global,
     running: &Running<N, R>,
     plan: &Plan,
-    figures: &Figures,
+    meter: &mut Meter<'_, E>,
 ) -> Played
     ensures { Plays N.classes N.config plan.now.steps result }
 {
+    let figures = meter.figures();
     scope(
         scope_env(),
         running.runtime(),
@@ -60,7 +67,7 @@ fn play_while_served<N: ClusterName + Send + Sync, R: Threads + Wait + Clock + S
             running_crosses::<N, R>();
             figures_cross();
             match threads.spawn(|| serve_all(running, figures)) {
-                Ok(_) => play_and_finish(alloc, running, plan, figures),
+                Ok(_) => play_and_finish(alloc, running, plan, meter),
                 Err(_) => Played::NoMemory,
             }
         },
@@ -88,36 +95,36 @@ fn serve_all<N: ClusterName + Send + Sync, R: Threads + Wait + Sync>(
 }
 
 /// Plays a plan, and tells the workers to finish.
-fn play_and_finish<N: ClusterName + Send + Sync, R: Threads + Wait + Clock + Sync>(
+fn play_and_finish<N: ClusterName + Send + Sync, R: Threads + Wait + Clock + Sync, E: io::Write>(
     alloc: Global,
     running: &Running<N, R>,
     plan: &Plan,
-    figures: &Figures,
+    meter: &mut Meter<'_, E>,
 ) -> Played
     ensures { Plays N.classes N.config plan.now.steps result }
 {
-    let played = play_plan(alloc, running, plan, figures);
-    figures.note_whole(running.runtime());
+    let played = play_plan(alloc, running, plan, meter);
+    meter.figures().note_whole(running.runtime());
     running.finish();
     played
 }
 
 /// Plays a plan.
-fn play_plan<N: ClusterName + Send + Sync, R: Threads + Wait + Clock + Sync>(
+fn play_plan<N: ClusterName + Send + Sync, R: Threads + Wait + Clock + Sync, E: io::Write>(
     alloc: Global,
     running: &Running<N, R>,
     plan: &Plan,
-    figures: &Figures,
+    meter: &mut Meter<'_, E>,
 ) -> Played
     ensures { Plays N.classes N.config plan.now.steps result }
 {
     let Ok(mut callers) = callers(alloc, running, plan.clients()) else {
         return Played::NoMemory;
     };
-    match play_steps(alloc, running, figures, plan.steps(), &mut callers) {
+    match play_steps(alloc, running, meter, plan.steps(), &mut callers) {
         Some((line, why)) => Played::MapRefused(line, why),
         None => {
-            note_nudges(&callers, figures);
+            note_nudges(&callers, meter.figures());
             match all_ends(alloc, callers) {
                 Ok(ends) => Played::Done(ends),
                 Err(_) => Played::NoMemory,
@@ -147,14 +154,15 @@ fn callers<'a, N: ClusterName, R: Wait>(
     Ok(callers)
 }
 
-/// Whether one of these steps is a call.
-fn has_call(steps: &[Step]) -> bool {
+/// How many of these steps are calls.
+fn count_calls(steps: &[Step]) -> u64 {
+    let mut calls: u64 = 0;
     for step in steps {
         if let Step::Call(_) = step {
-            return true;
+            calls = calls.wrapping_add(1);
         }
     }
-    false
+    calls
 }
 
 /// Makes the calls of these steps, each client in a thread of its own.
@@ -171,7 +179,7 @@ fn call_all<'a, N: ClusterName + Send + Sync, R: Threads + Wait + Clock + Sync>(
     figures_cross();
     let threads = callers.len().max(1);
     let clock = running.runtime();
-    if has_call(steps) {
+    if count_calls(steps) > 0 {
         figures.begin(clock);
     }
     for_each_mut(
@@ -185,11 +193,11 @@ fn call_all<'a, N: ClusterName + Send + Sync, R: Threads + Wait + Clock + Sync>(
 }
 
 /// Makes the calls of a plan, and each of its maps once all calls above have ended, up to the first
-/// map that is refused.
-fn play_steps<'a, N: ClusterName + Send + Sync, R: Threads + Wait + Clock + Sync>(
+/// map that is refused. Between parts of the calls the meter looks at the clock.
+fn play_steps<'a, N: ClusterName + Send + Sync, R: Threads + Wait + Clock + Sync, E: io::Write>(
     alloc: Global,
     running: &'a Running<N, R>,
-    figures: &Figures,
+    meter: &mut Meter<'_, E>,
     steps: &[Step],
     callers: &mut Vec<Caller<'a, N, R>>,
 ) -> Option<(usize, MapError)>
@@ -197,15 +205,26 @@ fn play_steps<'a, N: ClusterName + Send + Sync, R: Threads + Wait + Clock + Sync
     ensures made { IfNone result (AreMapsMade N.config steps.now) }
     ensures some { IfSome result (λ r. IsMapRefused N.config steps.now r.0 r.1) }
 {
+    let figures = meter.figures();
     let end = steps.len();
     let mut from = 0;
+    meter.begin(running.runtime(), count_calls(steps));
     for at in 0..end {
-        if let Step::Map(line, nodes) = &steps[at] {
-            call_all(alloc, running, figures, &steps[from..at], callers);
-            if let Err(why) = running.new_map(nodes.items()) {
-                return Some((*line, why));
+        match &steps[at] {
+            Step::Map(line, nodes) => {
+                call_all(alloc, running, figures, &steps[from..at], callers);
+                if let Err(why) = running.new_map(nodes.items()) {
+                    return Some((*line, why));
+                }
+                from = at;
             }
-            from = at;
+            Step::Call(_) => {
+                if meter.is_due(at - from) {
+                    call_all(alloc, running, figures, &steps[from..at], callers);
+                    meter.look(running.runtime());
+                    from = at;
+                }
+            }
         }
     }
     call_all(alloc, running, figures, &steps[from..end], callers);

@@ -5,7 +5,7 @@ ghost use Rattle.cluster_tool.specs.Clustering.{Clusters, ClusteringFails, IsPri
 
 use crate::asked::Clustering;
 use crate::config::config_of;
-use crate::figures::Figures;
+use crate::meter::Meter;
 use crate::played::Played;
 use crate::playing::play;
 use crate::shown::{groups_if, lines_of};
@@ -16,6 +16,7 @@ use pg_log::ClassTable;
 use rados_client::ConfigError;
 use std::alloc::{AllocError, Global};
 use std::fmt::Display;
+use std::io;
 use std::marker::Brand;
 use std::sync::Wait;
 use std::thread::Threads;
@@ -37,11 +38,11 @@ pub enum Ending {
     Unprinted,
 }
 
-/// What else is asked for of a file: to where it is measured, and whether the line of each call shows
-/// what was asked.
-#[derive(Clone, Copy)]
-struct Extras<'a> {
-    figures: &'a Figures,
+/// What else is asked for of a file: by which meter it is measured, and whether the line of each call
+/// shows what was asked.
+#[derive(Drop)]
+struct Extras<'a, 'b, E> {
+    meter: &'a mut Meter<'b, E>,
     is_shown: bool,
 }
 
@@ -60,13 +61,13 @@ struct Printout {
 /// had, which memory alone is known to cause; the image of a tenant's class can't be loaded, the
 /// first one in their order; the file can't be read or is no text. Nothing was printed then. It
 /// starts threads and waits for them: nothing is said of when it ends. What the run took is added
-/// to the figures.
-pub fn cluster<F: Reads, O: Output, R: Threads + Wait + Clock + Sync + Drop>(
+/// to the meter's figures.
+pub fn cluster<F: Reads, O: Output, R: Threads + Wait + Clock + Sync + Drop, E: io::Write>(
     alloc: Global,
     rt: R,
     files: &F,
     asked: &Clustering<'_>,
-    figures: &Figures,
+    meter: &mut Meter<'_, E>,
     out: &mut O,
 ) -> Result<Ending, Failure>
     ensures ends { IfOk result (Clusters (F.disk files.now) asked.now (O.printed out.old) (O.printed out.new) (O.failed out.old) (O.failed out.new)) }
@@ -77,7 +78,7 @@ pub fn cluster<F: Reads, O: Output, R: Threads + Wait + Clock + Sync + Drop>(
     let names = class_names(alloc, &asked.tenants)?;
     let text = read_text(alloc, files, asked.file)?;
     let extras = Extras {
-        figures,
+        meter,
         is_shown: asked.is_shown,
     };
     match settle(alloc, rt, table, &names, &text, extras) {
@@ -98,13 +99,13 @@ fn print<O: Output>(printout: Printout, out: &mut O) -> Ending
 }
 
 /// What comes of a text.
-fn settle<R: Threads + Wait + Clock + Sync + Drop>(
+fn settle<R: Threads + Wait + Clock + Sync + Drop, E: io::Write>(
     alloc: Global,
     rt: R,
     table: ClassTable,
     names: &[&str],
     text: &str,
-    extras: Extras<'_>,
+    extras: Extras<'_, '_, E>,
 ) -> Result<Printout, AllocError>
     ensures { IfOk result (λ o. IsPrintoutOf extras.entry.is_shown table (plan_of (map (λ n. n.now) names.now) text.now) (string_bytes o.text) o.ending) }
 {
@@ -129,12 +130,12 @@ fn refused<E: Display + Drop>(alloc: Global, line: usize, why: E) -> Result<Prin
 }
 
 /// What comes of a plan.
-fn settle_plan<R: Threads + Wait + Clock + Sync + Drop>(
+fn settle_plan<R: Threads + Wait + Clock + Sync + Drop, E: io::Write>(
     alloc: Global,
     rt: R,
     table: ClassTable,
     plan: &Plan,
-    extras: Extras<'_>,
+    extras: Extras<'_, '_, E>,
 ) -> Result<Printout, AllocError>
     ensures { IfOk result (λ o. IsPrintoutOf extras.entry.is_shown table (Ok plan.now) (string_bytes o.text) o.ending) }
 {
@@ -146,7 +147,7 @@ fn settle_plan<R: Threads + Wait + Clock + Sync + Drop>(
         return refused(alloc, 1, ConfigError::NoMemory);
     };
     // The call picks the cluster's names: parts and classes are there already.
-    match play::<Brand, R>(alloc, rt, parts, table, plan, extras.figures) {
+    match play::<Brand, R, E>(alloc, rt, parts, table, plan, extras.meter) {
         Ok(Played::Done(ends)) => Ok(Printout {
             text: lines_of(alloc, groups, plan.steps(), &ends)?,
             ending: Ending::Done,

@@ -1,7 +1,8 @@
--- The command line: `verify IN [--explain]`, `run IN METHOD [--input HEX] [--caller N] [--object
--- HEX] [--xattr NAME=HEX ..] [--key KEY=HEX ..] [--show] [--explain]`, `asm IN OUT [--explain]`,
--- `pack OUT METHOD .. [--rules N] [--explain]`, `dis IN [--slots] [--explain]`, `sim FILE [--class
--- NAME=IMAGE ..] [--trace]`, and `cluster FILE [--class NAME=IMAGE ..] [--show] [--stats]`.
+-- The command line: `verify IN [--all] [--explain]`, `run IN METHOD [--input HEX] [--caller N]
+-- [--object HEX] [--xattr NAME=HEX ..] [--key KEY=HEX ..] [--load FILE] [--save FILE] [--show]
+-- [--explain]`, `asm IN OUT [--explain]`, `pack OUT METHOD .. [--rules N] [--explain]`, `dis IN
+-- [--slots] [--explain]`, `sim FILE [--class NAME=IMAGE ..] [--trace]`, and `cluster FILE [--class
+-- NAME=IMAGE ..] [--show] [--stats]`.
 use Rattle.std.specs.Prelude.{[], ◌∷◌, Option, Some, true, codes}
 use Rattle.clap.specs.Lexer.{usize_max}
 use Rattle.clap.specs.Words.{App, Rule, Text, new_app, new_rule, with_rule, with_subcommand}
@@ -36,7 +37,7 @@ abbrev pub explain_rule : Rule
 explain_rule = flag_rule (codes "explain")
 
 abbrev pub verify_line : App
-verify_line = with_rule (with_rule (new_app (codes "verify")) (required_rule (codes "IN"))) explain_rule
+verify_line = with_rule (with_rule (with_rule (new_app (codes "verify")) (required_rule (codes "IN"))) (flag_rule (codes "all"))) explain_rule
 
 -- a call of a method
 abbrev pub call_line : App
@@ -44,11 +45,14 @@ call_line =
     with_rule (with_rule (with_rule (with_rule (new_app (codes "run")) (required_rule (codes "IN")))
     (required_rule (codes "METHOD"))) (option_rule (codes "input") (codes ""))) caller_rule
 
--- on an object
+-- on an object that words spell
+abbrev pub object_line : App
+object_line = with_rule (with_rule (with_rule call_line (value_rule (codes "object"))) (each_rule (codes "xattr"))) (each_rule (codes "key"))
+
+-- or a file, and into a file
 abbrev pub run_line : App
 run_line =
-    with_rule (with_rule (with_rule (with_rule (with_rule call_line (value_rule (codes "object"))) (each_rule (codes "xattr")))
-    (each_rule (codes "key"))) (flag_rule (codes "show"))) explain_rule
+    with_rule (with_rule (with_rule (with_rule object_line (value_rule (codes "load"))) (value_rule (codes "save"))) (flag_rule (codes "show"))) explain_rule
 
 abbrev pub asm_line : App
 asm_line = with_rule (with_rule (with_rule (new_app (codes "asm")) (required_rule (codes "IN"))) (required_rule (codes "OUT"))) explain_rule

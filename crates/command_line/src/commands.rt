@@ -2,7 +2,7 @@
 ghost use Rattle.std.specs.Prelude.{◌≡◌, IfOk, false};
 ghost use Rattle.clap.specs.declared.builder.command.Command.TheViews.{out-Command};
 ghost use Rattle.clap.specs.Words.{app_of, rule_of};
-ghost use Rattle.command_line.specs.CommandLine.{asm_line, call_line, class_rule, cluster_line, command_line, dis_line, explain_rule, image_line, methods_rule, pack_line, plain_line, run_line, sim_line, verify_line};
+ghost use Rattle.command_line.specs.CommandLine.{asm_line, call_line, class_rule, cluster_line, command_line, dis_line, explain_rule, image_line, methods_rule, object_line, pack_line, plain_line, run_line, sim_line, verify_line};
 
 use crate::forms::{
     Heading, each, file_command, flag, option, required, value, with_arg, with_subcommand,
@@ -35,7 +35,8 @@ fn verify_command<'a>(alloc: Global) -> Result<Command<'a>, AllocError>
         "IN",
         "The file of the class: its image or text",
     );
-    with_arg(of_image, explain_flag(alloc))
+    let all = flag(alloc, "all", help::ALL);
+    with_arg(with_arg(of_image, all), explain_flag(alloc))
 }
 
 /// The subcommand of a call, without the object.
@@ -62,8 +63,9 @@ fn call_command<'a>(alloc: Global) -> Result<Command<'a>, AllocError>
     with_arg(with_arg(with_arg(of_image, method), input), caller)
 }
 
-fn run_command<'a>(alloc: Global) -> Result<Command<'a>, AllocError>
-    ensures line { IfOk result (λ c. app_of c ≡ run_line) }
+/// The subcommand of a call on an object that words spell.
+fn object_command<'a>(alloc: Global) -> Result<Command<'a>, AllocError>
+    ensures line { IfOk result (λ c. app_of c ≡ object_line) }
     ensures local { IfOk result (λ c. (out-Command c).has_globals ≡ false) }
 {
     let of_call = call_command(alloc);
@@ -73,9 +75,19 @@ fn run_command<'a>(alloc: Global) -> Result<Command<'a>, AllocError>
     let xattr = each(alloc, "xattr", "NAME=HEX", help);
     let help = "A key of the object's omap; KEY may be 0x.., and the value as the input";
     let key = each(alloc, "key", "KEY=HEX", help);
+    with_arg(with_arg(with_arg(of_call, object), xattr), key)
+}
+
+fn run_command<'a>(alloc: Global) -> Result<Command<'a>, AllocError>
+    ensures line { IfOk result (λ c. app_of c ≡ run_line) }
+    ensures local { IfOk result (λ c. (out-Command c).has_globals ≡ false) }
+{
+    let of_object = object_command(alloc);
+    let load = value(alloc, "load", "FILE", help::LOAD);
+    let save = value(alloc, "save", "FILE", help::SAVE);
     let show = flag(alloc, "show", "Prints all that the object holds afterwards");
-    let of_object = with_arg(with_arg(with_arg(of_call, object), xattr), key);
-    with_arg(with_arg(of_object, show), explain_flag(alloc))
+    let of_files = with_arg(with_arg(of_object, load), save);
+    with_arg(with_arg(of_files, show), explain_flag(alloc))
 }
 
 fn asm_command<'a>(alloc: Global) -> Result<Command<'a>, AllocError>
@@ -182,7 +194,7 @@ fn plain_command<'a>(alloc: Global) -> Command<'a>
 {
     Command::new(alloc, "radoscls")
         .about("RADOS object classes in verified BPF")
-        .version("0.4.0\nrattle-kit-13f logic dac8208d650f15bf")
+        .version("0.4.0\nlogic dac8208d650f15bf")
         .subcommand_required(true)
         .arg_required_else_help(true)
 }

@@ -2,12 +2,15 @@
 
 pub(crate) const VERIFY: &str = "Examples:
   radoscls verify count.img
-  radoscls verify count.img --explain";
+  radoscls verify count.img --explain
+  radoscls verify count.img --all";
 
 pub(crate) const RUN: &str = "Examples:
   radoscls run keep.img keep --input 726f6f74
   radoscls run count.img count --key n=0500000000000000 --show
-  radoscls run count.img count --object @count.txt --show";
+  radoscls run count.img count --object @count.txt --show
+  radoscls run count.img count --save kept.txt
+  radoscls run count.img count --load kept.txt --save kept.txt";
 
 pub(crate) const ASM: &str = "Example:
   radoscls asm count.txt count.img";
@@ -27,6 +30,17 @@ pub(crate) const SIM: &str = "Examples:
 pub(crate) const CLUSTER: &str = "Examples:
   radoscls cluster lost_primary.cluster
   radoscls cluster lost_primary.cluster --class count=count.img --stats";
+
+/// For the help of `verify`.
+pub(crate) const ALL: &str = "Prints each method's verdict, and not the first refusal alone";
+
+/// For the help of `run`.
+pub(crate) const LOAD: &str =
+    "The object before the call: a file that --save wrote, or one of such lines";
+
+/// For the help of `run`.
+pub(crate) const SAVE: &str =
+    "Writes the object after the call to a file, in the lines of --show; none where it is absent";
 
 /// A file of calls and maps, for the help of `cluster`.
 pub(crate) const CLUSTER_FILE: &str =

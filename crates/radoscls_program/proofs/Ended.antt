@@ -38,18 +38,23 @@ pub ended : (before after : Storage) (old new : Stream) (words : List Text) (tas
     → AreFor words task → TaskEnds before after old new task status → Ends before after old new words status
 ended before after old new words (task.Class a e) status named acts =
     class_ended before after old new words a e acts.found acts.note status (inl named) acts.true_of acts.responds
+ended before after old new words (task.Each image e) Done named judged =
+    inr (inr (inr (record { image = image.now; is_explained = e; named = (image, named, refl); left = judged.0; ended = judged.1 })))
+ended before after old new words (task.Each image e) Refused named judged =
+    inr (inr (inr (inr (inr (inr (record { image = image.now; is_explained = e; named = (image, named, refl); left = judged.0; ended = judged.1 }))))))
+ended before after old new words (task.Each image e) Usage named judged = absurd judged.1
 ended before after old new words (task.Run call e) status named (inl on) =
     class_ended before after old new words (Run on.filled) e on.acts.found on.acts.note status
     (inr (record { call = call; named = named; filled = on.filled; values = on.values; same = refl })) on.acts.true_of on.acts.responds
 ended before after old new words (task.Run call e) Done named (inr un) = absurd (let bad : Done ≡ Refused = un.0 in cc)
 ended before after old new words (task.Run call e) Refused named (inr un) =
-    inr (inr (inr (inr (inr (record { call = call; is_explained = e; named = named; unfilled = un.1 })))))
+    inr (inr (inr (inr (inr (inl (record { call = call; is_explained = e; named = named; unfilled = un.1 }))))))
 ended before after old new words (task.Run call e) Usage named (inr un) = absurd (let bad : Usage ≡ Refused = un.0 in cc)
 ended before after old new words (task.Sim s) Done named played = inr (inl (record { simulation = s; named = named; left = played.0; ended = played.1 }))
 ended before after old new words (task.Sim s) Refused named played = inr (inr (inr (inl (record { simulation = s; named = named; left = played.0; ended = played.1 }))))
 ended before after old new words (task.Sim s) Usage named played = absurd played.1
 ended before after old new words (task.Cluster c m) Done named ran =
-    inr (inr (record { asked = c; is_measured = m; named = named; left = ran.0; ended = ran.1 }))
+    inr (inr (inl (record { asked = c; is_measured = m; named = named; left = ran.0; ended = ran.1 })))
 ended before after old new words (task.Cluster c m) Refused named ran =
     inr (inr (inr (inr (inl (record { asked = c; is_measured = m; named = named; left = ran.0; ended = ran.1 })))))
 ended before after old new words (task.Cluster c m) Usage named ran = absurd ran.1
@@ -61,6 +66,13 @@ pub explained : (files : Storage) (old new : Stream) (words : List Text) (e : Un
 explained files old new words e Done none done refused usage = absurd (done refl)
 explained files old new words e Refused none done refused usage = inr (inr (inl (refl, refused refl)))
 explained files old new words e Usage none done refused usage = record { unasked = none (usage refl).0; left = refl; silent = (usage refl).1 }
+
+-- what the status 0 says
+pub done_by : (before after : Storage) (old new : Stream) (words : List Text) (status : ExitStatus) (n : ℕ)
+    → n ≡ code_of status → Ends before after old new words status → n ≡ 0 → IsDone before after old new words
+done_by before after old new words Done n is ends zero = ends
+done_by before after old new words Refused n is ends zero = let bad : 1 ≡ 0 = sym is ∙ zero in absurd (omega arith)
+done_by before after old new words Usage n is ends zero = let bad : 2 ≡ 0 = sym is ∙ zero in absurd (omega arith)
 
 -- what the status 1 says
 pub refused_by : (before after : Storage) (old new : Stream) (words : List Text) (status : ExitStatus) (n : ℕ)
@@ -79,7 +91,8 @@ plays_well false classes names text old new failed fails prints = prints.shown.w
 done_well : (before after : Storage) (old new : Stream) (words : List Text) → IsDone before after old new words → new.failed ≡ old.failed
 done_well before after old new words (inl answered) = answered.printed.well
 done_well before after old new words (inr (inl played)) = let p = played.ended in plays_well played.simulation.is_drawn p.classes _ p.text _ _ _ _ p.played
-done_well before after old new words (inr (inr ran)) = ran.ended.ends.well
+done_well before after old new words (inr (inr (inl ran))) = ran.ended.ends.well
+done_well before after old new words (inr (inr (inr each))) = each.ended.printed.well
 
 -- where a write fails, the status is 1
 pub failed_by : (before after : Storage) (old new : Stream) (words : List Text) (status : ExitStatus) (n : ℕ)

@@ -4,3 +4,4 @@ mod Filling
 mod Raws
 mod Tenants
 mod Told
+mod Verdicts

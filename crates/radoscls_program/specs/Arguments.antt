@@ -1,5 +1,5 @@
 -- What the arguments of a subcommand ask for.
-use Rattle.std.specs.Prelude.{◌≡◌, Option, Some, None, if◌then◌else◌, option_and_then, option_map, codes}
+use Rattle.std.specs.Prelude.{◌≡◌, ◌==◌, ◌&&◌, ◌||◌, Bool, true, false, Option, Some, None, is_none, if◌then◌else◌, length, option_and_then, option_map, codes}
 use Rattle.std.specs.Str.{bytes_eq}
 use Rattle.bpf_decode.specs.declared.rule_set.RuleSet.{RuleSet}
 use Rattle.bpf_decode.specs.declared.rule_set.RuleSet.TheVariants.{One, Two}
@@ -40,20 +40,29 @@ pub record TakesPlain (p : Parsed) (call : Plain) : Type 0 where
 abbrev pub plain_of : Call → Plain
 plain_of call = record { image = call.image; method = call.method; input = call.input; caller = call.caller }
 
+-- The object is that of a file, --load, or that of words.
+abbrev pub loads_alone : Parsed → Bool
+loads_alone p =
+    is_none (one_in p (codes "load"))
+    || (is_none (one_in p (codes "object")) && ((length (all_in p (codes "xattr")) == 0) && (length (all_in p (codes "key")) == 0)))
+
 -- What `run` asks for: that, the object's data --object, an xattr of each --xattr and a key of each
--- --key, and whether --show is there. Values may be files'.
+-- --key, the files --load and --save, and whether --show is there. Values may be files'.
 pub record TakesCall (p : Parsed) (call : Call) : Type 0 where
   pub plain : TakesPlain p (plain_of call)
   pub data_text : one_in p (codes "object") ≡ option_map (λ t. t.now) call.data
   pub xattrs : AreEntries (all_in p (codes "xattr")) call.xattrs.items
   pub keys : AreEntries (all_in p (codes "key")) call.keys.items
+  pub load : one_in p (codes "load") ≡ option_map (λ t. t.now) call.load
+  pub save : one_in p (codes "save") ≡ option_map (λ t. t.now) call.save
+  pub alone : loads_alone p ≡ true
   pub shown : call.is_shown ≡ is_set_in p (codes "show")
 
--- What each action but a call is asked by: whether the class in the file IN is safe; the image of
--- the text in the file IN, into the file OUT; the image of raw code; the text of the class in the
--- file IN, with slots if --slots is there.
+-- What each action but a call is asked by: whether the class in the file IN is safe, without --all;
+-- the image of the text in the file IN, into the file OUT; the image of raw code; the text of the
+-- class in the file IN, with slots if --slots is there.
 abbrev pub TakesAction : Parsed → Action → Type 0
-TakesAction p (Verify image) = one_in p (codes "IN") ≡ Some image.now
+TakesAction p (Verify image) = (one_in p (codes "IN") ≡ Some image.now) × (is_set_in p (codes "all") ≡ false)
 TakesAction p (Run call) = ⊥
 TakesAction p (Assemble text image) = (one_in p (codes "IN") ≡ Some text.now) × (one_in p (codes "OUT") ≡ Some image.now)
 TakesAction p (Pack asked) = TakesPacking p asked
@@ -73,9 +82,14 @@ pub record TakesCluster (p : Parsed) (c : Clustering) : Type 0 where
   pub tenants : SpellsTenants (all_in p (codes "class")) c.tenants.items
   pub shown : c.is_shown ≡ is_set_in p (codes "show")
 
+-- What `verify --all` asks for: the verdicts of the class in the file IN.
+abbrev pub TakesEach : Parsed → Text → Type 0
+TakesEach p image = (one_in p (codes "IN") ≡ Some image) × (is_set_in p (codes "all") ≡ true)
+
 -- a task is one of these; --explain has a failure explained, and --stats has a run measured
 abbrev pub TakesTask : Parsed → Task → Type 0
 TakesTask p (task.Class action is_explained) = TakesAction p action × (is_explained ≡ is_set_in p (codes "explain"))
+TakesTask p (task.Each image is_explained) = TakesEach p image.now × (is_explained ≡ is_set_in p (codes "explain"))
 TakesTask p (task.Run call is_explained) = TakesCall p call × (is_explained ≡ is_set_in p (codes "explain"))
 TakesTask p (task.Sim s) = TakesSim p s
 TakesTask p (task.Cluster c is_measured) = TakesCluster p c × (is_measured ≡ is_set_in p (codes "stats"))
@@ -90,6 +104,7 @@ subcommand_for (Disassemble image has_slots) = codes "dis"
 
 abbrev pub name_for : Task → Text
 name_for (task.Class action is_explained) = subcommand_for action
+name_for (task.Each image is_explained) = codes "verify"
 name_for (task.Run call is_explained) = codes "run"
 name_for (task.Sim s) = codes "sim"
 name_for (task.Cluster c is_measured) = codes "cluster"

@@ -38,13 +38,14 @@ abbrev pub value_file : Text → List Text
 value_file text = named (file_of text)
 
 -- the files that a command line has read, each as often as it names it: IN, FILE, the images of
--- --class, raw code, and those of values
+-- --class, raw code, those of values, and that of --load
 abbrev pub files_read : Parsed → List Text
 files_read p =
     named (one_in p (codes "IN")) ++ named (one_in p (codes "FILE")) ++ map image_in (all_in p (codes "class")) ++ code_files p
-    ++ flat_map value_file (call_values p)
+    ++ flat_map value_file (call_values p) ++ named (one_in p (codes "load"))
 
--- one of them at most is standard input, and OUT isn't
+-- one of them at most is standard input, and neither OUT nor the file of --save is
 pub record UsesInputWell (p : Parsed) : Type 0 where
   pub once : count_by is_input (files_read p) ≤ 1
   pub unwritten : list_any is_input (named (one_in p (codes "OUT"))) ≡ false
+  pub unsaved : list_any is_input (named (one_in p (codes "save"))) ≡ false

@@ -1,5 +1,6 @@
 -- How the program ends, and what it printed and wrote.
 use Rattle.std.specs.Prelude.{◌≡◌, ◌⊎◌, ◌++◌, ℕ, Bool, List, [], Option, Result, Ok, Err, true, false}
+use Rattle.std.specs.Borrow.{Bor}
 use Rattle.command_line.specs.Parsed.{Text}
 use Rattle.class_tool.specs.Answer.{Settles, Fails, answer_text}
 use Rattle.class_tool.specs.Explained.{IsSystemNote, IsNote}
@@ -14,6 +15,7 @@ use Rattle.sim.specs.declared.asked.Simulation.{Simulation}
 use Rattle.cluster_tool.specs.declared.asked.Clustering.{Clustering}
 use Rattle.radoscls_program.specs.Clustered.{ClusterEnds}
 use Rattle.radoscls_program.specs.Asked.{AreFor, AreForNone}
+use Rattle.radoscls_program.specs.Judged.{EachEnds}
 use Rattle.radoscls_program.specs.Playing.{SimEnds}
 use Rattle.radoscls_program.specs.Streams.{Stream, Took, Lost, IsPrinted, failure_line}
 use Rattle.radoscls_program.specs.declared.status.ExitStatus.{ExitStatus}
@@ -32,6 +34,10 @@ pub record IsCallNamed (disk : Option Disk) (words : List Text) (action : Action
 
 abbrev pub IsNamed : Option Disk → List Text → Action → Bool → Type 0
 IsNamed disk words action is_explained = AreFor words (task.Class action is_explained) ⊎ IsCallNamed disk words action is_explained
+
+-- The words ask for the verdict of each method of the class in a file.
+abbrev pub IsEachNamed : List Text → Text → Bool → Type 0
+IsEachNamed words image is_explained = (file : Bor Text) × AreFor words (task.Each file is_explained) × (image ≡ file.now)
 
 -- There was a true answer to the action that the words name, and its lines were printed.
 pub record IsAnswered (before after : Storage) (old new : Stream) (words : List Text) : Type 0 where
@@ -94,6 +100,14 @@ pub record IsValueless (before after : Storage) (old new : Stream) (words : List
 abbrev pub IsUnread : Storage → Storage → Stream → Stream → Type 0
 IsUnread before after old new = (after ≡ before) × IsPrinted old new (failure_line NoMemory)
 
+-- The words name a class, whose methods were judged so; no file changed.
+pub record IsEach (before after : Storage) (old new : Stream) (words : List Text) (status : ExitStatus) : Type 0 where
+  pub image : Text
+  pub is_explained : Bool
+  pub named : IsEachNamed words image is_explained
+  pub left : after ≡ before
+  pub ended : EachEnds before.disk old new image is_explained status
+
 -- The words name a file of events, which was played so; no file changed.
 pub record IsPlayed (before after : Storage) (old new : Stream) (words : List Text) (status : ExitStatus) : Type 0 where
   pub simulation : Simulation
@@ -113,12 +127,14 @@ pub record IsRun (before after : Storage) (old new : Stream) (words : List Text)
 abbrev pub IsDone : Storage → Storage → Stream → Stream → List Text → Type 0
 IsDone before after old new words =
     IsAnswered before after old new words ⊎ IsPlayed before after old new words Done ⊎ IsRun before after old new words Done
+    ⊎ IsEach before after old new words Done
 
 -- why the program ended with 1
 abbrev pub IsRefused : Storage → Storage → Stream → Stream → List Text → Type 0
 IsRefused before after old new words =
     IsFailed before after old new words ⊎ IsUnprinted before after old new words ⊎ IsUnread before after old new
     ⊎ IsPlayed before after old new words Refused ⊎ IsRun before after old new words Refused ⊎ IsValueless before after old new words
+    ⊎ IsEach before after old new words Refused
 
 -- The words are at fault or ask for help; nothing was done or printed on standard output.
 pub record IsUsage (before after : Storage) (old new : Stream) (words : List Text) : Type 0 where
@@ -152,8 +168,8 @@ Responds old new (Err failure) note Done = ⊥
 Responds old new (Err failure) note Refused = IsPrinted old new (failure_line failure ++ note)
 Responds old new (Err failure) note Usage = ⊥
 
--- what is done of a task: an action is answered or fails, and that is printed; a file of events, or
--- of calls and maps, is played, and no file changes
+-- what is done of a task: an action is answered or fails, and that is printed; methods are judged, a
+-- file of events, or of calls and maps, is played, and no file changes
 abbrev pub Found : Storage → Storage → Action → Bool → Result Answer Failure → List ℕ → Type 0
 Found before after action is_explained (Ok answer) note = Settles before after action answer
 Found before after action is_explained (Err failure) note = Fails before after action failure × IsNoteAsked is_explained before.disk action failure note
@@ -177,6 +193,7 @@ CallEnds before after old new call is_explained status =
 
 abbrev pub TaskEnds : Storage → Storage → Stream → Stream → Task → ExitStatus → Type 0
 TaskEnds before after old new (task.Class action is_explained) status = Acts before after old new action is_explained status
+TaskEnds before after old new (task.Each image is_explained) status = (after ≡ before) × EachEnds before.disk old new image.now is_explained status
 TaskEnds before after old new (task.Run call is_explained) status = CallEnds before after old new call is_explained status
 TaskEnds before after old new (task.Sim simulation) status = (after ≡ before) × SimEnds before.disk old new simulation status
 TaskEnds before after old new (task.Cluster asked is_measured) status = (after ≡ before) × ClusterEnds before.disk old new asked status

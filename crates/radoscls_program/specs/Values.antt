@@ -91,6 +91,8 @@ pub record IsFilled (disk : Option Disk) (call filled : Call) : Type 0 where
   pub data_text : IsMaybeValue disk (text_in call.data) (text_in filled.data)
   pub xattrs : AreValues disk (map entry_texts call.xattrs.items) (map entry_texts filled.xattrs.items)
   pub keys : AreValues disk (map entry_texts call.keys.items) (map entry_texts filled.keys.items)
+  pub load : text_in filled.load ≡ text_in call.load
+  pub save : text_in filled.save ≡ text_in call.save
   pub shown : filled.is_shown ≡ call.is_shown
 
 -- Memory was refused, or a value's file can't be read.

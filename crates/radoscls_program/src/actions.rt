@@ -1,5 +1,5 @@
 //! What the arguments of each subcommand ask for.
-ghost use Rattle.std.specs.Prelude.{◌≡◌, ◌≢◌, ◌≤◌, List, IfErr, IfOk, None, Some, codes, false, length, option_and_then};
+ghost use Rattle.std.specs.Prelude.{◌≡◌, ◌≢◌, ◌≤◌, List, IfErr, IfOk, None, Some, codes, false, length, option_and_then, true};
 ghost use Rattle.command_line.specs.Parsed.{all_in, one_in, parsed_of};
 ghost use Rattle.file_words.specs.Words.{id_in};
 ghost use Rattle.tenant_classes.specs.declared.tenant_class.TheConstants.{TENANT_LIMIT};
@@ -9,7 +9,7 @@ ghost use Rattle.class_tool.specs.declared.action.Packing.{Packing as APacking};
 ghost use Rattle.cluster_tool.specs.declared.asked.Clustering.{Clustering as AClustering};
 ghost use Rattle.sim.specs.declared.asked.Simulation.{Simulation as ASimulation};
 ghost use Rattle.radoscls_program.specs.declared.actions.Plain.{Plain as APlain};
-ghost use Rattle.radoscls_program.specs.Arguments.{TakesCall, TakesCluster, TakesPacking, TakesPlain, TakesSim, rules_named};
+ghost use Rattle.radoscls_program.specs.Arguments.{TakesCall, TakesCluster, TakesPacking, TakesPlain, TakesSim, loads_alone, rules_named};
 ghost use Rattle.radoscls_program.specs.Entries.{AreEntries};
 ghost use Rattle.radoscls_program.specs.Tenants.{SpellsTenants, are_tenants};
 
@@ -24,7 +24,7 @@ use cluster_tool::Clustering;
 use command_line::ParsedWords;
 use pg_log::ClientId;
 use sim::Simulation;
-use std::alloc::Global;
+use std::alloc::{AllocError, Global};
 use tenant_classes::TenantClass;
 
 /// What `run` asks for without the object.
@@ -86,6 +86,30 @@ fn entries_of<'a>(
     entries(alloc, wanted, &texts)
 }
 
+/// Whether the object is that of a file, or that of words.
+fn loads_alone(alloc: Global, words: &ParsedWords<'_>) -> Result<bool, AllocError>
+    ensures { IfOk result (λ alone. alone ≡ loads_alone (parsed_of words.now)) }
+{
+    if words.one("load").is_none() {
+        return Ok(true);
+    }
+    let xattrs = words.all(alloc, "xattr")?;
+    let keys = words.all(alloc, "key")?;
+    Ok(words.one("object").is_none() && xattrs.is_empty() && keys.is_empty())
+}
+
+/// Refuses words by which the object is that of a file and of words too.
+fn check_object<'a>(alloc: Global, words: &ParsedWords<'a>) -> Result<(), Mistake<'a>>
+    ensures ok { IfOk result (λ _. loads_alone (parsed_of words.now) ≡ true) }
+    ensures err { IfErr result (λ m. m ≢ Mistake.NoMemory → loads_alone (parsed_of words.now) ≡ false) }
+{
+    if loads_alone(alloc, words)? {
+        Ok(())
+    } else {
+        Err(Mistake::ObjectTwice)
+    }
+}
+
 /// What `run` asks for.
 pub(crate) fn call_of<'a>(alloc: Global, words: &ParsedWords<'a>) -> Result<Call<'a>, Mistake<'a>>
     ensures some { IfOk result (TakesCall (parsed_of words.now)) }
@@ -95,6 +119,7 @@ pub(crate) fn call_of<'a>(alloc: Global, words: &ParsedWords<'a>) -> Result<Call
         Ok(plain) => plain,
         Err(mistake) => return Err(mistake),
     };
+    check_object(alloc, words)?;
     let xattrs = entries_of(alloc, words, "xattr", Wanted::Xattr)?;
     let keys = entries_of(alloc, words, "key", Wanted::Key)?;
     Ok(Call {
@@ -105,6 +130,8 @@ pub(crate) fn call_of<'a>(alloc: Global, words: &ParsedWords<'a>) -> Result<Call
         data: words.one("object"),
         xattrs,
         keys,
+        load: words.one("load"),
+        save: words.one("save"),
         is_shown: words.is_set("show"),
     })
 }

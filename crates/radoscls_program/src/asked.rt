@@ -21,7 +21,11 @@ fn verify_task<'a>(words: &ParsedWords<'a>) -> Result<Task<'a>, Mistake<'a>>
     ensures unnamed { IfErr result (λ m. m ≢ Mistake.NoMemory → (task : ATask) → Names (parsed_of words.now) task → ⊥) }
 {
     let image = wanted(words, "IN")?;
-    Ok(Task::Class(Action::Verify { image }, words.is_set("explain")))
+    let is_explained = words.is_set("explain");
+    if words.is_set("all") {
+        return Ok(Task::Each(image, is_explained));
+    }
+    Ok(Task::Class(Action::Verify { image }, is_explained))
 }
 
 /// `run`.

@@ -94,6 +94,7 @@ fn files_read<'a>(alloc: Global, words: &ParsedWords<'a>) -> Result<Vec<&'a str>
     push_images(&mut names, &classes)?;
     names.extend_from_slice(&codes)?;
     push_value_files(&mut names, &values)?;
+    push_named(&mut names, words.one("load"))?;
     Ok(names)
 }
 
@@ -134,23 +135,26 @@ fn inputs_among(names: &[&str]) -> usize
     count
 }
 
-/// Whether OUT is standard input.
-fn writes_input(words: &ParsedWords<'_>) -> bool
-    ensures { result ≡ list_any is_input (named (one_in (parsed_of words.now) (codes "OUT"))) }
+/// Whether an argument is standard input.
+fn names_input(words: &ParsedWords<'_>, id: &str) -> bool
+    ensures { result ≡ list_any is_input (named (one_in (parsed_of words.now) id.now)) }
 {
-    match words.one("OUT") {
+    match words.one(id) {
         Some(name) => is_input(name),
         None => false,
     }
 }
 
-/// Refuses words of which two have standard input read, or OUT names it.
+/// Refuses words of which two have standard input read, or OUT or --save names it.
 pub(crate) fn check_inputs<'a>(alloc: Global, words: &ParsedWords<'a>) -> Result<(), Mistake<'a>>
     ensures ok { IfOk result (λ _. UsesInputWell (parsed_of words.now)) }
     ensures err { IfErr result (λ m. m ≢ Mistake.NoMemory → UsesInputWell (parsed_of words.now) → ⊥) }
 {
-    if writes_input(words) {
+    if names_input(words, "OUT") {
         return Err(Mistake::Value(Wanted::Output, "-"));
+    }
+    if names_input(words, "save") {
+        return Err(Mistake::Value(Wanted::Saved, "-"));
     }
     let names = files_read(alloc, words)?;
     if inputs_among(&names) > 1 {

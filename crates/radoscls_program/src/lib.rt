@@ -9,6 +9,7 @@ mod actions;
 mod asked;
 mod entry;
 mod inputs;
+mod judging;
 mod mistake;
 mod number;
 mod perform;

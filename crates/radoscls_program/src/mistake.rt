@@ -11,6 +11,8 @@ pub(crate) enum Mistake<'a> {
     Value(Wanted, &'a str),
     /// Standard input is read more than once.
     InputTwice,
+    /// The object is that of a file, and of words too.
+    ObjectTwice,
 }
 
 /// What an argument wants of its text.
@@ -26,6 +28,7 @@ pub(crate) enum Wanted {
     FreeName,
     FewerClasses,
     Output,
+    Saved,
 }
 
 impl Wanted {
@@ -38,11 +41,12 @@ impl Wanted {
             Wanted::Xattr        => ("--xattr <NAME=HEX>", "a name, '=' and the value"),
             Wanted::Key          => ("--key <KEY=HEX>", "a key, '=' and the value"),
             Wanted::Method       => ("<METHOD>...", "NAME:FLAGS:IN:OUT:FILE, FLAGS r, w or rw, IN and OUT 0 to 65535"),
-            Wanted::Class        => ("--class <NAME=IMAGE>", "a name, '=' and the file of the image"),
+            Wanted::Class        => ("--class <NAME=IMAGE>", "a name, '=' and the file of the class: its image or text"),
             Wanted::ClassName    => ("--class <NAME=IMAGE>", "a name that isn't empty and has no blank"),
             Wanted::FreeName     => ("--class <NAME=IMAGE>", "a name other than lock, obj and earlier ones"),
             Wanted::FewerClasses => ("--class <NAME=IMAGE>", "at most 62 classes"),
             Wanted::Output       => ("<OUT>", "a file, and not standard input ('./-' is a file of that name)"),
+            Wanted::Saved        => ("--save <FILE>", "a file, and not standard input ('./-' is a file of that name)"),
         }
     }
 }
@@ -57,6 +61,12 @@ impl Mistake<'_> {
                 String::from_str(
                     alloc,
                     "standard input ('-') can be read by one argument alone",
+                )
+            }
+            Mistake::ObjectTwice => {
+                String::from_str(
+                    alloc,
+                    "the argument '--load <FILE>' cannot be used with '--object <HEX>', '--xattr <NAME=HEX>' or '--key <KEY=HEX>'",
                 )
             }
             Mistake::Value(wanted, text) => {

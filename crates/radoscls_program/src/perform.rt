@@ -9,12 +9,13 @@ ghost use Rattle.radoscls_program.specs.Streams.{stream, IsPrinted, failure_line
 ghost use Rattle.radoscls_program.specs.declared.status.ExitStatus.{ExitStatus as AStatus};
 
 use crate::asked::asked;
+use crate::judging::judge;
 use crate::status::ExitStatus;
 use crate::task::Task;
 use crate::threads::play_cluster;
 use crate::values::{call_with, filled};
 use class_tool::{Action, Answer, Call, Failure, Files, Output, Reads, find, find_noted};
-use cluster_tool::{Clustering, Figures};
+use cluster_tool::{Clustering, Figures, Meter};
 use command_line::Unparsed;
 use sim::{Ending, Simulation, simulate};
 use std::alloc::Global;
@@ -158,7 +159,10 @@ fn measure<R: Threads + Wait + Clock + Sync, F: Reads, O: Output, E: io::Write>(
     ensures { ClusterEnds (F.disk files.now) (stream O.printed O.failed out.old) (stream O.printed O.failed out.new) asked.now result }
 {
     let figures = Figures::new();
-    let status = play_cluster(alloc, rt, files, asked, &figures, out);
+    let lines = if is_measured { Some(&mut *err) } else { None };
+    let mut meter = Meter::new(&figures, lines);
+    let status = play_cluster(alloc, rt, files, asked, &mut meter, out);
+    drop(meter);
     if is_measured && status == ExitStatus::Done {
         let _ = write!(err, "{figures}");
     }
@@ -179,6 +183,7 @@ fn do_task<R: Threads + Wait + Clock + Sync, F: Files, O: Output, E: io::Write>(
 {
     match task {
         Task::Class(action, is_explained) => act(alloc, files, action, *is_explained, out),
+        Task::Each(image, is_explained) => judge(alloc, files, image, *is_explained, out),
         Task::Run(call, is_explained) => act_call(alloc, files, call, *is_explained, out),
         Task::Sim(simulation) => play(alloc, files, simulation, out),
         Task::Cluster(asked, is_measured) => measure(alloc, rt, files, asked, *is_measured, out, err),
@@ -228,7 +233,8 @@ pub(crate) fn perform<
 /// The answer is what the process ends with: 0 where it was done and printed, 1 where it was
 /// refused, or a write or a flush of `out` failed, and then a beginning of it was printed; 2 after
 /// usage or help, where the words name no task without a fault. No file is written but the one that
-/// `asm` or `pack` names for the image, and that one only where the text or the raw code is right.
+/// `asm` or `pack` names for the image, and that one only where the text or the raw code is right,
+/// and the one that `run --save` names for the object.
 /// `sim` prints of each line of its file what it comes to before the next is done; `cluster` prints
 /// its lines once all calls have ended.
 ///

@@ -7,6 +7,8 @@ use sim::Simulation;
 pub(crate) enum Task<'a> {
     /// Something of the class in a file, and whether a failure is explained.
     Class(Action<'a>, bool),
+    /// The verdict of each method of the class in a file, and whether refusals are explained.
+    Each(&'a str, bool),
     /// A call, whose values files may hold, and whether a failure is explained.
     Run(Call<'a>, bool),
     /// A file of events, played.

@@ -183,6 +183,8 @@ pub(crate) fn call_with<'a: 'b, 'b>(
         data: text_of(&filled.data),
         xattrs: entries_of(alloc, &filled.xattrs)?,
         keys: entries_of(alloc, &filled.keys)?,
+        load: call.load,
+        save: call.save,
         is_shown: call.is_shown,
     })
 }

@@ -1,6 +1,6 @@
 //! What `cluster --stats` writes to standard error.
 
-use cluster_tool::Figures;
+use cluster_tool::{Figures, Meter};
 use osd::{DeliveryMode, Fate, Gate};
 use std::cell::Cell;
 use std::io::{self, ErrorKind};
@@ -39,9 +39,9 @@ struct Stats {
     nudges: u64,
 }
 
-/// The numbers after the names, if the text is those seven lines.
+/// The numbers after the names, if the text is those seven lines, after those of seconds.
 fn stats_of(text: &str) -> Option<Stats> {
-    let mut lines = text.lines();
+    let mut lines = text.lines().filter(|line| !line.starts_with("answered "));
     let mut numbers = [0; 7];
     for (name, number) in NAMES.iter().zip(numbers.iter_mut()) {
         *number = lines.next()?.strip_prefix(*name)?.parse::<u64>().ok()?;
@@ -295,4 +295,48 @@ fn figures_without_a_clock(rt: HostRuntime) {
     let wanted =
         "calls 1\ncalls a second 0\nmean microseconds 0\nworst microseconds 0\nmessages 0\nrepeats 0\nnudges 0\n";
     assert!(&rt; shown.as_str() == wanted);
+}
+
+/// What the clock reads as a run begins, and at four looks.
+static LOOKS: [u64; 5] = [
+    1_000_000,
+    101_000_000,
+    1_001_000_000,
+    1_500_000_000,
+    2_001_000_000,
+];
+
+/// The first look comes after 64 steps, and each further one after twice as many until a part of the
+/// steps takes an eighth of a second; a line comes once a second has passed since the last.
+#[test]
+fn a_line_a_second_is_told(rt: HostRuntime) {
+    let clock = Readings {
+        nanoseconds: &LOOKS,
+        next: Cell::new(0),
+    };
+    let figures = Figures::new();
+    let mut told = Vec::new(rt.alloc());
+    let mut meter = Meter::new(&figures, Some(&mut told));
+    meter.begin(&clock, 10);
+    assert!(&rt; !meter.is_due(63) && meter.is_due(64));
+    figures.note_call(&clock, None);
+    meter.look(&clock);
+    assert!(&rt; !meter.is_due(127) && meter.is_due(128));
+    figures.note_call(&clock, None);
+    figures.note_call(&clock, None);
+    meter.look(&clock);
+    assert!(&rt; !meter.is_due(127) && meter.is_due(128));
+    meter.look(&clock);
+    figures.note_call(&clock, None);
+    meter.look(&clock);
+    drop(meter);
+    assert!(&rt; told.as_slice() == b"answered 3 of 10\nanswered 4 of 10\n");
+}
+
+/// Where no line is wanted, no clock is looked at.
+#[test]
+fn no_line_is_told_unasked(rt: HostRuntime) {
+    let figures = Figures::new();
+    let meter = Meter::<Vec<u8>>::new(&figures, None);
+    assert!(&rt; !meter.is_due(usize::MAX));
 }

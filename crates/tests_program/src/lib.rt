@@ -8,6 +8,8 @@ mod beginnings;
 #[cfg(test)]
 mod bench;
 #[cfg(test)]
+mod each;
+#[cfg(test)]
 mod examples;
 #[cfg(test)]
 mod explained;
@@ -27,6 +29,8 @@ mod pages;
 mod ranges;
 #[cfg(test)]
 mod refusals;
+#[cfg(test)]
+mod saved;
 #[cfg(test)]
 mod streams;
 #[cfg(test)]

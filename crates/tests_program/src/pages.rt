@@ -153,7 +153,10 @@ pub const HELLO: &str =
     stb [r3+4], 0x6f        ; \"o\"\nmov r1, 5\ncall 13                 ; out_len\nexit\n";
 
 /// A folder whose image is that of a text.
-fn assembled<R: Abort + AllocGlobal + Threads + Wait + Clock + Sync>(rt: &R, text: &str) -> Folder {
+pub fn assembled<R: Abort + AllocGlobal + Threads + Wait + Clock + Sync>(
+    rt: &R,
+    text: &str,
+) -> Folder {
     let mut folder = Folder::of(rt.alloc(), "", text.as_bytes()).expect(rt, "memory");
     assert!(rt; prints_on(rt, &["asm", "text", "image"], &mut folder, "", 0));
     folder

@@ -112,7 +112,7 @@ fn explains_its_use(rt: HostRuntime) {
 
 /// Words, and what stands in the help or the usage that they get: the forms and phrases are clap's,
 /// the texts are the commands' own.
-static TOLD: [(&[&str], &str); 34] = [
+static TOLD: [(&[&str], &str); 39] = [
     (
         &["--help"],
         "RADOS object classes in verified BPF\n\nUsage: radoscls <COMMAND>\n",
@@ -134,10 +134,7 @@ static TOLD: [(&[&str], &str); 34] = [
         "  pack     Writes the image of a class from raw code\n",
     ),
     (&["--help"], "  dis      Prints the text of a class image\n"),
-    (
-        &["--version"],
-        "radoscls 0.4.0\nrattle-kit-13f logic dac8208d650f15bf\n",
-    ),
+    (&["--version"], "radoscls 0.4.0\nlogic dac8208d650f15bf\n"),
     (
         &["--help"],
         "  sim      Plays a group of nodes from a file of events\n",
@@ -203,7 +200,7 @@ static TOLD: [(&[&str], &str); 34] = [
     ),
     (
         &["sim", "--class", "two", "text"],
-        "error: invalid value 'two' for '--class <NAME=IMAGE>': expected a name, '=' and the file of the image\n\n\
+        "error: invalid value 'two' for '--class <NAME=IMAGE>': expected a name, '=' and the file of the class: its image or text\n\n\
         Usage: radoscls sim [OPTIONS] <FILE>\n",
     ),
     (
@@ -218,6 +215,28 @@ static TOLD: [(&[&str], &str); 34] = [
         &["asm", "text", "-"],
         "error: invalid value '-' for '<OUT>': expected a file, and not standard input ('./-' is a file of that name)\n\n\
         Usage: radoscls asm [OPTIONS] <IN> <OUT>\n",
+    ),
+    (
+        &["run", "image", "f", "--save", "-"],
+        "error: invalid value '-' for '--save <FILE>': expected a file, and not standard input ('./-' is a file of that name)\n\n\
+        Usage: radoscls run [OPTIONS] <IN> <METHOD>\n",
+    ),
+    // an object is that of a file or that of words
+    (
+        &["run", "image", "f", "--load", "text", "--object", "-"],
+        "error: the argument '--load <FILE>' cannot be used with '--object <HEX>', '--xattr <NAME=HEX>' or '--key <KEY=HEX>'\n\nUsage: radoscls run ",
+    ),
+    (
+        &["run", "image", "f", "--xattr", "a=00", "--load", "text"],
+        "error: the argument '--load <FILE>' cannot be used with '--object <HEX>'",
+    ),
+    (
+        &["run", "image", "f", "--load", "text", "--key", "a=00"],
+        "error: the argument '--load <FILE>' cannot be used with '--object <HEX>'",
+    ),
+    (
+        &["run", "-", "f", "--load", "-"],
+        "error: standard input ('-') can be read by one argument alone\n\nUsage: radoscls run ",
     ),
     (
         &["sim", "--class", "two=-", "-"],

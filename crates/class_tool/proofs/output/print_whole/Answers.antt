@@ -1,5 +1,5 @@
 use Rattle.std.proofs.Common.{◌≡◌, ℕ, ◌+◌, IfSome, take, drop, length, ◌<◌, sym, subst, ◌∙◌, List, Option}
-use Rattle.std.specs.Io.KnownBytes.{Appends, Keeps}
+use Rattle.std.specs.Io.KnownBytes.{Appends}
 use Rattle.class_tool.proofs.Printed.{at_err, at_ok, known_begins, known_begun, known_more, known_whole, known_kept}
 use Rattle.class_tool.proofs.output.print_whole.Goals as goal
 

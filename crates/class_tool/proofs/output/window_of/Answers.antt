@@ -1,4 +1,3 @@
-use Rattle.std.proofs.Common.{IfSome}
 use Rattle.class_tool.proofs.Printed.{known_seen}
 use Rattle.class_tool.proofs.output.window_of.Goals as goal
 

@@ -4,25 +4,33 @@ use Rattle.cluster_file.specs.declared.step.Step.{Step}
 use Rattle.cluster_tool.specs.Callers.{AllCalled}
 use Rattle.cluster_tool.proofs.Calling.{all_between}
 use Rattle.cluster_tool.proofs.Mapping.{all_made, made_call, made_map, refused_there}
-use Rattle.cluster_tool.proofs.playing.play_steps.Goals.{in-Map+in_default-new_map, in_default}
+use Rattle.cluster_tool.proofs.playing.play_steps.Goals.{in-Map+in_default, in-Call+then-is_due, in-Call+else-is_due}
 use Rattle.cluster_tool.proofs.playing.play_steps.Goals as goal
 
 pub loop-at-preserved : goal.loop-at-preserved
 loop-at-preserved g c =
     let within : c.loop-at.at < length c.args.steps.now = omega (arith, c.loop-at-test.true, c.loop-at.auto.at-end) in
     elim c.match-steps-at.branch [
-      | in-Map+in_default-new_map w ↦ record {
+      | in-Map+in_default w ↦ record {
         within = omega (arith, w.from-is);
         called = rw (w.from-is, w.callers-is)
             (all_between g.N.Classes.classes c.args.steps.now c.loop-at.from c.loop-at.at c.args.callers.now.items c.loop-at.callers.items w.call_all.new.callers.items
             c.loop-at.invariant.within c.loop-at.invariant.called w.call_all.ensures);
         made = made_map g.N.ClusterName.config c.args.steps.now c.loop-at.at c.index-steps-at.result w.in-Map.line w.in-Map.nodes w.items.result.now _ within c.index-steps-at.is
-            w.in-Map.is w.items.ensures c.loop-at.invariant.made w.in_default-new_map.ensures.made;
+            w.in-Map.is w.items.ensures c.loop-at.invariant.made w.in_default.ensures.made;
       }
-      | in_default w ↦ record {
+      | in-Call+then-is_due w ↦ record {
+        within = omega (arith, w.from-is);
+        called = rw (w.from-is, w.callers-is)
+            (all_between g.N.Classes.classes c.args.steps.now c.loop-at.from c.loop-at.at c.args.callers.now.items c.loop-at.callers.items w.call_all-then-is_due.new.callers.items
+            c.loop-at.invariant.within c.loop-at.invariant.called w.call_all-then-is_due.ensures);
+        made = made_call g.N.ClusterName.config c.args.steps.now c.loop-at.at c.index-steps-at.result w.in-Call.field-0 within c.index-steps-at.is w.in-Call.is
+            c.loop-at.invariant.made;
+      }
+      | in-Call+else-is_due w ↦ record {
         within = omega (arith, w.from-is, c.loop-at.invariant.within);
         called = rw (w.from-is, w.callers-is) c.loop-at.invariant.called;
-        made = made_call g.N.ClusterName.config c.args.steps.now c.loop-at.at c.index-steps-at.result w.in_default.field-0 within c.index-steps-at.is w.in_default.is
+        made = made_call g.N.ClusterName.config c.args.steps.now c.loop-at.at c.index-steps-at.result w.in-Call.field-0 within c.index-steps-at.is w.in-Call.is
             c.loop-at.invariant.made;
       }
     ]

@@ -1,8 +1,7 @@
-use Rattle.std.proofs.Common.{map, arith}
-use Rattle.std.proofs.lemmas.Grind.{common_steps}
+use Rattle.std.proofs.Common.{map}
 use Rattle.class_tool.specs.Files.{storage}
 use Rattle.radoscls_program.specs.Streams.{stream}
-use Rattle.radoscls_program.proofs.Ended.{failed_by, refused_by}
+use Rattle.radoscls_program.proofs.Ended.{done_by, failed_by, refused_by}
 use Rattle.radoscls_program.proofs.perform.program.Goals as goal
 
 pub returns-clause-refused : goal.returns-clause-refused
@@ -13,7 +12,11 @@ returns-clause-refused g c =
     c.perform.result c.code.result c.code.ensures c.perform.ensures
 
 pub returns-clause-done : goal.returns-clause-done
-returns-clause-done g c = grind (arith, common_steps)
+returns-clause-done g c =
+    let files = storage g.F.Reads.disk g.F.Files.failed in
+    let out = stream g.O.Output.printed g.O.Output.failed in
+    done_by (files c.args.files.now) (files c.perform.new.files) (out c.args.out.now) (out c.perform.new.out) (map g.S.AsStr.text c.args.words.now)
+    c.perform.result c.code.result c.code.ensures c.perform.ensures
 
 pub returns-clause-failed : goal.returns-clause-failed
 returns-clause-failed g c =

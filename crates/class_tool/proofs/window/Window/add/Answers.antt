@@ -1,6 +1,5 @@
-use Rattle.std.proofs.Common.{rules, ◌≡◌, ◌++◌, ◌≤◌, [], take, ℕ, ◌+◌, ◌-◌, ap, ◌∙◌, sym, refl, length, length-take-le, arith}
+use Rattle.std.proofs.Common.{◌≡◌, ◌++◌, ◌≤◌, take, ◌+◌, ◌-◌, ap, ◌∙◌, length, length-take-le, arith}
 use Rattle.std.proofs.lemmas.Slice.{take-put_mid}
-use Rattle.class_tool.specs.Window.{shown}
 use Rattle.class_tool.proofs.Windows.{filled}
 use Rattle.class_tool.proofs.window.Window.add.Goals as goal
 

@@ -1,0 +1,58 @@
+//! `verify --all`.
+ghost use Rattle.std.specs.Prelude.{◌≡◌, ◌++◌};
+ghost use Rattle.radoscls_program.specs.Judged.{EachEnds, Shows, note_if};
+ghost use Rattle.radoscls_program.specs.Streams.{IsPrinted, failure_line, stream};
+
+use crate::status::ExitStatus;
+use class_tool::{Failure, Files, Output, Verdicts, verify_each};
+use std::alloc::Global;
+
+/// Prints verdicts.
+fn show<O: Output>(verdicts: &Verdicts, out: &mut O) -> ExitStatus
+    ensures { Shows (stream O.printed O.failed out.old) (stream O.printed O.failed out.new) verdicts.now result }
+{
+    match out.print(verdicts) {
+        Ok(()) => {
+            if verdicts.are_accepted() {
+                ExitStatus::Done
+            } else {
+                ExitStatus::Refused
+            }
+        }
+        Err(_) => ExitStatus::Refused,
+    }
+}
+
+/// A note, if it is asked for.
+fn note_if<'a>(is_explained: bool, note: &'a str) -> &'a str
+    ensures { result.now ≡ note_if is_explained note.now }
+{
+    if is_explained { note } else { "" }
+}
+
+/// Prints a failure's line, and a note.
+fn tell<O: Output>(failure: Failure, note: &str, out: &mut O)
+    ensures { IsPrinted (stream O.printed O.failed out.old) (stream O.printed O.failed out.new) (failure_line failure ++ note.now) }
+{
+    let _ = out.print(format_args!("{failure}\n{note}"));
+}
+
+/// Prints the verdict of each method of the class in a file, or why no class was read.
+pub(crate) fn judge<F: Files, O: Output>(
+    alloc: Global,
+    files: &F,
+    image: &str,
+    is_explained: bool,
+    out: &mut O,
+) -> ExitStatus
+    ensures { EachEnds (F.disk files.now) (stream O.printed O.failed out.old) (stream O.printed O.failed out.new) image.now is_explained result }
+{
+    let mut note = String::new(alloc);
+    match verify_each(alloc, files, image, is_explained, &mut note) {
+        Ok(verdicts) => show(&verdicts, out),
+        Err(failure) => {
+            tell(failure, note_if(is_explained, &note), out);
+            ExitStatus::Refused
+        }
+    }
+}
