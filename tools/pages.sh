@@ -327,7 +327,7 @@ try_trust() {
         return
     fi
     run "$command"
-    printed=$(grep -oE '^`[^`]*` \| .*|[a-z_]*/src/[a-z_]*\.rt|^\| \| \| [0-9]+' <<< "$printed" | sed 's/^| | | //' | sort)
+    printed=$(grep -oE '^`[^`]*` \| .*|[a-z_]*/src/[a-z_]*\.rt|^[0-9]+ lines' <<< "$printed" | sed 's/ lines$//' | sort)
     wanted=$(grep -oE '^`[^`]*` \| .*|`[a-z_]*/src/[a-z_]*\.rt|[0-9]+ lines' "$work/$page" | sed -E 's/ lines$//; s#^`([a-z_]*/src/)#\1#' | sort)
     if [ "$printed" = "$wanted" ]; then ok=$((ok + 1)) && echo "ok $command"; else differs "$command" "$wanted"; fi
 }

@@ -132,7 +132,7 @@ def ranges(lines):
             runs[-1][1] = at
         else:
             runs.append([at, at])
-    return ", ".join(f"{a} to {b}" for a, b in runs)
+    return ", ".join(f"{a}-{b}" for a, b in runs)
 
 
 def found(words):
@@ -146,18 +146,18 @@ def found(words):
             seen[file].update(new)
             whole += len(new)
             if new:
-                rows.append(f"`{file}` | {ranges(new)} | {len(new)}\n")
+                rows.append(f"`{file}` | {ranges(new)}\n")
         for file, names in types.items():
             new = [it for it in names if (file, it) not in named]
             named.update((file, it) for it in new)
             if new:
                 lacking[file] = new
-        yield "file | lines | how many\n---|---|---\n" + "".join(rows), whole, lacking
+        yield "file | lines\n---|---\n" + "".join(rows), whole, lacking
 
 
 def show(words):
     for table, whole, types in found(words):
-        print(f"{table}| | | {whole}\n")
+        print(f"{table}\n{whole} lines\n")
         for file, names in types.items():
             print(f"`{file}`: {', '.join(names)}")
         print()
@@ -176,7 +176,7 @@ def write_page():
     with open(PAGE, encoding="utf-8") as it:
         text = it.read()
     tables, counts, types = zip(*found(re.search(r"python3 tools/trust.py (.*)", text).group(1).split()))
-    text = replaced(text, r"(file \| lines \| how many\n(?:.*\|.*\n)+)", tables)
+    text = replaced(text, r"(file \| lines\n(?:.*\|.*\n)+)", tables)
     text = replaced(text, r"(\d+) lines(?= more:|:)", [str(it) for it in counts])
     text = replaced(text, r"of the code: (`.*`)", [", ".join(f"`{file}`" for file in it) for it in types])
     with open(PAGE, "w", encoding="utf-8") as it:
