@@ -12,8 +12,8 @@ _radoscls() {
             mapfile -t COMPREPLY < <(compgen -W "$words" -- "$word")
             return
             ;;
-        verify) words="--explain --help" ;;
-        run) words="--input --caller --object --xattr --key --show --explain --help" ;;
+        verify) words="--all --explain --help" ;;
+        run) words="--input --caller --object --xattr --key --load --save --show --explain --help" ;;
         asm) words="--explain --help" ;;
         pack) words="--rules --explain --help" ;;
         dis) words="--slots --explain --help" ;;

@@ -51,11 +51,14 @@ impl<'a, E> Meter<'a, E> {
 }
 
 impl<E: io::Write> Meter<'_, E> {
-    /// Notes how many calls there are, and that none was made yet.
+    /// Notes how many calls there are, and that none was made yet. Where no line is wanted, the clock
+    /// isn't read.
     pub fn begin<C: Clock>(&mut self, clock: &C, all: u64) {
-        self.all = all;
-        self.looked = shown_by(clock);
-        self.told = self.looked;
+        if self.err.is_some() {
+            self.all = all;
+            self.looked = shown_by(clock);
+            self.told = self.looked;
+        }
     }
 
     /// Looks at the clock, and tells how many of all calls are answered, where a second has passed.

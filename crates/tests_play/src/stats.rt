@@ -330,7 +330,7 @@ fn a_line_a_second_is_told(rt: HostRuntime) {
     figures.note_call(&clock, None);
     meter.look(&clock);
     drop(meter);
-    assert!(&rt; told.as_slice() == b"answered 3 of 10\nanswered 4 of 10\n");
+    assert!(&rt; told.as_slice() == b"answered 3 of 10\nanswered 4 of 10\n".as_slice());
 }
 
 /// Where no line is wanted, no clock is looked at.

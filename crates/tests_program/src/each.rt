@@ -10,7 +10,7 @@ const THREE: &str =
 const SAFE: &str = ".method f r 0 0\nmov r0, 0\nexit\n.method g r 0 0\nmov r0, 1\nexit\n";
 
 /// The one that isn't stands first.
-const LATER: &str = ".method g r 0 0\nexit\n.method f r 0 0\nmov r0, 0\nexit\n";
+const LATER: &str = ".method f r 0 0\nexit\n.method g r 0 0\nmov r0, 0\nexit\n";
 
 /// Of which class what is printed, and the status.
 #[rattlefmt::skip]
@@ -30,7 +30,7 @@ static VERDICTS: [(&[&str], &str, &str, u8); 10] = [
     ),
     (&["verify", "--all", "text"], SAFE, "f ok 2\ng ok 2\n", 0),
     (&["verify", "--all", "--explain", "text"], SAFE, "f ok 2\ng ok 2\n", 0),
-    (&["verify", "text", "--all"], LATER, "refused method 0 slot 0: 5 UnsetRead\nf ok 2\n", 1),
+    (&["verify", "text", "--all"], LATER, "refused method 0 slot 0: 5 UnsetRead\ng ok 2\n", 1),
     (&["verify", "image", "--all"], "", "f ok 2\n", 0),
     (&["verify", "missing", "--all"], "", "cannot read\n", 1),
     (&["verify", "text", "--all"], ".method f r 0 0\nfoo\n", "line 2: 1 Word\n", 1),
