@@ -5,8 +5,8 @@ ghost use Rattle.bpf_machine.specs.Safe.{caps_of};
 use crate::limits::STACK_SIZE;
 use bpf_decode::{Method, Region};
 
-/// What a method declares: the lengths of its regions in bytes, and whether it may change the
-/// object.
+/// The capacities of a method: the lengths of its regions in bytes, and `writes` if it may change
+/// the object.
 #[derive(Clone, Copy, PartialEq, Eq)]
 pub struct Caps {
     pub in_cap: u16,
@@ -15,7 +15,7 @@ pub struct Caps {
 }
 
 impl Caps {
-    /// What a method declares: flags 1 may not write.
+    /// The capacities that a method declares; one with flags 1 may not write.
     pub fn of(method: &Method) -> Caps
         ensures { result ≡ caps_of method.now }
     {

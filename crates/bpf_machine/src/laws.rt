@@ -5,30 +5,30 @@ ghost use Rattle.bpf_machine.specs.Within.{OutcomesAreWithinLimits, CallsAreWith
 
 use helpers::effects_are_within_limits;
 
-/// A law, proved when the crate is checked; a call does nothing. Where the typed machine's run of a
+/// A law, proved when the crate is checked; a call does nothing. If the typed machine's run of a
 /// method's instructions ends, the flat machine's run of their bytes ends with the same outcome,
-/// after as many steps, in every layout of the regions: so in the first layout too, in which the
-/// interpreter runs it. A method whose typed runs all end is safe.
+/// after the same number of steps, in every layout of the regions: so also in the first layout,
+/// which is the interpreter's. A method whose typed runs all end is safe.
 pub fn simulation()
     ensures simulates { Simulates }
     ensures safe { EndsAlwaysIsSafe }
 {}
 
-/// A law. A run by counting ends exactly where the chain of its steps ends at an exit within the
-/// count, never stuck.
+/// A law. A run of at most n steps ends exactly if the chain of its steps reaches an exit within n,
+/// never stuck.
 pub fn chains()
     ensures { RunsAreChains }
 {}
 
-/// A law. A run by counting is stuck exactly where the chain of its steps reaches a stuck state
-/// within the count, and wants more steps exactly where there is a chain of as many as are counted.
+/// A law. A run of at most n steps is stuck exactly if the chain of its steps reaches a stuck state
+/// in fewer than n steps, and is unfinished exactly if there is a chain of n steps.
 pub fn other_runs()
     ensures stuck { StuckRunsAreChains }
     ensures unfinished { UnfinishedRunsAreChains }
 {}
 
-/// A law. Where an instruction begins, the step on the bytes is the instruction's. Where none
-/// begins, in a wide load's second half or past the end, the machine is stuck.
+/// A law. At a slot at which an instruction begins, the step on the bytes is the instruction's. At
+/// any other slot, a wide load's second half or one past the end, the machine is stuck.
 pub fn decoded()
     ensures begins { BytesAreInstructions }
     ensures elsewhere { ElsewhereIsStuck }
@@ -48,7 +48,7 @@ pub fn outcomes()
 /// the address; a load is the little-endian value of the bytes at its addresses; a store changes
 /// the bytes at its addresses and no other. So do a helper's ranges: it reads the bytes at the
 /// addresses of one, and changes those at the addresses of another. As a method begins, its input
-/// stands at the input's address, and 0 at every other address of a region.
+/// is at the input's address, and 0 at every other address of a region.
 pub fn addresses()
     ensures places { PlacesAreAddresses }
     ensures elsewhere { NoByteElsewhere }
@@ -73,12 +73,13 @@ pub fn slots()
     ensures numbers { NumbersAreTheirBytes }
 {}
 
-/// A law. Beside an object within all limits, on an input of bytes, a run that ends leaves an
-/// object within all limits, and at most out_cap bytes of output; so does a call. The capacities
-/// are such as a method may declare.
+/// A law. On an object within all limits and an input of bytes, a run that ends leaves an object
+/// within all limits, and at most out_cap bytes of output; so does a call. The capacities are such
+/// as a method may declare.
 pub fn limits_are_kept()
     ensures runs { OutcomesAreWithinLimits }
     ensures calls { CallsAreWithinLimits }
 {
+    // For the proof: each helper keeps an object within all limits.
     effects_are_within_limits();
 }

@@ -1,6 +1,6 @@
-//! What a method's bytes mean. The flat machine reads raw slots and plain addresses; the typed
-//! machine runs decoded instructions over numbers and places. The laws: what the typed machine
-//! does, the flat one does wherever the regions lie, so a method whose typed runs end is safe. The
+//! The meaning of a method's bytes. The flat machine reads raw slots and plain addresses; the typed
+//! machine runs decoded instructions over numbers and places. The laws: the flat machine does the
+//! same as the typed one, wherever the regions lie, so a method whose typed runs end is safe. The
 //! flat machine as a program is the crate `flat_machine`.
 #![tactic(auto)]
 

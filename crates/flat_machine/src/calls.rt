@@ -14,7 +14,7 @@ use reads::{getxattr, map_get, map_next, out_len, read};
 use std::alloc::Global;
 use txn::NoMemory;
 
-/// What a helper answers, by its row of the table.
+/// The answer of a helper, by its row of the table.
 fn help_by(alloc: Global, helper: Helper, s: &mut FlatState) -> Result<Option<u64>, NoMemory>
     ensures helped { IfOk result (λ o. Answers o (flat_state s.new) (helped (caps_in s.old) (layout_in s.old) helper (flat_state s.old))) }
     ensures slot { s.new.slot ≡ s.old.slot }
@@ -41,8 +41,7 @@ fn help_by(alloc: Global, helper: Helper, s: &mut FlatState) -> Result<Option<u6
     }
 }
 
-/// Whether a method may call the helper of that id: one that may change the object asks for leave
-/// to write.
+/// True if a method may call the helper of that id: one that may change the object needs `writes`.
 fn may_call(caps: &Caps, id: u32) -> bool
     ensures { result ≡ may_call caps.now id }
 {

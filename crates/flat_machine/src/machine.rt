@@ -6,7 +6,7 @@ ghost use Rattle.flat_machine.specs.View.{layout_of};
 use crate::layout::Layout;
 use bpf_machine::Caps;
 
-/// What stays as a method runs: what it declares, and where its regions lie.
+/// The constants of a run: the capacities of the method, and the addresses of its regions.
 #[derive(Clone, Copy)]
 pub struct Machine {
     pub caps: Caps,

@@ -11,13 +11,15 @@ use crate::state::FlatState;
 use bpf_decode::arithmetic::sign_extended_load;
 use bpf_decode::{Region, SignedWidth};
 
-/// The place in a region of the bytes at an address, where the region has all of them.
+/// The place in a region of the bytes at an address, if the region has all of them.
 fn place_in(machine: &Machine, region: Region, at: u64, w: u64) -> Option<usize>
     ensures held { result ≡ (if holds machine.now.caps (layout_of machine.now.layout) region at w then Some (at - base (layout_of machine.now.layout) region) else None) }
     ensures inside { IfSome result (λ place. place + w ≤ size machine.now.caps region) }
 {
     let base = machine.layout.base(region);
     let length = machine.caps.size(region) as u64;
+    // Compared by differences, which stay in 64 bits, as the sum of an address and a length may
+    // not.
     if at >= base && at - base <= length && w <= length - (at - base) {
         Some((at - base) as usize)
     } else {
@@ -159,7 +161,7 @@ pub fn store(w: usize, at: u64, value: u64, s: &mut FlatState) -> Option<()>
     }
 }
 
-/// The place of a helper's range; none of length 0 is looked at.
+/// The place of a helper's range; a range of length 0 has none, and may have any address.
 pub fn range(machine: &Machine, writes: bool, at: u64, n: u64) -> Option<Option<(Region, usize)>>
     ensures range { result ≡ range machine.now.caps (layout_of machine.now.layout) writes at n }
     ensures inside { IfSome result (λ t. IfSome t (λ p. p.1 + n ≤ size machine.now.caps p.0)) }

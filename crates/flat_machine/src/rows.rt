@@ -12,10 +12,12 @@ use bpf_decode::{Arithmetic, ByteOrder, Comparison, EndWidth, OpWidth, SignedMov
 use std::alloc::Global;
 use txn::NoMemory;
 
-/// What an instruction reads besides its destination: the immediate, or a register.
+/// The source operand of an instruction: the immediate, sign-extended, or a register.
 fn operand(f: Slot, s: &FlatState) -> Option<u64>
     ensures { result ≡ operand f (flat_state s.now) }
 {
+    // Bit 3 of an opcode is the source bit. It is 0 for the immediate; the register field has to be
+    // 0 then.
     if f.opcode / 8 % 2 == 0 {
         if f.src == 0 {
             Some(signed32(f.imm))
@@ -29,7 +31,7 @@ fn operand(f: Slot, s: &FlatState) -> Option<u64>
     }
 }
 
-/// What an operation gives; the offset tells signed division and modulo apart.
+/// The result of an arithmetic operation; the offset tells signed division and modulo apart.
 fn operation_value(bits: OpWidth, f: Slot, s: &FlatState) -> Option<u64>
     ensures { sets f.dst (flat_state s.now) result ≡ operation_row bits f (flat_state s.now) }
 {
@@ -42,7 +44,7 @@ fn operation_value(bits: OpWidth, f: Slot, s: &FlatState) -> Option<u64>
     Some(alu(bits, row.selected(f.offset), x, y))
 }
 
-/// What NEG gives.
+/// The result of NEG.
 fn neg_value(bits: OpWidth, f: Slot, s: &FlatState) -> Option<u64>
     ensures { sets f.dst (flat_state s.now) result ≡ neg_row bits f (flat_state s.now) }
 {
@@ -53,7 +55,7 @@ fn neg_value(bits: OpWidth, f: Slot, s: &FlatState) -> Option<u64>
     Some(negative(bits, x))
 }
 
-/// What MOV gives, and MOVSX of a register.
+/// The result of MOV, and of MOVSX of a register.
 fn mov_value(bits: OpWidth, f: Slot, s: &FlatState) -> Option<u64>
     ensures { sets f.dst (flat_state s.now) result ≡ mov_row bits f (flat_state s.now) }
 {
@@ -68,7 +70,7 @@ fn mov_value(bits: OpWidth, f: Slot, s: &FlatState) -> Option<u64>
     Some(sign_extended(SignedMove::selected(bits, f.offset), y))
 }
 
-/// What END gives: the order by the class and the source bit, the bits kept by the immediate.
+/// The result of END: the order by the class and the source bit, the bits kept by the immediate.
 fn end_value(bits: OpWidth, f: Slot, s: &FlatState) -> Option<u64>
     ensures { sets f.dst (flat_state s.now) result ≡ end_row bits f (flat_state s.now) }
 {
@@ -80,7 +82,7 @@ fn end_value(bits: OpWidth, f: Slot, s: &FlatState) -> Option<u64>
     Some(ordered(order, EndWidth::selected(f.imm), x))
 }
 
-/// What an instruction of ALU and ALU64 gives.
+/// The result of an instruction of ALU and ALU64.
 fn alu_value(bits: OpWidth, f: Slot, s: &FlatState) -> Option<u64>
     ensures { sets f.dst (flat_state s.now) result ≡ alu_row bits f (flat_state s.now) }
 {
@@ -120,7 +122,7 @@ fn at_base(f: Slot, base: u64) -> u64
     base.wrapping_add(signed16(f.offset))
 }
 
-/// What LDX gives in the mode MEM.
+/// The result of LDX in the mode MEM.
 fn mem_value(f: Slot, s: &FlatState) -> Option<u64>
     ensures { sets f.dst (flat_state s.now) result ≡ mem_row (caps_in s.now) (layout_in s.now) f (flat_state s.now) }
 {
@@ -128,7 +130,7 @@ fn mem_value(f: Slot, s: &FlatState) -> Option<u64>
     load(width_of(f.opcode), at_base(f, base), s)
 }
 
-/// What LDX gives in the mode MEMSX.
+/// The result of LDX in the mode MEMSX.
 fn memsx_value(f: Slot, s: &FlatState) -> Option<u64>
     ensures { sets f.dst (flat_state s.now) result ≡ memsx_row (caps_in s.now) (layout_in s.now) f (flat_state s.now) }
 {
@@ -137,7 +139,7 @@ fn memsx_value(f: Slot, s: &FlatState) -> Option<u64>
     load_signed(width, at_base(f, base), s)
 }
 
-/// What LDX gives in the modes MEM and MEMSX.
+/// The result of LDX in the modes MEM and MEMSX.
 fn ldx_value(f: Slot, s: &FlatState) -> Option<u64>
     ensures { sets f.dst (flat_state s.now) result ≡ ldx_row (caps_in s.now) (layout_in s.now) f (flat_state s.now) }
 {
@@ -233,6 +235,7 @@ fn ja_row(f: Slot, s: &mut FlatState) -> Option<()>
     if f.dst != 0 || f.src != 0 || f.imm != 0 {
         return None;
     }
+    // Wraps modulo 2^64: a jump before slot 0 lands past the end of any code, and there is no step.
     s.slot = (s.slot + 1).wrapping_add(signed16(f.offset));
     Some(())
 }
@@ -302,6 +305,8 @@ fn act(
         1 => Ok(ldx_row(f, s)),
         2 => Ok(st_row(f, s)),
         3 => Ok(stx_row(f, s)),
+        // The classes LD, JMP and JMP32: first the opcodes with a row of their own, then
+        // comparisons.
         class => match f.opcode {
             0x18 => Ok(wide_row(f, next, s)),
             0x05 => Ok(ja_row(f, s)),
@@ -316,7 +321,7 @@ fn act(
     }
 }
 
-/// A step, where there is one.
+/// A step, if there is one.
 pub fn step(alloc: Global, code: &[u8], s: &mut FlatState) -> Result<Option<()>, NoMemory>
     ensures stepped { IfOk result (λ o. GivesState o (flat_state s.new) (step (caps_in s.old) (layout_in s.old) code.now (flat_state s.old))) }
     ensures machine { s.new.memory.machine ≡ s.old.memory.machine }
@@ -328,7 +333,7 @@ pub fn step(alloc: Global, code: &[u8], s: &mut FlatState) -> Result<Option<()>,
     }
 }
 
-/// Register 0 at an EXIT where it is set.
+/// Register 0 at an EXIT, if it is set.
 pub fn exit_code(code: &[u8], s: &FlatState) -> Option<u64>
     ensures { result ≡ exit_code code.now (flat_state s.now) }
 {

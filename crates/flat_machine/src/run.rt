@@ -14,7 +14,7 @@ use object_store::Object;
 use std::alloc::{AllocError, Global};
 use txn::{NoMemory, Staged};
 
-/// What a run begins with.
+/// The start of a run: its object, its client and its input.
 #[derive(Clone, Copy)]
 pub struct RunStart<'a> {
     /// The object on which the method runs.
@@ -24,7 +24,7 @@ pub struct RunStart<'a> {
     pub input: &'a [u8],
 }
 
-/// How a run ends.
+/// The ending of a run.
 #[derive(Drop)]
 pub enum Ending {
     /// At an exit: the code, to be read as a signed number, the output, the object after, and the
@@ -41,7 +41,7 @@ pub enum Ending {
     Unfinished,
 }
 
-/// Where a run stopped.
+/// The place where a run stopped.
 #[derive(Clone, Copy)]
 pub enum Stop {
     /// At an exit: register 0, and the number of steps.
@@ -50,7 +50,7 @@ pub enum Stop {
     Unfinished,
 }
 
-/// So many zeros.
+/// Zeros, `count` of them.
 fn zeros(alloc: Global, count: usize) -> Result<Vec<u8>, AllocError>
     ensures items { IfOk result (λ v. v.items ≡ replicate count 0) }
     ensures long { IfOk result (λ v. length v.items ≡ count) }
@@ -58,7 +58,7 @@ fn zeros(alloc: Global, count: usize) -> Result<Vec<u8>, AllocError>
     vec![in alloc; 0u8; count]
 }
 
-/// Bytes and then zeros, that many in all.
+/// Bytes and then zeros, `len` in all.
 fn padded_with_zeros(alloc: Global, bytes: &[u8], len: usize) -> Result<Vec<u8>, AllocError>
     requires { length bytes.now ≤ len }
     ensures items { IfOk result (λ v. v.items ≡ bytes.now ++ replicate (len - length bytes.now) 0) }
@@ -113,6 +113,8 @@ fn enter<'a>(
     let memory = opening(alloc, machine, start.input)?;
     Ok(FlatState {
         slot: 0,
+        // Registers 1 to 3: the input's address and length, and the output's address. Register 10:
+        // the end of the stack, which grows down. The others are unset.
         regs: [
             None,
             Some(machine.layout.input),
@@ -133,12 +135,13 @@ fn enter<'a>(
     })
 }
 
-/// At most that many steps, from a state to where the run stops.
+/// Runs at most `limit` steps, from a state, until the run stops.
 fn run_on(alloc: Global, code: &[u8], s: &mut FlatState, limit: usize) -> Result<Stop, NoMemory>
     ensures { IfOk result (λ stop. stopped (flat_state s.old).object stop (flat_state s.new) ≡ run (caps_in s.old) (layout_in s.old) code.now (flat_state s.old).object limit (flat_state s.old)) }
 {
     for n in 0..limit {
         if let Some(value) = exit_code(code, s) {
+            // The exit is an instruction executed too, hence n + 1.
             return Ok(Stop::Exit(value, n + 1));
         }
         match step(alloc, code, s)? {
@@ -158,6 +161,7 @@ fn finish(
 ) -> Result<(Vec<u8>, Option<Object>), NoMemory>
     ensures { IfOk result (λ r. record { code = code; output = r.0.items; object = r.1 } ≡ outcome_of (option_copied before.entry) code (flat_state s.entry)) }
 {
+    // The top bit is the sign of a code, which is read as a signed number.
     if code < 0x8000_0000_0000_0000 {
         let object = copied(s.object.object())?;
         let len = s.out_len;
@@ -171,7 +175,7 @@ fn finish(
     }
 }
 
-/// How a run ended that stopped there, in that state.
+/// The ending of a run that stopped there, in that state.
 fn ended(
     alloc: Global,
     before: Option<&Object>,
@@ -195,7 +199,7 @@ fn ended(
     }
 }
 
-/// How a run on that object ends, from a state.
+/// The ending of a run on that object, from a state.
 fn run_from(
     alloc: Global,
     code: &[u8],
@@ -210,8 +214,8 @@ fn run_from(
     ended(alloc, before, stop, s)
 }
 
-/// Runs a method's bytes on plain addresses, in at most that many steps. It is the definition of
-/// the machine as a program, and slow. Refused: NoMemory.
+/// Runs a method's bytes on plain addresses, in at most `limit` steps. It is the definition of the
+/// machine as a program, and slow. Refused: NoMemory.
 pub fn flat_run(
     alloc: Global,
     machine: &Machine,

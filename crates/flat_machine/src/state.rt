@@ -6,7 +6,8 @@ ghost use Rattle.flat_machine.specs.inner.FlatState.{flat_state, GivesState};
 use crate::regions::Regions;
 use txn::Staged;
 
-/// A state of the flat machine. No register says whether it is an address.
+/// A state of the flat machine. Registers hold plain numbers: an address isn't told from another
+/// number.
 #[derive(Drop)]
 pub struct FlatState<'a> {
     /// The slot of the next instruction.
@@ -15,13 +16,13 @@ pub struct FlatState<'a> {
     pub memory: Regions,
     /// The object as the run has it so far.
     pub object: Staged<'a>,
-    /// How much of the output region is output.
+    /// The number of bytes of the output region that are output.
     pub out_len: usize,
     /// The client for whom the method runs.
     pub caller: u32,
 }
 
-/// A register's value, where it is set.
+/// A register's value, if it is set.
 pub fn get(s: &FlatState, register: u8) -> Option<u64>
     ensures { result ≡ reg (flat_state s.now) register }
 {
@@ -37,6 +38,7 @@ pub fn set(s: &mut FlatState, register: u8, value: u64) -> Option<()>
     ensures slot { s.new.slot ≡ s.old.slot }
     ensures memory { s.new.memory ≡ s.old.memory }
 {
+    // Register 10 is the frame pointer, which is read-only.
     if register < 10 {
         s.regs[usize::from(register)] = Some(value);
         Some(())

@@ -1,6 +1,6 @@
-//! The footprint of a method: which parts of an object it can see or change. `needed` reads it off
-//! the code. By `frame` a run on the object without the other parts is the run on the whole object,
-//! which leaves those parts as they were.
+//! The footprint of a method: the parts of an object that it can see or change. `needed` reads it
+//! off the code. By `frame` a run on the object without the other parts is the run on the whole
+//! object, which leaves those parts as they were.
 #![tactic(auto)]
 
 mod laws;

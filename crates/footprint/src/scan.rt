@@ -7,7 +7,7 @@ use crate::parts::Parts;
 use bpf_decode::Insn;
 use helpers::Helper;
 
-/// What a helper may do to an object.
+/// An effect that a helper may have on an object, or a part that it may read.
 #[derive(Clone, Copy)]
 enum Deed {
     Bytes,
@@ -17,7 +17,7 @@ enum Deed {
     Creation,
 }
 
-/// Whether a helper does it.
+/// True if a helper does it.
 fn does(helper: Helper, deed: Deed) -> bool
     ensures { result ≡ does deed helper }
 {
@@ -42,7 +42,7 @@ fn does(helper: Helper, deed: Deed) -> bool
     }
 }
 
-/// Whether an instruction calls a helper that does it.
+/// True if an instruction calls a helper that does it.
 fn calls_such(insn: &Insn, deed: Deed) -> bool
     ensures { result ≡ calls_such deed insn.now }
 {
@@ -55,7 +55,7 @@ fn calls_such(insn: &Insn, deed: Deed) -> bool
     }
 }
 
-/// Whether code calls a helper that does it.
+/// True if code calls a helper that does it.
 fn calls(code: &[Insn], deed: Deed) -> bool
     ensures { result ≡ calls deed code.now }
 {
@@ -73,6 +73,7 @@ fn calls(code: &[Insn], deed: Deed) -> bool
 pub fn needed(code: &[Insn]) -> Parts
     ensures { result ≡ needed code.now }
 {
+    // The order of the two in the code doesn't count: a jump may lead from either to the other.
     let renews = calls(code, Deed::Removal) && calls(code, Deed::Creation);
     Parts {
         bytes: renews || calls(code, Deed::Bytes),

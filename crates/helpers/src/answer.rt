@@ -7,8 +7,8 @@ use crate::errno::{EEXIST, EFBIG, EINVAL, ENODATA, ENOENT, ENOMEM, ENOSPC, ERANG
 use object_store::StoreError;
 use txn::NoMemory;
 
-/// What a helper answers in register 0, and the bytes that it copies to the beginning of its
-/// writable range.
+/// The answer of a helper: the number for register 0, and the bytes that it copies to the beginning
+/// of its writable range.
 #[derive(Clone, Copy)]
 pub struct HelperAnswer<'a> {
     pub number: u64,
@@ -20,6 +20,7 @@ pub fn negative(errno: u64) -> u64
     requires { (1 ≤ errno) × (errno < 4096) }
     ensures { result ≡ 2 ^ 64 - errno }
 {
+    // 2^64 - errno, without the number 2^64, which 64 bits don't hold.
     u64::MAX - (errno - 1)
 }
 
@@ -39,15 +40,15 @@ fn errno_of(error: StoreError) -> u64
     }
 }
 
-/// What a helper answers if its change came to this: the number that it gives, or the negative of
-/// an error number.
+/// The answer of a helper whose change had this result: the number that it gives, or the negative
+/// of an error number.
 pub fn answered(change: Result<(), StoreError>, number: u64) -> Result<u64, NoMemory>
     ensures answer { IfOk result (λ n. n ≡ number_of change number) }
     ensures no_want { IfOk result (λ _. IsAnswer change) }
     ensures want { OnErr result (change ≡ Err StoreError.NoMemory) }
 {
-    // Want of memory ends the call and has no error number here: what a method computes depends on
-    // its object, client and input alone, so every replica computes the same.
+    // A lack of memory ends the call and has no error number here: the result of a method depends
+    // on its object, client and input alone, so every replica computes the same.
     match change {
         Ok(()) => Ok(number),
         Err(StoreError::NoMemory) => Err(NoMemory),
@@ -55,7 +56,7 @@ pub fn answered(change: Result<(), StoreError>, number: u64) -> Result<u64, NoMe
     }
 }
 
-/// What a helper answers if it looked up this value, with that much room for it.
+/// The answer of a helper that looked up this value, with a range of `room` bytes for it.
 pub fn looked_up(value: Result<&[u8], StoreError>, room: u64) -> HelperAnswer<'_>
     ensures number { result.number ≡ (looked_up room (behind value.entry)).number }
     ensures bytes { result.bytes.now ≡ (looked_up room (behind value.entry)).bytes }

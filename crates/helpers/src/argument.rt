@@ -1,4 +1,5 @@
-/// What a helper is given in a register, or in two for a range: a pointer and a length in bytes.
+/// An argument of a helper, in one register, or in two for a range: a pointer and a length in
+/// bytes.
 #[derive(Clone, Copy, PartialEq, Eq)]
 pub enum Argument {
     /// A number.
@@ -11,7 +12,7 @@ pub enum Argument {
     Writable,
 }
 
-/// What a helper is given from register 1 on, and whether it may change the object.
+/// The arguments of a helper from register 1 on, and a flag that it may change the object.
 #[derive(Clone, Copy)]
 pub struct Signature {
     pub arguments: &'static [Argument],

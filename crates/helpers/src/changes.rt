@@ -8,8 +8,8 @@ use std::alloc::Global;
 use txn::{NoMemory, Staged};
 
 /// Helper 3, `write`: writes bytes into the data at a place. It creates an absent object, zeros
-/// fill a gap, and no bytes leave the data as it is. It answers how many bytes it wrote. Refused:
-/// EFBIG past the most bytes of an object.
+/// fill a gap, and no bytes leave the data as it is. It answers the number of bytes written.
+/// Refused: EFBIG past the most bytes of an object.
 pub fn write(alloc: Global, staged: &mut Staged, at: u64, bytes: &[u8]) -> Result<u64, NoMemory>
     ensures answer { IfOk result (λ n. n ≡ (write_effect staged.old.after at bytes.now).answer) }
     ensures object { IfOk result (λ _. staged.new.after ≡ (write_effect staged.old.after at bytes.now).object) }

@@ -4,7 +4,7 @@
 /// The object is absent.
 pub const ENOENT: u64 = 2;
 
-/// What is stored can't be read.
+/// Stored data can't be read.
 pub const EIO: u64 = 5;
 
 /// Memory was refused.
@@ -16,13 +16,13 @@ pub const EBUSY: u64 = 16;
 /// The object is there already.
 pub const EEXIST: u64 = 17;
 
-/// A name, a key or an argument is none.
+/// A name, a key or an argument is invalid.
 pub const EINVAL: u64 = 22;
 
 /// The data would pass its limit.
 pub const EFBIG: u64 = 27;
 
-/// The object has as many xattrs or keys as it may have.
+/// The object has the most xattrs or keys already.
 pub const ENOSPC: u64 = 28;
 
 /// The buffer is too short.

@@ -4,7 +4,7 @@ ghost use Rattle.helpers.specs.View.{given_signature};
 
 use crate::argument::{Argument, Signature};
 
-/// What a method may call. Each helper has one function of the same name.
+/// The helpers that a method may call. Each has one function of the same name.
 #[derive(Clone, Copy, PartialEq, Eq)]
 pub enum Helper {
     Stat,
@@ -61,7 +61,7 @@ pub fn signature(id: u32) -> Option<Signature>
     }
 }
 
-/// The table of helpers: what each is given, and whether it may change the object.
+/// The table of helpers: the arguments of each, and `writes` if it may change the object.
 #[rattlefmt::skip]
 fn takes(helper: Helper) -> Signature
     ensures arguments { result.arguments.now ≡ (row helper).takes.arguments }

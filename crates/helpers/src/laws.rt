@@ -5,12 +5,14 @@ ghost use Rattle.helpers.specs.Laws.{EffectsAreWithinLimits};
 
 use object_store::{changes_keep_the_limits, reads_are_within};
 
-/// Every helper keeps an object within all limits, and copies bytes, at most as many as there is
-/// room for. The function does nothing.
+/// Every helper keeps an object within all limits, and copies bytes, no more than the range has.
+/// The function does nothing.
 pub fn effects_are_within_limits()
     ensures { EffectsAreWithinLimits }
 {
+    // For the proof: each change of the table leaves an object within its limits.
     changes_keep_the_limits();
+    // For the proof: a read of such an object gives bytes, or a value.
     reads_are_within();
 }
 

@@ -1,7 +1,7 @@
 //! The helpers, through which a method reads and changes its object. `Helper::of` is the one place
-//! where ids stand; `signature` says what the helper of an id takes; and one function a helper does
-//! what its row of the table says (`specs/Table.antt`), over a staged object where it touches that.
-//! A refused helper changes nothing, nor does one whose memory was refused.
+//! that lists the ids; `signature` gives the arguments of the helper of an id; and each helper has
+//! one function, which does as its row of the table says (`specs/Table.antt`), over a staged object
+//! if it touches one. A refused helper changes nothing, nor does one whose memory was refused.
 #![tactic(auto)]
 
 mod answer;

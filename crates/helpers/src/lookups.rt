@@ -16,7 +16,7 @@ pub fn stat(staged: &Staged) -> u64
     }
 }
 
-/// What `getxattr` answers: the value of an xattr. Refused: EINVAL, ENOENT, ENODATA, ERANGE.
+/// The answer of `getxattr`: the value of an xattr. Refused: EINVAL, ENOENT, ENODATA, ERANGE.
 pub fn xattr_value<'a>(staged: &'a Staged, name: &[u8], room: u64) -> HelperAnswer<'a>
     ensures number { result.number ≡ (getxattr_answer staged.entry.now.after name.now room).number }
     ensures bytes { result.bytes.now ≡ (getxattr_answer staged.entry.now.after name.now room).bytes }
@@ -25,7 +25,7 @@ pub fn xattr_value<'a>(staged: &'a Staged, name: &[u8], room: u64) -> HelperAnsw
     looked_up(calls::get_xattr(staged.object(), name), room)
 }
 
-/// What `map_get` answers: the value of a key of the omap. Refused: EINVAL, ENOENT, ENODATA,
+/// The answer of `map_get`: the value of a key of the omap. Refused: EINVAL, ENOENT, ENODATA,
 /// ERANGE.
 pub fn map_value<'a>(staged: &'a Staged, key: &[u8], room: u64) -> HelperAnswer<'a>
     ensures number { result.number ≡ (map_get_answer staged.entry.now.after key.now room).number }
@@ -35,8 +35,8 @@ pub fn map_value<'a>(staged: &'a Staged, key: &[u8], room: u64) -> HelperAnswer<
     looked_up(calls::get_key(staged.object(), key), room)
 }
 
-/// What `map_next` answers: the least key of the omap above some bytes, and with no bytes the least
-/// key. Refused: EINVAL, ENOENT, ENODATA, ERANGE.
+/// The answer of `map_next`: the least key of the omap above some bytes, and with no bytes the
+/// least key. Refused: EINVAL, ENOENT, ENODATA, ERANGE.
 pub fn key_above<'a>(staged: &'a Staged, key: &[u8], room: u64) -> HelperAnswer<'a>
     ensures number { result.number ≡ (map_next_answer staged.entry.now.after key.now room).number }
     ensures bytes { result.bytes.now ≡ (map_next_answer staged.entry.now.after key.now room).bytes }

@@ -34,8 +34,8 @@ pub fn fill(memory: &mut [u8], span: Span, bytes: &[u8])
     memory[at..at + bytes.len()].copy_from_slice(bytes);
 }
 
-/// Copies the data from a place on to a range of at most `most` bytes, and answers how many it
-/// copied.
+/// Copies the data from a place on to a range of `most` bytes, until the data or the range ends,
+/// and returns the number of bytes copied.
 fn read_into(object: &Object, at: u64, memory: &mut [u8], start: usize, most: usize) -> usize
     requires { start + most ≤ length memory.old }
     ensures count { result ≡ length (part object.now.bytes at most) }
@@ -44,8 +44,8 @@ fn read_into(object: &Object, at: u64, memory: &mut [u8], start: usize, most: us
     object.read(at, &mut memory[start..start + most])
 }
 
-/// Helper 2, `read`: copies the data from a place on, as far as it goes and at most as many bytes
-/// as the range has. It answers how many. Refused: ENOENT.
+/// Helper 2, `read`: copies the data from a place on into a range, until the data or the range
+/// ends. It answers the number of bytes copied. Refused: ENOENT.
 pub fn read(staged: &Staged, at: u64, memory: &mut [u8], room: Span) -> u64
     requires { IsWithin memory.old room }
     ensures answer { result ≡ (read_answer staged.entry.now.after at room.len).number }
@@ -53,10 +53,12 @@ pub fn read(staged: &Staged, at: u64, memory: &mut [u8], room: Span) -> u64
 {
     match staged.object() {
         None => {
+            // For the proof: a refusal copies no bytes, which leaves the memory as it is.
             fill(memory, room, &[]);
             negative(ENOENT)
         }
         Some(object) => {
+            // A range of length 0 may have any address, so memory isn't indexed by it.
             if room.len == 0 {
                 return 0;
             }
@@ -91,10 +93,10 @@ pub fn map_get(staged: &Staged, memory: &mut [u8], key: Span, value: Span) -> u6
     answer.number
 }
 
-/// Helper 12, `map_next`: copies the least key of the omap above the given bytes, of which none
-/// stand below all keys. The bytes are read whole before the key is written: the two ranges may
-/// overlap. Refused, in this order: EINVAL if the bytes are more than a key has, ENOENT, ENODATA if
-/// no key is above them, ERANGE if the key is longer than the range.
+/// Helper 12, `map_next`: copies the least key of the omap above the given bytes; no bytes are
+/// below all keys. The bytes are read whole before the key is written: the two ranges may overlap.
+/// Refused, in this order: EINVAL if the bytes are more than a key has, ENOENT, ENODATA if no key
+/// is above them, ERANGE if the key is longer than the range.
 pub fn map_next(staged: &Staged, memory: &mut [u8], key: Span, next: Span) -> u64
     requires key { IsWithin memory.old key }
     requires next { IsWithin memory.old next }

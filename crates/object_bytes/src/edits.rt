@@ -16,7 +16,7 @@ use crate::spelling::{data_bytes, put_byte, put_name, put_u32, put_value};
 use object_store::Object;
 use std::alloc::{AllocError, Global};
 
-/// How many bytes two begin with alike.
+/// The number of bytes at the beginning that both have alike.
 fn alike(xs: &[u8], ys: &[u8]) -> usize
     ensures { result ≡ alike xs.now ys.now }
 {
@@ -27,7 +27,7 @@ fn alike(xs: &[u8], ys: &[u8]) -> usize
     n
 }
 
-/// How many bytes stand before the last that differs, that one included.
+/// The number of bytes up to the last that differs, that one included.
 fn apart(xs: &[u8], ys: &[u8]) -> usize
     requires { length xs.now ≡ length ys.now }
     ensures value { result ≡ apart xs.now ys.now (length ys.now) }
@@ -51,7 +51,7 @@ fn put_length(out: &mut Vec<u8>, old: usize, new: usize) -> Result<(), AllocErro
     put_u32(out, new as u32)
 }
 
-/// A write of the bytes from one place to another, where there are any.
+/// A write of the bytes from one place to another, if there are any.
 fn put_write(out: &mut Vec<u8>, from: usize, end: usize, bytes: &[u8]) -> Result<(), AllocError>
     requires within { length bytes.now ≤ DATA_LIMIT }
     requires end { end ≤ length bytes.now }
@@ -85,6 +85,7 @@ fn put_data(
 ) -> Result<(), AllocError>
     ensures { OnOk result (out.new.items ≡ out.old.items ++ spelled (data_edits before.now.bytes after.now.bytes)) }
 {
+    // Compared at the new length, as the edit of the length leaves the data before the write.
     let old = resized_bytes(alloc, before, after.len())?;
     let new = data_bytes(alloc, after)?;
     put_length(out, before.len(), after.len())?;
@@ -113,7 +114,7 @@ fn put_lost(
     put_name(out, name)
 }
 
-/// Whether this value was found.
+/// True if this value was found.
 fn is_value(found: Option<&[u8]>, value: &[u8]) -> bool
     ensures { result ≡ is_value (option_copied found.entry) value.now }
 {
@@ -225,17 +226,18 @@ fn edit_bytes_of(
     Ok(out)
 }
 
-/// The edits that make of one object, absent or there, another, as they are written. Of equal
-/// objects there are none.
+/// The edits that make one object, absent or there, into another, as they are written. There are
+/// none between equal objects.
 pub fn edits_of(
     alloc: Global,
     before: Option<&Object>,
     after: Option<&Object>,
 ) -> Result<Vec<u8>, AllocError>
-    // They make of the one object the other, and there are none if both are equal.
+    // They make the one object into the other, and there are none if both are equal.
     ensures lead { IfOk result (λ bytes. Leads (option_copied before.entry) (option_copied after.entry) bytes.items) }
     ensures exact { IfOk result (λ bytes. bytes.items ≡ spelled (edits (option_copied before.entry) (option_copied after.entry))) }
 {
+    // For the proof: both objects are within their limits.
     is_object(before);
     is_object(after);
     let bytes = edit_bytes_of(alloc, before, after)?;

@@ -1,6 +1,6 @@
 //! Objects as bytes, for a host that keeps them itself: an object as its flat form, which is its
-//! one spelling, and the edits that make of an object another. `read_object` and `flat_form` read
-//! and write the one, `edits_of` writes the other.
+//! one spelling, and the edits that make one object into another. `read_object` and `flat_form`
+//! read and write the one, `edits_of` writes the other.
 #![tactic(auto)]
 
 mod edits;

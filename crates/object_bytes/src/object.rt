@@ -28,8 +28,9 @@ pub fn read_object(alloc: Global, bytes: &[u8]) -> Result<Option<Object>, FlatEr
     ensures malformed { result ≡ Err FlatError.Malformed → (object : PlainObject) → Spells bytes.now object → ⊥ }
 {
     let object = object_at(alloc, bytes)?;
+    // For the proof: the object read is within its limits.
     is_object(object.as_ref());
-    // What was read is spelled again: an object has one flat form, and no other is taken.
+    // The object read is spelled again: an object has one flat form, and no other is taken.
     let spelled = flat_form(alloc, object.as_ref())?;
     if spelled.as_slice() != bytes {
         return Err(FlatError::Malformed);

@@ -8,14 +8,14 @@ ghost use Rattle.object_bytes.specs.Part.{names, IsShort};
 
 use object_store::Object;
 
-/// Which part.
+/// The part: xattrs, or keys of the omap.
 #[derive(Clone, Copy)]
 pub(crate) enum Part {
     Xattrs,
     Keys,
 }
 
-/// How many names it has.
+/// The number of names in the part.
 pub(crate) fn count_of(part: Part, object: &Object) -> usize
     ensures value { result ≡ fin.len (names part object.now) }
     ensures fits { result < 65536 }
@@ -31,6 +31,7 @@ pub(crate) fn entry_of<'a>(part: Part, object: &'a Object, n: usize) -> Option<(
     ensures entry { entry_behind result ≡ nth (names part object.now) n }
     ensures short { IfSome result (λ e. IsShort (e.0.now, e.1.now)) }
 {
+    // For the proof: an object is within its limits, so its names and values are short.
     object.within();
     match part {
         Part::Xattrs => object.xattr_at(n),

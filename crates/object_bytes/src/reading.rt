@@ -66,13 +66,14 @@ fn entry_at(bytes: &[u8]) -> Result<(Entry, &[u8]), FlatError>
     Ok((Entry { name, value }, rest))
 }
 
-/// What a call on an object returned, as it is answered here.
+/// The result of a call on an object, as it is answered here.
 fn stored(made: Result<Object, StoreError>) -> Result<Object, FlatError>
     ensures { (answer : Result Content StoreError) → store.Gives (λ o. o) made answer → Gives (λ o. o) result (stored answer) }
 {
     match made {
         Ok(object) => Ok(object),
         Err(StoreError::NoMemory) => Err(FlatError::NoMemory),
+        // A refusal by a limit: no object within the limits has these bytes as its flat form.
         Err(_) => Err(FlatError::Malformed),
     }
 }
@@ -157,6 +158,7 @@ pub(crate) fn object_at(alloc: Global, bytes: &[u8]) -> Result<Option<Object>, F
         }
         return Ok(None);
     }
+    // 0 and 1 alone are spelled: any other byte would give an object a second flat form.
     if there != 1 {
         return Err(FlatError::Malformed);
     }

@@ -44,6 +44,7 @@ pub(crate) fn set_in(
     ensures answer { Gives (λ _. attributes.new) result (set_in most attributes.old name.now value.now) }
     ensures err { OnErr result (attributes.new ≡ attributes.old) }
 {
+    // A name that is there may get a new value though no further name fits.
     if attributes.len() >= most && attributes.get(name).is_none() {
         return Err(StoreError::TooMany);
     }

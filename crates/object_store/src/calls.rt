@@ -1,5 +1,5 @@
-//! The calls on one object, absent or there. A read takes no memory. A change leaves the object
-//! that it is given as it is, and makes what it becomes, sharing all that it doesn't touch.
+//! The calls on one object, absent or there. A read takes no memory. A change leaves the given
+//! object as it is and returns a new one, which shares all that the change doesn't touch.
 ghost use Rattle.std.specs.Prelude.{◌≡◌, Result, IfOk, IfErr, Ok, Err, if◌then◌else◌, nat_lt, length};
 ghost use Rattle.std.specs.Option.{option_copied};
 ghost use Rattle.object_store.specs.Object.{Content, IsName, IsValue, content_of};
@@ -13,15 +13,15 @@ use crate::slices::place_of;
 use crate::store_error::StoreError;
 use std::alloc::Global;
 
-/// How many bytes of data it has. Refused: 1 Absent.
+/// The length of the data in bytes. Refused: 1 Absent.
 pub fn stat(object: Option<&Object>) -> Result<usize, StoreError>
     ensures { result ≡ spec.stat (option_copied object.entry) }
 {
     Ok(there(object)?.len())
 }
 
-/// Copies the bytes from a place on into a buffer, as many as there are and as fit, and answers how
-/// many. Refused: 1 Absent; the buffer is then as it was.
+/// Copies the bytes from a place on into a buffer, until the data or the buffer ends, and returns
+/// their number. Refused: 1 Absent; the buffer is then as it was.
 pub fn read(object: Option<&Object>, at: u64, out: &mut [u8]) -> Result<usize, StoreError>
     ensures count { result ≡ spec.count (spec.read (option_copied object.entry) at (length out.old)) }
     ensures bytes { out.new ≡ spec.filled (spec.read (option_copied object.entry) at (length out.old)) out.old }
@@ -76,6 +76,7 @@ pub fn write(
 pub fn truncate(alloc: Global, object: Option<&Object>, len: u64) -> Result<Object, StoreError>
     ensures { Gives (λ o. o) result (spec.truncate (option_copied object.entry) len) }
 {
+    // The length first: of two refusals the first of the definition is answered, TooBig.
     let Some(len) = place_of(len, 0) else {
         return Err(StoreError::TooBig);
     };
@@ -154,7 +155,7 @@ pub fn create(object: Option<&Object>, exclusive: bool) -> Result<Object, StoreE
     }
 }
 
-/// Whether there is an object to remove. Refused: 1 Absent.
+/// Refuses to remove an object that is absent: 1 Absent.
 pub fn remove(object: Option<&Object>) -> Result<(), StoreError>
     ensures { result ≡ spec.remove (option_copied object.entry) }
 {
@@ -177,7 +178,7 @@ fn named<'a>(object: Option<&'a Object>, name: &[u8]) -> Result<&'a Object, Stor
     there(object)
 }
 
-/// What the object holds, to be changed; nothing if it is absent.
+/// The content of the object, to be changed; an empty one if it is absent.
 fn there_or_new(object: Option<&Object>) -> Result<Held, StoreError>
     ensures value { IfOk result (λ h. h ≡ content_of (option_copied object.entry)) }
     ensures refused { IfErr result (λ e. e ≡ StoreError.NoMemory) }
@@ -188,7 +189,8 @@ fn there_or_new(object: Option<&Object>) -> Result<Held, StoreError>
     }
 }
 
-/// The object that a change made of what it was given. Refused: as the change was, or 7 NoMemory.
+/// The object that a change made of the content that it was given. Refused: as the change was, or 7
+/// NoMemory.
 fn finished(alloc: Global, new: Held, done: Result<(), StoreError>) -> Result<Object, StoreError>
     ensures { (answer : Result Content StoreError) → Gives (λ _. new) done answer → Gives (λ o. o) result answer }
 {

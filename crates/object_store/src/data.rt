@@ -8,15 +8,15 @@ use std::alloc::Global;
 
 /// Data of an object. Contracts see its bytes, however it is kept.
 pub trait Data: Drop {
-    /// What it contains.
+    /// The bytes that it contains.
     ghost bytes: { Self → List ℕ };
 
-    /// How many bytes it has.
+    /// The number of bytes.
     fn len(&self) -> usize
         ensures { result ≡ length (bytes self.now) };
 
-    /// Copies the bytes from a place on into a buffer, as many as there are and as fit, and answers
-    /// how many.
+    /// Copies the bytes from a place on into a buffer, until the data or the buffer ends, and
+    /// returns their number.
     fn read(&self, at: u64, out: &mut [u8]) -> usize
         ensures count { result ≡ length (part (bytes self.now) at (length out.old)) }
         ensures bytes { out.new ≡ overlaid (part (bytes self.now) at (length out.old)) out.old };

@@ -21,6 +21,7 @@ pub fn edit_all<D: Data>(alloc: Global, content: &mut D, edits: &[Edit]) -> Resu
     ensures answer { GivesData (λ _. D.bytes content.new) result (all_edited (D.bytes content.old) edits.now) }
     ensures err { OnErr result (D.bytes content.new ≡ D.bytes content.old) }
 {
+    // A copy is edited, so that an edit refused halfway leaves the data as it was.
     let mut copy = content.copy(alloc)?;
     make_all(alloc, &mut copy, edits)?;
     *content = copy;

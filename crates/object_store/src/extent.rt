@@ -46,14 +46,14 @@ impl Extent {
         self.content.as_slice()
     }
 
-    /// Whether two have the same bytes.
+    /// True if two have the same bytes.
     pub(crate) fn is_same(&self, other: &Extent) -> bool
         ensures { IsTrue result ↔ (self.now ≡ other.now) }
     {
         self.content.as_slice() == other.content.as_slice()
     }
 
-    /// The same extent by one pointer more.
+    /// The same extent, by one more pointer to it.
     pub(crate) fn share(&self) -> Result<Extent, AllocError>
         ensures { IfOk result (λ e. e ≡ self.now) }
     {
@@ -62,7 +62,7 @@ impl Extent {
         })
     }
 
-    /// Whether it stands in another list too.
+    /// True if another list has it too.
     pub(crate) fn is_shared(&self) -> bool {
         Arc::strong_count(&self.content) > 1
     }

@@ -69,10 +69,11 @@ impl ExtentData {
         })
     }
 
-    /// Whether the bytes are the same. It takes no memory.
+    /// True if the bytes are the same. It takes no memory.
     pub(crate) fn is_same(&self, other: &ExtentData) -> bool
         ensures { IsTrue result ↔ (self.now ≡ other.now) }
     {
+        // All extents but the last are full, so equal bytes lie in equal extents.
         are_same(self.parts(), other.parts())
     }
 
@@ -121,6 +122,7 @@ impl Data for ExtentData {
     }
 
     fn read(&self, at: u64, out: &mut [u8]) -> usize {
+        // A place past the end reads no bytes; the minimum fits in a usize though a place need not.
         let from = at.min(self.len as u64) as usize;
         let to = from + out.len().min(self.len - from);
         copy_out(self.parts(), from, to, out)
@@ -144,14 +146,16 @@ impl Data for ExtentData {
     }
 
     fn copy(&self, alloc: Global) -> Result<ExtentData, DataError> {
+        // A copy shares the extents and allocates nothing: the parameter is only there for the
+        // trait.
         let _ = alloc;
         Ok(self.share()?)
     }
 }
 
-/// What the bytes lie in: for tests and measurements.
+/// The extents of the bytes: for tests and measurements.
 impl ExtentData {
-    /// How many extents it has: as few of 4,096 bytes as its bytes need.
+    /// The number of extents: the length over 4,096, rounded up.
     pub fn extent_count(&self) -> usize
         ensures enough { length self.now ≤ result * 4096 }
         ensures few { result * 4096 < length self.now + 4096 }
@@ -172,7 +176,7 @@ impl ExtentData {
         most
     }
 
-    /// How many of its extents stand in another list too.
+    /// The number of its extents that another list has too.
     pub fn shared_count(&self) -> usize {
         let mut count = 0usize;
         for part in self.parts() {

@@ -29,6 +29,7 @@ pub(crate) fn with_text(
     let (count, to) = past(rest, end);
     let (old, _) = rest.split_at(count);
     let gap = at.saturating_sub(len);
+    // A text that ends past the old data leaves no old bytes after it: hence `end.min(to)`.
     let middle = touched(alloc, old, (0, low), gap, text, (end.min(to), to))?;
     replaced(alloc, parts, kept, middle, kept + count)
 }
@@ -70,6 +71,7 @@ fn touched(
     requires gap { gap ≤ 65536 }
     ensures { IfOk result (λ v. v.items ≡ ((cut low.0 low.1 (flat parts.now) ++ replicate gap 0) ++ text.now) ++ cut high.0 high.1 (flat parts.now)) }
 {
+    // Room for one extent: bytes that fit in one need no second allocation.
     let mut bytes = Vec::with_capacity(alloc, EXTENT_LIMIT)?;
     append(parts, low.0, low.1, &mut bytes)?;
     append_zeros(&mut bytes, gap)?;
@@ -129,8 +131,8 @@ fn append(parts: &[Extent], from: usize, to: usize, out: &mut Vec<u8>) -> Result
     Ok(())
 }
 
-/// Copies the bytes of a range to the front of a buffer, as far as they exist, and answers how
-/// many. Of the extents before it only the lengths are read, and of those past it nothing.
+/// Copies the bytes of a range to the front of a buffer, as far as they exist, and returns their
+/// number. Of the extents before it only the lengths are read, and of those past it nothing.
 pub(crate) fn copy_out(parts: &[Extent], from: usize, to: usize, out: &mut [u8]) -> usize
     requires order { from ≤ to }
     requires room { to - from ≤ length out.old }
@@ -145,7 +147,7 @@ pub(crate) fn copy_out(parts: &[Extent], from: usize, to: usize, out: &mut [u8])
     copy_cut(read, from - start, to - start, out)
 }
 
-/// The same, of each extent what is in the range.
+/// The same, from each extent the bytes that are in the range.
 fn copy_cut(parts: &[Extent], from: usize, to: usize, out: &mut [u8]) -> usize
     requires order { from ≤ to }
     requires room { to - from ≤ length out.old }
@@ -166,7 +168,7 @@ fn copy_cut(parts: &[Extent], from: usize, to: usize, out: &mut [u8]) -> usize
     done
 }
 
-/// Whether two lists have the same extents.
+/// True if two lists have the same extents.
 pub(crate) fn are_same(parts: &[Extent], others: &[Extent]) -> bool
     ensures { IsTrue result ↔ (parts.now ≡ others.now) }
 {
@@ -181,7 +183,7 @@ pub(crate) fn are_same(parts: &[Extent], others: &[Extent]) -> bool
     true
 }
 
-/// How many full extents stand before a place, and how many bytes they have.
+/// The number of full extents before a place, and the number of their bytes.
 fn before(parts: &[Extent], at: usize) -> (usize, usize)
     requires { length (flat parts.now) ≤ 65536 }
     ensures place { (result.0 ≤ length parts.now) × (result.1 ≡ length (flat (take result.0 parts.now))) × (result.1 ≤ at) }
@@ -190,6 +192,8 @@ fn before(parts: &[Extent], at: usize) -> (usize, usize)
     let mut start = 0;
     for (i, part) in parts.iter().enumerate() {
         let bytes: &[u8] = part.bytes();
+        // The last extent is not counted unless it is full: an edit makes it anew, so all but the
+        // last are full.
         if bytes.len() < EXTENT_LIMIT || at < start + bytes.len() {
             return (i, start);
         }
@@ -198,7 +202,7 @@ fn before(parts: &[Extent], at: usize) -> (usize, usize)
     (parts.len(), start)
 }
 
-/// Where the extents past a place begin: how many stand before them, and with how many bytes.
+/// The number of extents before those that lie past a place, and the number of their bytes.
 fn past(parts: &[Extent], end: usize) -> (usize, usize)
     requires { length (flat parts.now) ≤ 65536 }
     ensures { (result.0 ≤ length parts.now) × (result.1 ≡ length (flat (take result.0 parts.now))) × (min end (length (flat parts.now)) ≤ result.1) }
@@ -231,6 +235,7 @@ fn push_bytes(alloc: Global, parts: &mut Vec<Extent>, bytes: Vec<u8>) -> Result<
     ensures packed { OnOk result (ArePacked parts.new.items) }
     ensures full { length bytes.items % EXTENT_LIMIT ≡ 0 → OnOk result (AreFull parts.new.items) }
 {
+    // A full extent takes the buffer itself, so its bytes are not copied a second time.
     if bytes.len() != EXTENT_LIMIT {
         return push_cut(alloc, parts, &bytes);
     }

@@ -49,6 +49,7 @@ impl Data for FlatData {
     }
 
     fn write(&mut self, alloc: Global, at: u64, text: &[u8]) -> Result<(), DataError> {
+        // The vector has its own allocator: the parameter is only there for the trait.
         let _ = alloc;
         if text.is_empty() {
             return Ok(());
@@ -61,6 +62,7 @@ impl Data for FlatData {
     }
 
     fn truncate(&mut self, alloc: Global, len: u64) -> Result<(), DataError> {
+        // The vector has its own allocator: the parameter is only there for the trait.
         let _ = alloc;
         let Some(len) = place_of(len, 0) else {
             return Err(DataError::TooBig);

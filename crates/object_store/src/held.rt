@@ -17,8 +17,8 @@ use shared_map::SharedMap;
 use std::alloc::{AllocError, Global};
 use std::marker::Model;
 
-/// What an object holds: its data, its xattrs and its omap, always within the limits. A copy shares
-/// all of it and costs three pointers. Contracts see its content.
+/// The content of an object: its data, its xattrs and its omap, always within the limits. A copy
+/// shares all of it and costs three pointers. Contracts see it as the content.
 #[derive(Drop)]
 pub(crate) struct Held {
     bytes: ExtentData,
@@ -54,10 +54,11 @@ impl Held {
     pub(crate) fn within(&self)
         ensures { IsContent self.now }
     {
+        // For the proof: a use of a field brings the invariant of the type, which is the clause.
         let _ = &self.bytes;
     }
 
-    /// How many bytes of data it has.
+    /// The length of the data in bytes.
     pub(crate) fn len(&self) -> usize
         ensures value { result ≡ length self.now.bytes }
         ensures within { result ≤ DATA_LIMIT }
@@ -65,8 +66,8 @@ impl Held {
         self.bytes.len()
     }
 
-    /// Copies the bytes from a place on into a buffer, as many as there are and as fit, and answers
-    /// how many. It takes no memory.
+    /// Copies the bytes from a place on into a buffer, until the data or the buffer ends, and
+    /// returns their number. It takes no memory.
     pub(crate) fn read(&self, at: u64, out: &mut [u8]) -> usize
         ensures count { result ≡ length (part self.now.bytes at (length out.old)) }
         ensures bytes { out.new ≡ overlaid (part self.now.bytes at (length out.old)) out.old }
@@ -81,7 +82,7 @@ impl Held {
         value_in(&self.xattrs, name)
     }
 
-    /// How many xattrs it has.
+    /// The number of xattrs.
     pub(crate) fn xattr_count(&self) -> usize
         ensures value { result ≡ fin.len self.now.xattrs }
         ensures within { result ≤ XATTR_LIMIT }
@@ -110,7 +111,7 @@ impl Held {
         self.omap.key_above(key)
     }
 
-    /// How many keys its omap has.
+    /// The number of keys of the omap.
     pub(crate) fn key_count(&self) -> usize
         ensures value { result ≡ fin.len self.now.omap }
         ensures within { result ≤ KEY_LIMIT }
@@ -125,7 +126,7 @@ impl Held {
         nth_in(&self.omap, n)
     }
 
-    /// Whether two hold the same. It takes no memory.
+    /// True if two hold the same. It takes no memory.
     pub(crate) fn is_same(&self, other: &Held) -> bool
         ensures { IsTrue result ↔ (self.now ≡ other.now) }
     {
@@ -134,14 +135,14 @@ impl Held {
             && self.omap.is_same(&other.omap)
     }
 
-    /// Whether it holds nothing.
+    /// True if it has no data, xattrs and keys.
     pub(crate) fn is_nothing(&self) -> bool
         ensures { IsTrue result ↔ (self.now ≡ nothing) }
     {
         self.is_same(&Held::new())
     }
 
-    /// The same, of which all is shared.
+    /// An equal content, which shares all of it.
     pub(crate) fn copy(&self) -> Result<Held, AllocError>
         ensures { IfOk result (λ o. o ≡ self.now) }
     {

@@ -16,7 +16,7 @@ pub fn changes_keep_the_limits()
     ensures create { (exclusive : Bool) → Keeps (λ o. spec.create o exclusive) }
 {}
 
-/// What is read of an object within the limits is bytes, or a value.
+/// A read of an object within the limits gives bytes, or a value.
 pub fn reads_are_within()
     ensures read { (at n : ℕ) → Reads (λ o. spec.read o at n) AreBytes }
     ensures get_xattr { (name : List ℕ) → Reads (λ o. spec.get_xattr o name) IsValue }

@@ -1,9 +1,9 @@
 //! Objects in memory: data, xattrs and an omap, by name. `Objects` is a finite map from names to
-//! what the objects hold, and each of its reads and changes is the one of its definition, or the
-//! first refusal that applies, after which nothing has changed. The same calls on one object,
-//! absent or there, are in `calls`: a change makes a new object, which shares with the old one all
-//! that it didn't touch. An object is always within its limits. `edit_all` makes several edits of
-//! data or none, however the data is kept (`Data`).
+//! the contents of the objects. Each of its reads and changes does as its definition says, or is
+//! refused by the first refusal that applies; nothing has changed then. The same calls on one
+//! object, absent or there, are in `calls`: a change makes a new object, which shares with the old
+//! one all that it didn't touch. An object is always within its limits. `edit_all` makes several
+//! edits of data or none, however the data is kept (`Data`).
 #![tactic(auto)]
 
 mod attributes;

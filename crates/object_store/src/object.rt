@@ -13,10 +13,11 @@ use std::alloc::{AllocError, Global};
 use std::marker::Model;
 use std::sync::Arc;
 
-/// An object: its data, its xattrs and its omap, always within the limits. What it holds never
-/// changes once it is made, so a copy shares all of it and costs one pointer. Contracts see what it
-/// holds.
+/// An object: its data, its xattrs and its omap, always within the limits. Its content never
+/// changes once it is made, so a copy shares all of it and costs one pointer. Contracts see its
+/// content.
 pub struct Object {
+    // None is the object without content, so that making one takes no memory.
     held: Option<Arc<Held>>,
 }
 
@@ -57,7 +58,7 @@ impl Object {
         })
     }
 
-    /// What it holds, to be changed: it shares all of it. Refused: 7 NoMemory.
+    /// The content, to be changed: it shares all of it. Refused: 7 NoMemory.
     pub(crate) fn opened(&self) -> Result<Held, StoreError>
         ensures value { IfOk result (λ h. h ≡ self.now) }
         ensures refused { IfErr result (λ e. e ≡ StoreError.NoMemory) }
@@ -78,7 +79,7 @@ impl Object {
         }
     }
 
-    /// How many bytes of data it has.
+    /// The length of the data in bytes.
     pub fn len(&self) -> usize
         ensures value { result ≡ length self.now.bytes }
         ensures within { result ≤ DATA_LIMIT }
@@ -89,8 +90,8 @@ impl Object {
         }
     }
 
-    /// Copies the bytes from a place on into a buffer, as many as there are and as fit, and answers
-    /// how many. It takes no memory.
+    /// Copies the bytes from a place on into a buffer, until the data or the buffer ends, and
+    /// returns their number. It takes no memory.
     pub fn read(&self, at: u64, out: &mut [u8]) -> usize
         ensures count { result ≡ length (part self.now.bytes at (length out.old)) }
         ensures bytes { out.new ≡ overlaid (part self.now.bytes at (length out.old)) out.old }
@@ -111,7 +112,7 @@ impl Object {
         }
     }
 
-    /// How many xattrs it has.
+    /// The number of xattrs.
     pub fn xattr_count(&self) -> usize
         ensures value { result ≡ fin.len self.now.xattrs }
         ensures within { result ≤ XATTR_LIMIT }
@@ -152,7 +153,7 @@ impl Object {
         }
     }
 
-    /// How many keys its omap has.
+    /// The number of keys of the omap.
     pub fn key_count(&self) -> usize
         ensures value { result ≡ fin.len self.now.omap }
         ensures within { result ≤ KEY_LIMIT }
@@ -173,7 +174,7 @@ impl Object {
         }
     }
 
-    /// Whether two have the same data, xattrs and keys. It takes no memory.
+    /// True if two have the same data, xattrs and keys. It takes no memory.
     pub fn is_same(&self, other: &Object) -> bool
         ensures { IsTrue result ↔ (self.now ≡ other.now) }
     {
@@ -183,7 +184,7 @@ impl Object {
         }
     }
 
-    /// Whether it has no data, xattrs and keys.
+    /// True if it has no data, xattrs and keys.
     fn is_nothing(&self) -> bool
         ensures { IsTrue result ↔ (nothing ≡ self.now) }
     {
@@ -213,7 +214,7 @@ impl Object {
     }
 }
 
-/// Whether an object has what is held here.
+/// True if an object has this content.
 fn held_is(held: &Held, object: &Object) -> bool
     ensures { IsTrue result ↔ (held.now ≡ object.now) }
 {

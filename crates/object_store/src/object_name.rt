@@ -10,6 +10,8 @@ pub struct ObjectName {
     text: String,
 }
 
+// Written out, so that a crate that drops a name calls this and needn't prove again how text is
+// dropped.
 impl Drop for ObjectName {
     fn drop(self) {
         let ObjectName { text } = self;

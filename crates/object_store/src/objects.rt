@@ -16,7 +16,7 @@ use std::alloc::Global;
 use std::marker::Model;
 
 /// Objects by name. A copy shares all of them and costs one pointer. Contracts see the finite map
-/// from names to what the objects hold.
+/// from names to the contents of the objects.
 #[derive(Drop)]
 pub struct Objects {
     by_name: SharedMap<Object>,
@@ -45,7 +45,7 @@ impl Objects {
         }
     }
 
-    /// How many objects there are.
+    /// The number of objects.
     pub fn len(&self) -> usize
         ensures { result ≡ fin.len self.now }
     {
@@ -67,7 +67,7 @@ impl Objects {
         self.by_name.nth(n)
     }
 
-    /// Whether two have the same objects under the same names. It takes no memory.
+    /// True if two have the same objects under the same names. It takes no memory.
     pub fn is_same(&self, other: &Objects) -> bool
         ensures { IsTrue result ↔ (self.now ≡ other.now) }
     {
@@ -99,7 +99,8 @@ impl Objects {
         Ok(self.by_name.set(alloc, name.text().as_bytes(), object)?)
     }
 
-    /// Makes the object of that name the one that a change made of it.
+    /// Makes the object of that name the one that a change made of it. If the change was refused,
+    /// so is this, and nothing has changed.
     fn put_changed(
         &mut self,
         alloc: Global,
@@ -139,15 +140,15 @@ impl Objects {
         }
     }
 
-    /// How many bytes of data an object has. Refused: 1 Absent.
+    /// The length of an object's data in bytes. Refused: 1 Absent.
     pub fn stat(&self, name: &ObjectName) -> Result<usize, StoreError>
         ensures { result ≡ spec.stat (fin.get self.now name.now) }
     {
         calls::stat(self.get(name))
     }
 
-    /// Copies the bytes of an object from a place on into a buffer, as many as there are and as
-    /// fit, and answers how many. Refused: 1 Absent; the buffer is then as it was.
+    /// Copies the bytes of an object from a place on into a buffer, until the data or the buffer
+    /// ends, and returns their number. Refused: 1 Absent; the buffer is then as it was.
     pub fn read(&self, name: &ObjectName, at: u64, out: &mut [u8]) -> Result<usize, StoreError>
         ensures count { result ≡ spec.count (spec.read (fin.get self.now name.now) at (length out.old)) }
         ensures bytes { out.new ≡ spec.filled (spec.read (fin.get self.now name.now) at (length out.old)) out.old }
@@ -189,6 +190,8 @@ impl Objects {
         ensures answer { Gives (λ _. self.new) result (after self.old name.now (spec.write (fin.get self.old name.now) at text.now)) }
         ensures err { OnErr result (self.new ≡ self.old) }
     {
+        // The change is made first: it only reads these objects, so that borrow ends before the
+        // put.
         let changed = calls::write(alloc, self.get(name), at, text);
         self.put_changed(alloc, name, changed)
     }
@@ -286,6 +289,7 @@ impl Objects {
         ensures answer { Gives (λ _. self.new) result (after_removal self.old name.now (spec.remove (fin.get self.old name.now))) }
         ensures err { OnErr result (self.new ≡ self.old) }
     {
+        // An absent object is refused here: `take_away` would take it for done.
         calls::remove(self.get(name))?;
         self.take_away(alloc, name)
     }

@@ -26,7 +26,7 @@ pub enum StoreError {
 }
 
 impl StoreError {
-    /// Of the table of refusals: number and name.
+    /// The row of the table of refusals: number and name.
     fn row(self) -> (u8, &'static str)
         ensures number { result.0 ≡ store_error_number self }
         ensures name { result.1.now ≡ store_error_name self }

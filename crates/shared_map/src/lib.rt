@@ -1,7 +1,7 @@
-//! An ordered map from bytes to values whose copies share what they have in common: a copy costs
-//! one pointer, and setting or removing a key the path to it, with every older copy unchanged.
-//! `SharedMap` is seen by contracts as the finite map: `get`, `key_above`, `nth`, `set`, `remove`,
-//! `len`, `copy` and `is_same` are exact over it, and after an error it is as it was.
+//! An ordered map from bytes to values that is copied on write: a copy costs one pointer, and
+//! setting or removing a key makes the path to it anew and leaves every older copy as it is.
+//! Contracts see `SharedMap` as the finite map: `get`, `key_above`, `nth`, `set`, `remove`, `len`,
+//! `copy` and `is_same` are exact over it, and after an error it is as it was.
 #![tactic(auto)]
 
 mod same;

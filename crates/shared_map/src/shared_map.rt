@@ -9,8 +9,8 @@ use std::alloc::{AllocError, Global};
 use std::cmp::Ordering;
 use std::marker::Model;
 
-/// A map from bytes to values, in the order of the bytes. Its copies share what they have in
-/// common. Contracts see the finite map.
+/// A map from bytes to values, in the order of the bytes. It is copied on write. Contracts see the
+/// finite map.
 pub struct SharedMap<V> {
     tree: Tree<V>,
 }
@@ -47,7 +47,7 @@ impl<V: Drop> SharedMap<V> {
         SharedMap { tree: Tree::new() }
     }
 
-    /// How many keys it has.
+    /// The number of keys.
     pub fn len(&self) -> usize
         ensures { result ≡ fin.len self.now }
     {
@@ -85,6 +85,7 @@ impl<V: Drop> SharedMap<V> {
         ensures ok { OnOk result (self.new ≡ fin.remove self.old key.now) }
         ensures err { OnErr result (self.new ≡ self.old) }
     {
+        // Without this look an absent key would cost a new path, though nothing changes.
         if self.tree.get(key).is_none() {
             return Ok(());
         }
@@ -112,18 +113,19 @@ impl<V: Drop> SharedMap<V> {
         }
     }
 
-    /// How many nodes stand on the longest way down, 255 if it is more: what a call costs at most.
-    /// No clause speaks of it; tests hold it low.
+    /// The number of nodes on the longest path from the root, 255 if it is more: the most nodes
+    /// that a lookup visits. No clause speaks of it; tests hold it low.
     pub fn height(&self) -> u8 {
         self.tree.height()
     }
 }
 
 impl<V: Drop + Same> SharedMap<V> {
-    /// Whether two maps have the same keys with the same values. It takes no memory.
+    /// True if two maps have the same keys with the same values. It takes no memory.
     pub fn is_same(&self, other: &SharedMap<V>) -> bool
         ensures { IsTrue result ↔ (self.now ≡ other.now) }
     {
+        // The loop goes over the keys of the first map alone: a longer second one is told here.
         if self.len() != other.len() {
             return false;
         }
@@ -136,7 +138,7 @@ impl<V: Drop + Same> SharedMap<V> {
     }
 }
 
-/// Whether two entries are equal, or neither is there.
+/// True if two entries are equal, or neither is there.
 fn same_entry<V: Drop + Same>(one: Option<(&[u8], &V)>, other: Option<(&[u8], &V)>) -> bool
     ensures { IsTrue result ↔ (entry_behind one.entry ≡ entry_behind other.entry) }
 {

@@ -70,7 +70,7 @@ impl<V: Drop> Tree<V> {
         Tree { root: Link::Leaf }
     }
 
-    /// How many branches stand on the longest way down: 255 if it is more.
+    /// The number of branches on the longest path from the root: 255 if it is more.
     pub(crate) fn height(&self) -> u8
         ensures { result ≡ byte_of self.now.height }
     {
@@ -80,7 +80,7 @@ impl<V: Drop> Tree<V> {
         }
     }
 
-    /// How many entries it has.
+    /// The number of entries.
     pub(crate) fn len(&self) -> usize
         ensures { result ≡ length self.now.entries }
     {
@@ -161,7 +161,7 @@ impl<V: Drop> Tree<V> {
         }
     }
 
-    /// The tree with a value at a key, of which it keeps a copy.
+    /// The tree with a value at a key. It keeps a copy of the key.
     pub(crate) fn set_at(&self, alloc: Global, key: &[u8], value: V) -> Result<Tree<V>, AllocError>
         ensures { IfOk result (λ t. t.entries ≡ put (slice_cmp nat_cmp) key.now value self.now.entries) }
     {
@@ -180,6 +180,7 @@ impl<V: Drop> Tree<V> {
                 let entry: &Entry<V> = &b.entry;
                 match new.key.as_slice().cmp(entry.key.as_slice()) {
                     Ordering::Less => with_left(alloc, b.left.set(alloc, new)?, b),
+                    // The sides keep their heights, so there is nothing to balance.
                     Ordering::Equal => joined(alloc, b.left.copy()?, new, b.right.copy()?),
                     Ordering::Greater => with_right(alloc, b, b.right.set(alloc, new)?),
                 }
@@ -232,6 +233,7 @@ fn joined<V: Drop>(
     requires { IsTrue (sorted (left.entries ++ pair (arc_value entry) ∷ right.entries)) }
     ensures { IfOk result (λ t. t.entries ≡ left.entries ++ pair (arc_value entry) ∷ right.entries) }
 {
+    // It saturates at 255, as the definition does: no clause bounds the height of a tree.
     let height = left.height().max(right.height()).saturating_add(1);
     let size = size_over(left.len(), right.len())?;
     let branch = Arc::new(
@@ -249,10 +251,11 @@ fn joined<V: Drop>(
     })
 }
 
-/// How many entries a branch has, by those of its sides.
+/// The number of entries of a branch, by those of its sides.
 fn size_over(left: usize, right: usize) -> Result<usize, AllocError>
     ensures { IfOk result (λ n. n ≡ left + right + 1) }
 {
+    // An overflow is refused as memory is, the one refusal that these calls have.
     match left.checked_add(right) {
         Some(sum) if sum < usize::MAX => Ok(sum + 1),
         _ => Err(AllocError),
@@ -286,7 +289,7 @@ fn without_entry<V: Drop>(alloc: Global, b: &Branch<V>) -> Result<Tree<V>, Alloc
     }
 }
 
-/// The tree of a branch, turned if one side is two higher than the other.
+/// The tree of a branch, rotated if one side is at least two higher than the other.
 fn balanced<V: Drop>(
     alloc: Global,
     left: Tree<V>,
@@ -306,7 +309,7 @@ fn balanced<V: Drop>(
     }
 }
 
-/// What `balanced` makes if the left side is two higher.
+/// The tree that `balanced` makes if the left side is at least two higher.
 fn lean_left<V: Drop>(
     alloc: Global,
     left: &Tree<V>,
@@ -317,9 +320,13 @@ fn lean_left<V: Drop>(
     ensures { IfOk result (λ t. t.entries ≡ left.now.entries ++ pair (arc_value entry) ∷ right.entries) }
 {
     match &left.root {
+        // No leaf is higher than another tree; the contract doesn't speak of heights, so the case
+        // stays.
         Link::Leaf => joined(alloc, Tree::new(), entry, right),
         Link::Fork(fork) => {
             let outer: &Branch<V> = fork;
+            // If the inner side is the higher one, a single rotation would leave the tree as
+            // uneven.
             if outer.left.height() < outer.right.height()
                 && let Link::Fork(inner) = &outer.right.root
             {
@@ -330,7 +337,7 @@ fn lean_left<V: Drop>(
     }
 }
 
-/// The left branch comes up.
+/// A single rotation: the left branch becomes the root.
 fn once_left<V: Drop>(
     alloc: Global,
     outer: &Branch<V>,
@@ -349,7 +356,7 @@ fn once_left<V: Drop>(
     )
 }
 
-/// The right branch of the left one comes up.
+/// A double rotation: the right branch of the left one becomes the root.
 fn twice_left<V: Drop>(
     alloc: Global,
     outer: &Branch<V>,
@@ -370,7 +377,7 @@ fn twice_left<V: Drop>(
     joined(alloc, low, Arc::try_clone(&inner.entry)?, high)
 }
 
-/// What `balanced` makes if the right side is two higher.
+/// The tree that `balanced` makes if the right side is at least two higher.
 fn lean_right<V: Drop>(
     alloc: Global,
     left: Tree<V>,
@@ -381,9 +388,12 @@ fn lean_right<V: Drop>(
     ensures { IfOk result (λ t. t.entries ≡ left.entries ++ pair (arc_value entry) ∷ right.now.entries) }
 {
     match &right.root {
+        // As in `lean_left`: no leaf is higher than another tree.
         Link::Leaf => joined(alloc, left, entry, Tree::new()),
         Link::Fork(fork) => {
             let outer: &Branch<V> = fork;
+            // If the inner side is the higher one, a single rotation would leave the tree as
+            // uneven.
             if outer.right.height() < outer.left.height()
                 && let Link::Fork(inner) = &outer.left.root
             {
@@ -394,7 +404,7 @@ fn lean_right<V: Drop>(
     }
 }
 
-/// The right branch comes up.
+/// A single rotation: the right branch becomes the root.
 fn once_right<V: Drop>(
     alloc: Global,
     left: Tree<V>,
@@ -413,7 +423,7 @@ fn once_right<V: Drop>(
     )
 }
 
-/// The left branch of the right one comes up.
+/// A double rotation: the left branch of the right one becomes the root.
 fn twice_right<V: Drop>(
     alloc: Global,
     left: Tree<V>,

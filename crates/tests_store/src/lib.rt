@@ -1,4 +1,4 @@
-//! Tests alone, of the crates that keep objects: maps, objects by name, what a call does to its
+//! Tests alone, of the crates that keep objects: maps, objects by name, the effect of a call on its
 //! object, and the helpers.
 #![tactic(auto)]
 

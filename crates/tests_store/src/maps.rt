@@ -25,17 +25,17 @@ fn few<R: Abort>(rt: &R, alloc: Global) -> SharedMap<u8> {
     map
 }
 
-/// Whether the key `ab` has that value, and the map that many keys.
+/// True if the key `ab` has that value, and the map that many keys.
 fn is(map: &SharedMap<u8>, value: Option<u8>, len: usize) -> bool {
     map.get(b"ab").copied() == value && map.len() == len
 }
 
-/// Whether some bytes are read so.
+/// True if the lookups of some bytes give that value and that next key.
 fn is_read(map: &SharedMap<u8>, key: &[u8], value: Option<u8>, above: Option<&[u8]>) -> bool {
     map.get(key).copied() == value && map.key_above(key) == above
 }
 
-/// How many rows come before the first that is read otherwise.
+/// The number of rows before the first that is read otherwise.
 fn right_reads(map: &SharedMap<u8>) -> usize {
     let mut count = 0usize;
     for (key, value, above) in &READS {
@@ -59,7 +59,7 @@ fn reads(rt: HostRuntime) {
 /// The entries in the order of their keys.
 static IN_ORDER: [(&[u8], u8); 5] = [(b"", 3), (b"a", 4), (b"ab", 1), (b"abc", 5), (b"b", 2)];
 
-/// How many rows come before the first that stands otherwise in the map.
+/// The number of rows before the first that the map has otherwise.
 fn right_places(map: &SharedMap<u8>) -> usize {
     let mut count = 0usize;
     for (key, value) in &IN_ORDER {
@@ -71,7 +71,7 @@ fn right_places(map: &SharedMap<u8>) -> usize {
     count
 }
 
-/// Whether that key with that value stands at a place.
+/// True if that key with that value is at a place.
 fn is_at(map: &SharedMap<u8>, place: usize, key: &[u8], value: u8) -> bool {
     match map.nth(place) {
         None => false,
@@ -97,7 +97,7 @@ fn an_old_key_gets_a_new_value(rt: HostRuntime) {
     assert!(rt; right);
 }
 
-/// Whether a copy stays as it is where a key is removed.
+/// Removes a key. True if a copy made before stays as it was.
 fn copy_stays<R: Abort>(rt: &R, alloc: Global, map: &mut SharedMap<u8>) -> bool {
     let copy = map.copy().expect(rt, "memory");
     map.remove(alloc, b"ab").expect(rt, "memory");
@@ -116,7 +116,7 @@ fn a_copy_stays_as_it_is(rt: HostRuntime) {
     assert!(rt; stays);
 }
 
-/// How many keys the high maps have.
+/// The number of keys of the high maps.
 const MANY: u16 = 1024;
 
 /// The most nodes on a way down that a map of that many keys may have.
@@ -136,7 +136,7 @@ fn many<R: Abort>(rt: &R, alloc: Global, mask: u16) -> SharedMap<u16> {
 /// most 1,023.
 const LEAST: u8 = 11;
 
-/// Whether a map has all numbers, that key the last one set, and the tree is low.
+/// True if a map has all numbers, that key the last one set, and the tree is low.
 fn is_low(map: &SharedMap<u16>, key: [u8; 2]) -> bool {
     map.height() <= LOW
         && map.height() >= LEAST
@@ -157,7 +157,7 @@ fn maps_stay_low(rt: HostRuntime) {
     }
 }
 
-/// Removes all numbers but the last eight. Whether the tree is low then.
+/// Removes all numbers but the last eight. True if the tree is low then.
 fn is_low_when_cut<R: Abort>(rt: &R, alloc: Global, map: &mut SharedMap<u16>) -> bool {
     for n in 0..MANY - 8 {
         map.remove(alloc, &n.to_be_bytes()).expect(rt, "memory");

@@ -24,12 +24,12 @@ fn name<R: Abort>(rt: &R, alloc: Global, text: &str) -> ObjectName {
     ObjectName::new(alloc, text).expect(rt, "a name")
 }
 
-/// Whether there are no objects, and none of the first name.
+/// True if there are no objects, and none of the first name.
 pub fn is_empty(pair: &Pair) -> bool {
     pair.objects.get(&pair.one).is_none() && pair.objects.len() == 0
 }
 
-/// Whether a value is there, and is this one.
+/// True if a value is there, and is this one.
 pub fn is(found: Option<&[u8]>, value: &[u8]) -> bool {
     match found {
         None => false,
@@ -37,7 +37,7 @@ pub fn is(found: Option<&[u8]>, value: &[u8]) -> bool {
     }
 }
 
-/// Whether an object is there, and its data so long.
+/// True if an object is there, and its data has `len` bytes.
 pub fn is_long(object: Option<&Object>, len: usize) -> bool {
     match object {
         None => false,

@@ -7,7 +7,7 @@ use std::alloc::Global;
 use std::process::Abort;
 use txn::{Change, Staged, apply, undo};
 
-/// Whether the data from a place on begins so.
+/// True if the data from a place on begins with these bytes.
 fn reads(object: Option<&Object>, at: u64, want: [u8; 4]) -> bool {
     let mut four = [0xee; 4];
     match object {
@@ -31,7 +31,7 @@ fn made<R: Abort>(rt: &R, alloc: Global, full: bool) -> Change {
     staged.finish().expect(rt, "memory")
 }
 
-/// Whether an object was made that has zeros before its bytes.
+/// True if an object was made that has zeros before its bytes.
 fn has_gap(change: &Change) -> bool {
     let object = change.after();
     let made = change.before().is_none() && is_long(object, 4_098);
@@ -46,7 +46,7 @@ fn a_gap_is_zero(rt: HostRuntime) {
     assert!(rt; gap);
 }
 
-// What a cut took away is not seen again, and the object that was staged has it still.
+// Cut bytes are not seen again, and the object that was staged has them still.
 fn reads_zeros<R: Abort>(rt: &R, alloc: Global, object: Option<&Object>) -> bool {
     let mut staged = Staged::over(object);
     staged.truncate(alloc, 4_095).expect(rt, "memory");
@@ -56,7 +56,7 @@ fn reads_zeros<R: Abort>(rt: &R, alloc: Global, object: Option<&Object>) -> bool
     right
 }
 
-/// Whether a cut is forgotten, and the object of the change stays.
+/// True if a cut is forgotten, and the object of the change stays.
 fn forgets<R: Abort>(rt: &R, alloc: Global, change: &Change) -> bool {
     let object = change.after();
     reads_zeros(rt, alloc, object) && reads(object, 4_094, *b"abcd")
@@ -71,7 +71,7 @@ fn a_cut_is_forgotten(rt: HostRuntime) {
     assert!(rt; forgotten);
 }
 
-/// What a call does to its object.
+/// A step: the effect of a call on its object.
 #[derive(Clone, Copy)]
 enum Step {
     Write,
@@ -98,7 +98,7 @@ static STEPS: [Step; 8] = [
     Step::Renew,
 ];
 
-/// Does a step. Where it is refused the object stays.
+/// Does a step. If it is refused the object stays.
 fn take(alloc: Global, staged: &mut Staged, step: Step) -> Result<(), StoreError>
     ensures { staged.new.before ≡ staged.old.before }
 {
@@ -132,13 +132,14 @@ fn step_on<R: Abort>(
     step: Step,
 ) -> Change {
     let mut staged = Staged::over(objects.get(name));
+    // A refused step leaves the object as it is: a test sees that it didn't change.
     let _ = take(alloc, &mut staged, step);
     let change = staged.finish().expect(rt, "memory");
     apply(alloc, objects, name, &change).expect(rt, "memory");
     change
 }
 
-/// Whether an object has these data, this value of the xattr `n` and of the key `k`.
+/// True if an object has these data, this value of the xattr `n` and of the key `k`.
 fn holds(object: Option<&Object>, data: [u8; 4], value: &[u8]) -> bool {
     let sized = is_long(object, 4) && reads(object, 0, data);
     match object {
@@ -147,16 +148,17 @@ fn holds(object: Option<&Object>, data: [u8; 4], value: &[u8]) -> bool {
     }
 }
 
-/// Stages data, an xattr and a key. What is refused is missing in the object.
+/// Stages data, an xattr and a key. A part that is refused is missing in the object.
 fn stage(alloc: Global, staged: &mut Staged, data: &[u8], value: &[u8]) -> Result<(), StoreError>
     ensures { staged.new.before ≡ staged.old.before }
 {
+    // A refusal is seen by the tests, which look for each part.
     let _ = staged.write(alloc, 0, data);
     let _ = staged.set_xattr(alloc, b"n", value);
     staged.set_key(alloc, b"k", value)
 }
 
-/// Two objects, of which the first one is changed.
+/// Two objects, made one after the other; the tests change the first.
 fn two_objects<R: Abort>(rt: &R, alloc: Global) -> Pair {
     let mut pair = two_names(rt, alloc);
     let one = step_on(rt, alloc, &mut pair.objects, &pair.one, Step::MakeOne);
@@ -166,14 +168,14 @@ fn two_objects<R: Abort>(rt: &R, alloc: Global) -> Pair {
     pair
 }
 
-/// Whether both objects are as they were made.
+/// True if both objects are as they were made.
 fn is_as_made(pair: &Pair) -> bool {
     holds(pair.objects.get(&pair.one), *b"abcd", b"value")
         && holds(pair.objects.get(&pair.other), *b"efgh", b"other")
         && pair.objects.len() == 2
 }
 
-/// Whether a step changes the first object, and undoing it restores both.
+/// True if a step changes the first object, and undoing it restores both.
 fn undoes<R: Abort>(rt: &R, alloc: Global, pair: &mut Pair, step: Step) -> bool {
     let change = step_on(rt, alloc, &mut pair.objects, &pair.one, step);
     let changed = !is_as_made(pair);
@@ -183,7 +185,7 @@ fn undoes<R: Abort>(rt: &R, alloc: Global, pair: &mut Pair, step: Step) -> bool 
     changed && is_as_made(pair)
 }
 
-/// How many steps come before the first that isn't undone.
+/// The number of steps before the first that isn't undone.
 fn undone<R: Abort>(rt: &R, alloc: Global, pair: &mut Pair) -> usize {
     let mut count = 0usize;
     for step in &STEPS {
@@ -212,7 +214,7 @@ fn creation<R: Abort>(rt: &R, alloc: Global, objects: &mut Objects, name: &Objec
     copy.expect(rt, "memory")
 }
 
-/// Creates the first object and undoes a copy of that change. Whether the object was there in
+/// Creates the first object and undoes a copy of that change. True if the object was there in
 /// between.
 fn undoes_creation<R: Abort>(rt: &R, alloc: Global, pair: &mut Pair) -> bool {
     let change = creation(rt, alloc, &mut pair.objects, &pair.one);
@@ -223,7 +225,7 @@ fn undoes_creation<R: Abort>(rt: &R, alloc: Global, pair: &mut Pair) -> bool {
     created
 }
 
-/// Whether the undone creation leaves nothing.
+/// True if the undone creation leaves nothing.
 fn leaves_nothing<R: Abort>(rt: &R, alloc: Global) -> bool {
     let mut pair = two_names(rt, alloc);
     let nothing = undoes_creation(rt, alloc, &mut pair) && is_empty(&pair);
@@ -245,7 +247,7 @@ fn set_both(alloc: Global, staged: &mut Staged, n: u16, value: &[u8]) -> Result<
     staged.set_key(alloc, &name, value)
 }
 
-/// Sets keys and xattrs, as many as an object may have, with the longest names and values, and
+/// Sets the most keys and xattrs that an object may have, with the longest names and values, and
 /// writes the last byte.
 fn fill(alloc: Global, staged: &mut Staged) -> Result<(), StoreError> {
     for n in 0..KEY_LIMIT as u16 {

@@ -1,4 +1,4 @@
-//! Words of a line: `-` is nothing, `@64` a name of 64 bytes, the most that there are, and `@65`
+//! Words of a line: `-` is nothing, `@64` a name of 64 bytes, the most that a name has, and `@65`
 //! one of a byte more.
 
 use std::str::SplitWhitespace;
@@ -7,7 +7,7 @@ const LONGEST: &str = "0123456789abcdef0123456789abcdef0123456789abcdef012345678
 
 const TOO_LONG: &str = "0123456789abcdef0123456789abcdef0123456789abcdef0123456789abcdefg";
 
-/// What a line calls, on objects or as a helper. A key is one of the omap.
+/// The call of a line, on objects or as a helper. A key is one of the omap.
 #[derive(Clone, Copy)]
 pub enum Call {
     Unknown,
@@ -57,7 +57,7 @@ pub fn call_of(word: &str) -> Call {
     Call::Unknown
 }
 
-/// A line's words: a call, what it is given first and second, its answer, and what it copies.
+/// A line's words: a call, its first and second argument, its answer, and the bytes that it copies.
 #[derive(Clone, Copy)]
 pub struct Line<'a> {
     pub call: Call,

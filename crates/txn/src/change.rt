@@ -8,15 +8,16 @@ use object_store::{Object, ObjectName, Objects};
 use std::alloc::Global;
 use std::marker::Model;
 
-/// The object after a call: the one before it, or what a call made.
+/// The object after a call: the one before it, or the one that a call made.
 #[derive(Drop)]
 enum After {
     Same,
     Made(Option<Object>),
 }
 
-/// What a call did: the object before and after, none if it is absent. One that a call made shares
-/// what the call didn't touch; one that no call changed is held once. Contracts see both.
+/// The effect of a call: the object before and after, none if it is absent. One that a call made
+/// shares the parts that the call didn't touch; one that no call changed is held once. Contracts
+/// see both.
 #[derive(Drop)]
 pub struct Change {
     before: Option<Object>,
@@ -109,6 +110,7 @@ fn shared(object: Option<&Object>) -> Result<Option<Object>, NoMemory>
         None => Ok(None),
         Some(object) => match object.copy() {
             Ok(object) => Ok(Some(object)),
+            // The only refusal of this call is NoMemory.
             Err(_) => Err(NoMemory),
         },
     }
@@ -127,12 +129,14 @@ fn put(
 {
     match objects.store(alloc, name, object) {
         Ok(()) => Ok(()),
+        // The only refusal of this call is NoMemory.
         Err(_) => Err(NoMemory),
     }
 }
 
-/// Does a change to the object of a name, which is as it was before the change: the object is then
-/// as it is after it. It costs a put into the objects, and nothing if no call changed the object.
+/// Applies a change to the object of a name, which is as it was before the change: the object is
+/// then as it is after it. It costs a put into the objects, and nothing if no call changed the
+/// object.
 pub fn apply(
     alloc: Global,
     objects: &mut Objects,
@@ -160,9 +164,10 @@ pub fn undo(
 ) -> Result<(), NoMemory>
     ensures ok { OnOk result (objects.new ≡ stored objects.old name.now change.now.before) }
     ensures stands { OnOk result (fin.get objects.new name.now ≡ change.now.before) }
-    // the objects as they were, of which `apply` made these
+    // `was`: the objects before `apply`, which made the present ones of them.
     ensures restored { OnOk result ((was : PlainObjects) → fin.get was name.now ≡ change.now.before → objects.old ≡ stored was name.now change.now.after → objects.new ≡ was) }
     ensures err { OnErr result (objects.new ≡ objects.old) }
 {
+    // The change shares the object before it, so undoing copies no object.
     put(alloc, objects, name, change.before())
 }

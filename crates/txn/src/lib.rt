@@ -1,7 +1,7 @@
 //! Changes of one object that a call stages. Reads of a staged object are reads of the object as
 //! `finish` and `apply` leave it. A change is the object before and after, which share all that the
-//! call didn't touch: so staging, finishing, applying and undoing cost what was touched and never
-//! the object's size. `undo` restores all objects as they were before `apply`.
+//! call didn't touch: so the cost of staging, finishing, applying and undoing is that of the parts
+//! touched, never of the whole object. `undo` restores all objects as they were before `apply`.
 #![tactic(auto)]
 
 mod change;

@@ -18,10 +18,10 @@ enum Newest {
     Written(Option<Object>),
 }
 
-/// An object as a call has it so far. Contracts see it as the call found it and as it is now. Reads
-/// are reads of `object`, the newest version. Until the first write it holds a reference and copies
-/// nothing; a write costs what it touches. A write is the one of `object_store::calls` of the same
-/// name: if that refuses it, all stays as it was.
+/// An object that a call stages changes of. Contracts see it as the call found it and as it is now.
+/// Reads are reads of `object`, the newest version. Until the first write it holds a reference and
+/// copies nothing; a write costs the parts that it touches. Each write does as the function of the
+/// same name in `object_store::calls`: if that refuses it, all stays as it was.
 #[derive(Drop)]
 pub struct Staged<'a> {
     base: Option<&'a Object>,
@@ -63,8 +63,8 @@ impl<'a> Staged<'a> {
         }
     }
 
-    /// Writes bytes into the data at a place. An absent object comes to be, zeros fill a gap, and
-    /// no bytes leave the data as it is. Refused: 4 TooBig, 7 NoMemory.
+    /// Writes bytes into the data at a place. An absent object is created, zeros fill a gap, and no
+    /// bytes leave the data as it is. Refused: 4 TooBig, 7 NoMemory.
     pub fn write(&mut self, alloc: Global, at: u64, text: &[u8]) -> Result<(), StoreError>
         ensures before { self.new.before ≡ self.old.before }
         ensures answer { Gives (λ _. self.new.after) result (made (spec.write self.old.after at text.now)) }
@@ -85,7 +85,7 @@ impl<'a> Staged<'a> {
         self.renew(object)
     }
 
-    /// Sets an xattr. An absent object comes to be. Refused: 6 Range, 4 TooBig, 5 TooMany, 7
+    /// Sets an xattr. An absent object is created. Refused: 6 Range, 4 TooBig, 5 TooMany, 7
     /// NoMemory.
     pub fn set_xattr(&mut self, alloc: Global, name: &[u8], value: &[u8]) -> Result<(), StoreError>
         ensures before { self.new.before ≡ self.old.before }
@@ -106,7 +106,7 @@ impl<'a> Staged<'a> {
         self.renew(object)
     }
 
-    /// Sets the value of a key of the omap. An absent object comes to be. Refused: 6 Range, 4
+    /// Sets the value of a key of the omap. An absent object is created. Refused: 6 Range, 4
     /// TooBig, 5 TooMany, 7 NoMemory.
     pub fn set_key(&mut self, alloc: Global, key: &[u8], value: &[u8]) -> Result<(), StoreError>
         ensures before { self.new.before ≡ self.old.before }
@@ -144,6 +144,7 @@ impl<'a> Staged<'a> {
         ensures before { self.new.before ≡ self.old.before }
         ensures after { self.new.after ≡ Some (content_of self.old.after) }
     {
+        // An object that is there, given or written, is kept with its content.
         if self.object().is_none() {
             self.newest = Newest::Written(Some(Object::new()));
         }

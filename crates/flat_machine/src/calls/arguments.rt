@@ -13,7 +13,7 @@ use bpf_decode::Region;
 use helpers::Argument;
 use object_store::part;
 
-/// A range that a helper takes: its place, none where its length is 0, and its length.
+/// A range that a helper takes: its place, none if its length is 0, and its length.
 // The length is a number of 64 bits, as registers are: none is cut before it is refused.
 #[derive(Clone, Copy)]
 pub struct Range {
@@ -32,8 +32,8 @@ pub fn text_in(memory: &Regions, text: Range) -> &[u8]
     }
 }
 
-/// The range of which two registers have the address and the length; `writes` where it is to be
-/// written.
+/// The range whose address and length are in two registers, from this one on; `writes` if it is to
+/// be written.
 fn range_at(s: &FlatState, writes: bool, register: u8) -> Option<Range>
     requires { register < 255 }
     ensures taken { option_map (λ r. (r.place, r.len)) result ≡ range_at (caps_in s.now) (layout_in s.now) (flat_state s.now) writes register }
@@ -45,7 +45,7 @@ fn range_at(s: &FlatState, writes: bool, register: u8) -> Option<Range>
     Some(Range { place, len })
 }
 
-/// What `read` takes: a place in the object, and a range for its bytes.
+/// The arguments of `read`: a place in the object, and a range for its bytes.
 pub fn number_and_room(s: &FlatState) -> Option<(u64, Range)>
     ensures given { option_map (λ r. with_number r.0 (with_room r.1.len r.1.place (nothing_given s.now.caller))) result ≡ arguments (caps_in s.now) (layout_in s.now) (flat_state s.now) (Argument.Number ∷ Argument.Writable ∷ []) 1 }
     ensures inside { IfSome result (λ r. IfSome r.1.place (λ p. p.1 + r.1.len ≤ size (caps_in s.now) p.0)) }
@@ -55,7 +55,7 @@ pub fn number_and_room(s: &FlatState) -> Option<(u64, Range)>
     Some((n, room))
 }
 
-/// What `write` takes: a place in the object, and the range of the bytes.
+/// The arguments of `write`: a place in the object, and the range of the bytes.
 pub fn number_and_text(s: &FlatState) -> Option<(u64, Range)>
     ensures { option_map (λ r. with_number r.0 (with_text (bytes_in (flat_state s.now).memory r.1.place r.1.len) (nothing_given s.now.caller))) result ≡ arguments (caps_in s.now) (layout_in s.now) (flat_state s.now) (Argument.Number ∷ Argument.Readable ∷ []) 1 }
 {
@@ -64,14 +64,15 @@ pub fn number_and_text(s: &FlatState) -> Option<(u64, Range)>
     Some((n, text))
 }
 
-/// What `rmxattr` and `map_rm` take: the range of a name.
+/// The argument of `rmxattr` and `map_rm`: the range of a name.
 pub fn one_text(s: &FlatState) -> Option<Range>
     ensures { option_map (λ r. with_text (bytes_in (flat_state s.now).memory r.place r.len) (nothing_given s.now.caller)) result ≡ arguments (caps_in s.now) (layout_in s.now) (flat_state s.now) (Argument.Readable ∷ []) 1 }
 {
     range_at(s, false, 1)
 }
 
-/// What `getxattr`, `map_get` and `map_next` take: the range of a name, and one for what is found.
+/// The arguments of `getxattr`, `map_get` and `map_next`: the range of a name, and one for the
+/// bytes found.
 pub fn text_and_room(s: &FlatState) -> Option<(Range, Range)>
     ensures given { option_map (λ r. with_text (bytes_in (flat_state s.now).memory r.0.place r.0.len) (with_room r.1.len r.1.place (nothing_given s.now.caller))) result ≡ arguments (caps_in s.now) (layout_in s.now) (flat_state s.now) (Argument.Readable ∷ Argument.Writable ∷ []) 1 }
     ensures inside { IfSome result (λ r. IfSome r.1.place (λ p. p.1 + r.1.len ≤ size (caps_in s.now) p.0)) }
@@ -81,7 +82,7 @@ pub fn text_and_room(s: &FlatState) -> Option<(Range, Range)>
     Some((text, room))
 }
 
-/// What `setxattr` and `map_set` take: the ranges of a name and of its value.
+/// The arguments of `setxattr` and `map_set`: the ranges of a name and of its value.
 pub fn two_texts(s: &FlatState) -> Option<(Range, Range)>
     ensures { option_map (λ r. with_text (bytes_in (flat_state s.now).memory r.0.place r.0.len) (with_text (bytes_in (flat_state s.now).memory r.1.place r.1.len) (nothing_given s.now.caller))) result ≡ arguments (caps_in s.now) (layout_in s.now) (flat_state s.now) (Argument.Readable ∷ Argument.Readable ∷ []) 1 }
 {

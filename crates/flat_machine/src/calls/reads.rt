@@ -11,7 +11,7 @@ use bpf_decode::Region;
 use helpers::{Helper, Span};
 use txn::Staged;
 
-/// The object's bytes from a place on, read over those at a place; and what `read` answers.
+/// The object's bytes from a place on, read over those at a place; and the answer of `read`.
 fn read_over(staged: &Staged, at: u64, bytes: &mut Vec<u8>, room: Span) -> u64
     requires inside { room.at + room.len ≤ length bytes.old.items }
     requires some { 0 < room.len }
@@ -22,7 +22,7 @@ fn read_over(staged: &Staged, at: u64, bytes: &mut Vec<u8>, room: Span) -> u64
     helpers::read(staged, at, bytes, room)
 }
 
-/// The object's bytes from a place on, read into a region at a place; and what `read` answers.
+/// The object's bytes from a place on, read into a region at a place; and the answer of `read`.
 fn read_into(memory: &mut Regions, region: Region, room: Span, staged: &Staged, at: u64) -> u64
     requires inside { room.at + room.len ≤ size memory.old.machine.caps region }
     requires some { 0 < room.len }
@@ -92,7 +92,7 @@ pub fn map_next(s: &mut FlatState) -> Option<u64>
     Some(found.number)
 }
 
-/// Helper 13, `out_len`: how much of the output region is output.
+/// Helper 13, `out_len`: sets the number of bytes of the output region that are output.
 pub fn out_len(s: &mut FlatState) -> Option<u64>
     ensures helped { Answers result (flat_state s.new) (helped (caps_in s.old) (layout_in s.old) Helper.OutLen (flat_state s.old)) }
     ensures slot { s.new.slot ≡ s.old.slot }

@@ -10,12 +10,12 @@ use object_store::VALUE_LIMIT;
 use std::alloc::Global;
 use txn::{NoMemory, Staged};
 
-/// Whether an answer is the line's.
+/// True if an answer is the line's.
 fn is_right(answer: HelperAnswer<'_>, line: Line<'_>) -> bool {
     answer.number == number(line.answer) && answer.bytes == bytes(line.copied)
 }
 
-/// Whether a call that looks something up answers as the line says; none of another call.
+/// True if a call that looks something up answers as the line says; none for another call.
 #[rattlefmt::skip]
 fn looks_up(staged: &Staged, line: Line<'_>) -> Option<bool> {
     let (name, room) = (bytes(line.first), number(line.second));
@@ -30,7 +30,8 @@ fn looks_up(staged: &Staged, line: Line<'_>) -> Option<bool> {
     Some(is_right(answer, line))
 }
 
-/// What a call that may change the object answers; 1 of another call, and if the value is too long.
+/// The answer of a call that may change the object; 1 for another call, and if the value is too
+/// long.
 fn changes(alloc: Global, staged: &mut Staged, line: Line<'_>) -> Result<u64, NoMemory> {
     let (at, name, value) = (number(line.first), bytes(line.first), bytes(line.second));
     if value.len() > VALUE_LIMIT {
@@ -49,7 +50,8 @@ fn changes(alloc: Global, staged: &mut Staged, line: Line<'_>) -> Result<u64, No
     }
 }
 
-/// Whether `read` answers and copies so, and copies no other byte. The room has at most 14 bytes.
+/// True if `read` answers and copies as the line says, and copies no other byte. The room has at
+/// most 14 bytes.
 fn reads(staged: &Staged, line: Line<'_>) -> bool {
     let (at, len, copied) = (number(line.first), number(line.second), bytes(line.copied));
     if len > 14 || copied.len() > 14 {
@@ -62,7 +64,7 @@ fn reads(staged: &Staged, line: Line<'_>) -> bool {
     answer == number(line.answer) && memory == want
 }
 
-/// Whether a change answers that number.
+/// True if a change answers that number.
 pub fn is_answer(answer: Result<u64, NoMemory>, want: u64) -> bool {
     match answer {
         Ok(answer) => answer == want,
@@ -70,7 +72,7 @@ pub fn is_answer(answer: Result<u64, NoMemory>, want: u64) -> bool {
     }
 }
 
-/// Whether a call gives the line's answer and bytes.
+/// True if a call gives the line's answer and bytes.
 fn answers(alloc: Global, staged: &mut Staged, line: Line<'_>) -> bool {
     match looks_up(staged, line) {
         Some(right) => right,
@@ -78,8 +80,8 @@ fn answers(alloc: Global, staged: &mut Staged, line: Line<'_>) -> bool {
     }
 }
 
-/// How many of the calls of these lines, made one after the other, come before the first that
-/// answers otherwise.
+/// The number of the calls of these lines, made one after the other, before the first that answers
+/// otherwise.
 pub fn right_answers(alloc: Global, staged: &mut Staged, text: &str) -> usize {
     let mut count = 0usize;
     for line in text.lines() {

@@ -2,7 +2,7 @@ use super::calls::right_answers;
 use std::alloc::Global;
 use txn::Staged;
 
-/// Beside an absent object; each leaves it absent.
+/// On an absent object; each leaves it absent.
 const ABSENT: &str = "stat - - -2
 read 0 4 -2
 write 65537 - -27
@@ -35,8 +35,8 @@ create 0 - 0
 create 1 - 0
 ";
 
-/// One after the other, beside an object that is absent at first: what was cut off is not seen
-/// again, nor what a removed object had, in a new one of the same call.
+/// One after the other, on an object that is absent at first: cut bytes are not seen again, nor the
+/// content of a removed object in a new one of the same call.
 const DATA: &str = "create 1 - 0
 create 1 - -17
 create 18446744073709551615 - -17
@@ -117,7 +117,7 @@ remove - - 0
 map_next - 9 -2
 ";
 
-/// Lines, how many answer so, and whether the object is there after them.
+/// Lines, the number of those that are right, and true if the object is there after them.
 static TEXTS: [(&str, usize, bool); 4] = [
     (ABSENT, 21, false),
     (DATA, 29, true),
@@ -125,7 +125,8 @@ static TEXTS: [(&str, usize, bool); 4] = [
     (OMAP, 23, false),
 ];
 
-/// Whether that many calls beside an absent object answer so, and whether the object is there then.
+/// True if that many calls on an absent object are right, and the object is there then as `there`
+/// says.
 fn passes(alloc: Global, text: &str, count: usize, there: bool) -> bool {
     let mut staged = Staged::over(None);
     let right = right_answers(alloc, &mut staged, text);
@@ -141,7 +142,7 @@ fn texts(rt: HostRuntime) {
     }
 }
 
-/// How many of the lines create an absent object.
+/// The number of the lines that create an absent object.
 fn creating(alloc: Global, text: &str) -> usize {
     let mut count = 0usize;
     for line in text.lines() {

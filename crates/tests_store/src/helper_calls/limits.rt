@@ -4,7 +4,7 @@ use helpers::{map_set, setxattr};
 use std::alloc::Global;
 use txn::Staged;
 
-/// Whether that many keys, or else xattrs, with values of 4,096 bytes may be set.
+/// True if that many keys, or else xattrs, with values of 4,096 bytes may be set.
 fn fills(alloc: Global, staged: &mut Staged, keys: bool, count: u16) -> bool {
     for n in 0..count {
         let name = numbered(n);
@@ -20,7 +20,8 @@ fn fills(alloc: Global, staged: &mut Staged, keys: bool, count: u16) -> bool {
     true
 }
 
-/// Beside 32 xattrs. What is refused changes no value, and one that is there may be set anew.
+/// On an object of 32 xattrs. A refused call changes no value, and an xattr that is there may be
+/// set anew.
 const FULL_XATTRS: &str =
     "setxattr kkkkkkkkkkkkkkkkkkkkkkkkkkkkkkkkkkkkkkkkkkkkkkkkkkkkkkkkkkkkkkBA v -28
 getxattr kkkkkkkkkkkkkkkkkkkkkkkkkkkkkkkkkkkkkkkkkkkkkkkkkkkkkkkkkkkkkkBA 9 -61
@@ -30,7 +31,7 @@ setxattr kkkkkkkkkkkkkkkkkkkkkkkkkkkkkkkkkkkkkkkkkkkkkkkkkkkkkkkkkkkkkkA` new 0
 getxattr kkkkkkkkkkkkkkkkkkkkkkkkkkkkkkkkkkkkkkkkkkkkkkkkkkkkkkkkkkkkkkA` 9 3 new
 ";
 
-/// Beside 1,024 keys.
+/// On an object of 1,024 keys.
 const FULL_OMAP: &str =
     "map_set kkkkkkkkkkkkkkkkkkkkkkkkkkkkkkkkkkkkkkkkkkkkkkkkkkkkkkkkkkkkkkaA v -28
 map_get kkkkkkkkkkkkkkkkkkkkkkkkkkkkkkkkkkkkkkkkkkkkkkkkkkkkkkkkkkkkkkaA 9 -61
@@ -42,13 +43,14 @@ map_set kkkkkkkkkkkkkkkkkkkkkkkkkkkkkkkkkkkkkkkkkkkkkkkkkkkkkkkkkkkkkkaA v 0
 map_next kkkkkkkkkkkkkkkkkkkkkkkkkkkkkkkkkkkkkkkkkkkkkkkkkkkkkkkkkkkkkk`` 64 64 kkkkkkkkkkkkkkkkkkkkkkkkkkkkkkkkkkkkkkkkkkkkkkkkkkkkkkkkkkkkkkaA
 ";
 
-/// Whether it is keys, how many there may be, and lines beside them, all of which answer so.
+/// True for keys; the most of them; the lines for an object with all of them; the number of lines
+/// that are right, which is all.
 static LIMITS: [(bool, u16, &str, usize); 2] = [
     (false, 32, FULL_XATTRS, 6),
     (true, 1024, FULL_OMAP, 8),
 ];
 
-/// Whether that many may be set, and that many of the lines answer so then.
+/// True if that many may be set, and that many of the lines are right then.
 fn passes(alloc: Global, keys: bool, count: u16, text: &str, right: usize) -> bool {
     let mut staged = Staged::over(None);
     let filled = fills(alloc, &mut staged, keys, count);

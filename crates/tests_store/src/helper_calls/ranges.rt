@@ -6,11 +6,12 @@ use helpers::{Span, getxattr, map_get, map_next};
 use std::str::SplitWhitespace;
 use txn::Staged;
 
-/// A line is a helper that looks up bytes and copies what it finds, twelve bytes of memory, the
-/// ranges of a name and of a value as place and length, the answer, and the memory after. The value
-/// comes to stand over its name, and a key over the one before. No bytes lie anywhere.
+/// A line is a helper that looks up bytes and copies those that it finds, twelve bytes of memory,
+/// the ranges of a name and of a value as place and length, the answer, and the memory after. The
+/// value is copied over its name, and a key over the one before. A range of no bytes may have any
+/// address.
 ///
-/// Beside the xattr `lock` and the keys `bb` and `lock`.
+/// The object has the xattr `lock` and the keys `bb` and `lock`.
 const COPIES: &str = "getxattr ..lock...... 2 4 1 9 8 .12345678...
 map_get ..lock...... 2 4 3 8 8 ..l12345678.
 getxattr ..lock...... 2 4 2 7 -34 ..lock......
@@ -33,7 +34,7 @@ fn span(words: &mut SplitWhitespace<'_>) -> Span
     }
 }
 
-/// What a helper answers.
+/// The answer of a helper.
 fn answer(staged: &Staged, helper: Call, memory: &mut [u8; 12], name: Span, value: Span) -> u64
     requires name { (name.len ≡ 0 → ⊥) → name.at + name.len ≤ 12 }
     requires value { (value.len ≡ 0 → ⊥) → value.at + value.len ≤ 12 }
@@ -46,7 +47,7 @@ fn answer(staged: &Staged, helper: Call, memory: &mut [u8; 12], name: Span, valu
     }
 }
 
-/// Whether a helper answers and copies so.
+/// True if a helper gives the line's answer and leaves the line's memory.
 fn copies(staged: &Staged, line: &str) -> bool {
     let mut words = line.split_whitespace();
     let helper = call_of(next(&mut words));
@@ -61,7 +62,7 @@ fn copies(staged: &Staged, line: &str) -> bool {
     answer == number(next(&mut words)) && memory.as_slice() == next(&mut words).as_bytes()
 }
 
-/// How many lines come out so.
+/// The number of lines that are right.
 fn right_copies(staged: &Staged, text: &str) -> usize {
     let mut count = 0usize;
     for line in text.lines() {

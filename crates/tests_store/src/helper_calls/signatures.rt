@@ -2,7 +2,7 @@ use Taken::{Nothing, One, Two, Unknown};
 use helpers::Argument::{Number, OutputLength, Readable, Writable};
 use helpers::{Argument, Helper, caller, out_len, signature};
 
-/// What a helper takes; nothing is known of an id that is none.
+/// The arguments of a helper; `Unknown` for an id that is no helper's.
 #[derive(Clone, Copy)]
 enum Taken {
     Unknown,
@@ -11,7 +11,7 @@ enum Taken {
     Two(Argument, Argument),
 }
 
-/// For each id what its helper takes, and whether it may change the object.
+/// Each id, the arguments of its helper, and true if it may change the object.
 static SIGNATURES: [(u32, Taken, bool); 18] = [
     (0, Unknown, false),
     (1, Nothing, false),
@@ -33,7 +33,7 @@ static SIGNATURES: [(u32, Taken, bool); 18] = [
     (u32::MAX, Unknown, false),
 ];
 
-/// Whether these are the arguments.
+/// True if these are the arguments.
 fn are(arguments: &[Argument], want: Taken) -> bool {
     match want {
         Unknown => false,
@@ -43,7 +43,7 @@ fn are(arguments: &[Argument], want: Taken) -> bool {
     }
 }
 
-/// Whether an id has that signature.
+/// True if an id has that signature.
 fn takes(id: u32, want: Taken, writes: bool) -> bool {
     match signature(id) {
         None => matches!(want, Unknown),

@@ -8,9 +8,9 @@ use std::alloc::Global;
 /// A value of one byte more than there may be.
 const LONG_VALUE: &[u8] = &[7; 4097];
 
-/// A line is a call, what it is given first and second, and its answer: a refusal's name, the
-/// length for `stat`, four bytes for `read`, which had ones before, or else a value, a key or
-/// nothing. `@4097` is a value of that many bytes.
+/// A line is a call, its first and second argument, and its answer: a refusal's name, the length
+/// for `stat`, four bytes for `read`, which had ones before, or else a value, a key or nothing.
+/// `@4097` is a value of that many bytes.
 const ROWS: &str = "stat - - Absent
 read 0 - Absent
 truncate 0 - Absent
@@ -125,7 +125,7 @@ fn change(
     }
 }
 
-/// Whether a read of four bytes answers so, and leaves the buffer where it is refused.
+/// True if a read of four bytes has that answer, and leaves the buffer as it is if it is refused.
 fn reads(objects: &Objects, name: &ObjectName, line: Line<'_>) -> bool {
     let mut buffer = [1; 4];
     let found = objects.read(name, number(line.first), &mut buffer);
@@ -135,7 +135,7 @@ fn reads(objects: &Objects, name: &ObjectName, line: Line<'_>) -> bool {
     }
 }
 
-/// Whether the length of the data is so.
+/// True if the length of the data is the answer.
 fn has_length(found: Result<usize, StoreError>, answer: &str) -> bool {
     match found {
         Ok(len) => refusal(answer).is_none() && len as u64 == number(answer),
@@ -143,7 +143,7 @@ fn has_length(found: Result<usize, StoreError>, answer: &str) -> bool {
     }
 }
 
-/// Whether what was looked up is a line's answer.
+/// True if the value that was looked up is a line's answer.
 fn is_found(found: Result<&[u8], StoreError>, answer: &str) -> bool {
     match found {
         Ok(value) => refusal(answer).is_none() && value == bytes(answer),
@@ -151,7 +151,7 @@ fn is_found(found: Result<&[u8], StoreError>, answer: &str) -> bool {
     }
 }
 
-/// Whether a call that looks something up answers so; none of another call.
+/// True if a call that looks something up gives the line's answer; none for another call.
 fn looks_up(objects: &Objects, name: &ObjectName, line: Line<'_>) -> Option<bool> {
     let (key, answer) = (bytes(line.first), line.answer);
     match line.call {
@@ -164,7 +164,7 @@ fn looks_up(objects: &Objects, name: &ObjectName, line: Line<'_>) -> Option<bool
     }
 }
 
-/// Whether the call answers so.
+/// True if the call gives the line's answer.
 fn answers(alloc: Global, objects: &mut Objects, name: &ObjectName, line: Line<'_>) -> bool {
     match looks_up(objects, name, line) {
         Some(right) => right,
@@ -172,7 +172,7 @@ fn answers(alloc: Global, objects: &mut Objects, name: &ObjectName, line: Line<'
     }
 }
 
-/// How many lines come before the first that is answered otherwise.
+/// The number of lines before the first that is answered otherwise.
 fn right_answers(alloc: Global, pair: &mut Pair, text: &str) -> usize {
     let mut count = 0usize;
     for line in text.lines() {

@@ -4,7 +4,7 @@ use std::alloc::Global;
 use std::process::Abort;
 use std::str::SplitWhitespace;
 
-/// A line is what edits of data `0123456789` answer, the length afterwards, a place, the bytes
+/// A line is the answer of edits of data `0123456789`, the length afterwards, a place, the bytes
 /// there, and then the edits: `w` with a place and a text, or `t` with a length.
 const ROWS: &str = "ok 10 0 0123456789
 ok 10 0 01ab456789 w 2 ab
@@ -28,7 +28,7 @@ fn write_of<R: Abort>(rt: &R, alloc: Global, words: &mut SplitWhitespace<'_>) ->
     Edit::Write { at, text }
 }
 
-/// Adds the edit that the next words name, where there are any.
+/// Adds the edit that the next words name, if there are any.
 fn add_edit<R: Abort>(
     rt: &R,
     alloc: Global,
@@ -53,14 +53,14 @@ fn edits_of<R: Abort>(rt: &R, alloc: Global, words: &mut SplitWhitespace<'_>) ->
     edits
 }
 
-/// Whether the data is so long, and has these bytes at that place.
+/// True if the data has that length, and these bytes at that place.
 fn holds<D: Data>(data: &D, len: u64, at: u64, bytes: &[u8]) -> bool {
     let mut found = [0xff; 16];
     let count = data.read(at, &mut found);
     data.len() as u64 == len && count >= bytes.len() && found.starts_with(bytes)
 }
 
-/// Whether the edits that the rest of a line names are made, or refused so.
+/// True if the edits that the rest of a line names are made, or refused with this refusal.
 fn are_made<R: Abort, D: Data>(
     rt: &R,
     alloc: Global,
@@ -72,7 +72,7 @@ fn are_made<R: Abort, D: Data>(
     edit_all(alloc, data, &edits).err() == refusal
 }
 
-/// Makes the edits of a line, and says whether all is as the line wants it.
+/// Makes the edits of a line. True if all is as the line says.
 fn passes<R: Abort, D: Data>(rt: &R, alloc: Global, data: &mut D, line: &str) -> bool {
     data.write(alloc, 0, b"0123456789").expect(rt, "memory");
     let mut words = line.split_whitespace();
@@ -99,7 +99,7 @@ fn passes_in_extents<R: Abort>(rt: &R, alloc: Global, line: &str) -> bool {
     right
 }
 
-/// How many lines pass with both kinds of data.
+/// The number of lines that pass with both kinds of data.
 fn right_lines<R: Abort>(rt: &R, alloc: Global, text: &str) -> usize {
     let mut count = 0usize;
     for line in text.lines() {

@@ -1,4 +1,4 @@
-//! What extents data lies in, and which ones are shared.
+//! The extents in which data lies, and those that are shared.
 
 use object_store::{Data, ExtentData};
 use std::alloc::Global;
@@ -12,10 +12,11 @@ fn sevens<R: Abort>(rt: &R, alloc: Global, len: usize) -> ExtentData {
     data
 }
 
-/// A length, and how many extents data of that length has.
+/// A length, and the number of extents of data of that length.
+// One byte, a full extent, a byte more, and the most bytes that an object may have.
 static COUNTS: [(usize, usize); 4] = [(1, 1), (4096, 1), (4097, 2), (65_536, 16)];
 
-/// How many extents data of that length has once it is written to; none where one is too long.
+/// The number of extents of data of that length once it is written to; 0 if one is too long.
 fn extents_of<R: Abort>(rt: &R, alloc: Global, len: usize) -> usize {
     let mut data = sevens(rt, alloc, len);
     data.write(alloc, 0, b"a").expect(rt, "memory");
@@ -38,7 +39,7 @@ fn extents_are_at_most_4096_bytes(rt: HostRuntime) {
     }
 }
 
-/// How many extents data has that was written byte by byte, each at its end; none where it isn't so
+/// The number of extents of data that was written byte by byte, each at its end; 0 if it isn't so
 /// long.
 fn extents_of_bytes<R: Abort>(rt: &R, alloc: Global, len: u64) -> usize {
     let mut data = ExtentData::new();
@@ -59,13 +60,13 @@ fn appended_bytes_fill_the_last_extent(rt: HostRuntime) {
     assert!(rt; extents_of_bytes(&rt, rt.alloc(), 16) == 1);
 }
 
-/// Whether the byte at 5,000 is a 7.
+/// True if the byte at 5,000 is a 7.
 fn is_seven(data: &ExtentData) -> bool {
     let mut byte = [0];
     data.read(5000, &mut byte) == 1 && byte == [7]
 }
 
-/// How many extents a copy shares once it is written to, and once it is cut as well.
+/// The number of extents that a copy shares once it is written to, and once it is cut as well.
 fn shared_by_copy<R: Abort>(rt: &R, alloc: Global, old: &ExtentData) -> (usize, usize) {
     let mut new = old.copy(alloc).expect(rt, "memory");
     new.write(alloc, 5000, b"a").expect(rt, "memory");

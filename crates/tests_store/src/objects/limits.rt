@@ -46,18 +46,18 @@ fn full_copy<R: Abort>(rt: &R, alloc: Global) -> Object {
     copy.expect(rt, "memory")
 }
 
-/// Whether the object has all that, with this value of a name.
+/// True if the object has all that, with this value of a name.
 fn is_full(object: &Object, name: &[u8], value: &[u8]) -> bool {
     let counts = object.len() == 65_536 && object.xattr_count() == 32 && object.key_count() == 1024;
     counts && is(object.xattr(name), value) && is(object.key(name), value)
 }
 
-/// Whether a call is refused since there would be too many.
+/// True if a call is refused since there would be too many.
 fn is_too_many(changed: Result<Object, StoreError>) -> bool {
     changed.err() == Some(StoreError::TooMany)
 }
 
-/// Whether one xattr and one key more are too many.
+/// True if one xattr and one key more are too many.
 fn refuses_more(alloc: Global, object: &Object) -> bool {
     is_too_many(calls::set_xattr(alloc, Some(object), &numbered(32), b""))
         && is_too_many(calls::set_key(alloc, Some(object), &numbered(1024), b""))
@@ -74,7 +74,7 @@ fn the_largest_object(rt: HostRuntime) {
     assert!(rt; refused);
 }
 
-/// Whether an xattr and a key that are there may have new values.
+/// True if an xattr and a key that are there may have new values.
 fn takes_new<R: Abort>(rt: &R, alloc: Global, object: &Object) -> bool {
     let one = with_xattr(rt, alloc, object, 5, b"new");
     let both = with_key(rt, alloc, &one, 5, b"new");

@@ -38,7 +38,7 @@ fn with_keys<R: Abort>(rt: &R, alloc: Global) -> Object {
     object
 }
 
-/// Whether an entry is there, with that name and that value.
+/// True if an entry is there, with that name and that value.
 fn is(entry: Option<(&[u8], &[u8])>, name: &[u8], value: &[u8]) -> bool {
     match entry {
         None => false,
@@ -46,7 +46,7 @@ fn is(entry: Option<(&[u8], &[u8])>, name: &[u8], value: &[u8]) -> bool {
     }
 }
 
-/// How many rows come before the first that stands otherwise among the xattrs.
+/// The number of rows before the first that the xattrs have otherwise.
 fn right_xattrs(object: &Object) -> usize {
     let mut count = 0usize;
     for (name, value) in &IN_ORDER {
@@ -98,7 +98,7 @@ fn three<R: Abort>(rt: &R, alloc: Global) -> Objects {
     objects
 }
 
-/// Whether the object at a place has that name and is so long.
+/// True if the object at a place has that name and `len` bytes.
 fn is_object(objects: &Objects, place: usize, name: &[u8], len: usize) -> bool {
     match objects.nth(place) {
         None => false,

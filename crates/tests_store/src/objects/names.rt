@@ -15,7 +15,7 @@ static REFUSALS: [(StoreError, u8, &str); 7] = [
     (StoreError::NoMemory, 7, "7 NoMemory"),
 ];
 
-/// The length of a name of that many letters, where it isn't refused by its length.
+/// The length of a name of that many letters, if it isn't refused by its length.
 fn length_of<R: Abort>(rt: &R, alloc: Global, len: usize) -> Option<usize> {
     let text = "x".repeat(alloc, len).expect(rt, "memory");
     match ObjectName::new(alloc, &text) {
@@ -31,7 +31,7 @@ fn copied_length<R: Abort>(rt: &R, alloc: Global, name: &ObjectName) -> usize {
     len
 }
 
-/// Lengths of names, and of what is made of them.
+/// Lengths of texts, and of the names made of them.
 static LENGTHS: [(usize, Option<usize>); 4] = [
     (0, None),
     (1, Some(1)),
@@ -46,7 +46,7 @@ fn lengths(rt: HostRuntime) {
     }
 }
 
-/// Whether a refusal prints so.
+/// True if a refusal prints as that text.
 fn prints<R: Abort, T: Display>(rt: &R, alloc: Global, error: &T, text: &str) -> bool {
     error.to_string(alloc).expect(rt, "memory").as_str() == text
 }

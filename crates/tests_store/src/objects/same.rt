@@ -1,4 +1,4 @@
-//! Which objects are the same.
+//! Objects that are the same, and objects that aren't.
 
 use object_store::{Object, ObjectName, Objects, StoreError, calls};
 use std::alloc::Global;
@@ -36,7 +36,7 @@ fn made<R: Abort>(rt: &R, alloc: Global, steps: &[Step]) -> Object {
     object
 }
 
-/// What a change makes of the sample, and whether it is the same as the sample then.
+/// A change of the sample, and true if it leaves the same object.
 static CHANGES: [(Step, bool); 12] = [
     (Step::Write(0, b""), true),
     (Step::Write(4096, b"z"), true),
@@ -69,7 +69,7 @@ static SAMPLE_AGAIN: [Step; 6] = [
     Step::Truncate(0),
 ];
 
-/// Whether the sample is the same as itself with a change.
+/// True if the sample is the same as itself with a change.
 fn is_same_after<R: Abort>(rt: &R, alloc: Global, step: Step) -> bool {
     let sample = made(rt, alloc, &SAMPLE);
     let changed = stepped(alloc, &sample, step).expect(rt, "a change");
@@ -86,7 +86,7 @@ fn changes(rt: HostRuntime) {
     }
 }
 
-/// Whether two ways lead to the same object.
+/// True if two ways lead to the same object.
 fn ways_meet<R: Abort>(rt: &R, alloc: Global) -> bool {
     let sample = made(rt, alloc, &SAMPLE);
     let again = made(rt, alloc, &SAMPLE_AGAIN);
@@ -139,7 +139,7 @@ fn named<R: Abort>(rt: &R, alloc: Global, texts: &[&str]) -> Objects {
     objects
 }
 
-/// Names of objects, and whether the objects are those of the names a and b.
+/// Names of objects, and true if the objects are those of the names a and b.
 static NAMED: [(&[&str], bool); 5] = [
     (&["b", "a"], true),
     (&["a"], false),

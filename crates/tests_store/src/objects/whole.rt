@@ -11,7 +11,7 @@ fn sample<R: Abort>(rt: &R, alloc: Global) -> Pair {
     pair
 }
 
-/// Whether a copy has the object yet when it is removed.
+/// Removes the first object. True if a copy made before still has it.
 fn copy_stays<R: Abort>(rt: &R, alloc: Global, pair: &mut Pair) -> bool {
     let copy = pair.objects.copy().expect(rt, "memory");
     pair.objects.remove(alloc, &pair.one).expect(rt, "memory");
@@ -31,7 +31,7 @@ fn a_copy_stays_as_it_is(rt: HostRuntime) {
     assert!(rt; empty);
 }
 
-/// Puts the object of the first name under the second, and takes it away from the first. Whether it
+/// Puts the object of the first name under the second, and takes it away from the first. True if it
 /// has moved then.
 fn moves<R: Abort>(rt: &R, alloc: Global, pair: &mut Pair) -> bool {
     let object = pair.objects.get(&pair.one).expect(rt, "an object");
@@ -44,7 +44,7 @@ fn moves<R: Abort>(rt: &R, alloc: Global, pair: &mut Pair) -> bool {
     pair.objects.get(&pair.one).is_none() && is_long(pair.objects.get(&pair.other), 3)
 }
 
-/// Whether an empty object comes under the first name.
+/// Puts an empty object under the first name. True if it is there, and the objects are two.
 fn takes_empty<R: Abort>(rt: &R, alloc: Global, pair: &mut Pair) -> bool {
     let done = pair.objects.put(alloc, &pair.one, Object::new());
     done.expect(rt, "memory");
