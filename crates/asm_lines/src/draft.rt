@@ -12,7 +12,7 @@ use crate::target::Target;
 use crate::text::{after_word, first_word, lone, pair, triple};
 use bpf_decode::{Comparison, Insn, OpWidth, Operand, Register, SignedWidth, Width};
 
-/// An instruction as its line has it: where a jump goes may be a label.
+/// An instruction as its line has it: the target of a jump may be a label.
 #[derive(Drop)]
 pub enum Draft<'a> {
     Plain(Insn),
@@ -112,7 +112,7 @@ fn one_far(rest: &[u8]) -> Result<Target, AsmFault>
     }
 }
 
-/// What a conditional jump compares, and where it goes.
+/// The operands of a conditional jump: the two that it compares, and its target.
 fn branch_operands(rest: &[u8]) -> Result<(Register, (Operand, Target)), AsmFault>
     ensures { result ≡ of_three register_of source_of near_target_of (triple rest.now) }
 {
@@ -122,7 +122,7 @@ fn branch_operands(rest: &[u8]) -> Result<(Register, (Operand, Target)), AsmFaul
     }
 }
 
-/// What a call's operand says.
+/// A call, by its operand: `local` and a target, or the id of a helper.
 #[tactic(auto, unfolding(crate::specs::Drafts::call_of))]
 fn call(text: &[u8]) -> Result<Draft, AsmFault>
     ensures { result ≡ call_of text.now }
@@ -203,6 +203,7 @@ fn plain(form: Form, rest: &[u8]) -> Result<Insn, AsmFault>
         Form::StoreNumber(width) => store_number(width, rest),
         Form::StoreRegister(width) => store_register(width, rest),
         Form::Exit => if rest.is_empty() { Ok(Insn::Exit) } else { Err(AsmFault::Operand) },
+        // The requires excludes the forms with a target.
         Form::Jump | Form::JumpLong | Form::Branch(_, _) | Form::Call => unreachable!(),
     }
 }

@@ -6,19 +6,19 @@ use std::alloc::{AllocError, AllocFailed};
 use std::fmt;
 use thiserror::Error;
 
-/// What is wrong on a line. It prints as number and name, as `2 Operand`.
+/// The fault of a line. It prints as number and name, as `2 Operand`.
 #[derive(Clone, Copy, Debug, PartialEq, Eq, Error)]
 pub enum AsmFault {
-    /// The first word is unknown, an instruction or label stands before the first `.method`, or
-    /// `.method` where one method's text is read.
+    /// The first word is unknown, an instruction or label comes before the first `.method`, or
+    /// `.method` comes in the text of one method.
     Word,
     /// The operands aren't of the form, or a method's name isn't one.
     Operand,
     /// A number is out of its range, an instruction passes `SLOT_LIMIT` slots, a method follows
     /// `METHOD_LIMIT` others, or the text or the method that begins here has no instruction.
     Range,
-    /// A label isn't known or stands a second time in its method, or a method's name isn't above
-    /// the one before.
+    /// A label isn't known or is defined twice in its method, or a method's name isn't above the
+    /// one before.
     Label,
     /// Memory ran out.
     NoMemory,

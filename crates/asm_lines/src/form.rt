@@ -7,8 +7,8 @@ use bpf_decode::{
     Arithmetic, ByteOrder, Comparison, EndWidth, OpWidth, SignedMove, SignedWidth, Width,
 };
 
-/// What an instruction's first word says: the instruction without its operands.
-/// `call` stands for a helper's call and for a local one, which their operand tells apart.
+/// An instruction without its operands, as its first word names it. `call` is the word of a
+/// helper's call and of a local one: the operand tells them apart.
 #[derive(Clone, Copy)]
 pub enum Form {
     Alu(OpWidth, Arithmetic),

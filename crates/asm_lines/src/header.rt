@@ -3,8 +3,8 @@ ghost use Rattle.std.specs.Prelude.{◌≡◌};
 use crate::target::Name;
 use std::marker::Model;
 
-/// What a `.method` line says of its method. Contracts see a `MethodHeader`, whose name and numbers
-/// are within the limits.
+/// The name and numbers of a method by its `.method` line. Contracts see a `MethodHeader`, whose
+/// name and numbers are within the limits.
 #[derive(Drop)]
 pub struct Header<'a> {
     name: Name<'a>,

@@ -1,4 +1,4 @@
-//! A line of a class's text: what it says or its first fault, by the grammar's functions, and the
+//! A line of a class's text: its statement or its least fault, by the grammar's functions, and the
 //! one text of instructions and of methods. Labels, methods and whole texts are `bpf_asm`'s, which
 //! hands on all that a user needs.
 #![tactic(auto)]

@@ -16,7 +16,7 @@ impl Number {
     ghost use Rattle.std.specs.Prelude.{◌≡◌, ◌≤◌, ◌<◌, ◌^◌, ◌-◌, IsTrue};
     ghost use Rattle.asm_lines.specs.Numbers.{value_of, is_within};
 
-    /// It as an `i32`, in whose range it is.
+    /// The number as an `i32`. It is within its range.
     pub(crate) fn to_i32(self) -> i32
         requires { IsTrue (is_within (2 ^ 31) (2 ^ 31 - 1) self) }
         ensures { result ≡ value_of self }
@@ -29,7 +29,7 @@ impl Number {
         }
     }
 
-    /// It as an `i16`, in whose range it is.
+    /// The number as an `i16`. It is within its range.
     pub(crate) fn to_i16(self) -> i16
         requires { IsTrue (is_within (2 ^ 15) (2 ^ 15 - 1) self) }
         ensures { result ≡ value_of self }
@@ -70,6 +70,7 @@ pub(crate) fn decimal_within(text: &[u8], most: u64) -> Result<u64, AsmFault>
 fn hex_within(text: &[u8], most: u64) -> Result<u64, AsmFault>
     ensures { result ≡ natural_within most (hex_number text.now) }
 {
+    // 16 hex digits are 64 bits.
     if !are_digits(text, 16) || text.len() > 16 {
         return Err(AsmFault::Operand);
     }

@@ -110,7 +110,7 @@ fn offset_or_zero(text: &[u8]) -> Result<i16, AsmFault>
     if text.is_empty() { Ok(0) } else { offset(text) }
 }
 
-/// Where a sign stands first, or the length.
+/// The index of the first sign, or the length.
 fn place_of_sign(text: &[u8]) -> usize
     ensures place { result ≡ position_or_len is_sign text.now }
     ensures bound { result ≤ length text.now }
@@ -118,7 +118,7 @@ fn place_of_sign(text: &[u8]) -> usize
     place_of_either(text, b'+', b'-')
 }
 
-/// What stands in brackets.
+/// Reads the inside of the brackets: a register, then an offset or nothing.
 #[tactic(auto, unfolding(crate::specs::Operands::place_within))]
 fn place_within(inner: &[u8]) -> Result<(Register, i16), AsmFault>
     ensures { result ≡ place_within inner.now }
@@ -138,7 +138,7 @@ pub(crate) fn memory(text: &[u8]) -> Result<(Register, i16), AsmFault>
     }
 }
 
-/// Where a jump by an offset goes.
+/// The target of a jump by an offset of 16 bits: a label or a signed distance.
 #[tactic(auto, unfolding(crate::specs::Operands::near_target_of))]
 pub(crate) fn near_target(text: &[u8]) -> Result<Target, AsmFault>
     ensures { result ≡ near_target_of text.now }
@@ -152,7 +152,7 @@ pub(crate) fn near_target(text: &[u8]) -> Result<Target, AsmFault>
     }
 }
 
-/// Where a jump by an immediate goes.
+/// The target of a jump by an immediate of 32 bits: a label or a signed distance.
 #[tactic(auto, unfolding(crate::specs::Operands::far_target_of))]
 pub(crate) fn far_target(text: &[u8]) -> Result<Target, AsmFault>
     ensures { result ≡ far_target_of text.now }

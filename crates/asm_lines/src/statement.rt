@@ -14,7 +14,7 @@ use crate::text::{after_word, content, first_word, is_label_name};
 use bpf_decode::{CAPACITY_LIMIT, RuleSet, is_method_name};
 use std::alloc::{AllocError, Global};
 
-/// What a line says, or its fault.
+/// The statement of a line, or its fault.
 #[derive(Drop)]
 pub enum Statement<'a> {
     Empty,
@@ -35,7 +35,7 @@ fn capacity(text: &[u8]) -> Result<u16, AsmFault>
     }
 }
 
-/// What stands after `.method`.
+/// Reads the text after `.method`: name, flags, capacity of input, capacity of output.
 #[tactic(auto, unfolding(crate::specs::Statements::header_of))]
 fn read_header(text: &[u8]) -> Result<Header, AsmFault>
     ensures { result ≡ header_of text.now }
@@ -55,7 +55,7 @@ fn read_header(text: &[u8]) -> Result<Header, AsmFault>
     }
 }
 
-/// What stands after `.rules`: 2. A class of rule set 1 has no such line.
+/// Reads the text after `.rules`, which is 2. A class of rule set 1 has no such line.
 // So each class has one text, and `.rules 1` is refused.
 fn read_rules(text: &[u8]) -> Result<RuleSet, AsmFault>
     ensures { result ≡ rules_of text.now }
@@ -78,7 +78,7 @@ fn label_name(text: &[u8]) -> Option<&[u8]>
     }
 }
 
-/// What a line says whose content that is.
+/// Reads a line's content.
 #[tactic(auto, unfolding(crate::specs::Statements::statement_of))]
 fn read_line(text: &[u8]) -> Statement
     ensures { result ≡ statement_of text.now }
@@ -86,6 +86,7 @@ fn read_line(text: &[u8]) -> Statement
     if text.is_empty() {
         return Statement::Empty;
     }
+    // Labels come first: a label may have an instruction's word as its name, as in `exit:`.
     if let Some(name) = label_name(text) {
         return Statement::Label(Name::new(name));
     }
@@ -105,7 +106,7 @@ fn lines(alloc: Global, text: &str) -> Result<Vec<&str>, AllocError>
     text.split('\n').collect(alloc)
 }
 
-/// What each of the lines says.
+/// The statement of each line.
 fn read_lines<'a>(alloc: Global, lines: &[&'a str]) -> Result<Vec<Statement<'a>>, AllocError>
     ensures { IfOk result (λ v. v.items ≡ map (λ l. statement_of (content l.now)) lines.now) }
 {
@@ -116,7 +117,7 @@ fn read_lines<'a>(alloc: Global, lines: &[&'a str]) -> Result<Vec<Statement<'a>>
     Ok(all)
 }
 
-/// What each line of a text says.
+/// The statement of each line of a text, in order.
 #[tactic(auto, using(crate::proofs::StatementLemmas::each_line))]
 pub fn statements(alloc: Global, text: &str) -> Result<Vec<Statement>, AllocError>
     ensures { IfOk result (λ v. v.items ≡ statements_of text.now) }

@@ -2,7 +2,7 @@ ghost use Rattle.std.specs.Prelude.{◌≡◌};
 
 use std::marker::Model;
 
-/// The name of a label or of a method, as it stands in the text. Contracts see its bytes.
+/// The name of a label or of a method, as the text has it. Contracts see its bytes.
 #[derive(Drop)]
 pub struct Name<'a> {
     bytes: &'a [u8],
@@ -34,7 +34,7 @@ impl<'a> Name<'a> {
     }
 }
 
-/// Where a jump goes: a number of slots from the slot after it, or a label.
+/// The target of a jump: a number of slots from the slot after it, or a label.
 #[derive(Drop)]
 pub enum Target<'a> {
     Slots(i32),

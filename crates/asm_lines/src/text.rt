@@ -48,7 +48,7 @@ pub(crate) fn trim(text: &[u8]) -> &[u8]
     trim_end(trim_start(text))
 }
 
-/// Where a byte stands first, or the length.
+/// The index of the first such byte, or the length.
 fn place_of(text: &[u8], byte: u8) -> usize
     ensures place { result ≡ position_or_len (λ c. c == byte) text.now }
     ensures bound { result ≤ length text.now }
@@ -56,7 +56,7 @@ fn place_of(text: &[u8], byte: u8) -> usize
     text.iter().position(|b| *b == byte).unwrap_or(text.len())
 }
 
-/// Where one of two bytes stands first, or the length.
+/// The index of the first byte that is one of the two, or the length.
 pub(crate) fn place_of_either(text: &[u8], one: u8, other: u8) -> usize
     ensures place { result ≡ position_or_len (λ c. c == one || c == other) text.now }
     ensures bound { result ≤ length text.now }
@@ -66,7 +66,7 @@ pub(crate) fn place_of_either(text: &[u8], one: u8, other: u8) -> usize
         .unwrap_or(text.len())
 }
 
-/// Where a blank stands first, or the length.
+/// The index of the first blank, or the length.
 fn place_of_blank(text: &[u8]) -> usize
     ensures place { result ≡ position_or_len is_blank text.now }
     ensures bound { result ≤ length text.now }
@@ -74,7 +74,7 @@ fn place_of_blank(text: &[u8]) -> usize
     place_of_either(text, b' ', b'\t')
 }
 
-/// What stands on a line, without its comment.
+/// The content of a line: without its comment and the blanks at its ends.
 #[tactic(auto, unfolding(crate::specs::Texts::content))]
 pub(crate) fn content(line: &[u8]) -> &[u8]
     ensures { result.now ≡ content line.now }
@@ -90,7 +90,7 @@ pub(crate) fn first_word(text: &[u8]) -> &[u8]
     &text[..place_of_blank(text)]
 }
 
-/// What stands after the first word and its blanks.
+/// The text after the first word and the blanks that follow it.
 #[tactic(auto, unfolding(crate::specs::Texts::after_word))]
 pub(crate) fn after_word(text: &[u8]) -> &[u8]
     ensures { result.now ≡ after_word text.now }
@@ -150,7 +150,8 @@ pub(crate) fn triple(text: &[u8]) -> Option<(&[u8], &[u8], &[u8])>
     }
 }
 
-/// Whether it may name a label.
+/// True if it may name a label: a letter of a-z, then any of a-z, 0-9 and `_`.
+// No digit and no sign comes first, so a target is a label or a number by its first byte.
 #[tactic(auto, unfolding(crate::specs::Texts::is_label_name))]
 pub(crate) fn is_label_name(text: &[u8]) -> bool
     ensures { result ≡ is_label_name text.now }

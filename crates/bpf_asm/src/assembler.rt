@@ -21,11 +21,12 @@ fn bare_fault(lines: &[Statement]) -> AsmFault
     }
 }
 
-/// One method's instructions, from what its lines say.
+/// One method's instructions, from the statements of its lines.
 fn assembled(alloc: Global, lines: &[Statement]) -> Result<Vec<Insn>, AsmError>
     requires { length lines.now + 1 < 2 ^ 64 }
     ensures { MatchResult result (λ v. assembled lines.now ≡ Ok v.items) (λ e. (e ≡ no_memory) ⊎ (assembled lines.now ≡ Err e)) }
 {
+    // A text without an instruction is refused at line 1, whatever else it has.
     if has_instruction(lines) {
         return read_body(alloc, 1, lines);
     }
@@ -44,19 +45,19 @@ fn read_text(alloc: Global, text: &str) -> Result<Vec<Insn>, AsmError>
     assembled(alloc, &lines)
 }
 
-/// The instructions of one method's text. What is refused is the lowest line that has a fault, with
-/// the least fault there; want of memory may come in place of any answer.
+/// The instructions of one method's text. A refusal names the first line that has a fault, and the
+/// least fault there; want of memory may come in place of any answer.
 ///
-/// It costs time by the text's length, and for each label and each jump to one a logarithm of the
-/// number of labels.
+/// It takes time linear in the text's length, and for each label and each jump to one a logarithm
+/// of the number of labels.
 pub fn assemble(alloc: Global, text: &str) -> Result<Vec<Insn>, AsmError>
     ensures found { IfOk result (λ v. read_text text.now ≡ Ok v.items) }
     ensures refused { IfErr result (λ e. (e ≡ no_memory) ⊎ (read_text text.now ≡ Err e)) }
     ensures grammar { IfOk result (λ v. IsMethodText text.now v.items) }
     ensures one { IfOk result (λ v. (is : List Instruction) → IsMethodText text.now is → is ≡ v.items) }
     ensures only { IfErr result (λ e. (e ≡ no_memory) ⊎ ((is : List Instruction) → ¬ IsMethodText text.now is)) }
-    // The refusal is the text's first fault: of all faults of its lines that of the lowest line,
-    // and there the least.
+    // The refusal is the text's first fault: that of the first line with a fault, and there the
+    // least.
     ensures first { IfErr result (λ e. (e ≡ no_memory) ⊎ RefusesText text.now e) }
     ensures faultless { IfOk result (λ _. IsFaultless text.now) }
 {

@@ -9,7 +9,7 @@ use asm_lines::{AsmError, AsmFault, Draft, Statement, Target};
 use bpf_decode::{Insn, SLOT_LIMIT, width};
 use std::alloc::Global;
 
-/// How many slots an instruction takes; one that is refused counts for one.
+/// The number of slots that an instruction takes. One that is refused counts for one.
 fn draft_slots(draft: &Result<Draft, AsmFault>) -> usize
     ensures slots { result ≡ draft_slots draft.now }
     ensures few { result ≤ 2 }
@@ -20,7 +20,7 @@ fn draft_slots(draft: &Result<Draft, AsmFault>) -> usize
     }
 }
 
-/// How many slots a line takes.
+/// The number of slots that a line takes: 0 if it has no instruction.
 pub(crate) fn line_slots(line: &Statement) -> usize
     ensures slots { result ≡ line_slots line.now }
     ensures few { result ≤ 2 }
@@ -49,6 +49,7 @@ fn distance(slot: usize, at: usize) -> i128
     requires { slot ≤ SLOT_LIMIT }
     ensures { result ≡ pos at -ℤ pos (slot + 1) }
 {
+    // 128 bits hold the difference of any two slots.
     at as i128 - (slot + 1) as i128
 }
 
@@ -74,7 +75,7 @@ fn resolved(
     }
 }
 
-/// Where a jump by an offset goes.
+/// The offset of a jump to a target, in 16 bits.
 fn near(labels: &Labels, slot: usize, target: &Target) -> Result<i16, AsmFault>
     requires { slot ≤ SLOT_LIMIT }
     ensures { result ≡ near labels.now slot target.now }
@@ -85,7 +86,7 @@ fn near(labels: &Labels, slot: usize, target: &Target) -> Result<i16, AsmFault>
     }
 }
 
-/// Where a jump by an immediate goes.
+/// The distance of a jump to a target, in 32 bits.
 fn far(labels: &Labels, slot: usize, target: &Target) -> Result<i32, AsmFault>
     requires { slot ≤ SLOT_LIMIT }
     ensures { result ≡ far labels.now slot target.now }
@@ -111,7 +112,7 @@ fn finished(labels: &Labels, slot: usize, draft: &Draft) -> Result<Insn, AsmFaul
     }
 }
 
-/// What an instruction's line gives at a slot.
+/// The instruction of a line at a slot, or its fault: `Range` if it passes `SLOT_LIMIT` slots.
 fn instruction_at(
     labels: &Labels,
     slot: usize,
@@ -134,7 +135,8 @@ fn instruction_at(
     }
 }
 
-/// What the line at a place among the lines gives at a slot.
+/// The instruction of a line at a slot, if it has one, or its fault. The line is the one of that
+/// index.
 fn line_at(
     labels: &Labels,
     index: usize,
@@ -159,8 +161,8 @@ fn line_at(
     }
 }
 
-/// Puts the instructions of a method's lines, of which those are the labels and whose first has
-/// that number, into an empty list.
+/// Puts the instructions of a method's lines into an empty list. The labels are those of the lines,
+/// and the first line has the number `first`.
 #[tactic(auto, unfolding(crate::specs::Bodies::body_from))]
 fn push_body(
     labels: &Labels,
@@ -196,8 +198,8 @@ fn push_body(
     Ok(())
 }
 
-/// A method's instructions, whose first line has that number; or the first line that is refused,
-/// and its least fault.
+/// The instructions of a method, whose first line has the number `first`; or the first line that is
+/// refused, and its least fault.
 pub(crate) fn read_body(
     alloc: Global,
     first: usize,
@@ -208,6 +210,7 @@ pub(crate) fn read_body(
     ensures slots { IfOk result (λ v. slot_total v.items ≤ SLOT_LIMIT) }
     ensures some { IfOk result (λ v. count_by is_instruction lines.now ≤ slot_total v.items) }
 {
+    // All labels come first, since a jump may go forward.
     let labels = Labels::of(alloc, lines)?;
     let mut insns = Vec::new(alloc);
     match push_body(&labels, first, lines, &mut insns) {
@@ -216,8 +219,8 @@ pub(crate) fn read_body(
     }
 }
 
-/// Whether a line is an instruction's.
-// A malformed one is too: then its own fault is told, and not that the text has no instruction.
+/// True if a line is an instruction's.
+// A malformed one counts: then its own fault is reported, and not that the text has no instruction.
 fn is_instruction(line: &Statement) -> bool
     ensures { result ≡ is_instruction line.now }
 {
@@ -227,7 +230,7 @@ fn is_instruction(line: &Statement) -> bool
     }
 }
 
-/// Whether one of the lines is an instruction's.
+/// True if one of the lines is an instruction's.
 pub(crate) fn has_instruction(lines: &[Statement]) -> bool
     ensures { result ≡ has_instruction lines.now }
 {

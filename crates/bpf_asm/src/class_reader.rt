@@ -13,7 +13,7 @@ use asm_lines::{AsmError, AsmFault, Header, Statement, statements};
 use bpf_decode::{ClassImage, METHOD_LIMIT, Method, RuleSet, name_text};
 use std::alloc::Global;
 
-/// Whether a line begins a method.
+/// True if a line begins a method.
 fn is_directive(line: &Statement) -> bool
     ensures { result ≡ is_directive line.now }
 {
@@ -23,7 +23,7 @@ fn is_directive(line: &Statement) -> bool
     }
 }
 
-/// How many lines stand before the next method.
+/// The number of lines before the next method's.
 fn lines_of_method(lines: &[Statement]) -> usize
     ensures place { result ≡ position_or_len is_directive lines.now }
     ensures bound { result ≤ length lines.now }
@@ -56,8 +56,8 @@ fn opening_fault(done: &[Method], bare: bool, header: &Header) -> Option<AsmFaul
     }
 }
 
-/// A method of that header, from its lines, of which one at least is an instruction's and whose
-/// first has that number.
+/// A method of that header, from its lines. At least one of them is an instruction's, and the first
+/// has the number `first`.
 #[tactic(auto, using(crate::proofs::ClassLemmas::header_passes))]
 fn with_body(
     alloc: Global,
@@ -224,7 +224,7 @@ fn methods_of(alloc: Global, lines: &[Statement], first: usize) -> Result<Vec<Me
     Ok(methods)
 }
 
-/// A class, from what its lines say.
+/// A class, from the statements of its lines.
 #[tactic(auto, using(crate::proofs::ClassLemmas::is_class))]
 fn class_assembled(alloc: Global, lines: &[Statement]) -> Result<ClassImage, AsmError>
     requires { length lines.now + 2 < 2 ^ 64 }
@@ -241,6 +241,8 @@ fn class_assembled(alloc: Global, lines: &[Statement]) -> Result<ClassImage, Asm
         Err(error) => return Err(error),
     };
     match methods_of(alloc, lines, first) {
+        // Each method was tested as it was read (`right` of `methods_of`), so nothing is tested
+        // twice.
         Ok(methods) => Ok(ClassImage::tested(methods, rules)),
         Err(error) => Err(error),
     }
@@ -255,16 +257,16 @@ fn read_class_text(alloc: Global, text: &str) -> Result<ClassImage, AsmError>
     class_assembled(alloc, &lines)
 }
 
-/// The class of a text. What is refused is the lowest line that has a fault, with the least fault
-/// there; want of memory may come in place of any answer. It costs as much as `assemble`.
+/// The class of a text. A refusal names the first line that has a fault, and the least fault there;
+/// want of memory may come in place of any answer. It costs as much as `assemble`.
 pub fn assemble_class(alloc: Global, text: &str) -> Result<ClassImage, AsmError>
     ensures found { IfOk result (λ c. read_class_text text.now ≡ Ok c) }
     ensures refused { IfErr result (λ e. (e ≡ no_memory) ⊎ (read_class_text text.now ≡ Err e)) }
     ensures grammar { IfOk result (λ c. IsClassText text.now c) }
     ensures one { IfOk result (λ c. (d : Class) → IsClassText text.now d → d ≡ c) }
     ensures only { IfErr result (λ e. (e ≡ no_memory) ⊎ ((c : Class) → ¬ IsClassText text.now c)) }
-    // The refusal is the text's first fault: of all faults of its lines that of the lowest line,
-    // and there the least.
+    // The refusal is the text's first fault: that of the first line with a fault, and there the
+    // least.
     ensures first { IfErr result (λ e. (e ≡ no_memory) ⊎ RefusesClassText text.now e) }
     ensures faultless { IfOk result (λ _. IsFaultlessClass text.now) }
 {

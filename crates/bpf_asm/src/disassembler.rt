@@ -26,9 +26,9 @@ pub fn disassemble_class(alloc: Global, class: &ClassImage) -> Result<String, As
     Ok(class_text(alloc, class)?)
 }
 
-/// The canonical text of a class where each instruction's line ends with ` ; slot N`, N being the
-/// slot by which a refusal names the instruction. It assembles to the same class (`one_slot_text`).
-/// It is refused for want of memory alone.
+/// The canonical text of a class, with ` ; slot N` at the end of each instruction's line. A refusal
+/// names the instruction by the slot N. It assembles to the same class (`one_slot_text`). It is
+/// refused for want of memory alone.
 pub fn disassemble_with_slots(alloc: Global, class: &ClassImage) -> Result<String, AsmError>
     ensures text { IfOk result (λ s. string_bytes s ≡ class_with_slots class.now) }
     ensures memory { IfErr result (λ e. e ≡ no_memory) }

@@ -7,9 +7,8 @@ use std::alloc::{AllocError, Global};
 use std::collections::BTreeMap;
 use std::marker::Model;
 
-/// The labels of a method's lines by name: the slot and the line at which each stands first.
-/// Contracts see the lines. It costs a logarithm of the number of labels for each label, and for
-/// each question.
+/// The labels of a method's lines by name: the slot and the line of each one's first definition.
+/// Contracts see the lines. Each label and each look-up costs a logarithm of the number of labels.
 #[derive(Drop)]
 pub(crate) struct Labels<'a, 't> {
     lines: &'a [Statement<'t>],
@@ -32,7 +31,7 @@ impl<'a, 't> Labels<'a, 't> {
     ghost use Rattle.std.specs.Prelude.{◌≡◌, IfOk, is_some, take};
     ghost use Rattle.bpf_asm.specs.Bodies.{slot_of_label};
 
-    /// Those of the lines.
+    /// The labels of the lines.
     pub(crate) fn of(
         alloc: Global,
         lines: &'a [Statement<'t>],
@@ -43,7 +42,7 @@ impl<'a, 't> Labels<'a, 't> {
         Ok(Labels { lines, first })
     }
 
-    /// The slot at which the first label of that name stands.
+    /// The slot of the first label of that name.
     pub(crate) fn slot(&self, name: &[u8]) -> Option<usize>
         ensures { result ≡ slot_of_label name.now 0 self.now }
     {
@@ -53,7 +52,7 @@ impl<'a, 't> Labels<'a, 't> {
         }
     }
 
-    /// Whether a label of that name stands above a line, which is given by its place among the
+    /// True if a label of that name is defined above a line, which is given by its index among the
     /// lines.
     pub(crate) fn stands_above(&self, name: &[u8], line: usize) -> bool
         ensures { result ≡ is_some (slot_of_label name.now 0 (take line self.now)) }
@@ -65,7 +64,7 @@ impl<'a, 't> Labels<'a, 't> {
     }
 }
 
-/// Adds a name's place, if the name has none.
+/// Adds a name's place, unless the name has one: the first definition counts.
 fn note<'a>(
     first: &mut BTreeMap<&'a [u8], (usize, usize)>,
     name: &'a [u8],

@@ -1,5 +1,5 @@
-//! The assembly language of methods and classes: what is read is exactly the grammar, and each
-//! class has one text.
+//! The assembly language of methods and classes: exactly the texts of the grammar are read, and
+//! each class has one canonical text.
 #![tactic(auto)]
 
 mod assembler;

@@ -1,7 +1,7 @@
 ghost use Rattle.std.specs.Prelude.{◌≡◌};
 ghost use Rattle.bpf_decode.specs.Instruction.{byte_count, signed_byte_count, size_code, signed_size_code};
 
-/// How many bytes a load or store moves (RFC 9669 section 5, the size modifier).
+/// The number of bytes that a load or store moves (RFC 9669 section 5, the size modifier).
 #[derive(Clone, Copy, PartialEq, Eq)]
 pub enum Width {
     Byte,
@@ -36,7 +36,8 @@ impl Width {
     }
 }
 
-/// How many bytes a load with sign extension moves (RFC 9669 section 5.2).
+/// The number of bytes that a load with sign extension moves (RFC 9669 section 5.2).
+/// 8 isn't among them: such a load has no bit to extend.
 #[derive(Clone, Copy, PartialEq, Eq)]
 pub enum SignedWidth {
     Byte,

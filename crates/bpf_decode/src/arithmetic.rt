@@ -7,6 +7,8 @@ use crate::access::SignedWidth;
 use crate::operation::{Arithmetic, ByteOrder, Comparison, EndWidth, OpWidth, SignedMove};
 
 /// The operation on 64 bits (RFC 9669 section 4.1).
+// By the RFC a division by zero gives 0, a remainder by zero leaves the destination, a shift count
+// is masked to the width, and the least number divided by -1 wraps.
 #[inline]
 #[rattlefmt::skip]
 pub fn compute64(operation: Arithmetic, m: u64, n: u64) -> u64
@@ -82,7 +84,7 @@ pub fn negative(bits: OpWidth, m: u64) -> u64
     }
 }
 
-/// What a copy gives.
+/// The value of a copy: all 64 bits, or the low 32 with the rest zero.
 #[inline(always)]
 pub fn copied(bits: OpWidth, m: u64) -> u64
     ensures { result ≡ mov_value bits m }
@@ -93,7 +95,7 @@ pub fn copied(bits: OpWidth, m: u64) -> u64
     }
 }
 
-/// What a copy with sign extension gives (RFC 9669 section 4.1, MOVSX).
+/// The value of a copy with sign extension (RFC 9669 section 4.1, MOVSX).
 #[inline(always)]
 #[rattlefmt::skip]
 pub fn sign_extended(extension: SignedMove, m: u64) -> u64
@@ -144,7 +146,7 @@ fn swapped(width: EndWidth, m: u64) -> u64
     }
 }
 
-/// Whether a comparison of 64 bits holds (RFC 9669 section 4.3).
+/// True if a comparison of 64 bits holds (RFC 9669 section 4.3).
 #[inline]
 pub fn compare64(comparison: Comparison, m: u64, n: u64) -> bool
     ensures { result ≡ compared comparison w64 m n }
@@ -164,7 +166,7 @@ pub fn compare64(comparison: Comparison, m: u64, n: u64) -> bool
     }
 }
 
-/// Whether a comparison of 32 bits holds.
+/// True if a comparison of 32 bits holds.
 #[inline]
 pub fn compare32(comparison: Comparison, m: u32, n: u32) -> bool
     ensures { result ≡ compared comparison w32 m n }
@@ -184,7 +186,7 @@ pub fn compare32(comparison: Comparison, m: u32, n: u32) -> bool
     }
 }
 
-/// Whether a conditional jump is taken.
+/// True if a conditional jump is taken: it compares all 64 bits, or the low 32.
 #[inline]
 pub fn taken(bits: OpWidth, comparison: Comparison, m: u64, n: u64) -> bool
     ensures { result ≡ is_taken bits comparison m n }

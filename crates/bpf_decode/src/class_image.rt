@@ -62,11 +62,13 @@ impl ClassImage {
         requires { methods_of methods.items ≡ Ok methods.items }
         ensures { result ≡ record { rules = rules; methods = methods.items } }
     {
+        // For the proof: `check_methods` gives `IsClass` of the methods, the invariant. Nothing of
+        // it runs.
         prove!(check_methods(&methods).is_ok());
         ClassImage { rules, methods }
     }
 
-    /// A class of methods that are a class's.
+    /// A class of methods that are within the limits, by rising names.
     pub(crate) fn of(rules: RuleSet, methods: Vec<Method>) -> ClassImage
         requires { IsClass methods.items }
         ensures { result ≡ record { rules = rules; methods = methods.items } }
@@ -90,7 +92,7 @@ impl ClassImage {
     }
 }
 
-/// Whether they are a class's, or the first refusal.
+/// Tests that the methods may form a class. Returns the first refusal otherwise.
 fn check_methods(methods: &[Method]) -> Result<(), ImageError>
     ensures read { Reads (λ _. methods.now) result (methods_of methods.now) }
     ensures class { IfOk result (λ _. IsClass methods.now) }
@@ -109,7 +111,7 @@ fn check_methods(methods: &[Method]) -> Result<(), ImageError>
     Ok(())
 }
 
-/// Whether a method is right after the name of the one before it, or its first refusal.
+/// Tests a method, which follows one of the name `before`. Returns its first refusal otherwise.
 fn check_method(before: &[u8], method: &Method) -> Result<(), DecodeError>
     ensures read { Reads (λ _. method.now) result (method_after before.now method.now) }
     ensures fit { AllFit method.now.instructions }

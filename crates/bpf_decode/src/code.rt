@@ -16,7 +16,7 @@ use crate::row::OpcodeRow;
 use crate::slot::Slot;
 use std::alloc::{AllocError, Global};
 
-/// The instruction at the front of the bytes, which are those from that slot on.
+/// The instruction at the front of the bytes, which begin at that slot: refusals name it.
 #[tactic(auto, unfolding(crate::specs::Reading::insn_at))]
 fn insn_at(slot: usize, bytes: &[u8]) -> Result<Insn, DecodeError>
     ensures { result ≡ insn_at slot bytes.now }
@@ -39,7 +39,7 @@ fn insn_at(slot: usize, bytes: &[u8]) -> Result<Insn, DecodeError>
     Ok(row.instruction(dst, src, &fields, high))
 }
 
-/// How many slots that instruction takes.
+/// The number of slots that the instruction at the front of the bytes takes.
 fn width_at(slot: usize, bytes: &[u8]) -> Result<usize, DecodeError>
     ensures { result ≡ width_of (insn_at slot bytes.now) }
 {
@@ -65,13 +65,13 @@ fn count(bytes: &[u8]) -> Result<usize, DecodeError>
     Ok(count)
 }
 
-/// How many instructions the bytes are. It takes no memory.
+/// Returns the number of instructions that the bytes spell. It takes no memory.
 ///
 /// Refusals, slot by slot: a length that is no multiple of 8 (`Truncated`, first of all), then
 /// `Opcode`, `Register`, `NonzeroField` and `WideHalf`.
 pub fn check(bytes: &[u8]) -> Result<usize, DecodeError>
     ensures exact { result ≡ count_of bytes.now }
-    // What is counted is code.
+    // Bytes that are counted are code.
     ensures found { IfOk result (λ n. (is : List Insn) × IsCode bytes.now is × (n ≡ length is)) }
     // Code is counted.
     ensures only { (is : List Insn) → IsCode bytes.now is → result ≡ Ok (length is) }
@@ -101,9 +101,9 @@ fn read(alloc: Global, bytes: &[u8]) -> Result<Vec<Insn>, DecodeError>
 /// The instructions that the bytes are. It refuses as `check` does, and with `NoMemory`.
 pub fn decode(alloc: Global, bytes: &[u8]) -> Result<Vec<Insn>, DecodeError>
     ensures exact { Gives (λ v. v.items) result (code_of bytes.now) }
-    // What is read is spelled so.
+    // Bytes that are read are the spelling of the result.
     ensures found { IfOk result (λ v. IsCode bytes.now v.items) }
-    // What is spelled so is read, unless memory runs out.
+    // A spelling is read as its instructions, unless memory runs out.
     ensures only { (is : List Insn) → IsCode bytes.now is → Gives (λ v. v.items) result (Ok is) }
 {
     read(alloc, bytes)
@@ -156,6 +156,7 @@ fn first_slot(insn: Insn) -> Slot
         Insn::Mov { bits, dst, source } => operand_slot(OpcodeRow::MovImmediate(bits), OpcodeRow::MovRegister(bits), dst, source, 0),
         Insn::MovSigned { extension, dst, src } => row_slot(OpcodeRow::MovRegister(extension.bits()), dst.number(), src.number(), extension.offset(), 0),
         Insn::End { order, width, dst } => row_slot(OpcodeRow::End(order), dst.number(), 0, 0, width.bits()),
+        // Its second slot, with the high half, is written by `put_wide`.
         Insn::LoadWide { dst, value } => row_slot(OpcodeRow::Wide, dst.number(), 0, 0, low(value)),
         Insn::Load { width, dst, base, offset } => row_slot(OpcodeRow::Load(width), dst.number(), base.number(), offset.cast_unsigned(), 0),
         Insn::LoadSigned { width, dst, base, offset } => row_slot(OpcodeRow::LoadSigned(width), dst.number(), base.number(), offset.cast_unsigned(), 0),
@@ -226,7 +227,7 @@ pub fn encode(alloc: Global, insns: &[Insn]) -> Result<Vec<u8>, DecodeError>
     Ok(out)
 }
 
-/// How many slots the instructions take.
+/// The number of slots that the instructions take.
 pub fn slots(insns: &[Insn]) -> usize
     ensures total { result ≡ slot_total insns.now }
     ensures fit { AllFit insns.now }

@@ -6,7 +6,7 @@ use std::alloc::{AllocError, AllocFailed};
 use std::fmt;
 use thiserror::Error;
 
-/// Why bytes are refused. It prints as number and name, as `3 Opcode`.
+/// The refusal of bytes. It prints as number and name, as `3 Opcode`.
 #[derive(Clone, Copy, Debug, PartialEq, Eq, Error)]
 pub enum DecodeError {
     /// A field passes the end; of code alone, the length is no multiple of 8.

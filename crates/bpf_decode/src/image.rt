@@ -134,7 +134,7 @@ pub fn name_text(alloc: Global, name: &[u8]) -> Result<String, AllocError>
     String::from_utf8_lossy(alloc, name)
 }
 
-/// What stands before an image's methods.
+/// The header of an image: the rule set and the number of methods.
 #[derive(Clone, Copy)]
 struct Header {
     rules: RuleSet,
@@ -171,6 +171,7 @@ fn header_at(bytes: &[u8]) -> Result<(Header, &[u8]), DecodeError>
     if !limits::is_method_count(count as usize) {
         return Err(DecodeError::Limit);
     }
+    // The number after the count must be 0, so that a class has one image.
     let (zero, rest) = number_at(rest)?;
     if zero != 0 {
         return Err(DecodeError::Magic);
@@ -183,6 +184,7 @@ fn methods_at(alloc: Global, count: u16, bytes: &[u8]) -> Result<(Vec<Method>, &
     ensures refused { IfErr result (RefusesMethods count bytes.now) }
 {
     let mut methods = Vec::new(alloc);
+    // The empty name is below every other, so the first method passes the test of order.
     let mut before: &[u8] = &[];
     let mut rest = bytes;
     for done in 0..count {
@@ -233,9 +235,9 @@ fn class(alloc: Global, bytes: &[u8]) -> Result<ClassImage, ImageError>
 /// were read whole before it, too.
 pub fn read_image(alloc: Global, bytes: &[u8]) -> Result<ClassImage, ImageError>
     ensures exact { GivesImage (λ c. c) result (image_of bytes.now) }
-    // Where memory runs out, that many methods were read whole.
+    // If memory runs out, that many methods were read whole.
     ensures refused { IfErr result (RefusesImage bytes.now) }
-    // What is read is the class's spelling.
+    // Bytes that are read are the spelling of the class.
     ensures found { IfOk result (λ c. IsImage bytes.now c) }
     // A class's spelling is read, unless memory runs out.
     ensures only { (c : Class) → IsImage bytes.now c → GivesImage (λ c. c) result (Ok c) }

@@ -4,9 +4,9 @@ use crate::decode_error::DecodeError;
 use std::fmt;
 use thiserror::Error;
 
-/// Why an image is refused, and how many methods were read whole before. It prints as `image
-/// refused after 0 methods: 1 Truncated`, and with a slot as `image refused after 0 methods, slot
-/// 3: 3 Opcode`.
+/// The refusal of an image, and the number of methods that were read whole before. It prints as
+/// `image refused after 0 methods: 1 Truncated`, and with a slot as `image refused after 0 methods,
+/// slot 3: 3 Opcode`.
 #[derive(Clone, Copy, Debug, PartialEq, Eq, Error)]
 pub struct ImageError {
     pub methods: usize,

@@ -5,8 +5,7 @@ use crate::access::{SignedWidth, Width};
 use crate::operation::{Arithmetic, ByteOrder, Comparison, EndWidth, OpWidth, SignedMove};
 use crate::register::Register;
 
-/// What an instruction reads as well as its destination: a number in the instruction, or a
-/// register.
+/// The source operand of an instruction: an immediate, or a register.
 #[derive(Clone, Copy, PartialEq, Eq)]
 pub enum Operand {
     Immediate(i32),
@@ -102,7 +101,7 @@ pub enum Insn {
     Exit,
 }
 
-/// How many slots of eight bytes an instruction takes: 2 for the wide load, else 1.
+/// The number of slots of eight bytes that an instruction takes: 2 for the wide load, else 1.
 #[rattlefmt::skip]
 pub fn width(insn: &Insn) -> usize
     ensures { result ≡ slot_count insn.now }

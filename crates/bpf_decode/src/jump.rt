@@ -8,5 +8,6 @@ pub fn jump_target(slot: usize, distance: i64) -> usize
     requires { slot < 2 ^ 62 }
     ensures { result ≡ jump_target slot (extended distance) }
 {
+    // It wraps modulo 2^64: a target before slot 0 is a slot that no method has.
     ((slot + 1) as u64).wrapping_add(distance.cast_unsigned()) as usize
 }

@@ -28,7 +28,8 @@ pub fn one_spelling()
     ensures image { (a b : List ℕ) (c : Class) → IsImage a c → IsImage b c → a ≡ b }
 {}
 
-/// What was written is read as the same class, and what was read is written as the same bytes.
+/// A class that was written is read as the same class, and bytes that were read as a class are
+/// written as the same bytes.
 pub fn round_trip()
     ensures written { (bytes : List ℕ) (c : Class) → IsImage bytes c → image_of bytes ≡ Ok c }
     ensures read { (bytes written : List ℕ) (c : Class) → ((i : ℕ) → get_or bytes i 0 < 256) → image_of bytes ≡ Ok c → IsImage written c → written ≡ bytes }
@@ -36,8 +37,8 @@ pub fn round_trip()
     ensures read_code { (bytes written : List ℕ) (is : List Insn) → ((i : ℕ) → get_or bytes i 0 < 256) → code_of bytes ≡ Ok is → IsCode written is → written ≡ bytes }
 {}
 
-/// No image has more than `IMAGE_LIMIT` bytes. So of a longer file one byte more is enough: those
-/// after it change no answer of reading, a refusal neither.
+/// No image has more than `IMAGE_LIMIT` bytes. So it is enough to read `IMAGE_LIMIT + 1` bytes of a
+/// file: those after them change neither the class nor the refusal.
 pub fn beginning()
     ensures longest { (bytes : List ℕ) (c : Class) → IsImage bytes c → length bytes ≤ IMAGE_LIMIT }
     ensures image { (bytes : List ℕ) (c : Class) → IsImage (take (IMAGE_LIMIT + 1) bytes) c ↔ IsImage bytes c }

@@ -1,4 +1,4 @@
-//! What a class's numbers and names may be.
+//! The limits of a class's numbers and names.
 
 ghost use Rattle.std.specs.Prelude.{◌≡◌};
 ghost use Rattle.bpf_decode.specs.Limits.{is_method_count, is_name_length, is_name_byte, are_name_bytes, is_method_name, are_flags, is_capacity, is_slot_count};
@@ -19,14 +19,14 @@ pub const SLOT_LIMIT: usize = 4096;
 /// The bytes of the longest image: the header's 8, and for each method 8, its name and its slots.
 pub const IMAGE_LIMIT: usize = 8 + METHOD_LIMIT * (8 + NAME_LIMIT + 8 * SLOT_LIMIT);
 
-/// Whether a class may have that many methods.
+/// True if a class may have `count` methods: 1 to `METHOD_LIMIT`.
 pub(crate) fn is_method_count(count: usize) -> bool
     ensures { result ≡ is_method_count count }
 {
     1 <= count && count <= METHOD_LIMIT
 }
 
-/// Whether a name may have that many bytes.
+/// True if a name may have `length` bytes: 1 to `NAME_LIMIT`.
 pub(crate) fn is_name_length(length: usize) -> bool
     ensures { result ≡ is_name_length length }
 {
@@ -39,7 +39,7 @@ fn is_name_byte(byte: u8) -> bool
     matches!(byte, b'a'..=b'z' | b'0'..=b'9' | b'_')
 }
 
-/// Whether each byte is one of a-z, 0-9 and `_`.
+/// True if each byte is one of a-z, 0-9 and `_`.
 pub fn are_name_bytes(name: &[u8]) -> bool
     ensures { result ≡ are_name_bytes name.now }
 {
@@ -51,35 +51,35 @@ pub fn are_name_bytes(name: &[u8]) -> bool
     true
 }
 
-/// Whether it may name a method: 1 to `NAME_LIMIT` bytes, each one of a-z, 0-9 and `_`.
+/// True if it may name a method: 1 to `NAME_LIMIT` bytes, each one of a-z, 0-9 and `_`.
 pub fn is_method_name(name: &[u8]) -> bool
     ensures { result ≡ is_method_name name.now }
 {
     is_name_length(name.len()) && are_name_bytes(name)
 }
 
-/// The name is above the one before it, by bytes.
+/// True if the name is above the one before it, compared byte by byte.
 pub(crate) fn is_above(before: &[u8], name: &[u8]) -> bool
     ensures { result ≡ is_above before.now name.now }
 {
     before.cmp(&name).is_lt()
 }
 
-/// 1 reads, 2 writes, 3 both.
+/// True if they are a method's flags: 1 reads, 2 writes, 3 both.
 pub(crate) fn are_flags(flags: u8) -> bool
     ensures { result ≡ are_flags flags }
 {
     1 <= flags && flags <= 3
 }
 
-/// Whether input and output may have that many bytes.
+/// True if input and output may have up to `capacity` bytes: 0 to `CAPACITY_LIMIT`.
 pub(crate) fn is_capacity(capacity: u16) -> bool
     ensures { result ≡ is_capacity capacity }
 {
     capacity <= CAPACITY_LIMIT
 }
 
-/// Whether a method may have that many slots.
+/// True if a method may have `slots` slots: 1 to `SLOT_LIMIT`.
 pub(crate) fn is_slot_count(slots: usize) -> bool
     ensures { result ≡ is_slot_count slots }
 {

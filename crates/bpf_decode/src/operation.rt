@@ -2,8 +2,8 @@ ghost use Rattle.std.specs.Prelude.{◌≡◌};
 ghost use Rattle.bpf_decode.specs.Instruction.{alu_class, jump_class, operation_code, operation_offset, signed_move_bits, signed_move_offset, order_opcode, end_bits, comparison_code};
 ghost use Rattle.bpf_decode.specs.Opcodes.{operation_of, offset_selects, selected, order_of, imm_selects, end_width_of, move_selects, signed_move_of, comparison_of};
 
-/// Whether an operation works on all 64 bits of a register, or on the low 32 and zeroes the rest
-/// (RFC 9669 section 3.3: ALU64 and JMP, or ALU and JMP32).
+/// The width of an operation: all 64 bits of a register, or the low 32, and arithmetic zeroes the
+/// rest (RFC 9669 section 3.3: ALU64 and JMP, or ALU and JMP32).
 #[derive(Clone, Copy, PartialEq, Eq)]
 pub enum OpWidth {
     Bits32,
@@ -84,7 +84,7 @@ impl Arithmetic {
         }
     }
 
-    /// The operation of a code, where its offset field is 0.
+    /// The operation of a code if the offset field is 0.
     pub fn of(code: u8) -> Option<Arithmetic>
         ensures { result ≡ operation_of code }
     {
@@ -104,7 +104,7 @@ impl Arithmetic {
         }
     }
 
-    /// Whether an instruction of its code has that offset field.
+    /// True if an instruction of its code has that offset field.
     // An offset field that selects nothing is refused as one that should be zero and isn't.
     #[rattlefmt::skip]
     pub fn allows(self, offset: u16) -> bool
@@ -129,8 +129,8 @@ impl Arithmetic {
     }
 }
 
-/// A copy with sign extension (RFC 9669 section 4.1, MOVSX): how much is copied, and to how many
-/// bits.
+/// A copy with sign extension (RFC 9669 section 4.1, MOVSX): the bits that are copied, and the
+/// width to which they are extended.
 #[derive(Clone, Copy, PartialEq, Eq)]
 pub enum SignedMove {
     Byte64,
@@ -162,7 +162,7 @@ impl SignedMove {
         }
     }
 
-    /// Whether a copy with sign extension of that class has that offset field.
+    /// True if a copy with sign extension of that class has that offset field.
     pub fn exists(bits: OpWidth, offset: u16) -> bool
         ensures { result ≡ move_selects bits offset }
     {
@@ -217,7 +217,7 @@ impl ByteOrder {
     }
 }
 
-/// How many bits END keeps.
+/// The number of bits that END keeps.
 #[derive(Clone, Copy, PartialEq, Eq)]
 pub enum EndWidth {
     End16,
@@ -237,7 +237,7 @@ impl EndWidth {
         }
     }
 
-    /// Whether END has that immediate.
+    /// True if END has that immediate.
     pub fn exists(imm: u32) -> bool
         ensures { result ≡ imm_selects imm }
     {
@@ -258,7 +258,7 @@ impl EndWidth {
     }
 }
 
-/// What a conditional jump asks (RFC 9669 section 4.3).
+/// The comparison of a conditional jump (RFC 9669 section 4.3).
 #[derive(Clone, Copy, PartialEq, Eq)]
 pub enum Comparison {
     Equal,

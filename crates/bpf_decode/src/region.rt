@@ -6,14 +6,14 @@ ghost use Rattle.bpf_decode.specs.Values.{may_store};
 pub enum Region {
     /// The input, followed by zeros up to its capacity. It is read only.
     Input,
-    /// What the method may hand out: zeros at first.
+    /// The output that the method may hand out: zeros at first.
     Output,
     /// `STACK_SIZE` bytes, zeros at first. Register 10 points to their end.
     Stack,
 }
 
 impl Region {
-    /// Whether a method may store into it.
+    /// True if a method may store into it.
     pub fn is_writable(self) -> bool
         ensures { result ≡ may_store self }
     {

@@ -110,6 +110,7 @@ impl OpcodeRow {
         let class = opcode % 8;
         let source = opcode / 8 % 2;
         let code = opcode / 16;
+        // Codes 0, 8 and 9 of class 5 (JA, CALL, EXIT), and code 0 of class 6, compare nothing.
         if class == 4 {
             OpcodeRow::alu(OpWidth::Bits32, source, code)
         } else if class == 7 {
@@ -153,7 +154,7 @@ impl OpcodeRow {
         }
     }
 
-    /// Whether the fields that it doesn't use are zero, and a selecting field has a value of an
+    /// True if the fields that it doesn't use are zero, and a selecting field has a value of an
     /// instruction.
     #[rattlefmt::skip]
     pub fn allows(self, slot: &Slot) -> bool

@@ -1,4 +1,5 @@
-/// By which rules a class is verified. The first four bytes of its image say it: `RCL1` or `RCL2`.
+/// The rules by which a class is verified. The first four bytes of its image name them: `RCL1` or
+/// `RCL2`.
 #[derive(Clone, Copy, Debug, PartialEq, Eq)]
 pub enum RuleSet {
     One,

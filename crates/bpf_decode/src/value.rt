@@ -1,6 +1,6 @@
 use crate::region::Region;
 
-/// What a register of the typed machine holds: a number, or a place in a region.
+/// The content of a register of the typed machine: a number, or a pointer to an offset in a region.
 #[derive(Clone, Copy, PartialEq, Eq)]
 pub enum Value {
     Num(u64),

@@ -3,7 +3,7 @@ ghost use Rattle.std.specs.Int.{w64, cast_unsigned};
 
 use std::marker::Model;
 
-/// What a request is answered: its code and its output. Contracts see the log's reply.
+/// The answer to a request: its code and its output. Contracts see the log's reply.
 #[derive(Drop)]
 pub struct CallReply {
     code: i64,

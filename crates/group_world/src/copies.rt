@@ -68,7 +68,7 @@ fn copy_reply(
     Ok(MessageKind::Reply(client, number, place, copy_answer(alloc, answer)?))
 }
 
-/// What an equal message says.
+/// An equal content of a message.
 #[rattlefmt::skip]
 pub(crate) fn copy_kind(alloc: Global, kind: &MessageKind) -> Result<MessageKind, AllocError>
     ensures { IfOk result (λ k. k ≡ kind.now) }

@@ -1,4 +1,4 @@
-//! Which values of the protocol may go to another thread, and which may be shared by threads, for
+//! The values of the protocol that may go to another thread, and those that threads may share, for
 //! the proofs of the crates above. Each function does nothing.
 ghost use denote.Param.Send.{IsSend, IsSync};
 ghost use Rattle.group_world.specs.contracts.event.Event as event;

@@ -2,8 +2,8 @@ ghost use Rattle.std.specs.Prelude.{◌≡◌, ◌<◌, ◌^◌};
 
 use std::marker::Model;
 
-/// An epoch's number: 1 to 2^32 - 1, or 0 where there is none yet. An interval goes by the epoch in
-/// which it began. Contracts see the number.
+/// An epoch's number: 1 to 2^32 - 1, or 0 if there is none yet. An interval is named by the epoch
+/// in which it began. Contracts see the number.
 #[derive(Clone, Copy, PartialEq, Eq, Drop)]
 pub struct Epoch {
     number: u32,

@@ -2,7 +2,7 @@ use crate::group_map::GroupMap;
 use crate::message::Message;
 use pg_log::Request;
 
-/// What comes to a node.
+/// An event at a node.
 #[derive(Drop)]
 pub enum Event {
     /// A client's request.

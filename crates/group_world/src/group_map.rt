@@ -89,7 +89,7 @@ impl GroupMap {
         &self.acting
     }
 
-    /// The interval that was activated last when this one began, 0 where none was.
+    /// The interval that was activated last when this one began, 0 if none was.
     pub fn prev(&self) -> Epoch
         ensures { result ≡ self.now.prev }
     {

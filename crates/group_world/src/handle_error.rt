@@ -7,9 +7,9 @@ use std::alloc::{AllocError, AllocFailed};
 use std::error::Error;
 use std::fmt;
 
-/// Why a node refuses an event, which is then as one that never came. It prints as number and name,
-/// as `2 Peering`. Of several the first by number. Only a request is refused for another reason
-/// than memory.
+/// A node's refusal of an event, which is then as one that never came. It prints as number and
+/// name, as `2 Peering`. If several apply, it is the first by number. Only a request is refused for
+/// another reason than memory.
 #[derive(Clone, Copy, Debug, PartialEq, Eq, Drop)]
 pub enum HandleError {
     /// The node isn't its interval's primary.

@@ -1,5 +1,5 @@
-//! The theorem, what it comes to for one node, and what messages and refusals say. The functions do
-//! nothing.
+//! The theorem, its consequences for one node, and the laws of messages and refusals. The functions
+//! do nothing.
 ghost use Rattle.group_world.specs.World.{AllAgree, NoneIsCut, StepsCutNothing};
 ghost use Rattle.group_world.specs.Told.{RepliesAreCommitted, RefusalsAreDeserved};
 ghost use Rattle.group_world.specs.Monitor.{KeptStaysActivated};
@@ -9,12 +9,14 @@ use pg_log::{legal_lists, pairs, refusals, replies};
 /// From the opening world every list of events leads to an agreed world, and a further event leaves
 /// each node's committed list a beginning of what it is then.
 ///
-/// `specs/World.antt` says what a world, an event and an agreed world are, and `specs/Rules.antt`
-/// what a node does.
+/// `specs/World.antt` defines worlds, events and agreed worlds, and `specs/Rules.antt` the rules of
+/// a node.
 pub fn agreement()
     ensures agreed { AllAgree }
     ensures kept { NoneIsCut }
 {
+    // For the proof: the log's laws of legal lists, replies, pairs and refusals, on which this
+    // rests.
     legal_lists();
     replies();
     pairs();
@@ -26,19 +28,20 @@ pub fn nothing_is_cut()
     ensures { StepsCutNothing }
 {}
 
-/// Each Reply that a node sends at an event names a place of its committed list after the event, at
-/// which a request of that client and number stands, and carries what is answered there.
+/// Each Reply that a node sends at an event names a place of its committed list after the event.
+/// The request at that place has the Reply's client and number, and the Reply carries its answer.
 pub fn replies_are_committed()
     ensures { RepliesAreCommitted }
 {
+    // For the proof: the same laws of the log.
     legal_lists();
     replies();
     pairs();
     refusals();
 }
 
-/// A node refuses a request by `NoClass`, `NoMethod` or `InputTooLong` only where that is so by the
-/// loaded classes, as `pg_log::class_refusal` tests it.
+/// A node refuses a request by `NoClass`, `NoMethod` or `InputTooLong` only if
+/// `pg_log::class_refusal` gives that refusal by the loaded classes.
 pub fn refusals_are_deserved()
     ensures { RefusalsAreDeserved }
 {}

@@ -1,4 +1,4 @@
-//! What a group of nodes agrees on, whatever the network loses, repeats or reorders and whichever
+//! The agreement of a group of nodes, whatever the network loses, repeats or reorders and whichever
 //! nodes stop. The crate has the types that a node and the monitor handle (maps, events, messages,
 //! refusals), the rules of the protocol as definitions over lists (`specs/Rules.antt`, one
 //! definition a rule, and `specs/World.antt`, from the world to the agreed world), and the theorem:

@@ -11,7 +11,7 @@ use std::alloc::{AllocError, Global};
 /// A place in a log, from 0 on, as `pg_log` counts them.
 pub type Place = usize;
 
-/// What a message says. Epochs are those in which an interval began.
+/// The content of a message. Epochs are those in which an interval began.
 #[derive(Drop)]
 pub enum MessageKind {
     /// The primary of the map asks a member of the interval before for its list.
@@ -30,16 +30,16 @@ pub enum MessageKind {
     Rep(Epoch, Place, Request),
     /// A member of that interval has a list of that length.
     Ack(Epoch, usize),
-    /// The request of that client and number stands at that place, and is answered so.
+    /// The request of that client and number is at that place of the log, and has that answer.
     Reply(ClientId, RequestNumber, Place, CallReply),
 }
 
-/// A message, and who sends it.
+/// A message with its sender.
 #[derive(Drop)]
 pub struct Message {
-    /// Who sends it.
+    /// The sender.
     pub sender: Party,
-    /// What it says.
+    /// The content.
     pub kind: MessageKind,
 }
 
@@ -58,7 +58,7 @@ impl Message {
 /// A message on its way.
 #[derive(Drop)]
 pub struct Packet {
-    /// Whom it is for.
+    /// The receiver.
     pub receiver: Party,
     /// The message.
     pub message: Message,

@@ -20,7 +20,7 @@ impl Model for Messages {
 }
 
 impl Messages {
-    /// Those messages. It takes no memory.
+    /// The list of those messages. It takes no memory.
     pub fn new(items: Vec<Packet>) -> Messages
         ensures { result ≡ items.items }
     {
@@ -34,7 +34,7 @@ impl Messages {
         &self.items
     }
 
-    /// The messages, of which nothing is kept here. It takes no memory.
+    /// The messages, by value. It takes no memory.
     pub fn into_items(self) -> Vec<Packet>
         ensures { result.items ≡ self }
     {

@@ -6,8 +6,8 @@ use std::alloc::{AllocError, AllocFailed};
 use std::error::Error;
 use std::fmt;
 
-/// Why the monitor makes no map or activates nothing; it is then as before. It prints as number and
-/// name, as `2 NotNewest`. Of several the first by number.
+/// The monitor's refusal of a map or of an activation; it is then as before. It prints as number
+/// and name, as `2 NotNewest`. If several apply, it is the first by number.
 #[derive(Clone, Copy, Debug, PartialEq, Eq, Drop)]
 pub enum MonitorError {
     /// The acting list is empty, has more than three nodes or one twice, or a number above 15.

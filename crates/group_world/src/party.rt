@@ -1,7 +1,7 @@
 use pg_log::ClientId;
 use placement::NodeId;
 
-/// Who sends or receives a message.
+/// A sender or receiver of a message.
 #[derive(Clone, Copy, PartialEq, Eq, Drop)]
 pub enum Party {
     /// A node of the cluster.

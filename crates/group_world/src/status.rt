@@ -1,4 +1,4 @@
-/// What a node does in its interval.
+/// The state of a node in its interval.
 #[derive(Clone, Copy, PartialEq, Eq, Drop)]
 pub enum Status {
     /// It doesn't act.

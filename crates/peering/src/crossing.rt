@@ -1,5 +1,5 @@
-//! Which of the values here may go to another thread, for the proofs of the crates above. Each
-//! function does nothing.
+//! The values here that may go to another thread, for the proofs of the crates above. Each function
+//! does nothing.
 ghost use denote.Param.Send.{IsSend};
 ghost use Rattle.pg_log.specs.contracts.requests.Requests as requests;
 ghost use Rattle.peering.specs.contracts.monitor.Monitor as monitor;

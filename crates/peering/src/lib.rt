@@ -1,7 +1,7 @@
 //! The nodes of a group and its monitor, which carry out the rules of `group_world`: `GroupNode`
 //! takes requests, maps and messages and answers with messages; `Monitor` makes maps and activates
-//! intervals. What they do is the world's own step (`local_step`, `unanswered`, `next_map`), so
-//! that the theorem, `agreement`, speaks of them.
+//! intervals. Each of their calls is proved to be a step of the world (`local_step`, `unanswered`,
+//! `next_map`), so the theorem, `agreement`, holds of them.
 #![tactic(auto)]
 
 mod crossing;

@@ -11,8 +11,8 @@ use std::marker::Model;
 use std::mem;
 
 /// The monitor of a group: it makes maps and activates intervals. It keeps two maps, however many
-/// it made. Contracts see the newest map, and of what was activated last the interval and who acts
-/// in it.
+/// it made. Contracts see the newest map, and the interval that was activated last with its acting
+/// nodes.
 #[derive(Drop)]
 pub struct Monitor {
     alloc: Global,
@@ -82,10 +82,10 @@ impl Monitor {
 
 impl Monitor {
     /// Makes the next map, and gives it. If the acting list is that of the newest map, in the same
-    /// order, it keeps that map's interval and what was before it; else an interval begins, and
-    /// before it was the last activated one. It refuses by, the first that applies: `BadActing` if
-    /// the list hasn't one to three nodes, or has one twice or a number above 15; `EpochsUsedUp`
-    /// after epoch 2^32 - 1; `NoMemory`. A refusal leaves the monitor as it was.
+    /// order, the map keeps its interval and its `prev`; else an interval begins, and `prev` is the
+    /// last activated one. It refuses by, the first that applies: `BadActing` if the list hasn't
+    /// one to three nodes, or has one twice or a number above 15; `EpochsUsedUp` after epoch 2^32 -
+    /// 1; `NoMemory`. A refusal leaves the monitor as it was.
     pub fn new_map(&mut self, acting: &[NodeId]) -> Result<GroupMap, MonitorError>
         ensures ok { IfOk result (λ m. (m ≡ next_map self.old acting.now) × (map_refusal self.old acting.now ≡ None)) }
         ensures made { OnOk result (self.new ≡ with_map self.old acting.now) }
@@ -98,8 +98,9 @@ impl Monitor {
         Ok(next)
     }
 
-    /// The map that it would make next, which is `new_map`'s first half: all that grows. It changes
-    /// nothing, and refuses as `new_map` does. The map's lists are of the given allocator.
+    /// The map that it would make next. It is the first half of `new_map`, which takes the memory.
+    /// It changes nothing, and refuses as `new_map` does. The map's lists are of the given
+    /// allocator.
     pub fn next_map(&self, alloc: Global, acting: &[NodeId]) -> Result<GroupMap, MonitorError>
         ensures ok { IfOk result (λ m. (m ≡ next_map self.now acting.now) × (map_refusal self.now acting.now ≡ None)) }
         ensures next { IfOk result (λ m. IsNextMap self.now m) }
@@ -122,6 +123,7 @@ impl Monitor {
         ensures { self.new ≡ with_map self.old map.acting }
     {
         let before = mem::replace(&mut self.newest, map);
+        // The replaced map was the newest at the last activation, so it is kept.
         if self.is_activated {
             self.activated = before;
             self.is_activated = false;
@@ -169,6 +171,7 @@ impl Monitor {
         ensures ok { OnOk result (self.new ≡ with_activated self.old) }
         ensures refused { OnErr result (self.new ≡ self.old) }
     {
+        // Interval 0 is that of `no_map`: before the first map there is nothing to activate.
         if interval.get() == 0 || interval != self.newest.interval() {
             return Err(MonitorError::NotNewest);
         }

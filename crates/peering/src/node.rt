@@ -107,21 +107,21 @@ impl<C: Classes> GroupNode<C> {
         self.interval
     }
 
-    /// What it does in that interval.
+    /// Its state in that interval.
     pub fn status(&self) -> Status
         ensures { result ≡ self.now.state.status }
     {
         self.status
     }
 
-    /// How many entries its log has.
+    /// The number of entries of its log.
     pub fn len(&self) -> usize
         ensures { result ≡ length self.now.state.log }
     {
         self.group.len()
     }
 
-    /// How many of them are committed, from the first on.
+    /// The number of its entries that are committed, from the first on.
     pub fn committed(&self) -> usize
         ensures value { result ≡ self.now.state.committed }
         ensures within { self.now.state.committed ≤ length self.now.state.log }
@@ -154,6 +154,8 @@ impl<C: Classes> GroupNode<C> {
             members,
             status: self.status,
             group,
+            // An empty list satisfies the invariant: the copy makes its list when a message needs
+            // one.
             listed: Requests::none(),
             committed: self.committed,
             joined,
@@ -169,14 +171,14 @@ impl<C: Classes> GroupNode<C> {
     ///
     /// The table is that of the earlier calls, or that one with classes added.
     ///
-    /// What each event costs, apart from what it sends: a request at the primary its call, a
-    /// logarithm and a copy of the request for each other member; a Rep its call; an Ack a constant
-    /// and a Reply for each newly committed entry; a Query a copy of the whole log. The list of a
-    /// Log at an asking primary is tested before anything is copied or run, which costs a
-    /// comparison with what is committed and a logarithm for each request. A usable one costs a
-    /// copy for each other member, a comparison with the log, and what undoing and running the ends
-    /// costs. The list of an Install costs that comparison and the ends if the node waits, else the
-    /// test alone.
+    /// The cost of each event, apart from its messages: of a request at the primary its call, a
+    /// logarithm and a copy of the request for each other member; of a Rep its call; of an Ack a
+    /// constant and a Reply for each newly committed entry; of a Query a copy of the whole log. The
+    /// list of a Log at an asking primary is tested before anything is copied or run, which costs a
+    /// comparison with the committed list and a logarithm for each request. A usable one costs a
+    /// copy for each other member, a comparison with the log, and undoing and running the ends. The
+    /// list of an Install costs that comparison and the ends if the node waits, else the test
+    /// alone.
     pub fn handle(&mut self, table: &ClassTable, event: Event) -> Result<Messages, HandleError>
         requires table { IsPrefix table.now C.classes }
         requires legal { Legal table.now self.old.state.log }
@@ -186,6 +188,8 @@ impl<C: Classes> GroupNode<C> {
         ensures why { IfErr result (λ e. IsRefusal (local_step table.now self.old.number self.old.state event) e) }
         ensures legal { Legal table.now self.new.state.log }
     {
+        // For the proof: a list is legal exactly if nothing refuses its requests, and its
+        // beginnings are then legal too.
         legal_lists();
         refusals();
         let sent = self.take(table, event)?;
@@ -199,6 +203,7 @@ impl<C: Classes> GroupNode<C> {
         ensures refused { OnErr result (self.new ≡ self.old) }
         ensures why { IfErr result (λ e. IsRefusal (local_step table.now self.old.number self.old.state event) e) }
     {
+        // For the proof: the same laws of legal lists.
         legal_lists();
         refusals();
         match event {
@@ -235,7 +240,7 @@ impl<C: Classes> GroupNode<C> {
         }
     }
 
-    /// Takes an Ack, of which one of a node counts.
+    /// Takes an Ack. Only one that a node sent counts.
     fn take_ack(
         &mut self,
         table: &ClassTable,

@@ -6,7 +6,7 @@ ghost use Rattle.group_world.specs.Rules.{is_same_request};
 use pg_log::Request;
 use placement::{NodeId, has};
 
-/// Whether each of the first nodes is among the second.
+/// True if each of `nodes` is among `others`.
 pub fn are_among(nodes: &[NodeId], others: &[NodeId]) -> bool
     ensures { result ≡ all_among nodes.now others.now }
 {
@@ -18,7 +18,7 @@ pub fn are_among(nodes: &[NodeId], others: &[NodeId]) -> bool
     true
 }
 
-/// Whether the node is the first.
+/// True if the node is the first, and so the primary.
 pub fn leads(nodes: &[NodeId], node: NodeId) -> bool
     ensures { result ≡ is_first node nodes.now }
 {
@@ -28,7 +28,7 @@ pub fn leads(nodes: &[NodeId], node: NodeId) -> bool
     }
 }
 
-/// Whether the lists are equal.
+/// True if the lists are equal: the same nodes in the same order.
 pub fn are_same(nodes: &[NodeId], others: &[NodeId]) -> bool
     ensures { result ≡ is_same_list nodes.now others.now }
 {
@@ -43,7 +43,7 @@ pub fn are_same(nodes: &[NodeId], others: &[NodeId]) -> bool
     true
 }
 
-/// Whether the requests are equal.
+/// True if the requests are equal.
 pub fn is_same_request(request: &Request, other: &Request) -> bool
     ensures { result ≡ is_same_request request.now other.now }
 {

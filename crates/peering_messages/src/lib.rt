@@ -1,6 +1,6 @@
 //! The messages of a group's node: Queries, Installs, Reps and Replies with their receivers, and
-//! tests of lists of nodes and of requests. When a node sends which is `peering`'s. Each fails for
-//! want of memory alone; what was to grow is then of no further use.
+//! tests of lists of nodes and of requests. `peering` decides when a node sends them. Each fails
+//! for want of memory alone; a list that it was extending is then of no further use.
 #![tactic(auto)]
 
 mod compare;

@@ -26,7 +26,7 @@ pub fn packet(number: NodeId, receiver: Party, kind: MessageKind) -> Packet
     }
 }
 
-/// Adds a message to those that are sent. If memory is refused they are as they were.
+/// Adds a message to those that are sent. If memory is refused, they stay as they were.
 pub fn send(sent: &mut Vec<Packet>, packet: Packet) -> Result<(), HandleError>
     ensures ok { OnOk result (sent.new.items ≡ sent.old.items ++ packet ∷ []) }
     ensures err { IfErr result (λ e. e ≡ HandleError.NoMemory) }
@@ -148,7 +148,7 @@ fn send_rep(
     send(sent, packet(number, Party::Node(node), kind))
 }
 
-/// A Rep to one node of each of these entries, which stand in the log from a place on.
+/// A Rep to one node of each of the log's entries from a place on.
 pub fn reps_to(
     alloc: Global,
     number: NodeId,
@@ -168,7 +168,7 @@ pub fn reps_to(
     Ok(())
 }
 
-/// What the primary sends on adopting a list: Install to the others, and if it acts alone
+/// The messages of a primary that adopts a list: Install to the others, and if it acts alone
 /// AskActivate to the monitor.
 #[tactic(auto, using(crate::proofs::Messages::to_missing_none))]
 pub fn adoption(

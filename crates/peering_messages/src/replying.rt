@@ -1,4 +1,4 @@
-//! Replies to what is committed. Each is made by `reply`, from an entry.
+//! Replies to committed requests. Each is made by `reply`, from an entry.
 ghost use Rattle.std.specs.Prelude.{◌≡◌, ◌<◌, ◌≤◌, ◌+◌, ◌++◌, ◌∷◌, [], drop, length, take, slice_get, Some, IfOk, IfErr, OnOk};
 ghost use Rattle.pg_log.specs.Requests.{ClientRequest};
 ghost use Rattle.group_world.specs.Node.{packet};
@@ -11,7 +11,7 @@ use pg_log::{ClassTable, Classes, Entry, Group, classes_added, replies as replie
 use placement::NodeId;
 use std::alloc::Global;
 
-/// The Reply to the request of an entry, which stands at that place of the log.
+/// The Reply to the request of an entry, which is at that place of the log.
 fn reply(alloc: Global, number: NodeId, place: Place, entry: &Entry) -> Result<Packet, HandleError>
     ensures ok { IfOk result (λ p. p ≡ packet number (Party.Client entry.now.request.client) (MessageKind.Reply entry.now.request.client entry.now.request.number place (answer_in entry.now))) }
     ensures err { IfErr result (λ e. e ≡ HandleError.NoMemory) }
@@ -28,6 +28,8 @@ fn entry_at<'a, C: Classes>(table: &ClassTable, group: &'a Group<C>, place: Plac
     requires within { place < length group.now }
     ensures { IsEntryAt table.now group.now place result.now }
 {
+    // For the proof: code and output of an entry are the reply of its place, by the given table
+    // too.
     classes_added();
     replies_of_lists();
     &group.entries()[place]
@@ -45,6 +47,7 @@ fn entry_with<'a, C: Classes>(
     requires within { place ≤ length group.now }
     ensures { IsEntryAt table.now (group.now ++ next.now.request ∷ []) place result.now }
 {
+    // For the proof: the reply of a place stays the same with one entry more.
     replies_of_lists();
     if place < group.len() {
         return entry_at(table, group, place);

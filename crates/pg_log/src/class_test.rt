@@ -1,4 +1,4 @@
-//! Whether the loaded classes can run a request.
+//! The test that the loaded classes can run a request.
 ghost use Rattle.std.specs.Prelude.{◌≡◌, ◌≤◌, IfOk, IfErr, None, Some, length, slice_get};
 ghost use Rattle.pg_log.specs.Log.{method_of};
 ghost use Rattle.pg_log.specs.Refusals.{refusal_of_class};
@@ -7,9 +7,9 @@ use crate::log_error::LogError;
 use crate::request::Request;
 use interp::{ClassTable, VerifiedMethod};
 
-/// Why the table's classes can't run a request, if they can't: `NoClass`, `NoMethod` or
+/// The refusal of a request by the table's classes, if they can't run it: `NoClass`, `NoMethod` or
 /// `InputTooLong`, the first that applies. `append` refuses by the same test, once the log has room
-/// and the client's number is new. It costs the number of the class's methods.
+/// and the client's number is new. It takes time linear in the number of the class's methods.
 pub fn class_refusal(table: &ClassTable, request: &Request) -> Option<LogError>
     ensures { result ≡ refusal_of_class (slice_get table.now request.now.class) request.now }
 {
@@ -19,7 +19,7 @@ pub fn class_refusal(table: &ClassTable, request: &Request) -> Option<LogError>
     }
 }
 
-/// The method of a request that the table's classes can run, else why they can't.
+/// The method of a request that the table's classes can run, else the refusal.
 pub(crate) fn method_of<'a>(
     table: &'a ClassTable,
     request: &Request,

@@ -1,5 +1,5 @@
-//! Which of the log's values may go to another thread, and which may be shared by threads, for the
-//! proofs of the crates above: a search for the parts of a group all at once is too long. Each
+//! The log's values that may go to another thread, and those that threads may share, for the proofs
+//! of the crates above: the prover's search for all parts of a group at once is too long. Each
 //! function does nothing.
 ghost use denote.Param.Send.{IsSend, IsSync};
 ghost use Rattle.interp.specs.contracts.class_table.ClassTable as table;

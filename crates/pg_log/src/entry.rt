@@ -6,7 +6,7 @@ use crate::request::Request;
 use std::alloc::Global;
 use txn::Change;
 
-/// A logged request with its reply and what it did to its object.
+/// A logged request with its reply and the change of its object.
 #[derive(Drop)]
 pub struct Entry {
     /// The request.

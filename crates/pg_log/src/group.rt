@@ -95,7 +95,7 @@ impl<C: Classes> Group<C> {
         &self.log.entries
     }
 
-    /// How many entries the log has, at most 65,536.
+    /// The number of the log's entries, at most 65,536.
     pub fn len(&self) -> usize
         ensures value { result ≡ length self.now }
         ensures limit { length self.now ≤ LOG_LIMIT }
@@ -103,7 +103,7 @@ impl<C: Classes> Group<C> {
         self.log.entries.len()
     }
 
-    /// Whether the log has no entry.
+    /// True if the log has no entry.
     pub fn is_empty(&self) -> bool
         ensures { result ≡ (length self.now == 0) }
     {
@@ -141,6 +141,7 @@ impl<C: Classes> Group<C> {
         ensures within { IsObject (option_copied result) }
     {
         let object = self.log.objects.get(name)?;
+        // For the proof: a stored object's content is within the limits.
         object.within();
         Some(object)
     }

@@ -7,20 +7,20 @@ use interp::ClassTable;
 use std::alloc::Global;
 use std::marker::Brand;
 
-/// What is to be done with a group and the table of its classes, whatever name the classes go by.
+/// Work on a group and the table of its classes, for any name (`Classes`) of these.
 pub trait GroupWork {
     ghost use Rattle.std.specs.Prelude.{List};
     ghost use Rattle.bpf_decode.specs.Class.{ClassMethod};
     ghost use Rattle.pg_log.specs.Requests.{ClientRequest};
 
-    /// What it gives.
+    /// The result of the work.
     type Output;
 
-    /// What is known of that, by the work, the classes, and the list of the group that it is
-    /// handed.
+    /// The postcondition of the result, by the work, the classes, and the list of the group that it
+    /// is handed.
     ghost gives: { Self → List (List ClassMethod) → List ClientRequest → Self.Output → Type 0 };
 
-    /// Does it. All calls on the group may be given the table.
+    /// Does the work. All calls on the group may be given the table.
     fn work<C: Classes>(self, table: &ClassTable, group: Group<C>) -> Self::Output
         requires table { table.now ≡ C.classes }
         requires fits { IsPrefix table.now C.classes }
@@ -43,7 +43,7 @@ pub fn start<C: Classes, W: GroupWork>(alloc: Global, table: &ClassTable, work: 
     work.work::<C>(table, Group::new(alloc))
 }
 
-/// Goes on with a group where classes were added to its table: names the classes of the longer
+/// Goes on with a group after classes were added to its table: names the classes of the longer
 /// table, and does the work with it and the same group for those classes.
 pub fn go_on<C: Classes, W: GroupWork>(table: &ClassTable, group: Group<C>, work: W) -> W::Output
     requires { IsPrefix C.classes table.now }

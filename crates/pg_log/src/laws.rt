@@ -5,7 +5,7 @@ ghost use Rattle.pg_log.specs.declared.group.TheConstants.{LOG_LIMIT};
 ghost use Rattle.pg_log.specs.Laws.{BeginningsAreLegal, EmptyIsLegal, AppendIsAStep, FoldIsAStep, FoldGoesOn, FoldsStay, UndoingGoesBack, RepliesStay, LastReply, RepliesAreThere, EntriesHaveReplies, PairsStandOnce, PlaceIsThePairs, PlaceHasThePair, ClassesAdded, RefusalsAreExact, ListsAreExact, AdoptingIsReplaying};
 
 /// Every beginning of a legal list is legal, the empty list too; a list with one request more is
-/// legal exactly where the list is and the request may follow it.
+/// legal exactly if the list is and the request may follow it.
 pub fn legal_lists()
     ensures beginnings { BeginningsAreLegal }
     ensures empty { EmptyIsLegal }
@@ -26,7 +26,7 @@ pub fn undoing()
 {}
 
 /// The replies of a list: one at each place, that of the last request on the objects before it, and
-/// the same whatever follows. What an entry of a log says is the reply of its place.
+/// the same whatever follows. Code and output of a log's entry are the reply of its place.
 pub fn replies()
     ensures there { RepliesAreThere }
     ensures last { LastReply }
@@ -34,8 +34,8 @@ pub fn replies()
     ensures entries { EntriesHaveReplies }
 {}
 
-/// A pair of client and number stands at most once in a legal list, and its place is the one at
-/// which it stands, in range.
+/// A pair of client and number is at most once in a legal list, and `place_of` gives its place,
+/// which is in range.
 pub fn pairs()
     ensures once { PairsStandOnce }
     ensures place { PlaceIsThePairs }
@@ -47,8 +47,8 @@ pub fn classes_added()
     ensures { ClassesAdded }
 {}
 
-/// A request may follow a list exactly where nothing refuses it, and a list is legal exactly where
-/// none of its requests is refused.
+/// A request may follow a list exactly if nothing refuses it, and a list is legal exactly if none
+/// of its requests is refused.
 pub fn refusals()
     ensures requests { RefusalsAreExact }
     ensures lists { ListsAreExact }

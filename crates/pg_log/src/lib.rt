@@ -1,10 +1,10 @@
 //! The log of a group, the sequential object that replication copies. `Group` runs requests one
 //! after another: `append` gives the place of a logged pair of client and number, or adds the
-//! request where the list stays legal, or refuses. Its objects, replies and index are always those
-//! of its list, by the machine's outcome of each request in turn. The classes that it may be handed
-//! are named by its type (`Classes`); `with_group` names those of a table. A group goes on by a
-//! name with classes added (`go_on`). The laws of legal lists, of their objects and of their
-//! replies are contracts of functions that do nothing.
+//! request if the list stays legal, or refuses. Its objects, replies and index are always those of
+//! its list, by the machine's outcome of each request in turn. The classes that it may be handed
+//! are named by its type (`Classes`); `with_group` names those of a table. `go_on` gives a group a
+//! name with classes added. The laws of legal lists, of their objects and of their replies are
+//! contracts of functions that do nothing.
 #![tactic(auto)]
 
 mod class_test;

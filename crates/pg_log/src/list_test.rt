@@ -1,4 +1,4 @@
-//! Whether a list can be run, tested without running it.
+//! The test that a list can be run, without running it.
 ghost use Rattle.std.specs.Prelude.{◌≡◌, List, length, IfOk, IfErr};
 ghost use Rattle.pg_log.specs.Requests.{ClientRequest};
 ghost use Rattle.pg_log.specs.Log.{NumbersRise};
@@ -13,8 +13,8 @@ use crate::request::Request;
 use interp::ClassTable;
 use std::alloc::Global;
 
-/// Why a list can't be run, if it can't: what refuses the first of its requests that can't follow
-/// those before it, as `replay` would. It runs nothing, and costs a logarithm of the number of
+/// The refusal of a list that can't be run, as `replay` would refuse it: that of the first request
+/// that can't follow those before it. It runs nothing, and costs a logarithm of the number of
 /// clients for each request. It refuses by `NoMemory` alone.
 pub fn list_refusal(
     alloc: Global,
@@ -36,7 +36,7 @@ pub fn list_refusal(
     Ok(None)
 }
 
-/// Why a request can't follow a list that ends before a place, with its index, if it can't.
+/// The refusal of a request that can't follow a list that ends before a place, by the list's index.
 fn refusal_after(
     table: &ClassTable,
     place: usize,

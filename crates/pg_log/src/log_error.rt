@@ -7,8 +7,8 @@ use std::error::Error;
 use std::fmt;
 use txn::NoMemory as NoRoom;
 
-/// Why a request isn't logged. It prints as number and name, as `2 StaleNumber`. Of several the
-/// first in the order 1, 2, 4, 5, 6, 3.
+/// The refusal of a request. It prints as number and name, as `2 StaleNumber`. If several apply, it
+/// is the first in the order 1, 2, 4, 5, 6, 3.
 #[derive(Clone, Copy, Debug, PartialEq, Eq)]
 pub enum LogError {
     /// The log has 65,536 entries.

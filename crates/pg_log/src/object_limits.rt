@@ -10,16 +10,18 @@ use bpf_machine::{limits_are_kept, outcomes};
 pub fn objects_within_limits()
     ensures { FoldsAreWithinLimits }
 {
+    // For the proof: a run leaves an object within the limits.
     limits_are_kept();
 }
 
 /// Each request of a legal list of safe methods ran: wherever its memory lies, its method's bytes
-/// end so on the object that the requests before it left, in at most as many steps as the method
-/// has instructions; code and output are the reply at the place, and the object is the one that is
+/// end on the object that the requests before it left, in no more steps than the method has
+/// instructions; code and output are the reply at the place, and the object is the one that is
 /// left. The function does nothing.
 pub fn replies_run()
     ensures { RepliesRun }
 {
+    // For the proof: each run is on an object within the limits, and has one outcome.
     limits_are_kept();
     outcomes();
 }

@@ -22,7 +22,7 @@ pub(crate) struct Places {
 }
 
 impl Places {
-    /// Those of the empty list.
+    /// The places of the empty list.
     pub(crate) fn new(alloc: Global) -> Places
         ensures { ArePlaces result [] }
     {
@@ -41,7 +41,7 @@ impl Places {
         }
     }
 
-    /// Whether the client has a request of that number or of a greater one.
+    /// True if the client has a request of that number or of a greater one.
     pub(crate) fn is_reached(&self, client: ClientId, number: RequestNumber) -> bool
         ensures { (list : List ClientRequest) → ArePlaces self.now list → NumbersRise list → result ≡ is_reached client number list }
     {
@@ -91,6 +91,7 @@ impl Places {
         ensures room { RoomStays self.old self.new }
     {
         let requests = just(alloc, request)?;
+        // The key is new (the requires), so there is no old value to use.
         let _ = self.by_client.insert(key, requests)?;
         Ok(())
     }
@@ -101,6 +102,8 @@ impl Places {
         ensures room { RoomStays self.old self.new }
     {
         if let Some(requests) = self.by_client.get_mut(&client.get()) {
+            // The list's last request is the last of its client's, since they were added in order.
+            // A client's list that is empty then stays, with its room, for `give_back`.
             let _ = requests.pop();
         }
     }
@@ -134,7 +137,7 @@ impl Places {
     }
 }
 
-/// That request alone.
+/// The list of that request alone.
 fn just(alloc: Global, request: (u32, usize)) -> Result<Vec<(u32, usize)>, AllocError>
     ensures { IfOk result (λ v. v.items ≡ request ∷ []) }
 {
@@ -159,7 +162,8 @@ fn find(requests: &[(u32, usize)], number: u32) -> Option<usize>
     }
 }
 
-/// Whether there is that number or a greater one, by the last.
+/// True if there is that number or a greater one. The last is the greatest, so it alone is
+/// compared.
 fn reaches(requests: &[(u32, usize)], number: u32) -> bool
     ensures { IsRising requests.now → result ≡ reaches_in number requests.now }
 {

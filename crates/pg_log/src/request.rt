@@ -11,8 +11,8 @@ use std::marker::Model;
 use std::sync::Arc;
 
 /// A client's request: a method of a class, to be run on an object. It never changes once it is
-/// made, so all copies of it, in logs, in messages and under way, share one value, and a copy costs
-/// a count. Contracts see its parts.
+/// made, so all copies of it, in logs and in messages, share one value by reference count.
+/// Contracts see its parts.
 pub struct Request {
     parts: Arc<RequestParts>,
 }
@@ -46,14 +46,14 @@ impl Request {
         })
     }
 
-    /// Who asks.
+    /// The client that sent it.
     pub fn client(&self) -> ClientId
         ensures { result ≡ self.now.client }
     {
         self.parts.client
     }
 
-    /// Which of the client's requests it is.
+    /// The number that the client gave it.
     pub fn number(&self) -> RequestNumber
         ensures { result ≡ self.now.number }
     {
@@ -88,7 +88,8 @@ impl Request {
         &self.parts.input
     }
 
-    /// The same request by one count more. It refuses by `NoMemory` alone, where the count is full.
+    /// The same request, by one reference more. It refuses by `NoMemory` alone, if the reference
+    /// count is full.
     pub fn copy(&self) -> Result<Request, LogError>
         ensures ok { IfOk result (λ r. r ≡ self.now) }
         ensures err { IfErr result (λ e. e ≡ LogError.NoMemory) }
@@ -98,15 +99,15 @@ impl Request {
         })
     }
 
-    /// Whether the two are one request: equal in each part. Two copies of one are compared by their
-    /// bytes, too: the kit's `Arc` tells nothing of two pointers that are equal.
+    /// True if the two are one request: equal in each part. Two copies of one are compared by their
+    /// bytes, too: no contract of `Arc` says anything of equal pointers.
     pub fn is(&self, other: &Request) -> bool
         ensures { IsTrue result ↔ (self.now ≡ other.now) }
     {
         self.has_numbers_of(other) && self.has_texts_of(other)
     }
 
-    /// Whether client, number and class are equal.
+    /// True if client, number and class are equal.
     fn has_numbers_of(&self, other: &Request) -> bool
         ensures { IsTrue result ↔ ((self.now.client ≡ other.now.client) × (self.now.number ≡ other.now.number) × (self.now.class ≡ other.now.class)) }
     {
@@ -115,7 +116,7 @@ impl Request {
             && self.class() == other.class()
     }
 
-    /// Whether object, method and input are equal.
+    /// True if object, method and input are equal.
     fn has_texts_of(&self, other: &Request) -> bool
         ensures { IsTrue result ↔ ((self.now.object ≡ other.now.object) × (self.now.method ≡ other.now.method) × (self.now.input ≡ other.now.input)) }
     {

@@ -17,7 +17,8 @@ fn add_copy(request: &Request, copies: &mut Vec<Request>) -> Result<(), LogError
     Ok(())
 }
 
-/// The same requests. It refuses by `NoMemory` alone, and costs a count and a pointer each.
+/// The same requests, shared. It refuses by `NoMemory` alone, and costs a reference and a pointer
+/// each.
 pub fn copy_requests(alloc: Global, list: &[Request]) -> Result<Vec<Request>, LogError>
     ensures ok { IfOk result (λ v. v.items ≡ list.now) }
     ensures err { IfErr result (λ e. e ≡ LogError.NoMemory) }
@@ -29,8 +30,8 @@ pub fn copy_requests(alloc: Global, list: &[Request]) -> Result<Vec<Request>, Lo
     Ok(copies)
 }
 
-/// The requests of these entries. It refuses by `NoMemory` alone, and costs a count and a pointer
-/// each.
+/// The requests of these entries, shared. It refuses by `NoMemory` alone, and costs a reference and
+/// a pointer each.
 pub fn copy_log(alloc: Global, entries: &[Entry]) -> Result<Vec<Request>, LogError>
     ensures ok { IfOk result (λ v. v.items ≡ requests_of entries.now) }
     ensures err { IfErr result (λ e. e ≡ LogError.NoMemory) }
@@ -42,7 +43,7 @@ pub fn copy_log(alloc: Global, entries: &[Entry]) -> Result<Vec<Request>, LogErr
     Ok(copies)
 }
 
-/// Whether the lists are equal.
+/// True if the lists are equal.
 pub fn are_same_requests(list: &[Request], other: &[Request]) -> bool
     ensures { IsTrue result ↔ (list.now ≡ other.now) }
 {

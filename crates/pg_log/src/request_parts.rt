@@ -2,12 +2,12 @@ use crate::client_id::ClientId;
 use crate::request_number::RequestNumber;
 use object_store::ObjectName;
 
-/// What a request says.
+/// The parts of a request.
 #[derive(Drop)]
 pub struct RequestParts {
-    /// Who asks.
+    /// The client that sent it.
     pub client: ClientId,
-    /// Which of the client's requests it is.
+    /// The number that the client gave it.
     pub number: RequestNumber,
     /// The name of the object.
     pub object: ObjectName,

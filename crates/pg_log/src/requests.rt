@@ -5,8 +5,8 @@ use std::alloc::{AllocError, Global};
 use std::marker::Model;
 use std::sync::Arc;
 
-/// A list of requests that never changes once it is made, as a message carries it. A copy of it,
-/// and what it has from a place on, share it and cost a count. Contracts see the list.
+/// A list of requests that never changes once it is made, as a message carries it. Its copies, and
+/// its rests from a place on, share it by reference count. Contracts see the list.
 pub struct Requests {
     all: Option<Arc<Vec<Request>>>,
     from: usize,
@@ -60,21 +60,21 @@ impl Requests {
         }
     }
 
-    /// Whether there is none.
+    /// True if there is no request.
     pub fn is_empty(&self) -> bool
         ensures { result ≡ (length self.now == 0) }
     {
         self.items().is_empty()
     }
 
-    /// How many they are.
+    /// The number of requests.
     pub fn len(&self) -> usize
         ensures { result ≡ length self.now }
     {
         self.items().len()
     }
 
-    /// The same list by one count more. It fails where the count is full, alone.
+    /// The same list, by one reference more. It fails only if the reference count is full.
     pub fn copy(&self) -> Result<Requests, AllocError>
         ensures { IfOk result (λ r. r ≡ self.now) }
     {

@@ -1,6 +1,6 @@
 ghost use Rattle.placement.specs.Laws.{ActingSetsMayAct, RankedIsRanking};
 
-/// The ranked nodes are the given ones, and none ranks above one that stands before it.
+/// The ranked nodes are the given ones, and none ranks above one before it.
 pub fn ranking()
     ensures { RankedIsRanking }
 {}

@@ -1,8 +1,8 @@
-//! Which group an object is in, and which nodes act for a group: formulas over whole numbers modulo
-//! 2^64, which every node and client computes alike, without asking anybody. `group_of` is the
-//! object's group by the hash of its name, `score` what a node weighs for a group, and `acting` the
-//! group's acting set: the up nodes by falling score, cut to the number of replicas. Its first is
-//! the primary. `is_acting` tests whether a list may act, as each acting set may (`acting_sets`).
+//! The group of an object, and the acting set of a group: formulas over whole numbers modulo 2^64,
+//! which every node and client computes alike, without asking anybody. `group_of` is the object's
+//! group by the hash of its name, `score` the score of a node for a group, and `acting` the group's
+//! acting set: the up nodes by falling score, cut to the number of replicas. Its first is the
+//! primary. `is_acting` tests if a list may act, as each acting set may (`acting_sets`).
 #![tactic(auto)]
 
 mod acting_set;

@@ -2,7 +2,7 @@ ghost use Rattle.std.specs.Prelude.{◌≡◌};
 
 use std::marker::Model;
 
-/// A node's number. Those of a cluster's nodes are 0 to 15; another number is a node of none.
+/// A node's number. A cluster's nodes have numbers of 0 to 15; any other number names no node.
 /// Contracts see the number.
 #[derive(Clone, Copy, PartialEq, Eq, Drop)]
 pub struct NodeId {

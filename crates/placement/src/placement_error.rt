@@ -5,14 +5,14 @@ use std::alloc::{AllocError, AllocFailed};
 use std::error::Error;
 use std::fmt;
 
-/// Why a group has no acting set. It prints as number and name, as `1 NoneUp`. Of several the first
-/// by number.
+/// The refusal of an acting set. It prints as number and name, as `1 NoneUp`. If several apply, it
+/// is the first by number.
 #[derive(Clone, Copy, Debug, PartialEq, Eq, Drop)]
 pub enum PlacementError {
     /// No node is up.
     NoneUp,
-    /// The map's epoch, a node, the number of replicas or of groups is outside its range, a node
-    /// stands twice among those that are up, or the group isn't below the number of groups.
+    /// The map's epoch, a node, the number of replicas or of groups is outside its range, a node is
+    /// twice among those that are up, or the group isn't below the number of groups.
     Limit,
     /// Memory was refused.
     NoMemory,

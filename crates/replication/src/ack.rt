@@ -5,8 +5,8 @@ use placement::NodeId;
 pub struct Ack {
     /// The sender's epoch.
     pub epoch: u32,
-    /// Whose log it is.
+    /// The member.
     pub sender: NodeId,
-    /// How many entries its log has.
+    /// The number of entries of its log.
     pub length: usize,
 }

@@ -1,7 +1,7 @@
-//! What a group's nodes say to one another about their logs: a request at its place (`Rep`), the
-//! length of a member's log (`Ack`), and a list of which the receiver has the beginning
-//! (`PackedLog`). `append_at` puts a request at its place and nowhere else, `commit_point` is how
-//! many entries all have, and a list that was packed and unpacked is the same list wherever the
+//! The messages of a group's nodes about their logs: a request at its place (`Rep`), the length of
+//! a member's log (`Ack`), and a list without a beginning that the receiver has (`PackedLog`).
+//! `append_at` puts a request at its place and nowhere else, `commit_point` is the number of
+//! entries that all members have, and a list that was packed and unpacked is the same list if the
 //! receiver's own has the left-out beginning.
 #![tactic(auto)]
 

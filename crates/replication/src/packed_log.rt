@@ -7,7 +7,7 @@ use pg_log::{NoMemory, Request, Requests, copy_requests};
 use std::alloc::Global;
 use std::marker::Model;
 
-/// A list of which the receiver has the beginning: how many requests that is, and the rest.
+/// A list without a beginning that the receiver has: the number of requests left out, and the rest.
 /// Contracts see both.
 #[derive(Drop)]
 pub struct PackedLog {
@@ -27,21 +27,21 @@ impl Model for PackedLog {
 }
 
 impl PackedLog {
-    /// How many requests the receiver has.
+    /// The number of requests that are left out, since the receiver has them.
     pub fn common(&self) -> usize
         ensures { result ≡ self.now.common }
     {
         self.common
     }
 
-    /// Those that follow.
+    /// The requests that follow them.
     pub fn rest(&self) -> &[Request]
         ensures { result.now ≡ self.now.rest }
     {
         self.rest.items()
     }
 
-    /// An equal one. It shares the rest, and costs a count.
+    /// An equal one. It shares the rest by reference count.
     pub fn copy(&self) -> Result<PackedLog, NoMemory>
         ensures { IfOk result (λ p. p ≡ self.now) }
     {
@@ -51,8 +51,8 @@ impl PackedLog {
         })
     }
 
-    /// The list that was packed, of which the receiver hands over the beginning that was left out.
-    /// It costs a count and a pointer for each request of the rest.
+    /// The list that was packed. The receiver hands over the beginning that was left out. It costs
+    /// a reference and a pointer for each request of the rest.
     pub fn after(&self, alloc: Global, beginning: Vec<Request>) -> Result<Vec<Request>, NoMemory>
         ensures { IfOk result (λ list. list.items ≡ beginning.items ++ self.now.rest) }
     {
@@ -67,9 +67,8 @@ impl PackedLog {
     }
 }
 
-/// Leaves out of a list, which it takes, the first `reported` requests, which the receiver says
-/// that it has, or all of them if the list is no longer. What follows is shared. It takes no
-/// memory.
+/// Leaves the first `reported` requests out of a list, which it takes: the receiver reported that
+/// it has them. If the list is shorter, all are left out. The rest is shared. It takes no memory.
 pub fn pack_list(list: Requests, reported: usize) -> PackedLog
     ensures { result ≡ packed list reported }
 {
@@ -80,7 +79,7 @@ pub fn pack_list(list: Requests, reported: usize) -> PackedLog
     }
 }
 
-/// The same of a list that isn't shared. It costs a count and a pointer for each request of the
+/// The same of a list that isn't shared. It costs a reference and a pointer for each request of the
 /// rest.
 pub fn pack_log(alloc: Global, list: &[Request], reported: usize) -> Result<PackedLog, NoMemory>
     ensures { IfOk result (λ p. p ≡ packed list.now reported) }
@@ -95,7 +94,7 @@ pub fn pack_log(alloc: Global, list: &[Request], reported: usize) -> Result<Pack
     })
 }
 
-/// The beginning of the local list that was left out, and what was packed.
+/// The list that was packed: the left-out beginning, from the local list, and the rest.
 fn unpacked(alloc: Global, local: &[Request], log: &PackedLog) -> Result<Vec<Request>, NoMemory>
     requires { log.now.common ≤ length local.now }
     ensures { IfOk result (λ list. list.items ≡ spread local.now log.now) }
@@ -106,9 +105,9 @@ fn unpacked(alloc: Global, local: &[Request], log: &PackedLog) -> Result<Vec<Req
     }
 }
 
-/// The list that was packed, if the local list begins with what was left out. It costs a count and
-/// a pointer for each request. It refuses by `TooShort` exactly if the local list is shorter than
-/// what was left out, and else by `NoMemory`.
+/// The list that was packed, if the local list begins with the left-out beginning. It costs a
+/// reference and a pointer for each request. It refuses by `TooShort` exactly if the local list is
+/// shorter than the left-out beginning, and else by `NoMemory`.
 pub fn unpack_log(
     alloc: Global,
     local: &[Request],

@@ -11,8 +11,8 @@ use pg_log::{ClassTable, Classes, Group, LogError};
 /// smaller one nothing changes; both give the length after. A greater place gives none, and changes
 /// nothing. Its epoch isn't looked at.
 ///
-/// At the length it refuses as `Group::append` does, save that a logged pair is `StaleNumber`, on a
-/// full log `LogFull`. A refusal leaves the group as it was.
+/// At the length it refuses as `Group::append` does, but a logged pair is `StaleNumber`, on a full
+/// log `LogFull`. A refusal leaves the group as it was.
 ///
 /// The table is that of the earlier calls, or that one with classes added. A place that isn't the
 /// length costs the same however long the log is; one that is costs what `Group::append` costs. The
@@ -23,13 +23,14 @@ pub fn append_at<C: Classes>(
     rep: Rep,
 ) -> Result<Option<usize>, LogError>
     requires { IsPrefix table.now C.classes }
-    // The answer by the list; want of memory only where the request would be added.
+    // The answer by the list; want of memory only if the request would be added.
     ensures answer { (result ≡ append_at_answer table.now group.old rep.place rep.request)
         ⊎ ((result ≡ Err NoMemory) × (rep.place ≡ length group.old) × (refusal table.now group.old rep.request ≡ None)) }
     ensures ok { OnOk result (group.new ≡ list_with group.old rep.place rep.request) }
     ensures refused { OnErr result (group.new ≡ group.old) }
 {
     let length = group.len();
+    // A repeated Rep: the entry is there already, and the length acknowledges it again.
     if rep.place < length {
         return Ok(Some(length));
     }

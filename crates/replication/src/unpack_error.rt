@@ -4,7 +4,7 @@ ghost use Rattle.replication.specs.Packed.{number_of, name_of};
 use std::error::Error;
 use std::fmt;
 
-/// Why a packed list isn't unpacked. It prints as number and name, as `1 TooShort`.
+/// The refusal of unpacking. It prints as number and name, as `1 TooShort`.
 #[derive(Clone, Copy, Debug, PartialEq, Eq)]
 pub enum UnpackError {
     /// The local list is shorter than the beginning that was left out.

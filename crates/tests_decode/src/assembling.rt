@@ -17,7 +17,7 @@ use class_texts::{
 use std::alloc::Global;
 use std::process::Abort;
 
-/// Whether the instructions' bytes are read as the same instructions.
+/// True if the instructions' bytes are read as the same instructions.
 fn are_read_again(alloc: Global, insns: &[Insn]) -> bool {
     match encode(alloc, insns) {
         Ok(bytes) => are_read(alloc, &bytes, insns),
@@ -25,7 +25,7 @@ fn are_read_again(alloc: Global, insns: &[Insn]) -> bool {
     }
 }
 
-/// Whether that text was printed.
+/// True if that text was printed.
 fn is_text(printed: Result<String, AsmError>, text: &str) -> bool {
     match printed {
         Ok(printed) => printed.as_str() == text,
@@ -33,7 +33,7 @@ fn is_text(printed: Result<String, AsmError>, text: &str) -> bool {
     }
 }
 
-/// Whether the text is assembled, and the bytes that it gives are read and printed as `canonical`.
+/// True if the text is assembled, and its bytes are read and printed as `canonical`.
 fn is_read(alloc: Global, text: &str, canonical: &str) -> bool {
     match assemble(alloc, text) {
         Ok(insns) => {
@@ -52,12 +52,12 @@ fn refusal(alloc: Global, text: &str, of_class: bool) -> Option<AsmError> {
     }
 }
 
-/// How many instructions the text is.
+/// Assembles a text, and returns the number of its instructions.
 fn count_of(alloc: Global, text: &str) -> Result<usize, AsmError> {
     Ok(assemble(alloc, text)?.len())
 }
 
-/// Whether the text's instructions have those bytes.
+/// True if the text's instructions have those bytes.
 fn has_bytes(alloc: Global, text: &str, bytes: &[u8]) -> bool {
     match assemble(alloc, text) {
         Ok(insns) => are_written(alloc, &insns, bytes),
@@ -65,7 +65,7 @@ fn has_bytes(alloc: Global, text: &str, bytes: &[u8]) -> bool {
     }
 }
 
-/// Whether the text is assembled as those instructions.
+/// True if the text is assembled as those instructions.
 fn is_assembled(alloc: Global, text: &str, wanted: &[Insn]) -> bool {
     match assemble(alloc, text) {
         Ok(insns) => insns.as_slice() == wanted,
@@ -112,7 +112,7 @@ fn lines(rt: &impl Abort, alloc: Global, words: &[&str], operands: &[&str]) -> S
     text
 }
 
-/// Whether those lines are read and printed as they are.
+/// True if those lines are read, and printed as they were.
 fn are_lines_read(rt: &impl Abort, alloc: Global, words: &[&str], operands: &[&str]) -> bool {
     let text = lines(rt, alloc, words, operands);
     is_read(alloc, &text, &text)
@@ -269,7 +269,7 @@ fn fault_of(name: &str) -> AsmFault {
     AsmFault::NoMemory
 }
 
-/// What stands in the row before and after its first space.
+/// The parts of the row before and after its first space.
 fn cut<'a>(rt: &impl Abort, row: &'a str) -> (&'a str, &'a str) {
     row.split_once(" ").expect(rt, "a space")
 }
@@ -283,13 +283,14 @@ fn row_of<'a>(rt: &impl Abort, row: &'a str) -> (AsmError, &'a str) {
     (AsmError { line, fault }, text)
 }
 
-/// Whether the row's text is refused so.
+/// True if the row's text is refused by the row's fault on its line.
 fn is_row_refused(rt: &impl Abort, alloc: Global, row: &str, of_class: bool) -> bool {
     let (error, text) = row_of(rt, row);
     refusal(alloc, text, of_class) == Some(error)
 }
 
-/// Whether the row's text is read as what stands after ` => `, or else refused as stands before it.
+/// True if the row is right: the text before ` => ` is printed as the text after it, or, in a row
+/// without ` => `, the text is refused by the row's fault.
 fn is_row_right(rt: &impl Abort, alloc: Global, row: &str, of_class: bool) -> bool {
     match row.split_once(" => ") {
         Some((text, canonical)) => is_read(alloc, text, canonical),
@@ -373,12 +374,12 @@ fn prints_instructions(rt: HostRuntime) {
     assert!(rt; is_text(printed, "mov r0, 0\nexit\n"));
 }
 
-/// Whether the class is printed as that text.
+/// True if the class is printed as that text.
 fn is_class_printed(alloc: Global, class: &ClassImage, text: &str) -> Result<bool, AsmError> {
     Ok(disassemble_class(alloc, class)?.as_str() == text)
 }
 
-/// Whether the class of the text is printed as `canonical`.
+/// True if the class of the text is printed as `canonical`.
 fn is_class_read(alloc: Global, text: &str, canonical: &str) -> Result<bool, AsmError> {
     match assemble_class(alloc, text) {
         Ok(class) => is_class_printed(alloc, &class, canonical),
@@ -386,12 +387,12 @@ fn is_class_read(alloc: Global, text: &str, canonical: &str) -> Result<bool, Asm
     }
 }
 
-/// Whether that was found.
+/// True if the answer is `Ok(true)`.
 fn is_true(found: Result<bool, AsmError>) -> bool {
     found == Ok(true)
 }
 
-/// Texts of classes, and how they are printed.
+/// Texts of classes, and their canonical texts.
 const CLASSES: [(&str, &str); 7] = [
     (LOCK, LOCK_PLAIN),
     (LOCK_PLAIN, LOCK_PLAIN),

@@ -124,7 +124,7 @@ fn first_insns(rt: &impl Abort) -> [Insn; 8] {
     ]
 }
 
-/// Those of the second half.
+/// The instructions of the second half.
 fn last_insns(rt: &impl Abort) -> [Insn; 12] {
     let (r1, r2, r10) = (register_of(rt, 1), register_of(rt, 2), register_of(rt, 10));
     let (r3, r4, r5) = (register_of(rt, 3), register_of(rt, 4), register_of(rt, 5));
@@ -149,7 +149,7 @@ fn last_insns(rt: &impl Abort) -> [Insn; 12] {
     ]
 }
 
-/// Whether the instructions are written as those bytes.
+/// True if the instructions are written as those bytes.
 pub(super) fn are_written(alloc: Global, insns: &[Insn], bytes: &[u8]) -> bool {
     match encode(alloc, insns) {
         Ok(code) => code.as_slice() == bytes,
@@ -157,7 +157,7 @@ pub(super) fn are_written(alloc: Global, insns: &[Insn], bytes: &[u8]) -> bool {
     }
 }
 
-/// Whether the bytes are read as those instructions.
+/// True if the bytes are read as those instructions.
 pub(super) fn are_read(alloc: Global, bytes: &[u8], insns: &[Insn]) -> bool {
     match decode(alloc, bytes) {
         Ok(read) => read.as_slice() == insns,
@@ -165,7 +165,7 @@ pub(super) fn are_read(alloc: Global, bytes: &[u8], insns: &[Insn]) -> bool {
     }
 }
 
-/// Whether the instructions are written as those bytes, and the bytes read as them.
+/// True if the instructions are written as those bytes, and the bytes read as them.
 fn are_spelled(alloc: Global, insns: &[Insn], bytes: &[u8]) -> bool {
     are_written(alloc, insns, bytes) && are_read(alloc, bytes, insns)
 }
@@ -239,12 +239,12 @@ const CHECKED: [(&[u8], Result<usize, DecodeError>); 5] = [
     ),
 ];
 
-/// What `decode` says of code, as a number of instructions.
+/// The answer of `decode` to code, as the number of its instructions.
 fn decoded(alloc: Global, code: &[u8]) -> Result<usize, DecodeError> {
     Ok(decode(alloc, code)?.len())
 }
 
-/// Whether `check` and `decode` say that of code.
+/// True if `check` and `decode` both give that answer to code.
 fn is_found(alloc: Global, code: &[u8], found: Result<usize, DecodeError>) -> bool {
     check(code) == found && decoded(alloc, code) == found
 }
@@ -256,13 +256,13 @@ fn code_alone(rt: HostRuntime) {
     }
 }
 
-/// Whether it is the code of `IMAGE`.
+/// True if it is the code of `IMAGE`.
 fn is_the_code(rt: &impl Abort, insns: &[Insn]) -> bool {
     let code = [mov(register_of(rt, 0), Operand::Immediate(0)), Insn::Exit];
     insns == code.as_slice()
 }
 
-/// Whether it is the method of `IMAGE`.
+/// True if it is the method of `IMAGE`.
 fn is_the_method(rt: &impl Abort, method: &Method) -> bool {
     method.name() == "f"
         && method.flags() == 1
@@ -281,7 +281,7 @@ fn reads_the_image(rt: HostRuntime) {
     assert!(rt; is_read);
 }
 
-/// Whether the image is refused so.
+/// True if the image is refused by that error after that number of methods.
 fn is_refused(alloc: Global, image: &[u8], methods: usize, error: DecodeError) -> bool {
     read_image(alloc, image).err() == Some(ImageError { methods, error })
 }
@@ -315,7 +315,7 @@ fn refuses_equal_names(rt: HostRuntime) {
     assert!(rt; is_refused(rt.alloc(), &twice, 1, DecodeError::Order));
 }
 
-/// Whether the class's image is that one.
+/// True if the class is written as that image.
 fn is_written_as(alloc: Global, class: &ClassImage, image: &[u8]) -> bool {
     match write_image(alloc, class) {
         Ok(bytes) => bytes.as_slice() == image,
@@ -323,7 +323,8 @@ fn is_written_as(alloc: Global, class: &ClassImage, image: &[u8]) -> bool {
     }
 }
 
-/// Whether the image is written as it was read, or else `refused` where it is refused.
+/// True if the image is read and written as the same bytes. Returns `refused` if reading refuses
+/// it.
 fn is_kept(alloc: Global, image: &[u8], refused: bool) -> bool {
     match read_image(alloc, image) {
         Ok(class) => is_written_as(alloc, &class, image),
@@ -348,7 +349,7 @@ fn writes_the_image(rt: HostRuntime) {
 /// The fourth byte of the image, and the rule set of its class.
 const RULE_SETS: [(u8, RuleSet); 2] = [(0x31, RuleSet::One), (0x32, RuleSet::Two)];
 
-/// Whether the class of the image has that rule set.
+/// True if the class of the image has that rule set.
 fn has_rules(alloc: Global, image: &[u8], rules: RuleSet) -> bool {
     match read_image(alloc, image) {
         Ok(class) => class.rules() == rules,
@@ -378,7 +379,7 @@ fn image_of_two(rt: &impl Abort, alloc: Global) -> Vec<u8> {
     write_image(alloc, &class).expect(rt, "memory")
 }
 
-/// Whether there are two methods of the in_caps 0 and 4,096.
+/// True if there are two methods, with the in_caps 0 and 4,096.
 fn have_in_caps(methods: &[Method]) -> bool {
     match methods {
         [first, second] => first.in_cap() == 0 && second.in_cap() == 4096,
@@ -386,7 +387,7 @@ fn have_in_caps(methods: &[Method]) -> bool {
     }
 }
 
-/// Whether the class of the image has two such methods, and that rule set.
+/// True if the class of the image has two such methods, and rule set 2.
 fn has_in_caps(alloc: Global, image: &[u8]) -> bool {
     match read_image(alloc, image) {
         Ok(class) => have_in_caps(class.methods()) && class.rules() == RuleSet::Two,
@@ -477,7 +478,7 @@ const PRINTED_IMAGES: [(DecodeError, &str); 2] = [
     ),
 ];
 
-/// Whether the value is printed as that text.
+/// True if the value is printed as that text.
 pub(super) fn is_printed<T: Display>(alloc: Global, value: &T, text: &str) -> bool {
     match value.to_string(alloc) {
         Ok(printed) => printed.as_str() == text,
@@ -510,7 +511,7 @@ fn text_of(alloc: Global, name: &[u8]) -> Option<String> {
     }
 }
 
-/// Whether the name's text is that one.
+/// True if the name's text is that one.
 fn is_text_of(alloc: Global, name: &[u8], text: &str) -> bool {
     match text_of(alloc, name) {
         Some(found) => found.as_str() == text,

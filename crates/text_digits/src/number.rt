@@ -16,15 +16,15 @@ fn digit_of(byte: u8) -> u8
     }
 }
 
-/// Whether each byte is a digit.
+/// True if each byte is a digit to that base.
 fn all_pass(text: &[u8], radix: u8) -> bool
     ensures { result ≡ list_all (λ c. is_digit c radix) text.now }
 {
     text.iter().all(|byte| digit_of(*byte) < radix)
 }
 
-/// Whether it is one digit or more to that base, 36 at most and letters of either case, and nothing
-/// else.
+/// True if it is one digit or more to that base, and nothing else. The base is 36 at most; letters
+/// may have either case.
 pub fn are_digits(text: &[u8], radix: u8) -> bool
     ensures { result ≡ all_digits radix text.now }
 {
@@ -35,14 +35,14 @@ pub fn are_digits(text: &[u8], radix: u8) -> bool
     }
 }
 
-/// Whether it is one decimal digit or more, without a leading zero, and nothing else.
+/// True if it is one decimal digit or more, without a leading zero, and nothing else.
 pub fn is_decimal(text: &[u8]) -> bool
     ensures { result ≡ is_decimal text.now }
 {
     are_digits(text, 10) && (text.len() == 1 || text[0] != b'0')
 }
 
-/// The number that digits write, or none where it is above `most`.
+/// The number that digits write, or `None` if it is above `most`.
 #[tactic(auto, using(crate::proofs::Values::digits_value_after_ge))]
 pub fn value_within(text: &[u8], radix: u8, most: u64) -> Option<u64>
     requires low { 1 ≤ radix }
@@ -51,6 +51,7 @@ pub fn value_within(text: &[u8], radix: u8, most: u64) -> Option<u64>
 {
     let mut value: u64 = 0;
     for byte in text {
+        // In 128 bits, since `value * radix + digit` may pass 64 before it is compared.
         let next = u128::from(value) * u128::from(radix) + u128::from(digit_of(*byte));
         if next > u128::from(most) {
             return None;

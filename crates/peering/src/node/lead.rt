@@ -1,4 +1,5 @@
-//! A primary before it is active: it adopts a list, notes who has installed it, and becomes active.
+//! A primary before it is active: it adopts a list, notes the members that have installed it, and
+//! becomes active.
 ghost use Rattle.std.specs.Prelude.{◌≡◌, length, IfOk, IfErr, OnErr, if◌then◌else◌, ◌&&◌, ◌==◌, not, is_none, None, true, ◌≤◌};
 ghost use Rattle.placement.specs.Placement.{has};
 ghost use Rattle.pg_log.specs.Entries.{requests_of};
@@ -37,8 +38,8 @@ impl<C: Classes> GroupNode<C> {
         if !self.is_at(interval, Status::Asking) {
             return Ok(Vec::new(self.alloc));
         }
-        // What is sent is made first, since a refusal is to leave the node as it was. It shares the
-        // list.
+        // The messages are made first, since a refusal must leave the node as it was. They share
+        // the list.
         let adopted = installing(self.alloc, self.number, self.interval, &self.members, &list)?;
         if !self.take_list(table, &list)? {
             return Ok(Vec::new(self.alloc));
@@ -46,7 +47,7 @@ impl<C: Classes> GroupNode<C> {
         Ok(adopted.installs(self))
     }
 
-    /// Whether it can take a list: the list can be run, and begins with what is committed. It runs
+    /// True if it can take a list: the list can be run, and begins with the committed list. It runs
     /// and changes nothing. A beginning of the own log can be run, since the log can: that costs a
     /// comparison, and no index of the list.
     pub(crate) fn can_take(&self, table: &ClassTable, list: &[Request]) -> Result<bool, HandleError>
@@ -66,10 +67,12 @@ impl<C: Classes> GroupNode<C> {
         }
     }
 
-    /// Whether a list is a beginning of the log, and so can be run.
+    /// True if a list is a beginning of the log, and so can be run.
     fn has_run(&self, list: &[Request]) -> bool
         ensures { (classes : Table) → Legal classes self.now.state.log → result ≡ true → first_refusal classes list.now ≡ None }
     {
+        // For the proof: a beginning of a legal list is legal, and nothing refuses a request of a
+        // legal list.
         legal_lists();
         refusals();
         self.group().begins_with(list)
@@ -87,7 +90,8 @@ impl<C: Classes> GroupNode<C> {
         Ok(Requests::new(self.alloc, items)?)
     }
 
-    /// Makes the log a received list, if it is usable. Else, and at an error, nothing changes.
+    /// Makes the log a received list, and returns true, if it is usable. Else, and at an error,
+    /// nothing changes.
     pub(crate) fn take_list(
         &mut self,
         table: &ClassTable,
@@ -103,6 +107,7 @@ impl<C: Classes> GroupNode<C> {
         if !self.keeps_committed(list.items()) {
             return Ok(false);
         }
+        // Before the log changes, since the copy may be refused.
         let listed = list.copy()?;
         if !become_list(table, &mut self.group, self.committed, list.items())? {
             return Ok(false);
@@ -111,7 +116,7 @@ impl<C: Classes> GroupNode<C> {
         Ok(true)
     }
 
-    /// Whether a list begins with the committed list.
+    /// True if a list begins with the committed list.
     fn keeps_committed(&self, list: &[Request]) -> bool
         ensures value { result ≡ begins (committed_list self.now.state) list.now }
         ensures within { result ≡ true → self.now.state.committed ≤ length list.now }
@@ -135,6 +140,7 @@ impl<C: Classes> GroupNode<C> {
         if !self.awaits(member, interval) {
             return Ok(Vec::new(self.alloc));
         }
+        // Room comes first: once the member is noted, nothing may be refused.
         let mut sent = Vec::with_capacity(self.alloc, 1)?;
         self.joined.push(member)?;
         if are_among(self.members.acting(), &self.joined) {
@@ -144,7 +150,8 @@ impl<C: Classes> GroupNode<C> {
         Ok(sent)
     }
 
-    /// Whether it is to note that a member has installed.
+    /// True if it has to note that a member has installed: in this interval, and the member isn't
+    /// noted yet.
     fn awaits(&self, member: NodeId, interval: Epoch) -> bool
         ensures { result ≡ ((interval == self.now.state.interval) && (is_installing self.now.state.status && (has member self.now.state.members.acting && not (has member self.now.state.joined)))) }
     {
@@ -164,6 +171,7 @@ impl<C: Classes> GroupNode<C> {
             return Ok(Vec::new(self.alloc));
         }
         let length = self.group.len();
+        // All members have installed the list, so all of it is acknowledged and committed.
         let acked = each_at(self.alloc, self.members.acting(), length)?;
         self.status = Status::Active;
         self.listed = Requests::none();
@@ -185,7 +193,7 @@ fn each_at(alloc: Global, nodes: &[NodeId], length: usize) -> Result<Vec<usize>,
     Ok(lengths)
 }
 
-/// Makes a log a received list, if the list is legal, and says whether. Else, and at an error,
+/// Makes a log a received list, and returns true, if the list is legal. Else, and at an error,
 /// nothing changes. Log and list are at least as long as the committed list.
 fn become_list<C: Classes>(
     table: &ClassTable,
@@ -202,6 +210,8 @@ fn become_list<C: Classes>(
     ensures err { OnErr result (group.new ≡ group.old) }
     ensures why { IfErr result (λ e. e ≡ HandleError.NoMemory) }
 {
+    // For the proof: `adopt` refuses exactly as replaying the list would, though it runs only the
+    // rest.
     adopting();
     match group.adopt(table, list) {
         Ok(_common) => Ok(true),
@@ -214,7 +224,7 @@ fn become_list<C: Classes>(
     }
 }
 
-/// Whether memory was refused.
+/// True if memory was refused.
 pub(crate) fn is_memory(error: LogError) -> bool
     ensures { result ≡ is_memory error }
 {
@@ -224,7 +234,7 @@ pub(crate) fn is_memory(error: LogError) -> bool
     }
 }
 
-/// Whether a list begins with the requests of these entries.
+/// True if a list begins with the requests of these entries.
 fn begins_with(entries: &[Entry], list: &[Request]) -> bool
     ensures { result ≡ begins (requests_of entries.now) list.now }
 {

@@ -1,4 +1,4 @@
-//! A node at a map: learning it, and what it does at a Query or an Install that carries one.
+//! A node at a map: it learns one, or answers a Query or an Install that carries one.
 ghost use Rattle.std.specs.Prelude.{◌≡◌, ◌≤◌, ◌++◌, ◌∷◌, [], length, unwrap_or, false, Some, ◌&&◌, ◌==◌, IfOk, IfErr, OnOk, OnErr};
 ghost use denote.Enum.Bare.{sameb};
 ghost use Rattle.group_world.specs.Node.{and_sends, is_waiting, packet};
@@ -15,8 +15,8 @@ use pg_log::{ClassTable, Classes, Group, Requests};
 use placement::{NodeId, has};
 use std::alloc::Global;
 
-/// What a node is to do at a map: its new status if it moves, who has installed then, and what it
-/// sends.
+/// A node's step at a map: its new status if it moves, the members that have installed then, and
+/// the messages that it sends.
 pub(crate) struct Arrival {
     pub status: Option<Status>,
     pub joined: Vec<NodeId>,
@@ -37,7 +37,8 @@ impl Drop for Arrival {
 }
 
 impl Arrival {
-    /// Moves a node to the map, or lets it stay, and gives what it sends. It takes no memory.
+    /// Moves a node to the map, or lets it stay, and gives the messages that it sends. It takes no
+    /// memory.
     fn moves<C: Classes>(self, node: &mut GroupNode<C>, map: GroupMap) -> Vec<Packet>
         requires { node.old.state.committed ≤ length (log_after node.old.state self.status) }
         ensures number { node.new.number ≡ node.old.number }
@@ -53,8 +54,8 @@ impl Arrival {
         sent
     }
 
-    /// Has a node install the list that it took as its log, and gives what it sends. It takes no
-    /// memory.
+    /// Has a node install the list that it took as its log, and gives the messages that it sends.
+    /// It takes no memory.
     pub(crate) fn installs<C: Classes>(self, node: &mut GroupNode<C>) -> Vec<Packet>
         ensures number { node.new.number ≡ node.old.number }
         ensures state { node.new.state ≡ record (node.old.state) { status = Status.Installing; joined = self.joined.items; acked = [] } }
@@ -82,6 +83,7 @@ impl<C: Classes> GroupNode<C> {
         if self.would_forget(&map) {
             return Ok(Vec::new(self.alloc));
         }
+        // The step takes all the memory, and the move none: a refusal leaves the node as it was.
         let arrival = self.arrival(&map)?;
         Ok(arrival.moves(self, map))
     }
@@ -103,7 +105,7 @@ impl<C: Classes> GroupNode<C> {
         Ok(arrival.moves(self, map))
     }
 
-    /// What it is to do at the map of a Query that it doesn't ignore.
+    /// The step at the map of a Query that it doesn't ignore, with its Log.
     fn answering(&self, asker: Party, map: &GroupMap) -> Result<Arrival, HandleError>
         requires { would_forget self.now.number self.now.state map.now ≡ false }
         ensures ok { IfOk result (λ a. Makes self.now.state map.now a (and_sends (arrive self.now.number self.now.state map.now) (packet self.now.number asker (MessageKind.Log (arrive self.now.number self.now.state map.now).node.interval (arrive self.now.number self.now.state map.now).node.log)))) }
@@ -131,7 +133,7 @@ impl<C: Classes> GroupNode<C> {
         send(sent, packet(self.number, receiver, kind))
     }
 
-    /// Says that it has installed, after a move.
+    /// Sends Installed after a move.
     fn send_installed(
         &self,
         receiver: Party,
@@ -146,7 +148,8 @@ impl<C: Classes> GroupNode<C> {
         send(sent, packet(self.number, receiver, kind))
     }
 
-    /// Takes the list of an Install, or says again that it has: moves to its map first.
+    /// Takes the list of an Install, or sends Installed again if it has taken it: moves to its map
+    /// first.
     pub(crate) fn install(
         &mut self,
         table: &ClassTable,
@@ -166,7 +169,7 @@ impl<C: Classes> GroupNode<C> {
         if is_waiting(self.status_after(arrival.status)) {
             return self.install_first(table, sender, map, &list, arrival);
         }
-        // An unusable list is ignored whole, the move to its map too.
+        // An Install with an unusable list is ignored whole, the move to its map too.
         if !self.can_take(table, list.items())? {
             return Ok(Vec::new(self.alloc));
         }
@@ -192,14 +195,14 @@ impl<C: Classes> GroupNode<C> {
         if !self.take_list(table, list)? {
             return Ok(Vec::new(self.alloc));
         }
+        // For the proof: `committed` ensures that the committed length is within the log.
         let _ = self.committed();
         let sent = arrival.moves(self, map);
         self.status = Status::Installed;
         Ok(sent)
     }
 
-    /// Says of an Install that it has installed, if it has once it has moved. It takes nothing of
-    /// the list.
+    /// Sends Installed again, if it has installed after the move. It takes nothing of the list.
     fn install_again(
         &mut self,
         sender: Party,
@@ -219,31 +222,34 @@ impl<C: Classes> GroupNode<C> {
 }
 
 impl<C: Classes> GroupNode<C> {
-    /// Whether the map would have a node that has committed adopt the empty list.
+    /// True if the map would have a node that has committed adopt the empty list, and so forget.
     fn would_forget(&self, map: &GroupMap) -> bool
         ensures { result ≡ would_forget self.now.number self.now.state map.now }
     {
+        // With `prev` 0 no interval was activated before: the primary asks nobody, and installs the
+        // empty list.
         self.interval.get() < map.interval().get()
             && leads(map.acting(), self.number)
             && map.prev().get() == 0
             && 0 < self.committed
     }
 
-    /// Whether a message with this map is ignored.
+    /// True if a message with this map is ignored: it is of an older interval, or would make the
+    /// node forget.
     fn ignores(&self, map: &GroupMap) -> bool
         ensures { result ≡ ignores self.now.number self.now.state map.now }
     {
         map.interval().get() < self.interval.get() || self.would_forget(map)
     }
 
-    /// Whether it is in that interval, with that status.
+    /// True if it is in that interval, with that status.
     pub(crate) fn is_at(&self, interval: Epoch, status: Status) -> bool
         ensures { result ≡ ((interval == self.now.state.interval) && sameb the_type self.now.state.status status) }
     {
         interval == self.interval && self.status == status
     }
 
-    /// What it is to do at a map that it doesn't ignore.
+    /// The step at a map that it doesn't ignore.
     fn arrival(&self, map: &GroupMap) -> Result<Arrival, HandleError>
         requires { would_forget self.now.number self.now.state map.now ≡ false }
         ensures ok { IfOk result (λ a. Makes self.now.state map.now a (arrive self.now.number self.now.state map.now)) }
@@ -251,11 +257,12 @@ impl<C: Classes> GroupNode<C> {
         ensures err { IfErr result (λ e. e ≡ HandleError.NoMemory) }
     {
         let arrival = self.decided(map)?;
+        // For the proof: `committed` ensures that the committed length is within the log.
         let _ = self.committed();
         Ok(arrival)
     }
 
-    /// What it is to do at a map.
+    /// The step at a map: of a higher interval it moves, else it stays.
     fn decided(&self, map: &GroupMap) -> Result<Arrival, HandleError>
         ensures ok { IfOk result (λ a. Makes self.now.state map.now a (arrive self.now.number self.now.state map.now)) }
         ensures err { IfErr result (λ e. e ≡ HandleError.NoMemory) }
@@ -272,7 +279,8 @@ impl<C: Classes> GroupNode<C> {
         Ok(quiet(self.alloc, Some(Status::Out)))
     }
 
-    /// What the primary of a map is to do.
+    /// The step of the primary of a map: it asks the members of the interval before, or, if there
+    /// was none, installs the empty list.
     fn leading(&self, map: &GroupMap) -> Result<Arrival, HandleError>
         ensures ok { IfOk result (λ a. Makes self.now.state map.now a (lead self.now.number self.now.state map.now)) }
         ensures err { IfErr result (λ e. e ≡ HandleError.NoMemory) }
@@ -345,7 +353,8 @@ impl<C: Classes> GroupNode<C> {
     }
 }
 
-/// What a primary is to do on adopting a list: it has installed it, and has the others do so.
+/// The step of a primary that adopts a list: it has installed the list, and has the others install
+/// it.
 pub(crate) fn installing(
     alloc: Global,
     number: NodeId,
@@ -359,6 +368,7 @@ pub(crate) fn installing(
     ensures err { IfErr result (λ e. e ≡ HandleError.NoMemory) }
 {
     let mut joined = Vec::with_capacity(alloc, 1)?;
+    // The primary counts among the members that have installed.
     joined.push_reserved(number);
     let sent = adoption(alloc, number, interval, members, list)?;
     Ok(Arrival {
@@ -368,7 +378,7 @@ pub(crate) fn installing(
     })
 }
 
-/// Nothing to send, and nobody has installed.
+/// A step that sends nothing, and after which nobody has installed.
 fn quiet(alloc: Global, status: Option<Status>) -> Arrival
     ensures status { result.status ≡ status }
     ensures joined { result.joined.items ≡ [] }
@@ -381,7 +391,7 @@ fn quiet(alloc: Global, status: Option<Status>) -> Arrival
     }
 }
 
-/// Whether it waits for the primary's list.
+/// True if a node with that status waits for the primary's list.
 fn is_waiting(status: Status) -> bool
     ensures { result ≡ is_waiting status }
 {

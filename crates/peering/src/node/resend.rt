@@ -1,4 +1,4 @@
-//! What a node sends again.
+//! The messages that a node sends again.
 ghost use Rattle.std.specs.Prelude.{◌≡◌, ◌++◌, drop, IfOk, IfErr, OnOk};
 ghost use Rattle.pg_log.specs.Entries.{requests_of};
 ghost use Rattle.group_world.specs.Unanswered.{unanswered, unanswered_in, reps_unacked};
@@ -13,7 +13,8 @@ use std::alloc::Global;
 
 impl<C: Classes> GroupNode<C> {
     /// The messages that it sent in its interval and that no answer covers, members in acting order
-    /// (of Query those of the interval before), places rising. It refuses by `NoMemory` alone.
+    /// (a Query goes to those of the interval before), places rising. It refuses by `NoMemory`
+    /// alone.
     #[tactic(auto, using(crate::proofs::Raising::reps_same))]
     pub fn resend(&self) -> Result<Messages, HandleError>
         ensures ok { IfOk result (λ sent. sent ≡ unanswered self.now.number self.now.state) }

@@ -19,7 +19,7 @@ use placement::NodeId;
 use replication::{Ack, Rep, append_at, commit_point};
 use std::alloc::Global;
 
-/// What a primary has acknowledged and committed after an event, and sends.
+/// The acknowledged lengths and the commit point of a primary after an event, and its messages.
 #[derive(Drop)]
 struct Commit {
     acked: Vec<usize>,
@@ -71,6 +71,7 @@ impl<C: Classes> GroupNode<C> {
         ensures done { IfOk result (λ sent. IsDone self.now self.now sent.items (request_at table.now self.now.number self.now.state request.now (Some place))) }
         ensures why { IfErr result (λ e. e ≡ HandleError.NoMemory) }
     {
+        // For the proof: the place of a logged pair is in range, and has the pair.
         pairs();
         if place >= self.committed() {
             return Ok(Vec::new(self.alloc));
@@ -107,7 +108,7 @@ impl<C: Classes> GroupNode<C> {
         self.grow(entry, commit)
     }
 
-    /// What it has acknowledged and committed, and sends, with the entry of a new request.
+    /// The acknowledged lengths, the commit point and the messages with the entry of a new request.
     fn commit_new(&self, table: &ClassTable, entry: &Entry) -> Result<Commit, HandleError>
         requires legal { IsLegalBy table.now C.classes self.now.state.log }
         requires reply { IsNextReply table.now self.now.state.log entry.now }
@@ -123,8 +124,8 @@ impl<C: Classes> GroupNode<C> {
         Ok(Commit { acked, point, sent })
     }
 
-    /// The entry of a new request for the others, and the Replies to what is committed with it, up
-    /// to a place.
+    /// A Rep of a new request to each other member, and the Replies to the requests that are
+    /// committed with it, up to a place.
     fn sent_with(
         &self,
         table: &ClassTable,
@@ -158,7 +159,7 @@ impl<C: Classes> GroupNode<C> {
         Ok(sent)
     }
 
-    /// Logs the entry of a new request, and has acknowledged and committed what is handed over.
+    /// Logs the entry of a new request, and takes over acknowledged lengths and commit point.
     fn grow(&mut self, entry: Entry, commit: Commit) -> Result<Vec<Packet>, HandleError>
         requires next { IsNextEntry C.classes self.old.state.log entry }
         requires within { commit.point ≤ length self.old.state.log + 1 }
@@ -185,10 +186,12 @@ impl<C: Classes> GroupNode<C> {
         ensures same { self.new ≡ self.old }
         ensures why { IfErr result (λ e. IsRefusal (request_at table.now self.old.number self.old.state request None) e) }
     {
+        // For the proof: a list with one request more is legal exactly if nothing refuses the
+        // request, and added classes change nothing of a legal list.
         legal_lists();
         refusals();
         classes_added();
-        // Each answer returns by itself: what was ensured of one is lost where both join.
+        // Each answer returns by itself: the prover would lose its facts at a merge point of both.
         let entry = match self.group.next_entry(table, request) {
             Ok(entry) => entry,
             Err(error) => return Err(HandleError::from(error)),
@@ -210,6 +213,7 @@ impl<C: Classes> GroupNode<C> {
         ensures err { OnErr result (self.new ≡ self.old) }
         ensures why { IfErr result (λ e. e ≡ HandleError.NoMemory) }
     {
+        // Room for the Ack comes first: once the request is logged, nothing may be refused.
         let mut sent = Vec::with_capacity(self.alloc, 1)?;
         match self.takes_rep(table, rep)? {
             None => Ok(sent),
@@ -221,8 +225,8 @@ impl<C: Classes> GroupNode<C> {
         }
     }
 
-    /// Puts the request of a Rep at its place, if it has installed and the request may follow, and
-    /// gives the length to acknowledge, if any.
+    /// Puts the request of a Rep at its place, if the node has installed and the request may
+    /// follow, and gives the length to acknowledge, if any.
     fn takes_rep(&mut self, table: &ClassTable, rep: Rep) -> Result<Option<usize>, HandleError>
         requires { IsPrefix table.now C.classes }
         ensures number { OnOk result (self.new.number ≡ self.old.number) }
@@ -233,6 +237,7 @@ impl<C: Classes> GroupNode<C> {
         if !self.is_at(Epoch::new(rep.epoch), Status::Installed) {
             return Ok(None);
         }
+        // The log may grow, and by the invariant a list that is kept equals it.
         self.listed = Requests::none();
         match append_at(&mut self.group, table, rep) {
             Ok(length) => Ok(length),

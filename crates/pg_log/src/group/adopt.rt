@@ -21,15 +21,15 @@ use std::mem;
 use txn::undo;
 
 impl<C: Classes> Group<C> {
-    /// Makes the log this list: gives the length of the beginning that the old log and the list
-    /// have in common. What the log has past it is undone, the last entry first, and only the
+    /// Makes the log this list, and gives the length of the beginning that the old log and the list
+    /// have in common. The log's entries past it are undone, the last one first, and only the
     /// list's rest is run. It refuses as `replay` refuses the list, by a request of the rest. A
     /// refusal leaves the group as it was.
     ///
     /// The table is that of the earlier calls, or that one with classes added. It costs a
-    /// comparison of the lists, and what the entries past the common beginning and the requests of
-    /// the rest cost: a copy of the objects is a pointer, and entries and index of the common
-    /// beginning stay where they are.
+    /// comparison of the lists, the undoing of the entries past the common beginning, and the runs
+    /// of the rest: a copy of the objects is a pointer, and entries and index of the common
+    /// beginning stay in place.
     pub fn adopt(&mut self, table: &ClassTable, list: &[Request]) -> Result<usize, LogError>
         requires { IsPrefix table.now C.classes }
         ensures common { IfOk result (λ k. IsCommonBeginning self.old list.now k) }
@@ -43,7 +43,7 @@ impl<C: Classes> Group<C> {
         Ok(common)
     }
 
-    /// Whether the log begins with these requests. It costs a comparison of as many.
+    /// True if the log begins with these requests. It compares the two up to the first difference.
     pub fn begins_with(&self, list: &[Request]) -> bool
         ensures { IsTrue result ↔ IsPrefix list.now self.now }
     {
@@ -61,7 +61,7 @@ impl<C: Classes> Group<C> {
         Ok(())
     }
 
-    /// Puts the rest of a list, from a place on, in place of what the log has from there on.
+    /// Replaces the log's entries from a place on by the list's requests from there on.
     fn change_from(
         &mut self,
         table: &ClassTable,
@@ -98,13 +98,14 @@ impl<C: Classes> Group<C> {
         ensures err { IfErr result (λ e. RestRefuses table.now list.now at e) }
         ensures kept { KeepsLog C.classes log.new }
     {
+        // Undone on a copy: a refusal halfway leaves the log's objects as they were.
         let Ok(mut objects) = log.objects.copy() else {
             return Err(LogError::NoMemory);
         };
         Self::undo_from(log.alloc, &log.entries, at, &mut objects)?;
         let mut tail = log.entries.split_off(at)?;
         log.places.take_back(&tail);
-        // The old objects stay aside, for a refusal.
+        // The old objects are kept aside, so that a refusal can put them back.
         mem::swap(&mut log.objects, &mut objects);
         match Self::extend(log, table, list, at) {
             Ok(()) => Ok(()),
@@ -190,6 +191,8 @@ fn put_back(log: &mut Log, at: usize, tail: &mut Vec<Entry>)
 {
     log.places.take_back(&log.entries[at..]);
     log.entries.truncate(at);
+    // It needs no memory: the capacity never shrank (`entries_room`), and the tail was there
+    // before.
     if log.entries.append(tail).is_err() {
         unreachable!();
     }

@@ -36,7 +36,7 @@ impl<C: Classes> Group<C> {
     /// number of clients and one of the client's requests.
     pub fn append(&mut self, table: &ClassTable, request: Request) -> Result<usize, LogError>
         requires { IsPrefix table.now C.classes }
-        // The answer by the list; want of memory only where the request would be added.
+        // The answer by the list; want of memory only if the request would be added.
         ensures answer { (result ≡ append_answer table.now self.old request)
             ⊎ ((result ≡ Err LogError.NoMemory) × (place_of request.client request.number self.old ≡ None) × (refusal table.now self.old request ≡ None)) }
         ensures ok { OnOk result (self.new ≡ list_after (place_of request.client request.number self.old) self.old request) }
@@ -68,9 +68,9 @@ impl<C: Classes> Group<C> {
         self.keep(entry)
     }
 
-    /// The entry that a request would be, with its reply and what it would do to its object. It
-    /// leaves the group as it was, and refuses as `append` does if the request's pair isn't logged;
-    /// a pair that is logged is `StaleNumber`, on a full log `LogFull`. It costs the call.
+    /// The entry that a request would be, with its reply and the change of its object. It leaves
+    /// the group as it was, and refuses as `append` does if the request's pair isn't logged; a pair
+    /// that is logged is `StaleNumber`, on a full log `LogFull`. It costs the call.
     ///
     /// The table is that of the earlier calls, or that one with classes added.
     pub fn next_entry(&mut self, table: &ClassTable, request: Request) -> Result<Entry, LogError>
@@ -103,7 +103,8 @@ impl<C: Classes> Group<C> {
         entry_of_copy(request, outcome)
     }
 
-    /// What a request that may follow the log makes of its object. It leaves the group as it was.
+    /// Runs a request that may follow the log on its object, and gives the outcome. It leaves the
+    /// group as it was.
     pub(crate) fn run(&mut self, table: &ClassTable, request: &Request) -> Result<Outcome, LogError>
         ensures ok { IfOk result (λ o. (refusal table.now self.old request.now ≡ None) × IsOutcomeOn table.now (fold C.classes self.old) request.now o.code o.output.items o.change) }
         ensures err { IfErr result (λ e. Refuses (refusal table.now self.old request.now) e) }
@@ -115,8 +116,8 @@ impl<C: Classes> Group<C> {
     }
 
     /// Adds an entry that may follow the log, as `next_entry` gives it, and gives its place. It
-    /// refuses by `NoMemory` alone, and then leaves the group as it was: what grows comes first,
-    /// the log, the index and the objects.
+    /// refuses by `NoMemory` alone, and then leaves the group as it was: memory is taken first, for
+    /// the log, the index and the objects, in this order.
     pub fn keep(&mut self, entry: Entry) -> Result<usize, LogError>
         requires { IsNextEntry C.classes self.old entry }
         ensures ok { IfOk result (λ place. (place ≡ length self.old) × (self.new ≡ self.old ++ entry.request ∷ [])) }
@@ -155,6 +156,7 @@ impl<C: Classes> Group<C> {
         ensures entries_room { vec_capacity log.old.entries ≤ vec_capacity log.new.entries }
         ensures room { RoomStays log.old.places log.new.places }
     {
+        // The log's room comes first: once index and objects have changed, the push can't fail.
         log.entries.reserve(1)?;
         Self::put(log, entry)
     }
@@ -176,6 +178,7 @@ impl<C: Classes> Group<C> {
         let name = entry.request.object();
         let applied = apply(log.alloc, &mut log.objects, name, &entry.change);
         if applied.is_err() {
+            // The index has the entry already; it is taken back, since the objects weren't changed.
             log.places.remove(client);
             return Err(LogError::NoMemory);
         }
@@ -183,8 +186,8 @@ impl<C: Classes> Group<C> {
     }
 }
 
-/// What a request that may follow a log makes of its object. It runs in the log's room, and leaves
-/// the rest as it was. The list is any one of the log's length and index.
+/// Runs a request that may follow a log on its object, and gives the outcome. It runs in the log's
+/// room, and leaves the rest as it was. The list is any one of the log's length and index.
 pub(crate) fn run_after(
     log: &mut Log,
     table: &ClassTable,
@@ -211,7 +214,7 @@ pub(crate) fn run_after(
     run_method(&mut log.room, method, object, request)
 }
 
-/// A request with what it made.
+/// The entry of a request and its outcome.
 pub(crate) fn entry_of(request: Request, outcome: Outcome) -> Entry
     ensures request { result.request ≡ request }
     ensures code { result.code ≡ outcome.code }
@@ -226,7 +229,7 @@ pub(crate) fn entry_of(request: Request, outcome: Outcome) -> Entry
     }
 }
 
-/// A copy of a request with what it made. It refuses by `NoMemory` alone.
+/// The entry of a copy of a request and its outcome. It refuses by `NoMemory` alone.
 pub(crate) fn entry_of_copy(request: &Request, outcome: Outcome) -> Result<Entry, LogError>
     ensures request { IfOk result (λ e. e.request ≡ request.now) }
     ensures code { IfOk result (λ e. e.code ≡ outcome.code) }
@@ -250,7 +253,9 @@ fn run_method(
     ensures safe { IfOk result (λ _. IsSafe method.now) }
     ensures err { IfErr result (λ e. e ≡ LogError.NoMemory) }
 {
+    // For the proof: a run's outcome is the one in the first layout of memory.
     outcomes();
+    // For the proof: `ops` ensures that the method is verified, and so that it is safe.
     let _ = method.ops();
     match room.call_method(method, object, request.client().get(), request.input()) {
         Ok(outcome) => Ok(outcome),

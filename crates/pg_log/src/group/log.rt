@@ -5,7 +5,7 @@ use object_store::Objects;
 use std::alloc::Global;
 
 /// A log's entries, with the objects and the index that they make, and a room for its runs.
-// No `Model`: contracts see how much room there is, too.
+// No `Model`: contracts see the capacities of its lists, too.
 #[derive(Drop)]
 pub(crate) struct Log {
     pub(crate) alloc: Global,

@@ -15,11 +15,11 @@ use std::alloc::Global;
 
 impl<C: Classes> Group<C> {
     /// The group of a list: runs each request in turn. It refuses as `append` refuses the first
-    /// request that can't follow those before it, save that a pair that stands twice is
-    /// `StaleNumber`, or by `NoMemory` at a request that can.
+    /// request that can't follow those before it, but a pair that is in the list twice is
+    /// `StaleNumber`; or by `NoMemory` at a request that can.
     ///
-    /// The table is that of the earlier calls, or that one with classes added. It costs what the
-    /// appends cost.
+    /// The table is that of the earlier calls, or that one with classes added. It costs as much as
+    /// the appends.
     pub fn replay(alloc: Global, table: &ClassTable, list: &[Request]) -> Result<Group<C>, LogError>
         requires { IsPrefix table.now C.classes }
         ensures ok { IfOk result (λ g. (g ≡ list.now) × (first_refusal table.now list.now ≡ None)) }

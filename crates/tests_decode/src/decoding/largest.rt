@@ -44,7 +44,7 @@ fn largest_image(rt: HostRuntime) {
     assert!(rt; is_kept(rt.alloc(), &image, false));
 }
 
-/// How many bytes the spelling of instructions has.
+/// The number of bytes of the instructions' spelling.
 fn spelled_length(alloc: Global, insns: &[Insn]) -> Option<usize> {
     match encode(alloc, insns) {
         Ok(code) => Some(code.len()),

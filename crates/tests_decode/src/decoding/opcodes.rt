@@ -256,7 +256,7 @@ const OTHERS: [u8; 29] = [
     0x71, 0x79, 0x81, 0x89, 0x91, 0x62, 0x6a, 0x72, 0x7a, 0x63, 0x6b, 0x73, 0x7b,
 ];
 
-/// Whether the table of operations has an opcode.
+/// True if the table of operations has the opcode.
 fn is_operation(opcode: u8) -> bool {
     for row in &ARITHMETIC {
         let (_, k32, x32, k64, x64, _) = *row;
@@ -267,7 +267,7 @@ fn is_operation(opcode: u8) -> bool {
     false
 }
 
-/// Whether that of comparisons has it.
+/// True if the table of comparisons has the opcode.
 fn is_comparison(opcode: u8) -> bool {
     for row in &COMPARISONS {
         let (_, k64, x64, k32, x32) = *row;
@@ -278,7 +278,7 @@ fn is_comparison(opcode: u8) -> bool {
     false
 }
 
-/// Whether the tables have an opcode.
+/// True if one of the tables has the opcode.
 fn is_known(opcode: u8) -> bool {
     OTHERS.contains(&opcode) || is_operation(opcode) || is_comparison(opcode)
 }
@@ -292,7 +292,8 @@ fn own_imm(opcode: u8) -> u8 {
     }
 }
 
-/// Whether `check` takes the opcode where the tables have it, and else refuses it.
+/// True if `check` takes the opcode exactly if the tables have it, and else refuses it as
+/// `Opcode(0)`.
 fn is_told(opcode: u8) -> bool {
     let expected = if is_known(opcode) {
         Ok(1)
@@ -302,7 +303,7 @@ fn is_told(opcode: u8) -> bool {
     read(opcode, 0, 0, own_imm(opcode)) == expected
 }
 
-/// What is found of the opcode is right.
+/// Asserts that the test of the opcode passed, and names the opcode if not.
 fn holds(rt: &impl Abort, opcode: u8, is_right: bool) {
     assert!(rt; is_right, "opcode {opcode}");
 }
@@ -314,7 +315,7 @@ fn no_other_opcode(rt: HostRuntime) {
     }
 }
 
-/// Whether the instruction of an opcode, without other fields than it needs, is written as the same
+/// True if the instruction of an opcode, without other fields than it needs, is written as the same
 /// bytes.
 fn is_inverted(alloc: Global, opcode: u8) -> bool {
     let mut bytes = [0; 16];
@@ -328,8 +329,8 @@ fn is_inverted(alloc: Global, opcode: u8) -> bool {
     }
 }
 
-/// What the table by opcode reads, the table by instruction writes. Opcodes of arithmetic are 11
-/// times 4, of comparisons 11 times 4, and there are 29 others.
+/// The table by instruction writes each opcode that the table by opcode reads. There are 11 times 4
+/// opcodes of arithmetic, 11 times 4 of comparisons, and 29 others.
 #[test]
 fn tables_invert_each_other(rt: HostRuntime) {
     let mut count = 0u64;
@@ -342,11 +343,11 @@ fn tables_invert_each_other(rt: HostRuntime) {
     assert!(rt; count == 117);
 }
 
-/// Whether an instruction may have the destination 2, the source 2, the offset 4, another
+/// The fields that an instruction may have: the destination 2, the source 2, the offset 4, another
 /// immediate.
 type Fields = (bool, bool, bool, bool);
 
-/// Opcodes, and which fields an instruction of theirs may have.
+/// Opcodes, and the fields that an instruction of theirs may have.
 const USES: [(&[u8], Fields); 8] = [
     // an operation on an immediate, MOV of one, the wide load
     (
@@ -391,7 +392,7 @@ const USES: [(&[u8], Fields); 8] = [
     (&[0x95], (false, false, false, false)),
 ];
 
-/// A slot, and after it an empty one where it is a wide load's.
+/// A slot, followed by an empty one if it is a wide load's.
 fn read(opcode: u8, registers: u8, offset: u16, imm: u8) -> Result<usize, DecodeError> {
     let [low, high] = offset.to_le_bytes();
     let bytes = [
@@ -409,13 +410,13 @@ fn allowed(is_allowed: bool) -> Result<usize, DecodeError> {
     }
 }
 
-/// Whether a slot of those fields is read where that is allowed, and else refused for a field that
-/// isn't zero.
+/// True if a slot of those fields is read exactly if `is_allowed`, and else refused for a field
+/// that isn't zero.
 fn is_read_if(is_allowed: bool, opcode: u8, registers: u8, offset: u16, imm: u8) -> bool {
     read(opcode, registers, offset, imm) == allowed(is_allowed)
 }
 
-/// Whether an instruction of the opcode may have those fields and no others.
+/// True if an instruction of the opcode may have those fields and no others.
 fn has_fields(opcode: u8, fields: Fields) -> bool {
     let (dst, src, offset, imm) = fields;
     let own = own_imm(opcode);
@@ -440,7 +441,7 @@ fn unused_fields(rt: HostRuntime) {
     }
 }
 
-/// Whether register 11 is refused as the destination and as the source.
+/// True if register 11 is refused as the destination and as the source.
 fn lacks_register_11(opcode: u8) -> bool {
     let refused = Err(DecodeError::Register(0));
     let own = own_imm(opcode);
